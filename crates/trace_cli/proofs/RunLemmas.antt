@@ -1,0 +1,105 @@
+-- What was read and written from the start of a run, over plain variables: ro and rn are what the reader had and has
+-- left, wo and wn what the writer held and holds.
+use Rattle.std.proofs.Common.{◌≡◌, ℕ, false, List, [], ◌++◌, Option, Some, None, IfSome, refl, ap, sym, ◌∙◌, subst}
+use Rattle.std.proofs.lemmas.List.{append-nil}
+use Rattle.std.specs.Io.KnownBytes.{Appends, Consumes, Keeps, IsAtEnd}
+use Rattle.dots.specs.declared.refusal.Refusal.{Refusal}
+use Rattle.trace_cli.specs.Lines.{lines_of, has_newline, IsWholeLinesOf}
+use Rattle.trace_cli.specs.Machine.{start}
+use Rattle.trace_cli.specs.Output.{Given, prepend, given_of, given_from}
+use Rattle.trace_cli.specs.Session.{Point, start_point, given_at, Leads, Stops, Begins}
+use Rattle.trace_cli.specs.Streams.{Taken, Written, IsFront}
+use Rattle.trace_cli.proofs.LineLemmas.{given_at-Leads, Leads-trans, Stops-after, Begins-after, front-prepend}
+use Rattle.trace_cli.proofs.StreamLemmas.{Appends-trans, Consumes-trans, Consumes-kept}
+
+-- from the start of a run, what was read led to this point by writing what was written
+abbrev pub Ran : Option (List ℕ) → Option (List ℕ) → Option (List ℕ) → Option (List ℕ) → Point → Type 0
+Ran ro rn wo wn point = Taken ro rn (λ read. Written wo wn (λ text. Leads start_point read text point))
+
+-- the text of what is given was written
+given-written : (wo wn : Option (List ℕ)) (text : List ℕ) (given : Given) (fault : Option Refusal) → given ≡ record { text = text; fault = fault } → Appends wo wn text → Appends wo wn given.text
+given-written wo wn text given fault is wrote = let P : Given → Type 0 = λ g. Appends wo wn g.text in subst P (sym is) wrote
+
+given-fault : (text : List ℕ) (given : Given) (fault : Option Refusal) → given ≡ record { text = text; fault = fault } → given.fault ≡ fault
+given-fault text given fault is = ap (λ (g : Given). g.fault) is
+
+-- what is given to all that was read, by what is given at the point that it led to
+given_of-Leads : (read text : List ℕ) (point : Point) → Leads start_point read text point → given_of read ≡ prepend text (given_at point [])
+given_of-Leads read text point led = ap (λ bytes. given_from start 1 (lines_of bytes)) (sym (append-nil read)) ∙ given_at-Leads start_point point read [] text led
+
+-- the whole lines that were read were answered
+pub Ran-answered : (ro rm rn wo wn : Option (List ℕ)) (point : Point) → Ran ro rm wo wn point → has_newline point.line ≡ false → Keeps rm rn
+    → Taken ro rn (λ read. (whole : List ℕ) × IsWholeLinesOf whole read × Appends wo wn (given_of whole).text × ((given_of whole).fault ≡ None))
+Ran-answered ro rm rn wo wn point ran no_end kept =
+    let read = ran.0 in
+    let text = ran.2.0 in
+    let led : Leads start_point read text point = ran.2.2 in
+    let is : given_of led.whole ≡ record { text = text; fault = None } =
+        ap (λ bytes. given_from start 1 (lines_of bytes)) (sym (append-nil led.whole)) ∙ (led.goes_on [] ∙ ap (λ t. record { text = t; fault = None }) (append-nil text)) in
+    (read ++ [], Consumes-trans ro rm rn read [] ran.1 (Consumes-kept rm rn kept), (led.whole,
+     record { rest = point.line; parts = append-nil read ∙ led.parts; ends = led.ends; no_end = no_end },
+     given-written wo wn text (given_of led.whole) None is ran.2.1, given-fault text (given_of led.whole) None is))
+
+-- one more piece
+pub Ran-more : (ro rm rn wo wm wn : Option (List ℕ)) (mid new : Point) (piece : List ℕ) → Ran ro rm wo wm mid → Consumes rm rn piece
+    → Written wm wn (λ text. Leads mid piece text new) → Ran ro rn wo wn new
+Ran-more ro rm rn wo wm wn mid new piece ran took then =
+    (ran.0 ++ piece, Consumes-trans ro rm rn ran.0 piece ran.1 took, (ran.2.0 ++ then.0, Appends-trans wo wm wn ran.2.0 then.0 ran.2.1 then.1,
+     Leads-trans start_point mid new ran.0 piece ran.2.0 then.0 ran.2.2 then.2))
+
+pub Ran-stops : (ro rm rn wo wm wn : Option (List ℕ)) (mid : Point) (piece : List ℕ) (refusal : Refusal) → Ran ro rm wo wm mid → Consumes rm rn piece
+    → Written wm wn (λ text. Stops mid piece text refusal)
+    → Taken ro rn (λ read. Appends wo wn (given_of read).text × ((given_of read).fault ≡ Some refusal) × IfSome rn (λ rest. given_of (read ++ rest) ≡ given_of read))
+Ran-stops ro rm rn wo wm wn mid piece refusal ran took then =
+    let read = ran.0 ++ piece in
+    let text = ran.2.0 ++ then.0 in
+    let stop : Stops start_point read text refusal = Stops-after start_point mid ran.0 piece ran.2.0 then.0 refusal ran.2.2 then.2 in
+    let is : given_of read ≡ record { text = text; fault = Some refusal } = ap (λ bytes. given_from start 1 (lines_of bytes)) (sym (append-nil read)) ∙ stop.stops [] in
+    (read, Consumes-trans ro rm rn ran.0 piece ran.1 took,
+     (given-written wo wn text (given_of read) (Some refusal) is (Appends-trans wo wm wn ran.2.0 then.0 ran.2.1 then.1),
+     given-fault text (given_of read) (Some refusal) is, at_rest rn (λ rest. stop.stops rest ∙ sym is)))
+  where
+    at_rest : {P : List ℕ → Type 0} (known : Option (List ℕ)) → ((rest : List ℕ) → P rest) → IfSome known P
+    at_rest None all = tt
+    at_rest (Some rest) all = all rest
+
+pub Ran-begins : (ro rm rn wo wm wn : Option (List ℕ)) (mid : Point) (piece : List ℕ) → Ran ro rm wo wm mid → Consumes rm rn piece
+    → Written wm wn (λ text. Begins mid piece text) → Taken ro rn (λ read. Written wo wn (λ text. IsFront text (given_of read).text))
+Ran-begins ro rm rn wo wm wn mid piece ran took then =
+    let read = ran.0 ++ piece in
+    let text = ran.2.0 ++ then.0 in
+    let begin : Begins start_point read text = Begins-after start_point mid ran.0 piece ran.2.0 then.0 ran.2.2 then.2 in
+    let P : List ℕ → Type 0 = λ bytes. IsFront text (given_from start 1 (lines_of bytes)).text in
+    (read, Consumes-trans ro rm rn ran.0 piece ran.1 took, (text, Appends-trans wo wm wn ran.2.0 then.0 ran.2.1 then.1, subst P (append-nil read) (begin.begins [])))
+
+-- the end of the input, and what is given to the last line
+pub Ran-finishes : (ro rm rn wo wm wn : Option (List ℕ)) (mid : Point) (fault : Option Refusal) → Ran ro rm wo wm mid → Consumes rm rn []
+    → Written wm wn (λ text. given_at mid [] ≡ record { text = text; fault = fault })
+    → Taken ro rn (λ read. Appends wo wn (given_of read).text × ((given_of read).fault ≡ fault))
+Ran-finishes ro rm rn wo wm wn mid fault ran took then =
+    let read = ran.0 in
+    let text = ran.2.0 ++ then.0 in
+    let is : given_of read ≡ record { text = text; fault = fault } = given_of-Leads read ran.2.0 mid ran.2.2 ∙ ap (prepend ran.2.0) then.2 in
+    let P : List ℕ → Type 0 = λ bytes. Consumes ro rn bytes in
+    (read, subst P (append-nil read) (Consumes-trans ro rm rn read [] ran.1 took),
+     (given-written wo wn text (given_of read) fault is (Appends-trans wo wm wn ran.2.0 then.0 ran.2.1 then.1), given-fault text (given_of read) fault is))
+
+-- nothing comes after the end
+pub at_end : (read : List ℕ) (rn : Option (List ℕ)) → IsAtEnd rn → IfSome rn (λ rest. given_of (read ++ rest) ≡ given_of read)
+at_end read None ended = tt
+at_end read (Some rest) ended = ap (λ bytes. given_of (read ++ bytes)) ended ∙ ap given_of (append-nil read)
+
+pub Ran-ends : (ro rm rn wo wm wn : Option (List ℕ)) (mid : Point) → Ran ro rm wo wm mid → Consumes rm rn []
+    → Written wm wn (λ text. IsFront text (given_at mid []).text) → Taken ro rn (λ read. Written wo wn (λ text. IsFront text (given_of read).text))
+Ran-ends ro rm rn wo wm wn mid ran took then =
+    let read = ran.0 in
+    let P : List ℕ → Type 0 = λ bytes. Consumes ro rn bytes in
+    let Q : Given → Type 0 = λ given. IsFront (ran.2.0 ++ then.0) given.text in
+    (read, subst P (append-nil read) (Consumes-trans ro rm rn read [] ran.1 took), (ran.2.0 ++ then.0, Appends-trans wo wm wn ran.2.0 then.0 ran.2.1 then.1,
+     subst Q (sym (given_of-Leads read ran.2.0 mid ran.2.2)) (front-prepend ran.2.0 then.0 (given_at mid []) then.2)))
+
+-- nothing was read or written more
+pub Ran-front : (ro rn wo wn : Option (List ℕ)) (point : Point) → Ran ro rn wo wn point → Taken ro rn (λ read. Written wo wn (λ text. IsFront text (given_of read).text))
+Ran-front ro rn wo wn point ran =
+    let Q : Given → Type 0 = λ given. IsFront ran.2.0 given.text in
+    (ran.0, ran.1, (ran.2.0, ran.2.1, subst Q (sym (given_of-Leads ran.0 ran.2.0 point ran.2.2)) (record { rest = (given_at point []).text; joined = refl })))

@@ -1,0 +1,55 @@
+use Rattle.std.proofs.Common.{arith, length, ◌<◌, length-take, refl}
+use Rattle.std.proofs.lemmas.Result.{err_from_is_err_and, on_ok_weaker, on_err_weaker, IfErr-weaker}
+use Rattle.trace_cli.proofs.RunLemmas.{Ran-answered, Ran-more, Ran-stops, Ran-begins, Ran-finishes, Ran-ends, at_end}
+use Rattle.trace_cli.proofs.StreamLemmas.{Keeps-itself}
+use Rattle.trace_cli.proofs.running.run.Goals as goal
+
+pub returns-in_default-clause-answered : goal.returns-in_default-clause-answered
+returns-in_default-clause-answered g c _ =
+    Ran-answered _ _ _ _ _ _ c.calls.invariant.led c.calls.invariant.one_line c.in_default.ensures.bytes
+
+pub returns-clause-answered : goal.returns-clause-answered
+returns-clause-answered g c _ =
+    Ran-answered _ _ _ _ _ _ c.calls.invariant.led c.calls.invariant.one_line (Keeps-itself _)
+
+pub returns-then-count-eq0-clause-ok : goal.returns-then-count-eq0-clause-ok
+returns-then-count-eq0-clause-ok g c =
+    let nothing = rw c.if-count-eq0.true at c.in-Ok.ensures.bytes.0 in
+    let room : 0 < length c.read.new.buf = omega arith in
+    on_ok_weaker c.finish.result
+      (λ then. let end = Ran-finishes _ _ _ _ _ _ _ _ c.calls.invariant.led nothing then in
+        (end.0, end.1, (c.in-Ok.ensures.bytes.1 c.if-count-eq0.true room, end.2.0, end.2.1)))
+      c.finish.ensures.ok
+
+pub returns-then-count-eq0-clause-fault : goal.returns-then-count-eq0-clause-fault
+returns-then-count-eq0-clause-fault g c =
+    let nothing = rw c.if-count-eq0.true at c.in-Ok.ensures.bytes.0 in
+    let room : 0 < length c.read.new.buf = omega arith in
+    IfErr-weaker c.finish.result _ _
+      (λ refusal told is. let end = Ran-finishes _ _ _ _ _ _ _ _ c.calls.invariant.led nothing (told is) in
+        (end.0, end.1, (end.2.0, end.2.1, at_end end.0 _ (c.in-Ok.ensures.bytes.1 c.if-count-eq0.true room))))
+      c.finish.ensures.fault
+
+pub returns-then-count-eq0-clause-front : goal.returns-then-count-eq0-clause-front
+returns-then-count-eq0-clause-front g c =
+    let nothing = rw c.if-count-eq0.true at c.in-Ok.ensures.bytes.0 in
+    on_err_weaker c.finish.result (Ran-ends _ _ _ _ _ _ _ c.calls.invariant.led nothing) c.finish.ensures.front
+
+pub returns-in_err-feed-clause-fault : goal.returns-in_err-feed-clause-fault
+returns-in_err-feed-clause-fault g c =
+    let p = err_from_is_err_and c.from_residual.result c.from_residual.ensures.1 in
+    rw (p.1, p.2) (λ fault. Ran-stops _ _ _ _ _ _ _ _ _ c.calls.invariant.led c.in-Ok.ensures.bytes.0 (c.in_err-feed.ensures.fault fault))
+
+pub returns-in_err-feed-clause-front : goal.returns-in_err-feed-clause-front
+returns-in_err-feed-clause-front g c =
+    let p = err_from_is_err_and c.from_residual.result c.from_residual.ensures.1 in
+    rw p.1 (Ran-begins _ _ _ _ _ _ _ _ c.calls.invariant.led c.in-Ok.ensures.bytes.0 c.in_err-feed.ensures.front)
+
+pub calls-preserved : goal.calls-preserved
+calls-preserved g c = record {
+  led = Ran-more _ _ _ _ _ _ _ _ _ c.calls.invariant.led c.in-Ok.ensures.bytes.0 c.in_ok-feed.ensures.ok;
+  one_line = c.in_ok-feed.ensures.one_line;
+  number = omega (arith, c.in_ok-feed.ensures.number, length-take c.in-Ok.count c.read.new.buf);
+  calls = omega (arith, c.in-Ok.ensures.calls);
+  failed = rw (c.in-Ok.ensures.failed, c.calls.invariant.failed) refl
+}

@@ -1,0 +1,17 @@
+use Rattle.std.proofs.Common.{◌≡◌, ◌+◌, ◌*◌, ◌≤◌, false}
+use Rattle.trace_cli.specs.Lines.{has_newline}
+use Rattle.trace_cli.specs.Session.{point_of, start_point, Leads}
+use Rattle.trace_cli.specs.Streams.{Taken, Written}
+use Rattle.trace_cli.specs.Watched.{inner_of, calls_of, has_failed}
+use Rattle.trace_cli.proofs.running.run.Given as goal
+
+abbrev pub invariant-calls : goal.invariant-calls
+invariant-calls g l = record {
+  led : Taken (g.R.Read.remaining (inner_of l.initial.reader)) (g.R.Read.remaining (inner_of l.reader)) (λ read.
+      Written (g.W.Write.contents (inner_of l.initial.writer)) (g.W.Write.contents (inner_of l.writer)) (λ text.
+      Leads start_point read text (point_of l.session)));
+  one_line : has_newline l.session.line.items ≡ false;
+  number : l.session.number ≤ 4096 * l.counter + 1;
+  calls : calls_of l.reader ≡ l.counter;
+  failed : has_failed l.reader ≡ false
+}

@@ -1,0 +1,13 @@
+// The trace language, read from bytes and answered in text. Offered to the program above: what `run` writes is a
+// stated function of what it reads.
+#![tactic(auto)]
+
+mod machine;
+mod reply;
+mod running;
+mod session;
+mod watched;
+mod writing;
+
+pub use running::run;
+pub use watched::Watched;

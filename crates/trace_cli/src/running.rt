@@ -1,0 +1,69 @@
+ghost use Rattle.std.specs.Prelude.{◌≡◌, ◌≤◌, ◌++◌, ◌⊎◌, ℕ, List, true, Some, None, OnOk, OnErr, IfOk, IfErr, IfSome, IsErrOf, IsOkUnless};
+ghost use Rattle.std.specs.Io.KnownBytes.{Appends, IsAtEnd};
+ghost use Rattle.trace_cli.specs.Lines.{IsWholeLinesOf};
+ghost use Rattle.trace_cli.specs.Output.{given_of, is_fault, ends_run};
+ghost use Rattle.trace_cli.specs.Streams.{Taken, Written, IsFront};
+ghost use Rattle.trace_cli.specs.Watched.{inner_of, calls_of, has_failed, IsNew};
+
+use crate::session::Session;
+use crate::watched::Watched;
+use dots::Refusal;
+use std::alloc::Allocator;
+use std::io::{Read, Write};
+
+/// At most so many reads are made of one trace.
+const READ_CALLS: u64 = 1_000_000_000;
+
+/// Runs the trace that the reader gives, and writes its answers.
+///
+/// Reads at most 4,096 bytes a call, and at most 1,000,000,000 times. The answer of each line is written, and
+/// flushed, before the next line is carried out. The first failure of the reader (Input) or the writer (Output) ends
+/// the run, as does a fault (BadLine, UnknownReplica, UnknownMessage, NameTaken), whose line is written first, and
+/// want of memory (OutOfMemory).
+pub fn run<R: Read, W: Write, A: Allocator + Copy>(
+    alloc: A,
+    reader: &mut Watched<R>,
+    writer: &mut Watched<W>,
+) -> Result<(), Refusal>
+    requires reader_is_new { IsNew reader.old }
+
+    // The whole input was read, and what it is given was written, and nothing else.
+    ensures ok { OnOk result (Taken (R.remaining (inner_of reader.old)) (R.remaining (inner_of reader.new)) (λ input.
+        IsAtEnd (R.remaining (inner_of reader.new)) ×
+        Appends (W.contents (inner_of writer.old)) (W.contents (inner_of writer.new)) (given_of input).text ×
+        ((given_of input).fault ≡ None))) }
+    // What was read is given just this fault, whatever the reader has left.
+    ensures fault { IfErr result (λ refusal. is_fault refusal ≡ true →
+        Taken (R.remaining (inner_of reader.old)) (R.remaining (inner_of reader.new)) (λ read.
+        Appends (W.contents (inner_of writer.old)) (W.contents (inner_of writer.new)) (given_of read).text ×
+        ((given_of read).fault ≡ Some refusal) ×
+        IfSome (R.remaining (inner_of reader.new)) (λ rest. given_of (read ++ rest) ≡ given_of read))) }
+    // Whatever the refusal, a front of what is given to the bytes read was written.
+    ensures front { OnErr result (Taken (R.remaining (inner_of reader.old)) (R.remaining (inner_of reader.new)) (λ read.
+        Written (W.contents (inner_of writer.old)) (W.contents (inner_of writer.new)) (λ text.
+        IsFront text (given_of read).text))) }
+    // Where reading failed, each whole line that was read was answered.
+    ensures answered { IsErrOf result Refusal.Input →
+        Taken (R.remaining (inner_of reader.old)) (R.remaining (inner_of reader.new)) (λ read.
+        (whole : List ℕ) × IsWholeLinesOf whole read ×
+        Appends (W.contents (inner_of writer.old)) (W.contents (inner_of writer.new)) (given_of whole).text ×
+        ((given_of whole).fault ≡ None)) }
+
+    ensures refusal { IfErr result (λ refusal. ends_run refusal ≡ true) }
+    ensures input { IsErrOf result Refusal.Input → (has_failed reader.new ≡ true) ⊎ (calls_of reader.new ≡ READ_CALLS) }
+    ensures output { IsErrOf result Refusal.Output → has_failed writer.new ≡ true }
+    ensures calls { calls_of reader.new ≤ READ_CALLS }
+{
+    let mut session = Session::new(alloc);
+    'calls: for _ in 0..READ_CALLS {
+        let mut piece = [0; 4096];
+        let Ok(count) = reader.read(&mut piece) else {
+            return Err(Refusal::Input);
+        };
+        if count == 0 {
+            return session.finish(writer);
+        }
+        session.feed(writer, &piece[..count])?;
+    }
+    Err(Refusal::Input)
+}
