@@ -7,7 +7,8 @@ use Rattle.dots.specs.declared.refusal.Refusal.{Refusal}
 use Rattle.trace_cli.specs.Lines.{lines_of, has_newline, IsWholeLinesOf}
 use Rattle.trace_cli.specs.Machine.{start}
 use Rattle.trace_cli.specs.Output.{Given, prepend, given_of, given_from}
-use Rattle.trace_cli.specs.Session.{Point, start_point, given_at, Leads, Stops, Begins}
+use Rattle.trace_cli.specs.declared.session.Session.{Session}
+use Rattle.trace_cli.specs.Session.{Point, start_point, point_of, given_at, Leads, Stops, Begins}
 use Rattle.trace_cli.specs.Streams.{Taken, Written, IsFront}
 use Rattle.trace_cli.proofs.LineLemmas.{given_at-Leads, Leads-trans, Stops-after, Begins-after, front-prepend}
 use Rattle.trace_cli.proofs.StreamLemmas.{Appends-trans, Consumes-trans, Consumes-kept}
@@ -103,3 +104,12 @@ pub Ran-front : (ro rn wo wn : Option (List ℕ)) (point : Point) → Ran ro rn 
 Ran-front ro rn wo wn point ran =
     let Q : Given → Type 0 = λ given. IsFront ran.2.0 given.text in
     (ran.0, ran.1, (ran.2.0, ran.2.1, subst Q (sym (given_of-Leads ran.0 ran.2.0 point ran.2.2)) (record { rest = (given_at point []).text; joined = refl })))
+
+-- a fault in the whole input
+pub Stops-written : {A : Type 0} (wo wn : Option (List ℕ)) (session : Session A) (input : List ℕ) (refusal : Refusal) → point_of session ≡ start_point
+    → Written wo wn (λ text. Stops (point_of session) input text refusal) → Appends wo wn (given_of input).text
+Stops-written wo wn session input refusal at_start then =
+    let P : Point → Type 0 = λ point. Stops point input then.0 refusal in
+    let stop : Stops start_point input then.0 refusal = subst P at_start then.2 in
+    given-written wo wn then.0 (given_of input) (Some refusal)
+      (ap (λ bytes. given_from start 1 (lines_of bytes)) (sym (append-nil input)) ∙ stop.stops []) then.1

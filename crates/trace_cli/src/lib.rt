@@ -9,5 +9,5 @@ mod session;
 mod watched;
 mod writing;
 
-pub use running::run;
+pub use running::{is_fault, run, run_bytes};
 pub use watched::Watched;

@@ -67,3 +67,41 @@ pub fn run<R: Read, W: Write, A: Allocator + Copy>(
     }
     Err(Refusal::Input)
 }
+
+/// Whether a refusal is a fault, which ended a trace with a line that tells it.
+pub fn is_fault(refusal: Refusal) -> bool
+    ensures { result ≡ is_fault refusal }
+{
+    matches!(
+        refusal,
+        Refusal::NameTaken | Refusal::UnknownReplica | Refusal::UnknownMessage | Refusal::BadLine
+    )
+}
+
+/// Feeds the whole input to a new session, and ends it.
+fn run_all<W: Write, A: Allocator + Copy>(
+    alloc: A,
+    input: &[u8],
+    writer: &mut Watched<W>,
+) -> Result<(), Refusal>
+    ensures ok { OnOk result (Appends (W.contents (inner_of writer.old)) (W.contents (inner_of writer.new)) (given_of input.now).text) }
+    ensures fault { IfErr result (λ refusal. is_fault refusal ≡ true →
+        Appends (W.contents (inner_of writer.old)) (W.contents (inner_of writer.new)) (given_of input.now).text) }
+{
+    let mut session = Session::new(alloc);
+    session.feed(writer, input)?;
+    session.finish(writer)
+}
+
+/// The text that the whole trace is given, its fault's line with it. The one refusal is OutOfMemory.
+pub fn run_bytes<A: Allocator + Copy>(alloc: A, input: &[u8]) -> Result<Vec<u8, A>, Refusal>
+    ensures output { IfOk result (λ text. text.items ≡ (given_of input.now).text) }
+    ensures err { IsOkUnless result Refusal.OutOfMemory }
+{
+    let mut writer = Watched::new(Vec::new(alloc));
+    match run_all(alloc, input, &mut writer) {
+        Ok(()) => Ok(writer.into_inner()),
+        Err(refusal) if is_fault(refusal) => Ok(writer.into_inner()),
+        Err(_) => Err(Refusal::OutOfMemory),
+    }
+}
