@@ -1,4 +1,5 @@
 pub mod State
+pub mod Life
 pub mod Operation
 pub mod Shown
 pub mod Meaning

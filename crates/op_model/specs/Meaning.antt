@@ -1,5 +1,5 @@
 -- The state that stands for a set of operations, after Almeida, Shoker and Baquero, "Delta State Replicated Data
--- Types" (2018), section 7: a dot store in which each key holds its shown writes' values by their dots, with all
+-- Types" (2018): a dot store in which each key holds its shown writes' values by their dots, with all
 -- known dots as its context.
 -- Example: {1:1 puts x on a}, {an erasure that observed 1:1} has the state in which nothing stands, and 1:1 is
 -- known.

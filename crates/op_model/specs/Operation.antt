@@ -1,5 +1,5 @@
 -- The operations of an observed-remove map, after Almeida, Shoker and Baquero, "Delta State Replicated Data
--- Types" (2018), section 7 (the optimised observed-remove map and the multi-value register): what one write, or
+-- Types" (2018) (the optimised observed-remove map and the multi-value register): what one write, or
 -- one removal, was, and which writes it had observed.
 --
 -- A set of operations is a list of them; two lists with the same members are the same set.

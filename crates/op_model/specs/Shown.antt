@@ -1,5 +1,5 @@
 -- What a set of operations shows, after the observed-remove map of multi-value registers of Almeida, Shoker and
--- Baquero, "Delta State Replicated Data Types" (2018), section 7: the writes that no operation of the set had
+-- Baquero, "Delta State Replicated Data Types" (2018): the writes that no operation of the set had
 -- observed.
 -- Example: of {1:1 puts x on a}, {2:1 puts y on a, having observed 1:1} the key a shows the second alone. Where
 -- neither write had observed the other both are shown, and the values of a are x and y.

@@ -1,5 +1,5 @@
 -- Worlds of replicas that write, send and deliver, of this project; after the delta-interval anti-entropy of
--- Almeida, Shoker and Baquero, "Delta State Replicated Data Types" (2018), section 6.
+-- Almeida, Shoker and Baquero, "Delta State Replicated Data Types" (2018).
 --
 -- A world is told by sets of operations alone: what each replica has seen, what it has made since it last sent,
 -- and what each message carries. A lost message is one that is never delivered, a repeated one is delivered again.
