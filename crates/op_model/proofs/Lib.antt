@@ -4,3 +4,6 @@ pub mod Members
 pub mod Dots
 pub mod Lives
 pub mod States
+pub mod Sets
+pub mod Ascending
+pub mod Showing

@@ -26,13 +26,12 @@ observed-append (Wrote w ∷ S) T = ap (λ ds. w.over ++ ds) (observed-append S 
 observed-append (Erased over ∷ S) T = ap (λ ds. over ++ ds) (observed-append S T) ∙ sym (append_assoc over (observed S) (observed T))
 
 -- the greater of two values, where there are two
-pub best : Option (List ℕ) → Option (List ℕ) → Option (List ℕ)
+abbrev pub best : Option (List ℕ) → Option (List ℕ) → Option (List ℕ)
 best None b = b
 best (Some x) None = Some x
 best (Some x) (Some y) = Some (greater x y)
 
-greater_if-best : (b : Bool) (x : List ℕ) (a c : Option (List ℕ)) → greater_if b x (best a c) ≡ best (greater_if b x a) c
-unfolding best
+pub greater_if-best : (b : Bool) (x : List ℕ) (a c : Option (List ℕ)) → greater_if b x (best a c) ≡ best (greater_if b x a) c
 greater_if-best false x a c = refl
 greater_if-best true x None None = refl
 greater_if-best true x None (Some z) = refl
@@ -40,12 +39,10 @@ greater_if-best true x (Some y) None = refl
 greater_if-best true x (Some y) (Some z) = ap Some (sym (greater-assoc x y z))
 
 best-none : (a : Option (List ℕ)) → best a None ≡ a
-unfolding best
 best-none None = refl
 best-none (Some x) = refl
 
 pub value_under-append : (dot : Dot) (ws vs : List Write) → value_under dot (ws ++ vs) ≡ best (value_under dot ws) (value_under dot vs)
-unfolding best
 value_under-append dot [] vs = refl
 value_under-append dot (w ∷ ws) vs =
     ap (greater_if (same_dot w.id dot) w.value) (value_under-append dot ws vs) ∙ greater_if-best (same_dot w.id dot) w.value (value_under dot ws) (value_under dot vs)
@@ -124,7 +121,6 @@ stands_under dot (v ∷ ws) w h same none =
 union_at : (a b : Option (List ℕ)) (i j r s : Bool) →
     ((x : List ℕ) → a ≡ Some x → j ≡ true → b ≡ None → ⊥) → ((y : List ℕ) → b ≡ Some y → i ≡ true → a ≡ None → ⊥) →
     joined greater (cond r None a) (i || r) (cond s None b) (j || s) ≡ cond (r || s) None (best a b)
-unfolding best
 union_at (Some x) (Some y) i j false false f g = refl
 union_at (Some x) None i true false false f g = absurd (f x refl refl refl)
 union_at (Some x) None i false false false f g = refl

@@ -3,7 +3,7 @@
 -- known dots as its context.
 -- Example: {1:1 puts x on a}, {an erasure that observed 1:1} has the state in which nothing stands, and 1:1 is
 -- known.
-use Rattle.std.specs.Prelude.{◌≡◌, ℕ, List, [], ◌∷◌, Bool, true, false, Option, Some, None}
+use Rattle.std.specs.Prelude.{◌≡◌, ℕ, List, [], ◌∷◌, Bool, true, false, Option, Some, None, IsSome}
 use Rattle.std.specs.Ordering.{ord_max}
 use Rattle.dots.specs.declared.dot.Dot.{Dot}
 use Rattle.dots.specs.Dot.{same_dot}
@@ -36,4 +36,4 @@ Stands p key value = (dot : Dot) × (p.at key dot ≡ Some value)
 
 -- something stands at the key
 abbrev pub HoldsKey : State (List ℕ) (List ℕ) → List ℕ → Type 0
-HoldsKey p key = (value : List ℕ) × Stands p key value
+HoldsKey p key = (dot : Dot) × IsSome (p.at key dot)
