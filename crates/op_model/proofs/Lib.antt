@@ -7,3 +7,4 @@ pub mod States
 pub mod Sets
 pub mod Ascending
 pub mod Showing
+pub mod Fresh

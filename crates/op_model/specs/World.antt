@@ -5,8 +5,8 @@
 -- and what each message carries. A lost message is one that is never delivered, a repeated one is delivered again.
 -- Example: after Node 1, Put 1 a x, Flush 1, Node 2, Deliver 1 2 both replicas have seen {1:1 puts x on a}, and
 -- message 1 carries it.
-use Rattle.std.specs.Prelude.{ℕ, zero, suc, ◌==◌, ◌||◌, List, [], ◌∷◌, ◌++◌, fold, slice_index_or, Bool, true, false}
-use Rattle.op_model.specs.Operation.{Operation}
+use Rattle.std.specs.Prelude.{ℕ, zero, suc, ◌==◌, ◌||◌, List, [], ◌∷◌, ◌++◌, fold, slice_index_or, Bool, true, false, Contains}
+use Rattle.op_model.specs.Operation.{Write, Operation, writes, NoReuse, IsPartOf}
 use Rattle.op_model.specs.Made.{put_at, remove_at, clear_at}
 
 pub record World : Type 0 where
@@ -90,3 +90,12 @@ happens w (Deliver number name) = learns name (message w.messages number) w
 -- the world after these events, in their order
 abbrev pub after : List Event → World
 after events = fold happens nothing events
+
+-- What holds of a world after any events: whatever was seen, is to be sent or is in a message was made; a replica has
+-- seen its own writes; and no dot was used twice.
+pub record IsSound (w : World) : Type 0 where
+  pub seen : (name : ℕ) → IsPartOf (w.seen name) w.made
+  pub outgoing : (name : ℕ) → IsPartOf (w.outgoing name) w.made
+  pub messages : (number : ℕ) → IsPartOf (message w.messages number) w.made
+  pub own : (v : Write) → Contains (writes w.made) v → Contains (writes (w.seen v.id.name)) v
+  pub no_reuse : NoReuse w.made
