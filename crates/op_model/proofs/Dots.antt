@@ -1,7 +1,7 @@
 -- Dots, and lists of dots by their test `has`.
 use Rattle.std.proofs.Common.{◌≡◌, ℕ, List, [], ◌∷◌, ◌++◌, refl, sym, ap, ◌∙◌, ◌⊎◌, inl, inr, Bool, true, false, ◌||◌, eqb-true, eq-eqb}
 use Rattle.std.specs.Prelude.{Contains, IsTrue, ◌↔◌, ◌==◌}
-use Rattle.std.proofs.lemmas.Bool.{and_parts, and_from, or_cases, or_from, or_left, or_right, false≢true}
+use Rattle.std.proofs.lemmas.Bool.{and_parts, and_from, or_cases, or_from, or_left, or_right, false≢true, cases_Bool}
 use Rattle.dots.specs.declared.dot.Dot.{Dot}
 use Rattle.dots.specs.Dot.{same_dot}
 use Rattle.op_model.specs.Operation.{has}
@@ -17,6 +17,14 @@ same_dot-true d e h =
 
 pub same_dot-self : (d : Dot) → same_dot d d ≡ true
 same_dot-self d = and_from (d.name == d.name) (d.number == d.number) (eq-eqb d.name d.name refl) (eq-eqb d.number d.number refl)
+
+pub same_dot-symm : (d e : Dot) → same_dot d e ≡ same_dot e d
+same_dot-symm d e = by (cases_Bool (same_dot d e)) (cases_Bool (same_dot e d))
+  where
+    by : (same_dot d e ≡ true) ⊎ (same_dot d e ≡ false) → (same_dot e d ≡ true) ⊎ (same_dot e d ≡ false) → same_dot d e ≡ same_dot e d
+    by (inl f) g = let same = same_dot-true d e f in λ i. same_dot (same i) (sym same i)
+    by (inr f) (inl g) = let same = same_dot-true e d g in λ i. same_dot (sym same i) (same i)
+    by (inr f) (inr g) = f ∙ sym g
 
 pub has-append : (ds es : List Dot) (dot : Dot) → has (ds ++ es) dot ≡ (has ds dot || has es dot)
 has-append [] es dot = refl

@@ -8,3 +8,5 @@ pub mod Sets
 pub mod Ascending
 pub mod Showing
 pub mod Fresh
+pub mod Making
+pub mod Pairs

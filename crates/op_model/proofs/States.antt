@@ -47,7 +47,7 @@ value_under-append dot [] vs = refl
 value_under-append dot (w ∷ ws) vs =
     ap (greater_if (same_dot w.id dot) w.value) (value_under-append dot ws vs) ∙ greater_if-best (same_dot w.id dot) w.value (value_under dot ws) (value_under dot vs)
 
-under_cond : (dot : Dot) (b : Bool) (w : Write) (ws : List Write) →
+pub under_cond : (dot : Dot) (b : Bool) (w : Write) (ws : List Write) →
     value_under dot (cond b (w ∷ ws) ws) ≡ cond b (greater_if (same_dot w.id dot) w.value (value_under dot ws)) (value_under dot ws)
 under_cond dot true w ws = refl
 under_cond dot false w ws = refl

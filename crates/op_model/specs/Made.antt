@@ -3,7 +3,10 @@
 -- Example: at {1:1 puts x on a}, {2:1 puts y on a} a put of z on a by replica 1 makes {1:2 puts z on a, having
 -- observed 1:1 and 2:1}.
 use Rattle.std.specs.Prelude.{◌≡◌, ℕ, ◌+◌, ◌-◌, ◌<◌, ◌==◌, ◌⊎◌, ◌↔◌, ◌≢◌, max, cond, List, [], ◌∷◌, length, AllPairs, Bool, IsTrue, IsSome, is_some}
+use Rattle.std.specs.List.{IsDistinct}
+use Rattle.std.specs.Set.{distinct_count}
 use Rattle.dots.specs.declared.dot.Dot.{Dot}
+use Rattle.dots.specs.Dot.{same_dot}
 use Rattle.op_model.specs.State.{State}
 use Rattle.op_model.specs.Operation.{Write, Operation, Wrote, Erased, ids, has, known}
 use Rattle.op_model.specs.Shown.{shown, shown_anywhere}
@@ -38,18 +41,13 @@ remove_at S key = erasure (ids (shown S key))
 abbrev pub clear_at : List Operation → List Operation
 clear_at S = erasure (ids (shown_anywhere S))
 
--- how many different dots these are
-abbrev pub number_of_dots : List Dot → ℕ
-number_of_dots [] = 0
-number_of_dots (d ∷ ds) = cond (has ds d) (number_of_dots ds) (number_of_dots ds + 1)
-
 -- how many writes a remove observes
 abbrev pub removed_at : List Operation → List ℕ → ℕ
-removed_at S key = number_of_dots (ids (shown S key))
+removed_at S key = distinct_count same_dot (ids (shown S key))
 
 -- how many writes a clear observes
 abbrev pub cleared_at : List Operation → ℕ
-cleared_at S = number_of_dots (ids (shown_anywhere S))
+cleared_at S = distinct_count same_dot (ids (shown_anywhere S))
 
 -- The same at a state, whose context is a test and no list. Each holds of just one operation, but for the order
 -- of what it observed.
@@ -82,6 +80,6 @@ IsClearAt p over = (dot : Dot) → IsTrue (has over dot) ↔ StandsAnywhere p do
 -- just so many dots are as P says
 pub record Counts (P : Dot → Type 0) (n : ℕ) : Type 0 where
   pub dots : List Dot
-  pub apart : AllPairs (λ d e. d ≢ e) dots
+  pub apart : IsDistinct same_dot dots
   pub just : (dot : Dot) → IsTrue (has dots dot) ↔ P dot
   pub number : n ≡ length dots
