@@ -59,6 +59,7 @@ pub record IsNew (S : List Operation) (name : ℕ) (more : List Operation) : Typ
   pub fresh : (v : Write) → Contains (writes more) v → has (known S) v.id ≡ false
   pub not_itself : (v : Write) → Contains (writes more) v → has v.over v.id ≡ false
   pub one_write : (u v : Write) → Contains (writes more) u → Contains (writes more) v → u.id ≡ v.id → u ≡ v
+  pub told : Contains more (Erased []) → ⊥
 
 only : (w v : Write) → Contains (w ∷ []) v → w ≡ v
 only w v h = elim (head_or_tail w [] v h) [ inl e ↦ e | inr t ↦ nothing_in v t ]
@@ -77,12 +78,19 @@ put-new S name key value =
       named = λ v h. ap (λ x. x.id.name) (sym (only w v h));
       fresh = λ v h. ap (λ x. has (known S) x.id) (sym (only w v h)) ∙ next-fresh name (known S);
       not_itself = λ v h. ap (λ x. has x.over x.id) (sym (only w v h)) ∙ put_not_itself S name key;
-      one_write = λ u v h g e. sym (only w u h) ∙ only w v g
+      one_write = λ u v h g e. sym (only w u h) ∙ only w v g;
+      told = λ h. elim (head_or_tail (Wrote w) [] (Erased []) h) [ inl e ↦ absurd (cc) | inr t ↦ nothing_in (Erased []) t ]
     }
 
 pub erasure-new : (S : List Operation) (name : ℕ) (ds : List Dot) → IsNew S name (erasure ds)
-erasure-new S name [] = record { named = λ v h. nothing_in v h; fresh = λ v h. nothing_in v h; not_itself = λ v h. nothing_in v h; one_write = λ u v h g e. nothing_in u h }
-erasure-new S name (d ∷ ds) = record { named = λ v h. nothing_in v h; fresh = λ v h. nothing_in v h; not_itself = λ v h. nothing_in v h; one_write = λ u v h g e. nothing_in u h }
+erasure-new S name [] = record { named = λ v h. nothing_in v h; fresh = λ v h. nothing_in v h; not_itself = λ v h. nothing_in v h; one_write = λ u v h g e. nothing_in u h; told = λ h. nothing_in (Erased []) h }
+erasure-new S name (d ∷ ds) = record {
+  named = λ v h. nothing_in v h;
+  fresh = λ v h. nothing_in v h;
+  not_itself = λ v h. nothing_in v h;
+  one_write = λ u v h g e. nothing_in u h;
+  told = λ h. elim (head_or_tail (Erased (d ∷ ds)) [] (Erased []) h) [ inl e ↦ absurd (cc) | inr t ↦ nothing_in (Erased []) t ]
+}
 
 -- parts of sets
 pub part_left : (S T more : List Operation) → IsPartOf S T → IsPartOf S (T ++ more)
@@ -168,6 +176,7 @@ sound-makes w name more s n =
         elim (in_writes_either w.made more v h) [
         inl a ↦ grown_writes (v.id.name == name) (w.seen v.id.name) more v (s.own v a)
         | inr a ↦ grown_more (v.id.name == name) (w.seen v.id.name) more v (eq-eqb v.id.name name (n.named v a)) a ];
+      told = λ h. elim (Contains-append_cases w.made more (Erased []) h) [ inl a ↦ s.told a | inr a ↦ n.told a ];
       no_reuse = makes_no_reuse w name more s n
     }
 
@@ -177,6 +186,7 @@ sound-sends w name s = record {
   outgoing = λ k. emptied_part (k == name) (w.outgoing k) w.made (s.outgoing k);
   messages = message-append w.messages (sent (w.outgoing name)) w.made s.messages (sent_message (w.outgoing name) w.made (s.outgoing name));
   own = s.own;
+  told = s.told;
   no_reuse = s.no_reuse
 }
 
@@ -186,6 +196,7 @@ sound-shows w name s = record {
   outgoing = s.outgoing;
   messages = message-append w.messages (w.seen name ∷ []) w.made s.messages (one_message (w.seen name) w.made (s.seen name));
   own = s.own;
+  told = s.told;
   no_reuse = s.no_reuse
 }
 
@@ -195,6 +206,7 @@ sound-learns w name more s part = record {
   outgoing = s.outgoing;
   messages = s.messages;
   own = λ v h. grown_writes (v.id.name == name) (w.seen v.id.name) more v (s.own v h);
+  told = s.told;
   no_reuse = s.no_reuse
 }
 
@@ -204,6 +216,7 @@ sound-nothing = record {
   outgoing = λ k. nothing_part [];
   messages = λ k. none_there k;
   own = λ v h. nothing_in v h;
+  told = λ h. nothing_in (Erased []) h;
   no_reuse = record { one_write = λ v w h g e. nothing_in v h; not_itself = λ w h. nothing_in w h }
 }
   where
@@ -212,7 +225,7 @@ sound-nothing = record {
     none_there (suc k) = nothing_part []
 
 pub sound-happens : (w : World) (e : Event) → IsSound w → IsSound (happens w e)
-sound-happens w (Node name) s = record { seen = s.seen; outgoing = s.outgoing; messages = s.messages; own = s.own; no_reuse = s.no_reuse }
+sound-happens w (Node name) s = record { seen = s.seen; outgoing = s.outgoing; messages = s.messages; own = s.own; told = s.told; no_reuse = s.no_reuse }
 sound-happens w (Put name key value) s = sound-makes w name (put_at (w.seen name) name key value) s (put-new (w.seen name) name key value)
 sound-happens w (Remove name key) s = sound-makes w name (remove_at (w.seen name) key) s (erasure-new (w.seen name) name (ids (shown (w.seen name) key)))
 sound-happens w (Clear name) s = sound-makes w name (clear_at (w.seen name)) s (erasure-new (w.seen name) name (ids (shown_anywhere (w.seen name))))

@@ -5,7 +5,7 @@ use Rattle.std.proofs.lemmas.Bool.{and_parts, and_from, or_cases, or_from, or_le
 use Rattle.dots.specs.declared.dot.Dot.{Dot}
 use Rattle.dots.specs.Dot.{same_dot}
 use Rattle.op_model.specs.State.{State, Same}
-use Rattle.op_model.specs.Operation.{Write, Operation, Wrote, Erased, writes, observed, ids, has, known, IsPartOf, IsSameSet}
+use Rattle.op_model.specs.Operation.{Write, Operation, Wrote, Erased, writes, observed, over_of, ids, has, known, IsPartOf, IsSameSet}
 use Rattle.op_model.specs.Shown.{is_on, shown, shown_where}
 use Rattle.op_model.specs.Meaning.{greater, greater_if, value_under, state}
 use Rattle.op_model.proofs.Greater.{greater-comm, greater-assoc, greater-idem}
@@ -18,11 +18,6 @@ pub both_ways : (s t : Bool) → (s ≡ true → t ≡ true) → (t ≡ true →
 both_ways true t f g = sym (f refl)
 both_ways false true f g = g refl
 both_ways false false f g = refl
-
--- the dots that one operation had observed
-abbrev pub over_of : Operation → List Dot
-over_of (Wrote w) = w.over
-over_of (Erased over) = over
 
 pub in_writes : (S : List Operation) (w : Write) → Contains S (Wrote w) → Contains (writes S) w
 in_writes [] w h = nothing_in (Wrote w) h

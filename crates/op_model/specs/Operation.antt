@@ -33,6 +33,11 @@ observed [] = []
 observed (Wrote w ∷ S) = w.over ++ observed S
 observed (Erased over ∷ S) = over ++ observed S
 
+-- the dots that one operation had observed
+abbrev pub over_of : Operation → List Dot
+over_of (Wrote w) = w.over
+over_of (Erased over) = over
+
 -- the dots of these writes
 abbrev pub ids : List Write → List Dot
 ids ws = map (λ w. w.id) ws

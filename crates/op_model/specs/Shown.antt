@@ -3,12 +3,12 @@
 -- observed.
 -- Example: of {1:1 puts x on a}, {2:1 puts y on a, having observed 1:1} the key a shows the second alone. Where
 -- neither write had observed the other both are shown, and the values of a are x and y.
-use Rattle.std.specs.Prelude.{◌≡◌, ℕ, List, [], ◌∷◌, map, filter, length, AllPairs, Bool, true, not, ◌&&◌}
+use Rattle.std.specs.Prelude.{◌≡◌, ℕ, List, [], ◌∷◌, map, filter, length, AllPairs, Contains, IsFalse, Bool, true, not, ◌&&◌}
 use Rattle.std.specs.declared.cmp.Ordering.{Ordering}
 use Rattle.std.specs.declared.cmp.Ordering.TheVariants.{Less, Equal, Greater}
 use Rattle.std.specs.Ordering.{nat_cmp, eq_by_cmp}
 use Rattle.std.specs.Cmp.Lexicographic.{slice_cmp}
-use Rattle.op_model.specs.Operation.{Write, Operation, writes, observed, has}
+use Rattle.op_model.specs.Operation.{Write, Operation, Wrote, writes, observed, over_of, has}
 
 -- the order of keys and values, by bytes
 abbrev pub bytes_cmp : List ℕ → List ℕ → Ordering
@@ -33,6 +33,12 @@ shown S key = shown_where S (is_on key)
 -- the writes shown on any key
 abbrev pub shown_anywhere : List Operation → List Write
 shown_anywhere S = shown_where S is_anywhere
+
+-- The same in words: the write is one of the set, is on the key, and no operation of the set had observed it.
+pub record IsShown (S : List Operation) (key : List ℕ) (w : Write) : Type 0 where
+  pub written : Contains S (Wrote w)
+  pub there : w.key ≡ key
+  pub unobserved : (o : Operation) → Contains S o → IsFalse (has (over_of o) w.id)
 
 -- the list of these, ascending by bytes and each once, with x at its place: x stands to y as the order says
 abbrev pub placed : Ordering → List ℕ → List ℕ → List (List ℕ) → List (List ℕ) → List (List ℕ)

@@ -5,8 +5,10 @@
 -- and what each message carries. A lost message is one that is never delivered, a repeated one is delivered again.
 -- Example: after Node 1, Put 1 a x, Flush 1, Node 2, Deliver 1 2 both replicas have seen {1:1 puts x on a}, and
 -- message 1 carries it.
-use Rattle.std.specs.Prelude.{ℕ, zero, suc, ◌==◌, ◌||◌, List, [], ◌∷◌, ◌++◌, fold, slice_index_or, Bool, true, false, Contains}
-use Rattle.op_model.specs.Operation.{Write, Operation, writes, NoReuse, IsPartOf}
+use Rattle.std.specs.Prelude.{ℕ, zero, suc, ◌==◌, ◌||◌, List, [], ◌∷◌, ◌++◌, length, fold, slice_index_or, nat_le, ◌≡◌, ◌&&◌, Bool, true, false, Contains}
+use Rattle.op_model.specs.Operation.{Write, Operation, Erased, writes, NoReuse, IsPartOf}
+use Rattle.op_model.specs.State.{State, Same}
+use Rattle.op_model.specs.Meaning.{state}
 use Rattle.op_model.specs.Made.{put_at, remove_at, clear_at}
 
 pub record World : Type 0 where
@@ -24,6 +26,13 @@ nothing = record { nodes = []; seen = λ name. []; outgoing = λ name. []; messa
 abbrev pub is_among : List ℕ → ℕ → Bool
 is_among [] name = false
 is_among (n ∷ ns) name = (n == name) || is_among ns name
+
+-- whether a replica of the name is there, and whether a message has the number: what an event asks of the world
+abbrev pub is_node : World → ℕ → Bool
+is_node w name = is_among w.nodes name
+
+abbrev pub is_message : World → ℕ → Bool
+is_message w number = nat_le 1 number && nat_le number (length w.messages)
 
 -- what the message of this number carries: numbers are from 1 on, and one that is not there carries nothing
 abbrev pub message : List (List Operation) → ℕ → List Operation
@@ -92,10 +101,30 @@ abbrev pub after : List Event → World
 after events = fold happens nothing events
 
 -- What holds of a world after any events: whatever was seen, is to be sent or is in a message was made; a replica has
--- seen its own writes; and no dot was used twice.
+-- seen its own writes; no operation tells of no dot; and no dot was used twice.
 pub record IsSound (w : World) : Type 0 where
   pub seen : (name : ℕ) → IsPartOf (w.seen name) w.made
   pub outgoing : (name : ℕ) → IsPartOf (w.outgoing name) w.made
   pub messages : (number : ℕ) → IsPartOf (message w.messages number) w.made
   pub own : (v : Write) → Contains (writes w.made) v → Contains (writes (w.seen v.id.name)) v
+  pub told : ¬ (Contains w.made (Erased []))
   pub no_reuse : NoReuse w.made
+
+-- a live pair and a group mean what the replica of this name has seen, and what it is to send
+pub record Means (live group : State (List ℕ) (List ℕ)) (w : World) (name : ℕ) : Type 0 where
+  pub seen : Same live (state (w.seen name))
+  pub outgoing : Same group (state (w.outgoing name))
+
+-- the name of the replica at which an event happens
+abbrev pub replica_of : Event → ℕ
+replica_of (Node name) = name
+replica_of (Put name key value) = name
+replica_of (Remove name key) = name
+replica_of (Clear name) = name
+replica_of (Flush name) = name
+replica_of (Deliver number name) = name
+
+-- what a replica has seen and is to send stays as it was
+pub record IsUntouched (old new : World) (name : ℕ) : Type 0 where
+  pub seen : new.seen name ≡ old.seen name
+  pub outgoing : new.outgoing name ≡ old.outgoing name
