@@ -25,7 +25,7 @@ joined greater None own None theirs = None
 abbrev pub join : {P H : Type 0} → (H → H → H) → State P H → State P H → State P H
 join greater p q = record {
   at = λ place dot. joined greater (p.at place dot) (p.has dot) (q.at place dot) (q.has dot);
-  has = λ dot. p.has dot || q.has dot
+  has = λ dot. p.has dot || q.has dot;
 }
 
 -- the two states hold the same everywhere and know the same dots

@@ -1,0 +1,12 @@
+pub mod Greater
+pub mod Joins
+pub mod Members
+pub mod Dots
+pub mod Lives
+pub mod States
+pub mod Sets
+pub mod Ascending
+pub mod Showing
+pub mod Fresh
+pub mod Making
+pub mod Pairs

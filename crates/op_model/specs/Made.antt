@@ -1,0 +1,85 @@
+-- The operation that a put, a remove or a clear makes, after the delta-mutators of Almeida, Shoker and Baquero,
+-- "Delta State Replicated Data Types" (2018): first at a set of operations, then at a state.
+-- Example: at {1:1 puts x on a}, {2:1 puts y on a} a put of z on a by replica 1 makes {1:2 puts z on a, having
+-- observed 1:1 and 2:1}.
+use Rattle.std.specs.Prelude.{◌≡◌, ℕ, ◌+◌, ◌-◌, ◌<◌, ◌==◌, ◌⊎◌, ◌↔◌, ◌≢◌, max, cond, List, [], ◌∷◌, length, AllPairs, Bool, IsTrue, IsSome, is_some}
+use Rattle.std.specs.List.{IsDistinct}
+use Rattle.std.specs.Set.{distinct_count}
+use Rattle.dots.specs.declared.dot.Dot.{Dot}
+use Rattle.dots.specs.Dot.{same_dot}
+use Rattle.op_model.specs.State.{State}
+use Rattle.op_model.specs.Operation.{Write, Operation, Wrote, Erased, ids, has, known}
+use Rattle.op_model.specs.Shown.{shown, shown_anywhere}
+
+-- the greatest number of a name among these dots, or 0
+abbrev pub greatest_number : ℕ → List Dot → ℕ
+greatest_number name [] = 0
+greatest_number name (d ∷ ds) = cond (d.name == name) (max d.number (greatest_number name ds)) (greatest_number name ds)
+
+-- the dot of the next write of this name
+abbrev pub next : ℕ → List Dot → Dot
+next name ds = record { name = name; number = greatest_number name ds + 1 }
+
+-- the dot of a put by this name at a set
+abbrev pub dot_at : List Operation → ℕ → Dot
+dot_at S name = next name (known S)
+
+-- what a put makes: a write under a new dot, which observed what its key shows
+abbrev pub put_at : List Operation → ℕ → List ℕ → List ℕ → List Operation
+put_at S name key value = Wrote (record { id = dot_at S name; key = key; value = value; over = ids (shown S key) }) ∷ []
+
+-- an erasure of these dots, and no operation where there are none
+abbrev pub erasure : List Dot → List Operation
+erasure [] = []
+erasure (d ∷ ds) = Erased (d ∷ ds) ∷ []
+
+-- what a remove makes: an erasure of what the key shows
+abbrev pub remove_at : List Operation → List ℕ → List Operation
+remove_at S key = erasure (ids (shown S key))
+
+-- what a clear makes: an erasure of all that is shown
+abbrev pub clear_at : List Operation → List Operation
+clear_at S = erasure (ids (shown_anywhere S))
+
+-- how many writes a remove observes
+abbrev pub removed_at : List Operation → List ℕ → ℕ
+removed_at S key = distinct_count same_dot (ids (shown S key))
+
+-- how many writes a clear observes
+abbrev pub cleared_at : List Operation → ℕ
+cleared_at S = distinct_count same_dot (ids (shown_anywhere S))
+
+-- The same at a state, whose context is a test and no list. Each holds of just one operation, but for the order
+-- of what it observed.
+
+-- the dot is that of the name's next write: above each known one, and the first or next to a known one
+pub record IsNext (name : ℕ) (knows : Dot → Bool) (dot : Dot) : Type 0 where
+  pub named : dot.name ≡ name
+  pub above : (d : Dot) → d.name ≡ name → IsTrue (knows d) → d.number < dot.number
+  pub least : (dot.number ≡ 1) ⊎ IsTrue (knows (record { name = name; number = dot.number - 1 }))
+
+-- a write is what a put makes at the state
+pub record IsPutAt (p : State (List ℕ) (List ℕ)) (name : ℕ) (key value : List ℕ) (w : Write) : Type 0 where
+  pub id : IsNext name p.has w.id
+  pub same_key : w.key ≡ key
+  pub same_value : w.value ≡ value
+  pub over : (dot : Dot) → has w.over dot ≡ is_some (p.at key dot)
+
+-- these dots are just what a remove observes at the state
+abbrev pub IsRemoveAt : State (List ℕ) (List ℕ) → List ℕ → List Dot → Type 0
+IsRemoveAt p key over = (dot : Dot) → has over dot ≡ is_some (p.at key dot)
+
+-- the dot stands at some key
+abbrev pub StandsAnywhere : State (List ℕ) (List ℕ) → Dot → Type 0
+StandsAnywhere p dot = (key : List ℕ) × IsSome (p.at key dot)
+
+-- these dots are just what a clear observes at the state
+abbrev pub IsClearAt : State (List ℕ) (List ℕ) → List Dot → Type 0
+IsClearAt p over = (dot : Dot) → IsTrue (has over dot) ↔ StandsAnywhere p dot
+
+-- just so many dots are as P says
+pub record Counts (P : Dot → Type 0) (n : ℕ) : Type 0 where
+  pub dots : List Dot
+  pub apart : IsDistinct same_dot dots
+  pub just : (dot : Dot) → IsTrue (has dots dot) ↔ P dot
+  pub number : n ≡ length dots
