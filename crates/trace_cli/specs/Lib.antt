@@ -1,4 +1,6 @@
 pub mod Watched
+pub mod Word
+pub mod Command
 pub mod Machine
 pub mod Reply
 pub mod Lines

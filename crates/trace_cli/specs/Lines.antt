@@ -1,10 +1,6 @@
 -- The lines of a text. Of this project.
+use Rattle.std.specs.List.{onto_first}
 use Rattle.std.specs.Prelude.{◌≡◌, ℕ, ◌==◌, ◌||◌, Bool, true, false, cond, List, [], ◌∷◌, ◌++◌}
-
--- a byte in front of the first line
-abbrev pub onto_first : ℕ → List (List ℕ) → List (List ℕ)
-onto_first byte [] = (byte ∷ []) ∷ []
-onto_first byte (line ∷ lines) = (byte ∷ line) ∷ lines
 
 -- The lines of a text, which end with the byte 10. A last line without it counts where it has a byte.
 -- Example: the lines of "ab\n\nc" are "ab", "" and "c".

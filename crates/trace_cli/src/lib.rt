@@ -7,6 +7,7 @@ mod reply;
 mod running;
 mod session;
 mod watched;
+mod word;
 mod writing;
 
 pub use running::{is_fault, run, run_bytes};
