@@ -2,3 +2,4 @@ pub mod StreamLemmas
 pub mod LineLemmas
 pub mod RunLemmas
 pub mod WordLemmas
+pub mod CommandLemmas

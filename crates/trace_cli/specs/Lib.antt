@@ -1,6 +1,7 @@
 pub mod Watched
 pub mod Word
 pub mod Command
+pub mod Parsed
 pub mod Machine
 pub mod Reply
 pub mod Lines

@@ -2,6 +2,7 @@
 // stated function of what it reads.
 #![tactic(auto)]
 
+mod command;
 mod machine;
 mod reply;
 mod running;

@@ -1,0 +1,123 @@
+ghost use Rattle.std.specs.Prelude.{◌≡◌, IfOk, IsOkUnless};
+ghost use Rattle.std.specs.Option.{option_map};
+ghost use Rattle.trace_cli.specs.Command.{command_of, one_word_command, two_word_command, three_word_command, with_text, with_texts, with_numbers, Get, Put, Deliver};
+ghost use Rattle.trace_cli.specs.Parsed.{command_value};
+
+use crate::word::{name, number, text, words};
+use dots::{Name, Refusal};
+use std::alloc::{Allocator, Global};
+
+/// A line of a trace that is a command.
+#[derive(Drop)]
+pub(crate) enum Command<A: Allocator = Global> {
+    /// A new replica.
+    Node(Name),
+    /// A value put on a key, both in bytes of any length.
+    Put {
+        name: Name,
+        key: Vec<u8, A>,
+        value: Vec<u8, A>,
+    },
+    /// The values of a key.
+    Get { name: Name, key: Vec<u8, A> },
+    /// What the replica made since it last sent, as a message.
+    Flush(Name),
+    /// A message, delivered to a replica.
+    Deliver { message: u64, name: Name },
+}
+
+/// The command that a line is, or None where it is none.
+pub(crate) fn parse<A: Allocator + Copy>(
+    alloc: A,
+    line: &[u8],
+) -> Result<Option<Command<A>>, Refusal>
+    ensures ok { IfOk result (λ found. option_map command_value found ≡ command_of line.now) }
+    ensures err { IsOkUnless result Refusal.OutOfMemory }
+{
+    let words = words(alloc, line)?;
+    match words.as_slice() {
+        [verb, first] => Ok(with_one_word(verb, first)),
+        [verb, first, second] => with_two_words(alloc, verb, first, second),
+        [verb, first, second, third] => with_three_words(alloc, verb, first, second, third),
+        _ => Ok(None),
+    }
+}
+
+fn with_one_word<A: Allocator + Copy>(verb: &[u8], first: &[u8]) -> Option<Command<A>>
+    ensures { option_map command_value result ≡ one_word_command verb.now first.now }
+{
+    if verb == b"node".as_slice() {
+        return Some(Command::Node(name(first)?));
+    }
+    if verb == b"flush".as_slice() {
+        return Some(Command::Flush(name(first)?));
+    }
+    None
+}
+
+fn with_two_words<A: Allocator + Copy>(
+    alloc: A,
+    verb: &[u8],
+    first: &[u8],
+    second: &[u8],
+) -> Result<Option<Command<A>>, Refusal>
+    ensures ok { IfOk result (λ found. option_map command_value found ≡ two_word_command verb.now first.now second.now) }
+    ensures err { IsOkUnless result Refusal.OutOfMemory }
+{
+    if verb == b"get".as_slice() {
+        return Ok(get(name(first), text(alloc, second)?));
+    }
+    if verb == b"deliver".as_slice() {
+        return Ok(deliver(number(first), name(second)));
+    }
+    Ok(None)
+}
+
+fn with_three_words<A: Allocator + Copy>(
+    alloc: A,
+    verb: &[u8],
+    first: &[u8],
+    second: &[u8],
+    third: &[u8],
+) -> Result<Option<Command<A>>, Refusal>
+    ensures ok { IfOk result (λ found. option_map command_value found ≡ three_word_command verb.now first.now second.now third.now) }
+    ensures err { IsOkUnless result Refusal.OutOfMemory }
+{
+    if verb == b"put".as_slice() {
+        return Ok(put(name(first), text(alloc, second)?, text(alloc, third)?));
+    }
+    Ok(None)
+}
+
+fn get<A: Allocator>(name: Option<Name>, key: Option<Vec<u8, A>>) -> Option<Command<A>>
+    ensures { option_map command_value result ≡ with_text Get name (option_map (λ bytes. bytes.items) key) }
+{
+    Some(Command::Get {
+        name: name?,
+        key: key?,
+    })
+}
+
+fn deliver<A: Allocator>(message: Option<u64>, name: Option<Name>) -> Option<Command<A>>
+    ensures { option_map command_value result ≡ with_numbers Deliver message name }
+{
+    Some(Command::Deliver {
+        message: message?,
+        name: name?,
+    })
+}
+
+fn put<A: Allocator>(
+    name: Option<Name>,
+    key: Option<Vec<u8, A>>,
+    value: Option<Vec<u8, A>>,
+) -> Option<Command<A>>
+    ensures { option_map command_value result ≡
+        with_texts Put name (option_map (λ bytes. bytes.items) key) (option_map (λ bytes. bytes.items) value) }
+{
+    Some(Command::Put {
+        name: name?,
+        key: key?,
+        value: value?,
+    })
+}
