@@ -10,3 +10,5 @@ pub mod Showing
 pub mod Fresh
 pub mod Making
 pub mod Pairs
+pub mod Events
+pub mod Words
