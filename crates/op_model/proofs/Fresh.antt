@@ -10,8 +10,8 @@ use Rattle.op_model.specs.Made.{greatest_number, next, put_at, erasure, remove_a
 use Rattle.op_model.specs.World.{World, IsSound, Event, Node, Put, Remove, Clear, Flush, Deliver, nothing, message, grown, emptied, sent, makes, sends, shows, learns, happens, after}
 use Rattle.op_model.proofs.Dots.{has-append, in_has, from_has}
 use Rattle.op_model.proofs.Members.{nothing_in, at_head, in_tail, head_or_tail, at_same, in_map, from_map}
-use Rattle.op_model.proofs.States.{in_writes_left, in_writes_right, in_writes_either}
-use Rattle.op_model.proofs.Sets.{from_shown, in_writes, from_writes, writes_part}
+use Rattle.op_model.proofs.Union.{in_writes_left, in_writes_right, in_writes_either}
+use Rattle.op_model.proofs.SameSets.{from_shown, in_writes, from_writes, writes_part}
 
 -- the greatest number of a name is not passed, and is reached unless it is 0
 step_above : (b : Bool) (n m k : ℕ) → k ≤ m → k ≤ cond b (max n m) m

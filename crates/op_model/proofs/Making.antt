@@ -10,17 +10,17 @@ use Rattle.std.proofs.lemmas.List.{append-nil}
 use Rattle.std.proofs.lemmas.Map.Made.{length-from_keys}
 use Rattle.dots.specs.declared.dot.Dot.{Dot}
 use Rattle.dots.specs.Dot.{same_dot}
-use Rattle.op_model.specs.State.{State, Same}
+use Rattle.op_model.specs.State.{State, Same, IsInside}
 use Rattle.op_model.specs.Operation.{Write, Operation, Wrote, Erased, writes, observed, ids, has, known}
 use Rattle.op_model.specs.Shown.{bytes_cmp, is_on, is_anywhere, shown, shown_where, shown_anywhere}
 use Rattle.op_model.specs.Meaning.{greater_if, value_under, state}
-use Rattle.op_model.specs.Made.{greatest_number, next, dot_at, put_at, erasure, remove_at, clear_at, removed_at, cleared_at, IsNext, IsPutAt, IsRemoveAt, IsClearAt, StandsAnywhere, Counts}
+use Rattle.op_model.specs.Made.{greatest_number, next, dot_at, write_at, put_at, erasure, remove_at, clear_at, removed_at, cleared_at, IsNext, IsPutAt, IsRemoveAt, IsClearAt, StandsAnywhere, Counts}
 use Rattle.op_model.proofs.Joins.{same-back}
 use Rattle.op_model.proofs.Dots.{same_dot-true, same_dot-self, same_dot-symm, has-append, in_has, from_has}
-use Rattle.op_model.proofs.Sets.{both_ways}
-use Rattle.op_model.proofs.States.{at-state, has-state, under_cond}
+use Rattle.op_model.proofs.SameSets.{both_ways}
+use Rattle.op_model.proofs.Union.{at-state, has-state, under_cond}
 use Rattle.op_model.proofs.Showing.{dots_standing, dots_anywhere}
-use Rattle.op_model.proofs.Fresh.{greatest_number-above}
+use Rattle.op_model.proofs.Fresh.{greatest_number-above, shown_known}
 
 pub same_dots : (d e : Dot) → d.name ≡ e.name → d.number ≡ e.number → d ≡ e
 same_dots d e p q = λ i. record { name = p i; number = q i }
@@ -132,6 +132,28 @@ counted P ds n c all =
     c.number
     ∙ length-from_keys same_dot_equivalence c.dots ds c.apart
       (λ q. sym (has-is_member c.dots q) ∙ both_ways (has c.dots q) (has ds q) (λ h. (all q).1 ((c.just q).0 h)) (λ h. (c.just q).1 ((all q).0 h)) ∙ has-is_member ds q)
+
+-- a write's value stands at its key under its dot alone
+pub at-write-own : (w : Write) → has w.over w.id ≡ false → (key : List ℕ) (dot : Dot) →
+    (state (Wrote w ∷ [])).at key dot ≡ cond (is_on key w && same_dot w.id dot) (Some w.value) None
+at-write-own w new key dot =
+    at-write w key dot ∙ by (is_on key w) (same_dot w.id dot) (has w.over dot) (λ e. sym (ap (has w.over) (same_dot-true w.id dot e)) ∙ new)
+  where
+    by : (b s h : Bool) → (s ≡ true → h ≡ false) → cond h None (cond b (greater_if s w.value None) None) ≡ cond (b && s) (Some w.value) None
+    by true true true f = absurd (false≢true (sym (f refl)))
+    by true true false f = refl
+    by true false true f = refl
+    by true false false f = refl
+    by false s true f = refl
+    by false s false f = refl
+
+-- what stands is known
+pub state-inside : (S : List Operation) → IsInside (state S)
+state-inside S key dot h = shown_known S (is_on key) dot (dots_standing S key dot ∙ h)
+
+-- what is made at the set is made at its state
+pub put_is_made : (S : List Operation) (name : ℕ) (key value : List ℕ) → IsPutAt (state S) name key value (write_at S name key value)
+put_is_made S name key value = record { id = next-IsNext name (known S); same_key = refl; same_value = refl; over = λ dot. dots_standing S key dot }
 
 module _ (S : List Operation) (p : State (List ℕ) (List ℕ)) (same : Same p (state S)) where
   -- what a put, a remove and a clear made at the state stand for

@@ -11,7 +11,7 @@ use Rattle.op_model.specs.Meaning.{greater, state}
 use Rattle.op_model.specs.Made.{put_at, erasure, remove_at, clear_at, IsPutAt, IsRemoveAt, IsClearAt}
 use Rattle.op_model.specs.World.{World, IsSound, Event, Put, Remove, Clear, Flush, Deliver, message, grown, emptied, makes, sends, shows, learns, happens, after}
 use Rattle.op_model.proofs.Joins.{join-same, same-chain}
-use Rattle.op_model.proofs.States.{join-states}
+use Rattle.op_model.proofs.Union.{join-states}
 use Rattle.op_model.proofs.Making.{put_made, remove_made, clear_made}
 use Rattle.op_model.proofs.Fresh.{IsNew, put-new, erasure-new, sound-makes, sound-after, after-push, NoReuse-part, part_both, part_left}
 

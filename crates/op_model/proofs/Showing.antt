@@ -18,8 +18,8 @@ use Rattle.op_model.specs.Made.{StandsAnywhere}
 use Rattle.op_model.proofs.Greater.{bytes_exact, greater-idem}
 use Rattle.op_model.proofs.Dots.{in_has, from_has}
 use Rattle.op_model.proofs.Members.{nothing_in, at_head, in_tail, head_or_tail, at_same, in_map, from_map, in_filter, from_filter}
-use Rattle.op_model.proofs.States.{found_under, stands_under}
-use Rattle.op_model.proofs.Sets.{from_shown, in_shown, shown_same, both_ways}
+use Rattle.op_model.proofs.Union.{found_under, stands_under}
+use Rattle.op_model.proofs.SameSets.{from_shown, in_shown, shown_same, both_ways}
 use Rattle.op_model.proofs.Ascending.{ascending-ascends, in_ascending, from_ascending, one_ascending}
 
 -- the same write's value, where the writes under the dot are all the same

@@ -7,7 +7,7 @@ use Rattle.op_model.specs.Operation.{Write, Operation, Wrote, Erased, writes, ob
 use Rattle.op_model.specs.Shown.{is_on, is_anywhere, shown, shown_anywhere, shown_where, ascending, values, keys, IsShown}
 use Rattle.op_model.proofs.Dots.{has-append, in_has, from_has}
 use Rattle.op_model.proofs.Members.{at_same, in_map, from_map}
-use Rattle.op_model.proofs.Sets.{in_writes, from_writes, in_observed, from_observed, from_shown, in_shown}
+use Rattle.op_model.proofs.SameSets.{in_writes, from_writes, in_observed, from_observed, from_shown, in_shown}
 use Rattle.op_model.proofs.Ascending.{in_ascending, from_ascending}
 use Rattle.op_model.proofs.Showing.{on_own, on_key}
 

@@ -25,8 +25,11 @@ abbrev pub dot_at : List Operation → ℕ → Dot
 dot_at S name = next name (known S)
 
 -- what a put makes: a write under a new dot, which observed what its key shows
+abbrev pub write_at : List Operation → ℕ → List ℕ → List ℕ → Write
+write_at S name key value = record { id = dot_at S name; key = key; value = value; over = ids (shown S key) }
+
 abbrev pub put_at : List Operation → ℕ → List ℕ → List ℕ → List Operation
-put_at S name key value = Wrote (record { id = dot_at S name; key = key; value = value; over = ids (shown S key) }) ∷ []
+put_at S name key value = Wrote (write_at S name key value) ∷ []
 
 -- an erasure of these dots, and no operation where there are none
 abbrev pub erasure : List Dot → List Operation

@@ -11,7 +11,7 @@ use Rattle.op_model.specs.Meaning.{greater, greater_if, value_under, state}
 use Rattle.op_model.proofs.Greater.{greater-comm, greater-assoc, greater-idem}
 use Rattle.op_model.proofs.Dots.{has-append, in_has, from_has}
 use Rattle.op_model.proofs.Members.{nothing_in, at_head, in_tail, head_or_tail, at_same, in_map, from_map, in_filter, from_filter}
-use Rattle.op_model.proofs.States.{best, greater_if-best}
+use Rattle.op_model.proofs.Union.{best, greater_if-best}
 
 -- two tests of which each implies the other
 pub both_ways : (s t : Bool) → (s ≡ true → t ≡ true) → (t ≡ true → s ≡ true) → s ≡ t
