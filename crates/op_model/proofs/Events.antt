@@ -1,6 +1,6 @@
 -- How a pair that means what a replica has seen keeps its meaning over each event of a world.
-use Rattle.std.proofs.Common.{◌≡◌, ◌≢◌, ℕ, List, [], ◌∷◌, ◌++◌, length, refl, sym, ap, ◌∙◌, subst, Bool, true, false}
-use Rattle.std.specs.Prelude.{Contains, ◌==◌, ◌↔◌}
+use Rattle.std.proofs.Common.{◌≡◌, ◌≢◌, ℕ, List, [], ◌∷◌, ◌++◌, refl, sym, ap, ◌∙◌, subst, true, false}
+use Rattle.std.specs.Prelude.{Contains, ◌↔◌}
 use Rattle.std.proofs.lemmas.Bool.{false≢true, or_left, or_right}
 use Rattle.dots.specs.declared.dot.Dot.{Dot}
 use Rattle.dots.specs.Dot.{same_dot}
@@ -9,8 +9,8 @@ use Rattle.op_model.specs.Operation.{Write, Operation, Wrote, Erased, has, ids, 
 use Rattle.op_model.specs.Shown.{shown, shown_anywhere}
 use Rattle.op_model.specs.Meaning.{greater, state}
 use Rattle.op_model.specs.Made.{put_at, erasure, remove_at, clear_at, IsPutAt, IsRemoveAt, IsClearAt}
-use Rattle.op_model.specs.World.{World, IsSound, Means, IsUntouched, replica_of, Event, Node, Put, Remove, Clear, Flush, Deliver, message, sent, makes, learns, happens, after}
-use Rattle.op_model.proofs.Joins.{join-same, same-chain, same-itself}
+use Rattle.op_model.specs.World.{World, Means, IsUntouched, replica_of, Event, Node, Put, Remove, Clear, Flush, Deliver, message, makes, happens, after}
+use Rattle.op_model.proofs.Joins.{same-chain}
 use Rattle.op_model.proofs.Dots.{same_dot-self, has-append}
 use Rattle.op_model.proofs.Making.{put_made, remove_made, clear_made}
 use Rattle.op_model.proofs.Members.{at_head}
@@ -25,7 +25,7 @@ module _ (events : List Event) (name : ℕ) (p g : State (List ℕ) (List ℕ)) 
       Means (join greater p d) (join greater g d) (makes name more (after events)) name
   makes_means more new d delta = record {
     seen = makes_live (after events) (sound-after events) name more new p d means.seen delta;
-    outgoing = makes_group (after events) (sound-after events) name more new g d means.outgoing delta
+    outgoing = makes_group (after events) (sound-after events) name more new g d means.outgoing delta;
   }
 
   -- a put, a remove and a clear, with the delta that means the operation made at the set
@@ -52,19 +52,19 @@ module _ (events : List Event) (name : ℕ) (p g : State (List ℕ) (List ℕ)) 
       Means (join greater p d) (join greater g d) (after (events ++ Put name key value ∷ [])) name
   after_put_at key value w d made delta =
       after_put key value d (same-chain d (state (Wrote w ∷ [])) (state (put_at ((after events).seen name) name key value)) delta
-        (put_made ((after events).seen name) p means.seen name key value w made))
+      (put_made ((after events).seen name) p means.seen name key value w made))
 
   pub after_remove_at : (key : List ℕ) (over : List Dot) (d : State (List ℕ) (List ℕ)) → IsRemoveAt p key over → Same d (state (erasure over)) →
       Means (join greater p d) (join greater g d) (after (events ++ Remove name key ∷ [])) name
   after_remove_at key over d made delta =
       after_remove key d (same-chain d (state (erasure over)) (state (remove_at ((after events).seen name) key)) delta
-        (remove_made ((after events).seen name) p means.seen key over made))
+      (remove_made ((after events).seen name) p means.seen key over made))
 
   pub after_clear_at : (over : List Dot) (d : State (List ℕ) (List ℕ)) → IsClearAt p over → Same d (state (erasure over)) →
       Means (join greater p d) (join greater g d) (after (events ++ Clear name ∷ [])) name
   after_clear_at over d made delta =
       after_clear d (same-chain d (state (erasure over)) (state (clear_at ((after events).seen name))) delta
-        (clear_made ((after events).seen name) p means.seen over made))
+      (clear_made ((after events).seen name) p means.seen over made))
 
   -- a flush leaves the live pair, and an empty group
   pub after_flush : (e : State (List ℕ) (List ℕ)) → Same e (state []) → Means p e (after (events ++ Flush name ∷ [])) name
@@ -83,8 +83,8 @@ module _ (events : List Event) (name : ℕ) (p g : State (List ℕ) (List ℕ)) 
       by (Erased [] ∷ S) e h = absurd ((sound-after events).told ((sound-after events).outgoing name (Erased []) (subst (λ T. Contains T (Erased [])) (sym e) (at_head (Erased []) S))))
       by (Erased (d ∷ ds) ∷ S) e h =
           let there : has (known (Erased (d ∷ ds) ∷ S)) d ≡ true =
-            has-append (ids (writes S)) ((d ∷ ds) ++ observed S) d
-            ∙ or_right (has (ids (writes S)) d) (has ((d ∷ ds) ++ observed S) d) (or_left (same_dot d d) (has (ds ++ observed S) d) (same_dot-self d)) in
+          has-append (ids (writes S)) ((d ∷ ds) ++ observed S) d
+          ∙ or_right (has (ids (writes S)) d) (has ((d ∷ ds) ++ observed S) d) (or_left (same_dot d d) (has (ds ++ observed S) d) (same_dot-self d)) in
           absurd (false≢true (sym (h d) ∙ means.outgoing.has d ∙ ap (λ T. has (known T) d) e ∙ there))
 
   -- a delivery leaves the group
@@ -94,7 +94,7 @@ module _ (events : List Event) (name : ℕ) (p g : State (List ℕ) (List ℕ)) 
       then_after events (Deliver number name) (join greater p d) g name
       (record {
         seen = learns_live (after events) (sound-after events) name (message (after events).messages number) ((sound-after events).messages number) p d means.seen delta;
-        outgoing = means.outgoing
+        outgoing = means.outgoing;
       })
 
 -- an event leaves every other replica as it was
@@ -115,7 +115,7 @@ means_elsewhere events e n p g apart means =
     let still = after_elsewhere events e n apart in
     record {
       seen = subst (λ S. Same p (state S)) (sym still.seen) means.seen;
-      outgoing = subst (λ S. Same g (state S)) (sym still.outgoing) means.outgoing
+      outgoing = subst (λ S. Same g (state S)) (sym still.outgoing) means.outgoing;
     }
 
 -- what the messages carry: a flush adds the group, if there is anything in it, and no other event adds any

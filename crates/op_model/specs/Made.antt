@@ -2,7 +2,7 @@
 -- "Delta State Replicated Data Types" (2018): first at a set of operations, then at a state.
 -- Example: at {1:1 puts x on a}, {2:1 puts y on a} a put of z on a by replica 1 makes {1:2 puts z on a, having
 -- observed 1:1 and 2:1}.
-use Rattle.std.specs.Prelude.{◌≡◌, ℕ, ◌+◌, ◌-◌, ◌<◌, ◌==◌, ◌⊎◌, ◌↔◌, ◌≢◌, max, cond, List, [], ◌∷◌, length, AllPairs, Bool, IsTrue, IsSome, is_some}
+use Rattle.std.specs.Prelude.{◌≡◌, ℕ, ◌+◌, ◌-◌, ◌<◌, ◌==◌, ◌⊎◌, ◌↔◌, max, cond, List, [], ◌∷◌, length, Bool, IsTrue, IsSome, is_some}
 use Rattle.std.specs.List.{IsDistinct}
 use Rattle.std.specs.Set.{distinct_count}
 use Rattle.dots.specs.declared.dot.Dot.{Dot}

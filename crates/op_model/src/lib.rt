@@ -3,10 +3,20 @@
 // the state of the union, that no dot is ever used twice, and that each event keeps what a pair means.
 #![tactic(auto)]
 
+mod examples;
 mod sets;
 mod states;
 mod worlds;
 
-pub use sets::{made_at_a_state, same_operations, standing, states_join, states_of_operations, what_is_shown};
-pub use states::{greater_is_lawful, join_is_associative, join_is_commutative, join_is_idempotent, join_is_later};
+pub use examples::{
+    a_clear_and_a_group, a_put_overwrites_both, a_remove_overtakes_its_put,
+    concurrent_puts_are_both_kept, messages_carry, reuse_is_seen, sets_know, sets_make, sets_show,
+    states_show,
+};
+pub use sets::{
+    made_at_a_state, same_operations, standing, states_join, states_of_operations, what_is_shown,
+};
+pub use states::{
+    greater_is_lawful, join_is_associative, join_is_commutative, join_is_idempotent, join_is_later,
+};
 pub use worlds::{clears, delivers, events_elsewhere, flushes, ids_are_fresh, puts, removes};
