@@ -19,4 +19,7 @@ pub use sets::{
 pub use states::{
     greater_is_lawful, join_is_associative, join_is_commutative, join_is_idempotent, join_is_later,
 };
-pub use worlds::{clears, delivers, events_elsewhere, flushes, ids_are_fresh, puts, removes};
+pub use worlds::{
+    clears, delivers, events_elsewhere, flushes, ids_are_fresh, learns_a_set, messages_stay,
+    moves_are_sound, puts, removes,
+};

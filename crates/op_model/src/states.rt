@@ -5,6 +5,7 @@ ghost use Rattle.dots.specs.declared.dot.Dot.{Dot};
 ghost use Rattle.op_model.specs.State.{State, join, Same};
 ghost use Rattle.op_model.specs.Life.{life, later};
 ghost use Rattle.op_model.specs.Meaning.{greater};
+ghost use Rattle.op_model.specs.Places.{read_at};
 
 /// The join of two states is the same in either order, where the greater of two held values is.
 pub fn join_is_commutative<P, H>()
@@ -34,4 +35,12 @@ pub fn greater_is_lawful()
     ensures commutative { (x y : List ℕ) → greater x y ≡ greater y x }
     ensures associative { (x y z : List ℕ) → greater (greater x y) z ≡ greater x (greater y z) }
     ensures idempotent { (x : List ℕ) → greater x x ≡ x }
+{}
+
+/// To read the join of two states at other places is to join what is read there, and states that are the same read the
+/// same.
+pub fn join_is_read_at_places<P, Q, H>()
+    ensures join { (most : H → H → H) (place_of : Q → P) (p q : State P H) →
+        read_at place_of (join most p q) ≡ join most (read_at place_of p) (read_at place_of q) }
+    ensures same { (place_of : Q → P) (p q : State P H) → Same p q → Same (read_at place_of p) (read_at place_of q) }
 {}
