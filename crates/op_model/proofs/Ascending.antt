@@ -3,10 +3,9 @@ use Rattle.std.specs.declared.cmp.Ordering.{Ordering}
 use Rattle.std.specs.declared.cmp.Ordering.TheVariants.{Less, Equal, Greater}
 use Rattle.std.specs.Cmp.Lexicographic.{nat_list_cmp_total}
 use Rattle.std.specs.Ordering.{ordering_reverse}
-use Rattle.std.specs.Prelude.{Contains, AllPairs}
+use Rattle.std.specs.Prelude.{Contains}
 use Rattle.std.proofs.Common.{◌≡◌, ℕ, zero, suc, ◌<◌, length, get_or, List, [], ◌∷◌, refl, sym, ap, ◌∙◌, subst, ◌⊎◌, inl, inr, arith}
 use Rattle.std.proofs.lemmas.List.Elements.{Contains-get_or}
-use Rattle.std.proofs.lemmas.Cmp.{tied_itself}
 use Rattle.op_model.specs.Shown.{bytes_cmp, placed, with_one, ascending, IsAscending}
 use Rattle.op_model.proofs.Greater.{bytes_exact}
 use Rattle.op_model.proofs.Members.{nothing_in, at_head, in_tail, head_or_tail, at_same}
@@ -17,7 +16,7 @@ pub record IsBelow (x : List ℕ) (xs : List (List ℕ)) : Type 0 where
 
 pub head_below : (x : List ℕ) (xs : List (List ℕ)) → IsAscending (x ∷ xs) → IsBelow x xs
 head_below x xs h = record {
-  below = λ y (k, l, e). subst (λ z. bytes_cmp x z ≡ Less) e (h 0 (suc k) y (omega arith) (omega arith))
+  below = λ y (k, l, e). subst (λ z. bytes_cmp x z ≡ Less) e (h 0 (suc k) y (omega arith) (omega arith));
 }
 
 pub tail_ascends : (x : List ℕ) (xs : List (List ℕ)) → IsAscending (x ∷ xs) → IsAscending xs
@@ -48,8 +47,9 @@ from_placed Less x y ys among z f h = elim (head_or_tail x (y ∷ ys) z h) [ inl
 from_placed Equal x y ys among z f h = inr h
 from_placed Greater x y ys among z f h =
     elim (head_or_tail y among z h) [
-    inl e ↦ inr (at_same (y ∷ ys) y z e (at_head y ys))
-    | inr t ↦ elim (f z t) [ inl e ↦ inl e | inr u ↦ inr (in_tail y ys z u) ] ]
+      | inl e ↦ inr (at_same (y ∷ ys) y z e (at_head y ys))
+      | inr t ↦ elim (f z t) [ inl e ↦ inl e | inr u ↦ inr (in_tail y ys z u) ]
+    ]
 
 pub from_with_one : (x : List ℕ) (ys : List (List ℕ)) (z : List ℕ) → Contains (with_one x ys) z → (z ≡ x) ⊎ Contains ys z
 from_with_one x [] z h = elim (head_or_tail x [] z h) [ inl e ↦ inl (sym e) | inr t ↦ nothing_in z t ]
@@ -70,17 +70,19 @@ placed_ascends : (o : Ordering) (x y : List ℕ) (ys : List (List ℕ)) → byte
 placed_ascends Less x y ys e h g =
     ascends x (y ∷ ys) (record {
       below = λ z t.
-        elim (head_or_tail y ys z t) [
-        inl f ↦ sym (ap (bytes_cmp x) f) ∙ e
-        | inr u ↦ nat_list_cmp_total.trans x y z e ((head_below y ys h).below z u) ]
+          elim (head_or_tail y ys z t) [
+            | inl f ↦ sym (ap (bytes_cmp x) f) ∙ e
+            | inr u ↦ nat_list_cmp_total.trans x y z e ((head_below y ys h).below z u)
+          ];
     }) h
 placed_ascends Equal x y ys e h g = h
 placed_ascends Greater x y ys e h g =
     ascends y (with_one x ys) (record {
       below = λ z t.
-        elim (from_with_one x ys z t) [
-        inl f ↦ ap (bytes_cmp y) f ∙ nat_list_cmp_total.antisymm y x ∙ ap ordering_reverse e
-        | inr u ↦ (head_below y ys h).below z u ]
+          elim (from_with_one x ys z t) [
+            | inl f ↦ ap (bytes_cmp y) f ∙ nat_list_cmp_total.antisymm y x ∙ ap ordering_reverse e
+            | inr u ↦ (head_below y ys h).below z u
+          ];
     }) g
 
 pub with_one-ascends : (x : List ℕ) (ys : List (List ℕ)) → IsAscending ys → IsAscending (with_one x ys)
@@ -105,17 +107,20 @@ from_ascending (x ∷ xs) z h =
 one_head : (x y : List ℕ) (xs ys : List (List ℕ)) → IsAscending (x ∷ xs) → IsAscending (y ∷ ys) → Contains (y ∷ ys) x → Contains (x ∷ xs) y → x ≡ y
 one_head x y xs ys h g f b =
     elim (head_or_tail y ys x f) [
-    inl e ↦ sym e
-    | inr t ↦ elim (head_or_tail x xs y b) [
-      inl e ↦ e
-      | inr u ↦ absurd (less_less x y ((head_below x xs h).below y u) ((head_below y ys g).below x t)) ] ]
+      | inl e ↦ sym e
+      | inr t ↦ elim (head_or_tail x xs y b) [
+        | inl e ↦ e
+        | inr u ↦ absurd (less_less x y ((head_below x xs h).below y u) ((head_below y ys g).below x t))
+      ]
+    ]
 
 -- the members of a tail, where the heads are one
 tails : (x y : List ℕ) (xs ys : List (List ℕ)) → IsAscending (x ∷ xs) → x ≡ y → ((z : List ℕ) → Contains (x ∷ xs) z → Contains (y ∷ ys) z) → (z : List ℕ) → Contains xs z → Contains ys z
 tails x y xs ys h same f z t =
     elim (head_or_tail y ys z (f z (in_tail x xs z t))) [
-    inl e ↦ absurd (less_self x (ap (bytes_cmp x) (same ∙ e) ∙ (head_below x xs h).below z t))
-    | inr u ↦ u ]
+      | inl e ↦ absurd (less_self x (ap (bytes_cmp x) (same ∙ e) ∙ (head_below x xs h).below z t))
+      | inr u ↦ u
+    ]
 
 -- two ascending lists of the same members are one
 pub one_ascending : (xs ys : List (List ℕ)) → IsAscending xs → IsAscending ys → ((z : List ℕ) → Contains xs z → Contains ys z) → ((z : List ℕ) → Contains ys z → Contains xs z) → xs ≡ ys

@@ -1,7 +1,7 @@
 -- Dots, and lists of dots by their test `has`.
-use Rattle.std.proofs.Common.{◌≡◌, ℕ, List, [], ◌∷◌, ◌++◌, refl, sym, ap, ◌∙◌, ◌⊎◌, inl, inr, Bool, true, false, ◌||◌, eqb-true, eq-eqb}
-use Rattle.std.specs.Prelude.{Contains, IsTrue, ◌↔◌, ◌==◌}
-use Rattle.std.proofs.lemmas.Bool.{and_parts, and_from, or_cases, or_from, or_left, or_right, false≢true, cases_Bool}
+use Rattle.std.proofs.Common.{◌≡◌, List, [], ◌∷◌, ◌++◌, refl, sym, ap, ◌∙◌, ◌⊎◌, inl, inr, true, false, ◌||◌, eqb-true, eq-eqb}
+use Rattle.std.specs.Prelude.{Contains, ◌==◌}
+use Rattle.std.proofs.lemmas.Bool.{and_parts, and_from, or_cases, or_left, or_right, false≢true, cases_Bool}
 use Rattle.dots.specs.declared.dot.Dot.{Dot}
 use Rattle.dots.specs.Dot.{same_dot}
 use Rattle.op_model.specs.Operation.{has}
@@ -34,12 +34,14 @@ pub in_has : (ds : List Dot) (dot : Dot) → Contains ds dot → has ds dot ≡ 
 in_has [] dot h = nothing_in dot h
 in_has (d ∷ ds) dot h =
     elim (head_or_tail d ds dot h) [
-    inl e ↦ or_left (same_dot d dot) (has ds dot) (sym (ap (same_dot d) e) ∙ same_dot-self d)
-    | inr t ↦ or_right (same_dot d dot) (has ds dot) (in_has ds dot t) ]
+      | inl e ↦ or_left (same_dot d dot) (has ds dot) (sym (ap (same_dot d) e) ∙ same_dot-self d)
+      | inr t ↦ or_right (same_dot d dot) (has ds dot) (in_has ds dot t)
+    ]
 
 pub from_has : (ds : List Dot) (dot : Dot) → has ds dot ≡ true → Contains ds dot
 from_has [] dot h = absurd (false≢true h)
 from_has (d ∷ ds) dot h =
     elim (or_cases (same_dot d dot) (has ds dot) h) [
-    inl e ↦ at_same (d ∷ ds) d dot (same_dot-true d dot e) (at_head d ds)
-    | inr t ↦ in_tail d ds dot (from_has ds dot t) ]
+      | inl e ↦ at_same (d ∷ ds) d dot (same_dot-true d dot e) (at_head d ds)
+      | inr t ↦ in_tail d ds dot (from_has ds dot t)
+    ]

@@ -1,7 +1,7 @@
 -- No dot is used twice: what the moves of a world keep.
-use Rattle.std.proofs.Common.{◌≡◌, ℕ, zero, suc, ◌+◌, ◌<◌, ◌≤◌, max, List, [], ◌∷◌, ◌++◌, map, fold, refl, sym, ap, ◌∙◌, subst, ◌⊎◌, inl, inr, Bool, true, false, cond, ◌||◌, arith, eqb-true, eq-eqb}
-use Rattle.std.specs.Prelude.{Contains, ◌==◌, slice_index_or}
-use Rattle.std.proofs.lemmas.Bool.{false≢true, cases_Bool, or_left, or_right, or_cases, or_from, cases_eq, ne_eqb}
+use Rattle.std.proofs.Common.{◌≡◌, ℕ, zero, suc, ◌≤◌, max, List, [], ◌∷◌, ◌++◌, fold, refl, sym, ap, ◌∙◌, subst, inl, inr, Bool, true, false, cond, arith, eq-eqb}
+use Rattle.std.specs.Prelude.{Contains, ◌==◌}
+use Rattle.std.proofs.lemmas.Bool.{false≢true, cases_Bool, or_left}
 use Rattle.std.proofs.lemmas.List.Elements.{Contains-append_left, Contains-append_right, Contains-append_cases}
 use Rattle.dots.specs.declared.dot.Dot.{Dot}
 use Rattle.op_model.specs.Operation.{Write, Operation, Wrote, Erased, writes, observed, ids, has, known, NoReuse, IsPartOf}
@@ -9,9 +9,9 @@ use Rattle.op_model.specs.Shown.{is_on, shown, shown_where, shown_anywhere}
 use Rattle.op_model.specs.Made.{greatest_number, next, put_at, erasure, remove_at, clear_at}
 use Rattle.op_model.specs.World.{World, IsSound, Event, Node, Put, Remove, Clear, Flush, Deliver, nothing, message, grown, emptied, sent, makes, sends, shows, learns, happens, after}
 use Rattle.op_model.proofs.Dots.{has-append, in_has, from_has}
-use Rattle.op_model.proofs.Members.{nothing_in, at_head, in_tail, head_or_tail, at_same, in_map, from_map}
-use Rattle.op_model.proofs.States.{in_writes_left, in_writes_right, in_writes_either}
-use Rattle.op_model.proofs.Sets.{from_shown, in_writes, from_writes, writes_part}
+use Rattle.op_model.proofs.Members.{nothing_in, head_or_tail, at_same, in_map, from_map}
+use Rattle.op_model.proofs.Union.{in_writes_left, in_writes_right, in_writes_either}
+use Rattle.op_model.proofs.SameSets.{from_shown, writes_part}
 
 -- the greatest number of a name is not passed, and is reached unless it is 0
 step_above : (b : Bool) (n m k : ℕ) → k ≤ m → k ≤ cond b (max n m) m
@@ -26,19 +26,21 @@ pub greatest_number-above : (name : ℕ) (ds : List Dot) (d : Dot) → Contains 
 greatest_number-above name [] d h e = nothing_in d h
 greatest_number-above name (c ∷ ds) d h e =
     elim (head_or_tail c ds d h) [
-    inl same ↦
-      let here : d.name == name ≡ true = eq-eqb d.name name e in
-      let there : c.name == name ≡ true = ap (λ x. x.name == name) same ∙ here in
-      let known_there : c.number ≤ cond (c.name == name) (max c.number (greatest_number name ds)) (greatest_number name ds) = step_here (c.name == name) c.number (greatest_number name ds) there in
-      subst (λ x. x.number ≤ greatest_number name (c ∷ ds)) same known_there
-    | inr t ↦ step_above (c.name == name) c.number (greatest_number name ds) d.number (greatest_number-above name ds d t e) ]
+      | inl same ↦
+          let here : d.name == name ≡ true = eq-eqb d.name name e in
+          let there : c.name == name ≡ true = ap (λ x. x.name == name) same ∙ here in
+          let known_there : c.number ≤ cond (c.name == name) (max c.number (greatest_number name ds)) (greatest_number name ds) = step_here (c.name == name) c.number (greatest_number name ds) there in
+          subst (λ x. x.number ≤ greatest_number name (c ∷ ds)) same known_there
+      | inr t ↦ step_above (c.name == name) c.number (greatest_number name ds) d.number (greatest_number-above name ds d t e)
+    ]
 
 -- so the next dot is not among these
 pub next-fresh : (name : ℕ) (ds : List Dot) → has ds (next name ds) ≡ false
 next-fresh name ds =
     elim (cases_Bool (has ds (next name ds))) [
-    inl e ↦ let bound = greatest_number-above name ds (next name ds) (from_has ds (next name ds) e) refl in absurd (omega arith)
-    | inr e ↦ e ]
+      | inl e ↦ let bound = greatest_number-above name ds (next name ds) (from_has ds (next name ds) e) refl in absurd (omega arith)
+      | inr e ↦ e
+    ]
 
 -- what is shown is known
 pub shown_known : (S : List Operation) (test : Write → Bool) (dot : Dot) → has (ids (shown_where S test)) dot ≡ true → has (known S) dot ≡ true
@@ -68,8 +70,9 @@ only w v h = elim (head_or_tail w [] v h) [ inl e ↦ e | inr t ↦ nothing_in v
 put_not_itself : (S : List Operation) (name : ℕ) (key : List ℕ) → has (ids (shown S key)) (next name (known S)) ≡ false
 put_not_itself S name key =
     elim (cases_Bool (has (ids (shown S key)) (next name (known S)))) [
-    inl e ↦ absurd (false≢true (sym (next-fresh name (known S)) ∙ shown_known S (is_on key) (next name (known S)) e))
-    | inr e ↦ e ]
+      | inl e ↦ absurd (false≢true (sym (next-fresh name (known S)) ∙ shown_known S (is_on key) (next name (known S)) e))
+      | inr e ↦ e
+    ]
 
 pub put-new : (S : List Operation) (name : ℕ) (key value : List ℕ) → IsNew S name (put_at S name key value)
 put-new S name key value =
@@ -79,7 +82,7 @@ put-new S name key value =
       fresh = λ v h. ap (λ x. has (known S) x.id) (sym (only w v h)) ∙ next-fresh name (known S);
       not_itself = λ v h. ap (λ x. has x.over x.id) (sym (only w v h)) ∙ put_not_itself S name key;
       one_write = λ u v h g e. sym (only w u h) ∙ only w v g;
-      told = λ h. elim (head_or_tail (Wrote w) [] (Erased []) h) [ inl e ↦ absurd (cc) | inr t ↦ nothing_in (Erased []) t ]
+      told = λ h. elim (head_or_tail (Wrote w) [] (Erased []) h) [ inl e ↦ absurd (cc) | inr t ↦ nothing_in (Erased []) t ];
     }
 
 pub erasure-new : (S : List Operation) (name : ℕ) (ds : List Dot) → IsNew S name (erasure ds)
@@ -89,7 +92,7 @@ erasure-new S name (d ∷ ds) = record {
   fresh = λ v h. nothing_in v h;
   not_itself = λ v h. nothing_in v h;
   one_write = λ u v h g e. nothing_in u h;
-  told = λ h. elim (head_or_tail (Erased (d ∷ ds)) [] (Erased []) h) [ inl e ↦ absurd (cc) | inr t ↦ nothing_in (Erased []) t ]
+  told = λ h. elim (head_or_tail (Erased (d ∷ ds)) [] (Erased []) h) [ inl e ↦ absurd (cc) | inr t ↦ nothing_in (Erased []) t ];
 }
 
 -- parts of sets
@@ -108,7 +111,7 @@ itself_part T = λ o h. h
 pub NoReuse-part : (S T : List Operation) → IsPartOf S T → NoReuse T → NoReuse S
 NoReuse-part S T part r = record {
   one_write = λ v w h g e. r.one_write v w (writes_part S T part v h) (writes_part S T part w g) e;
-  not_itself = λ w h. r.not_itself w (writes_part S T part w h)
+  not_itself = λ w h. r.not_itself w (writes_part S T part w h);
 }
 
 grown_part : (b : Bool) (S more T : List Operation) → IsPartOf S T → IsPartOf more T → IsPartOf (grown b S more) T
@@ -153,10 +156,11 @@ sent_message (o ∷ S) T f number = one_message (o ∷ S) T f number
 makes_no_reuse : (w : World) (name : ℕ) (more : List Operation) → IsSound w → IsNew (w.seen name) name more → NoReuse (w.made ++ more)
 makes_no_reuse w name more s n = record {
   one_write = λ u v h g e.
-    elim (in_writes_either w.made more u h) [
-    inl a ↦ elim (in_writes_either w.made more v g) [ inl b ↦ s.no_reuse.one_write u v a b e | inr b ↦ absurd (apart u v a b e) ]
-    | inr a ↦ elim (in_writes_either w.made more v g) [ inl b ↦ absurd (apart v u b a (sym e)) | inr b ↦ n.one_write u v a b e ] ];
-  not_itself = λ u h. elim (in_writes_either w.made more u h) [ inl a ↦ s.no_reuse.not_itself u a | inr a ↦ n.not_itself u a ]
+      elim (in_writes_either w.made more u h) [
+        | inl a ↦ elim (in_writes_either w.made more v g) [ inl b ↦ s.no_reuse.one_write u v a b e | inr b ↦ absurd (apart u v a b e) ]
+        | inr a ↦ elim (in_writes_either w.made more v g) [ inl b ↦ absurd (apart v u b a (sym e)) | inr b ↦ n.one_write u v a b e ]
+      ];
+  not_itself = λ u h. elim (in_writes_either w.made more u h) [ inl a ↦ s.no_reuse.not_itself u a | inr a ↦ n.not_itself u a ];
 }
   where
     apart : (u v : Write) → Contains (writes w.made) u → Contains (writes more) v → u.id ≡ v.id → ⊥
@@ -173,11 +177,12 @@ sound-makes w name more s n =
       outgoing = λ k. grown_part (k == name) (w.outgoing k) more (w.made ++ more) (part_left (w.outgoing k) w.made more (s.outgoing k)) added;
       messages = λ k. part_left (message w.messages k) w.made more (s.messages k);
       own = λ v h.
-        elim (in_writes_either w.made more v h) [
-        inl a ↦ grown_writes (v.id.name == name) (w.seen v.id.name) more v (s.own v a)
-        | inr a ↦ grown_more (v.id.name == name) (w.seen v.id.name) more v (eq-eqb v.id.name name (n.named v a)) a ];
+          elim (in_writes_either w.made more v h) [
+            | inl a ↦ grown_writes (v.id.name == name) (w.seen v.id.name) more v (s.own v a)
+            | inr a ↦ grown_more (v.id.name == name) (w.seen v.id.name) more v (eq-eqb v.id.name name (n.named v a)) a
+          ];
       told = λ h. elim (Contains-append_cases w.made more (Erased []) h) [ inl a ↦ s.told a | inr a ↦ n.told a ];
-      no_reuse = makes_no_reuse w name more s n
+      no_reuse = makes_no_reuse w name more s n;
     }
 
 pub sound-sends : (w : World) (name : ℕ) → IsSound w → IsSound (sends name w)
@@ -187,7 +192,7 @@ sound-sends w name s = record {
   messages = message-append w.messages (sent (w.outgoing name)) w.made s.messages (sent_message (w.outgoing name) w.made (s.outgoing name));
   own = s.own;
   told = s.told;
-  no_reuse = s.no_reuse
+  no_reuse = s.no_reuse;
 }
 
 pub sound-shows : (w : World) (name : ℕ) → IsSound w → IsSound (shows name w)
@@ -197,7 +202,7 @@ sound-shows w name s = record {
   messages = message-append w.messages (w.seen name ∷ []) w.made s.messages (one_message (w.seen name) w.made (s.seen name));
   own = s.own;
   told = s.told;
-  no_reuse = s.no_reuse
+  no_reuse = s.no_reuse;
 }
 
 pub sound-learns : (w : World) (name : ℕ) (more : List Operation) → IsSound w → IsPartOf more w.made → IsSound (learns name more w)
@@ -207,7 +212,7 @@ sound-learns w name more s part = record {
   messages = s.messages;
   own = λ v h. grown_writes (v.id.name == name) (w.seen v.id.name) more v (s.own v h);
   told = s.told;
-  no_reuse = s.no_reuse
+  no_reuse = s.no_reuse;
 }
 
 pub sound-nothing : IsSound nothing
@@ -217,7 +222,7 @@ sound-nothing = record {
   messages = λ k. none_there k;
   own = λ v h. nothing_in v h;
   told = λ h. nothing_in (Erased []) h;
-  no_reuse = record { one_write = λ v w h g e. nothing_in v h; not_itself = λ w h. nothing_in w h }
+  no_reuse = record { one_write = λ v w h g e. nothing_in v h; not_itself = λ w h. nothing_in w h };
 }
   where
     none_there : (k : ℕ) → IsPartOf (message [] k) []

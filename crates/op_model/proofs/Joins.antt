@@ -1,5 +1,5 @@
 -- The causal join at one place and dot, by its table.
-use Rattle.std.proofs.Common.{◌≡◌, refl, sym, ap, ◌∙◌, Bool, true, false, cond, ◌||◌, Option, Some, None}
+use Rattle.std.proofs.Common.{◌≡◌, refl, sym, ap, ◌∙◌, Bool, true, false, ◌||◌, Option, Some, None}
 use Rattle.op_model.specs.State.{State, joined, join, Same}
 
 module _ {H : Type 0} (greater : H → H → H) where
@@ -54,26 +54,26 @@ module _ {P H : Type 0} (greater : H → H → H) where
   pub join-comm : ((x y : H) → greater x y ≡ greater y x) → (p q : State P H) → Same (join greater p q) (join greater q p)
   join-comm comm p q = record {
     at = λ place dot. joined-comm greater comm (p.at place dot) (p.has dot) (q.at place dot) (q.has dot);
-    has = λ dot. or_comm (p.has dot) (q.has dot)
+    has = λ dot. or_comm (p.has dot) (q.has dot);
   }
 
   pub join-assoc : ((x y z : H) → greater (greater x y) z ≡ greater x (greater y z)) → (p q r : State P H) → Same (join greater (join greater p q) r) (join greater p (join greater q r))
   join-assoc assoc p q r = record {
     at = λ place dot. joined-assoc greater assoc (p.at place dot) (p.has dot) (q.at place dot) (q.has dot) (r.at place dot) (r.has dot);
-    has = λ dot. or_assoc (p.has dot) (q.has dot) (r.has dot)
+    has = λ dot. or_assoc (p.has dot) (q.has dot) (r.has dot);
   }
 
   pub join-idem : ((x : H) → greater x x ≡ x) → (p : State P H) → Same (join greater p p) p
   join-idem idem p = record {
     at = λ place dot. joined-idem greater idem (p.at place dot) (p.has dot);
-    has = λ dot. or_idem (p.has dot)
+    has = λ dot. or_idem (p.has dot);
   }
 
   -- states that are the same have the same join
   pub join-same : (p q r s : State P H) → Same p r → Same q s → Same (join greater p q) (join greater r s)
   join-same p q r s here there = record {
     at = λ place dot. λ i. joined greater (here.at place dot i) (here.has dot i) (there.at place dot i) (there.has dot i);
-    has = λ dot. λ i. here.has dot i || there.has dot i
+    has = λ dot. λ i. here.has dot i || there.has dot i;
   }
 
 module _ {P H : Type 0} where

@@ -3,10 +3,12 @@ pub mod Joins
 pub mod Members
 pub mod Dots
 pub mod Lives
-pub mod States
-pub mod Sets
+pub mod Union
+pub mod SameSets
 pub mod Ascending
 pub mod Showing
 pub mod Fresh
 pub mod Making
 pub mod Pairs
+pub mod Events
+pub mod Words

@@ -1,10 +1,8 @@
 -- The join is the later of the two lives.
-use Rattle.std.proofs.Common.{◌≡◌, refl, sym, ap, ◌∙◌, Bool, true, false, ◌||◌, Option, Some, None}
-use Rattle.std.specs.Prelude.{IsSome, IsTrue}
-use Rattle.std.proofs.lemmas.Bool.{false≢true}
+use Rattle.std.proofs.Common.{◌≡◌, refl, Bool, true, false, ◌||◌, Option, Some, None}
 use Rattle.dots.specs.declared.dot.Dot.{Dot}
-use Rattle.op_model.specs.State.{State, joined, join, IsInside}
-use Rattle.op_model.specs.Life.{Life, Absent, Alive, Dead, life_of, life, later}
+use Rattle.op_model.specs.State.{State, joined, join}
+use Rattle.op_model.specs.Life.{life_of, life, later}
 
 later_life : {H : Type 0} (greater : H → H → H) (a : Option H) (s : Bool) (b : Option H) (t : Bool) →
     life_of (joined greater a s b t) (s || t) ≡ later greater (life_of a s) (life_of b t)

@@ -1,26 +1,24 @@
 -- Operations made at a state and at the set that it stands for are the same.
-use Rattle.std.proofs.Common.{◌≡◌, ℕ, zero, suc, ◌+◌, ◌-◌, ◌<◌, ◌≤◌, max, length, List, [], ◌∷◌, ◌++◌, map, refl, sym, ap, ◌∙◌, subst, ◌⊎◌, inl, inr, Bool, true, false, cond, ◌&&◌, ◌||◌, Option, Some, None, arith, eqb-true, eq-eqb}
-use Rattle.std.specs.Prelude.{Contains, ◌==◌, IsTrue, IsSome, is_some, ◌↔◌}
-use Rattle.std.specs.List.{IsDistinct, list_any}
+use Rattle.std.proofs.Common.{◌≡◌, ℕ, ◌+◌, ◌-◌, ◌<◌, max, List, [], ◌∷◌, refl, sym, ap, ◌∙◌, ◌⊎◌, inl, inr, Bool, true, false, cond, ◌&&◌, ◌||◌, Some, None, arith, eqb-true}
+use Rattle.std.specs.Prelude.{◌==◌, IsTrue, IsSome, is_some, ◌↔◌}
 use Rattle.std.specs.Set.{distinct_count, is_member}
 use Rattle.std.specs.Cmp.{IsEquivalence}
 use Rattle.std.specs.Ordering.{eq_by_cmp}
-use Rattle.std.proofs.lemmas.Bool.{false≢true, cases_Bool, cases_order, cases_lt, or_left, or_right, or_cases}
+use Rattle.std.proofs.lemmas.Bool.{false≢true, cases_order, cases_lt, or_left, or_right}
 use Rattle.std.proofs.lemmas.List.{append-nil}
 use Rattle.std.proofs.lemmas.Map.Made.{length-from_keys}
 use Rattle.dots.specs.declared.dot.Dot.{Dot}
 use Rattle.dots.specs.Dot.{same_dot}
-use Rattle.op_model.specs.State.{State, Same}
-use Rattle.op_model.specs.Operation.{Write, Operation, Wrote, Erased, writes, observed, ids, has, known}
-use Rattle.op_model.specs.Shown.{bytes_cmp, is_on, is_anywhere, shown, shown_where, shown_anywhere}
-use Rattle.op_model.specs.Meaning.{greater_if, value_under, state}
-use Rattle.op_model.specs.Made.{greatest_number, next, dot_at, put_at, erasure, remove_at, clear_at, removed_at, cleared_at, IsNext, IsPutAt, IsRemoveAt, IsClearAt, StandsAnywhere, Counts}
-use Rattle.op_model.proofs.Joins.{same-back}
-use Rattle.op_model.proofs.Dots.{same_dot-true, same_dot-self, same_dot-symm, has-append, in_has, from_has}
-use Rattle.op_model.proofs.Sets.{both_ways}
-use Rattle.op_model.proofs.States.{at-state, has-state, under_cond}
+use Rattle.op_model.specs.State.{State, Same, IsInside}
+use Rattle.op_model.specs.Operation.{Write, Operation, Wrote, ids, has, known}
+use Rattle.op_model.specs.Shown.{bytes_cmp, is_on, shown, shown_anywhere}
+use Rattle.op_model.specs.Meaning.{greater_if, state}
+use Rattle.op_model.specs.Made.{greatest_number, next, dot_at, write_at, put_at, erasure, remove_at, clear_at, removed_at, cleared_at, IsNext, IsPutAt, IsRemoveAt, IsClearAt, StandsAnywhere, Counts}
+use Rattle.op_model.proofs.Dots.{same_dot-true, same_dot-self, same_dot-symm, from_has}
+use Rattle.op_model.proofs.SameSets.{both_ways}
+use Rattle.op_model.proofs.Union.{at-state, under_cond}
 use Rattle.op_model.proofs.Showing.{dots_standing, dots_anywhere}
-use Rattle.op_model.proofs.Fresh.{greatest_number-above}
+use Rattle.op_model.proofs.Fresh.{greatest_number-above, shown_known}
 
 pub same_dots : (d e : Dot) → d.name ≡ e.name → d.number ≡ e.number → d ≡ e
 same_dots d e p q = λ i. record { name = p i; number = q i }
@@ -35,12 +33,14 @@ reached_step : (name : ℕ) (c : Dot) (ds : List Dot) (m : ℕ) → (m ≡ 0) �
 reached_step name c ds m h =
     let g : ℕ = cond (c.name == name) (max c.number m) m in
     elim (which (c.name == name) c.number m) [
-    inl e ↦ elim h [
-      inl zero_there ↦ inl (e ∙ zero_there)
-      | inr there ↦ inr (or_right (same_dot c (record { name = name; number = g })) (has ds (record { name = name; number = g })) (ap (λ n. has ds (record { name = name; number = n })) e ∙ there)) ]
-    | inr e ↦
-      let same : c ≡ record { name = name; number = g } = same_dots c (record { name = name; number = g }) (eqb-true c.name name e.0) (sym e.1) in
-      inr (or_left (same_dot c (record { name = name; number = g })) (has ds (record { name = name; number = g })) (ap (same_dot c) (sym same) ∙ same_dot-self c)) ]
+      | inl e ↦ elim h [
+        | inl zero_there ↦ inl (e ∙ zero_there)
+        | inr there ↦ inr (or_right (same_dot c (record { name = name; number = g })) (has ds (record { name = name; number = g })) (ap (λ n. has ds (record { name = name; number = n })) e ∙ there))
+      ]
+      | inr e ↦
+          let same : c ≡ record { name = name; number = g } = same_dots c (record { name = name; number = g }) (eqb-true c.name name e.0) (sym e.1) in
+          inr (or_left (same_dot c (record { name = name; number = g })) (has ds (record { name = name; number = g })) (ap (same_dot c) (sym same) ∙ same_dot-self c))
+    ]
 
 pub greatest_number-reached : (name : ℕ) (ds : List Dot) → (greatest_number name ds ≡ 0) ⊎ (has ds (record { name = name; number = greatest_number name ds }) ≡ true)
 greatest_number-reached name [] = inl refl
@@ -51,33 +51,37 @@ next-IsNext name ds = record {
   named = refl;
   above = λ d named h. let bound = greatest_number-above name ds d (from_has ds d h) named in omega arith;
   least =
-    let back : greatest_number name ds + 1 - 1 ≡ greatest_number name ds = omega arith in
-    elim (greatest_number-reached name ds) [
-    inl e ↦ inl (omega arith)
-    | inr e ↦ inr (ap (λ n. has ds (record { name = name; number = n })) back ∙ e) ]
+      let back : greatest_number name ds + 1 - 1 ≡ greatest_number name ds = omega arith in
+      elim (greatest_number-reached name ds) [
+        | inl e ↦ inl (omega arith)
+        | inr e ↦ inr (ap (λ n. has ds (record { name = name; number = n })) back ∙ e)
+      ];
 }
 
 -- there is one next dot
 not_below : (name : ℕ) (knows : Dot → Bool) (d e : Dot) → IsNext name knows d → IsNext name knows e → d.number < e.number → ⊥
 not_below name knows d e m n lt =
     elim n.least [
-    inl one ↦ elim m.least [
-      inl also_one ↦ absurd (omega arith)
-      | inr before ↦ let bound = m.above (record { name = name; number = d.number - 1 }) refl before in absurd (omega arith) ]
-    | inr before ↦ let bound = m.above (record { name = name; number = e.number - 1 }) refl before in absurd (omega arith) ]
+      | inl one ↦ elim m.least [
+        | inl also_one ↦ absurd (omega arith)
+        | inr before ↦ let bound = m.above (record { name = name; number = d.number - 1 }) refl before in absurd (omega arith)
+      ]
+      | inr before ↦ let bound = m.above (record { name = name; number = e.number - 1 }) refl before in absurd (omega arith)
+    ]
 
 pub IsNext-one : (name : ℕ) (knows : Dot → Bool) (d e : Dot) → IsNext name knows d → IsNext name knows e → d ≡ e
 IsNext-one name knows d e m n =
     same_dots d e (m.named ∙ sym n.named)
     (elim (cases_order d.number e.number) [
-      inl same ↦ same
-      | inr apart ↦ elim apart [ inl lt ↦ absurd (not_below name knows d e m n lt) | inr lt ↦ absurd (not_below name knows e d n m lt) ] ])
+      | inl same ↦ same
+      | inr apart ↦ elim apart [ inl lt ↦ absurd (not_below name knows d e m n lt) | inr lt ↦ absurd (not_below name knows e d n m lt) ]
+    ])
 
 pub IsNext-same : (name : ℕ) (f g : Dot → Bool) (d : Dot) → ((dot : Dot) → f dot ≡ g dot) → IsNext name f d → IsNext name g d
 IsNext-same name f g d same n = record {
   named = n.named;
   above = λ e named h. n.above e named (same e ∙ h);
-  least = elim n.least [ inl one ↦ inl one | inr before ↦ inr (sym (same (record { name = name; number = d.number - 1 })) ∙ before) ]
+  least = elim n.least [ inl one ↦ inl one | inr before ↦ inr (sym (same (record { name = name; number = d.number - 1 })) ∙ before) ];
 }
 
 -- the state of one write, and of an erasure
@@ -103,16 +107,16 @@ pub write-same : (v w : Write) → v.id ≡ w.id → v.key ≡ w.key → v.value
     Same (state (Wrote v ∷ [])) (state (Wrote w ∷ []))
 write-same v w id key value over = record {
   at = λ k dot.
-    at-write v k dot
-    ∙ (λ i. cond (over dot i) None (cond (eq_by_cmp bytes_cmp (key i) k) (greater_if (same_dot (id i) dot) (value i) None) None))
-    ∙ sym (at-write w k dot);
-  has = λ dot. has-write v dot ∙ (λ i. same_dot (id i) dot || over dot i) ∙ sym (has-write w dot)
+      at-write v k dot
+      ∙ (λ i. cond (over dot i) None (cond (eq_by_cmp bytes_cmp (key i) k) (greater_if (same_dot (id i) dot) (value i) None) None))
+      ∙ sym (at-write w k dot);
+  has = λ dot. has-write v dot ∙ (λ i. same_dot (id i) dot || over dot i) ∙ sym (has-write w dot);
 }
 
 pub erasure-same : (ds es : List Dot) → ((dot : Dot) → has ds dot ≡ has es dot) → Same (state (erasure ds)) (state (erasure es))
 erasure-same ds es over = record {
   at = λ k dot. at-erasure ds k dot ∙ sym (at-erasure es k dot);
-  has = λ dot. has-erasure ds dot ∙ over dot ∙ sym (has-erasure es dot)
+  has = λ dot. has-erasure ds dot ∙ over dot ∙ sym (has-erasure es dot);
 }
 
 -- how many dots are as P says, of which these are all
@@ -120,7 +124,7 @@ same_dot_equivalence : IsEquivalence same_dot
 same_dot_equivalence = record {
   refl = same_dot-self;
   symm = same_dot-symm;
-  congr = λ x y z h. ap (λ d. same_dot d z) (same_dot-true x y h)
+  congr = λ x y z h. ap (λ d. same_dot d z) (same_dot-true x y h);
 }
 
 has-is_member : (ds : List Dot) (dot : Dot) → has ds dot ≡ is_member same_dot ds dot
@@ -131,7 +135,29 @@ counted : (P : Dot → Type 0) (ds : List Dot) (n : ℕ) → Counts P n → ((do
 counted P ds n c all =
     c.number
     ∙ length-from_keys same_dot_equivalence c.dots ds c.apart
-      (λ q. sym (has-is_member c.dots q) ∙ both_ways (has c.dots q) (has ds q) (λ h. (all q).1 ((c.just q).0 h)) (λ h. (c.just q).1 ((all q).0 h)) ∙ has-is_member ds q)
+    (λ q. sym (has-is_member c.dots q) ∙ both_ways (has c.dots q) (has ds q) (λ h. (all q).1 ((c.just q).0 h)) (λ h. (c.just q).1 ((all q).0 h)) ∙ has-is_member ds q)
+
+-- a write's value stands at its key under its dot alone
+pub at-write-own : (w : Write) → has w.over w.id ≡ false → (key : List ℕ) (dot : Dot) →
+    (state (Wrote w ∷ [])).at key dot ≡ cond (is_on key w && same_dot w.id dot) (Some w.value) None
+at-write-own w new key dot =
+    at-write w key dot ∙ by (is_on key w) (same_dot w.id dot) (has w.over dot) (λ e. sym (ap (has w.over) (same_dot-true w.id dot e)) ∙ new)
+  where
+    by : (b s h : Bool) → (s ≡ true → h ≡ false) → cond h None (cond b (greater_if s w.value None) None) ≡ cond (b && s) (Some w.value) None
+    by true true true f = absurd (false≢true (sym (f refl)))
+    by true true false f = refl
+    by true false true f = refl
+    by true false false f = refl
+    by false s true f = refl
+    by false s false f = refl
+
+-- what stands is known
+pub state-inside : (S : List Operation) → IsInside (state S)
+state-inside S key dot h = shown_known S (is_on key) dot (dots_standing S key dot ∙ h)
+
+-- what is made at the set is made at its state
+pub put_is_made : (S : List Operation) (name : ℕ) (key value : List ℕ) → IsPutAt (state S) name key value (write_at S name key value)
+put_is_made S name key value = record { id = next-IsNext name (known S); same_key = refl; same_value = refl; over = λ dot. dots_standing S key dot }
 
 module _ (S : List Operation) (p : State (List ℕ) (List ℕ)) (same : Same p (state S)) where
   -- what a put, a remove and a clear made at the state stand for
@@ -150,9 +176,9 @@ module _ (S : List Operation) (p : State (List ℕ) (List ℕ)) (same : Same p (
   pub clear_made : (over : List Dot) → IsClearAt p over → Same (state (erasure over)) (state (clear_at S))
   clear_made over m =
       erasure-same over (ids (shown_anywhere S)) (λ dot.
-        both_ways (has over dot) (has (ids (shown_anywhere S)) dot)
-        (λ h. (dots_anywhere S dot).1 ((anywhere_same dot).0 ((m dot).0 h)))
-        (λ h. (m dot).1 ((anywhere_same dot).1 ((dots_anywhere S dot).0 h))))
+      both_ways (has over dot) (has (ids (shown_anywhere S)) dot)
+      (λ h. (dots_anywhere S dot).1 ((anywhere_same dot).0 ((m dot).0 h)))
+      (λ h. (m dot).1 ((anywhere_same dot).1 ((dots_anywhere S dot).0 h))))
 
   -- the dot of a put, and the counts
   pub put_dot : (name : ℕ) (dot : Dot) → IsNext name p.has dot → dot ≡ dot_at S name

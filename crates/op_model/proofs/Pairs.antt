@@ -1,19 +1,17 @@
 -- How a pair that means a set keeps its meaning: each move of a world, for a replica's live pair and for its group.
 -- A world of later crates needs these: its pairs p, with `Same p (state S)`, become joins with a delta.
-use Rattle.std.proofs.Common.{◌≡◌, ◌≢◌, ℕ, List, [], ◌∷◌, ◌++◌, refl, sym, ap, ◌∙◌, subst, Bool, true, false, eq-eqb}
-use Rattle.std.specs.Prelude.{Contains, ◌==◌}
+use Rattle.std.proofs.Common.{◌≡◌, ◌≢◌, ℕ, zero, suc, ◌+◌, ◌<◌, ◌≤◌, length, List, [], ◌∷◌, ◌++◌, refl, sym, ap, subst, eq-eqb, arith, add-one}
+use Rattle.std.proofs.lemmas.List.{get_or_append_left, get_or_push}
+use Rattle.std.specs.Prelude.{◌==◌}
 use Rattle.std.proofs.lemmas.Bool.{ne_eqb}
 use Rattle.std.proofs.lemmas.List.Elements.{Contains-append_right}
 use Rattle.op_model.specs.State.{State, join, Same}
-use Rattle.op_model.specs.Operation.{Write, Operation, Wrote, NoReuse, IsPartOf, ids}
-use Rattle.op_model.specs.Shown.{shown, shown_anywhere}
+use Rattle.op_model.specs.Operation.{Operation, NoReuse, IsPartOf}
 use Rattle.op_model.specs.Meaning.{greater, state}
-use Rattle.op_model.specs.Made.{put_at, erasure, remove_at, clear_at, IsPutAt, IsRemoveAt, IsClearAt}
-use Rattle.op_model.specs.World.{World, IsSound, Event, Put, Remove, Clear, Flush, Deliver, message, grown, emptied, makes, sends, shows, learns, happens, after}
+use Rattle.op_model.specs.World.{World, IsSound, message, grown, emptied, sent, makes, learns}
 use Rattle.op_model.proofs.Joins.{join-same, same-chain}
-use Rattle.op_model.proofs.States.{join-states}
-use Rattle.op_model.proofs.Making.{put_made, remove_made, clear_made}
-use Rattle.op_model.proofs.Fresh.{IsNew, put-new, erasure-new, sound-makes, sound-after, after-push, NoReuse-part, part_both, part_left}
+use Rattle.op_model.proofs.Union.{join-states}
+use Rattle.op_model.proofs.Fresh.{IsNew, sound-makes, NoReuse-part, part_both, part_left}
 
 -- two pairs that mean two sets of one whole: their join means the union
 pub joins : (S T whole : List Operation) (p q : State (List ℕ) (List ℕ)) → NoReuse whole → IsPartOf S whole → IsPartOf T whole → Same p (state S) → Same q (state T) →
@@ -66,3 +64,15 @@ pub learns_live : (w : World) → IsSound w → (name : ℕ) (more : List Operat
 learns_live w sound name more part p d live delta =
     means (join greater p d) ((learns name more w).seen name) (w.seen name ++ more) (grown-here name (w.seen name) more)
     (joins (w.seen name) more w.made p d sound.no_reuse (sound.seen name) part live delta)
+
+-- an added message, and those before it
+pub message-kept : (ms more : List (List Operation)) (number : ℕ) → number ≤ length ms → message (ms ++ more) number ≡ message ms number
+message-kept ms more zero h = refl
+message-kept ms more (suc n) h = let inside : n < length ms = omega arith in get_or_append_left ms more [] n inside
+
+pub message-added : (ms : List (List Operation)) (S : List Operation) → message (ms ++ S ∷ []) (length ms + 1) ≡ S
+message-added ms S = rw add-one (get_or_push ms S [] (length ms) refl)
+
+pub sent-some : (S : List Operation) → S ≢ [] → sent S ≡ S ∷ []
+sent-some [] h = absurd (h refl)
+sent-some (o ∷ S) h = refl

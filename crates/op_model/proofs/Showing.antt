@@ -1,7 +1,7 @@
 -- What a state shows against what the set of operations that it stands for shows: values, keys and size.
-use Rattle.std.proofs.Common.{◌≡◌, ℕ, List, [], ◌∷◌, map, length, refl, sym, ap, ◌∙◌, subst, ◌⊎◌, inl, inr, Bool, true, false, cond, Option, Some, None}
+use Rattle.std.proofs.Common.{◌≡◌, ℕ, List, map, refl, sym, ap, ◌∙◌, true, Option, Some, None}
 use Rattle.std.specs.Prelude.{Contains, ◌↔◌, IsSome, is_some, IsTrue}
-use Rattle.std.specs.Ordering.{eq_by_cmp, is_eq}
+use Rattle.std.specs.Ordering.{is_eq}
 use Rattle.std.specs.Cmp.Lexicographic.{nat_list_cmp_total}
 use Rattle.std.proofs.lemmas.Cmp.{tied_itself}
 use Rattle.std.proofs.lemmas.Bool.{false≢true}
@@ -9,17 +9,16 @@ use Rattle.std.specs.declared.cmp.Ordering.{Ordering}
 use Rattle.op_model.proofs.Joins.{same-back}
 use Rattle.std.specs.declared.cmp.Ordering.TheVariants.{Less, Equal, Greater}
 use Rattle.dots.specs.declared.dot.Dot.{Dot}
-use Rattle.dots.specs.Dot.{same_dot}
 use Rattle.op_model.specs.State.{State, Same}
-use Rattle.op_model.specs.Operation.{Write, Operation, writes, observed, ids, has, known, NoReuse, IsSameSet}
-use Rattle.op_model.specs.Shown.{bytes_cmp, is_on, is_anywhere, shown, shown_anywhere, shown_where, ascending, IsAscending, values, keys, size}
-use Rattle.op_model.specs.Meaning.{greater, greater_if, value_under, state, Stands, HoldsKey}
+use Rattle.op_model.specs.Operation.{Write, Operation, ids, has, NoReuse, IsSameSet}
+use Rattle.op_model.specs.Shown.{bytes_cmp, is_on, is_anywhere, shown, shown_anywhere, IsAscending, values, keys}
+use Rattle.op_model.specs.Meaning.{value_under, state, Stands, HoldsKey}
 use Rattle.op_model.specs.Made.{StandsAnywhere}
-use Rattle.op_model.proofs.Greater.{bytes_exact, greater-idem}
+use Rattle.op_model.proofs.Greater.{bytes_exact}
 use Rattle.op_model.proofs.Dots.{in_has, from_has}
-use Rattle.op_model.proofs.Members.{nothing_in, at_head, in_tail, head_or_tail, at_same, in_map, from_map, in_filter, from_filter}
-use Rattle.op_model.proofs.States.{found_under, stands_under}
-use Rattle.op_model.proofs.Sets.{from_shown, in_shown, shown_same, both_ways}
+use Rattle.op_model.proofs.Members.{at_same, in_map, from_map}
+use Rattle.op_model.proofs.Union.{found_under, stands_under}
+use Rattle.op_model.proofs.SameSets.{from_shown, in_shown, shown_same, both_ways}
 use Rattle.op_model.proofs.Ascending.{ascending-ascends, in_ascending, from_ascending, one_ascending}
 
 -- the same write's value, where the writes under the dot are all the same
@@ -140,13 +139,14 @@ pub dots_standing : (S : List Operation) (key : List ℕ) (dot : Dot) → has (i
 dots_standing S key dot =
     both_ways (has (ids (shown S key)) dot) (is_some ((state S).at key dot))
     (λ h. let found = from_map (λ w. w.id) (shown S key) dot (from_has (ids (shown S key)) dot h) in
-      is_there ((state S).at key dot) (λ none. stands_under dot (shown S key) found.0 found.1 found.2 none))
+    is_there ((state S).at key dot) (λ none. stands_under dot (shown S key) found.0 found.1 found.2 none))
     (λ h. let found = standing_shown S key dot h in
-      in_has (ids (shown S key)) dot (at_same (ids (shown S key)) found.0.id dot found.2 (in_map (λ w. w.id) (shown S key) found.0 found.1)))
+    in_has (ids (shown S key)) dot (at_same (ids (shown S key)) found.0.id dot found.2 (in_map (λ w. w.id) (shown S key) found.0 found.1)))
 
 pub dots_anywhere : (S : List Operation) (dot : Dot) → IsTrue (has (ids (shown_anywhere S)) dot) ↔ StandsAnywhere (state S) dot
-dots_anywhere S dot =
-    (λ h. let found = from_map (λ w. w.id) (shown_anywhere S) dot (from_has (ids (shown_anywhere S)) dot h) in
+dots_anywhere S dot = (
+  λ h. let found = from_map (λ w. w.id) (shown_anywhere S) dot (from_has (ids (shown_anywhere S)) dot h) in
       (found.0.key, is_there ((state S).at found.0.key dot) (λ none. shown_stands S found.0 found.1 (ap ((state S).at found.0.key) found.2 ∙ none))),
-    λ (key, h). let found = standing_shown S key dot h in
-      in_has (ids (shown_anywhere S)) dot (at_same (ids (shown_anywhere S)) found.0.id dot found.2 (in_map (λ w. w.id) (shown_anywhere S) found.0 found.4)))
+  λ (key, h). let found = standing_shown S key dot h in
+      in_has (ids (shown_anywhere S)) dot (at_same (ids (shown_anywhere S)) found.0.id dot found.2 (in_map (λ w. w.id) (shown_anywhere S) found.0 found.4)),
+)

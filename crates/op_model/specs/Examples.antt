@@ -1,8 +1,70 @@
--- Worked examples of worlds, of this project. Replica 1 puts x and replica 2 puts y, and so on, as each says.
-use Rattle.std.specs.Prelude.{List, ◌∷◌, [], codes}
-use Rattle.op_model.specs.World.{Event, Node, Put, Flush, Deliver}
+-- Worked examples of sets of operations and of worlds, of this project. What is said of them stands in src/examples.rt.
+use Rattle.std.specs.Prelude.{List, [], ◌∷◌, ◌++◌, ℕ, codes}
+use Rattle.dots.specs.declared.dot.Dot.{Dot}
+use Rattle.op_model.specs.Operation.{Operation, Wrote, Erased}
+use Rattle.op_model.specs.World.{Event, Node, Put, Remove, Clear, Flush, Deliver}
 
--- two replicas put on one key before either has heard of the other
+abbrev pub a : List ℕ
+a = codes "a"
+
+abbrev pub b : List ℕ
+b = codes "b"
+
+abbrev pub x : List ℕ
+x = codes "x"
+
+abbrev pub y : List ℕ
+y = codes "y"
+
+abbrev pub z : List ℕ
+z = codes "z"
+
+-- the dot written name:number
+abbrev pub dot : ℕ → ℕ → Dot
+dot name number = record { name = name; number = number }
+
+-- a write of this dot, key and value, which observed these
+abbrev pub wrote : Dot → List ℕ → List ℕ → List Dot → Operation
+wrote id key value over = Wrote (record { id = id; key = key; value = value; over = over })
+
+-- y put on a after x was seen there
+abbrev pub overwritten : List Operation
+overwritten = wrote (dot 1 1) a x [] ∷ wrote (dot 2 1) a y (dot 1 1 ∷ []) ∷ []
+
+-- y and then x put on a, neither seen by the other
+abbrev pub side_by_side : List Operation
+side_by_side = wrote (dot 1 1) a y [] ∷ wrote (dot 2 1) a x [] ∷ []
+
+-- x put on a twice, neither seen by the other
+abbrev pub equal_values : List Operation
+equal_values = wrote (dot 1 1) a x [] ∷ wrote (dot 2 1) a x [] ∷ []
+
+-- x put on a, and removed; the operations came in the other order
+abbrev pub removed : List Operation
+removed = Erased (dot 1 1 ∷ []) ∷ wrote (dot 1 1) a x [] ∷ []
+
+-- x put on a and on b under one dot
+abbrev pub reused : List Operation
+reused = wrote (dot 1 1) a x [] ∷ wrote (dot 1 1) b x [] ∷ []
+
+-- Worlds. Two replicas put on one key before either has heard of the other.
 abbrev pub concurrent_puts : List Event
-concurrent_puts =
-    Node 1 ∷ Node 2 ∷ Put 1 (codes "a") (codes "x") ∷ Put 2 (codes "a") (codes "y") ∷ Flush 1 ∷ Flush 2 ∷ Deliver 1 2 ∷ Deliver 2 1 ∷ []
+concurrent_puts = Node 1 ∷ Node 2 ∷ Put 1 a x ∷ Put 2 a y ∷ Flush 1 ∷ Flush 2 ∷ Deliver 1 2 ∷ Deliver 2 1 ∷ []
+
+-- One of them then overwrites both values.
+abbrev pub overwrite_both : List Event
+overwrite_both = concurrent_puts ++ Put 1 a z ∷ Flush 1 ∷ Deliver 3 2 ∷ []
+
+-- A replica hears of a remove before it hears of the put that was removed.
+abbrev pub remove_overtakes : List Event
+remove_overtakes = Node 1 ∷ Node 2 ∷ Node 3 ∷ Put 1 a x ∷ Flush 1 ∷ Deliver 1 2 ∷ Remove 2 a ∷ Flush 2 ∷ Deliver 2 3 ∷ []
+
+abbrev pub remove_overtakes_put : List Event
+remove_overtakes_put = remove_overtakes ++ Deliver 1 3 ∷ Deliver 2 1 ∷ Remove 1 a ∷ Flush 1 ∷ []
+
+-- A remove and a put that have not seen each other, and then a clear.
+abbrev pub remove_and_put : List Event
+remove_and_put = Node 1 ∷ Node 2 ∷ Put 1 a x ∷ Flush 1 ∷ Deliver 1 2 ∷ Remove 1 a ∷ Put 2 a y ∷ Flush 1 ∷ Flush 2 ∷ Deliver 2 2 ∷ Deliver 3 1 ∷ []
+
+abbrev pub clear_and_group : List Event
+clear_and_group = remove_and_put ++ Clear 1 ∷ Flush 1 ∷ Deliver 4 2 ∷ []

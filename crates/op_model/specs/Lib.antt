@@ -1,5 +1,6 @@
 pub mod State
 pub mod Life
+pub mod Places
 pub mod Operation
 pub mod Shown
 pub mod Meaning

@@ -2,7 +2,7 @@
 -- "Delta State Replicated Data Types" (2018): first at a set of operations, then at a state.
 -- Example: at {1:1 puts x on a}, {2:1 puts y on a} a put of z on a by replica 1 makes {1:2 puts z on a, having
 -- observed 1:1 and 2:1}.
-use Rattle.std.specs.Prelude.{◌≡◌, ℕ, ◌+◌, ◌-◌, ◌<◌, ◌==◌, ◌⊎◌, ◌↔◌, ◌≢◌, max, cond, List, [], ◌∷◌, length, AllPairs, Bool, IsTrue, IsSome, is_some}
+use Rattle.std.specs.Prelude.{◌≡◌, ℕ, ◌+◌, ◌-◌, ◌<◌, ◌==◌, ◌⊎◌, ◌↔◌, max, cond, List, [], ◌∷◌, length, Bool, IsTrue, IsSome, is_some}
 use Rattle.std.specs.List.{IsDistinct}
 use Rattle.std.specs.Set.{distinct_count}
 use Rattle.dots.specs.declared.dot.Dot.{Dot}
@@ -25,8 +25,11 @@ abbrev pub dot_at : List Operation → ℕ → Dot
 dot_at S name = next name (known S)
 
 -- what a put makes: a write under a new dot, which observed what its key shows
+abbrev pub write_at : List Operation → ℕ → List ℕ → List ℕ → Write
+write_at S name key value = record { id = dot_at S name; key = key; value = value; over = ids (shown S key) }
+
 abbrev pub put_at : List Operation → ℕ → List ℕ → List ℕ → List Operation
-put_at S name key value = Wrote (record { id = dot_at S name; key = key; value = value; over = ids (shown S key) }) ∷ []
+put_at S name key value = Wrote (write_at S name key value) ∷ []
 
 -- an erasure of these dots, and no operation where there are none
 abbrev pub erasure : List Dot → List Operation

@@ -5,7 +5,7 @@
 -- A set of operations is a list of them; two lists with the same members are the same set.
 -- Example: replica 1 puts x on a under the dot 1:1, and replica 2, which has seen that, puts y there under 2:1:
 --   Wrote {1:1, a, x, observed nothing} and Wrote {2:1, a, y, observed 1:1}.
-use Rattle.std.specs.Prelude.{◌≡◌, ℕ, List, [], ◌∷◌, ◌++◌, map, Bool, false, ◌||◌, Contains}
+use Rattle.std.specs.Prelude.{◌≡◌, ℕ, List, [], ◌∷◌, ◌++◌, map, Bool, false, ◌||◌, ◌⊎◌, IsTrue, Contains}
 use Rattle.dots.specs.declared.dot.Dot.{Dot}
 use Rattle.dots.specs.Dot.{same_dot}
 
@@ -50,6 +50,11 @@ has (d ∷ ds) dot = same_dot d dot || has ds dot
 -- all dots that a set tells of: those of its writes, and those that were observed (the causal context)
 abbrev pub known : List Operation → List Dot
 known S = ids (writes S) ++ observed S
+
+-- the operation wrote under this dot, or had observed it
+abbrev pub Tells : Operation → Dot → Type 0
+Tells (Wrote w) dot = (w.id ≡ dot) ⊎ IsTrue (has w.over dot)
+Tells (Erased over) dot = IsTrue (has over dot)
 
 -- no dot was used twice: two writes under one dot are the same write, and no write observed itself
 pub record NoReuse (S : List Operation) : Type 0 where

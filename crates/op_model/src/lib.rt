@@ -1,17 +1,25 @@
 // The definitions in which the map's promises are said, and their laws. No product code.
-// Offered to the crates above: the vocabulary of states, and that the join is commutative, associative and
-// idempotent.
+// Offered to the crates above: the vocabulary of states, operations and worlds, and as laws that the join of states is
+// the state of the union, that no dot is ever used twice, and that each event keeps what a pair means.
 #![tactic(auto)]
 
-ghost use Rattle.std.specs.Prelude.{◌≡◌, ◌∷◌, [], codes, ℕ};
-ghost use Rattle.op_model.specs.World.{after};
-ghost use Rattle.op_model.specs.Shown.{values, size, keys};
-ghost use Rattle.op_model.specs.Operation.{known};
-ghost use Rattle.op_model.specs.Examples.{concurrent_puts};
+mod examples;
+mod sets;
+mod states;
+mod worlds;
 
-/// Worked examples.
-pub fn concurrent_puts_show_both()
-    ensures one { values ((after concurrent_puts).seen 1) (codes "a") ≡ codes "x" ∷ codes "y" ∷ [] }
-    ensures two { values ((after concurrent_puts).seen 2) (codes "a") ≡ codes "x" ∷ codes "y" ∷ [] }
-    ensures size { size ((after concurrent_puts).seen 2) ≡ 1 }
-{}
+pub use examples::{
+    a_clear_and_a_group, a_put_overwrites_both, a_remove_overtakes_its_put,
+    concurrent_puts_are_both_kept, messages_carry, reuse_is_seen, sets_know, sets_make, sets_show,
+    states_show,
+};
+pub use sets::{
+    made_at_a_state, same_operations, standing, states_join, states_of_operations, what_is_shown,
+};
+pub use states::{
+    greater_is_lawful, join_is_associative, join_is_commutative, join_is_idempotent, join_is_later,
+};
+pub use worlds::{
+    clears, delivers, events_elsewhere, flushes, ids_are_fresh, learns_a_set, messages_stay,
+    moves_are_sound, puts, removes,
+};

@@ -1,17 +1,17 @@
 -- Sets of operations with the same members have the same writes, the same known dots, and the same state.
-use Rattle.std.proofs.Common.{◌≡◌, ℕ, List, [], ◌∷◌, ◌++◌, map, refl, sym, ap, ◌∙◌, subst, ◌⊎◌, inl, inr, Bool, true, false, cond, not, ◌&&◌, ◌||◌, Option, Some, None}
-use Rattle.std.specs.Prelude.{Contains, filter}
-use Rattle.std.proofs.lemmas.Bool.{and_parts, and_from, or_cases, or_from, or_left, or_right, false≢true, not-true, not_from_false}
+use Rattle.std.proofs.Common.{◌≡◌, ℕ, List, [], ◌∷◌, ◌++◌, refl, sym, ap, ◌∙◌, inl, inr, Bool, true, false, not, ◌&&◌, Option, Some, None}
+use Rattle.std.specs.Prelude.{Contains}
+use Rattle.std.proofs.lemmas.Bool.{and_parts, and_from, or_cases, or_left, or_right, false≢true, not-true, not_from_false}
 use Rattle.dots.specs.declared.dot.Dot.{Dot}
 use Rattle.dots.specs.Dot.{same_dot}
-use Rattle.op_model.specs.State.{State, Same}
+use Rattle.op_model.specs.State.{Same}
 use Rattle.op_model.specs.Operation.{Write, Operation, Wrote, Erased, writes, observed, over_of, ids, has, known, IsPartOf, IsSameSet}
 use Rattle.op_model.specs.Shown.{is_on, shown, shown_where}
 use Rattle.op_model.specs.Meaning.{greater, greater_if, value_under, state}
 use Rattle.op_model.proofs.Greater.{greater-comm, greater-assoc, greater-idem}
 use Rattle.op_model.proofs.Dots.{has-append, in_has, from_has}
 use Rattle.op_model.proofs.Members.{nothing_in, at_head, in_tail, head_or_tail, at_same, in_map, from_map, in_filter, from_filter}
-use Rattle.op_model.proofs.States.{best, greater_if-best}
+use Rattle.op_model.proofs.Union.{best, greater_if-best}
 
 -- two tests of which each implies the other
 pub both_ways : (s t : Bool) → (s ≡ true → t ≡ true) → (t ≡ true → s ≡ true) → s ≡ t
@@ -23,8 +23,9 @@ pub in_writes : (S : List Operation) (w : Write) → Contains S (Wrote w) → Co
 in_writes [] w h = nothing_in (Wrote w) h
 in_writes (Wrote v ∷ S) w h =
     elim (head_or_tail (Wrote v) S (Wrote w) h) [
-    inl e ↦ let same : v ≡ w = cc in at_same (v ∷ writes S) v w same (at_head v (writes S))
-    | inr t ↦ in_tail v (writes S) w (in_writes S w t) ]
+      | inl e ↦ let same : v ≡ w = cc in at_same (v ∷ writes S) v w same (at_head v (writes S))
+      | inr t ↦ in_tail v (writes S) w (in_writes S w t)
+    ]
 in_writes (Erased over ∷ S) w h =
     elim (head_or_tail (Erased over) S (Wrote w) h) [ inl e ↦ absurd (cc) | inr t ↦ in_writes S w t ]
 
@@ -32,8 +33,9 @@ pub from_writes : (S : List Operation) (w : Write) → Contains (writes S) w →
 from_writes [] w h = nothing_in w h
 from_writes (Wrote v ∷ S) w h =
     elim (head_or_tail v (writes S) w h) [
-    inl e ↦ at_same (Wrote v ∷ S) (Wrote v) (Wrote w) (ap Wrote e) (at_head (Wrote v) S)
-    | inr t ↦ in_tail (Wrote v) S (Wrote w) (from_writes S w t) ]
+      | inl e ↦ at_same (Wrote v ∷ S) (Wrote v) (Wrote w) (ap Wrote e) (at_head (Wrote v) S)
+      | inr t ↦ in_tail (Wrote v) S (Wrote w) (from_writes S w t)
+    ]
 from_writes (Erased over ∷ S) w h = in_tail (Erased over) S (Wrote w) (from_writes S w h)
 
 observed-cons : (o : Operation) (S : List Operation) → observed (o ∷ S) ≡ over_of o ++ observed S
@@ -45,15 +47,17 @@ in_observed [] o dot h e = nothing_in o h
 in_observed (p ∷ S) o dot h e =
     ap (λ ds. has ds dot) (observed-cons p S) ∙ has-append (over_of p) (observed S) dot
     ∙ elim (head_or_tail p S o h) [
-    inl same ↦ or_left (has (over_of p) dot) (has (observed S) dot) (ap (λ q. has (over_of q) dot) same ∙ e)
-    | inr t ↦ or_right (has (over_of p) dot) (has (observed S) dot) (in_observed S o dot t e) ]
+      | inl same ↦ or_left (has (over_of p) dot) (has (observed S) dot) (ap (λ q. has (over_of q) dot) same ∙ e)
+      | inr t ↦ or_right (has (over_of p) dot) (has (observed S) dot) (in_observed S o dot t e)
+    ]
 
 pub from_observed : (S : List Operation) (dot : Dot) → has (observed S) dot ≡ true → (o : Operation) × Contains S o × (has (over_of o) dot ≡ true)
 from_observed [] dot e = absurd (false≢true e)
 from_observed (p ∷ S) dot e =
     elim (or_cases (has (over_of p) dot) (has (observed S) dot) (sym (has-append (over_of p) (observed S) dot) ∙ sym (ap (λ ds. has ds dot) (observed-cons p S)) ∙ e)) [
-    inl f ↦ (p, at_head p S, f)
-    | inr f ↦ let found = from_observed S dot f in (found.0, in_tail p S found.0 found.1, found.2) ]
+      | inl f ↦ (p, at_head p S, f)
+      | inr f ↦ let found = from_observed S dot f in (found.0, in_tail p S found.0 found.1, found.2)
+    ]
 
 -- what follows from being a part
 module _ (S T : List Operation) (part : IsPartOf S T) where
@@ -72,8 +76,9 @@ module _ (S T : List Operation) (part : IsPartOf S T) where
   known_part dot e =
       has-append (ids (writes T)) (observed T) dot
       ∙ elim (or_cases (has (ids (writes S)) dot) (has (observed S) dot) (sym (has-append (ids (writes S)) (observed S) dot) ∙ e)) [
-      inl f ↦ or_left (has (ids (writes T)) dot) (has (observed T) dot) (ids_part dot f)
-      | inr f ↦ or_right (has (ids (writes T)) dot) (has (observed T) dot) (observed_part dot f) ]
+        | inl f ↦ or_left (has (ids (writes T)) dot) (has (observed T) dot) (ids_part dot f)
+        | inr f ↦ or_right (has (ids (writes T)) dot) (has (observed T) dot) (observed_part dot f)
+      ]
 
 -- the writes that a set shows, one way and the other
 pub from_shown : (S : List Operation) (test : Write → Bool) (w : Write) → Contains (shown_where S test) w →
@@ -104,8 +109,9 @@ absorbed : (dot : Dot) (ws : List Write) (w : Write) → Contains ws w → great
 absorbed dot [] w h = nothing_in w h
 absorbed dot (v ∷ ws) w h =
     elim (head_or_tail v ws w h) [
-    inl e ↦ ap (λ u. greater_if (same_dot u.id dot) u.value (value_under dot (v ∷ ws))) (sym e) ∙ greater_if-twice (same_dot v.id dot) v.value (value_under dot ws)
-    | inr t ↦ greater_if-swap (same_dot w.id dot) (same_dot v.id dot) w.value v.value (value_under dot ws) ∙ ap (greater_if (same_dot v.id dot) v.value) (absorbed dot ws w t) ]
+      | inl e ↦ ap (λ u. greater_if (same_dot u.id dot) u.value (value_under dot (v ∷ ws))) (sym e) ∙ greater_if-twice (same_dot v.id dot) v.value (value_under dot ws)
+      | inr t ↦ greater_if-swap (same_dot w.id dot) (same_dot v.id dot) w.value v.value (value_under dot ws) ∙ ap (greater_if (same_dot v.id dot) v.value) (absorbed dot ws w t)
+    ]
 
 best-comm : (a b : Option (List ℕ)) → best a b ≡ best b a
 best-comm (Some x) (Some y) = ap Some (greater-comm x y)
@@ -134,5 +140,5 @@ shown_same S T same test w h =
 pub state-same : (S T : List Operation) → IsSameSet S T → Same (state S) (state T)
 state-same S T same = record {
   at = λ key dot. value_under-same dot (shown S key) (shown T key) (shown_same S T same (is_on key)) (shown_same T S (record { there = same.back; back = same.there }) (is_on key));
-  has = λ dot. both_ways (has (known S) dot) (has (known T) dot) (known_part S T same.there dot) (known_part T S same.back dot)
+  has = λ dot. both_ways (has (known S) dot) (has (known T) dot) (known_part S T same.there dot) (known_part T S same.back dot);
 }

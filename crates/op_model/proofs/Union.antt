@@ -1,19 +1,19 @@
 -- The state of a set of operations, and that the join of two states is the state of the union.
-use Rattle.std.proofs.Common.{◌≡◌, ℕ, List, [], ◌∷◌, ◌++◌, map, refl, sym, ap, ◌∙◌, subst, ◌⊎◌, inl, inr, Bool, true, false, cond, not, ◌&&◌, ◌||◌, Option, Some, None}
+use Rattle.std.proofs.Common.{◌≡◌, ℕ, List, [], ◌∷◌, ◌++◌, refl, sym, ap, ◌∙◌, subst, ◌⊎◌, inl, inr, Bool, true, false, cond, not, ◌&&◌, ◌||◌, Option, Some, None}
 use Rattle.std.specs.Prelude.{Contains, filter}
-use Rattle.std.proofs.lemmas.Bool.{and_parts, and_from, or_cases, or_from, or_left, or_right, false≢true}
+use Rattle.std.proofs.lemmas.Bool.{false≢true}
 use Rattle.std.proofs.lemmas.List.{map-append, append_assoc}
 use Rattle.std.proofs.lemmas.List.Elements.{filter-append, Contains-append_left, Contains-append_right, Contains-append_cases}
 use Rattle.dots.specs.declared.dot.Dot.{Dot}
 use Rattle.dots.specs.Dot.{same_dot}
-use Rattle.op_model.specs.State.{State, joined, join, Same}
-use Rattle.op_model.specs.Operation.{Write, Operation, Wrote, Erased, writes, observed, ids, has, known, NoReuse}
+use Rattle.op_model.specs.State.{joined, join, Same}
+use Rattle.op_model.specs.Operation.{Write, Operation, Wrote, Erased, writes, observed, ids, has, NoReuse}
 use Rattle.std.specs.Ordering.{is_lt}
-use Rattle.op_model.specs.Shown.{is_on, shown, shown_where, bytes_cmp}
+use Rattle.op_model.specs.Shown.{is_on, bytes_cmp}
 use Rattle.op_model.specs.Meaning.{greater, greater_if, value_under, state}
-use Rattle.op_model.proofs.Greater.{greater-comm, greater-assoc, greater-idem}
-use Rattle.op_model.proofs.Dots.{same_dot-true, same_dot-self, has-append, in_has, from_has}
-use Rattle.op_model.proofs.Members.{nothing_in, at_head, in_tail, head_or_tail, at_same, in_map, from_map, in_filter, from_filter}
+use Rattle.op_model.proofs.Greater.{greater-assoc}
+use Rattle.op_model.proofs.Dots.{same_dot-true, same_dot-self, has-append, from_has}
+use Rattle.op_model.proofs.Members.{nothing_in, at_head, in_tail, head_or_tail, from_map, in_filter, from_filter}
 
 pub writes-append : (S T : List Operation) → writes (S ++ T) ≡ writes S ++ writes T
 writes-append [] T = refl
@@ -73,8 +73,8 @@ hidden ds test dot [] = cond_none (has ds dot)
 hidden ds test dot (w ∷ ws) =
     under_cond dot (test w && not (has ds w.id)) w (filter (λ v. test v && not (has ds v.id)) ws)
     ∙ hidden_step (test w) (has ds w.id) (has ds dot) (same_dot w.id dot) w.value
-      (value_under dot (filter (λ v. test v && not (has ds v.id)) ws)) (value_under dot (filter test ws))
-      (λ same. ap (has ds) (same_dot-true w.id dot same)) (hidden ds test dot ws)
+    (value_under dot (filter (λ v. test v && not (has ds v.id)) ws)) (value_under dot (filter test ws))
+    (λ same. ap (has ds) (same_dot-true w.id dot same)) (hidden ds test dot ws)
     ∙ sym (ap (cond (has ds dot) None) (under_cond dot (test w) w (filter test ws)))
 
 -- what stands at a key and dot
@@ -105,8 +105,9 @@ pub found_under : (dot : Dot) (ws : List Write) (x : List ℕ) → value_under d
 found_under dot [] x e = absurd (cc)
 found_under dot (w ∷ ws) x e =
     elim (greater_if-some (same_dot w.id dot) w.value (value_under dot ws) x e) [
-    inl f ↦ (w, at_head w ws, same_dot-true w.id dot f.0, f.1)
-    | inr f ↦ let found = found_under dot ws x f in (found.0, in_tail w ws found.0 found.1, found.2, found.3) ]
+      | inl f ↦ (w, at_head w ws, same_dot-true w.id dot f.0, f.1)
+      | inr f ↦ let found = found_under dot ws x f in (found.0, in_tail w ws found.0 found.1, found.2, found.3)
+    ]
 
 -- where a write is there under a dot, something stands under it
 pub stands_under : (dot : Dot) (ws : List Write) (w : Write) → Contains ws w → w.id ≡ dot → value_under dot ws ≡ None → ⊥
@@ -114,8 +115,9 @@ stands_under dot [] w h same none = nothing_in w h
 stands_under dot (v ∷ ws) w h same none =
     let parts = greater_if-none (same_dot v.id dot) v.value (value_under dot ws) none in
     elim (head_or_tail v ws w h) [
-    inl e ↦ parts.0 (ap (λ u. same_dot u.id dot) e ∙ ap (λ d. same_dot d dot) same ∙ same_dot-self dot)
-    | inr t ↦ stands_under dot ws w t same parts.1 ]
+      | inl e ↦ parts.0 (ap (λ u. same_dot u.id dot) e ∙ ap (λ d. same_dot d dot) same ∙ same_dot-self dot)
+      | inr t ↦ stands_under dot ws w t same parts.1
+    ]
 
 -- the union at one key and dot: i and j say whether the sides wrote the dot, r and s whether they had observed it
 union_at : (a b : Option (List ℕ)) (i j r s : Bool) →
@@ -156,9 +158,9 @@ union_written : (S T : List Operation) (key : List ℕ) (dot : Dot) →
     ≡ cond (has (observed S) dot || has (observed T) dot) None (best (value_under dot (filter (is_on key) (writes S))) (value_under dot (filter (is_on key) (writes T))))
 union_written S T key dot =
     let both : value_under dot (filter (is_on key) (writes (S ++ T))) ≡ best (value_under dot (filter (is_on key) (writes S))) (value_under dot (filter (is_on key) (writes T))) =
-      ap (λ ws. value_under dot (filter (is_on key) ws)) (writes-append S T)
-      ∙ ap (value_under dot) (filter-append (is_on key) (writes S) (writes T))
-      ∙ value_under-append dot (filter (is_on key) (writes S)) (filter (is_on key) (writes T)) in
+    ap (λ ws. value_under dot (filter (is_on key) ws)) (writes-append S T)
+    ∙ ap (value_under dot) (filter-append (is_on key) (writes S) (writes T))
+    ∙ value_under-append dot (filter (is_on key) (writes S)) (filter (is_on key) (writes T)) in
     λ k. cond (observed_either S T dot k) None (both k)
 
 -- a write on the key that the first set has, under a dot that the second wrote: it is the second's too
@@ -181,16 +183,16 @@ regroup false false r s = refl
 pub join-states : (S T : List Operation) → NoReuse (S ++ T) → Same (join greater (state S) (state T)) (state (S ++ T))
 join-states S T r = record {
   at = λ key dot.
-    (λ k. joined greater (at-state S key dot k) (has-state S dot k) (at-state T key dot k) (has-state T dot k))
-    ∙ union_at (value_under dot (filter (is_on key) (writes S))) (value_under dot (filter (is_on key) (writes T)))
+      (λ k. joined greater (at-state S key dot k) (has-state S dot k) (at-state T key dot k) (has-state T dot k))
+      ∙ union_at (value_under dot (filter (is_on key) (writes S))) (value_under dot (filter (is_on key) (writes T)))
       (has (ids (writes S)) dot) (has (ids (writes T)) dot) (has (observed S) dot) (has (observed T) dot)
       (λ x e k n. shared S T key dot x (λ v w h g. r.one_write v w (in_writes_left S T v h) (in_writes_right S T w g)) e k n)
       (λ x e k n. shared T S key dot x (λ v w h g. r.one_write v w (in_writes_right S T v h) (in_writes_left S T w g)) e k n)
-    ∙ sym (union_written S T key dot)
-    ∙ sym (at-state (S ++ T) key dot);
+      ∙ sym (union_written S T key dot)
+      ∙ sym (at-state (S ++ T) key dot);
   has = λ dot.
-    (λ k. has-state S dot k || has-state T dot k)
-    ∙ regroup (has (ids (writes S)) dot) (has (ids (writes T)) dot) (has (observed S) dot) (has (observed T) dot)
-    ∙ sym (λ k. ids_either S T dot k || observed_either S T dot k)
-    ∙ sym (has-state (S ++ T) dot)
+      (λ k. has-state S dot k || has-state T dot k)
+      ∙ regroup (has (ids (writes S)) dot) (has (ids (writes T)) dot) (has (observed S) dot) (has (observed T) dot)
+      ∙ sym (λ k. ids_either S T dot k || observed_either S T dot k)
+      ∙ sym (has-state (S ++ T) dot);
 }

@@ -1,0 +1,30 @@
+use Rattle.op_model.proofs.Making.{put_made, remove_made, clear_made, put_dot, remove_count, clear_count, put_is_made}
+use Rattle.op_model.proofs.Showing.{dots_standing, dots_anywhere}
+use Rattle.op_model.proofs.sets.made_at_a_state.Goals as goal
+
+pub returns-clause-put : goal.returns-clause-put
+returns-clause-put c = λ S p name key value w same. put_made S p same name key value w
+
+pub returns-clause-remove : goal.returns-clause-remove
+returns-clause-remove c = λ S p key over same. remove_made S p same key over
+
+pub returns-clause-clear : goal.returns-clause-clear
+returns-clause-clear c = λ S p over same. clear_made S p same over
+
+pub returns-clause-dot : goal.returns-clause-dot
+returns-clause-dot c = λ S p name dot same. put_dot S p same name dot
+
+pub returns-clause-removed : goal.returns-clause-removed
+returns-clause-removed c = λ S p key n same. remove_count S p same key n
+
+pub returns-clause-cleared : goal.returns-clause-cleared
+returns-clause-cleared c = λ S p n same. clear_count S p same n
+
+pub returns-clause-put_there : goal.returns-clause-put_there
+returns-clause-put_there c = put_is_made
+
+pub returns-clause-remove_there : goal.returns-clause-remove_there
+returns-clause-remove_there c = dots_standing
+
+pub returns-clause-clear_there : goal.returns-clause-clear_there
+returns-clause-clear_there c = dots_anywhere

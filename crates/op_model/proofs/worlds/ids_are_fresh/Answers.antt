@@ -1,0 +1,8 @@
+use Rattle.op_model.proofs.Fresh.{sound-after}
+use Rattle.op_model.proofs.worlds.ids_are_fresh.Goals as goal
+
+pub returns-clause-no_reuse : goal.returns-clause-no_reuse
+returns-clause-no_reuse c = λ events. (sound-after events).no_reuse
+
+pub returns-clause-sound : goal.returns-clause-sound
+returns-clause-sound c = sound-after

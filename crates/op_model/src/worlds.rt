@@ -1,0 +1,104 @@
+//! The laws of worlds of replicas.
+
+ghost use Rattle.std.specs.Prelude.{◌≡◌, ◌≢◌, ◌↔◌, ◌++◌, ◌∷◌, [], ◌+◌, ◌≤◌, ℕ, List, false, length};
+ghost use Rattle.dots.specs.declared.dot.Dot.{Dot};
+ghost use Rattle.op_model.specs.State.{State, join, Same};
+ghost use Rattle.op_model.specs.Operation.{Write, Operation, Wrote, NoReuse, IsPartOf};
+ghost use Rattle.op_model.specs.Meaning.{greater, state};
+ghost use Rattle.op_model.specs.Made.{put_at, erasure, remove_at, clear_at, IsPutAt, IsRemoveAt, IsClearAt};
+ghost use Rattle.op_model.specs.World.{Event, Node, Put, Remove, Clear, Flush, Deliver, World, message, happens, after};
+ghost use Rattle.op_model.specs.World.{makes, sends, shows, learns};
+ghost use Rattle.op_model.specs.World.{IsSound, Means, IsUntouched, replica_of};
+
+/// No dot is ever used twice: after every list of events, whatever they are, all operations made have no reuse, and what
+/// each replica has seen, holds outgoing, and each message carries, is part of them.
+pub fn ids_are_fresh()
+    ensures no_reuse { (events : List Event) → NoReuse (after events).made }
+    ensures sound { (events : List Event) → IsSound (after events) }
+{}
+
+/// A live pair and a group that mean what a replica has seen and is to send mean it again after a put, where both were
+/// joined with the delta of the operation made, at the set or at the live pair.
+pub fn puts()
+    ensures at_set { (events : List Event) (name : ℕ) (p g d : State (List ℕ) (List ℕ)) (key value : List ℕ) →
+        Means p g (after events) name → Same d (state (put_at ((after events).seen name) name key value)) →
+        Means (join greater p d) (join greater g d) (after (events ++ Put name key value ∷ [])) name }
+    ensures at_pair { (events : List Event) (name : ℕ) (p g d : State (List ℕ) (List ℕ)) (key value : List ℕ) (w : Write) →
+        Means p g (after events) name → IsPutAt p name key value w → Same d (state (Wrote w ∷ [])) →
+        Means (join greater p d) (join greater g d) (after (events ++ Put name key value ∷ [])) name }
+{}
+
+/// The same after a remove.
+pub fn removes()
+    ensures at_set { (events : List Event) (name : ℕ) (p g d : State (List ℕ) (List ℕ)) (key : List ℕ) →
+        Means p g (after events) name → Same d (state (remove_at ((after events).seen name) key)) →
+        Means (join greater p d) (join greater g d) (after (events ++ Remove name key ∷ [])) name }
+    ensures at_pair { (events : List Event) (name : ℕ) (p g d : State (List ℕ) (List ℕ)) (key : List ℕ) (over : List Dot) →
+        Means p g (after events) name → IsRemoveAt p key over → Same d (state (erasure over)) →
+        Means (join greater p d) (join greater g d) (after (events ++ Remove name key ∷ [])) name }
+{}
+
+/// The same after a clear.
+pub fn clears()
+    ensures at_set { (events : List Event) (name : ℕ) (p g d : State (List ℕ) (List ℕ)) →
+        Means p g (after events) name → Same d (state (clear_at ((after events).seen name))) →
+        Means (join greater p d) (join greater g d) (after (events ++ Clear name ∷ [])) name }
+    ensures at_pair { (events : List Event) (name : ℕ) (p g d : State (List ℕ) (List ℕ)) (over : List Dot) →
+        Means p g (after events) name → IsClearAt p over → Same d (state (erasure over)) →
+        Means (join greater p d) (join greater g d) (after (events ++ Clear name ∷ [])) name }
+{}
+
+/// The same after a delivery, where the live pair alone was joined with a pair that means what the message carries.
+pub fn delivers()
+    ensures { (events : List Event) (name number : ℕ) (p g d : State (List ℕ) (List ℕ)) →
+        Means p g (after events) name → Same d (state (message (after events).messages number)) →
+        Means (join greater p d) g (after (events ++ Deliver number name ∷ [])) name }
+{}
+
+/// After a flush the live pair means the same, and an empty one means the group. A message was made exactly where
+/// the group knew some dot, and carries what the group meant.
+pub fn flushes()
+    ensures pairs { (events : List Event) (name : ℕ) (p g e : State (List ℕ) (List ℕ)) →
+        Means p g (after events) name → Same e (state []) → Means p e (after (events ++ Flush name ∷ [])) name }
+    ensures empty { (events : List Event) (name : ℕ) (p g : State (List ℕ) (List ℕ)) → Means p g (after events) name →
+        ((dot : Dot) → g.has dot ≡ false) ↔ ((after events).outgoing name ≡ []) }
+    ensures message { (events : List Event) (name : ℕ) → (after events).outgoing name ≢ [] →
+        (after (events ++ Flush name ∷ [])).messages ≡ (after events).messages ++ (after events).outgoing name ∷ [] }
+    ensures no_message { (events : List Event) (name : ℕ) → (after events).outgoing name ≡ [] →
+        (after (events ++ Flush name ∷ [])).messages ≡ (after events).messages }
+{}
+
+/// An event is one more step of the world, and leaves every replica but its own as it was.
+pub fn events_elsewhere()
+    ensures step { (events : List Event) (e : Event) → after (events ++ e ∷ []) ≡ happens (after events) e }
+    ensures untouched { (events : List Event) (e : Event) (name : ℕ) → name ≢ replica_of e →
+        IsUntouched (after events) (after (events ++ e ∷ [])) name }
+    ensures pairs { (events : List Event) (e : Event) (name : ℕ) (p g : State (List ℕ) (List ℕ)) → name ≢ replica_of e →
+        Means p g (after events) name → Means p g (after (events ++ e ∷ [])) name }
+{}
+
+/// The numbers of messages stay what they are: an added message has the next, and those before carry what they carried.
+pub fn messages_stay()
+    ensures kept { (messages more : List (List Operation)) (number : ℕ) → number ≤ length messages →
+        message (messages ++ more) number ≡ message messages number }
+    ensures added { (messages : List (List Operation)) (S : List Operation) →
+        message (messages ++ S ∷ []) (length messages + 1) ≡ S }
+{}
+
+/// The four moves of which events are made keep any world sound, so that other events may be made of them.
+pub fn moves_are_sound()
+    ensures makes_a_write { (w : World) (name : ℕ) (key value : List ℕ) → IsSound w →
+        IsSound (makes name (put_at (w.seen name) name key value) w) }
+    ensures makes_an_erasure { (w : World) (name : ℕ) (over : List Dot) → IsSound w → IsSound (makes name (erasure over) w) }
+    ensures sends { (w : World) (name : ℕ) → IsSound w → IsSound (sends name w) }
+    ensures shows { (w : World) (name : ℕ) → IsSound w → IsSound (shows name w) }
+    ensures learns { (w : World) (name : ℕ) (more : List Operation) → IsSound w → IsPartOf more w.made → IsSound (learns name more w) }
+{}
+
+/// A replica that learns a set that is part of what was made, from a pair that means it: the joined pair means what it
+/// has seen then. So for a delivery, and so for the end of a synchronisation.
+pub fn learns_a_set()
+    ensures { (w : World) (name : ℕ) (more : List Operation) (p g d : State (List ℕ) (List ℕ)) →
+        IsSound w → IsPartOf more w.made → Means p g w name → Same d (state more) →
+        Means (join greater p d) g (learns name more w) name }
+{}
