@@ -2,6 +2,8 @@ pub mod Watched
 pub mod Word
 pub mod Command
 pub mod Parsed
+pub mod Fault
+pub mod Outcome
 pub mod Machine
 pub mod Reply
 pub mod Lines

@@ -2,7 +2,7 @@
 use Rattle.std.specs.Prelude.{◌≡◌, true}
 use Rattle.trace_cli.specs.declared.reply.Reply.{Reply}
 use Rattle.trace_cli.specs.declared.reply.Reply.TheVariants as reply
-use Rattle.trace_cli.specs.Output.{is_fault}
+use Rattle.trace_cli.specs.Fault.{is_fault}
 use Rattle.trace_cli.specs.Machine.{Answer, Silent, Told, Faulted}
 
 -- the answer that a reply holds

@@ -9,6 +9,7 @@ mod running;
 mod session;
 mod watched;
 mod word;
+mod world;
 mod writing;
 
 pub use running::{is_fault, run, run_bytes};

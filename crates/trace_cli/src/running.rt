@@ -1,7 +1,8 @@
 ghost use Rattle.std.specs.Prelude.{◌≡◌, ◌≤◌, ◌++◌, ◌⊎◌, ℕ, List, true, Some, None, OnOk, OnErr, IfOk, IfErr, IfSome, IsErrOf, IsOkUnless};
 ghost use Rattle.std.specs.Io.KnownBytes.{Appends, IsAtEnd};
 ghost use Rattle.trace_cli.specs.Lines.{IsWholeLinesOf};
-ghost use Rattle.trace_cli.specs.Output.{given_of, is_fault, ends_run};
+ghost use Rattle.trace_cli.specs.Fault.{is_fault, ends_run};
+ghost use Rattle.trace_cli.specs.Output.{given_of};
 ghost use Rattle.trace_cli.specs.Streams.{Taken, Written, IsFront};
 ghost use Rattle.trace_cli.specs.Watched.{inner_of, calls_of, has_failed, IsNew};
 

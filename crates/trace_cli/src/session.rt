@@ -1,7 +1,7 @@
 ghost use Rattle.std.specs.Prelude.{◌≡◌, ◌≢◌, ◌+◌, ◌<◌, ◌≤◌, ◌^◌, ◌++◌, ◌∷◌, [], length, true, false, Some, None, OnOk, OnErr, IfErr, IfOk, IsErrOf};
 ghost use Rattle.std.specs.Fmt.{decimal};
 ghost use Rattle.trace_cli.specs.Lines.{has_newline};
-ghost use Rattle.trace_cli.specs.Output.{is_fault, ends_run};
+ghost use Rattle.trace_cli.specs.Fault.{is_fault, ends_run};
 ghost use Rattle.trace_cli.specs.Streams.{Written, IsFront};
 ghost use Rattle.std.specs.Io.KnownBytes.{Appends};
 

@@ -1,7 +1,8 @@
 ghost use Rattle.std.specs.Prelude.{◌≡◌, ◌≢◌, ◌+◌, ◌<◌, ◌≤◌, ◌++◌, ◌∷◌, [], length, true, OnOk, OnErr, IfErr, IsErrOf, IfOk, IsOkUnless, string_bytes, ◌⊎◌};
 ghost use Rattle.std.specs.Io.KnownBytes.{Appends};
 ghost use Rattle.trace_cli.specs.Machine.{Faulted};
-ghost use Rattle.trace_cli.specs.Output.{fault_line, answer_text, is_fault, ends_run};
+ghost use Rattle.trace_cli.specs.Fault.{is_fault, ends_run};
+ghost use Rattle.trace_cli.specs.Output.{fault_line, answer_text};
 ghost use Rattle.trace_cli.specs.Reply.{answer_of, TellsFaults, GoesOn};
 ghost use Rattle.trace_cli.specs.Streams.{Written, IsFront};
 ghost use Rattle.trace_cli.specs.Watched.{inner_of, has_failed};

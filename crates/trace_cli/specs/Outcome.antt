@@ -1,0 +1,77 @@
+-- What each command comes to, off what the replicas have seen alone. Of this project.
+--
+-- Here are no contexts, no stores and no deltas: a world is told by the sets of operations that its replicas have seen
+-- and are to send, and by the sets that its messages carry.
+use Rattle.std.specs.Prelude.{ℕ, ◌+◌, ◌^◌, nat_lt, nat_le, cond, List, [], ◌∷◌, ◌++◌, length, codes}
+use Rattle.std.specs.Fmt.{decimal}
+use Rattle.std.specs.List.{flat_map}
+use Rattle.dots.specs.Bytes.{MAX_LENGTH}
+use Rattle.dots.specs.declared.dot.Dot.{Dot}
+use Rattle.dots.specs.declared.refusal.Refusal.{Refusal}
+use Rattle.dots.specs.declared.refusal.Refusal.TheVariants.{TooLong, NumbersSpent, NameTaken, UnknownReplica, UnknownMessage}
+use Rattle.op_model.specs.Operation.{Operation}
+use Rattle.op_model.specs.Shown.{values}
+use Rattle.op_model.specs.Made.{dot_at}
+use Rattle.op_model.specs.World.{World, Event, is_among}
+use Rattle.op_model.specs.World as world
+use Rattle.trace_cli.specs.Command.{CommandValue, Node, Put, Get, Flush, Deliver}
+use Rattle.trace_cli.specs.Word.{shown_as}
+
+-- a command is refused and changes nothing, or is done: its text, and the event that it was, if it was one
+pub data Outcome : Type 0 where
+  Refused : Refusal → Outcome
+  Done : List ℕ → List Event → Outcome
+
+-- what a command comes to that names this replica
+abbrev pub at_replica : World → ℕ → Outcome → Outcome
+at_replica w name then = cond (is_among w.nodes name) then (Refused UnknownReplica)
+
+-- what a command comes to that has this key or value
+abbrev pub with_bytes : List ℕ → Outcome → Outcome
+with_bytes bytes then = cond (nat_le (length bytes) MAX_LENGTH) then (Refused TooLong)
+
+-- "ok <name>:<number>"
+abbrev pub put_text : Dot → List ℕ
+put_text dot = codes "ok " ++ (decimal dot.name ++ (codes ":" ++ decimal dot.number))
+
+-- "=", then a space and the value for each value
+abbrev pub values_text : List (List ℕ) → List ℕ
+values_text found = codes "=" ++ flat_map (λ value. 32 ∷ shown_as value) found
+
+-- "sent <number>:delta", or "empty" where there was nothing to send
+abbrev pub flush_text : List Operation → ℕ → List ℕ
+flush_text [] number = codes "empty"
+flush_text (operation ∷ group) number = codes "sent " ++ (decimal number ++ codes ":delta")
+
+-- a new replica
+abbrev pub node_outcome : World → ℕ → Outcome
+node_outcome w name = cond (is_among w.nodes name) (Refused NameTaken) (Done (codes "ok") (world.Node name ∷ []))
+
+-- a put under the dot that is next, if its number is below 2^64
+abbrev pub put_outcome : World → ℕ → List ℕ → List ℕ → Outcome
+put_outcome w name key value =
+    at_replica w name (with_bytes key (with_bytes value
+      (cond (nat_lt (dot_at (w.seen name) name).number (2 ^ 64))
+        (Done (put_text (dot_at (w.seen name) name)) (world.Put name key value ∷ []))
+        (Refused NumbersSpent))))
+
+-- the values that a key shows
+abbrev pub get_outcome : World → ℕ → List ℕ → Outcome
+get_outcome w name key = at_replica w name (with_bytes key (Done (values_text (values (w.seen name) key)) []))
+
+-- the operations that were made since the last flush become the next message, if there are any
+abbrev pub flush_outcome : World → ℕ → Outcome
+flush_outcome w name = at_replica w name (Done (flush_text (w.outgoing name) (length w.messages + 1)) (world.Flush name ∷ []))
+
+-- a message that was made is delivered
+abbrev pub deliver_outcome : World → ℕ → ℕ → Outcome
+deliver_outcome w number name =
+    at_replica w name (cond (nat_le number (length w.messages)) (Done (codes "joined") (world.Deliver number name ∷ [])) (Refused UnknownMessage))
+
+-- what a command comes to in this world
+abbrev pub outcome_of : World → CommandValue → Outcome
+outcome_of w (Node name) = node_outcome w name
+outcome_of w (Put name key value) = put_outcome w name key value
+outcome_of w (Get name key) = get_outcome w name key
+outcome_of w (Flush name) = flush_outcome w name
+outcome_of w (Deliver number name) = deliver_outcome w number name
