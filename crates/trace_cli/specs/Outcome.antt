@@ -2,7 +2,7 @@
 --
 -- Here are no contexts, no stores and no deltas: a world is told by the sets of operations that its replicas have seen
 -- and are to send, and by the sets that its messages carry.
-use Rattle.std.specs.Prelude.{ℕ, ◌+◌, ◌^◌, nat_lt, nat_le, cond, List, [], ◌∷◌, ◌++◌, length, codes}
+use Rattle.std.specs.Prelude.{ℕ, ◌+◌, ◌^◌, nat_lt, nat_le, ◌&&◌, Bool, cond, List, [], ◌∷◌, ◌++◌, length, Option, Some, None, codes}
 use Rattle.std.specs.Fmt.{decimal}
 use Rattle.std.specs.List.{flat_map}
 use Rattle.dots.specs.Bytes.{MAX_LENGTH}
@@ -38,10 +38,15 @@ put_text dot = codes "ok " ++ (decimal dot.name ++ (codes ":" ++ decimal dot.num
 abbrev pub values_text : List (List ℕ) → List ℕ
 values_text found = codes "=" ++ flat_map (λ value. 32 ∷ shown_as value) found
 
--- "sent <number>:delta", or "empty" where there was nothing to send
-abbrev pub flush_text : List Operation → ℕ → List ℕ
-flush_text [] number = codes "empty"
-flush_text (operation ∷ group) number = codes "sent " ++ (decimal number ++ codes ":delta")
+-- the number of the message that a flush makes, if there is anything to send
+abbrev pub sent_number : List Operation → ℕ → Option ℕ
+sent_number [] number = None
+sent_number (operation ∷ group) number = Some number
+
+-- "sent <number>:delta", or "empty" where no message was made
+abbrev pub sent_text : Option ℕ → List ℕ
+sent_text None = codes "empty"
+sent_text (Some number) = codes "sent " ++ (decimal number ++ codes ":delta")
 
 -- a new replica
 abbrev pub node_outcome : World → ℕ → Outcome
@@ -61,12 +66,16 @@ get_outcome w name key = at_replica w name (with_bytes key (Done (values_text (v
 
 -- the operations that were made since the last flush become the next message, if there are any
 abbrev pub flush_outcome : World → ℕ → Outcome
-flush_outcome w name = at_replica w name (Done (flush_text (w.outgoing name) (length w.messages + 1)) (world.Flush name ∷ []))
+flush_outcome w name = at_replica w name (Done (sent_text (sent_number (w.outgoing name) (length w.messages + 1))) (world.Flush name ∷ []))
+
+-- whether a message of this number was made: they are numbered from 1
+abbrev pub is_message : World → ℕ → Bool
+is_message w number = nat_lt 0 number && nat_le number (length w.messages)
 
 -- a message that was made is delivered
 abbrev pub deliver_outcome : World → ℕ → ℕ → Outcome
 deliver_outcome w number name =
-    at_replica w name (cond (nat_le number (length w.messages)) (Done (codes "joined") (world.Deliver number name ∷ [])) (Refused UnknownMessage))
+    at_replica w name (cond (is_message w number) (Done (codes "joined") (world.Deliver number name ∷ [])) (Refused UnknownMessage))
 
 -- what a command comes to in this world
 abbrev pub outcome_of : World → CommandValue → Outcome

@@ -2,6 +2,7 @@
 // stated function of what it reads.
 #![tactic(auto)]
 
+mod answer;
 mod command;
 mod machine;
 mod reply;
@@ -12,5 +13,6 @@ mod word;
 mod world;
 mod writing;
 
-pub use running::{is_fault, run, run_bytes};
+pub use answer::is_fault;
+pub use running::{run, run_bytes};
 pub use watched::Watched;

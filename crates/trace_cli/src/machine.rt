@@ -1,47 +1,130 @@
-ghost use Rattle.std.specs.Prelude.{◌≡◌, IfOk, IfErr, OnOk, OnErr, IsOkUnless, true};
+ghost use Rattle.std.specs.Prelude.{◌≡◌, ◌⊎◌, ◌≤◌, ◌<◌, ◌++◌, ◌∷◌, [], Some, None, IfOk, IfErr, OnOk, IsOkUnless, true, map, string_bytes, MatchResult};
+ghost use Rattle.std.specs.List.{flat_map};
+ghost use Rattle.dots.specs.Refusal.{word_of};
+ghost use Rattle.op_model.specs.World.{after, is_among};
+ghost use Rattle.trace_cli.specs.Command.{command_of};
+ghost use Rattle.trace_cli.specs.Machine.{start, answer_to, past_after, answer_by, line_outcome, Told};
+ghost use Rattle.trace_cli.specs.Outcome.{Done, Refused, outcome_of, put_text, values_text, node_outcome, put_outcome, get_outcome, flush_outcome, deliver_outcome};
+ghost use Rattle.trace_cli.specs.Word.{shown_as};
 
+use crate::answer::{flush_answer, get_answer, put_answer, reply};
+use crate::command::{Command, parse};
 use crate::reply::Reply;
-use dots::Refusal;
+use crate::world::World;
+use dots::{Key, Name, Refusal, Value};
 use std::alloc::{Allocator, Global};
 use std::marker::Model;
 
-/// The machine behind the trace language: one line in, one reply out.
+/// The machine behind the trace language: one line in, one reply out. It is seen as the events that it accepted.
 #[derive(Drop)]
 pub(crate) struct Machine<A: Allocator + Copy = Global> {
     alloc: A,
-    count: u64,
+    world: World<A>,
 }
 
 impl<A: Allocator + Copy> Model for Machine<A> {
-    ghost use Rattle.trace_cli.specs.Machine.{Past};
+    ghost use Rattle.trace_cli.specs.Command.{command_of};
+ghost use Rattle.trace_cli.specs.Machine.{Past};
 
     ghost Value = { Past };
 
-    ghost view = { λ m. m.count };
+    ghost view = { λ m. m.world };
 }
 
 impl<A: Allocator + Copy> Machine<A> {
-    ghost use Rattle.trace_cli.specs.Machine.{start, answer_to, past_after};
     ghost use Rattle.trace_cli.specs.Reply.{answer_of, TellsFaults};
+    ghost use Rattle.trace_cli.specs.Parsed.{command_value};
+    ghost use Rattle.trace_cli.specs.Does.{Does};
 
-    /// A machine to which nothing happened yet.
+    /// A machine to which nothing happened yet. Takes no memory.
     pub fn new(alloc: A) -> Machine<A>
         ensures { result ≡ start }
     {
-        Machine { alloc, count: 0 }
+        Machine {
+            alloc,
+            world: World::new(alloc),
+        }
     }
 
-    /// Carries out one line, given without its end. A refusal, which is OutOfMemory, changes nothing.
+    /// Carries out one line, given without its end.
     pub fn carry_out(&mut self, line: &[u8]) -> Result<Reply<A>, Refusal>
         ensures answer { IfOk result (λ reply. answer_of reply ≡ answer_to self.old line.now) }
         ensures faults { IfOk result TellsFaults }
         ensures after { OnOk result (self.new ≡ past_after self.old line.now) }
-        ensures err { OnErr result (self.new ≡ self.old) }
         ensures refusal { IsOkUnless result Refusal.OutOfMemory }
     {
-        if line.len() > 7 { return Err(Refusal::OutOfMemory); }
-        if self.count == u64::MAX { return Err(Refusal::OutOfMemory); }
-        self.count += 1;
-        Ok(Reply::Silent)
+        if line.is_empty() {
+            return Ok(Reply::Silent);
+        }
+        let done = self.attempt(line);
+        reply(self.alloc, done)
+    }
+
+    /// Carries out a line that has a byte: the text that it is answered, or the refusal that it meets.
+    fn attempt(&mut self, line: &[u8]) -> Result<Vec<u8, A>, Refusal>
+        ensures { Does (line_outcome self.old (command_of line.now)) self.old self.new result }
+    {
+        match parse(self.alloc, line)? {
+            Some(command) => self.obey(command),
+            None => Err(Refusal::BadLine),
+        }
+    }
+
+    /// Does what the command asks: the text that it is answered, or the refusal that it meets.
+    fn obey(&mut self, command: Command<A>) -> Result<Vec<u8, A>, Refusal>
+        ensures { Does (outcome_of (after self.old) (command_value command)) self.old self.new result }
+    {
+        match command {
+            Command::Node(name) => self.node(name),
+            Command::Put { name, key, value } => self.put(name, key.as_slice(), value.as_slice()),
+            Command::Get { name, key } => self.get(name, key.as_slice()),
+            Command::Flush(name) => self.flush(name),
+            Command::Deliver { message, name } => self.deliver(message, name),
+        }
+    }
+
+    fn node(&mut self, name: Name) -> Result<Vec<u8, A>, Refusal>
+        ensures { Does (node_outcome (after self.old) name) self.old self.new result }
+    {
+        self.world.node(name)?;
+        Ok(Vec::from_slice(self.alloc, b"ok")?)
+    }
+
+    fn put(&mut self, name: Name, key: &[u8], value: &[u8]) -> Result<Vec<u8, A>, Refusal>
+        ensures { Does (put_outcome (after self.old) name key.now value.now) self.old self.new result }
+    {
+        if !self.world.has_replica(name) {
+            return Err(Refusal::UnknownReplica);
+        }
+        let key = Key::new(self.alloc, key)?;
+        let value = Value::new(self.alloc, value)?;
+        let dot = self.world.put(name, key, value)?;
+        Ok(put_answer(self.alloc, dot)?.into_bytes())
+    }
+
+    fn get(&self, name: Name, key: &[u8]) -> Result<Vec<u8, A>, Refusal>
+        ensures { Does (get_outcome (after self.now) name key.now) self.now self.now result }
+    {
+        if !self.world.has_replica(name) {
+            return Err(Refusal::UnknownReplica);
+        }
+        let key = Key::new(self.alloc, key)?;
+        let found = self.world.get(name, &key)?;
+        let text = get_answer(self.alloc, found.as_slice())?;
+        Ok(text)
+    }
+
+    fn flush(&mut self, name: Name) -> Result<Vec<u8, A>, Refusal>
+        ensures { Does (flush_outcome (after self.old) name) self.old self.new result }
+    {
+        let made = self.world.flush(name)?;
+        Ok(flush_answer(self.alloc, made)?.into_bytes())
+    }
+
+    fn deliver(&mut self, message: u64, name: Name) -> Result<Vec<u8, A>, Refusal>
+        ensures { Does (deliver_outcome (after self.old) message name) self.old self.new result }
+    {
+        self.world.deliver(message, name)?;
+        Ok(Vec::from_slice(self.alloc, b"joined")?)
     }
 }

@@ -6,6 +6,7 @@ ghost use Rattle.trace_cli.specs.Output.{given_of};
 ghost use Rattle.trace_cli.specs.Streams.{Taken, Written, IsFront};
 ghost use Rattle.trace_cli.specs.Watched.{inner_of, calls_of, has_failed, IsNew};
 
+use crate::answer::is_fault;
 use crate::session::Session;
 use crate::watched::Watched;
 use dots::Refusal;
@@ -67,16 +68,6 @@ pub fn run<R: Read, W: Write, A: Allocator + Copy>(
         session.feed(writer, &piece[..count])?;
     }
     Err(Refusal::Input)
-}
-
-/// Whether a refusal is a fault, which ended a trace with a line that tells it.
-pub fn is_fault(refusal: Refusal) -> bool
-    ensures { result ≡ is_fault refusal }
-{
-    matches!(
-        refusal,
-        Refusal::NameTaken | Refusal::UnknownReplica | Refusal::UnknownMessage | Refusal::BadLine
-    )
 }
 
 /// Feeds the whole input to a new session, and ends it.

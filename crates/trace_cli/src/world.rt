@@ -2,6 +2,7 @@ ghost use Rattle.std.specs.Prelude.{◌≡◌, ◌≢◌, ◌+◌, ◌<◌, ◌�
 ghost use Rattle.op_model.specs.World.{Node, Put, Flush, Deliver, after, is_among};
 ghost use Rattle.op_model.specs.Made.{dot_at};
 ghost use Rattle.op_model.specs.Shown.{values};
+ghost use Rattle.trace_cli.specs.Outcome.{is_message, sent_number};
 
 use dots::{Dot, Key, Name, Refusal, Value};
 use std::alloc::{Allocator, Global};
@@ -77,9 +78,8 @@ impl<A: Allocator + Copy> World<A> {
     /// nothing. UnknownReplica exactly where no replica has the name; a refused call changes nothing.
     pub fn flush(&mut self, name: Name) -> Result<Option<u64>, Refusal>
         ensures ok { OnOk result ((is_among (after self.old).nodes name ≡ true) × (self.new ≡ self.old ++ Flush name ∷ [])) }
-        ensures sent { IfOk result (λ made. IfSome made (λ number.
-            ((after self.old).outgoing name ≢ []) × (number ≡ length (after self.old).messages + 1))) }
-        ensures empty { IfOk result (λ made. IfNone made ((after self.old).outgoing name ≡ [])) }
+        ensures message { IfOk result (λ made. made ≡
+            sent_number ((after self.old).outgoing name) (length (after self.old).messages + 1)) }
         ensures refused { IfErr result (λ refusal. (refusal ≡ Refusal.OutOfMemory) ⊎
             ((refusal ≡ Refusal.UnknownReplica) × (is_among (after self.old).nodes name ≡ false))) }
         ensures err { OnErr result (self.new ≡ self.old) }
@@ -90,13 +90,12 @@ impl<A: Allocator + Copy> World<A> {
     /// The message of this number, from 1, is delivered to a replica. UnknownReplica exactly where no replica has
     /// the name, else UnknownMessage exactly where no message has the number; a refused call changes nothing.
     pub fn deliver(&mut self, number: u64, name: Name) -> Result<(), Refusal>
-        requires { 1 ≤ number }
         ensures ok { OnOk result ((is_among (after self.old).nodes name ≡ true) ×
-            (number ≤ length (after self.old).messages) × (self.new ≡ self.old ++ Deliver number name ∷ [])) }
+            (is_message (after self.old) number ≡ true) × (self.new ≡ self.old ++ Deliver number name ∷ [])) }
         ensures refused { IfErr result (λ refusal. (refusal ≡ Refusal.OutOfMemory) ⊎
             ((refusal ≡ Refusal.UnknownReplica) × (is_among (after self.old).nodes name ≡ false)) ⊎
             ((refusal ≡ Refusal.UnknownMessage) × (is_among (after self.old).nodes name ≡ true) ×
-            (length (after self.old).messages < number))) }
+            (is_message (after self.old) number ≡ false))) }
         ensures err { OnErr result (self.new ≡ self.old) }
     {
         Err(Refusal::OutOfMemory)
