@@ -68,6 +68,12 @@ pub fn flushes()
         (after (events ++ Flush name ∷ [])).messages ≡ (after events).messages }
 {}
 
+/// Pairs that are the same as others mean the same: the pairs of a program are known by what stands in them.
+pub fn same_pairs_mean_the_same()
+    ensures { (w : World) (name : ℕ) (p q g h : State (List ℕ) (List ℕ)) →
+        Same q p → Same h g → Means p g w name → Means q h w name }
+{}
+
 /// An event is one more step of the world, and leaves every replica but its own as it was.
 pub fn events_elsewhere()
     ensures step { (events : List Event) (e : Event) → after (events ++ e ∷ []) ≡ happens (after events) e }
