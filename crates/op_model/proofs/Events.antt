@@ -1,6 +1,6 @@
 -- How a pair that means what a replica has seen keeps its meaning over each event of a world.
-use Rattle.std.proofs.Common.{◌≡◌, ◌≢◌, ℕ, List, [], ◌∷◌, ◌++◌, refl, sym, ap, ◌∙◌, subst, true, false}
-use Rattle.std.specs.Prelude.{Contains, ◌↔◌}
+use Rattle.std.proofs.Common.{◌≡◌, ◌≢◌, ℕ, List, [], ◌∷◌, ◌++◌, refl, sym, ap, ◌∙◌, subst, Bool, true, false, ◌||◌}
+use Rattle.std.specs.Prelude.{Contains, ◌↔◌, ◌==◌}
 use Rattle.std.proofs.lemmas.Bool.{false≢true, or_left, or_right}
 use Rattle.dots.specs.declared.dot.Dot.{Dot}
 use Rattle.dots.specs.Dot.{same_dot}
@@ -9,8 +9,8 @@ use Rattle.op_model.specs.Operation.{Write, Operation, Wrote, Erased, has, ids, 
 use Rattle.op_model.specs.Shown.{shown, shown_anywhere}
 use Rattle.op_model.specs.Meaning.{greater, state}
 use Rattle.op_model.specs.Made.{put_at, erasure, remove_at, clear_at, IsPutAt, IsRemoveAt, IsClearAt}
-use Rattle.op_model.specs.World.{World, Means, IsUntouched, replica_of, Event, Node, Put, Remove, Clear, Flush, Deliver, message, makes, happens, after}
-use Rattle.op_model.proofs.Joins.{same-chain}
+use Rattle.op_model.specs.World.{World, Means, IsUntouched, replica_of, Event, Node, Put, Remove, Clear, Flush, Deliver, is_among, is_node, message, makes, happens, after}
+use Rattle.op_model.proofs.Joins.{same-chain, or_assoc}
 use Rattle.op_model.proofs.Dots.{same_dot-self, has-append}
 use Rattle.op_model.proofs.Making.{put_made, remove_made, clear_made}
 use Rattle.op_model.proofs.Members.{at_head}
@@ -121,3 +121,19 @@ means_elsewhere events e n p g apart means =
 -- what the messages carry: a flush adds the group, if there is anything in it, and no other event adds any
 pub messages_after : (events : List Event) (e : Event) → (after (events ++ e ∷ [])).messages ≡ (happens (after events) e).messages
 messages_after events e = ap (λ w. w.messages) (after-push events e)
+
+-- a new replica's name is there, and the pairs mean what they meant
+among-append : (ns ms : List ℕ) (name : ℕ) → is_among (ns ++ ms) name ≡ (is_among ns name || is_among ms name)
+among-append [] ms name = refl
+among-append (n ∷ ns) ms name = ap (λ b. (n == name) || b) (among-append ns ms name) ∙ sym (or_assoc (n == name) (is_among ns name) (is_among ms name))
+
+or_false : (b : Bool) → (b || false) ≡ b
+or_false true = refl
+or_false false = refl
+
+pub node_there : (events : List Event) (name n : ℕ) → is_node (after (events ++ Node name ∷ [])) n ≡ (is_node (after events) n || name == n)
+node_there events name n =
+    ap (λ w. is_node w n) (after-push events (Node name)) ∙ among-append (after events).nodes (name ∷ []) n ∙ ap (λ b. is_node (after events) n || b) (or_false (name == n))
+
+pub node_means : (events : List Event) (name n : ℕ) (p g : State (List ℕ) (List ℕ)) → Means p g (after events) n → Means p g (after (events ++ Node name ∷ [])) n
+node_means events name n p g means = then_after events (Node name) p g n (record { seen = means.seen; outgoing = means.outgoing })

@@ -155,10 +155,6 @@ at-write-own w new key dot =
 pub state-inside : (S : List Operation) → IsInside (state S)
 state-inside S key dot h = shown_known S (is_on key) dot (dots_standing S key dot ∙ h)
 
--- what is made at the set is made at its state
-pub put_is_made : (S : List Operation) (name : ℕ) (key value : List ℕ) → IsPutAt (state S) name key value (write_at S name key value)
-put_is_made S name key value = record { id = next-IsNext name (known S); same_key = refl; same_value = refl; over = λ dot. dots_standing S key dot }
-
 module _ (S : List Operation) (p : State (List ℕ) (List ℕ)) (same : Same p (state S)) where
   -- what a put, a remove and a clear made at the state stand for
   pub put_made : (name : ℕ) (key value : List ℕ) (w : Write) → IsPutAt p name key value w → Same (state (Wrote w ∷ [])) (state (put_at S name key value))
@@ -179,6 +175,21 @@ module _ (S : List Operation) (p : State (List ℕ) (List ℕ)) (same : Same p (
       both_ways (has over dot) (has (ids (shown_anywhere S)) dot)
       (λ h. (dots_anywhere S dot).1 ((anywhere_same dot).0 ((m dot).0 h)))
       (λ h. (m dot).1 ((anywhere_same dot).1 ((dots_anywhere S dot).0 h))))
+
+  -- and there is one: what is made at the set is made at the state
+  pub put_there : (name : ℕ) (key value : List ℕ) → IsPutAt p name key value (write_at S name key value)
+  put_there name key value = record {
+    id = IsNext-same name (has (known S)) p.has (dot_at S name) (λ dot. sym (same.has dot)) (next-IsNext name (known S));
+    same_key = refl;
+    same_value = refl;
+    over = λ dot. dots_standing S key dot ∙ sym (ap is_some (same.at key dot));
+  }
+
+  pub remove_there : (key : List ℕ) → IsRemoveAt p key (ids (shown S key))
+  remove_there key dot = dots_standing S key dot ∙ sym (ap is_some (same.at key dot))
+
+  pub clear_there : IsClearAt p (ids (shown_anywhere S))
+  clear_there dot = (λ h. (anywhere_same dot).1 ((dots_anywhere S dot).0 h), λ h. (dots_anywhere S dot).1 ((anywhere_same dot).0 h))
 
   -- the dot of a put, and the counts
   pub put_dot : (name : ℕ) (dot : Dot) → IsNext name p.has dot → dot ≡ dot_at S name

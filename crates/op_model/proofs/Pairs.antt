@@ -8,7 +8,7 @@ use Rattle.std.proofs.lemmas.List.Elements.{Contains-append_right}
 use Rattle.op_model.specs.State.{State, join, Same}
 use Rattle.op_model.specs.Operation.{Operation, NoReuse, IsPartOf}
 use Rattle.op_model.specs.Meaning.{greater, state}
-use Rattle.op_model.specs.World.{World, IsSound, message, grown, emptied, sent, makes, learns}
+use Rattle.op_model.specs.World.{World, IsSound, Means, message, grown, emptied, sent, makes, learns}
 use Rattle.op_model.proofs.Joins.{join-same, same-chain}
 use Rattle.op_model.proofs.Union.{join-states}
 use Rattle.op_model.proofs.Fresh.{IsNew, sound-makes, NoReuse-part, part_both, part_left}
@@ -76,3 +76,10 @@ message-added ms S = rw add-one (get_or_push ms S [] (length ms) refl)
 pub sent-some : (S : List Operation) → S ≢ [] → sent S ≡ S ∷ []
 sent-some [] h = absurd (h refl)
 sent-some (o ∷ S) h = refl
+
+-- pairs that are the same mean the same
+pub means-same : (p q g h : State (List ℕ) (List ℕ)) (w : World) (name : ℕ) → Same q p → Same h g → Means p g w name → Means q h w name
+means-same p q g h w name live group means = record {
+  seen = same-chain q p (state (w.seen name)) live means.seen;
+  outgoing = same-chain h g (state (w.outgoing name)) group means.outgoing;
+}

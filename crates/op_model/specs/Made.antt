@@ -52,8 +52,7 @@ removed_at S key = distinct_count same_dot (ids (shown S key))
 abbrev pub cleared_at : List Operation → ℕ
 cleared_at S = distinct_count same_dot (ids (shown_anywhere S))
 
--- The same at a state, whose context is a test and no list. Each holds of just one operation, but for the order
--- of what it observed.
+-- The same at a state, whose context is a test and no list.
 
 -- the dot is that of the name's next write: above each known one, and the first or next to a known one
 pub record IsNext (name : ℕ) (knows : Dot → Bool) (dot : Dot) : Type 0 where

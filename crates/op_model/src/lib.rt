@@ -18,8 +18,9 @@ pub use sets::{
 };
 pub use states::{
     greater_is_lawful, join_is_associative, join_is_commutative, join_is_idempotent, join_is_later,
+    join_is_read_at_places,
 };
 pub use worlds::{
     clears, delivers, events_elsewhere, flushes, ids_are_fresh, learns_a_set, messages_stay,
-    moves_are_sound, puts, removes,
+    moves_are_sound, nodes, puts, removes, same_pairs_mean_the_same,
 };

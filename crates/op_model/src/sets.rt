@@ -76,8 +76,10 @@ pub fn made_at_a_state()
     ensures cleared { (S : List Operation) (p : State (List ℕ) (List ℕ)) (n : ℕ) →
         Same p (state S) → Counts (StandsAnywhere p) n → n ≡ cleared_at S }
 
-    ensures put_there { (S : List Operation) (name : ℕ) (key value : List ℕ) →
-        IsPutAt (state S) name key value (write_at S name key value) }
-    ensures remove_there { (S : List Operation) (key : List ℕ) → IsRemoveAt (state S) key (ids (shown S key)) }
-    ensures clear_there { (S : List Operation) → IsClearAt (state S) (ids (shown_anywhere S)) }
+    ensures put_there { (S : List Operation) (p : State (List ℕ) (List ℕ)) (name : ℕ) (key value : List ℕ) →
+        Same p (state S) → IsPutAt p name key value (write_at S name key value) }
+    ensures remove_there { (S : List Operation) (p : State (List ℕ) (List ℕ)) (key : List ℕ) →
+        Same p (state S) → IsRemoveAt p key (ids (shown S key)) }
+    ensures clear_there { (S : List Operation) (p : State (List ℕ) (List ℕ)) →
+        Same p (state S) → IsClearAt p (ids (shown_anywhere S)) }
 {}

@@ -1,12 +1,12 @@
 //! The laws of worlds of replicas.
 
-ghost use Rattle.std.specs.Prelude.{◌≡◌, ◌≢◌, ◌↔◌, ◌++◌, ◌∷◌, [], ◌+◌, ◌≤◌, ℕ, List, false, length};
+ghost use Rattle.std.specs.Prelude.{◌≡◌, ◌≢◌, ◌↔◌, ◌++◌, ◌∷◌, [], ◌+◌, ◌≤◌, ◌==◌, ◌||◌, ℕ, List, false, length};
 ghost use Rattle.dots.specs.declared.dot.Dot.{Dot};
 ghost use Rattle.op_model.specs.State.{State, join, Same};
 ghost use Rattle.op_model.specs.Operation.{Write, Operation, Wrote, NoReuse, IsPartOf};
 ghost use Rattle.op_model.specs.Meaning.{greater, state};
 ghost use Rattle.op_model.specs.Made.{put_at, erasure, remove_at, clear_at, IsPutAt, IsRemoveAt, IsClearAt};
-ghost use Rattle.op_model.specs.World.{Event, Node, Put, Remove, Clear, Flush, Deliver, World, message, happens, after};
+ghost use Rattle.op_model.specs.World.{Event, Node, Put, Remove, Clear, Flush, Deliver, World, is_node, message, happens, after};
 ghost use Rattle.op_model.specs.World.{makes, sends, shows, learns};
 ghost use Rattle.op_model.specs.World.{IsSound, Means, IsUntouched, replica_of};
 
@@ -66,6 +66,21 @@ pub fn flushes()
         (after (events ++ Flush name ∷ [])).messages ≡ (after events).messages ++ (after events).outgoing name ∷ [] }
     ensures no_message { (events : List Event) (name : ℕ) → (after events).outgoing name ≡ [] →
         (after (events ++ Flush name ∷ [])).messages ≡ (after events).messages }
+{}
+
+/// A new replica's name is there from then on, and what pairs of that name meant they mean: so empty ones, where nothing
+/// happened under the name before.
+pub fn nodes()
+    ensures there { (events : List Event) (name n : ℕ) →
+        is_node (after (events ++ Node name ∷ [])) n ≡ (is_node (after events) n || name == n) }
+    ensures pairs { (events : List Event) (name n : ℕ) (p g : State (List ℕ) (List ℕ)) →
+        Means p g (after events) n → Means p g (after (events ++ Node name ∷ [])) n }
+{}
+
+/// Pairs that are the same as others mean the same: the pairs of a program are known by what stands in them.
+pub fn same_pairs_mean_the_same()
+    ensures { (w : World) (name : ℕ) (p q g h : State (List ℕ) (List ℕ)) →
+        Same q p → Same h g → Means p g w name → Means q h w name }
 {}
 
 /// An event is one more step of the world, and leaves every replica but its own as it was.

@@ -1,5 +1,4 @@
-use Rattle.op_model.proofs.Making.{put_made, remove_made, clear_made, put_dot, remove_count, clear_count, put_is_made}
-use Rattle.op_model.proofs.Showing.{dots_standing, dots_anywhere}
+use Rattle.op_model.proofs.Making.{put_made, remove_made, clear_made, put_dot, remove_count, clear_count, put_there, remove_there, clear_there}
 use Rattle.op_model.proofs.sets.made_at_a_state.Goals as goal
 
 pub returns-clause-put : goal.returns-clause-put
@@ -21,10 +20,10 @@ pub returns-clause-cleared : goal.returns-clause-cleared
 returns-clause-cleared c = λ S p n same. clear_count S p same n
 
 pub returns-clause-put_there : goal.returns-clause-put_there
-returns-clause-put_there c = put_is_made
+returns-clause-put_there c = λ S p name key value same. put_there S p same name key value
 
 pub returns-clause-remove_there : goal.returns-clause-remove_there
-returns-clause-remove_there c = dots_standing
+returns-clause-remove_there c = λ S p key same. remove_there S p same key
 
 pub returns-clause-clear_there : goal.returns-clause-clear_there
-returns-clause-clear_there c = dots_anywhere
+returns-clause-clear_there c = λ S p same. clear_there S p same
