@@ -1,1 +1,2 @@
+pub mod Dots
 pub mod Context

@@ -1,9 +1,11 @@
 ghost use Rattle.std.specs.Prelude.{◌≡◌, ◌-◌, ◌^◌, ◌↔◌, ◌||◌, false, IsTrue, IsNone, IfSome, IfOk, OnOk, OnErr, IsOkUnless};
+ghost use Rattle.std.specs.BTreeSet.{IsFromIterResult};
 ghost use Rattle.dots.specs.Dot.{DotValue, same_dot};
+ghost use Rattle.causal_context.specs.Dots.{dot_cmp};
 ghost use Rattle.causal_context.specs.Context.{has, HasNone, HasSame, Includes, IsGreatest, IsNext};
 
 use dots::{Dot, Name, Refusal};
-use std::alloc::{Allocator, Global};
+use std::alloc::{AllocError, Allocator, Global};
 use std::collections::BTreeSet;
 use std::marker::Model;
 
@@ -48,7 +50,7 @@ impl<A: Allocator + Copy> Context<A> {
     }
 
     /// The dot after the greatest of this name, which nothing of this context has used, or None where
-    /// the greatest has the number 2^64 - 1.
+    /// the greatest has the number 2^64 - 1. Takes time in the number of dots.
     pub fn next(&self, name: Name) -> Option<Dot>
         ensures next { IfSome result (IsNext name (has self.now)) }
         ensures unknown { IfSome result (λ dot. has self.now dot ≡ false) }
@@ -65,12 +67,13 @@ impl<A: Allocator + Copy> Context<A> {
     fn greatest(&self, name: Name) -> u64
         ensures { IsGreatest name (has self.now) result }
     {
-        let first = Dot::new(name, 1).unwrap();
-        let last = Dot::new(name, u64::MAX).unwrap();
-        match self.dots.range(first..=last).next_back() {
-            Some(dot) => dot.number(),
-            None => 0,
+        let mut greatest = 0;
+        for dot in &self.dots {
+            if dot.name() == name {
+                greatest = greatest.max(dot.number());
+            }
         }
+        greatest
     }
 
     /// Whether each dot of the other is in this one. Takes time in the number of dots of both.
@@ -85,13 +88,13 @@ impl<A: Allocator + Copy> Context<A> {
         ensures ok { IfOk result (HasSame self.now) }
         ensures err { IsOkUnless result Refusal.OutOfMemory }
     {
-        let dots = self.dots.iter().copied().collect(alloc)?;
+        let dots = copied(alloc, &self.dots)?;
         Ok(Context { dots, alloc })
     }
 
     /// Adds the dot. A refused call leaves the context as it was.
     pub fn add(&mut self, dot: Dot) -> Result<(), Refusal>
-        ensures ok { OnOk result ((d : DotValue) → has self.new d ≡ (same_dot d dot || has self.old d)) }
+        ensures ok { OnOk result ((d : DotValue) → has self.new d ≡ (same_dot dot d || has self.old d)) }
         ensures unchanged { OnErr result (HasSame self.new self.old) }
         ensures err { IsOkUnless result Refusal.OutOfMemory }
     {
@@ -111,4 +114,14 @@ impl<A: Allocator + Copy> Context<A> {
         *self = both;
         Ok(())
     }
+}
+
+// The same set on another allocator.
+fn copied<A: Allocator + Copy>(
+    alloc: A,
+    dots: &BTreeSet<Dot, A>,
+) -> Result<BTreeSet<Dot, A>, AllocError>
+    ensures { IfOk result (IsFromIterResult dot_cmp dots.now.keys) }
+{
+    dots.iter().copied().collect(alloc)
 }
