@@ -1,4 +1,4 @@
-ghost use Rattle.std.specs.Prelude.{◌≡◌, ◌↔◌, ¬_, IsTrue, IsNone, IfSome, IfOk, OnOk, OnErr, IsOkUnless};
+ghost use Rattle.std.specs.Prelude.{◌≡◌, ◌↔◌, IsTrue, IsNone, IfSome, IfOk, OnOk, OnErr, IsOkUnless};
 ghost use Rattle.causal_context.specs.Context.{has, HasNone, HasSame};
 ghost use Rattle.op_model.specs.State.{join, Same, IsInside};
 ghost use Rattle.dot_store.specs.Store.{HasNothing, HoldsSame, state_with};

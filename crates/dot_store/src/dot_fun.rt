@@ -1,14 +1,15 @@
-ghost use Rattle.std.specs.Prelude.{◌≡◌, ◌↔◌, cond, Some, IfOk, OnOk, OnErr, IsOkUnless, List, Contains};
+ghost use Rattle.std.specs.Prelude.{◌≡◌, ◌↔◌, cond, Some, None, is_some, IsTrue, IfOk, OnOk, OnErr, IsOkUnless, List, Contains};
 ghost use Rattle.std.specs.Option.{option_copied};
 ghost use Rattle.std.specs.Ordering.{ord_max};
 ghost use Rattle.std.specs.BTreeMap.{get};
 ghost use Rattle.dots.specs.Dot.{DotValue, same_dot};
 ghost use Rattle.causal_context.specs.Context.{has};
-ghost use Rattle.op_model.specs.State.{joined};
-ghost use Rattle.dot_store.specs.Stores.{at_values};
+ghost use Rattle.causal_context.specs.Dots.{dot_cmp};
+ghost use Rattle.dot_store.specs.Stores.{at_values, joined_value};
 ghost use Rattle.dot_store.specs.Greater.{ord_max-comm, ord_max-assoc, ord_max-idem};
 
 use crate::kept::Kept;
+use crate::put::{put, put_some};
 use crate::store::DotStore;
 use causal_context::Context;
 use dots::{Dot, Refusal};
@@ -53,12 +54,11 @@ impl<V: Drop, A: Allocator + Copy> DotFun<V, A> {
     /// Puts the value at the dot, in place of what was there. A refused call leaves the map as it was.
     pub fn insert(&mut self, dot: Dot, value: V) -> Result<(), Refusal>
         ensures ok { OnOk result ((place : _) (d : DotValue)
-            → at_values self.new place d ≡ cond (same_dot d dot) (Some value) (at_values self.old place d)) }
+            → at_values self.new place d ≡ cond (same_dot dot d) (Some value) (at_values self.old place d)) }
         ensures unchanged { OnErr result (self.new ≡ self.old) }
         ensures err { IsOkUnless result Refusal.OutOfMemory }
     {
-        self.values.insert(dot, value)?;
-        Ok(())
+        put(&mut self.values, dot, value)
     }
 }
 
@@ -71,8 +71,8 @@ fn joined_at<V: Kept<A>, A: Allocator + Copy>(
     yours: &BTreeMap<Dot, V, A>,
     theirs: &Context<A>,
 ) -> Result<Option<V>, Refusal>
-    ensures ok { IfOk result (λ kept. kept ≡ joined (ord_max V.cmp) (get ⟦<Dot as Ord>⟧.cmp mine.now dot) (has own.now dot)
-        (get ⟦<Dot as Ord>⟧.cmp yours.now dot) (has theirs.now dot)) }
+    ensures ok { IfOk result (λ kept. kept ≡ joined_value (ord_max V.cmp)
+        (get dot_cmp mine.now) (has own.now) (get dot_cmp yours.now) (has theirs.now) dot) }
     ensures err { IsOkUnless result Refusal.OutOfMemory }
 {
     let kept = match (mine.get(&dot), yours.get(&dot)) {
@@ -90,7 +90,7 @@ fn greater_of<'a, V: Ord>(x: &'a V, y: &'a V) -> &'a V
     if y.cmp(x).is_lt() { x } else { y }
 }
 
-// The join at my dots.
+// The join at my dots, and nothing elsewhere.
 fn join_mine<V: Kept<A>, A: Allocator + Copy>(
     alloc: A,
     mine: &BTreeMap<Dot, V, A>,
@@ -98,13 +98,14 @@ fn join_mine<V: Kept<A>, A: Allocator + Copy>(
     yours: &BTreeMap<Dot, V, A>,
     theirs: &Context<A>,
 ) -> Result<BTreeMap<Dot, V, A>, Refusal>
+    ensures ok { IfOk result (λ kept. (d : DotValue) → get dot_cmp kept d ≡ cond (is_some (get dot_cmp mine.now d))
+        (joined_value (ord_max V.cmp) (get dot_cmp mine.now) (has own.now) (get dot_cmp yours.now) (has theirs.now) d) None) }
     ensures err { IsOkUnless result Refusal.OutOfMemory }
 {
     let mut kept = BTreeMap::new(alloc);
     for dot in mine.keys() {
-        if let Some(value) = joined_at(alloc, *dot, mine, own, yours, theirs)? {
-            kept.insert(*dot, value)?;
-        }
+        let value = joined_at(alloc, *dot, mine, own, yours, theirs)?;
+        put_some(alloc, &mut kept, dot, value)?;
     }
     Ok(kept)
 }
@@ -118,15 +119,18 @@ fn join_yours<V: Kept<A>, A: Allocator + Copy>(
     yours: &BTreeMap<Dot, V, A>,
     theirs: &Context<A>,
 ) -> Result<(), Refusal>
+    requires { (d : DotValue) → get dot_cmp mine.now d ≡ None → get dot_cmp kept.old d ≡ None }
+    ensures ok { OnOk result ((d : DotValue) → get dot_cmp kept.new d
+        ≡ cond (is_some (get dot_cmp mine.now d)) (get dot_cmp kept.old d)
+        (joined_value (ord_max V.cmp) (get dot_cmp mine.now) (has own.now) (get dot_cmp yours.now) (has theirs.now) d)) }
     ensures err { IsOkUnless result Refusal.OutOfMemory }
 {
     for dot in yours.keys() {
         if mine.contains_key(dot) {
             continue;
         }
-        if let Some(value) = joined_at(alloc, *dot, mine, own, yours, theirs)? {
-            kept.insert(*dot, value)?;
-        }
+        let value = joined_at(alloc, *dot, mine, own, yours, theirs)?;
+        put_some(alloc, kept, dot, value)?;
     }
     Ok(())
 }
@@ -185,7 +189,7 @@ impl<V: Kept<A>, A: Allocator + Copy> DotStore<A> for DotFun<V, A> {
     fn copy(&self, alloc: A) -> Result<DotFun<V, A>, Refusal> {
         let mut values = BTreeMap::new(alloc);
         for (dot, value) in &self.values {
-            values.insert(*dot, value.copy(alloc)?)?;
+            put(&mut values, *dot, value.copy(alloc)?)?;
         }
         Ok(DotFun { values })
     }
@@ -205,7 +209,9 @@ impl<V: Kept<A>, A: Allocator + Copy> DotStore<A> for DotFun<V, A> {
 fn values_inside<V: Kept<A>, A: Allocator + Copy>(
     mine: &BTreeMap<Dot, V, A>,
     yours: &BTreeMap<Dot, V, A>,
-) -> bool {
+) -> bool
+    ensures { IsTrue result ↔ ((d : DotValue) (v : V) → get dot_cmp mine.now d ≡ Some v → get dot_cmp yours.now d ≡ Some v) }
+{
     for (dot, value) in mine {
         match yours.get(dot) {
             Some(theirs) => {

@@ -1,12 +1,13 @@
-ghost use Rattle.std.specs.Prelude.{◌≡◌, ¬_, Option, cond, Some, None, IsSome, IfSome, IfOk, OnOk, OnErr, IsOkUnless, List, Contains};
+ghost use Rattle.std.specs.Prelude.{◌≡◌, ◌↔◌, cond, Some, None, is_some, IsTrue, IsSome, IfSome, IfOk, OnOk, OnErr, IsOkUnless, List, Contains};
 ghost use Rattle.std.specs.Option.{option_copied};
+ghost use Rattle.std.specs.BTreeMap.{get};
 ghost use Rattle.dots.specs.Dot.{DotValue};
 ghost use Rattle.causal_context.specs.Context.{has};
-ghost use Rattle.op_model.specs.State.{joined};
 ghost use Rattle.dot_store.specs.Store.{HasNothing, HoldsSame};
-ghost use Rattle.dot_store.specs.Stores.{at_stores, held_by, with_store, NoKeyIsEmpty};
+ghost use Rattle.dot_store.specs.Stores.{at_stores, held_by, joined_store, with_store, NoKeyIsEmpty};
 
 use crate::kept::Kept;
+use crate::put::{put, put_some};
 use crate::store::DotStore;
 use causal_context::Context;
 use dots::{Dot, Refusal};
@@ -68,8 +69,7 @@ impl<K: Kept<A>, S: DotStore<A>, A: Allocator + Copy> DotMap<K, S, A> {
             self.stores.remove(&key);
             return Ok(());
         }
-        self.stores.insert(key, store)?;
-        Ok(())
+        put(&mut self.stores, key, store)
     }
 }
 
@@ -82,6 +82,9 @@ fn joined_at<K: Kept<A>, S: DotStore<A>, A: Allocator + Copy>(
     yours: &BTreeMap<K, S, A>,
     theirs: &Context<A>,
 ) -> Result<Option<S>, Refusal>
+    ensures ok { IfOk result (λ kept. HoldsSame (held_by S.at kept)
+        (joined_store S.at S.greater (get K.cmp mine.now key.now) (has own.now) (get K.cmp yours.now key.now) (has theirs.now))) }
+    ensures filled { IfOk result (λ kept. IfSome kept (λ store. ¬ HasNothing (S.at store))) }
     ensures err { IsOkUnless result Refusal.OutOfMemory }
 {
     let empty = S::empty(alloc);
@@ -100,7 +103,7 @@ fn joined_at<K: Kept<A>, S: DotStore<A>, A: Allocator + Copy>(
     Ok(Some(both))
 }
 
-// The join at my keys.
+// The join at my keys, and nothing elsewhere.
 fn join_mine<K: Kept<A>, S: DotStore<A>, A: Allocator + Copy>(
     alloc: A,
     mine: &BTreeMap<K, S, A>,
@@ -108,13 +111,16 @@ fn join_mine<K: Kept<A>, S: DotStore<A>, A: Allocator + Copy>(
     yours: &BTreeMap<K, S, A>,
     theirs: &Context<A>,
 ) -> Result<BTreeMap<K, S, A>, Refusal>
+    ensures ok { IfOk result (λ kept. (q : K) (place : S.Place) (d : DotValue)
+        → held_by S.at (get K.cmp kept q) place d ≡ cond (is_some (get K.cmp mine.now q))
+        (joined_store S.at S.greater (get K.cmp mine.now q) (has own.now) (get K.cmp yours.now q) (has theirs.now) place d) None) }
+    ensures filled { IfOk result (λ kept. NoKeyIsEmpty S.at kept.entries) }
     ensures err { IsOkUnless result Refusal.OutOfMemory }
 {
     let mut kept = BTreeMap::new(alloc);
     for key in mine.keys() {
-        if let Some(store) = joined_at(alloc, key, mine, own, yours, theirs)? {
-            kept.insert(key.copy(alloc)?, store)?;
-        }
+        let store = joined_at(alloc, key, mine, own, yours, theirs)?;
+        put_some(alloc, &mut kept, key, store)?;
     }
     Ok(kept)
 }
@@ -128,15 +134,22 @@ fn join_yours<K: Kept<A>, S: DotStore<A>, A: Allocator + Copy>(
     yours: &BTreeMap<K, S, A>,
     theirs: &Context<A>,
 ) -> Result<(), Refusal>
+    requires mine { (q : K) (place : S.Place) (d : DotValue)
+        → get K.cmp mine.now q ≡ None → held_by S.at (get K.cmp kept.old q) place d ≡ None }
+    requires filled { NoKeyIsEmpty S.at kept.old.entries }
+    ensures ok { OnOk result ((q : K) (place : S.Place) (d : DotValue)
+        → held_by S.at (get K.cmp kept.new q) place d ≡ cond (is_some (get K.cmp mine.now q))
+        (held_by S.at (get K.cmp kept.old q) place d)
+        (joined_store S.at S.greater (get K.cmp mine.now q) (has own.now) (get K.cmp yours.now q) (has theirs.now) place d)) }
+    ensures still_filled { OnOk result (NoKeyIsEmpty S.at kept.new.entries) }
     ensures err { IsOkUnless result Refusal.OutOfMemory }
 {
     for key in yours.keys() {
         if mine.contains_key(key) {
             continue;
         }
-        if let Some(store) = joined_at(alloc, key, mine, own, yours, theirs)? {
-            kept.insert(key.copy(alloc)?, store)?;
-        }
+        let store = joined_at(alloc, key, mine, own, yours, theirs)?;
+        put_some(alloc, kept, key, store)?;
     }
     Ok(())
 }
@@ -145,7 +158,11 @@ fn join_yours<K: Kept<A>, S: DotStore<A>, A: Allocator + Copy>(
 fn stores_inside<K: Kept<A>, S: DotStore<A>, A: Allocator + Copy>(
     mine: &BTreeMap<K, S, A>,
     yours: &BTreeMap<K, S, A>,
-) -> bool {
+) -> bool
+    requires { NoKeyIsEmpty S.at mine.now.entries }
+    ensures { IsTrue result ↔ ((q : K) (store : S) → get K.cmp mine.now q ≡ Some store
+        → HoldsSame (S.at store) (held_by S.at (get K.cmp yours.now q))) }
+{
     for (key, store) in mine {
         match yours.get(key) {
             Some(theirs) => {
@@ -179,7 +196,7 @@ impl<K: Kept<A>, S: DotStore<A>, A: Allocator + Copy> DotStore<A> for DotMap<K, 
     }
 
     fn contains(&self, dot: Dot) -> bool {
-        for store in self.stores.values() {
+        for (_, store) in &self.stores {
             if store.contains(dot) {
                 return true;
             }
@@ -188,7 +205,7 @@ impl<K: Kept<A>, S: DotStore<A>, A: Allocator + Copy> DotStore<A> for DotMap<K, 
     }
 
     fn is_inside(&self, context: &Context<A>) -> bool {
-        for store in self.stores.values() {
+        for (_, store) in &self.stores {
             if !store.is_inside(context) {
                 return false;
             }
@@ -197,7 +214,7 @@ impl<K: Kept<A>, S: DotStore<A>, A: Allocator + Copy> DotStore<A> for DotMap<K, 
     }
 
     fn add_dots(&self, context: &mut Context<A>) -> Result<(), Refusal> {
-        for store in self.stores.values() {
+        for (_, store) in &self.stores {
             store.add_dots(context)?;
         }
         Ok(())
@@ -218,7 +235,7 @@ impl<K: Kept<A>, S: DotStore<A>, A: Allocator + Copy> DotStore<A> for DotMap<K, 
     fn copy(&self, alloc: A) -> Result<DotMap<K, S, A>, Refusal> {
         let mut stores = BTreeMap::new(alloc);
         for (key, store) in &self.stores {
-            stores.insert(key.copy(alloc)?, store.copy(alloc)?)?;
+            put(&mut stores, key.copy(alloc)?, store.copy(alloc)?)?;
         }
         Ok(DotMap { stores })
     }

@@ -1,13 +1,14 @@
-ghost use Rattle.std.specs.Prelude.{◌≡◌, ◌&&◌, ◌||◌, not, cond, Some, refl, OnOk, OnErr, IsOkUnless, List};
-ghost use Rattle.std.specs.BTreeSet.{contains};
+ghost use Rattle.std.specs.Prelude.{◌≡◌, ◌&&◌, ◌||◌, not, cond, Some, refl, IfOk, OnOk, OnErr, IsOkUnless, List};
+ghost use Rattle.std.specs.BTreeSet.{contains, IsFromIterResult};
 ghost use Rattle.dots.specs.Dot.{DotValue, same_dot};
 ghost use Rattle.causal_context.specs.Context.{has};
+ghost use Rattle.causal_context.specs.Dots.{dot_cmp};
 ghost use Rattle.dot_store.specs.Stores.{at_dots, greater_unit};
 
 use crate::store::DotStore;
 use causal_context::Context;
 use dots::{Dot, Refusal};
-use std::alloc::{Allocator, Global};
+use std::alloc::{AllocError, Allocator, Global};
 use std::collections::BTreeSet;
 use std::marker::Model;
 
@@ -32,7 +33,7 @@ impl<A: Allocator + Copy> DotSet<A> {
     /// Adds the dot. A refused call leaves the set as it was.
     pub fn insert(&mut self, dot: Dot) -> Result<(), Refusal>
         ensures ok { OnOk result ((place : _) (d : DotValue)
-            → at_dots self.new place d ≡ cond (same_dot d dot) (Some tt) (at_dots self.old place d)) }
+            → at_dots self.new place d ≡ cond (same_dot dot d) (Some tt) (at_dots self.old place d)) }
         ensures unchanged { OnErr result (self.new ≡ self.old) }
         ensures err { IsOkUnless result Refusal.OutOfMemory }
     {
@@ -48,18 +49,35 @@ fn keep_dots<A: Allocator + Copy>(
     yours: &BTreeSet<Dot, A>,
     theirs: &Context<A>,
 ) -> Result<(), Refusal>
-    ensures ok { OnOk result ((d : DotValue) → contains ⟦<Dot as Ord>⟧.cmp kept.new d
-        ≡ (contains ⟦<Dot as Ord>⟧.cmp kept.old d
-        || (contains ⟦<Dot as Ord>⟧.cmp mine.now d
-        && (contains ⟦<Dot as Ord>⟧.cmp yours.now d || not (has theirs.now d))))) }
+    ensures ok { OnOk result ((d : DotValue) → contains dot_cmp kept.new d
+        ≡ (contains dot_cmp kept.old d
+        || (contains dot_cmp mine.now d
+        && (contains dot_cmp yours.now d || not (has theirs.now d))))) }
     ensures err { IsOkUnless result Refusal.OutOfMemory }
 {
     for dot in mine {
-        if yours.contains(dot) || !theirs.contains(*dot) {
+        if is_kept(*dot, yours, theirs) {
             kept.insert(*dot)?;
         }
     }
     Ok(())
+}
+
+// Whether the join keeps a dot of mine.
+fn is_kept<A: Allocator + Copy>(dot: Dot, yours: &BTreeSet<Dot, A>, theirs: &Context<A>) -> bool
+    ensures { result ≡ (contains dot_cmp yours.now dot || not (has theirs.now dot)) }
+{
+    yours.contains(&dot) || !theirs.contains(dot)
+}
+
+// The same set on another allocator.
+fn copied<A: Allocator + Copy>(
+    alloc: A,
+    dots: &BTreeSet<Dot, A>,
+) -> Result<BTreeSet<Dot, A>, AllocError>
+    ensures { IfOk result (IsFromIterResult dot_cmp dots.now.keys) }
+{
+    dots.iter().copied().collect(alloc)
 }
 
 impl<A: Allocator + Copy> DotStore<A> for DotSet<A> {
@@ -115,7 +133,7 @@ impl<A: Allocator + Copy> DotStore<A> for DotSet<A> {
     }
 
     fn copy(&self, alloc: A) -> Result<DotSet<A>, Refusal> {
-        let dots = self.dots.iter().copied().collect(alloc)?;
+        let dots = copied(alloc, &self.dots)?;
         Ok(DotSet { dots })
     }
 

@@ -1,8 +1,9 @@
 ghost use Rattle.std.specs.Prelude.{◌≡◌, IfOk, IsOkUnless};
 ghost use Rattle.std.specs.declared.cmp.Ordering.TheVariants.{Equal};
 ghost use Rattle.std.proofs.lemmas.Map.Lookups.{exact_bytes};
+ghost use Rattle.causal_context.proofs.Dots.{dot_exact};
 
-use dots::{Key, Refusal, Value};
+use dots::{Dot, Key, Refusal, Value};
 use std::alloc::Allocator;
 
 /// What can be a key of a `DotMap` or a value of a `DotFun`: it can be copied, a copy is equal, and two that
@@ -29,5 +30,13 @@ impl<A: Allocator + Copy> Kept<A> for Value<A> {
 
     fn copy(&self, alloc: A) -> Result<Value<A>, Refusal> {
         self.copy(alloc)
+    }
+}
+
+impl<A: Allocator + Copy> Kept<A> for Dot {
+    ghost exact = { dot_exact };
+
+    fn copy(&self, _alloc: A) -> Result<Dot, Refusal> {
+        Ok(*self)
     }
 }

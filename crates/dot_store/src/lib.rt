@@ -7,6 +7,7 @@ mod dot_fun;
 mod dot_map;
 mod dot_set;
 mod kept;
+mod put;
 mod store;
 
 pub use dot_fun::DotFun;
