@@ -1,0 +1,4 @@
+pub mod Reached
+pub mod Dots
+pub mod Gathered
+pub mod Values

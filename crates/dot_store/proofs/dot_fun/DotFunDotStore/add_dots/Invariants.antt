@@ -1,0 +1,8 @@
+use Rattle.causal_context.specs.Context.{has}
+use Rattle.dot_store.specs.Store.{HoldsDot}
+use Rattle.dot_store.specs.Stores.{at_values}
+use Rattle.dot_store.proofs.Gathered.{Gathered}
+use Rattle.dot_store.proofs.dot_fun.DotFunDotStore.add_dots.Given as goal
+
+abbrev pub invariant-loop-dot : goal.invariant-loop-dot
+invariant-loop-dot g l = Gathered (HoldsDot (at_values l.self)) (has l.initial.context) (has l.context) (λ x. x.now) l.yielded

@@ -1,0 +1,97 @@
+ghost use Rattle.std.specs.Prelude.{◌≡◌, ◌↔◌, ◌⊎◌, Option, None, false, IsTrue, IsSome, IfOk, OnOk, OnErr, IsOkUnless};
+ghost use Rattle.dots.specs.Dot.{DotValue};
+ghost use Rattle.causal_context.specs.Context.{has, HasSame};
+ghost use Rattle.op_model.specs.State.{join, IsInside};
+ghost use Rattle.dot_store.specs.Store.{HasNothing, HoldsDot, HoldsSame, state_with};
+
+use causal_context::Context;
+use dots::{Dot, Refusal};
+use std::alloc::Allocator;
+
+/// A dot store: it holds things at dots, each at a place.
+///
+/// A store knows no context. `join` is handed the contexts of both sides, since a dot that one side lacks
+/// and knows was removed there. Each refusal is OutOfMemory.
+pub trait DotStore<A: Allocator + Copy>: Drop {
+    /// Where a dot can stand: the keys that lead there.
+    type Place;
+
+    /// What can be held at a dot.
+    type Held;
+
+    ghost at: { Self → Self.Place → DotValue → Option Self.Held };
+
+    ghost greater: { Self.Held → Self.Held → Self.Held };
+
+    /// The store that holds nothing. Takes no memory.
+    fn empty(alloc: A) -> Self
+        ensures { HasNothing (at result) };
+
+    /// Whether the store holds nothing.
+    fn is_empty(&self) -> bool
+        ensures { IsTrue result ↔ HasNothing (at self.now) };
+
+    /// Whether something is held at the dot, at some place.
+    fn contains(&self, dot: Dot) -> bool
+        ensures found { IsTrue result → HoldsDot (at self.now) dot }
+        ensures absent { result ≡ false → (place : Self.Place) → at self.now place dot ≡ None };
+
+    /// Whether each dot of the store is in the context. Takes no memory.
+    fn is_inside(&self, context: &Context<A>) -> bool
+        ensures { IsTrue result ↔ IsInside (state_with (at self.now) (has context.now)) };
+
+    /// Adds each dot of the store to the context. A refused call may have added some of them:
+    /// `dots_into` is the call that then adds none.
+    fn add_dots(&self, context: &mut Context<A>) -> Result<(), Refusal>
+        ensures kept { (d : DotValue) → IsTrue (has context.old d) → IsTrue (has context.new d) }
+        ensures only { (d : DotValue) → IsTrue (has context.new d)
+            → IsTrue (has context.old d) ⊎ HoldsDot (at self.now) d }
+        ensures added { OnOk result ((place : Self.Place) (d : DotValue)
+            → IsSome (at self.now place d) → IsTrue (has context.new d)) }
+        ensures err { IsOkUnless result Refusal.OutOfMemory };
+
+    /// Adds each dot of the store to the context. A refused call leaves the context as it was, so the
+    /// new one is made in a copy.
+    fn dots_into(&self, context: &mut Context<A>) -> Result<(), Refusal>
+        ensures kept { (d : DotValue) → IsTrue (has context.old d) → IsTrue (has context.new d) }
+        ensures only { (d : DotValue) → IsTrue (has context.new d)
+            → IsTrue (has context.old d) ⊎ HoldsDot (at self.now) d }
+        ensures added { OnOk result ((place : Self.Place) (d : DotValue)
+            → IsSome (at self.now place d) → IsTrue (has context.new d)) }
+        ensures unchanged { OnErr result (HasSame context.new context.old) }
+        ensures err { IsOkUnless result Refusal.OutOfMemory }
+    {
+        let mut both = context.copy(context.allocator())?;
+        self.add_dots(&mut both)?;
+        *context = both;
+        Ok(())
+    }
+
+    /// The causal join of this store under its context and the other under its context: at each place and
+    /// dot, of two things held the greater, and what one side alone holds where the other does not know it.
+    fn join(
+        &self,
+        alloc: A,
+        own: &Context<A>,
+        other: &Self,
+        theirs: &Context<A>,
+    ) -> Result<Self, Refusal>
+        ensures ok { IfOk result (λ both. HoldsSame (at both)
+            (join greater (state_with (at self.now) (has own.now)) (state_with (at other.now) (has theirs.now))).at) }
+        ensures err { IsOkUnless result Refusal.OutOfMemory };
+
+    /// A store that holds the same, on this allocator.
+    fn copy(&self, alloc: A) -> Result<Self, Refusal>
+        ensures ok { IfOk result (λ copy. HoldsSame (at copy) (at self.now)) }
+        ensures err { IsOkUnless result Refusal.OutOfMemory };
+
+    /// Whether the two stores hold the same. Takes no memory.
+    fn same(&self, other: &Self) -> bool
+        ensures { IsTrue result ↔ HoldsSame (at self.now) (at other.now) };
+
+    ghost greater_comm: { (x y : Self.Held) → greater x y ≡ greater y x };
+
+    ghost greater_assoc: { (x y z : Self.Held) → greater (greater x y) z ≡ greater x (greater y z) };
+
+    ghost greater_idem: { (x : Self.Held) → greater x x ≡ x };
+}
