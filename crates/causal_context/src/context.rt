@@ -42,6 +42,13 @@ impl<A: Allocator + Copy> Context<A> {
         self.alloc
     }
 
+    /// Whether no dot is in the context. Takes no memory.
+    pub fn is_empty(&self) -> bool
+        ensures { IsTrue result ↔ HasNone self.now }
+    {
+        self.dots.is_empty()
+    }
+
     /// Whether the dot is in the context. Takes time in the logarithm of the number of dots.
     pub fn contains(&self, dot: Dot) -> bool
         ensures { result ≡ has self.now dot }

@@ -5,12 +5,11 @@ ghost use Rattle.std.specs.Ordering.{eq_by_cmp, nat_cmp, as_partial_cmp};
 ghost use Rattle.dots.specs.Bytes.{MAX_LENGTH};
 ghost use Rattle.dots.specs.declared.refusal.Refusal.TheVariants.{OutOfMemory, TooLong};
 
+use crate::refusal::Refusal;
 use std::alloc::{Allocator, Global};
 use std::cmp::Ordering;
 use std::fmt;
 use std::marker::Model;
-
-use crate::refusal::Refusal;
 
 /// A text of 0 to 65,535 bytes, which a key or a value is made of. Ordered by its bytes.
 #[derive(Drop)]

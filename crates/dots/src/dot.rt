@@ -1,8 +1,7 @@
 ghost use Rattle.std.specs.Prelude.{◌≡◌, ◌≢◌, ◌≤◌, ◌↔◌, IsSome, IfSome};
 
-use std::marker::Model;
-
 use crate::name::Name;
+use std::marker::Model;
 
 /// One write of one replica: the replica's name, and the write's number there, from 1 to 2^64 - 1.
 /// Dots are ordered by name, then by number.

@@ -1,11 +1,10 @@
 ghost use Rattle.std.specs.Prelude.{◌≡◌, ◌<◌, ◌≤◌, ◌↔◌, ◌⊎◌, length, IfOk, IfErr, IsErrOf, IsOkUnless};
 ghost use Rattle.dots.specs.Bytes.{MAX_LENGTH};
 
-use std::alloc::{Allocator, Global};
-use std::marker::Model;
-
 use crate::bytes::Bytes;
 use crate::refusal::Refusal;
+use std::alloc::{Allocator, Global};
+use std::marker::Model;
 
 /// A key of the map: 0 to 65,535 bytes. Equality and order are those of the bytes.
 #[derive(Drop)]
