@@ -22,5 +22,5 @@ pub use states::{
 };
 pub use worlds::{
     clears, delivers, events_elsewhere, flushes, ids_are_fresh, learns_a_set, messages_stay,
-    moves_are_sound, nodes, puts, removes, same_pairs_mean_the_same,
+    moves_are_sound, nodes, puts, removes, replicas_show, same_pairs_mean_the_same,
 };
