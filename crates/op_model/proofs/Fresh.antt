@@ -250,3 +250,6 @@ fold-push (f ∷ events) e w = fold-push events e (happens w f)
 
 pub after-push : (events : List Event) (e : Event) → after (events ++ e ∷ []) ≡ happens (after events) e
 after-push events e = fold-push events e nothing
+
+pub seen-NoReuse : (events : List Event) (name : ℕ) → NoReuse ((after events).seen name)
+seen-NoReuse events name = NoReuse-part ((after events).seen name) (after events).made ((sound-after events).seen name) (sound-after events).no_reuse

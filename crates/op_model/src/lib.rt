@@ -17,10 +17,10 @@ pub use sets::{
     made_at_a_state, same_operations, standing, states_join, states_of_operations, what_is_shown,
 };
 pub use states::{
-    greater_is_lawful, join_is_associative, join_is_commutative, join_is_idempotent, join_is_later,
-    join_is_read_at_places,
+    bytes_are_in_order, greater_is_lawful, join_is_associative, join_is_commutative,
+    join_is_idempotent, join_is_later, join_is_read_at_places,
 };
 pub use worlds::{
     clears, delivers, events_elsewhere, flushes, ids_are_fresh, learns_a_set, messages_stay,
-    moves_are_sound, nodes, puts, removes, same_pairs_mean_the_same,
+    moves_are_sound, nodes, puts, removes, replicas_show, same_pairs_mean_the_same,
 };

@@ -1,10 +1,11 @@
 //! The laws of worlds of replicas.
 
-ghost use Rattle.std.specs.Prelude.{◌≡◌, ◌≢◌, ◌↔◌, ◌++◌, ◌∷◌, [], ◌+◌, ◌≤◌, ◌==◌, ◌||◌, ℕ, List, false, length};
+ghost use Rattle.std.specs.Prelude.{◌≡◌, ◌≢◌, ◌↔◌, ◌++◌, ◌∷◌, [], ◌+◌, ◌≤◌, ◌==◌, ◌||◌, ℕ, List, false, length, Contains};
 ghost use Rattle.dots.specs.declared.dot.Dot.{Dot};
 ghost use Rattle.op_model.specs.State.{State, join, Same};
-ghost use Rattle.op_model.specs.Operation.{Write, Operation, Wrote, NoReuse, IsPartOf};
-ghost use Rattle.op_model.specs.Meaning.{greater, state};
+ghost use Rattle.op_model.specs.Operation.{Write, Operation, Wrote, NoReuse, IsPartOf, has, known};
+ghost use Rattle.op_model.specs.Shown.{values, keys, IsAscending};
+ghost use Rattle.op_model.specs.Meaning.{greater, state, Stands, HoldsKey};
 ghost use Rattle.op_model.specs.Made.{put_at, erasure, remove_at, clear_at, IsPutAt, IsRemoveAt, IsClearAt};
 ghost use Rattle.op_model.specs.World.{Event, Node, Put, Remove, Clear, Flush, Deliver, World, is_node, message, happens, after};
 ghost use Rattle.op_model.specs.World.{makes, sends, shows, learns};
@@ -15,6 +16,7 @@ ghost use Rattle.op_model.specs.World.{IsSound, Means, IsUntouched, replica_of};
 pub fn ids_are_fresh()
     ensures no_reuse { (events : List Event) → NoReuse (after events).made }
     ensures sound { (events : List Event) → IsSound (after events) }
+    ensures seen { (events : List Event) (name : ℕ) → NoReuse ((after events).seen name) }
 {}
 
 /// A live pair and a group that mean what a replica has seen and is to send mean it again after a put, where both were
@@ -75,6 +77,19 @@ pub fn nodes()
         is_node (after (events ++ Node name ∷ [])) n ≡ (is_node (after events) n || name == n) }
     ensures pairs { (events : List Event) (name n : ℕ) (p g : State (List ℕ) (List ℕ)) →
         Means p g (after events) n → Means p g (after (events ++ Node name ∷ [])) n }
+{}
+
+/// What a replica shows: of a live pair that means what it has seen, an ascending list of just the values that stand at
+/// a key is `values` of what it has seen, and one of just the keys at which something stands is its `keys`.
+pub fn replicas_show()
+    ensures values { (events : List Event) (name : ℕ) (p g : State (List ℕ) (List ℕ)) (key : List ℕ) (found : List (List ℕ)) →
+        Means p g (after events) name → IsAscending found →
+        ((value : List ℕ) → Contains found value ↔ Stands p key value) → found ≡ values ((after events).seen name) key }
+    ensures keys { (events : List Event) (name : ℕ) (p g : State (List ℕ) (List ℕ)) (found : List (List ℕ)) →
+        Means p g (after events) name → IsAscending found →
+        ((key : List ℕ) → Contains found key ↔ HoldsKey p key) → found ≡ keys ((after events).seen name) }
+    ensures known { (events : List Event) (name : ℕ) (p g : State (List ℕ) (List ℕ)) (dot : Dot) →
+        Means p g (after events) name → p.has dot ≡ has (known ((after events).seen name)) dot }
 {}
 
 /// Pairs that are the same as others mean the same: the pairs of a program are known by what stands in them.

@@ -1,4 +1,4 @@
-use Rattle.op_model.proofs.Fresh.{sound-after}
+use Rattle.op_model.proofs.Fresh.{sound-after, seen-NoReuse}
 use Rattle.op_model.proofs.worlds.ids_are_fresh.Goals as goal
 
 pub returns-clause-no_reuse : goal.returns-clause-no_reuse
@@ -6,3 +6,6 @@ returns-clause-no_reuse c = λ events. (sound-after events).no_reuse
 
 pub returns-clause-sound : goal.returns-clause-sound
 returns-clause-sound c = sound-after
+
+pub returns-clause-seen : goal.returns-clause-seen
+returns-clause-seen c = seen-NoReuse
