@@ -2,10 +2,12 @@
 -- that stands there, and which dots are known. After Almeida, Shoker and Baquero, "Delta State Replicated Data Types"
 -- (2018): the observed-remove map of multi-value registers is a map from keys to maps from dots to values.
 use Rattle.std.specs.Prelude.{ℕ, List}
-use Rattle.causal_context.specs.Context.{ContextValue, has}
+use Rattle.causal_context.specs.Context.{ContextValue}
+use Rattle.causal_join.specs.Causal.{state_of}
 use Rattle.dot_store.specs.Stores.{at_stores, at_values}
 use Rattle.dots.specs.Dot.{DotValue}
 use Rattle.op_model.specs.Shown.{bytes_cmp}
+use Rattle.op_model.specs.Places.{read_at}
 use Rattle.op_model.specs.State.{State}
 
 -- what a contract sees of the store: keys with their dots and values
@@ -18,4 +20,4 @@ PairValue = StoreValue × ContextValue
 
 -- the state that a pair stands for
 abbrev pub pair_state : PairValue → State (List ℕ) (List ℕ)
-pair_state pair = record { at = λ key dot. at_stores at_values bytes_cmp pair.0 (key, tt) dot; has = has pair.1 }
+pair_state pair = read_at (λ key. (key, tt)) (state_of (at_stores at_values bytes_cmp) pair)

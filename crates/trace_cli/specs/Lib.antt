@@ -4,6 +4,7 @@ pub mod Command
 pub mod Parsed
 pub mod Fault
 pub mod Outcome
+pub mod Keeps
 pub mod Machine
 pub mod Does
 pub mod Reply

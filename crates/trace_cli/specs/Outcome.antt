@@ -2,7 +2,7 @@
 --
 -- Here are no contexts, no stores and no deltas: a world is told by the sets of operations that its replicas have seen
 -- and are to send, and by the sets that its messages carry.
-use Rattle.std.specs.Prelude.{ℕ, ◌+◌, ◌^◌, nat_lt, nat_le, ◌&&◌, Bool, cond, List, [], ◌∷◌, ◌++◌, length, Option, Some, None, codes}
+use Rattle.std.specs.Prelude.{ℕ, ◌+◌, ◌^◌, nat_lt, nat_le, cond, List, [], ◌∷◌, ◌++◌, length, Option, Some, None, codes}
 use Rattle.std.specs.Fmt.{decimal}
 use Rattle.std.specs.List.{flat_map}
 use Rattle.dots.specs.Bytes.{MAX_LENGTH}
@@ -12,7 +12,7 @@ use Rattle.dots.specs.declared.refusal.Refusal.TheVariants.{TooLong, NumbersSpen
 use Rattle.op_model.specs.Operation.{Operation}
 use Rattle.op_model.specs.Shown.{values}
 use Rattle.op_model.specs.Made.{dot_at}
-use Rattle.op_model.specs.World.{World, Event, is_among}
+use Rattle.op_model.specs.World.{World, Event, is_node, is_message}
 use Rattle.op_model.specs.World as world
 use Rattle.trace_cli.specs.Command.{CommandValue, Node, Put, Get, Flush, Deliver}
 use Rattle.trace_cli.specs.Word.{shown_as}
@@ -24,7 +24,7 @@ pub data Outcome : Type 0 where
 
 -- what a command comes to that names this replica
 abbrev pub at_replica : World → ℕ → Outcome → Outcome
-at_replica w name then = cond (is_among w.nodes name) then (Refused UnknownReplica)
+at_replica w name then = cond (is_node w name) then (Refused UnknownReplica)
 
 -- what a command comes to that has this key or value
 abbrev pub with_bytes : List ℕ → Outcome → Outcome
@@ -50,7 +50,7 @@ sent_text (Some number) = codes "sent " ++ (decimal number ++ codes ":delta")
 
 -- a new replica
 abbrev pub node_outcome : World → ℕ → Outcome
-node_outcome w name = cond (is_among w.nodes name) (Refused NameTaken) (Done (codes "ok") (world.Node name ∷ []))
+node_outcome w name = cond (is_node w name) (Refused NameTaken) (Done (codes "ok") (world.Node name ∷ []))
 
 -- a put under the dot that is next, if its number is below 2^64
 abbrev pub put_outcome : World → ℕ → List ℕ → List ℕ → Outcome
@@ -67,10 +67,6 @@ get_outcome w name key = at_replica w name (with_bytes key (Done (values_text (v
 -- the operations that were made since the last flush become the next message, if there are any
 abbrev pub flush_outcome : World → ℕ → Outcome
 flush_outcome w name = at_replica w name (Done (sent_text (sent_number (w.outgoing name) (length w.messages + 1))) (world.Flush name ∷ []))
-
--- whether a message of this number was made: they are numbered from 1
-abbrev pub is_message : World → ℕ → Bool
-is_message w number = nat_lt 0 number && nat_le number (length w.messages)
 
 -- a message that was made is delivered
 abbrev pub deliver_outcome : World → ℕ → ℕ → Outcome

@@ -4,7 +4,9 @@
 
 mod answer;
 mod command;
+mod event;
 mod machine;
+mod replica;
 mod reply;
 mod running;
 mod session;

@@ -1,7 +1,7 @@
 ghost use Rattle.std.specs.Prelude.{◌≡◌, ◌⊎◌, ◌≤◌, ◌<◌, ◌++◌, ◌∷◌, [], Some, None, IfOk, IfErr, OnOk, IsOkUnless, true, map, string_bytes, MatchResult};
 ghost use Rattle.std.specs.List.{flat_map};
 ghost use Rattle.dots.specs.Refusal.{word_of};
-ghost use Rattle.op_model.specs.World.{after, is_among};
+ghost use Rattle.op_model.specs.World.{after};
 ghost use Rattle.trace_cli.specs.Command.{command_of};
 ghost use Rattle.trace_cli.specs.Machine.{start, answer_to, past_after, answer_by, line_outcome, Told};
 ghost use Rattle.trace_cli.specs.Outcome.{Done, Refused, outcome_of, put_text, values_text, node_outcome, put_outcome, get_outcome, flush_outcome, deliver_outcome};

@@ -1,14 +1,19 @@
-ghost use Rattle.std.specs.Prelude.{◌≡◌, ◌-◌, ◌^◌, ◌↔◌, ◌⊎◌, ◌∷◌, [], IfOk, IfErr, OnErr, OnOk, IsErrOf, IsOkUnless, None, false};
+ghost use Rattle.std.specs.Prelude.{◌≡◌, ◌-◌, ◌^◌, ◌↔◌, ◌⊎◌, ◌∷◌, [], IfOk, IfErr, OnErr, OnOk, IsErrOf, IsOkUnless, IfSome, IfNone, false, ℕ, List, Contains};
+ghost use Rattle.causal_context.specs.Context.{has, IsGreatest};
 ghost use Rattle.delta_ops.specs.Pair.{pair_state};
 ghost use Rattle.op_model.specs.State.{Same, join};
 ghost use Rattle.op_model.specs.Operation.{Write, Wrote};
 ghost use Rattle.op_model.specs.Made.{IsPutAt};
-ghost use Rattle.op_model.specs.Meaning.{state, greater};
+ghost use Rattle.op_model.specs.Meaning.{state, greater, Stands};
+ghost use Rattle.op_model.specs.Shown.{IsAscending};
+ghost use Rattle.dots.specs.Dot.{DotValue};
 
 use causal_join::Causal;
 use delta_ops::{Pair, put};
 use dots::{Dot, Key, Name, Refusal, Value};
 use std::alloc::{Allocator, Global};
+use std::collections::BTreeSet;
+use std::mem;
 
 /// One replica: what it holds, and what it made since it last sent.
 #[derive(Drop)]
@@ -66,7 +71,7 @@ impl<A: Allocator + Copy> Replica<A> {
     pub fn flush(&mut self, alloc: A) -> Option<Pair<A>>
         ensures live { self.new.live ≡ self.old.live }
         ensures some { IfSome result (λ sent. (sent ≡ self.old.group) × Same (pair_state self.new.group) (state [])) }
-        ensures none { IfNone result (((d : Dot) → has self.old.group.1 d ≡ false) × (self.new ≡ self.old)) }
+        ensures none { IfNone result (((d : DotValue) → has self.old.group.1 d ≡ false) × (self.new ≡ self.old)) }
     {
         if self.group.context().is_empty() {
             return None;

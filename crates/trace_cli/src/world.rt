@@ -1,26 +1,38 @@
-ghost use Rattle.std.specs.Prelude.{◌≡◌, ◌≢◌, ◌+◌, ◌<◌, ◌≤◌, ◌^◌, ◌⊎◌, ◌↔◌, ◌++◌, ◌∷◌, [], List, length, true, false, Some, None, IfOk, IfErr, OnOk, OnErr, IsErrOf, IsTrue, IfSome, OnSome, IfNone};
-ghost use Rattle.op_model.specs.World.{Node, Put, Flush, Deliver, after, is_among};
+ghost use Rattle.std.specs.Prelude.{◌≡◌, ◌≢◌, ◌+◌, ◌<◌, ◌≤◌, ◌^◌, ◌⊎◌, ◌↔◌, ◌++◌, ◌∷◌, [], List, length, true, false, Some, None, IfOk, IfErr, OnOk, OnErr, IsErrOf, IsTrue, IfSome, OnSome, IfNone, Option, nat_lt, ◌-◌, if◌then◌else◌};
+ghost use Rattle.std.specs.List.{slice_get};
+ghost use Rattle.std.specs.Option.{option_copied};
+ghost use Rattle.op_model.specs.World.{Node, Put, Flush, Deliver, after, is_node, is_message};
 ghost use Rattle.op_model.specs.Made.{dot_at};
 ghost use Rattle.op_model.specs.Shown.{values};
-ghost use Rattle.trace_cli.specs.Outcome.{is_message, sent_number};
+ghost use Rattle.trace_cli.specs.Outcome.{sent_number};
 
+use crate::event::Event;
+use crate::replica::Replica;
+use delta_ops::Pair;
 use dots::{Dot, Key, Name, Refusal, Value};
 use std::alloc::{Allocator, Global};
+use std::collections::BTreeMap;
 use std::marker::Model;
 
 /// A world of replicas and of the messages between them. It is seen as the list of its accepted events.
 #[derive(Drop)]
 pub(crate) struct World<A: Allocator + Copy = Global> {
     alloc: A,
+    replicas: BTreeMap<Name, Replica<A>, A>,
+    messages: Vec<Pair<A>, A>,
+    past: Vec<Event<A>, A>,
 }
 
 impl<A: Allocator + Copy> Model for World<A> {
-    ghost use Rattle.std.specs.Prelude.{[], List};
-    ghost use Rattle.op_model.specs.World.{Event};
+    ghost use Rattle.std.specs.Prelude.{List, map};
+    ghost use Rattle.op_model.specs.World.{Event as EventValue};
+    ghost use Rattle.trace_cli.specs.Keeps.{event_value, Keeps};
 
-    ghost Value = { List Event };
+    ghost Value = { List EventValue };
 
-    ghost view = { λ w. [] };
+    ghost view = { λ w. map event_value w.past.items };
+
+    ghost invariant = { λ w. Keeps w.replicas w.messages.items (map event_value w.past.items) };
 }
 
 impl<A: Allocator + Copy> World<A> {
@@ -28,76 +40,125 @@ impl<A: Allocator + Copy> World<A> {
     pub fn new(alloc: A) -> World<A>
         ensures { result ≡ [] }
     {
-        World { alloc }
+        World {
+            alloc,
+            replicas: BTreeMap::new(alloc),
+            messages: Vec::new(alloc),
+            past: Vec::new(alloc),
+        }
     }
 
     /// Whether a replica of this name is there.
     pub fn has_replica(&self, name: Name) -> bool
-        ensures { result ≡ is_among (after self.now).nodes name }
+        ensures { result ≡ is_node (after self.now) name }
     {
-        false
+        self.replicas.contains_key(&name)
     }
 
     /// A new replica of this name. NameTaken exactly where one is there; a refused call changes nothing.
     pub fn node(&mut self, name: Name) -> Result<(), Refusal>
-        ensures ok { OnOk result ((is_among (after self.old).nodes name ≡ false) × (self.new ≡ self.old ++ Node name ∷ [])) }
+        ensures ok { OnOk result ((is_node (after self.old) name ≡ false) × (self.new ≡ self.old ++ Node name ∷ [])) }
         ensures refused { IfErr result (λ refusal. (refusal ≡ Refusal.OutOfMemory) ⊎
-            ((refusal ≡ Refusal.NameTaken) × (is_among (after self.old).nodes name ≡ true))) }
+            ((refusal ≡ Refusal.NameTaken) × (is_node (after self.old) name ≡ true))) }
         ensures err { OnErr result (self.new ≡ self.old) }
     {
-        Err(Refusal::OutOfMemory)
+        if self.replicas.contains_key(&name) {
+            return Err(Refusal::NameTaken);
+        }
+        self.past.reserve(1)?;
+        self.replicas.insert(name, Replica::new(self.alloc))?;
+        self.past.push(Event::Node(name)).unwrap();
+        Ok(())
     }
 
     /// A put at a replica, and its dot. UnknownReplica exactly where no replica has the name, NumbersSpent exactly
     /// where no number is left for the dot; a refused call changes nothing.
     pub fn put(&mut self, name: Name, key: Key<A>, value: Value<A>) -> Result<Dot, Refusal>
-        ensures ok { IfOk result (λ dot. (is_among (after self.old).nodes name ≡ true) ×
+        ensures ok { IfOk result (λ dot. (is_node (after self.old) name ≡ true) ×
             (dot ≡ dot_at ((after self.old).seen name) name) × (dot.number < 2 ^ 64) ×
             (self.new ≡ self.old ++ Put name key value ∷ [])) }
         ensures refused { IfErr result (λ refusal. (refusal ≡ Refusal.OutOfMemory) ⊎
-            ((refusal ≡ Refusal.UnknownReplica) × (is_among (after self.old).nodes name ≡ false)) ⊎
-            ((refusal ≡ Refusal.NumbersSpent) × (is_among (after self.old).nodes name ≡ true) ×
+            ((refusal ≡ Refusal.UnknownReplica) × (is_node (after self.old) name ≡ false)) ⊎
+            ((refusal ≡ Refusal.NumbersSpent) × (is_node (after self.old) name ≡ true) ×
             (2 ^ 64 ≤ (dot_at ((after self.old).seen name) name).number))) }
         ensures err { OnErr result (self.new ≡ self.old) }
     {
-        Err(Refusal::OutOfMemory)
+        let Some(replica) = self.replicas.get_mut(&name) else {
+            return Err(Refusal::UnknownReplica);
+        };
+        self.past.reserve(1)?;
+        let dot = replica.put(self.alloc, name, &key, &value)?;
+        self.past.push(Event::Put { name, key, value }).unwrap();
+        Ok(dot)
     }
 
     /// The distinct values of a key at a replica, ascending by bytes. UnknownReplica exactly where no replica has
     /// the name.
     pub fn get(&self, name: Name, key: &Key<A>) -> Result<Vec<Value<A>, A>, Refusal>
-        ensures ok { IfOk result (λ found. (is_among (after self.now).nodes name ≡ true) ×
+        ensures ok { IfOk result (λ found. (is_node (after self.now) name ≡ true) ×
             (found.items ≡ values ((after self.now).seen name) key.now)) }
         ensures refused { IfErr result (λ refusal. (refusal ≡ Refusal.OutOfMemory) ⊎
-            ((refusal ≡ Refusal.UnknownReplica) × (is_among (after self.now).nodes name ≡ false))) }
+            ((refusal ≡ Refusal.UnknownReplica) × (is_node (after self.now) name ≡ false))) }
     {
-        Err(Refusal::OutOfMemory)
+        match self.replicas.get(&name) {
+            Some(replica) => replica.values(self.alloc, key),
+            None => Err(Refusal::UnknownReplica),
+        }
     }
 
     /// What a replica made since its last flush becomes the next message: its number, or None where it made
     /// nothing. UnknownReplica exactly where no replica has the name; a refused call changes nothing.
     pub fn flush(&mut self, name: Name) -> Result<Option<u64>, Refusal>
-        ensures ok { OnOk result ((is_among (after self.old).nodes name ≡ true) × (self.new ≡ self.old ++ Flush name ∷ [])) }
+        ensures ok { OnOk result ((is_node (after self.old) name ≡ true) × (self.new ≡ self.old ++ Flush name ∷ [])) }
         ensures message { IfOk result (λ made. made ≡
             sent_number ((after self.old).outgoing name) (length (after self.old).messages + 1)) }
         ensures refused { IfErr result (λ refusal. (refusal ≡ Refusal.OutOfMemory) ⊎
-            ((refusal ≡ Refusal.UnknownReplica) × (is_among (after self.old).nodes name ≡ false))) }
+            ((refusal ≡ Refusal.UnknownReplica) × (is_node (after self.old) name ≡ false))) }
         ensures err { OnErr result (self.new ≡ self.old) }
     {
-        Err(Refusal::OutOfMemory)
+        let Some(replica) = self.replicas.get_mut(&name) else {
+            return Err(Refusal::UnknownReplica);
+        };
+        self.past.reserve(1)?;
+        self.messages.reserve(1)?;
+        let made = replica.flush(self.alloc);
+        self.past.push(Event::Flush(name)).unwrap();
+        match made {
+            Some(group) => {
+                self.messages.push(group).unwrap();
+                Ok(Some(self.messages.len() as u64))
+            }
+            None => Ok(None),
+        }
     }
 
     /// The message of this number, from 1, is delivered to a replica. UnknownReplica exactly where no replica has
     /// the name, else UnknownMessage exactly where no message has the number; a refused call changes nothing.
     pub fn deliver(&mut self, number: u64, name: Name) -> Result<(), Refusal>
-        ensures ok { OnOk result ((is_among (after self.old).nodes name ≡ true) ×
+        ensures ok { OnOk result ((is_node (after self.old) name ≡ true) ×
             (is_message (after self.old) number ≡ true) × (self.new ≡ self.old ++ Deliver number name ∷ [])) }
         ensures refused { IfErr result (λ refusal. (refusal ≡ Refusal.OutOfMemory) ⊎
-            ((refusal ≡ Refusal.UnknownReplica) × (is_among (after self.old).nodes name ≡ false)) ⊎
-            ((refusal ≡ Refusal.UnknownMessage) × (is_among (after self.old).nodes name ≡ true) ×
+            ((refusal ≡ Refusal.UnknownReplica) × (is_node (after self.old) name ≡ false)) ⊎
+            ((refusal ≡ Refusal.UnknownMessage) × (is_node (after self.old) name ≡ true) ×
             (is_message (after self.old) number ≡ false))) }
         ensures err { OnErr result (self.new ≡ self.old) }
     {
-        Err(Refusal::OutOfMemory)
+        let Some(replica) = self.replicas.get_mut(&name) else {
+            return Err(Refusal::UnknownReplica);
+        };
+        let Some(message) = message_of(&self.messages, number) else {
+            return Err(Refusal::UnknownMessage);
+        };
+        self.past.reserve(1)?;
+        replica.deliver(self.alloc, message)?;
+        self.past.push(Event::Deliver { message: number, name }).unwrap();
+        Ok(())
     }
+}
+
+/// The message of this number, from 1.
+fn message_of<A: Allocator + Copy>(messages: &Vec<Pair<A>, A>, number: u64) -> Option<&Pair<A>>
+    ensures { option_copied result ≡ (if nat_lt 0 number then slice_get messages.now.items (number - 1) else None) }
+{
+    messages.get(number.checked_sub(1)? as usize)
 }

@@ -1,0 +1,40 @@
+-- How a world keeps what its events say: each pair means the set of operations that it stands for. Of this project.
+use Rattle.std.specs.Prelude.{◌≡◌, ℕ, ◌+◌, ◌<◌, Bool, false, List, length, Option, Some, None, is_some}
+use Rattle.std.specs.BTreeMap.{BTreeMap, get}
+use Rattle.std.specs.List.{slice_get}
+use Rattle.std.specs.Ordering.{nat_cmp}
+use Rattle.delta_ops.specs.Pair.{PairValue, pair_state}
+use Rattle.op_model.specs.Meaning.{state}
+use Rattle.op_model.specs.State.{State, Same}
+use Rattle.op_model.specs.World.{Event, after, is_node, message, Means}
+use Rattle.op_model.specs.World as world
+use Rattle.trace_cli.specs.declared.event.Event.TheVariants as event
+use Rattle.trace_cli.specs.declared.event.Event as declared
+use Rattle.trace_cli.specs.declared.replica.Replica.{Replica}
+
+-- the event of the model that a kept event is
+abbrev pub event_value : {A : Type 0} → declared.Event A → Event
+event_value (event.Node name) = world.Node name
+event_value (event.Put name key value) = world.Put name key value
+event_value (event.Flush name) = world.Flush name
+event_value (event.Deliver number name) = world.Deliver number name
+
+-- the state in which nothing stands and nothing is known
+abbrev pub bottom : State (List ℕ) (List ℕ)
+bottom = record { at = λ key dot. None; has = λ dot. false }
+
+-- what a replica holds, and what it is to send: nothing where it is not there
+abbrev pub live_of : {A : Type 0} → Option (Replica A) → State (List ℕ) (List ℕ)
+live_of None = bottom
+live_of (Some replica) = pair_state replica.live
+
+abbrev pub group_of : {A : Type 0} → Option (Replica A) → State (List ℕ) (List ℕ)
+group_of None = bottom
+group_of (Some replica) = pair_state replica.group
+
+-- the replicas and the messages are those of the world after these events
+pub record Keeps {A : Type 0} (replicas : BTreeMap ℕ (Replica A)) (messages : List PairValue) (past : List Event) : Type 0 where
+  pub there : (name : ℕ) → is_some (get nat_cmp replicas name) ≡ is_node (after past) name
+  pub means : (name : ℕ) → Means (live_of (get nat_cmp replicas name)) (group_of (get nat_cmp replicas name)) (after past) name
+  pub count : length messages ≡ length (after past).messages
+  pub carry : (number : ℕ) (pair : PairValue) → slice_get messages number ≡ Some pair → Same (pair_state pair) (state (message (after past).messages (number + 1)))
