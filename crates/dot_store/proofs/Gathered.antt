@@ -1,5 +1,5 @@
 -- A loop that adds the dots of a store to a context.
-use Rattle.std.proofs.Common.{◌≡◌, Bool, ◌||◌, List, ◌∷◌, [], ◌++◌, sym, ap, ◌∙◌, subst, inl, inr}
+use Rattle.std.proofs.Common.{◌≡◌, Bool, ◌||◌, List, ◌∷◌, [], ◌++◌, sym, ◌∙◌, subst, inl, inr}
 use Rattle.std.specs.Prelude.{IsTrue, ◌⊎◌}
 use Rattle.dots.specs.Dot.{DotValue, same_dot}
 use Rattle.causal_context.specs.Dots.{dot_cmp}
@@ -24,5 +24,5 @@ gathered_more Held old mid new key xs x before adds held = record {
       (λ e. inr (subst Held (same_from_test (key x) d e) held)) (before.only d);
   added = every_more dot_cmp dot_cmp_total dot_exact (λ d. IsTrue (new d)) key xs x
       (λ d h. adds d ∙ or_right (same_dot (key x) d) (mid d) (before.added d h))
-      (adds (key x) ∙ or_left (same_dot (key x) (key x)) (mid (key x)) (same_dot-refl (key x)))
+      (adds (key x) ∙ or_left (same_dot (key x) (key x)) (mid (key x)) (same_dot-refl (key x)));
 }

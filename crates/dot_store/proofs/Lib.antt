@@ -2,3 +2,4 @@ pub mod Reached
 pub mod Dots
 pub mod Gathered
 pub mod Values
+pub mod Stores

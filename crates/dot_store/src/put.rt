@@ -4,11 +4,10 @@ ghost use Rattle.std.specs.Ordering.{is_eq};
 ghost use Rattle.std.specs.Option.{option_or};
 ghost use Rattle.std.specs.BTreeMap.{get, insert_entry};
 
+use crate::kept::Kept;
 use dots::Refusal;
 use std::alloc::Allocator;
 use std::collections::BTreeMap;
-
-use crate::kept::Kept;
 
 // Puts the value at the key, in place of what was there. A refused call leaves the map as it was.
 pub(crate) fn put<K: Ord + Drop, V: Drop, A: Allocator + Copy>(

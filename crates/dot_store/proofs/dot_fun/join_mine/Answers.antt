@@ -1,16 +1,11 @@
-use Rattle.std.proofs.Common.{◌≡◌, cond, List, Option, Some, None, map, refl, sym, ap, subst, ◌∙◌}
-use Rattle.std.specs.Prelude.{IsTrue, IsSome, is_some}
-use Rattle.std.specs.BTreeMap.{get, keys, ContainsKey, is_at}
-use Rattle.std.specs.Map.{keys_of, lookup}
-use Rattle.std.specs.Map.Iter.{deref, deref_pair}
-use Rattle.std.proofs.lemmas.Map.Iter.{iter_end, btree_map_turn}
-use Rattle.std.proofs.lemmas.Map.Views.{All-turn}
-use Rattle.dots.specs.Dot.{DotValue, same_dot}
+use Rattle.std.proofs.Common.{◌≡◌, cond, None, refl, ap, ◌∙◌}
+use Rattle.std.specs.BTreeMap.{get, keys}
+use Rattle.std.specs.Map.Iter.{deref}
+use Rattle.std.proofs.lemmas.Map.Iter.{iter_end}
 use Rattle.causal_context.specs.Context.{has}
 use Rattle.causal_context.specs.Dots.{dot_cmp}
 use Rattle.causal_context.proofs.Dots.{dot_cmp_total, dot_exact}
-use Rattle.dot_store.specs.Store.{HoldsDot}
-use Rattle.dot_store.specs.Stores.{at_values, joined_value}
+use Rattle.dot_store.specs.Stores.{joined_value}
 use Rattle.std.specs.Ordering.{ord_max}
 use Rattle.dot_store.proofs.Reached.{reached_map, put_some_more}
 use Rattle.dot_store.proofs.dot_fun.join_mine.Goals as goal

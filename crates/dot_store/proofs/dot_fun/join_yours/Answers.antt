@@ -1,16 +1,13 @@
-use Rattle.std.proofs.Common.{◌≡◌, cond, List, Option, Some, None, map, refl, sym, ap, subst, ◌∙◌}
-use Rattle.std.specs.Prelude.{IsTrue, IsSome, is_some}
-use Rattle.std.specs.BTreeMap.{get, keys, ContainsKey, is_at}
-use Rattle.std.specs.Map.{keys_of, lookup}
-use Rattle.std.specs.Map.Iter.{deref, deref_pair}
-use Rattle.std.proofs.lemmas.Map.Iter.{iter_end, btree_map_turn}
-use Rattle.std.proofs.lemmas.Map.Views.{All-turn}
-use Rattle.dots.specs.Dot.{DotValue, same_dot}
+use Rattle.std.proofs.Common.{◌≡◌, cond, sym, ap, ◌∙◌}
+use Rattle.std.specs.Prelude.{is_some}
+use Rattle.std.specs.BTreeMap.{get, keys}
+use Rattle.std.specs.Map.Iter.{deref}
+use Rattle.std.proofs.lemmas.Map.Iter.{iter_end}
+use Rattle.dots.specs.Dot.{DotValue}
 use Rattle.causal_context.specs.Context.{has}
 use Rattle.causal_context.specs.Dots.{dot_cmp}
 use Rattle.causal_context.proofs.Dots.{dot_cmp_total, dot_exact}
-use Rattle.dot_store.specs.Store.{HoldsDot}
-use Rattle.dot_store.specs.Stores.{at_values, joined_value}
+use Rattle.dot_store.specs.Stores.{joined_value}
 use Rattle.std.specs.Ordering.{ord_max}
 use Rattle.dot_store.proofs.Reached.{reached_map, put_some_more, left_more, ends_by, cond_at, cond_past, none_from_test}
 use Rattle.dot_store.proofs.Values.{joined-none}
@@ -43,5 +40,5 @@ returns-clause-ok g c = λ d.
     let wanted = joined_value (ord_max g.V.Ord.cmp) (get dot_cmp c.args.mine.now) (has c.args.own.now) (get dot_cmp c.args.yours.now) (has c.args.theirs.now) d in
     c.loop-dot.invariant d ∙ ap (λ r. cond r (cond (is_some mine) kept wanted) kept) (reached_map dot_cmp deref c.loop-dot.yielded c.args.yours.now.entries all d)
     ∙ ends_by (is_some yours) (is_some mine) kept wanted
-        (λ y m. c.requires d (none_from_test mine m)
-            ∙ sym (joined-none (ord_max g.V.Ord.cmp) mine yours (has c.args.own.now d) (has c.args.theirs.now d) (none_from_test mine m) (none_from_test yours y)))
+    (λ y m. c.requires d (none_from_test mine m)
+    ∙ sym (joined-none (ord_max g.V.Ord.cmp) mine yours (has c.args.own.now d) (has c.args.theirs.now d) (none_from_test mine m) (none_from_test yours y)))

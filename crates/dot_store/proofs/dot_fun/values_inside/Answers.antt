@@ -1,17 +1,11 @@
-use Rattle.std.proofs.Common.{◌≡◌, cond, List, Option, Some, None, map, refl, sym, ap, subst, ◌∙◌}
-use Rattle.std.specs.Prelude.{IsTrue, IsSome, is_some}
-use Rattle.std.specs.BTreeMap.{get, keys, ContainsKey, is_at}
-use Rattle.std.specs.Map.{keys_of, lookup}
-use Rattle.std.specs.Map.Iter.{deref, deref_pair}
-use Rattle.std.proofs.lemmas.Map.Iter.{iter_end, btree_map_turn}
+use Rattle.std.proofs.Common.{◌≡◌, Some, None, refl, sym, ap, ◌∙◌}
+use Rattle.std.specs.Prelude.{is_some}
+use Rattle.std.specs.BTreeMap.{get}
+use Rattle.std.specs.Map.Iter.{deref_pair}
+use Rattle.std.proofs.lemmas.Map.Iter.{iter_end}
 use Rattle.std.proofs.lemmas.Map.Views.{All-turn}
-use Rattle.dots.specs.Dot.{DotValue, same_dot}
-use Rattle.causal_context.specs.Context.{has}
 use Rattle.causal_context.specs.Dots.{dot_cmp}
 use Rattle.causal_context.proofs.Dots.{dot_cmp_total, dot_exact}
-use Rattle.dot_store.specs.Store.{HoldsDot}
-use Rattle.dot_store.specs.Stores.{at_values, joined_value}
-use Rattle.std.specs.Option.{option_copied}
 use Rattle.std.specs.Ordering.{is_eq}
 use Rattle.std.proofs.lemmas.Cmp.{tied_itself}
 use Rattle.dot_store.proofs.Reached.{every_more, reached_pairs, same_key}
@@ -21,21 +15,22 @@ pub returns-then-not-is_eq : goal.returns-then-not-is_eq
 returns-then-not-is_eq g c =
     let x = c.in-Some.dot.now in
     let here : get dot_cmp c.args.mine.now x ≡ Some c.in-Some.value.now =
-        All-turn deref_pair (λ e. get dot_cmp c.args.mine.now e.0 ≡ Some e.1) c.args.mine.now.entries c.loop-dot.yielded _ _ _ _ (c.in-Some.dot, c.in-Some.value)
-        c.into_iter-dot-iterator.ensures.into_iter_gives.6 c.into_iter-dot-iterator.ensures.into_iter_gives.0 c.loop-dot.yielded_by c.in-Some.is c.next.ensures.steps in
+    All-turn deref_pair (λ e. get dot_cmp c.args.mine.now e.0 ≡ Some e.1) c.args.mine.now.entries c.loop-dot.yielded _ _ _ _ (c.in-Some.dot, c.in-Some.value)
+    c.into_iter-dot-iterator.ensures.into_iter_gives.6 c.into_iter-dot-iterator.ensures.into_iter_gives.0 c.loop-dot.yielded_by c.in-Some.is c.next.ensures.steps in
     let value = c.in-Some.value.now in
-    let there : get dot_cmp c.args.yours.now x ≡ Some c.in-Some-get.theirs.now = sym c.in-Some-get.ensures.value in
-    (λ t. absurd (cc t),
-        λ h.
-            let same : value ≡ c.in-Some-get.theirs.now = cc (sym (h x value here) ∙ there) in
-            c.if-not-is_eq.ensures ∙ ap is_eq c.cmp.ensures ∙ ap (λ v. is_eq (g.V.Ord.cmp value v)) (sym same) ∙ ap is_eq (tied_itself g.met.V.Ord.total value))
+    let there : get dot_cmp c.args.yours.now x ≡ Some c.in-Some-get.theirs.now = sym c.in-Some-get.ensures.value in (
+      λ t. absurd (cc t),
+      λ h.
+          let same : value ≡ c.in-Some-get.theirs.now = cc (sym (h x value here) ∙ there) in
+          c.if-not-is_eq.ensures ∙ ap is_eq c.cmp.ensures ∙ ap (λ v. is_eq (g.V.Ord.cmp value v)) (sym same) ∙ ap is_eq (tied_itself g.met.V.Ord.total value),
+    )
 
 pub loop-dot-preserved : goal.loop-dot-preserved
 loop-dot-preserved g c =
     let x = c.in-Some.dot.now in
     let here : get dot_cmp c.args.mine.now x ≡ Some c.in-Some.value.now =
-        All-turn deref_pair (λ e. get dot_cmp c.args.mine.now e.0 ≡ Some e.1) c.args.mine.now.entries c.loop-dot.yielded _ _ _ _ (c.in-Some.dot, c.in-Some.value)
-        c.into_iter-dot-iterator.ensures.into_iter_gives.6 c.into_iter-dot-iterator.ensures.into_iter_gives.0 c.loop-dot.yielded_by c.in-Some.is c.next.ensures.steps in
+    All-turn deref_pair (λ e. get dot_cmp c.args.mine.now e.0 ≡ Some e.1) c.args.mine.now.entries c.loop-dot.yielded _ _ _ _ (c.in-Some.dot, c.in-Some.value)
+    c.into_iter-dot-iterator.ensures.into_iter_gives.6 c.into_iter-dot-iterator.ensures.into_iter_gives.0 c.loop-dot.yielded_by c.in-Some.is c.next.ensures.steps in
     let value = c.in-Some.value.now in
     let there : get dot_cmp c.args.yours.now x ≡ Some c.in-Some-get.theirs.now = sym c.in-Some-get.ensures.value in
     let same = same_key g.V.Ord.cmp g.met.V.Ord.total g.met.V.Kept.exact value c.in-Some-get.theirs.now (sym (c.if-not-is_eq.ensures ∙ ap is_eq c.cmp.ensures)) in
@@ -47,8 +42,8 @@ pub returns-in-None-get : goal.returns-in-None-get
 returns-in-None-get g c =
     let x = c.in-Some.dot.now in
     let here : get dot_cmp c.args.mine.now x ≡ Some c.in-Some.value.now =
-        All-turn deref_pair (λ e. get dot_cmp c.args.mine.now e.0 ≡ Some e.1) c.args.mine.now.entries c.loop-dot.yielded _ _ _ _ (c.in-Some.dot, c.in-Some.value)
-        c.into_iter-dot-iterator.ensures.into_iter_gives.6 c.into_iter-dot-iterator.ensures.into_iter_gives.0 c.loop-dot.yielded_by c.in-Some.is c.next.ensures.steps in
+    All-turn deref_pair (λ e. get dot_cmp c.args.mine.now e.0 ≡ Some e.1) c.args.mine.now.entries c.loop-dot.yielded _ _ _ _ (c.in-Some.dot, c.in-Some.value)
+    c.into_iter-dot-iterator.ensures.into_iter_gives.6 c.into_iter-dot-iterator.ensures.into_iter_gives.0 c.loop-dot.yielded_by c.in-Some.is c.next.ensures.steps in
     let there : get dot_cmp c.args.yours.now x ≡ None = sym c.in-None-get.ensures.value in
     (λ t. absurd (cc t), λ h. absurd (cc (sym there ∙ h x c.in-Some.value.now here)))
 

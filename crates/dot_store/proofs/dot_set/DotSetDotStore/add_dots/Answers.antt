@@ -19,8 +19,8 @@ pub loop-dot-preserved : goal.loop-dot-preserved
 loop-dot-preserved g c =
     let x = c.in-Some.dot.now in
     let here : IsTrue (contains dot_cmp c.self.inside.dots x) =
-        All-turn deref (λ k. IsTrue (contains dot_cmp c.self.inside.dots k)) c.self.inside.dots.keys c.loop-dot.yielded _ _ _ _ _
-        c.into_iter-dot-iterator.ensures.into_iter_gives.5 c.into_iter-dot-iterator.ensures.into_iter_gives.0 c.loop-dot.yielded_by c.in-Some.is c.next.ensures.steps in
+    All-turn deref (λ k. IsTrue (contains dot_cmp c.self.inside.dots k)) c.self.inside.dots.keys c.loop-dot.yielded _ _ _ _ _
+    c.into_iter-dot-iterator.ensures.into_iter_gives.5 c.into_iter-dot-iterator.ensures.into_iter_gives.0 c.loop-dot.yielded_by c.in-Some.is c.next.ensures.steps in
     let held = held_from_found c.args.self.now tt x (ap (list_any (is_at (dot_cmp x))) (sym c.self.view_is) ∙ here) in
     gathered_more (HoldsDot (at_dots c.args.self.now)) (has c.args.context.now) (has c.loop-dot.context) (has c.add.new.self) (λ y. y.now) c.loop-dot.yielded c.in-Some.dot
     c.loop-dot.invariant c.in_ok-add.ensures.ok (tt, rw held refl)

@@ -1,7 +1,4 @@
 use Rattle.std.proofs.Common.{cond, Some, None, sym, ap, ◌∙◌}
-use Rattle.std.specs.List.{list_any}
-use Rattle.std.specs.BTreeMap.{is_at}
-use Rattle.causal_context.specs.Dots.{dot_cmp}
 use Rattle.dot_store.specs.Stores.{at_dots}
 use Rattle.dot_store.proofs.Dots.{at_dots-found}
 use Rattle.dot_store.proofs.dot_set.DotSetDotStore.copy.Goals as goal

@@ -1,0 +1,10 @@
+use Rattle.std.specs.Prelude.{IsTrue, IsSome}
+use Rattle.dots.specs.Dot.{DotValue}
+use Rattle.causal_context.specs.Context.{has}
+use Rattle.dot_store.specs.Stores.{at_stores}
+use Rattle.dot_store.proofs.Reached.{reached}
+use Rattle.dot_store.proofs.dot_map.DotMapDotStore.is_inside.Given as goal
+
+abbrev pub invariant-loop-store : goal.invariant-loop-store
+invariant-loop-store g l =
+    (q : _) → IsTrue (reached g.K.Ord.cmp (λ e. e.0.now) l.yielded q) → (place : _) (d : DotValue) → IsSome (at_stores g.S.DotStore.at g.K.Ord.cmp l.self (q, place) d) → IsTrue (has l.context d)
