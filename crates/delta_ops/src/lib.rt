@@ -2,8 +2,8 @@
 // Offered to the crates above: a delta is the state of the set of its one operation.
 #![tactic(auto)]
 
+mod mutators;
 mod pair;
-mod put;
 
+pub use mutators::put;
 pub use pair::{Pair, Store};
-pub use put::put;

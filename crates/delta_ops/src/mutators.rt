@@ -1,10 +1,13 @@
-ghost use Rattle.std.specs.Prelude.{◌≡◌, ◌-◌, ◌^◌, ◌↔◌, ◌⊎◌, ◌∷◌, [], IfOk, IfErr, IsErrOf};
+ghost use Rattle.std.specs.Prelude.{◌≡◌, ◌-◌, ◌^◌, ◌↔◌, ◌⊎◌, ◌∷◌, [], List, ℕ, Some, None, cond, ◌&&◌, is_some, IfOk, IfErr, IsErrOf, IsOkUnless};
+ghost use Rattle.std.specs.Ordering.{is_eq};
 ghost use Rattle.causal_context.specs.Context.{has, IsGreatest};
-ghost use Rattle.delta_ops.specs.Pair.{pair_state};
+ghost use Rattle.delta_ops.specs.Pair.{pair_state, store_at};
+ghost use Rattle.dots.specs.Dot.{DotValue, same_dot};
 ghost use Rattle.op_model.specs.State.{Same};
 ghost use Rattle.op_model.specs.Operation.{Write, Wrote};
 ghost use Rattle.op_model.specs.Made.{IsPutAt};
 ghost use Rattle.op_model.specs.Meaning.{state};
+ghost use Rattle.op_model.specs.Shown.{bytes_cmp};
 
 use crate::pair::{Pair, Store};
 use causal_context::Context;
@@ -30,17 +33,42 @@ pub fn put<A: Allocator + Copy>(
     ensures err { IfErr result (λ refusal. (refusal ≡ Refusal.NumbersSpent) ⊎ (refusal ≡ Refusal.OutOfMemory)) }
 {
     let dot = live.context().next(name).ok_or(Refusal::NumbersSpent)?;
-    let mut context = Context::new(alloc);
+    let mut context = observed_at(alloc, live, key)?;
     context.add(dot)?;
+    let store = one_value(alloc, dot, key, value)?;
+    Ok((Causal::from_parts(store, context).unwrap(), dot))
+}
+
+/// The context of the dots that stand at the key.
+fn observed_at<A: Allocator + Copy>(
+    alloc: A,
+    live: &Pair<A>,
+    key: &Key<A>,
+) -> Result<Context<A>, Refusal>
+    ensures ok { IfOk result (λ context. (d : DotValue) → has context d ≡ is_some ((pair_state live.now).at key.now d)) }
+    ensures err { IsOkUnless result Refusal.OutOfMemory }
+{
+    let mut context = Context::new(alloc);
     if let Some(standing) = live.store().get(key) {
         standing.dots_into(&mut context)?;
     }
+    Ok(context)
+}
+
+/// The store that holds the value alone, at the key and the dot.
+fn one_value<A: Allocator + Copy>(
+    alloc: A,
+    dot: Dot,
+    key: &Key<A>,
+    value: &Value<A>,
+) -> Result<Store<A>, Refusal>
+    ensures ok { IfOk result (λ store. (k : List ℕ) (d : DotValue) →
+        store_at store (k, tt) d ≡ cond (is_eq (bytes_cmp key.now k) && same_dot dot d) (Some value.now) None) }
+    ensures err { IsOkUnless result Refusal.OutOfMemory }
+{
     let mut values = DotFun::empty(alloc);
     values.insert(dot, value.copy(alloc)?)?;
     let mut store: Store<A> = DotMap::empty(alloc);
     store.insert(key.copy(alloc)?, values)?;
-    match Causal::from_parts(store, context) {
-        Some(delta) => Ok((delta, dot)),
-        None => Err(Refusal::OutOfMemory),
-    }
+    Ok(store)
 }
