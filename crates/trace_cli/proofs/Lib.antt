@@ -4,3 +4,5 @@ pub mod RunLemmas
 pub mod WordLemmas
 pub mod CommandLemmas
 pub mod MachineLemmas
+pub mod Gathering
+pub mod PairLemmas

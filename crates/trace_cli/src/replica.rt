@@ -1,4 +1,4 @@
-ghost use Rattle.std.specs.Prelude.{◌≡◌, ◌-◌, ◌^◌, ◌↔◌, ◌⊎◌, ◌∷◌, [], IfOk, IfErr, OnErr, OnOk, IsErrOf, IsOkUnless, IfSome, IfNone, false, ℕ, List, Contains};
+ghost use Rattle.std.specs.Prelude.{◌≡◌, ◌-◌, ◌^◌, ◌↔◌, ◌⊎◌, ◌∷◌, [], IfOk, IfErr, OnErr, OnOk, IsErrOf, IsOkUnless, IfSome, IfNone, false, Some, ℕ, List, Contains};
 ghost use Rattle.causal_context.specs.Context.{has, IsGreatest};
 ghost use Rattle.delta_ops.specs.Pair.{pair_state};
 ghost use Rattle.op_model.specs.State.{Same, join};
@@ -7,11 +7,13 @@ ghost use Rattle.op_model.specs.Made.{IsPutAt};
 ghost use Rattle.op_model.specs.Meaning.{state, greater, Stands};
 ghost use Rattle.op_model.specs.Shown.{IsAscending};
 ghost use Rattle.dots.specs.Dot.{DotValue};
+ghost use Rattle.dot_store.specs.Stores.{at_values};
 
 use causal_join::Causal;
 use delta_ops::{Pair, put};
+use dot_store::DotFun;
 use dots::{Dot, Key, Name, Refusal, Value};
-use std::alloc::{Allocator, Global};
+use std::alloc::{AllocError, Allocator, Global};
 use std::collections::BTreeSet;
 use std::mem;
 
@@ -81,16 +83,41 @@ impl<A: Allocator + Copy> Replica<A> {
 
     /// The distinct values of a key, ascending by bytes.
     pub fn values(&self, alloc: A, key: &Key<A>) -> Result<Vec<Value<A>, A>, Refusal>
-        ensures ok { IfOk result (λ found. IsAscending found.items ×
-            ((value : List ℕ) → Contains found.items value ↔ Stands (pair_state self.now.live) key.now value)) }
+        ensures ascending { IfOk result (λ found. IsAscending found.items) }
+        ensures held { IfOk result (λ found. (value : List ℕ) →
+            Contains found.items value ↔ Stands (pair_state self.now.live) key.now value) }
         ensures err { IsOkUnless result Refusal.OutOfMemory }
     {
-        let mut found = BTreeSet::new(alloc);
-        if let Some(standing) = self.live.store().get(key) {
-            for (_, value) in standing.iter() {
-                found.insert(value.copy(alloc)?)?;
-            }
+        match self.live.store().get(key) {
+            Some(standing) => Ok(listed(alloc, distinct_values(alloc, standing)?)?),
+            None => Ok(Vec::new(alloc)),
         }
-        Ok(found.into_iter().collect(alloc)?)
     }
+}
+
+/// The distinct values of a key's store.
+fn distinct_values<A: Allocator + Copy>(
+    alloc: A,
+    standing: &DotFun<Value<A>, A>,
+) -> Result<BTreeSet<Value<A>, A>, Refusal>
+    ensures ascending { IfOk result (λ found. IsAscending found.keys) }
+    ensures held { IfOk result (λ found. (value : List ℕ) → Contains found.keys value ↔
+        ((dot : DotValue) × (at_values standing.now tt dot ≡ Some value))) }
+    ensures err { IsOkUnless result Refusal.OutOfMemory }
+{
+    let mut found = BTreeSet::new(alloc);
+    for (_, value) in standing.iter() {
+        found.insert(value.copy(alloc)?)?;
+    }
+    Ok(found)
+}
+
+/// The values of a set, in order.
+fn listed<A: Allocator + Copy>(
+    alloc: A,
+    found: BTreeSet<Value<A>, A>,
+) -> Result<Vec<Value<A>, A>, AllocError>
+    ensures { IfOk result (λ values. values.items ≡ found.keys) }
+{
+    found.into_iter().collect(alloc)
 }
