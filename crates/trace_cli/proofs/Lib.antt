@@ -6,3 +6,6 @@ pub mod CommandLemmas
 pub mod MachineLemmas
 pub mod Gathering
 pub mod PairLemmas
+pub mod ReplicaMaps
+pub mod Keeping
+pub mod WorldLemmas

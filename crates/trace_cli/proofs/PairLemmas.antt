@@ -1,5 +1,5 @@
 -- Pairs by what they stand for: over plain variables.
-use Rattle.std.proofs.Common.{◌≡◌, ℕ, ◌||◌, List, [], Some, None, Contains, ◌↔◌, sym, ◌∙◌, ap, subst}
+use Rattle.std.proofs.Common.{◌≡◌, ℕ, List, [], Some, None, Contains, ◌↔◌, sym, ◌∙◌, subst}
 use Rattle.causal_context.specs.Context.{HasNone}
 use Rattle.causal_join.specs.Causal.{state_of}
 use Rattle.delta_ops.specs.Pair.{PairValue, pair_state, store_at}
@@ -8,7 +8,8 @@ use Rattle.dot_store.specs.Stores.{at_values}
 use Rattle.dots.specs.Dot.{DotValue}
 use Rattle.op_model.specs.Meaning.{greater, state, Stands}
 use Rattle.op_model.proofs.Members.{nothing_in}
-use Rattle.op_model.specs.State.{State, Same, join, joined}
+use Rattle.op_model.proofs.Joins.{join-same, same-itself, same-chain}
+use Rattle.op_model.specs.State.{State, Same, join}
 
 -- the join of pairs is that of their states
 pub join-pair_state : (both p q : PairValue) → Same (state_of store_at both) (join greater (state_of store_at p) (state_of store_at q))
@@ -19,22 +20,12 @@ join-pair_state both p q same = record { at = λ key dot. same.at (key, tt) dot;
 pub bottom_state : (pair : PairValue) → HasNothing (store_at pair.0) → HasNone pair.1 → Same (pair_state pair) (state [])
 bottom_state pair nothing unknown = record { at = λ key dot. nothing (key, tt) dot; has = unknown }
 
-same_join : (p : State (List ℕ) (List ℕ)) (q r : State (List ℕ) (List ℕ)) → Same q r → Same (join greater p q) (join greater p r)
-same_join p q r same = record {
-  at = λ key dot. ap (λ held. joined greater (p.at key dot) (p.has dot) held (q.has dot)) (same.at key dot)
-      ∙ ap (λ known. joined greater (p.at key dot) (p.has dot) (r.at key dot) known) (same.has dot);
-  has = λ dot. ap (λ known. p.has dot || known) (same.has dot)
-}
-
-same_trans : (p q r : State (List ℕ) (List ℕ)) → Same p q → Same q r → Same p r
-same_trans p q r first then = record { at = λ key dot. first.at key dot ∙ then.at key dot; has = λ dot. first.has dot ∙ then.has dot }
-
 -- a pair joined with a delta of this meaning
 pub join-delta : (both p delta : PairValue) (meaning : State (List ℕ) (List ℕ)) → Same (state_of store_at both) (join greater (state_of store_at p) (state_of store_at delta))
     → Same (pair_state delta) meaning → Same (pair_state both) (join greater (pair_state p) meaning)
 join-delta both p delta meaning joined same =
-    same_trans (pair_state both) (join greater (pair_state p) (pair_state delta)) (join greater (pair_state p) meaning) (join-pair_state both p delta joined)
-      (same_join (pair_state p) (pair_state delta) meaning same)
+    same-chain (pair_state both) (join greater (pair_state p) (pair_state delta)) (join greater (pair_state p) meaning) (join-pair_state both p delta joined)
+      (join-same greater (pair_state p) (pair_state delta) (pair_state p) meaning (same-itself (pair_state p)) same)
 
 -- just the values that stand at a key, from its store
 pub stands_at : (live : PairValue) (key : List ℕ) (standing : List (DotValue × List ℕ)) (items : List (List ℕ))

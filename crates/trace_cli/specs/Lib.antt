@@ -5,6 +5,7 @@ pub mod Parsed
 pub mod Fault
 pub mod Outcome
 pub mod Keeps
+pub mod Replaces
 pub mod Machine
 pub mod Does
 pub mod Reply

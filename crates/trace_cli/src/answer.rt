@@ -9,7 +9,7 @@ ghost use Rattle.trace_cli.specs.Reply.{answer_of, TellsFaults};
 
 use crate::reply::Reply;
 use crate::word::push_text;
-use dots::{Dot, Refusal, Value};
+use dots::{Refusal, Value};
 use std::alloc::Allocator;
 
 /// Whether a refusal is a fault, which ends a trace with a line that tells it.
@@ -23,12 +23,14 @@ pub fn is_fault(refusal: Refusal) -> bool
 }
 
 /// The answer to a put: `ok <name>:<number>`.
-pub(crate) fn put_answer<A: Allocator + Copy>(alloc: A, dot: Dot) -> Result<String<A>, Refusal>
-    ensures ok { IfOk result (λ text. string_bytes text ≡ put_text dot) }
+pub(crate) fn put_answer<A: Allocator + Copy>(
+    alloc: A,
+    name: u64,
+    number: u64,
+) -> Result<String<A>, Refusal>
+    ensures ok { IfOk result (λ text. string_bytes text ≡ put_text (record { name = name; number = number })) }
     ensures err { IsOkUnless result Refusal.OutOfMemory }
 {
-    let name = dot.name().number();
-    let number = dot.number();
     Ok(format!(in alloc; "ok {name}:{number}")?)
 }
 

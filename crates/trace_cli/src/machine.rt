@@ -99,7 +99,8 @@ impl<A: Allocator + Copy> Machine<A> {
         let key = Key::new(self.alloc, key)?;
         let value = Value::new(self.alloc, value)?;
         let dot = self.world.put(name, key, value)?;
-        Ok(put_answer(self.alloc, dot)?.into_bytes())
+        let (name, number) = (dot.name().number(), dot.number());
+        Ok(put_answer(self.alloc, name, number)?.into_bytes())
     }
 
     fn get(&self, name: Name, key: &[u8]) -> Result<Vec<u8, A>, Refusal>

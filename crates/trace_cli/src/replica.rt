@@ -1,5 +1,5 @@
 ghost use Rattle.std.specs.Prelude.{◌≡◌, ◌-◌, ◌^◌, ◌↔◌, ◌⊎◌, ◌∷◌, [], IfOk, IfErr, OnErr, OnOk, IsErrOf, IsOkUnless, IfSome, IfNone, false, Some, ℕ, List, Contains};
-ghost use Rattle.causal_context.specs.Context.{has, IsGreatest};
+ghost use Rattle.causal_context.specs.Context.{has, HasNone, IsGreatest};
 ghost use Rattle.delta_ops.specs.Pair.{pair_state};
 ghost use Rattle.op_model.specs.State.{Same, join};
 ghost use Rattle.op_model.specs.Operation.{Write, Wrote};
@@ -72,8 +72,9 @@ impl<A: Allocator + Copy> Replica<A> {
     /// What the replica made since it last sent, which it then has sent; None where it made nothing. Takes no memory.
     pub fn flush(&mut self, alloc: A) -> Option<Pair<A>>
         ensures live { self.new.live ≡ self.old.live }
-        ensures some { IfSome result (λ sent. (sent ≡ self.old.group) × Same (pair_state self.new.group) (state [])) }
-        ensures none { IfNone result (((d : DotValue) → has self.old.group.1 d ≡ false) × (self.new ≡ self.old)) }
+        ensures some { IfSome result (λ sent. (sent ≡ self.old.group) × ¬ HasNone self.old.group.1 ×
+            Same (pair_state self.new.group) (state [])) }
+        ensures none { IfNone result (HasNone self.old.group.1 × (self.new ≡ self.old)) }
     {
         if self.group.context().is_empty() {
             return None;

@@ -1,6 +1,16 @@
-ghost use Rattle.std.specs.Prelude.{◌≡◌, ◌≢◌, ◌+◌, ◌<◌, ◌≤◌, ◌^◌, ◌⊎◌, ◌↔◌, ◌++◌, ◌∷◌, [], List, length, true, false, Some, None, IfOk, IfErr, OnOk, OnErr, IsErrOf, IsTrue, IfSome, OnSome, IfNone, Option, nat_lt, ◌-◌, if◌then◌else◌};
+ghost use Rattle.std.specs.Prelude.{◌≡◌, ◌≢◌, ◌+◌, ◌<◌, ◌≤◌, ◌^◌, ◌⊎◌, ◌↔◌, ◌++◌, ◌∷◌, [], List, length, true, false, Some, None, IfOk, IfErr, OnOk, OnErr, IsErrOf, IsTrue, IfSome, IsSome, IfNone, IsOkUnless, Option, nat_lt, ◌-◌, if◌then◌else◌};
 ghost use Rattle.std.specs.List.{slice_get};
 ghost use Rattle.std.specs.Option.{option_copied};
+ghost use Rattle.std.specs.BTreeMap.{get};
+ghost use Rattle.std.specs.Ordering.{nat_cmp};
+ghost use Rattle.causal_context.specs.Context.{has, HasNone, IsGreatest};
+ghost use Rattle.delta_ops.specs.Pair.{pair_state};
+ghost use Rattle.dots.specs.Dot.{DotValue};
+ghost use Rattle.op_model.specs.Made.{IsPutAt};
+ghost use Rattle.op_model.specs.Meaning.{greater, state};
+ghost use Rattle.op_model.specs.Operation.{Write, Wrote};
+ghost use Rattle.op_model.specs.State.{Same, join};
+ghost use Rattle.trace_cli.specs.Replaces.{Replaces, SameReplicas};
 ghost use Rattle.op_model.specs.World.{Node, Put, Flush, Deliver, after, is_node, is_message};
 ghost use Rattle.op_model.specs.Made.{dot_at};
 ghost use Rattle.op_model.specs.Shown.{values};
@@ -75,7 +85,7 @@ impl<A: Allocator + Copy> World<A> {
     /// where no number is left for the dot; a refused call changes nothing.
     pub fn put(&mut self, name: Name, key: Key<A>, value: Value<A>) -> Result<Dot, Refusal>
         ensures ok { IfOk result (λ dot. (is_node (after self.old) name ≡ true) ×
-            (dot ≡ dot_at ((after self.old).seen name) name) × (dot.number < 2 ^ 64) ×
+            (dot ≡ dot_at ((after self.old).seen name) name) ×
             (self.new ≡ self.old ++ Put name key value ∷ [])) }
         ensures refused { IfErr result (λ refusal. (refusal ≡ Refusal.OutOfMemory) ⊎
             ((refusal ≡ Refusal.UnknownReplica) × (is_node (after self.old) name ≡ false)) ⊎
@@ -83,11 +93,14 @@ impl<A: Allocator + Copy> World<A> {
             (2 ^ 64 ≤ (dot_at ((after self.old).seen name) name).number))) }
         ensures err { OnErr result (self.new ≡ self.old) }
     {
-        let Some(replica) = self.replicas.get_mut(&name) else {
+        let Some(replica) = self.replicas.get(&name) else {
             return Err(Refusal::UnknownReplica);
         };
+        if replica.live.context().next(name).is_none() {
+            return Err(Refusal::NumbersSpent);
+        }
         self.past.reserve(1)?;
-        let dot = replica.put(self.alloc, name, &key, &value)?;
+        let dot = put_at(&mut self.replicas, self.alloc, name, &key, &value)?;
         self.past.push(Event::Put { name, key, value }).unwrap();
         Ok(dot)
     }
@@ -116,12 +129,12 @@ impl<A: Allocator + Copy> World<A> {
             ((refusal ≡ Refusal.UnknownReplica) × (is_node (after self.old) name ≡ false))) }
         ensures err { OnErr result (self.new ≡ self.old) }
     {
-        let Some(replica) = self.replicas.get_mut(&name) else {
+        if !self.replicas.contains_key(&name) {
             return Err(Refusal::UnknownReplica);
-        };
+        }
         self.past.reserve(1)?;
         self.messages.reserve(1)?;
-        let made = replica.flush(self.alloc);
+        let made = flush_at(&mut self.replicas, self.alloc, name);
         self.past.push(Event::Flush(name)).unwrap();
         match made {
             Some(group) => {
@@ -143,15 +156,19 @@ impl<A: Allocator + Copy> World<A> {
             (is_message (after self.old) number ≡ false))) }
         ensures err { OnErr result (self.new ≡ self.old) }
     {
-        let Some(replica) = self.replicas.get_mut(&name) else {
+        if !self.replicas.contains_key(&name) {
             return Err(Refusal::UnknownReplica);
-        };
+        }
         let Some(message) = message_of(&self.messages, number) else {
             return Err(Refusal::UnknownMessage);
         };
         self.past.reserve(1)?;
-        replica.deliver(self.alloc, message)?;
-        self.past.push(Event::Deliver { message: number, name }).unwrap();
+        deliver_at(&mut self.replicas, self.alloc, name, message)?;
+        let event = Event::Deliver {
+            message: number,
+            name,
+        };
+        self.past.push(event).unwrap();
         Ok(())
     }
 }
@@ -161,4 +178,65 @@ fn message_of<A: Allocator + Copy>(messages: &Vec<Pair<A>, A>, number: u64) -> O
     ensures { option_copied result ≡ (if nat_lt 0 number then slice_get messages.now.items (number - 1) else None) }
 {
     messages.get(number.checked_sub(1)? as usize)
+}
+
+/// Puts a value at the replica of this name. A refused call changes nothing.
+fn put_at<A: Allocator + Copy>(
+    replicas: &mut BTreeMap<Name, Replica<A>, A>,
+    alloc: A,
+    name: Name,
+    key: &Key<A>,
+    value: &Value<A>,
+) -> Result<Dot, Refusal>
+    requires { IsSome (get nat_cmp replicas.old name) }
+    ensures ok { IfOk result (λ dot. (before : _) × (after : _) × Replaces replicas.old replicas.new name before after ×
+        ((w : Write) × IsPutAt (pair_state before.live) name key.now value.now w × (dot ≡ w.id) ×
+        Same (pair_state after.live) (join greater (pair_state before.live) (state (Wrote w ∷ []))) ×
+        Same (pair_state after.group) (join greater (pair_state before.group) (state (Wrote w ∷ []))))) }
+    ensures refused { IfErr result (λ refusal. (refusal ≡ Refusal.OutOfMemory) ⊎ ((refusal ≡ Refusal.NumbersSpent) ×
+        IfSome (get nat_cmp replicas.old name) (λ replica. IsGreatest name (has replica.live.1) (2 ^ 64 - 1)))) }
+    ensures err { OnErr result (SameReplicas replicas.old replicas.new) }
+{
+    match replicas.get_mut(&name) {
+        Some(replica) => replica.put(alloc, name, key, value),
+        None => unreachable!(),
+    }
+}
+
+/// Flushes the replica of this name: what it made since it last sent, if anything. Takes no memory.
+fn flush_at<A: Allocator + Copy>(
+    replicas: &mut BTreeMap<Name, Replica<A>, A>,
+    alloc: A,
+    name: Name,
+) -> Option<Pair<A>>
+    requires { IsSome (get nat_cmp replicas.old name) }
+    ensures some { IfSome result (λ sent. (before : _) × (after : _) × Replaces replicas.old replicas.new name before after ×
+        (after.live ≡ before.live) × (sent ≡ before.group) × ¬ HasNone before.group.1 ×
+        Same (pair_state after.group) (state [])) }
+    ensures none { IfNone result (SameReplicas replicas.old replicas.new ×
+        IfSome (get nat_cmp replicas.old name) (λ replica. HasNone replica.group.1)) }
+{
+    match replicas.get_mut(&name) {
+        Some(replica) => replica.flush(alloc),
+        None => unreachable!(),
+    }
+}
+
+/// Delivers a message to the replica of this name. A refused call changes nothing.
+fn deliver_at<A: Allocator + Copy>(
+    replicas: &mut BTreeMap<Name, Replica<A>, A>,
+    alloc: A,
+    name: Name,
+    message: &Pair<A>,
+) -> Result<(), Refusal>
+    requires { IsSome (get nat_cmp replicas.old name) }
+    ensures ok { OnOk result ((before : _) × (after : _) × Replaces replicas.old replicas.new name before after ×
+        Same (pair_state after.live) (join greater (pair_state before.live) (pair_state message.now)) × (after.group ≡ before.group)) }
+    ensures refusal { IsOkUnless result Refusal.OutOfMemory }
+    ensures err { OnErr result (SameReplicas replicas.old replicas.new) }
+{
+    match replicas.get_mut(&name) {
+        Some(replica) => replica.deliver(alloc, message),
+        None => unreachable!(),
+    }
 }

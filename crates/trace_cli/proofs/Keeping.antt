@@ -1,0 +1,238 @@
+-- How a world keeps its events from one to the next: over plain variables.
+use Rattle.std.proofs.Common.{◌≡◌, ◌≢◌, ℕ, ◌+◌, ◌-◌, ◌≤◌, ◌==◌, ◌||◌, Bool, true, false, cond, List, [], ◌∷◌, ◌++◌, length, Option, Some, None, is_some, ◌⊎◌, inl, inr, zero, suc, refl, sym, ◌∙◌, ap, subst, arith, length-append, map, Result, Ok, is_ok}
+use Rattle.std.specs.Map.{lookup}
+use Rattle.std.proofs.lemmas.List.{append-nil, map-append}
+use Rattle.std.proofs.lemmas.Bool.Decides.{nat_tests}
+use Rattle.std.proofs.lemmas.Option.{slice_get_within}
+use Rattle.std.specs.BTreeMap.{BTreeMap, get, is_at, Updates}
+use Rattle.std.specs.List.{slice_get}
+use Rattle.std.specs.Ordering.{nat_cmp}
+use Rattle.causal_context.specs.Context.{HasNone}
+use Rattle.delta_ops.specs.Pair.{PairValue, pair_state}
+use Rattle.op_model.specs.Made.{IsPutAt}
+use Rattle.op_model.specs.Meaning.{greater, state}
+use Rattle.op_model.specs.Operation.{Operation, Write, Wrote}
+use Rattle.op_model.specs.State.{Same, join}
+use Rattle.op_model.specs.World.{World, Event, Node, Put, Flush, Deliver, after, is_node, message, sent, replica_of, Means}
+use Rattle.op_model.proofs.Joins.{same-itself, same-back, same-chain}
+use Rattle.op_model.proofs.Fresh.{after-push}
+use Rattle.op_model.proofs.Pairs.{message-kept, message-added, sent-some, means-same}
+use Rattle.op_model.proofs.Events.{after_put_at, after_flush, group_empty, after_deliver, means_elsewhere, messages_after, node_there, node_means}
+use Rattle.trace_cli.specs.Keeps.{Keeps, bottom, live_of, group_of}
+use Rattle.trace_cli.specs.Replaces.{Replaces, SameReplicas}
+use Rattle.trace_cli.specs.declared.replica.Replica.{Replica}
+use Rattle.trace_cli.proofs.ReplicaMaps.{at_is}
+
+-- the messages are those of the world
+pub record Carries (messages : List PairValue) (w : World) : Type 0 where
+  pub count : length messages ≡ length w.messages
+  pub carry : (number : ℕ) (pair : PairValue) → slice_get messages number ≡ Some pair → Same (pair_state pair) (state (message w.messages (number + 1)))
+
+-- a world that carries the same messages
+carries-same : (messages : List PairValue) (v w : World) → w.messages ≡ v.messages → Carries messages v → Carries messages w
+carries-same messages v w same carries = record {
+  count = carries.count ∙ ap length (sym same);
+  carry = λ number pair is. let P : List (List Operation) → Type 0 = λ sets. Same (pair_state pair) (state (message sets (number + 1))) in subst P (sym same) (carries.carry number pair is)
+}
+
+nothing_state : Same (state []) bottom
+nothing_state = record { at = λ key dot. refl; has = λ dot. refl }
+
+-- one more message at the end
+slice_get_push : {X : Type 0} (xs : List X) (y x : X) (k : ℕ) → slice_get (xs ++ y ∷ []) k ≡ Some x → (slice_get xs k ≡ Some x) ⊎ ((k ≡ length xs) × (x ≡ y))
+slice_get_push [] y x zero is = inr (refl, cc)
+slice_get_push [] y x (suc k) is = absurd cc
+slice_get_push (z ∷ xs) y x zero is = inl is
+slice_get_push (z ∷ xs) y x (suc k) is =
+    elim (slice_get_push xs y x k is) [ inl before ↦ inl before | inr last ↦ inr (let e : k ≡ length xs = last.0 in (omega arith, last.1)) ]
+
+carries-sent : (messages : List PairValue) (pair : PairValue) (S : List Operation) (v w : World) → w.messages ≡ v.messages ++ S ∷ [] → Same (pair_state pair) (state S)
+    → Carries messages v → Carries (messages ++ pair ∷ []) w
+carries-sent messages pair S v w more same carries = record {
+  count = length-append messages (pair ∷ []) ∙ (ap (λ n. n + 1) carries.count ∙ (sym (length-append v.messages (S ∷ [])) ∙ ap length (sym more)));
+  carry = λ number found is.
+    let P : List (List Operation) → Type 0 = λ sets. Same (pair_state found) (state (message sets (number + 1))) in
+    subst P (sym more) (at number found (slice_get_push messages pair found number is))
+}
+  where
+    at : (number : ℕ) (found : PairValue) → (slice_get messages number ≡ Some found) ⊎ ((number ≡ length messages) × (found ≡ pair))
+        → Same (pair_state found) (state (message (v.messages ++ S ∷ []) (number + 1)))
+    at number found (inl before) =
+        let within = slice_get_within messages number found before in
+        let inside : number + 1 ≤ length v.messages = let e = carries.count in omega arith in
+        rw (message-kept v.messages (S ∷ []) (number + 1) inside) (carries.carry number found before)
+    at number found (inr last) =
+        let e : number ≡ length v.messages = last.0 ∙ carries.count in
+        rw (e, last.1, message-added v.messages S) same
+
+module _ {A : Type 0} where
+  -- which replicas are there stays where one is replaced
+  same_there : (old new : BTreeMap ℕ (Replica A)) (name : ℕ) (before after : Replica A) → Replaces old new name before after → (n : ℕ)
+      → is_some (get nat_cmp new n) ≡ is_some (get nat_cmp old n)
+  same_there old new name before after replaces n = go (n == name) refl
+    where
+      go : (b : Bool) → (n == name) ≡ b → is_some (get nat_cmp new n) ≡ is_some (get nat_cmp old n)
+      go true is =
+          let named : n ≡ name = grind (arith, nat_tests) in
+          rw named (ap is_some replaces.becomes ∙ sym (ap is_some replaces.was))
+      go false is = let apart : n ≢ name = grind (arith, nat_tests) in ap is_some (replaces.others n apart)
+
+  -- an event at one replica
+  keeps_event : (old new : BTreeMap ℕ (Replica A)) (messages more : List PairValue) (past : List Event) (e : Event) → Keeps old messages past
+      → ((n : ℕ) → n ≢ replica_of e → get nat_cmp new n ≡ get nat_cmp old n)
+      → Means (live_of (get nat_cmp new (replica_of e))) (group_of (get nat_cmp new (replica_of e))) (after (past ++ e ∷ [])) (replica_of e)
+      → ((n : ℕ) → is_some (get nat_cmp new n) ≡ is_node (after (past ++ e ∷ [])) n)
+      → Carries more (after (past ++ e ∷ []))
+      → Keeps new more (past ++ e ∷ [])
+  keeps_event old new messages more past e keeps others here there carries = record {
+    there = there;
+    means = λ n. go n (n == replica_of e) refl;
+    count = carries.count;
+    carry = carries.carry
+  }
+    where
+      go : (n : ℕ) (b : Bool) → (n == replica_of e) ≡ b → Means (live_of (get nat_cmp new n)) (group_of (get nat_cmp new n)) (after (past ++ e ∷ [])) n
+      go n true is =
+          let named : n ≡ replica_of e = grind (arith, nat_tests) in
+          let P : ℕ → Type 0 = λ m. Means (live_of (get nat_cmp new m)) (group_of (get nat_cmp new m)) (after (past ++ e ∷ [])) m in
+          subst P (sym named) here
+      go n false is =
+          let apart : n ≢ replica_of e = grind (arith, nat_tests) in
+          let P : Option (Replica A) → Type 0 = λ replica. Means (live_of replica) (group_of replica) (after (past ++ e ∷ [])) n in
+          subst P (sym (others n apart)) (means_elsewhere past e n (live_of (get nat_cmp old n)) (group_of (get nat_cmp old n)) apart (keeps.means n))
+
+  carries_of : (replicas : BTreeMap ℕ (Replica A)) (messages : List PairValue) (past : List Event) → Keeps replicas messages past → Carries messages (after past)
+  carries_of replicas messages past keeps = record { count = keeps.count; carry = keeps.carry }
+
+  pub keeps_nothing : (replicas : BTreeMap ℕ (Replica A)) → replicas.entries ≡ [] → Keeps replicas [] []
+  keeps_nothing replicas empty = record {
+    there = λ name. let none : get nat_cmp replicas name ≡ None = rw empty refl in ap is_some none;
+    means = λ name.
+      let P : Option (Replica A) → Type 0 = λ replica. Means (live_of replica) (group_of replica) (after []) name in
+      let none : get nat_cmp replicas name ≡ None = rw empty refl in
+      subst P (sym none) (record { seen = same-back _ _ nothing_state; outgoing = same-back _ _ nothing_state });
+    count = refl;
+    carry = λ number pair is. absurd cc
+  }
+
+  -- the replicas by what is found of them
+  pub keeps_same : (old new : BTreeMap ℕ (Replica A)) (messages : List PairValue) (past : List Event) → SameReplicas old new → Keeps old messages past → Keeps new messages past
+  keeps_same old new messages past same keeps = record {
+    there = λ name. ap is_some (same name) ∙ keeps.there name;
+    means = λ name. let P : Option (Replica A) → Type 0 = λ replica. Means (live_of replica) (group_of replica) (after past) name in subst P (sym (same name)) (keeps.means name);
+    count = keeps.count;
+    carry = keeps.carry
+  }
+
+  -- what a replica that is there means
+  pub means_at : (replicas : BTreeMap ℕ (Replica A)) (messages : List PairValue) (past : List Event) (name : ℕ) (replica : Replica A) → Keeps replicas messages past
+      → get nat_cmp replicas name ≡ Some replica → Means (pair_state replica.live) (pair_state replica.group) (after past) name
+  means_at replicas messages past name replica keeps is =
+      let P : Option (Replica A) → Type 0 = λ r. Means (live_of r) (group_of r) (after past) name in subst P is (keeps.means name)
+
+  pub keeps_node : (old new : BTreeMap ℕ (Replica A)) (messages : List PairValue) (past : List Event) (name : ℕ) (replica : Replica A) → Keeps old messages past
+      → get nat_cmp old name ≡ None → Updates nat_cmp old new name (Some replica) → Same (pair_state replica.live) (state []) → Same (pair_state replica.group) (state [])
+      → Keeps new messages (past ++ Node name ∷ [])
+  keeps_node old new messages past name replica keeps absent updates live group =
+      keeps_event old new messages messages past (Node name) keeps
+        (λ n apart. updates.2 n (at_is name n ∙ other n apart))
+        (let P : Option (Replica A) → Type 0 = λ r. Means (live_of r) (group_of r) (after (past ++ Node name ∷ [])) name in
+         subst P (sym updates.1)
+           (means-same bottom (pair_state replica.live) bottom (pair_state replica.group) (after (past ++ Node name ∷ [])) name
+             (same-chain _ _ _ live nothing_state) (same-chain _ _ _ group nothing_state)
+             (node_means past name name bottom bottom
+               (let Q : Option (Replica A) → Type 0 = λ r. Means (live_of r) (group_of r) (after past) name in subst Q absent (keeps.means name)))))
+        (λ n. ap is_some (updates.0 n) ∙ (by n (is_at (nat_cmp name) n) (at_is name n) ∙ sym (node_there past name n)))
+        (carries-same messages (after past) (after (past ++ Node name ∷ [])) (messages_after past (Node name)) (carries_of old messages past keeps))
+    where
+      other : (n : ℕ) → n ≢ name → (name == n) ≡ false
+      other n apart = grind (arith, nat_tests)
+      or_true : (b : Bool) → (b || true) ≡ true
+      or_true true = refl
+      or_true false = refl
+      or_false : (b : Bool) → (b || false) ≡ b
+      or_false true = refl
+      or_false false = refl
+      by : (n : ℕ) (b : Bool) → b ≡ (name == n) → is_some (cond b (Some replica) (get nat_cmp old n)) ≡ (is_node (after past) n || name == n)
+      by n true is = sym (ap (λ b. is_node (after past) n || b) (sym is) ∙ or_true (is_node (after past) n))
+      by n false is = keeps.there n ∙ sym (ap (λ b. is_node (after past) n || b) (sym is) ∙ or_false (is_node (after past) n))
+
+  pub keeps_put : (old new : BTreeMap ℕ (Replica A)) (messages : List PairValue) (past : List Event) (name : ℕ) (key value : List ℕ) (before now : Replica A) (w : Write)
+      → Keeps old messages past → Replaces old new name before now → IsPutAt (pair_state before.live) name key value w
+      → Same (pair_state now.live) (join greater (pair_state before.live) (state (Wrote w ∷ [])))
+      → Same (pair_state now.group) (join greater (pair_state before.group) (state (Wrote w ∷ [])))
+      → Keeps new messages (past ++ Put name key value ∷ [])
+  keeps_put old new messages past name key value before now w keeps replaces made live group =
+      keeps_event old new messages messages past (Put name key value) keeps replaces.others
+        (let P : Option (Replica A) → Type 0 = λ r. Means (live_of r) (group_of r) (after (past ++ Put name key value ∷ [])) name in
+         subst P (sym replaces.becomes)
+           (means-same (join greater (pair_state before.live) (state (Wrote w ∷ []))) (pair_state now.live) (join greater (pair_state before.group) (state (Wrote w ∷ []))) (pair_state now.group)
+             (after (past ++ Put name key value ∷ [])) name live group
+             (after_put_at past name (pair_state before.live) (pair_state before.group) (means_at old messages past name before keeps replaces.was) key value w (state (Wrote w ∷ [])) made
+               (same-itself (state (Wrote w ∷ []))))))
+        (λ n. same_there old new name before now replaces n ∙ (keeps.there n ∙ sym (ap (λ w. is_node w n) (after-push past (Put name key value)))))
+        (carries-same messages (after past) (after (past ++ Put name key value ∷ [])) (messages_after past (Put name key value)) (carries_of old messages past keeps))
+
+  pub keeps_deliver : (old new : BTreeMap ℕ (Replica A)) (messages : List PairValue) (past : List Event) (name number : ℕ) (pair : PairValue) (before now : Replica A)
+      → Keeps old messages past → Replaces old new name before now → 1 ≤ number → slice_get messages (number - 1) ≡ Some pair
+      → Same (pair_state now.live) (join greater (pair_state before.live) (pair_state pair)) → now.group ≡ before.group
+      → Keeps new messages (past ++ Deliver number name ∷ [])
+  keeps_deliver old new messages past name number pair before now keeps replaces first found live group =
+      keeps_event old new messages messages past (Deliver number name) keeps replaces.others
+        (let P : Option (Replica A) → Type 0 = λ r. Means (live_of r) (group_of r) (after (past ++ Deliver number name ∷ [])) name in
+         let same : number - 1 + 1 ≡ number = omega arith in
+         subst P (sym replaces.becomes)
+           (means-same (join greater (pair_state before.live) (pair_state pair)) (pair_state now.live) (pair_state before.group) (pair_state now.group)
+             (after (past ++ Deliver number name ∷ [])) name live (rw group (same-itself (pair_state before.group)))
+             (after_deliver past name (pair_state before.live) (pair_state before.group) (means_at old messages past name before keeps replaces.was) number (pair_state pair)
+               (rw same at (keeps.carry (number - 1) pair found)))))
+        (λ n. same_there old new name before now replaces n ∙ (keeps.there n ∙ sym (ap (λ w. is_node w n) (after-push past (Deliver number name)))))
+        (carries-same messages (after past) (after (past ++ Deliver number name ∷ [])) (messages_after past (Deliver number name)) (carries_of old messages past keeps))
+
+  -- a flush of a group that knows some dot
+  pub keeps_sent : (old new : BTreeMap ℕ (Replica A)) (messages : List PairValue) (past : List Event) (name : ℕ) (before now : Replica A) → Keeps old messages past
+      → Replaces old new name before now → now.live ≡ before.live → ¬ HasNone before.group.1 → Same (pair_state now.group) (state [])
+      → Keeps new (messages ++ before.group ∷ []) (past ++ Flush name ∷ [])
+  keeps_sent old new messages past name before now keeps replaces live some group =
+      let means = means_at old messages past name before keeps replaces.was in
+      keeps_event old new messages (messages ++ before.group ∷ []) past (Flush name) keeps replaces.others
+        (let P : Option (Replica A) → Type 0 = λ r. Means (live_of r) (group_of r) (after (past ++ Flush name ∷ [])) name in
+         subst P (sym replaces.becomes)
+           (rw live (after_flush past name (pair_state before.live) (pair_state before.group) means (pair_state now.group) group)))
+        (λ n. same_there old new name before now replaces n ∙ (keeps.there n ∙ sym (ap (λ w. is_node w n) (after-push past (Flush name)))))
+        (carries-sent messages before.group ((after past).outgoing name) (after past) (after (past ++ Flush name ∷ []))
+          (messages_after past (Flush name) ∙ ap (λ more. (after past).messages ++ more) (sent-some ((after past).outgoing name)
+            (λ none. some ((group_empty past name (pair_state before.live) (pair_state before.group) means).1 none))))
+          means.outgoing (carries_of old messages past keeps))
+
+  -- a flush of a group that knows no dot
+  pub keeps_unsent : (old new : BTreeMap ℕ (Replica A)) (messages : List PairValue) (past : List Event) (name : ℕ) (replica : Replica A) → Keeps old messages past
+      → SameReplicas old new → get nat_cmp old name ≡ Some replica → HasNone replica.group.1
+      → Keeps new messages (past ++ Flush name ∷ [])
+  keeps_unsent old new messages past name replica keeps same is unknown =
+      let means = means_at old messages past name replica keeps is in
+      let none = (group_empty past name (pair_state replica.live) (pair_state replica.group) means).0 unknown in
+      keeps_event old new messages messages past (Flush name) keeps (λ n apart. same n)
+        (let P : Option (Replica A) → Type 0 = λ r. Means (live_of r) (group_of r) (after (past ++ Flush name ∷ [])) name in
+         subst P (sym (same name ∙ is))
+           (after_flush past name (pair_state replica.live) (pair_state replica.group) means (pair_state replica.group)
+             (let Q : List Operation → Type 0 = λ S. Same (pair_state replica.group) (state S) in subst Q none means.outgoing)))
+        (λ n. ap is_some (same n) ∙ (keeps.there n ∙ sym (ap (λ w. is_node w n) (after-push past (Flush name)))))
+        (carries-same messages (after past) (after (past ++ Flush name ∷ []))
+          (messages_after past (Flush name) ∙ (ap (λ S. (after past).messages ++ sent S) none ∙ append-nil (after past).messages)) (carries_of old messages past keeps))
+
+  -- the same replicas, and room made for one more event
+  pub keeps_unchanged : (old new : BTreeMap ℕ (Replica A)) (messages : List PairValue) (past reserved : List Event) → new.entries ≡ old.entries → reserved ≡ past
+      → Keeps old messages past → Keeps new messages reserved
+  keeps_unchanged old new messages past reserved same room keeps =
+      rw room (keeps_same old new messages past (λ name. ap (lookup (is_at (nat_cmp name))) same) keeps)
+
+-- one more at the end, after room was made for it
+pub list_push : {E X D : Type 0} (old reserved new : List E) (e : E) (r : Result X D) (x : X) → reserved ≡ old
+    → new ≡ cond (is_ok r) (reserved ++ e ∷ []) reserved → r ≡ Ok x → new ≡ old ++ e ∷ []
+list_push old reserved new e r x room pushed ok =
+    pushed ∙ (ap (λ b. cond (is_ok b) (reserved ++ e ∷ []) reserved) ok ∙ ap (λ items. items ++ e ∷ []) room)
+
+pub past_push : {E V X D : Type 0} (value : E → V) (old reserved new : List E) (e : E) (r : Result X D) (x : X) → reserved ≡ old
+    → new ≡ cond (is_ok r) (reserved ++ e ∷ []) reserved → r ≡ Ok x → map value new ≡ map value old ++ value e ∷ []
+past_push value old reserved new e r x room pushed ok = ap (map value) (list_push old reserved new e r x room pushed ok) ∙ map-append value old (e ∷ [])

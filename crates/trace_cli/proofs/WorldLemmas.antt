@@ -1,0 +1,92 @@
+-- What a world that keeps its events answers: over plain variables.
+use Rattle.std.proofs.Common.{◌≡◌, ◌≢◌, ℕ, ◌+◌, ◌-◌, ◌^◌, ◌<◌, ◌≤◌, nat_lt, Bool, true, false, cond, List, [], ◌∷◌, ◌++◌, length, Contains, ◌↔◌, Option, Some, None, is_some, IfSome, Result, Ok, Err, IfOk, refl, sym, ◌∙◌, ap, arith, length-append}
+use Rattle.std.proofs.lemmas.Bool.Decides.{nat_tests}
+use Rattle.std.proofs.lemmas.Option.{slice_get_within}
+use Rattle.std.specs.BTreeMap.{BTreeMap, get}
+use Rattle.std.specs.List.{slice_get}
+use Rattle.std.specs.Ordering.{nat_cmp}
+use Rattle.causal_context.specs.Context.{IsGreatest, HasNone, has}
+use Rattle.delta_ops.specs.Pair.{PairValue, pair_state}
+use Rattle.delta_ops.proofs.Puts.{next_is}
+use Rattle.op_model.specs.Made.{IsPutAt, dot_at}
+use Rattle.op_model.specs.Meaning.{Stands}
+use Rattle.op_model.specs.Operation.{Operation, Write}
+use Rattle.op_model.specs.Shown.{IsAscending, values}
+use Rattle.op_model.specs.World.{Event, after, is_node, is_message}
+use Rattle.op_model.proofs.Events.{group_empty}
+use Rattle.op_model.proofs.Fresh.{seen-NoReuse}
+use Rattle.op_model.proofs.Making.{put_dot}
+use Rattle.op_model.proofs.Showing.{values_standing}
+use Rattle.trace_cli.specs.Keeps.{Keeps}
+use Rattle.trace_cli.specs.Outcome.{sent_number}
+use Rattle.trace_cli.specs.declared.replica.Replica.{Replica}
+use Rattle.trace_cli.proofs.Keeping.{means_at}
+
+pub IfOk-both : {T E : Type 0} {P Q R : T → Type 0} (result : Result T E) → ((x : T) → P x → Q x → R x) → IfOk result P → IfOk result Q → IfOk result R
+IfOk-both (Ok x) both first then = both x first then
+IfOk-both (Err e) both first then = tt
+
+module _ {A : Type 0} (replicas : BTreeMap ℕ (Replica A)) (messages : List PairValue) (past : List Event) (keeps : Keeps replicas messages past) where
+  -- a replica that was found is there
+  pub found_node : (name : ℕ) (replica : Replica A) → Some replica ≡ get nat_cmp replicas name → is_node (after past) name ≡ true
+  found_node name replica found = sym (ap is_some found ∙ keeps.there name)
+
+  -- where no number is left, the next is past the limit
+  pub spent : (name : ℕ) (replica : Replica A) → Some replica ≡ get nat_cmp replicas name → IsGreatest name (has replica.live.1) (2 ^ 64 - 1)
+      → 2 ^ 64 ≤ (dot_at ((after past).seen name) name).number
+  spent name replica found greatest =
+      let means = means_at replicas messages past name replica keeps (sym found) in
+      let is = put_dot ((after past).seen name) (pair_state replica.live) means.seen name (record { name = name; number = 2 ^ 64 })
+        (next_is name (has replica.live.1) (record { name = name; number = 2 ^ 64 }) (record { name = refl; greatest = 2 ^ 64 - 1; is_greatest = greatest; number = refl })) in
+      omega (arith, ap (λ dot. dot.number) is)
+
+  -- the dot of a put
+  pub dot_of_put : (name : ℕ) (key value : List ℕ) (replica : Replica A) (w : Write) → get nat_cmp replicas name ≡ Some replica → IsPutAt (pair_state replica.live) name key value w
+      → w.id ≡ dot_at ((after past).seen name) name
+  dot_of_put name key value replica w found made =
+      let means = means_at replicas messages past name replica keeps found in
+      put_dot ((after past).seen name) (pair_state replica.live) means.seen name w.id made.id
+
+  -- the values of a key
+  pub values_of_key : (name : ℕ) (key : List ℕ) (replica : Replica A) (found : List (List ℕ)) → Some replica ≡ get nat_cmp replicas name → IsAscending found
+      → ((value : List ℕ) → Contains found value ↔ Stands (pair_state replica.live) key value) → found ≡ values ((after past).seen name) key
+  values_of_key name key replica found is ascending standing =
+      let means = means_at replicas messages past name replica keeps (sym is) in
+      values_standing ((after past).seen name) key (pair_state replica.live) found (seen-NoReuse past name) means.seen ascending standing
+
+  -- a message that was found is one
+  pub found_message : (number : ℕ) (pair : PairValue) → Some pair ≡ cond (nat_lt 0 number) (slice_get messages (number - 1)) None
+      → (1 ≤ number) × (slice_get messages (number - 1) ≡ Some pair) × (is_message (after past) number ≡ true)
+  found_message number pair is = go (nat_lt 0 number) refl is
+    where
+      go : (b : Bool) → nat_lt 0 number ≡ b → Some pair ≡ cond b (slice_get messages (number - 1)) None
+          → (1 ≤ number) × (slice_get messages (number - 1) ≡ Some pair) × (is_message (after past) number ≡ true)
+      go false none found = absurd cc
+      go true first found =
+          let one : 1 ≤ number = grind (arith, nat_tests) in
+          let within : number - 1 < length messages = slice_get_within messages (number - 1) pair (sym found) in
+          let count = keeps.count in
+          (one, sym found, grind (arith, nat_tests))
+
+  pub sent_next : (group : PairValue) (S : List Operation) → S ≢ [] → Some (length (messages ++ group ∷ [])) ≡ sent_number S (length (after past).messages + 1)
+  sent_next group [] some = absurd (some refl)
+  sent_next group (o ∷ S) some = let count = keeps.count in ap Some (length-append messages (group ∷ []) ∙ ap (λ n. n + 1) count)
+
+  pub outgoing_some : (name : ℕ) (replica : Replica A) → get nat_cmp replicas name ≡ Some replica → ¬ HasNone replica.group.1 → (after past).outgoing name ≢ []
+  outgoing_some name replica found some none =
+      some ((group_empty past name (pair_state replica.live) (pair_state replica.group) (means_at replicas messages past name replica keeps found)).1 none)
+
+  pub outgoing_none : (name : ℕ) (replica : Replica A) → get nat_cmp replicas name ≡ Some replica → HasNone replica.group.1 → (after past).outgoing name ≡ []
+  outgoing_none name replica found unknown =
+      (group_empty past name (pair_state replica.live) (pair_state replica.group) (means_at replicas messages past name replica keeps found)).0 unknown
+
+-- the value of an option that is there
+pub value_of : {X : Type 0} (P : X → Type 0) (o : Option X) → true ≡ is_some o → IfSome o P → (x : X) × (o ≡ Some x) × P x
+value_of P None there holds = absurd cc
+value_of P (Some x) there holds = (x, refl, holds)
+
+pub at_some : {X : Type 0} (P : X → Type 0) (o : Option X) (x : X) → o ≡ Some x → IfSome o P → P x
+at_some P o x is holds = rw is at holds
+
+pub unsent : (S : List Operation) (number : ℕ) → S ≡ [] → None ≡ sent_number S number
+unsent S number none = rw none refl
