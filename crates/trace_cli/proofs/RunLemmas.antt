@@ -10,8 +10,8 @@ use Rattle.trace_cli.specs.Output.{Given, prepend, given_of, given_from}
 use Rattle.trace_cli.specs.declared.session.Session.{Session}
 use Rattle.trace_cli.specs.Session.{Point, start_point, point_of, given_at, Leads, Stops, Begins}
 use Rattle.trace_cli.specs.Streams.{Taken, Written, IsFront}
-use Rattle.trace_cli.proofs.LineLemmas.{given_at-Leads, Leads-trans, Stops-after, Begins-after, front-prepend}
-use Rattle.trace_cli.proofs.StreamLemmas.{Appends-trans, Consumes-trans, Consumes-kept}
+use Rattle.trace_cli.proofs.LineLemmas.{given_at-Leads, Leads-nothing, Leads-trans, Stops-after, Begins-after, front-prepend}
+use Rattle.trace_cli.proofs.StreamLemmas.{Appends-nothing, Appends-trans, Consumes-nothing, Consumes-trans, Consumes-kept}
 
 -- from the start of a run, what was read led to this point by writing what was written
 abbrev pub Ran : Option (List ℕ) → Option (List ℕ) → Option (List ℕ) → Option (List ℕ) → Point → Type 0
@@ -73,17 +73,34 @@ Ran-begins ro rm rn wo wm wn mid piece ran took then =
     let P : List ℕ → Type 0 = λ bytes. IsFront text (given_from start 1 (lines_of bytes)).text in
     (read, Consumes-trans ro rm rn ran.0 piece ran.1 took, (text, Appends-trans wo wm wn ran.2.0 then.0 ran.2.1 then.1, subst P (append-nil read) (begin.begins [])))
 
+-- the last line, after what was read
+pub finished : (wo wm wn : Option (List ℕ)) (read text : List ℕ) (mid : Point) (fault : Option Refusal) → Appends wo wm text → Leads start_point read text mid
+    → Written wm wn (λ last. given_at mid [] ≡ record { text = last; fault = fault }) → Appends wo wn (given_of read).text × ((given_of read).fault ≡ fault)
+finished wo wm wn read text mid fault wrote led then =
+    let is : given_of read ≡ record { text = text ++ then.0; fault = fault } = given_of-Leads read text mid led ∙ ap (prepend text) then.2 in
+    (given-written wo wn (text ++ then.0) (given_of read) fault is (Appends-trans wo wm wn text then.0 wrote then.1), given-fault (text ++ then.0) (given_of read) fault is)
+
 -- the end of the input, and what is given to the last line
 pub Ran-finishes : (ro rm rn wo wm wn : Option (List ℕ)) (mid : Point) (fault : Option Refusal) → Ran ro rm wo wm mid → Consumes rm rn []
     → Written wm wn (λ text. given_at mid [] ≡ record { text = text; fault = fault })
     → Taken ro rn (λ read. Appends wo wn (given_of read).text × ((given_of read).fault ≡ fault))
 Ran-finishes ro rm rn wo wm wn mid fault ran took then =
-    let read = ran.0 in
-    let text = ran.2.0 ++ then.0 in
-    let is : given_of read ≡ record { text = text; fault = fault } = given_of-Leads read ran.2.0 mid ran.2.2 ∙ ap (prepend ran.2.0) then.2 in
     let P : List ℕ → Type 0 = λ bytes. Consumes ro rn bytes in
-    (read, subst P (append-nil read) (Consumes-trans ro rm rn read [] ran.1 took),
-     (given-written wo wn text (given_of read) fault is (Appends-trans wo wm wn ran.2.0 then.0 ran.2.1 then.1), given-fault text (given_of read) fault is))
+    (ran.0, subst P (append-nil ran.0) (Consumes-trans ro rm rn ran.0 [] ran.1 took), finished wo wm wn ran.0 ran.2.0 mid fault ran.2.1 ran.2.2 then)
+
+-- a whole input that was fed to a session from its start, and finished
+pub finished_all : {A : Type 0} (wo wm wn : Option (List ℕ)) (session : Session A) (input : List ℕ) (mid : Point) (fault : Option Refusal) → point_of session ≡ start_point
+    → Written wo wm (λ text. Leads (point_of session) input text mid) → Written wm wn (λ last. given_at mid [] ≡ record { text = last; fault = fault })
+    → Appends wo wn (given_of input).text
+finished_all wo wm wn session input mid fault at_start fed then =
+    let P : Point → Type 0 = λ point. Leads point input fed.0 mid in
+    (finished wo wm wn input fed.0 mid fault fed.1 (subst P at_start fed.2) then).0
+
+-- nothing was read or written yet
+pub Ran-start : {A : Type 0} (ro wo : Option (List ℕ)) (session : Session A) → point_of session ≡ start_point → Ran ro ro wo wo (point_of session)
+Ran-start ro wo session at_start =
+    let P : Point → Type 0 = λ point. Ran ro ro wo wo point in
+    subst P (sym at_start) ([], Consumes-nothing ro, ([], Appends-nothing wo, Leads-nothing start_point))
 
 -- nothing comes after the end
 pub at_end : (read : List ℕ) (rn : Option (List ℕ)) → IsAtEnd rn → IfSome rn (λ rest. given_of (read ++ rest) ≡ given_of read)
@@ -100,10 +117,9 @@ Ran-ends ro rm rn wo wm wn mid ran took then =
      subst Q (sym (given_of-Leads read ran.2.0 mid ran.2.2)) (front-prepend ran.2.0 then.0 (given_at mid []) then.2)))
 
 -- nothing was read or written more
-pub Ran-front : (ro rn wo wn : Option (List ℕ)) (point : Point) → Ran ro rn wo wn point → Taken ro rn (λ read. Written wo wn (λ text. IsFront text (given_of read).text))
-Ran-front ro rn wo wn point ran =
-    let Q : Given → Type 0 = λ given. IsFront ran.2.0 given.text in
-    (ran.0, ran.1, (ran.2.0, ran.2.1, subst Q (sym (given_of-Leads ran.0 ran.2.0 point ran.2.2)) (record { rest = (given_at point []).text; joined = refl })))
+pub Ran-kept : (ro rm rn wo wn : Option (List ℕ)) (point : Point) → Ran ro rm wo wn point → Keeps rm rn → Taken ro rn (λ read. Written wo wn (λ text. IsFront text (given_of read).text))
+Ran-kept ro rm rn wo wn point ran kept =
+    Ran-ends ro rm rn wo wn wn point ran (Consumes-kept rm rn kept) ([], Appends-nothing wn, record { rest = (given_at point []).text; joined = refl })
 
 -- a fault in the whole input
 pub Stops-written : {A : Type 0} (wo wn : Option (List ℕ)) (session : Session A) (input : List ℕ) (refusal : Refusal) → point_of session ≡ start_point

@@ -1,11 +1,10 @@
 -- What a trace is answered, as a function of its bytes. Of this project.
 --
 -- The trace is split into lines; each line is answered from the events before it; the first fault's line is the last.
-use Rattle.std.specs.Prelude.{ℕ, ◌+◌, Bool, true, false, List, [], ◌∷◌, ◌++◌, Option, Some, None, codes}
+use Rattle.std.specs.Prelude.{ℕ, ◌+◌, List, [], ◌∷◌, ◌++◌, Option, Some, None, codes}
 use Rattle.std.specs.Fmt.{decimal}
 use Rattle.dots.specs.Refusal.{word_of}
 use Rattle.dots.specs.declared.refusal.Refusal.{Refusal}
-use Rattle.dots.specs.declared.refusal.Refusal.TheVariants.{OutOfMemory, TooLong, ReadOnly, NumbersSpent, SessionsFull, NotAMessage, NoPlace, NameTaken, UnknownReplica, UnknownMessage, BadLine, Input, Output}
 use Rattle.trace_cli.specs.Lines.{lines_of}
 use Rattle.trace_cli.specs.Machine.{Past, start, Answer, Silent, Told, Faulted, answer_to, past_after}
 

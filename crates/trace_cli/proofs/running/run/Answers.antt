@@ -1,7 +1,9 @@
-use Rattle.std.proofs.Common.{arith, length, ◌<◌, length-take, refl}
+use Rattle.std.proofs.Common.{ap, arith, length, ◌<◌, length-take, refl}
 use Rattle.std.proofs.lemmas.Result.{err_from_is_err_and, on_ok_weaker, on_err_weaker, IfErr-weaker}
-use Rattle.trace_cli.proofs.RunLemmas.{Ran-answered, Ran-more, Ran-stops, Ran-begins, Ran-finishes, Ran-ends, at_end}
+use Rattle.trace_cli.proofs.RunLemmas.{Ran-start, Ran-kept, Ran-answered, Ran-more, Ran-stops, Ran-begins, Ran-finishes, Ran-ends, at_end}
 use Rattle.trace_cli.proofs.StreamLemmas.{Keeps-itself}
+use Rattle.trace_cli.specs.Lines.{has_newline}
+use Rattle.trace_cli.specs.Session.{Point}
 use Rattle.trace_cli.proofs.running.run.Goals as goal
 
 pub returns-in_default-clause-answered : goal.returns-in_default-clause-answered
@@ -53,3 +55,20 @@ calls-preserved g c = record {
   calls = omega (arith, c.in-Ok.ensures.calls);
   failed = rw (c.in-Ok.ensures.failed, c.calls.invariant.failed) refl
 }
+
+pub calls-init : goal.calls-init
+calls-init g c =
+    let at_start = c.new-session.ensures in
+    record {
+      led = Ran-start _ _ c.new-session.result at_start;
+      one_line = ap (λ (point : Point). has_newline point.line) at_start;
+      number = (let first = ap (λ (point : Point). point.number) at_start in omega (arith, first));
+      calls = c.requires.reader_is_new.no_calls;
+      failed = c.requires.reader_is_new.no_failure
+    }
+
+pub returns-in_default-clause-front : goal.returns-in_default-clause-front
+returns-in_default-clause-front g c = Ran-kept _ _ _ _ _ _ c.calls.invariant.led c.in_default.ensures.bytes
+
+pub returns-clause-front : goal.returns-clause-front
+returns-clause-front g c = Ran-kept _ _ _ _ _ _ c.calls.invariant.led (Keeps-itself _)
