@@ -34,12 +34,13 @@ Gathers-more found new values value gathered is =
     subst P (sym (is ∙ insert_key-with_one value found)) (record {
       ascending = with_one-ascends value found gathered.ascending;
       there = λ v in_it. to v (Contains-append_cases values (value ∷ []) v in_it);
-      back = λ v in_it. from v (from_with_one value found v in_it)
+      back = λ v in_it. from v (from_with_one value found v in_it);
     })
   where
     to : (v : List ℕ) → Contains values v ⊎ Contains (value ∷ []) v → Contains (with_one value found) v
     to v (inl before) = (in_with_one value found).1 v (gathered.there v before)
     to v (inr now) = elim (head_or_tail value [] v now) [ inl same ↦ at_same (with_one value found) value v same (in_with_one value found).0 | inr none_there ↦ nothing_in v none_there ]
+
     from : (v : List ℕ) → (v ≡ value) ⊎ Contains found v → Contains (values ++ value ∷ []) v
     from v (inl same) = at_same (values ++ value ∷ []) value v (sym same) (Contains-append_right values (value ∷ []) value (at_head value []))
     from v (inr before) = Contains-append_left values (value ∷ []) v (gathered.back v before)
@@ -48,10 +49,11 @@ Gathers-more found new values value gathered is =
 pub Gathers-entries : {D : Type 0} {P : List ℕ → Type 0} (found : List (List ℕ)) (entries : List (D × List ℕ)) → Gathers found (map (λ entry. entry.1) entries)
     → ((value : List ℕ) → ((dot : D) × Contains entries (dot, value)) → P value) → ((value : List ℕ) → P value → (dot : D) × Contains entries (dot, value))
     → (value : List ℕ) → Contains found value ↔ P value
-Gathers-entries {P = P} found entries gathered to back value =
-    (λ in_it. let entry = from_map (λ entry. entry.1) entries value (gathered.back value in_it) in
-        to value (entry.0.0, at_same entries entry.0 (entry.0.0, value) (ap (λ v. (entry.0.0, v)) entry.2) entry.1),
-     λ stands. let entry = back value stands in gathered.there value (in_map (λ entry. entry.1) entries (entry.0, value) entry.1))
+Gathers-entries {P = P} found entries gathered to back value = (
+  λ in_it. let entry = from_map (λ entry. entry.1) entries value (gathered.back value in_it) in
+      to value (entry.0.0, at_same entries entry.0 (entry.0.0, value) (ap (λ v. (entry.0.0, v)) entry.2) entry.1),
+  λ stands. let entry = back value stands in gathered.there value (in_map (λ entry. entry.1) entries (entry.0, value) entry.1),
+)
 
 -- the values of entries that were lent
 pub lent_values : {K X : Type 0} (lent : List (Bor K × Bor X)) → map (λ entry. entry.1) (map deref_pair lent) ≡ map (λ entry. entry.1.now) lent

@@ -32,7 +32,7 @@ pub record Carries (messages : List PairValue) (w : World) : Type 0 where
 carries-same : (messages : List PairValue) (v w : World) → w.messages ≡ v.messages → Carries messages v → Carries messages w
 carries-same messages v w same carries = record {
   count = carries.count ∙ ap length (sym same);
-  carry = λ number pair is. let P : List (List Operation) → Type 0 = λ sets. Same (pair_state pair) (state (message sets (number + 1))) in subst P (sym same) (carries.carry number pair is)
+  carry = λ number pair is. let P : List (List Operation) → Type 0 = λ sets. Same (pair_state pair) (state (message sets (number + 1))) in subst P (sym same) (carries.carry number pair is);
 }
 
 nothing_state : Same (state []) bottom
@@ -51,8 +51,8 @@ carries-sent : (messages : List PairValue) (pair : PairValue) (S : List Operatio
 carries-sent messages pair S v w more same carries = record {
   count = length-append messages (pair ∷ []) ∙ (ap (λ n. n + 1) carries.count ∙ (sym (length-append v.messages (S ∷ [])) ∙ ap length (sym more)));
   carry = λ number found is.
-    let P : List (List Operation) → Type 0 = λ sets. Same (pair_state found) (state (message sets (number + 1))) in
-    subst P (sym more) (at number found (slice_get_push messages pair found number is))
+      let P : List (List Operation) → Type 0 = λ sets. Same (pair_state found) (state (message sets (number + 1))) in
+      subst P (sym more) (at number found (slice_get_push messages pair found number is));
 }
   where
     at : (number : ℕ) (found : PairValue) → (slice_get messages number ≡ Some found) ⊎ ((number ≡ length messages) × (found ≡ pair))
@@ -88,7 +88,7 @@ module _ {A : Type 0} where
     there = there;
     means = λ n. go n (n == replica_of e) refl;
     count = carries.count;
-    carry = carries.carry
+    carry = carries.carry;
   }
     where
       go : (n : ℕ) (b : Bool) → (n == replica_of e) ≡ b → Means (live_of (get nat_cmp new n)) (group_of (get nat_cmp new n)) (after (past ++ e ∷ [])) n
@@ -108,11 +108,11 @@ module _ {A : Type 0} where
   keeps_nothing replicas empty = record {
     there = λ name. let none : get nat_cmp replicas name ≡ None = rw empty refl in ap is_some none;
     means = λ name.
-      let P : Option (Replica A) → Type 0 = λ replica. Means (live_of replica) (group_of replica) (after []) name in
-      let none : get nat_cmp replicas name ≡ None = rw empty refl in
-      subst P (sym none) (record { seen = same-back _ _ nothing_state; outgoing = same-back _ _ nothing_state });
+        let P : Option (Replica A) → Type 0 = λ replica. Means (live_of replica) (group_of replica) (after []) name in
+        let none : get nat_cmp replicas name ≡ None = rw empty refl in
+        subst P (sym none) (record { seen = same-back _ _ nothing_state; outgoing = same-back _ _ nothing_state });
     count = refl;
-    carry = λ number pair is. absurd cc
+    carry = λ number pair is. absurd cc;
   }
 
   -- the replicas by what is found of them
@@ -121,7 +121,7 @@ module _ {A : Type 0} where
     there = λ name. ap is_some (same name) ∙ keeps.there name;
     means = λ name. let P : Option (Replica A) → Type 0 = λ replica. Means (live_of replica) (group_of replica) (after past) name in subst P (sym (same name)) (keeps.means name);
     count = keeps.count;
-    carry = keeps.carry
+    carry = keeps.carry;
   }
 
   -- what a replica that is there means
@@ -135,24 +135,27 @@ module _ {A : Type 0} where
       → Keeps new messages (past ++ Node name ∷ [])
   keeps_node old new messages past name replica keeps absent updates live group =
       keeps_event old new messages messages past (Node name) keeps
-        (λ n apart. updates.2 n (at_is name n ∙ other n apart))
-        (let P : Option (Replica A) → Type 0 = λ r. Means (live_of r) (group_of r) (after (past ++ Node name ∷ [])) name in
-         subst P (sym updates.1)
-           (means-same bottom (pair_state replica.live) bottom (pair_state replica.group) (after (past ++ Node name ∷ [])) name
-             (same-chain _ _ _ live nothing_state) (same-chain _ _ _ group nothing_state)
-             (node_means past name name bottom bottom
-               (let Q : Option (Replica A) → Type 0 = λ r. Means (live_of r) (group_of r) (after past) name in subst Q absent (keeps.means name)))))
-        (λ n. ap is_some (updates.0 n) ∙ (by n (is_at (nat_cmp name) n) (at_is name n) ∙ sym (node_there past name n)))
-        (carries-same messages (after past) (after (past ++ Node name ∷ [])) (messages_after past (Node name)) (carries_of old messages past keeps))
+      (λ n apart. updates.2 n (at_is name n ∙ other n apart))
+      (let P : Option (Replica A) → Type 0 = λ r. Means (live_of r) (group_of r) (after (past ++ Node name ∷ [])) name in
+      subst P (sym updates.1)
+      (means-same bottom (pair_state replica.live) bottom (pair_state replica.group) (after (past ++ Node name ∷ [])) name
+      (same-chain _ _ _ live nothing_state) (same-chain _ _ _ group nothing_state)
+      (node_means past name name bottom bottom
+      (let Q : Option (Replica A) → Type 0 = λ r. Means (live_of r) (group_of r) (after past) name in subst Q absent (keeps.means name)))))
+      (λ n. ap is_some (updates.0 n) ∙ (by n (is_at (nat_cmp name) n) (at_is name n) ∙ sym (node_there past name n)))
+      (carries-same messages (after past) (after (past ++ Node name ∷ [])) (messages_after past (Node name)) (carries_of old messages past keeps))
     where
       other : (n : ℕ) → n ≢ name → (name == n) ≡ false
       other n apart = grind (arith, nat_tests)
+
       or_true : (b : Bool) → (b || true) ≡ true
       or_true true = refl
       or_true false = refl
+
       or_false : (b : Bool) → (b || false) ≡ b
       or_false true = refl
       or_false false = refl
+
       by : (n : ℕ) (b : Bool) → b ≡ (name == n) → is_some (cond b (Some replica) (get nat_cmp old n)) ≡ (is_node (after past) n || name == n)
       by n true is = sym (ap (λ b. is_node (after past) n || b) (sym is) ∙ or_true (is_node (after past) n))
       by n false is = keeps.there n ∙ sym (ap (λ b. is_node (after past) n || b) (sym is) ∙ or_false (is_node (after past) n))
@@ -164,14 +167,14 @@ module _ {A : Type 0} where
       → Keeps new messages (past ++ Put name key value ∷ [])
   keeps_put old new messages past name key value before now w keeps replaces made live group =
       keeps_event old new messages messages past (Put name key value) keeps replaces.others
-        (let P : Option (Replica A) → Type 0 = λ r. Means (live_of r) (group_of r) (after (past ++ Put name key value ∷ [])) name in
-         subst P (sym replaces.becomes)
-           (means-same (join greater (pair_state before.live) (state (Wrote w ∷ []))) (pair_state now.live) (join greater (pair_state before.group) (state (Wrote w ∷ []))) (pair_state now.group)
-             (after (past ++ Put name key value ∷ [])) name live group
-             (after_put_at past name (pair_state before.live) (pair_state before.group) (means_at old messages past name before keeps replaces.was) key value w (state (Wrote w ∷ [])) made
-               (same-itself (state (Wrote w ∷ []))))))
-        (λ n. same_there old new name before now replaces n ∙ (keeps.there n ∙ sym (ap (λ w. is_node w n) (after-push past (Put name key value)))))
-        (carries-same messages (after past) (after (past ++ Put name key value ∷ [])) (messages_after past (Put name key value)) (carries_of old messages past keeps))
+      (let P : Option (Replica A) → Type 0 = λ r. Means (live_of r) (group_of r) (after (past ++ Put name key value ∷ [])) name in
+      subst P (sym replaces.becomes)
+      (means-same (join greater (pair_state before.live) (state (Wrote w ∷ []))) (pair_state now.live) (join greater (pair_state before.group) (state (Wrote w ∷ []))) (pair_state now.group)
+      (after (past ++ Put name key value ∷ [])) name live group
+      (after_put_at past name (pair_state before.live) (pair_state before.group) (means_at old messages past name before keeps replaces.was) key value w (state (Wrote w ∷ [])) made
+      (same-itself (state (Wrote w ∷ []))))))
+      (λ n. same_there old new name before now replaces n ∙ (keeps.there n ∙ sym (ap (λ w. is_node w n) (after-push past (Put name key value)))))
+      (carries-same messages (after past) (after (past ++ Put name key value ∷ [])) (messages_after past (Put name key value)) (carries_of old messages past keeps))
 
   pub keeps_deliver : (old new : BTreeMap ℕ (Replica A)) (messages : List PairValue) (past : List Event) (name number : ℕ) (pair : PairValue) (before now : Replica A)
       → Keeps old messages past → Replaces old new name before now → 1 ≤ number → slice_get messages (number - 1) ≡ Some pair
@@ -179,15 +182,15 @@ module _ {A : Type 0} where
       → Keeps new messages (past ++ Deliver number name ∷ [])
   keeps_deliver old new messages past name number pair before now keeps replaces first found live group =
       keeps_event old new messages messages past (Deliver number name) keeps replaces.others
-        (let P : Option (Replica A) → Type 0 = λ r. Means (live_of r) (group_of r) (after (past ++ Deliver number name ∷ [])) name in
-         let same : number - 1 + 1 ≡ number = omega arith in
-         subst P (sym replaces.becomes)
-           (means-same (join greater (pair_state before.live) (pair_state pair)) (pair_state now.live) (pair_state before.group) (pair_state now.group)
-             (after (past ++ Deliver number name ∷ [])) name live (rw group (same-itself (pair_state before.group)))
-             (after_deliver past name (pair_state before.live) (pair_state before.group) (means_at old messages past name before keeps replaces.was) number (pair_state pair)
-               (rw same at (keeps.carry (number - 1) pair found)))))
-        (λ n. same_there old new name before now replaces n ∙ (keeps.there n ∙ sym (ap (λ w. is_node w n) (after-push past (Deliver number name)))))
-        (carries-same messages (after past) (after (past ++ Deliver number name ∷ [])) (messages_after past (Deliver number name)) (carries_of old messages past keeps))
+      (let P : Option (Replica A) → Type 0 = λ r. Means (live_of r) (group_of r) (after (past ++ Deliver number name ∷ [])) name in
+      let same : number - 1 + 1 ≡ number = omega arith in
+      subst P (sym replaces.becomes)
+      (means-same (join greater (pair_state before.live) (pair_state pair)) (pair_state now.live) (pair_state before.group) (pair_state now.group)
+      (after (past ++ Deliver number name ∷ [])) name live (rw group (same-itself (pair_state before.group)))
+      (after_deliver past name (pair_state before.live) (pair_state before.group) (means_at old messages past name before keeps replaces.was) number (pair_state pair)
+      (rw same at (keeps.carry (number - 1) pair found)))))
+      (λ n. same_there old new name before now replaces n ∙ (keeps.there n ∙ sym (ap (λ w. is_node w n) (after-push past (Deliver number name)))))
+      (carries-same messages (after past) (after (past ++ Deliver number name ∷ [])) (messages_after past (Deliver number name)) (carries_of old messages past keeps))
 
   -- a flush of a group that knows some dot
   pub keeps_sent : (old new : BTreeMap ℕ (Replica A)) (messages : List PairValue) (past : List Event) (name : ℕ) (before now : Replica A) → Keeps old messages past
@@ -196,14 +199,14 @@ module _ {A : Type 0} where
   keeps_sent old new messages past name before now keeps replaces live some group =
       let means = means_at old messages past name before keeps replaces.was in
       keeps_event old new messages (messages ++ before.group ∷ []) past (Flush name) keeps replaces.others
-        (let P : Option (Replica A) → Type 0 = λ r. Means (live_of r) (group_of r) (after (past ++ Flush name ∷ [])) name in
-         subst P (sym replaces.becomes)
-           (rw live (after_flush past name (pair_state before.live) (pair_state before.group) means (pair_state now.group) group)))
-        (λ n. same_there old new name before now replaces n ∙ (keeps.there n ∙ sym (ap (λ w. is_node w n) (after-push past (Flush name)))))
-        (carries-sent messages before.group ((after past).outgoing name) (after past) (after (past ++ Flush name ∷ []))
-          (messages_after past (Flush name) ∙ ap (λ more. (after past).messages ++ more) (sent-some ((after past).outgoing name)
-            (λ none. some ((group_empty past name (pair_state before.live) (pair_state before.group) means).1 none))))
-          means.outgoing (carries_of old messages past keeps))
+      (let P : Option (Replica A) → Type 0 = λ r. Means (live_of r) (group_of r) (after (past ++ Flush name ∷ [])) name in
+      subst P (sym replaces.becomes)
+      (rw live (after_flush past name (pair_state before.live) (pair_state before.group) means (pair_state now.group) group)))
+      (λ n. same_there old new name before now replaces n ∙ (keeps.there n ∙ sym (ap (λ w. is_node w n) (after-push past (Flush name)))))
+      (carries-sent messages before.group ((after past).outgoing name) (after past) (after (past ++ Flush name ∷ []))
+      (messages_after past (Flush name) ∙ ap (λ more. (after past).messages ++ more) (sent-some ((after past).outgoing name)
+      (λ none. some ((group_empty past name (pair_state before.live) (pair_state before.group) means).1 none))))
+      means.outgoing (carries_of old messages past keeps))
 
   -- a flush of a group that knows no dot
   pub keeps_unsent : (old new : BTreeMap ℕ (Replica A)) (messages : List PairValue) (past : List Event) (name : ℕ) (replica : Replica A) → Keeps old messages past
@@ -213,13 +216,13 @@ module _ {A : Type 0} where
       let means = means_at old messages past name replica keeps is in
       let none = (group_empty past name (pair_state replica.live) (pair_state replica.group) means).0 unknown in
       keeps_event old new messages messages past (Flush name) keeps (λ n apart. same n)
-        (let P : Option (Replica A) → Type 0 = λ r. Means (live_of r) (group_of r) (after (past ++ Flush name ∷ [])) name in
-         subst P (sym (same name ∙ is))
-           (after_flush past name (pair_state replica.live) (pair_state replica.group) means (pair_state replica.group)
-             (let Q : List Operation → Type 0 = λ S. Same (pair_state replica.group) (state S) in subst Q none means.outgoing)))
-        (λ n. ap is_some (same n) ∙ (keeps.there n ∙ sym (ap (λ w. is_node w n) (after-push past (Flush name)))))
-        (carries-same messages (after past) (after (past ++ Flush name ∷ []))
-          (messages_after past (Flush name) ∙ (ap (λ S. (after past).messages ++ sent S) none ∙ append-nil (after past).messages)) (carries_of old messages past keeps))
+      (let P : Option (Replica A) → Type 0 = λ r. Means (live_of r) (group_of r) (after (past ++ Flush name ∷ [])) name in
+      subst P (sym (same name ∙ is))
+      (after_flush past name (pair_state replica.live) (pair_state replica.group) means (pair_state replica.group)
+      (let Q : List Operation → Type 0 = λ S. Same (pair_state replica.group) (state S) in subst Q none means.outgoing)))
+      (λ n. ap is_some (same n) ∙ (keeps.there n ∙ sym (ap (λ w. is_node w n) (after-push past (Flush name)))))
+      (carries-same messages (after past) (after (past ++ Flush name ∷ []))
+      (messages_after past (Flush name) ∙ (ap (λ S. (after past).messages ++ sent S) none ∙ append-nil (after past).messages)) (carries_of old messages past keeps))
 
   -- the same replicas, and room made for one more event
   pub keeps_unchanged : (old new : BTreeMap ℕ (Replica A)) (messages : List PairValue) (past reserved : List Event) → new.entries ≡ old.entries → reserved ≡ past

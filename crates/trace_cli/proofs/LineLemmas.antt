@@ -85,14 +85,14 @@ Leads-answer old answer h is on = record {
   goes_on = λ more. ap (λ bytes. given_from old.past old.number (lines_of bytes)) (append_assoc old.line (10 ∷ []) more)
       ∙ (given-line old more h
       ∙ (ap (λ a. give a old.number (given_from (past_after old.past old.line) (old.number + 1) (lines_of more))) (sym is)
-      ∙ give-goes_on answer old.number _ on))
+      ∙ give-goes_on answer old.number _ on));
 }
 
 pub Stops-answer : (old : Point) (refusal : Refusal) → has_newline old.line ≡ false → Faulted refusal ≡ answer_to old.past old.line
     → Stops old (10 ∷ []) (fault_line old.number refusal) refusal
 Stops-answer old refusal h is = record {
   stops = λ more. given-line old more h
-      ∙ ap (λ a. give a old.number (given_from (past_after old.past old.line) (old.number + 1) (lines_of more))) (sym is)
+      ∙ ap (λ a. give a old.number (given_from (past_after old.past old.line) (old.number + 1) (lines_of more))) (sym is);
 }
 
 pub Stops-told : (old : Point) (answer : Answer) (refusal : Refusal) → has_newline old.line ≡ false → answer ≡ answer_to old.past old.line
@@ -111,9 +111,9 @@ pub Begins-answer : (old : Point) (answer : Answer) (part : List ℕ) → has_ne
     → IsFront part (answer_text answer old.number) → Begins old (10 ∷ []) part
 Begins-answer old answer part h is front = record {
   begins = λ more.
-    let P : Given → Type 0 = λ given. IsFront part given.text in
-    subst P (sym (given-line old more h ∙ ap (λ a. give a old.number (given_from (past_after old.past old.line) (old.number + 1) (lines_of more))) (sym is)))
-      (front-give answer old.number _ part front)
+      let P : Given → Type 0 = λ given. IsFront part given.text in
+      subst P (sym (given-line old more h ∙ ap (λ a. give a old.number (given_from (past_after old.past old.line) (old.number + 1) (lines_of more))) (sym is)))
+      (front-give answer old.number _ part front);
 }
 
 -- nothing was written yet
@@ -140,7 +140,7 @@ Leads-trans a b c p q t u first then = record {
   ends = ends_line-append first.whole then.whole first.ends then.ends;
   goes_on = λ more. ap (λ w. given_from a.past a.number (lines_of w)) (append_assoc first.whole then.whole more)
       ∙ (first.goes_on (then.whole ++ more)
-      ∙ (ap (prepend t) (then.goes_on more) ∙ prepend-prepend t u (given_from c.past c.number (lines_of more))))
+      ∙ (ap (prepend t) (then.goes_on more) ∙ prepend-prepend t u (given_from c.past c.number (lines_of more))));
 }
 
 -- what is given to more bytes, from the point that a piece led to
@@ -150,7 +150,7 @@ given_at-Leads a b p q t first =
 
 pub Stops-after : (a b : Point) (p q t u : List ℕ) (refusal : Refusal) → Leads a p t b → Stops b q u refusal → Stops a (p ++ q) (t ++ u) refusal
 Stops-after a b p q t u refusal first then = record {
-  stops = λ more. ap (given_at a) (append_assoc p q more) ∙ (given_at-Leads a b p (q ++ more) t first ∙ ap (prepend t) (then.stops more))
+  stops = λ more. ap (given_at a) (append_assoc p q more) ∙ (given_at-Leads a b p (q ++ more) t first ∙ ap (prepend t) (then.stops more));
 }
 
 pub Stops-more : (a : Point) (p q t : List ℕ) (refusal : Refusal) → Stops a p t refusal → Stops a (p ++ q) t refusal
@@ -163,15 +163,15 @@ front-prepend t u given front = record { rest = front.rest; joined = ap (λ w. t
 pub Begins-after : (a b : Point) (p q t u : List ℕ) → Leads a p t b → Begins b q u → Begins a (p ++ q) (t ++ u)
 Begins-after a b p q t u first then = record {
   begins = λ more.
-    let P : Given → Type 0 = λ given. IsFront (t ++ u) given.text in
-    subst P (sym (ap (given_at a) (append_assoc p q more) ∙ given_at-Leads a b p (q ++ more) t first)) (front-prepend t u (given_at b (q ++ more)) (then.begins more))
+      let P : Given → Type 0 = λ given. IsFront (t ++ u) given.text in
+      subst P (sym (ap (given_at a) (append_assoc p q more) ∙ given_at-Leads a b p (q ++ more) t first)) (front-prepend t u (given_at b (q ++ more)) (then.begins more));
 }
 
 pub Begins-more : (a : Point) (p q t : List ℕ) → Begins a p t → Begins a (p ++ q) t
 Begins-more a p q t first = record {
   begins = λ more.
-    let P : Given → Type 0 = λ given. IsFront t given.text in
-    subst P (sym (ap (given_at a) (append_assoc p q more))) (first.begins (q ++ more))
+      let P : Given → Type 0 = λ given. IsFront t given.text in
+      subst P (sym (ap (given_at a) (append_assoc p q more))) (first.begins (q ++ more));
 }
 
 -- The same with what was written, in the forms that the loop over a piece asks for.
@@ -183,9 +183,11 @@ not_newline byte h = grind (arith, nat_tests)
 pub Leads-next : (a b c : Point) (old mid new : Option (List ℕ)) (piece : List ℕ) (i : ℕ) → i < length piece
     → Written old mid (λ text. Leads a (take i piece) text b) → Written mid new (λ text. Leads b (get_or piece i 0 ∷ []) text c)
     → Written old new (λ text. Leads a (take (i + 1) piece) text c)
-Leads-next a b c old mid new piece i within first then =
-    (first.0 ++ then.0, Appends-trans old mid new first.0 then.0 first.1 then.1,
-     rw (take_more piece i 0 within) (Leads-trans a b c (take i piece) (get_or piece i 0 ∷ []) first.0 then.0 first.2 then.2))
+Leads-next a b c old mid new piece i within first then = (
+  first.0 ++ then.0,
+  Appends-trans old mid new first.0 then.0 first.1 then.1,
+  rw (take_more piece i 0 within) (Leads-trans a b c (take i piece) (get_or piece i 0 ∷ []) first.0 then.0 first.2 then.2),
+)
 
 -- a piece is its bytes up to and with one of them, and those after
 piece_is : (piece : List ℕ) (i : ℕ) → i < length piece → piece ≡ (take i piece ++ get_or piece i 0 ∷ []) ++ drop (i + 1) piece
@@ -194,22 +196,26 @@ piece_is piece i within = rw (← take_more piece i 0 within) (sym (take-append-
 pub Stops-next : (a b : Point) (old mid new : Option (List ℕ)) (piece : List ℕ) (i : ℕ) (refusal : Refusal) → i < length piece
     → Written old mid (λ text. Leads a (take i piece) text b) → Written mid new (λ text. Stops b (get_or piece i 0 ∷ []) text refusal)
     → Written old new (λ text. Stops a piece text refusal)
-Stops-next a b old mid new piece i refusal within first then =
-    (first.0 ++ then.0, Appends-trans old mid new first.0 then.0 first.1 then.1,
-     (let P : List ℕ → Type 0 = λ p. Stops a p (first.0 ++ then.0) refusal in
+Stops-next a b old mid new piece i refusal within first then = (
+  first.0 ++ then.0,
+  Appends-trans old mid new first.0 then.0 first.1 then.1,
+  (let P : List ℕ → Type 0 = λ p. Stops a p (first.0 ++ then.0) refusal in
       subst P (sym (piece_is piece i within))
-        (Stops-more a (take i piece ++ get_or piece i 0 ∷ []) (drop (i + 1) piece) (first.0 ++ then.0) refusal
-          (Stops-after a b (take i piece) (get_or piece i 0 ∷ []) first.0 then.0 refusal first.2 then.2))))
+      (Stops-more a (take i piece ++ get_or piece i 0 ∷ []) (drop (i + 1) piece) (first.0 ++ then.0) refusal
+      (Stops-after a b (take i piece) (get_or piece i 0 ∷ []) first.0 then.0 refusal first.2 then.2))),
+)
 
 pub Begins-next : (a b : Point) (old mid new : Option (List ℕ)) (piece : List ℕ) (i : ℕ) → i < length piece
     → Written old mid (λ text. Leads a (take i piece) text b) → Written mid new (λ text. Begins b (get_or piece i 0 ∷ []) text)
     → Written old new (λ text. Begins a piece text)
-Begins-next a b old mid new piece i within first then =
-    (first.0 ++ then.0, Appends-trans old mid new first.0 then.0 first.1 then.1,
-     (let P : List ℕ → Type 0 = λ p. Begins a p (first.0 ++ then.0) in
+Begins-next a b old mid new piece i within first then = (
+  first.0 ++ then.0,
+  Appends-trans old mid new first.0 then.0 first.1 then.1,
+  (let P : List ℕ → Type 0 = λ p. Begins a p (first.0 ++ then.0) in
       subst P (sym (piece_is piece i within))
-        (Begins-more a (take i piece ++ get_or piece i 0 ∷ []) (drop (i + 1) piece) (first.0 ++ then.0)
-          (Begins-after a b (take i piece) (get_or piece i 0 ∷ []) first.0 then.0 first.2 then.2))))
+      (Begins-more a (take i piece ++ get_or piece i 0 ∷ []) (drop (i + 1) piece) (first.0 ++ then.0)
+      (Begins-after a b (take i piece) (get_or piece i 0 ∷ []) first.0 then.0 first.2 then.2))),
+)
 
 -- a last line that has no end is given what it would be given with one
 last_line : (line : List ℕ) → has_newline line ≡ false → (length line ≡ 0 → ⊥) → lines_of (line ++ []) ≡ lines_of (line ++ 10 ∷ [])
@@ -223,7 +229,7 @@ pub Leads-last : (old new : Point) (text : List ℕ) → has_newline old.line �
     → Leads old (10 ∷ []) text new → new.line ≡ [] → given_at old [] ≡ record { text = text; fault = None }
 Leads-last old new text h some led empty =
     given-last old h some ∙ (given_at-Leads old new (10 ∷ []) [] text led ∙
-      (ap (λ line. prepend text (given_from new.past new.number (lines_of (line ++ [])))) empty ∙ ap (λ t. record { text = t; fault = None }) (append-nil text)))
+    (ap (λ line. prepend text (given_from new.past new.number (lines_of (line ++ [])))) empty ∙ ap (λ t. record { text = t; fault = None }) (append-nil text)))
 
 pub Stops-last : (old : Point) (text : List ℕ) (refusal : Refusal) → has_newline old.line ≡ false → (length old.line ≡ 0 → ⊥)
     → Stops old (10 ∷ []) text refusal → given_at old [] ≡ record { text = text; fault = Some refusal }

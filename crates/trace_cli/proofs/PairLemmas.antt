@@ -25,7 +25,7 @@ pub join-delta : (both p delta : PairValue) (meaning : State (List ℕ) (List �
     → Same (pair_state delta) meaning → Same (pair_state both) (join greater (pair_state p) meaning)
 join-delta both p delta meaning joined same =
     same-chain (pair_state both) (join greater (pair_state p) (pair_state delta)) (join greater (pair_state p) meaning) (join-pair_state both p delta joined)
-      (join-same greater (pair_state p) (pair_state delta) (pair_state p) meaning (same-itself (pair_state p)) same)
+    (join-same greater (pair_state p) (pair_state delta) (pair_state p) meaning (same-itself (pair_state p)) same)
 
 -- just the values that stand at a key, from its store
 pub stands_at : (live : PairValue) (key : List ℕ) (standing : List (DotValue × List ℕ)) (items : List (List ℕ))

@@ -21,7 +21,7 @@ module _ {A : Type 0} where
   replaces_from old new name before after was updates = record {
     was = sym was;
     becomes = updates.1;
-    others = λ other apart. updates.2 other (at_other name other apart)
+    others = λ other apart. updates.2 other (at_other name other apart);
   }
 
   pub same_from : (old new : BTreeMap ℕ (Replica A)) (name : ℕ) (before after : Replica A) → after ≡ before → Some before ≡ get nat_cmp old name

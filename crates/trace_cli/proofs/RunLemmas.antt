@@ -36,17 +36,29 @@ Ran-answered ro rm rn wo wn point ran no_end kept =
     let text = ran.2.0 in
     let led : Leads start_point read text point = ran.2.2 in
     let is : given_of led.whole ≡ record { text = text; fault = None } =
-        ap (λ bytes. given_from start 1 (lines_of bytes)) (sym (append-nil led.whole)) ∙ (led.goes_on [] ∙ ap (λ t. record { text = t; fault = None }) (append-nil text)) in
-    (read ++ [], Consumes-trans ro rm rn read [] ran.1 (Consumes-kept rm rn kept), (led.whole,
-     record { rest = point.line; parts = append-nil read ∙ led.parts; ends = led.ends; no_end = no_end },
-     given-written wo wn text (given_of led.whole) None is ran.2.1, given-fault text (given_of led.whole) None is))
+    ap (λ bytes. given_from start 1 (lines_of bytes)) (sym (append-nil led.whole)) ∙ (led.goes_on [] ∙ ap (λ t. record { text = t; fault = None }) (append-nil text)) in (
+      read ++ [],
+      Consumes-trans ro rm rn read [] ran.1 (Consumes-kept rm rn kept),
+      (
+        led.whole,
+        record { rest = point.line; parts = append-nil read ∙ led.parts; ends = led.ends; no_end = no_end },
+        given-written wo wn text (given_of led.whole) None is ran.2.1,
+        given-fault text (given_of led.whole) None is,
+      ),
+    )
 
 -- one more piece
 pub Ran-more : (ro rm rn wo wm wn : Option (List ℕ)) (mid new : Point) (piece : List ℕ) → Ran ro rm wo wm mid → Consumes rm rn piece
     → Written wm wn (λ text. Leads mid piece text new) → Ran ro rn wo wn new
-Ran-more ro rm rn wo wm wn mid new piece ran took then =
-    (ran.0 ++ piece, Consumes-trans ro rm rn ran.0 piece ran.1 took, (ran.2.0 ++ then.0, Appends-trans wo wm wn ran.2.0 then.0 ran.2.1 then.1,
-     Leads-trans start_point mid new ran.0 piece ran.2.0 then.0 ran.2.2 then.2))
+Ran-more ro rm rn wo wm wn mid new piece ran took then = (
+  ran.0 ++ piece,
+  Consumes-trans ro rm rn ran.0 piece ran.1 took,
+  (
+    ran.2.0 ++ then.0,
+    Appends-trans wo wm wn ran.2.0 then.0 ran.2.1 then.1,
+    Leads-trans start_point mid new ran.0 piece ran.2.0 then.0 ran.2.2 then.2,
+  ),
+)
 
 pub Ran-stops : (ro rm rn wo wm wn : Option (List ℕ)) (mid : Point) (piece : List ℕ) (refusal : Refusal) → Ran ro rm wo wm mid → Consumes rm rn piece
     → Written wm wn (λ text. Stops mid piece text refusal)
@@ -55,10 +67,15 @@ Ran-stops ro rm rn wo wm wn mid piece refusal ran took then =
     let read = ran.0 ++ piece in
     let text = ran.2.0 ++ then.0 in
     let stop : Stops start_point read text refusal = Stops-after start_point mid ran.0 piece ran.2.0 then.0 refusal ran.2.2 then.2 in
-    let is : given_of read ≡ record { text = text; fault = Some refusal } = ap (λ bytes. given_from start 1 (lines_of bytes)) (sym (append-nil read)) ∙ stop.stops [] in
-    (read, Consumes-trans ro rm rn ran.0 piece ran.1 took,
-     (given-written wo wn text (given_of read) (Some refusal) is (Appends-trans wo wm wn ran.2.0 then.0 ran.2.1 then.1),
-     given-fault text (given_of read) (Some refusal) is, at_rest rn (λ rest. stop.stops rest ∙ sym is)))
+    let is : given_of read ≡ record { text = text; fault = Some refusal } = ap (λ bytes. given_from start 1 (lines_of bytes)) (sym (append-nil read)) ∙ stop.stops [] in (
+      read,
+      Consumes-trans ro rm rn ran.0 piece ran.1 took,
+      (
+        given-written wo wn text (given_of read) (Some refusal) is (Appends-trans wo wm wn ran.2.0 then.0 ran.2.1 then.1),
+        given-fault text (given_of read) (Some refusal) is,
+        at_rest rn (λ rest. stop.stops rest ∙ sym is),
+      ),
+    )
   where
     at_rest : {P : List ℕ → Type 0} (known : Option (List ℕ)) → ((rest : List ℕ) → P rest) → IfSome known P
     at_rest None all = tt
@@ -112,9 +129,15 @@ pub Ran-ends : (ro rm rn wo wm wn : Option (List ℕ)) (mid : Point) → Ran ro 
 Ran-ends ro rm rn wo wm wn mid ran took then =
     let read = ran.0 in
     let P : List ℕ → Type 0 = λ bytes. Consumes ro rn bytes in
-    let Q : Given → Type 0 = λ given. IsFront (ran.2.0 ++ then.0) given.text in
-    (read, subst P (append-nil read) (Consumes-trans ro rm rn read [] ran.1 took), (ran.2.0 ++ then.0, Appends-trans wo wm wn ran.2.0 then.0 ran.2.1 then.1,
-     subst Q (sym (given_of-Leads read ran.2.0 mid ran.2.2)) (front-prepend ran.2.0 then.0 (given_at mid []) then.2)))
+    let Q : Given → Type 0 = λ given. IsFront (ran.2.0 ++ then.0) given.text in (
+      read,
+      subst P (append-nil read) (Consumes-trans ro rm rn read [] ran.1 took),
+      (
+        ran.2.0 ++ then.0,
+        Appends-trans wo wm wn ran.2.0 then.0 ran.2.1 then.1,
+        subst Q (sym (given_of-Leads read ran.2.0 mid ran.2.2)) (front-prepend ran.2.0 then.0 (given_at mid []) then.2),
+      ),
+    )
 
 -- nothing was read or written more
 pub Ran-kept : (ro rm rn wo wn : Option (List ℕ)) (point : Point) → Ran ro rm wo wn point → Keeps rm rn → Taken ro rn (λ read. Written wo wn (λ text. IsFront text (given_of read).text))
@@ -128,4 +151,4 @@ Stops-written wo wn session input refusal at_start then =
     let P : Point → Type 0 = λ point. Stops point input then.0 refusal in
     let stop : Stops start_point input then.0 refusal = subst P at_start then.2 in
     given-written wo wn then.0 (given_of input) (Some refusal)
-      (ap (λ bytes. given_from start 1 (lines_of bytes)) (sym (append-nil input)) ∙ stop.stops []) then.1
+    (ap (λ bytes. given_from start 1 (lines_of bytes)) (sym (append-nil input)) ∙ stop.stops []) then.1

@@ -44,9 +44,11 @@ Consumes-trans (Some xs) (Some ys) (Some zs) t u first then = first ∙ (ap (λ 
 pub Written-more : (old mid new : Option (List ℕ)) (text done rest : List ℕ) (count len : ℕ)
     → Appends old mid done → text ≡ done ++ rest → Appends mid new (take count rest) → length rest ≤ len
     → Written old new (λ part. text ≡ part ++ between count len rest)
-Written-more old mid new text done rest count len first parts then within =
-    (done ++ take count rest, Appends-trans old mid new done (take count rest) first then,
-     parts ∙ (ap (λ w. done ++ w) (sym (take-append-drop count rest) ∙ ap (λ w. take count rest ++ w) (sym (between_to_end rest count len within))) ∙ sym (append_assoc done (take count rest) (between count len rest))))
+Written-more old mid new text done rest count len first parts then within = (
+  done ++ take count rest,
+  Appends-trans old mid new done (take count rest) first then,
+  parts ∙ (ap (λ w. done ++ w) (sym (take-append-drop count rest) ∙ ap (λ w. take count rest ++ w) (sym (between_to_end rest count len within))) ∙ sym (append_assoc done (take count rest) (between count len rest))),
+)
 
 -- what follows from two clauses on one `Ok`
 pub OnOk-both : {T E P Q R : Type 0} (result : Result T E) → (P → Q → R) → OnOk result P → OnOk result Q → OnOk result R

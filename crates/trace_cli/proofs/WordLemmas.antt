@@ -82,7 +82,7 @@ numeral_positive [] h = absurd cc
 numeral_positive (digit ∷ digits) h =
     let all = and_right (not (digit == 48)) (list_all is_ascii_digit (digit ∷ digits)) h in
     let first = first_digit digit (and_left (is_ascii_digit digit) (list_all is_ascii_digit digits) all)
-        (not_true (digit == 48) (and_left (not (digit == 48)) (list_all is_ascii_digit (digit ∷ digits)) h)) in
+    (not_true (digit == 48) (and_left (not (digit == 48)) (list_all is_ascii_digit (digit ∷ digits)) h)) in
     omega (arith, first, value_after-le (0 * 10 + (digit - 48)) digits)
 
 if_some : {T : Type 0} (b : Bool) (v n : T) → Some n ≡ cond b (Some v) None → (b ≡ true) × (n ≡ v)

@@ -37,7 +37,7 @@ module _ {A : Type 0} (replicas : BTreeMap ℕ (Replica A)) (messages : List Pai
   spent name replica found greatest =
       let means = means_at replicas messages past name replica keeps (sym found) in
       let is = put_dot ((after past).seen name) (pair_state replica.live) means.seen name (record { name = name; number = 2 ^ 64 })
-        (next_is name (has replica.live.1) (record { name = name; number = 2 ^ 64 }) (record { name = refl; greatest = 2 ^ 64 - 1; is_greatest = greatest; number = refl })) in
+      (next_is name (has replica.live.1) (record { name = name; number = 2 ^ 64 }) (record { name = refl; greatest = 2 ^ 64 - 1; is_greatest = greatest; number = refl })) in
       omega (arith, ap (λ dot. dot.number) is)
 
   -- the dot of a put

@@ -56,9 +56,9 @@ node_outcome w name = cond (is_node w name) (Refused NameTaken) (Done (codes "ok
 abbrev pub put_outcome : World → ℕ → List ℕ → List ℕ → Outcome
 put_outcome w name key value =
     at_replica w name (with_bytes key (with_bytes value
-      (cond (nat_lt (dot_at (w.seen name) name).number (2 ^ 64))
-        (Done (put_text (dot_at (w.seen name) name)) (world.Put name key value ∷ []))
-        (Refused NumbersSpent))))
+    (cond (nat_lt (dot_at (w.seen name) name).number (2 ^ 64))
+    (Done (put_text (dot_at (w.seen name) name)) (world.Put name key value ∷ []))
+    (Refused NumbersSpent))))
 
 -- the values that a key shows
 abbrev pub get_outcome : World → ℕ → List ℕ → Outcome

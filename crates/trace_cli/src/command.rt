@@ -19,11 +19,17 @@ pub(crate) enum Command<A: Allocator = Global> {
         value: Vec<u8, A>,
     },
     /// The values of a key.
-    Get { name: Name, key: Vec<u8, A> },
+    Get {
+        name: Name,
+        key: Vec<u8, A>,
+    },
     /// What the replica made since it last sent, as a message.
     Flush(Name),
     /// A message, delivered to a replica.
-    Deliver { message: u64, name: Name },
+    Deliver {
+        message: u64,
+        name: Name,
+    },
 }
 
 /// The command that a line is, or None where it is none.

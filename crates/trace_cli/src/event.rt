@@ -15,5 +15,8 @@ pub(crate) enum Event<A: Allocator + Copy = Global> {
     /// What the replica made since it last sent became a message, if it was anything.
     Flush(Name),
     /// A message, delivered to a replica.
-    Deliver { message: u64, name: Name },
+    Deliver {
+        message: u64,
+        name: Name,
+    },
 }

@@ -18,3 +18,6 @@ mod writing;
 pub use answer::is_fault;
 pub use running::{run, run_bytes};
 pub use watched::Watched;
+
+#[cfg(test)]
+mod tests;

@@ -24,7 +24,7 @@ pub(crate) struct Machine<A: Allocator + Copy = Global> {
 
 impl<A: Allocator + Copy> Model for Machine<A> {
     ghost use Rattle.trace_cli.specs.Command.{command_of};
-ghost use Rattle.trace_cli.specs.Machine.{Past};
+    ghost use Rattle.trace_cli.specs.Machine.{Past};
 
     ghost Value = { Past };
 

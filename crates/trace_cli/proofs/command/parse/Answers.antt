@@ -8,9 +8,10 @@ use Rattle.trace_cli.proofs.command.parse.Goals.{in_default-via-then-as_slice-lt
 pub returns-clause-ok : goal.returns-clause-ok
 returns-clause-ok g c =
     elim c.in_default.branch [
-        in_default-via-then-as_slice-lt2 w ↦
+      | in_default-via-then-as_slice-lt2 w ↦
           (let h : length c.in_ok-words.words.items < 2 = grind (arith, nat_tests, c.as_slice.ensures.len) in
-           too_few_words c.in_ok-words.words.items (λ word. word.now) h ∙ ap command_of_words c.in_ok-words.ensures)
+          too_few_words c.in_ok-words.words.items (λ word. word.now) h ∙ ap command_of_words c.in_ok-words.ensures)
       | in_default-via-else-as_slice-lt2+else-this-lt3+else-this-lt4+else-this-lt5 w ↦
           (let h : 5 ≤ length c.in_ok-words.words.items = grind (arith, nat_tests, c.as_slice.ensures.len) in
-           too_many_words c.in_ok-words.words.items (λ word. word.now) h ∙ ap command_of_words c.in_ok-words.ensures) ]
+          too_many_words c.in_ok-words.words.items (λ word. word.now) h ∙ ap command_of_words c.in_ok-words.ensures)
+    ]

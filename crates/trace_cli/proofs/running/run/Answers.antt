@@ -19,18 +19,18 @@ returns-then-count-eq0-clause-ok g c =
     let nothing = rw c.if-count-eq0.true at c.in-Ok.ensures.bytes.0 in
     let room : 0 < length c.read.new.buf = omega arith in
     on_ok_weaker c.finish.result
-      (λ then. let end = Ran-finishes _ _ _ _ _ _ _ _ c.calls.invariant.led nothing then in
-        (end.0, end.1, (c.in-Ok.ensures.bytes.1 c.if-count-eq0.true room, end.2.0, end.2.1)))
-      c.finish.ensures.ok
+    (λ then. let end = Ran-finishes _ _ _ _ _ _ _ _ c.calls.invariant.led nothing then in
+    (end.0, end.1, (c.in-Ok.ensures.bytes.1 c.if-count-eq0.true room, end.2.0, end.2.1)))
+    c.finish.ensures.ok
 
 pub returns-then-count-eq0-clause-fault : goal.returns-then-count-eq0-clause-fault
 returns-then-count-eq0-clause-fault g c =
     let nothing = rw c.if-count-eq0.true at c.in-Ok.ensures.bytes.0 in
     let room : 0 < length c.read.new.buf = omega arith in
     IfErr-weaker c.finish.result _ _
-      (λ refusal told is. let end = Ran-finishes _ _ _ _ _ _ _ _ c.calls.invariant.led nothing (told is) in
-        (end.0, end.1, (end.2.0, end.2.1, at_end end.0 _ (c.in-Ok.ensures.bytes.1 c.if-count-eq0.true room))))
-      c.finish.ensures.fault
+    (λ refusal told is. let end = Ran-finishes _ _ _ _ _ _ _ _ c.calls.invariant.led nothing (told is) in
+    (end.0, end.1, (end.2.0, end.2.1, at_end end.0 _ (c.in-Ok.ensures.bytes.1 c.if-count-eq0.true room))))
+    c.finish.ensures.fault
 
 pub returns-then-count-eq0-clause-front : goal.returns-then-count-eq0-clause-front
 returns-then-count-eq0-clause-front g c =
@@ -53,7 +53,7 @@ calls-preserved g c = record {
   one_line = c.in_ok-feed.ensures.one_line;
   number = omega (arith, c.in_ok-feed.ensures.number, length-take c.in-Ok.count c.read.new.buf);
   calls = omega (arith, c.in-Ok.ensures.calls);
-  failed = rw (c.in-Ok.ensures.failed, c.calls.invariant.failed) refl
+  failed = rw (c.in-Ok.ensures.failed, c.calls.invariant.failed) refl;
 }
 
 pub calls-init : goal.calls-init
@@ -64,7 +64,7 @@ calls-init g c =
       one_line = ap (λ (point : Point). has_newline point.line) at_start;
       number = (let first = ap (λ (point : Point). point.number) at_start in omega (arith, first));
       calls = c.requires.reader_is_new.no_calls;
-      failed = c.requires.reader_is_new.no_failure
+      failed = c.requires.reader_is_new.no_failure;
     }
 
 pub returns-in_default-clause-front : goal.returns-in_default-clause-front

@@ -13,5 +13,5 @@ invariant-calls g l = record {
   one_line : has_newline l.session.line.items ≡ false;
   number : l.session.number ≤ 4096 * l.counter + 1;
   calls : calls_of l.reader ≡ l.counter;
-  failed : has_failed l.reader ≡ false
+  failed : has_failed l.reader ≡ false;
 }

@@ -14,4 +14,4 @@ returns-clause-ok g c =
 pub returns-clause-fault : goal.returns-clause-fault
 returns-clause-fault g c =
     IfErr-weaker c.finish.result _ _
-      (λ refusal told is. finished_all _ _ _ c.new-session.result c.args.input.now _ _ c.new-session.ensures c.in_ok-feed.ensures.ok (told is)) c.finish.ensures.fault
+    (λ refusal told is. finished_all _ _ _ c.new-session.result c.args.input.now _ _ c.new-session.ensures c.in_ok-feed.ensures.ok (told is)) c.finish.ensures.fault

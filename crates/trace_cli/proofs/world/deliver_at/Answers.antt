@@ -8,8 +8,8 @@ returns-clause-ok g c =
     let was = c.in-Some.ensures.value in
     let updates = (c.get_mut.follows.holds c.deliver.new.self).3 c.requires in
     OnOk-both c.deliver.result
-      (λ live group. (c.in-Some.replica.now, c.deliver.new.self, replaces_from c.args.replicas.now (c.get_mut.follows.lender c.deliver.new.self) c.args.name _ _ was updates, live, group))
-      c.deliver.ensures.ok c.deliver.ensures.group
+    (λ live group. (c.in-Some.replica.now, c.deliver.new.self, replaces_from c.args.replicas.now (c.get_mut.follows.lender c.deliver.new.self) c.args.name _ _ was updates, live, group))
+    c.deliver.ensures.ok c.deliver.ensures.group
 
 pub returns-clause-err : goal.returns-clause-err
 returns-clause-err g c =

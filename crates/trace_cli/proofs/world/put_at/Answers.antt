@@ -7,8 +7,8 @@ returns-clause-ok g c =
     let was = c.in-Some.ensures.value in
     let updates = (c.get_mut.follows.holds c.put.new.self).3 c.requires in
     IfOk-weaker c.put.result _ _
-      (λ dot made. (c.in-Some.replica.now, c.put.new.self, replaces_from c.args.replicas.now (c.get_mut.follows.lender c.put.new.self) c.args.name _ _ was updates, made))
-      c.put.ensures.ok
+    (λ dot made. (c.in-Some.replica.now, c.put.new.self, replaces_from c.args.replicas.now (c.get_mut.follows.lender c.put.new.self) c.args.name _ _ was updates, made))
+    c.put.ensures.ok
 
 pub returns-clause-err : goal.returns-clause-err
 returns-clause-err g c =

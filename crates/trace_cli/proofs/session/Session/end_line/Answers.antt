@@ -9,9 +9,11 @@ pub returns-in_err-write_reply-clause-fault : goal.returns-in_err-write_reply-cl
 returns-in_err-write_reply-clause-fault g c =
     let p = err_from_is_err_and c.from_residual-in_err-write_reply.result c.from_residual-in_err-write_reply.ensures.1 in
     let is = rw c.as_slice.ensures.value at c.in_ok-reply.ensures.answer in
-    rw (p.1, p.2) (λ fault. let told = c.in_err-write_reply.ensures.fault fault in
-      (answer_text (answer_of c.in_ok-reply.reply) c.args.self.now.number, told.1,
-       Stops-told (point_of c.args.self.now) (answer_of c.in_ok-reply.reply) c.in_err-write_reply.field-0.0 c.requires.one_line is told.0))
+    rw (p.1, p.2) (λ fault. let told = c.in_err-write_reply.ensures.fault fault in (
+      answer_text (answer_of c.in_ok-reply.reply) c.args.self.now.number,
+      told.1,
+      Stops-told (point_of c.args.self.now) (answer_of c.in_ok-reply.reply) c.in_err-write_reply.field-0.0 c.requires.one_line is told.0,
+    ))
 
 pub returns-in_err-write_reply-clause-front : goal.returns-in_err-write_reply-clause-front
 returns-in_err-write_reply-clause-front g c =
@@ -24,6 +26,8 @@ pub returns-clause-ok : goal.returns-clause-ok
 returns-clause-ok g c =
     let is = rw c.as_slice.ensures.value at c.in_ok-reply.ensures.answer in
     let led = Leads-answer (point_of c.args.self.now) (answer_of c.in_ok-reply.reply) c.requires.one_line is c.in_ok-write_reply.ensures.goes_on in
-    let past = rw c.as_slice.ensures.value at c.in_ok-reply.ensures.after in
-    (answer_text (answer_of c.in_ok-reply.reply) c.args.self.now.number, c.in_ok-write_reply.ensures.ok,
-     rw (past, c.clear.ensures.items) led)
+    let past = rw c.as_slice.ensures.value at c.in_ok-reply.ensures.after in (
+      answer_text (answer_of c.in_ok-reply.reply) c.args.self.now.number,
+      c.in_ok-write_reply.ensures.ok,
+      rw (past, c.clear.ensures.items) led,
+    )

@@ -10,5 +10,5 @@ invariant-loop-byte g l = record {
   led : Written (g.W.Write.contents (inner_of l.initial.writer)) (g.W.Write.contents (inner_of l.writer)) (λ text.
       Leads (point_of l.initial.self) (take l.byte-index l.piece) text (point_of l.self));
   one_line : has_newline l.self.line.items ≡ false;
-  number : l.self.number ≤ l.initial.self.number + l.byte-index
+  number : l.self.number ≤ l.initial.self.number + l.byte-index;
 }

@@ -7,35 +7,35 @@ use Rattle.trace_cli.proofs.world.World.flush.Goals as goal
 pub invariant_of-self-in-Some : goal.invariant_of-self-in-Some
 invariant_of-self-in-Some g c =
     let pushed = past_push event_value c.self.inside.past.items c.reserve.new.self.items c.push.new.self.items _ c.push.result c.unwrap.result
-      c.reserve.ensures.items c.push.ensures.items c.unwrap.ensures in
+    c.reserve.ensures.items c.push.ensures.items c.unwrap.ensures in
     let listed = list_push c.self.inside.messages.items c.reserve-2.new.self.items c.push-in-Some.new.self.items c.in-Some.group c.push-in-Some.result c.unwrap-in-Some.result
-      c.reserve-2.ensures.items c.push-in-Some.ensures.items c.unwrap-in-Some.ensures in
+    c.reserve-2.ensures.items c.push-in-Some.ensures.items c.unwrap-in-Some.ensures in
     let made = c.in-Some.ensures.some in
     rw (pushed, listed, made.4) (keeps_sent c.self.inside.replicas c.flush_at-made.new.replicas c.self.inside.messages.items (map event_value c.self.inside.past.items) c.args.name
-      made.0 made.1 c.self.invariant made.2 made.3 made.5 made.6)
+    made.0 made.1 c.self.invariant made.2 made.3 made.5 made.6)
 
 pub invariant_of-self-in-None : goal.invariant_of-self-in-None
 invariant_of-self-in-None g c =
     let pushed = past_push event_value c.self.inside.past.items c.reserve.new.self.items c.push.new.self.items _ c.push.result c.unwrap.result
-      c.reserve.ensures.items c.push.ensures.items c.unwrap.ensures in
+    c.reserve.ensures.items c.push.ensures.items c.unwrap.ensures in
     let none = c.in-None.ensures.none in
     let there = value_of _ _ c.if-not-contains_key.ensures none.1 in
     rw (pushed, c.reserve-2.ensures.items) (keeps_unsent c.self.inside.replicas c.flush_at-made.new.replicas c.self.inside.messages.items (map event_value c.self.inside.past.items) c.args.name
-      there.0 c.self.invariant none.0 there.1 there.2)
+    there.0 c.self.invariant none.0 there.1 there.2)
 
 pub returns-in-Some-clause-ok : goal.returns-in-Some-clause-ok
 returns-in-Some-clause-ok g c =
     let pushed = past_push event_value c.self.inside.past.items c.reserve.new.self.items c.push.new.self.items _ c.push.result c.unwrap.result
-      c.reserve.ensures.items c.push.ensures.items c.unwrap.ensures in
+    c.reserve.ensures.items c.push.ensures.items c.unwrap.ensures in
     rw (← c.self.view_is) (sym (c.if-not-contains_key.ensures ∙ c.self.invariant.there c.args.name), pushed)
 
 pub returns-in-Some-clause-message : goal.returns-in-Some-clause-message
 returns-in-Some-clause-message g c =
     let listed = list_push c.self.inside.messages.items c.reserve-2.new.self.items c.push-in-Some.new.self.items c.in-Some.group c.push-in-Some.result c.unwrap-in-Some.result
-      c.reserve-2.ensures.items c.push-in-Some.ensures.items c.unwrap-in-Some.ensures in
+    c.reserve-2.ensures.items c.push-in-Some.ensures.items c.unwrap-in-Some.ensures in
     let made = c.in-Some.ensures.some in
     rw (← c.self.view_is) (ap Some (c.len.ensures ∙ (c.push-in-Some.new.self.ok.0 ∙ ap length listed))
-      ∙ sent_next _ _ _ c.self.invariant c.in-Some.group _ (outgoing_some _ _ _ c.self.invariant c.args.name made.0 made.2.was made.5))
+    ∙ sent_next _ _ _ c.self.invariant c.in-Some.group _ (outgoing_some _ _ _ c.self.invariant c.args.name made.0 made.2.was made.5))
 
 pub returns-in-None-clause-message : goal.returns-in-None-clause-message
 returns-in-None-clause-message g c =

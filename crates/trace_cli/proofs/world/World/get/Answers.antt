@@ -6,6 +6,6 @@ returns-in-Some-clause-ok g c =
     let keeps = c.self.invariant in
     let found = c.in-Some.ensures.value in
     rw (← c.self.view_is) (IfOk-both c.values.result
-      (λ values ascending held.
-        (found_node _ _ _ keeps c.args.name c.in-Some.replica.now found, values_of_key _ _ _ keeps c.args.name c.args.key.now c.in-Some.replica.now values.items found ascending held))
-      c.values.ensures.ascending c.values.ensures.held)
+    (λ values ascending held.
+    (found_node _ _ _ keeps c.args.name c.in-Some.replica.now found, values_of_key _ _ _ keeps c.args.name c.args.key.now c.in-Some.replica.now values.items found ascending held))
+    c.values.ensures.ascending c.values.ensures.held)

@@ -1,0 +1,5 @@
+//! What no clause says: the worked traces with their exact text, the order of reads and writes, and failures in mid-stream.
+
+mod faults;
+mod traces;
+mod watched;

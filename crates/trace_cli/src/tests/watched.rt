@@ -1,0 +1,72 @@
+use crate::Watched;
+use std::io;
+use std::io::{Read, Write};
+
+/// A reader or a writer each of whose calls fails, or takes nothing.
+#[derive(Drop)]
+struct Broken {
+    fails: bool,
+}
+
+impl Read for Broken {
+    fn read(&mut self, _buf: &mut [u8]) -> io::Result<usize> {
+        if self.fails {
+            Err(io::Error::from(io::ErrorKind::Interrupted))
+        } else {
+            Ok(0)
+        }
+    }
+}
+
+impl Write for Broken {
+    fn write(&mut self, _buf: &[u8]) -> io::Result<usize> {
+        if self.fails {
+            Err(io::Error::from(io::ErrorKind::Interrupted))
+        } else {
+            Ok(0)
+        }
+    }
+
+    fn flush(&mut self) -> io::Result<()> {
+        if self.fails {
+            Err(io::Error::from(io::ErrorKind::Interrupted))
+        } else {
+            Ok(())
+        }
+    }
+}
+
+#[test]
+fn calls_are_passed_on_and_counted(rt: HostRuntime) {
+    let mut reader = Watched::new(b"abc".as_slice());
+    let mut two = [0; 2];
+    assert_eq!(rt; reader.read(&mut two).ok(), Some(2));
+    assert_eq!(rt; two, *b"ab");
+    assert_eq!(rt; reader.calls(), 1);
+    let mut writer = Watched::new(Vec::new(rt.alloc()));
+    assert_eq!(rt; writer.write(b"abc").ok(), Some(3));
+    assert!(rt; writer.flush().is_ok());
+    assert_eq!(rt; writer.calls(), 1);
+    assert!(rt; !writer.failed() && !reader.failed());
+    let written = writer.into_inner();
+    assert_eq!(rt; written.as_slice(), b"abc".as_slice());
+}
+
+#[test]
+fn each_failure_is_remembered(rt: HostRuntime) {
+    let mut buf = [0; 1];
+    let mut reader = Watched::new(Broken { fails: true });
+    assert!(rt; reader.read(&mut buf).is_err() && reader.failed());
+    let mut writer = Watched::new(Broken { fails: true });
+    assert!(rt; writer.write(b"a").is_err() && writer.failed());
+    let mut flushed = Watched::new(Broken { fails: true });
+    assert!(rt; flushed.flush().is_err() && flushed.failed());
+    let mut full = Watched::new(Broken { fails: false });
+    assert_eq!(rt; full.write(b"").ok(), Some(0));
+    assert!(rt; !full.failed());
+    assert_eq!(rt; full.write(b"a").ok(), Some(0));
+    assert!(rt; full.failed());
+    let mut ended = Watched::new(Broken { fails: false });
+    assert_eq!(rt; ended.read(&mut buf).ok(), Some(0));
+    assert!(rt; !ended.failed());
+}
