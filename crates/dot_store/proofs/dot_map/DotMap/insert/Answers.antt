@@ -10,4 +10,4 @@ invariant_of-self g c =
 pub invariant_of-self-2 : goal.invariant_of-self-2
 invariant_of-self-2 g c =
     filled_after_put g.S.DotStore.at g.K.Ord.cmp c.put.result c.self.inside.stores.entries c.put.new.map.entries c.args.key c.args.store c.self.invariant
-    (λ h. absurd (cc (sym c.if-is_empty.false ∙ c.is_empty.ensures.1 h))) c.put.ensures.entries c.put.ensures.unchanged
+    (λ h. absurd (cc (sym c.if-is_empty.false ∙ c.is_empty-is_empty.ensures.1 h))) c.put.ensures.entries c.put.ensures.unchanged
