@@ -5,3 +5,6 @@
 mod context;
 
 pub use context::Context;
+
+#[cfg(test)]
+mod tests;

@@ -17,21 +17,26 @@ cond_some false h = absurd (cc h)
 
 -- a dot that is held is found in the ordered set
 pub found_from_held : (ks : List DotValue) (place : Unit {0}) (d : DotValue) → IsSome (at_dots ks place d) → IsTrue (list_any (is_at (dot_cmp d)) ks)
+unfolding at_dots
 found_from_held ks place d h = list_any-dot_cmp d ks ∙ cond_some (list_any (same_dot d) ks) h
 
 pub held_from_found : (ks : List DotValue) (place : Unit {0}) (d : DotValue) → IsTrue (list_any (is_at (dot_cmp d)) ks) → at_dots ks place d ≡ Some (tt {0})
+unfolding at_dots
 held_from_found ks place d h = ap (λ b. cond b (Some (tt {0})) None) (sym (list_any-dot_cmp d ks) ∙ h)
 
 -- what is held, by what the ordered set answers
 pub at_dots-found : (ks : List DotValue) (place : Unit {0}) (d : DotValue) → at_dots ks place d ≡ cond (list_any (is_at (dot_cmp d)) ks) (Some (tt {0})) None
+unfolding at_dots
 at_dots-found ks place d = ap (λ b. cond b (Some (tt {0})) None) (sym (list_any-dot_cmp d ks))
 
 -- an empty set holds nothing, and a set that holds nothing is empty
 pub nothing_from_empty : (ks : List DotValue) → length ks ≡ 0 → (place : Unit {0}) (d : DotValue) → at_dots ks place d ≡ None
+unfolding at_dots
 nothing_from_empty [] e place d = refl
 nothing_from_empty (k ∷ ks) e place d = absurd (cc e)
 
 pub empty_from_nothing : (ks : List DotValue) → ((place : Unit {0}) (d : DotValue) → at_dots ks place d ≡ None) → length ks ≡ 0
+unfolding at_dots
 empty_from_nothing [] h = refl
 empty_from_nothing (k ∷ ks) h =
     let here : at_dots (k ∷ ks) tt k ≡ Some (tt {0}) = rw (same_dot-refl k) refl in
@@ -44,6 +49,7 @@ put_cases false b = refl
 -- a set after an insert
 pub at_dots-insert : (old new : List DotValue) (dot d : DotValue) (place : Unit {0}) → list_any (is_at (dot_cmp d)) new ≡ cond (is_eq (dot_cmp dot d)) true (list_any (is_at (dot_cmp d)) old)
     → at_dots new place d ≡ cond (same_dot dot d) (Some (tt {0})) (at_dots old place d)
+unfolding at_dots
 at_dots-insert old new dot d place h =
     at_dots-found new place d ∙ ap (λ b. cond b (Some (tt {0})) None) h ∙ put_cases (is_eq (dot_cmp dot d)) (list_any (is_at (dot_cmp d)) old)
     ∙ ap (λ b. cond b (Some (tt {0})) (cond (list_any (is_at (dot_cmp d)) old) (Some (tt {0})) None)) (is_eq-dot_cmp dot d)
@@ -62,10 +68,12 @@ joined_tests false false own theirs = refl
 -- two sets whose dots are found in one another hold the same, and the other way round
 pub same_from_found : (ks ls : List DotValue) → ((d : DotValue) → IsTrue (list_any (is_at (dot_cmp d)) ks) → IsTrue (list_any (is_at (dot_cmp d)) ls))
     → ((d : DotValue) → IsTrue (list_any (is_at (dot_cmp d)) ls) → IsTrue (list_any (is_at (dot_cmp d)) ks)) → (place : Unit {0}) (d : DotValue) → at_dots ks place d ≡ at_dots ls place d
+unfolding at_dots
 same_from_found ks ls there back place d =
     at_dots-found ks place d ∙ ap (λ b. cond b (Some (tt {0})) None) (both_ways (list_any (is_at (dot_cmp d)) ks) (list_any (is_at (dot_cmp d)) ls) (there d) (back d))
     ∙ sym (at_dots-found ls place d)
 
 pub found_from_same : (ks ls : List DotValue) → ((place : Unit {0}) (d : DotValue) → at_dots ks place d ≡ at_dots ls place d) → (d : DotValue)
     → IsTrue (list_any (is_at (dot_cmp d)) ks) → IsTrue (list_any (is_at (dot_cmp d)) ls)
+unfolding at_dots
 found_from_same ks ls h d found = found_from_held ls tt d (ap is_some (sym (h tt d) ∙ held_from_found ks tt d found))

@@ -72,6 +72,7 @@ module _ {S P H : Type 0} (at : S → P → DotValue → Option H) where
 
   module _ {K : Type 0} (cmp : K → K → Ordering) (total : IsTotalOrder cmp) where
     pub nothing_from_no_key : (es : List (K × S)) → length es ≡ 0 → HasNothing (at_stores at cmp es)
+    unfolding at_stores
     nothing_from_no_key [] e place d = refl
     nothing_from_no_key (x ∷ es) e place d = absurd (cc e)
 
@@ -79,6 +80,7 @@ module _ {S P H : Type 0} (at : S → P → DotValue → Option H) where
     first_is_found x es = rw (tied_itself total x.0) refl
 
     pub no_key_from_nothing : (es : List (K × S)) → NoKeyIsEmpty at es → HasNothing (at_stores at cmp es) → length es ≡ 0
+    unfolding at_stores
     no_key_from_nothing [] filled h = refl
     no_key_from_nothing (x ∷ es) filled h =
         absurd (filled_at (is_at (cmp x.0)) (x ∷ es) x.1 filled (first_is_found x es)
@@ -91,6 +93,7 @@ module _ {S P H : Type 0} (at : S → P → DotValue → Option H) where
     -- a map after an insert
     pub at_stores-insert : (old new : List (K × S)) (key : K) (store : S) → ((q : K) → lookup (is_at (cmp q)) new ≡ cond (is_eq (cmp key q)) (Some store) (lookup (is_at (cmp q)) old))
         → HoldsSame (at_stores at cmp new) (with_store at cmp (at_stores at cmp old) key store)
+    unfolding at_stores
     at_stores-insert old new key store h place d =
         ap (λ o. held_by at o place.1 d) (h place.0) ∙ put_by (is_eq (cmp key place.0)) store (lookup (is_at (cmp place.0)) old) place.1 d
 
@@ -101,6 +104,7 @@ module _ {S P H : Type 0} (at : S → P → DotValue → Option H) where
     -- a map after a removal, for a store that holds nothing
     pub at_stores-remove : (old new : List (K × S)) (key : K) (store : S) → HasNothing (at store) → ((q : K) → lookup (is_at (cmp q)) new ≡ cond (is_eq (cmp key q)) None (lookup (is_at (cmp q)) old))
         → HoldsSame (at_stores at cmp new) (with_store at cmp (at_stores at cmp old) key store)
+    unfolding at_stores
     at_stores-remove old new key store empty h place d =
         ap (λ o. held_by at o place.1 d) (h place.0) ∙ take_by (is_eq (cmp key place.0)) store (lookup (is_at (cmp place.0)) old) place.1 d (empty place.1 d)
 
@@ -113,11 +117,13 @@ module _ {S P H : Type 0} (at : S → P → DotValue → Option H) where
     -- two maps each of which holds what the other's stores hold
     pub same_from_inside : (es fs : List (K × S)) → ((q : K) (s : S) → lookup (is_at (cmp q)) es ≡ Some s → HoldsSame (at s) (held_by at (lookup (is_at (cmp q)) fs)))
         → ((q : K) (s : S) → lookup (is_at (cmp q)) fs ≡ Some s → HoldsSame (at s) (held_by at (lookup (is_at (cmp q)) es))) → HoldsSame (at_stores at cmp es) (at_stores at cmp fs)
+    unfolding at_stores
     same_from_inside es fs there back place d =
         same_by (lookup (is_at (cmp place.0)) es) (lookup (is_at (cmp place.0)) fs) place.1 d (there place.0) (back place.0)
 
     pub inside_from_same : (es fs : List (K × S)) → HoldsSame (at_stores at cmp es) (at_stores at cmp fs)
         → (q : K) (s : S) → lookup (is_at (cmp q)) es ≡ Some s → HoldsSame (at s) (held_by at (lookup (is_at (cmp q)) fs))
+    unfolding at_stores
     inside_from_same es fs h q s e place d = sym (held_at_some (lookup (is_at (cmp q)) es) s place d e) ∙ h (q, place) d
 
 -- ---- a loop that adds the dots of each store to a context
@@ -134,6 +140,7 @@ module _ {K S P H : Type 0} (at : S → P → DotValue → Option H) (cmp : K �
   -- a dot that came with the store of a key is held in the map
   pub only_more : (old mid new : DotValue → Bool) (x : K) (s : S) → lookup (is_at (cmp x)) es ≡ Some s → ((d : DotValue) → IsTrue (mid d) → IsTrue (old d) ⊎ HoldsDot (at_stores at cmp es) d)
       → ((d : DotValue) → IsTrue (new d) → IsTrue (mid d) ⊎ HoldsDot (at s) d) → (d : DotValue) → IsTrue (new d) → IsTrue (old d) ⊎ HoldsDot (at_stores at cmp es) d
+  unfolding at_stores
   only_more old mid new x s e before more d h =
       ⊎_elim (before d) (λ held. inr ((x, held.0), ap is_some (held_at_some at (lookup (is_at (cmp x)) es) s held.0 d e) ∙ held.1)) (more d h)
 
@@ -141,6 +148,7 @@ module _ {K S P H : Type 0} (at : S → P → DotValue → Option H) (cmp : K �
   pub stores_more : {A : Type 0} (old mid new : DotValue → Bool) (key : A → K) (xs : List A) (x : A) (s : S) → GatheredStores old mid key xs → lookup (is_at (cmp (key x))) es ≡ Some s
       → ((d : DotValue) → IsTrue (mid d) → IsTrue (new d)) → ((d : DotValue) → IsTrue (new d) → IsTrue (mid d) ⊎ HoldsDot (at s) d) → ((place : P) (d : DotValue) → IsSome (at s place d) → IsTrue (new d))
       → GatheredStores old new key (xs ++ x ∷ [])
+  unfolding at_stores
   stores_more old mid new key xs x s before e keeps only adds = record {
     kept = λ d h. keeps d (before.kept d h);
     only = only_more old mid new (key x) s e before.only only;

@@ -11,7 +11,7 @@ use Rattle.op_model.specs.State.{joined}
 use Rattle.dot_store.specs.Store.{HasNothing}
 
 -- a set of dots holds `tt` at each of its dots
-abbrev pub at_dots : List DotValue → Unit {0} → DotValue → Option (Unit {0})
+unfoldable pub at_dots : List DotValue → Unit {0} → DotValue → Option (Unit {0})
 at_dots dots place dot = cond (list_any (same_dot dot) dots) (Some tt) None
 
 -- of the two things that a set of dots can hold at a dot, the greater: there is only one
@@ -20,7 +20,7 @@ greater_unit x y = tt
 
 module _ {V : Type 0} where
   -- a map from dots to values holds the value of the dot
-  abbrev pub at_values : List (DotValue × V) → Unit {0} → DotValue → Option V
+  unfoldable pub at_values : List (DotValue × V) → Unit {0} → DotValue → Option V
   at_values values place dot = lookup (same_dot dot) values
 
   -- what the join of two maps from dots to values holds at a dot
@@ -39,7 +39,7 @@ module _ {S P H : Type 0} (at : S → P → DotValue → Option H) where
 
   module _ {K : Type 0} (cmp : K → K → Ordering) where
     -- a map from keys to stores holds at a key and a place what the key's store holds at that place
-    abbrev pub at_stores : List (K × S) → K × P → DotValue → Option H
+    unfoldable pub at_stores : List (K × S) → K × P → DotValue → Option H
     at_stores stores place dot = held_by (lookup (is_at (cmp place.0)) stores) place.1 dot
 
     -- what a map holds once a store is put at a key

@@ -65,7 +65,8 @@ impl<K: Kept<A>, S: DotStore<A>, A: Allocator + Copy> DotMap<K, S, A> {
         ensures unchanged { OnErr result (self.new ≡ self.old) }
         ensures err { IsOkUnless result Refusal.OutOfMemory }
     {
-        if store.is_empty() {
+        let is_empty = store.is_empty();
+        if is_empty {
             self.stores.remove(&key);
             return Ok(());
         }

@@ -7,13 +7,14 @@ use Rattle.dots.specs.Dot.{DotValue}
 use Rattle.causal_context.specs.Context.{has}
 use Rattle.causal_context.specs.Dots.{dot_cmp}
 use Rattle.causal_context.proofs.Dots.{dot_cmp_total, dot_exact}
-use Rattle.dot_store.specs.Stores.{joined_value}
+use Rattle.dot_store.specs.Stores.{joined_value, at_values}
 use Rattle.std.specs.Ordering.{ord_max}
 use Rattle.dot_store.proofs.Reached.{reached_map, put_some_more, left_more, ends_by, cond_at, cond_past, none_from_test}
 use Rattle.dot_store.proofs.Values.{joined-none}
 use Rattle.dot_store.proofs.dot_fun.join_yours.Goals as goal
 
 pub loop-dot-preserved : goal.loop-dot-preserved
+unfolding at_values
 loop-dot-preserved g c =
     let x = c.in-Some.dot.now in
     let want = λ (q : DotValue). cond (is_some (get dot_cmp c.args.mine.now q)) (get dot_cmp c.args.kept.now q) (joined_value (ord_max g.V.Ord.cmp) (get dot_cmp c.args.mine.now) (has c.args.own.now) (get dot_cmp c.args.yours.now) (has c.args.theirs.now) q) in
@@ -23,6 +24,7 @@ loop-dot-preserved g c =
     (c.requires x (none_from_test (get dot_cmp c.args.mine.now x) (sym c.if-contains_key.ensures))) c.loop-dot.invariant
 
 pub loop-dot-preserved-then-contains_key : goal.loop-dot-preserved-then-contains_key
+unfolding at_values
 loop-dot-preserved-then-contains_key g c =
     let x = c.in-Some.dot.now in
     let want = λ (q : DotValue). cond (is_some (get dot_cmp c.args.mine.now q)) (get dot_cmp c.args.kept.now q) (joined_value (ord_max g.V.Ord.cmp) (get dot_cmp c.args.mine.now) (has c.args.own.now) (get dot_cmp c.args.yours.now) (has c.args.theirs.now) q) in
@@ -31,6 +33,7 @@ loop-dot-preserved-then-contains_key g c =
     (sym (cond_at (is_some (get dot_cmp c.args.mine.now x)) (get dot_cmp c.args.kept.now x) (joined_value (ord_max g.V.Ord.cmp) (get dot_cmp c.args.mine.now) (has c.args.own.now) (get dot_cmp c.args.yours.now) (has c.args.theirs.now) x) (sym c.if-contains_key.ensures))) c.loop-dot.invariant
 
 pub returns-clause-ok : goal.returns-clause-ok
+unfolding at_values
 returns-clause-ok g c = λ d.
     let start : c.into_iter-dot-iterator.result ≡ keys c.args.yours.now = c.into_iter-dot-iterator.ensures.into_iter_gives ∙ c.keys-dot-items.ensures.rest in
     let all = (iter_end deref (keys c.args.yours.now) c.loop-dot.yielded _ _ _ _ start c.loop-dot.yielded_by c.in-None.is c.next.ensures.steps).0 in

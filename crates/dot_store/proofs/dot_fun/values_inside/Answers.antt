@@ -1,3 +1,4 @@
+use Rattle.dot_store.specs.Stores.{at_values}
 use Rattle.std.proofs.Common.{◌≡◌, Some, None, refl, sym, ap, ◌∙◌}
 use Rattle.std.specs.Prelude.{is_some}
 use Rattle.std.specs.BTreeMap.{get}
@@ -12,6 +13,7 @@ use Rattle.dot_store.proofs.Reached.{every_more, reached_pairs, same_key}
 use Rattle.dot_store.proofs.dot_fun.values_inside.Goals as goal
 
 pub returns-then-not-is_eq : goal.returns-then-not-is_eq
+unfolding at_values
 returns-then-not-is_eq g c =
     let x = c.in-Some.dot.now in
     let here : get dot_cmp c.args.mine.now x ≡ Some c.in-Some.value.now =
@@ -26,6 +28,7 @@ returns-then-not-is_eq g c =
     )
 
 pub loop-dot-preserved : goal.loop-dot-preserved
+unfolding at_values
 loop-dot-preserved g c =
     let x = c.in-Some.dot.now in
     let here : get dot_cmp c.args.mine.now x ≡ Some c.in-Some.value.now =
@@ -39,6 +42,7 @@ loop-dot-preserved g c =
     (λ v e. there ∙ ap (λ w. Some w) (sym same) ∙ sym here ∙ e)
 
 pub returns-in-None-get : goal.returns-in-None-get
+unfolding at_values
 returns-in-None-get g c =
     let x = c.in-Some.dot.now in
     let here : get dot_cmp c.args.mine.now x ≡ Some c.in-Some.value.now =
@@ -48,6 +52,7 @@ returns-in-None-get g c =
     (λ t. absurd (cc t), λ h. absurd (cc (sym there ∙ h x c.in-Some.value.now here)))
 
 pub returns : goal.returns
+unfolding at_values
 returns g c =
     let all = (iter_end deref_pair c.args.mine.now.entries c.loop-dot.yielded _ _ _ _ c.into_iter-dot-iterator.ensures.into_iter_gives.0 c.loop-dot.yielded_by c.in-None.is c.next.ensures.steps).0 in
     (λ _ d v e. c.loop-dot.invariant d (reached_pairs dot_cmp c.loop-dot.yielded c.args.mine.now.entries all d ∙ ap is_some e) v e, λ _. refl)

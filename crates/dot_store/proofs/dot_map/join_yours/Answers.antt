@@ -4,15 +4,17 @@ use Rattle.std.specs.BTreeMap.{get, keys}
 use Rattle.std.specs.Map.Iter.{deref}
 use Rattle.std.proofs.lemmas.Map.Iter.{iter_end}
 use Rattle.causal_context.specs.Context.{has}
-use Rattle.dot_store.specs.Stores.{held_by, joined_store}
+use Rattle.dot_store.specs.Stores.{held_by, joined_store, at_stores}
 use Rattle.dot_store.proofs.Reached.{reached_map, put_some_more, left_more, ends_by, cond_at, cond_past, none_from_test}
 use Rattle.dot_store.proofs.Stores.{filled_put_some, joined_store-none}
 use Rattle.dot_store.proofs.dot_map.join_yours.Goals as goal
 
 pub loop-key-init : goal.loop-key-init
+unfolding at_stores
 loop-key-init g c = (λ place d q. refl, c.requires.filled)
 
 pub loop-key-preserved : goal.loop-key-preserved
+unfolding at_stores
 loop-key-preserved g c =
     let x = c.in-Some.key.now in (
       λ place d.
@@ -27,6 +29,7 @@ loop-key-preserved g c =
     )
 
 pub loop-key-preserved-then-contains_key : goal.loop-key-preserved-then-contains_key
+unfolding at_stores
 loop-key-preserved-then-contains_key g c =
     let x = c.in-Some.key.now in (
       λ place d.
@@ -39,6 +42,7 @@ loop-key-preserved-then-contains_key g c =
     )
 
 pub returns-clause-ok : goal.returns-clause-ok
+unfolding at_stores
 returns-clause-ok g c = λ q place d.
     let start : c.into_iter-key-iterator.result ≡ keys c.args.yours.now = c.into_iter-key-iterator.ensures.into_iter_gives ∙ c.keys-key-items.ensures.rest in
     let all = (iter_end deref (keys c.args.yours.now) c.loop-key.yielded _ _ _ _ start c.loop-key.yielded_by c.in-None.is c.next.ensures.steps).0 in
@@ -52,4 +56,5 @@ returns-clause-ok g c = λ q place d.
     ∙ sym (joined_store-none g.S.DotStore.at g.S.DotStore.greater mine yours (has c.args.own.now) (has c.args.theirs.now) place d (none_from_test mine m) (none_from_test yours y)))
 
 pub returns-clause-still_filled : goal.returns-clause-still_filled
+unfolding at_stores
 returns-clause-still_filled g c = c.loop-key.invariant.1

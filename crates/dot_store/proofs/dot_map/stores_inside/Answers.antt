@@ -5,12 +5,13 @@ use Rattle.std.specs.Map.Iter.{deref_pair}
 use Rattle.std.proofs.lemmas.Map.Iter.{iter_end}
 use Rattle.std.proofs.lemmas.Map.Views.{All-turn}
 use Rattle.dot_store.specs.Store.{HoldsSame}
-use Rattle.dot_store.specs.Stores.{held_by}
+use Rattle.dot_store.specs.Stores.{held_by, at_stores}
 use Rattle.dot_store.proofs.Reached.{reached_pairs, every_more}
 use Rattle.dot_store.proofs.Stores.{filled_at, held_at_some, held_at_none}
 use Rattle.dot_store.proofs.dot_map.stores_inside.Goals as goal
 
 pub loop-key-preserved : goal.loop-key-preserved
+unfolding at_stores
 loop-key-preserved g c =
     let x = c.in-Some.key.now in
     let here : get g.K.Ord.cmp c.args.mine.now x ≡ Some c.in-Some.store.now =
@@ -26,6 +27,7 @@ loop-key-preserved g c =
     ∙ sym (held_at_some g.S.DotStore.at (get g.K.Ord.cmp c.args.yours.now x) c.in-Some-get.theirs.now place d there))
 
 pub returns-then-not-same : goal.returns-then-not-same
+unfolding at_stores
 returns-then-not-same g c =
     let x = c.in-Some.key.now in
     let here : get g.K.Ord.cmp c.args.mine.now x ≡ Some c.in-Some.store.now =
@@ -40,6 +42,7 @@ returns-then-not-same g c =
     )
 
 pub returns-in-None-get : goal.returns-in-None-get
+unfolding at_stores
 returns-in-None-get g c =
     let x = c.in-Some.key.now in
     let here : get g.K.Ord.cmp c.args.mine.now x ≡ Some c.in-Some.store.now =
@@ -52,6 +55,7 @@ returns-in-None-get g c =
     )
 
 pub returns : goal.returns
+unfolding at_stores
 returns g c =
     let all = (iter_end deref_pair c.args.mine.now.entries c.loop-key.yielded _ _ _ _ c.into_iter-key-iterator.ensures.into_iter_gives.0 c.loop-key.yielded_by c.in-None.is c.next.ensures.steps).0 in
     (λ _ q s e. c.loop-key.invariant q (reached_pairs g.K.Ord.cmp c.loop-key.yielded c.args.mine.now.entries all q ∙ ap is_some e) s e, λ _. refl)

@@ -1,3 +1,4 @@
+use Rattle.dot_store.specs.Stores.{at_dots}
 use Rattle.std.specs.BTreeSet.{IsFromIterResult}
 use Rattle.std.proofs.lemmas.Iterator.Adapters.{fact_from_collect}
 use Rattle.std.proofs.lemmas.Iterator.Consumers.{YieldsList-from_rest, YieldsList-from_copied}
@@ -5,6 +6,7 @@ use Rattle.causal_context.specs.Dots.{dot_cmp}
 use Rattle.dot_store.proofs.dot_set.copied.Goals as goal
 
 pub returns : goal.returns
+unfolding at_dots
 returns g c =
     fact_from_collect (IsFromIterResult dot_cmp) c.collect.result c.collect.ensures.ran
     (YieldsList-from_copied (YieldsList-from_rest c.args.dots.now.keys cc))

@@ -6,6 +6,7 @@ use Rattle.dot_store.proofs.Values.{at_values-insert}
 use Rattle.dot_store.proofs.dot_fun.DotFun.insert.Goals as goal
 
 pub returns-clause-ok : goal.returns-clause-ok
+unfolding at_values
 returns-clause-ok g c =
     on_ok_weaker c.put.result
     (λ h place d.

@@ -16,6 +16,7 @@ use Rattle.dot_store.proofs.Values.{held_from_entry, entry_from_held}
 use Rattle.dot_store.proofs.dot_fun.DotFunDotStore.add_dots.Goals as goal
 
 pub loop-dot-preserved : goal.loop-dot-preserved
+unfolding at_values
 loop-dot-preserved g c =
     let start : c.into_iter-dot-iterator.result ≡ keys c.self.inside.values = c.into_iter-dot-iterator.ensures.into_iter_gives ∙ c.keys-dot-items.ensures.rest in
     let x = c.in-Some.dot.now in
@@ -28,6 +29,7 @@ loop-dot-preserved g c =
     c.loop-dot.invariant c.in_ok-add.ensures.ok (tt, held)
 
 pub returns-clause-added : goal.returns-clause-added
+unfolding at_values
 returns-clause-added g c =
     let start : c.into_iter-dot-iterator.result ≡ keys c.self.inside.values = c.into_iter-dot-iterator.ensures.into_iter_gives ∙ c.keys-dot-items.ensures.rest in
     let all : map deref c.loop-dot.yielded ≡ keys_of c.args.self.now =

@@ -1,3 +1,4 @@
+use Rattle.dot_store.specs.Stores.{at_values}
 use Rattle.std.proofs.Common.{◌≡◌, cond, Some, None, sym, ap, ◌∙◌}
 use Rattle.std.specs.BTreeMap.{get, is_at}
 use Rattle.std.specs.Map.{lookup}
@@ -11,6 +12,7 @@ use Rattle.dot_store.proofs.Values.{at_values-found}
 use Rattle.dot_store.proofs.dot_fun.DotFunDotStore.copy.Goals as goal
 
 pub loop-dot-preserved : goal.loop-dot-preserved
+unfolding at_values
 loop-dot-preserved g c =
     let x = c.in-Some.dot.now in
     let here : get dot_cmp c.self.inside.values x ≡ Some c.in-Some.value.now =
@@ -22,6 +24,7 @@ loop-dot-preserved g c =
     (ap (λ v. Some v) c.in_ok-copy.ensures.ok ∙ sym here ∙ in_self) c.loop-dot.invariant
 
 pub returns-clause-ok : goal.returns-clause-ok
+unfolding at_values
 returns-clause-ok g c = λ place d.
     let all = (iter_end deref_pair c.self.inside.values.entries c.loop-dot.yielded _ _ _ _ c.into_iter-dot-iterator.ensures.into_iter_gives.0 c.loop-dot.yielded_by c.in-None.is c.next.ensures.steps).0 in
     at_values-found c.loop-dot.values.entries place d ∙ c.loop-dot.invariant d

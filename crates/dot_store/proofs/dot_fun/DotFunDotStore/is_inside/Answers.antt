@@ -1,3 +1,4 @@
+use Rattle.dot_store.specs.Stores.{at_values}
 use Rattle.std.proofs.Common.{◌≡◌, List, map, refl, sym, ap, subst, ◌∙◌}
 use Rattle.std.specs.Prelude.{IsTrue, IsSome}
 use Rattle.std.specs.BTreeMap.{get, keys, ContainsKey, is_at}
@@ -14,11 +15,13 @@ use Rattle.dot_store.proofs.Values.{held_from_entry, entry_from_held}
 use Rattle.dot_store.proofs.dot_fun.DotFunDotStore.is_inside.Goals as goal
 
 pub loop-dot-preserved : goal.loop-dot-preserved
+unfolding at_values
 loop-dot-preserved g c =
     every_more dot_cmp dot_cmp_total dot_exact (λ q. IsTrue (has c.args.context.now q)) (λ x. x.now) c.loop-dot.yielded c.in-Some.dot c.loop-dot.invariant
     (sym c.if-not-contains.ensures)
 
 pub returns-then-not-contains : goal.returns-then-not-contains
+unfolding at_values
 returns-then-not-contains g c =
     let start : c.into_iter-dot-iterator.result ≡ keys c.self.inside.values = c.into_iter-dot-iterator.ensures.into_iter_gives ∙ c.keys-dot-items.ensures.rest in
     let x = c.in-Some.dot.now in
@@ -30,6 +33,7 @@ returns-then-not-contains g c =
     (λ h. absurd (cc h), λ inside. c.if-not-contains.ensures ∙ inside tt x held)
 
 pub returns : goal.returns
+unfolding at_values
 returns g c =
     let start : c.into_iter-dot-iterator.result ≡ keys c.self.inside.values = c.into_iter-dot-iterator.ensures.into_iter_gives ∙ c.keys-dot-items.ensures.rest in
     let all : map deref c.loop-dot.yielded ≡ keys_of c.args.self.now =

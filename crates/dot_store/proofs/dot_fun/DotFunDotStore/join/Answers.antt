@@ -10,9 +10,11 @@ use Rattle.dot_store.proofs.Values.{at_values-found, joined_along}
 use Rattle.dot_store.proofs.dot_fun.DotFunDotStore.join.Goals as goal
 
 pub join_yours-requires : goal.join_yours-requires
+unfolding at_values
 join_yours-requires g c = λ d h. c.in_ok-values.ensures.ok d ∙ cond_past (is_some (get dot_cmp c.self.inside.values d)) _ None (test_from_none (get dot_cmp c.self.inside.values d) h)
 
 pub returns-clause-ok : goal.returns-clause-ok
+unfolding at_values
 returns-clause-ok g c =
     rw (← c.self.view_is, ← c.other.view_is)
     (λ place d.

@@ -1,8 +1,10 @@
+use Rattle.dot_store.specs.Stores.{at_values}
 use Rattle.std.proofs.Common.{sym}
 use Rattle.dot_store.proofs.Values.{same_from_inside, inside_from_same}
 use Rattle.dot_store.proofs.dot_fun.DotFunDotStore.same.Goals as goal
 
 pub returns-then-values_inside : goal.returns-then-values_inside
+unfolding at_values
 returns-then-values_inside g c =
     let mine = c.self.inside.values.entries in
     let yours = c.other.inside.values.entries in
@@ -12,6 +14,7 @@ returns-then-values_inside g c =
     )
 
 pub returns-else-values_inside : goal.returns-else-values_inside
+unfolding at_values
 returns-else-values_inside g c =
     let mine = c.self.inside.values.entries in
     let yours = c.other.inside.values.entries in

@@ -1,3 +1,4 @@
+use Rattle.dot_store.specs.Stores.{at_stores}
 use Rattle.std.specs.BTreeMap.{is_at}
 use Rattle.std.specs.Map.{lookup}
 use Rattle.std.proofs.lemmas.Map.Views.{btree_map_get_iff}
@@ -5,6 +6,7 @@ use Rattle.dot_store.proofs.Stores.{store_from_held}
 use Rattle.dot_store.proofs.dot_map.DotMap.iter.Goals as goal
 
 pub returns-clause-only : goal.returns-clause-only
+unfolding at_stores
 returns-clause-only g c =
     rw (c.iter.ensures.rest, ← c.self.view_is)
     (λ key place d h.

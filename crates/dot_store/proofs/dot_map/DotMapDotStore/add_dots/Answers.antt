@@ -1,3 +1,4 @@
+use Rattle.dot_store.specs.Stores.{at_stores}
 use Rattle.std.proofs.Common.{◌≡◌, Some, sym, ap, ◌∙◌}
 use Rattle.std.specs.BTreeMap.{get, is_at}
 use Rattle.std.specs.Map.{lookup}
@@ -10,6 +11,7 @@ use Rattle.dot_store.proofs.Stores.{some_from_held, only_more, stores_more}
 use Rattle.dot_store.proofs.dot_map.DotMapDotStore.add_dots.Goals as goal
 
 pub loop-store-preserved : goal.loop-store-preserved
+unfolding at_stores
 loop-store-preserved g c =
     let x = c.in-Some.field-0-0.now in
     let here : get g.K.Ord.cmp c.self.inside.stores x ≡ Some c.in-Some.store.now =
@@ -20,6 +22,7 @@ loop-store-preserved g c =
     c.loop-store.yielded (c.in-Some.field-0-0, c.in-Some.store) c.in-Some.store.now c.loop-store.invariant found c.add_dots.ensures.kept c.add_dots.ensures.only c.in_ok-add_dots.ensures.added
 
 pub returns-in_err-add_dots-clause-only : goal.returns-in_err-add_dots-clause-only
+unfolding at_stores
 returns-in_err-add_dots-clause-only g c =
     let x = c.in-Some.field-0-0.now in
     let here : get g.K.Ord.cmp c.self.inside.stores x ≡ Some c.in-Some.store.now =
@@ -30,6 +33,7 @@ returns-in_err-add_dots-clause-only g c =
     c.loop-store.invariant.only c.add_dots.ensures.only
 
 pub returns-clause-added : goal.returns-clause-added
+unfolding at_stores
 returns-clause-added g c = λ place d h.
     let all = (iter_end deref_pair c.self.inside.stores.entries c.loop-store.yielded _ _ _ _ c.into_iter-store-iterator.ensures.into_iter_gives.0 c.loop-store.yielded_by c.in-None.is c.next.ensures.steps).0 in
     c.loop-store.invariant.added place.0

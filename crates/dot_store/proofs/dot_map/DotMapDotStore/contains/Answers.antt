@@ -11,6 +11,7 @@ use Rattle.dot_store.proofs.Stores.{held_at_some, absent_from_found}
 use Rattle.dot_store.proofs.dot_map.DotMapDotStore.contains.Goals as goal
 
 pub loop-store-preserved : goal.loop-store-preserved
+unfolding at_stores
 loop-store-preserved g c =
     let x = c.in-Some.field-0-0.now in
     let here : get g.K.Ord.cmp c.self.inside.stores x ≡ Some c.in-Some.store.now =
@@ -22,6 +23,7 @@ loop-store-preserved g c =
     (λ place. held_at_some g.S.DotStore.at (lookup (is_at (g.K.Ord.cmp x)) c.args.self.now) c.in-Some.store.now place c.args.dot found ∙ c.contains.ensures.absent c.if-contains.false place)
 
 pub returns-then-contains-clause-found : goal.returns-then-contains-clause-found
+unfolding at_stores
 returns-then-contains-clause-found g c = λ _.
     let x = c.in-Some.field-0-0.now in
     let here : get g.K.Ord.cmp c.self.inside.stores x ≡ Some c.in-Some.store.now =
@@ -32,6 +34,7 @@ returns-then-contains-clause-found g c = λ _.
     ((x, held.0), ap is_some (held_at_some g.S.DotStore.at (lookup (is_at (g.K.Ord.cmp x)) c.args.self.now) c.in-Some.store.now held.0 c.args.dot found) ∙ held.1)
 
 pub returns-clause-absent : goal.returns-clause-absent
+unfolding at_stores
 returns-clause-absent g c = λ _ place.
     let all = (iter_end deref_pair c.self.inside.stores.entries c.loop-store.yielded _ _ _ _ c.into_iter-store-iterator.ensures.into_iter_gives.0 c.loop-store.yielded_by c.in-None.is c.next.ensures.steps).0 in
     absent_from_found g.S.DotStore.at (lookup (is_at (g.K.Ord.cmp place.0)) c.args.self.now) c.args.dot

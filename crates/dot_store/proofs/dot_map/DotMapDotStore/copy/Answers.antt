@@ -5,18 +5,20 @@ use Rattle.std.specs.Map.Iter.{deref_pair}
 use Rattle.std.proofs.lemmas.Map.Iter.{iter_end}
 use Rattle.std.proofs.lemmas.Map.Views.{All-turn}
 use Rattle.std.specs.Ordering.{is_eq}
-use Rattle.dot_store.specs.Stores.{held_by}
+use Rattle.dot_store.specs.Stores.{held_by, at_stores}
 use Rattle.dot_store.proofs.Reached.{reached_pairs, put_more}
 use Rattle.dot_store.proofs.Stores.{filled_none, filled_insert, filled_at, held_at_some, held_at_none, cond_held}
 use Rattle.dot_store.proofs.dot_map.DotMapDotStore.copy.Goals as goal
 
 pub loop-key-init : goal.loop-key-init
+unfolding at_stores
 loop-key-init g c = (
   λ place d q. held_at_none g.S.DotStore.at (get g.K.Ord.cmp c.new-stores.result q) place d (ap (λ es. lookup (is_at (g.K.Ord.cmp q)) es) c.new-stores.ensures.empty),
   filled_none g.S.DotStore.at c.new-stores.result.entries c.new-stores.ensures.empty,
 )
 
 pub loop-key-preserved : goal.loop-key-preserved
+unfolding at_stores
 loop-key-preserved g c =
     let x = c.in-Some.key.now in
     let here : get g.K.Ord.cmp c.self.inside.stores x ≡ Some c.in-Some.store.now =
@@ -38,9 +40,11 @@ loop-key-preserved g c =
     )
 
 pub invariant_of-result : goal.invariant_of-result
+unfolding at_stores
 invariant_of-result g c = c.loop-key.invariant.1
 
 pub returns-clause-ok : goal.returns-clause-ok
+unfolding at_stores
 returns-clause-ok g c = λ place d.
     let all = (iter_end deref_pair c.self.inside.stores.entries c.loop-key.yielded _ _ _ _ c.into_iter-key-iterator.ensures.into_iter_gives.0 c.loop-key.yielded_by c.in-None.is c.next.ensures.steps).0 in
     let o = lookup (is_at (g.K.Ord.cmp place.0)) c.args.self.now in

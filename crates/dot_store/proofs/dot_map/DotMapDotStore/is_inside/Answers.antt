@@ -13,6 +13,7 @@ use Rattle.dot_store.proofs.Stores.{held_at_some, some_from_held}
 use Rattle.dot_store.proofs.dot_map.DotMapDotStore.is_inside.Goals as goal
 
 pub loop-store-preserved : goal.loop-store-preserved
+unfolding at_stores
 loop-store-preserved g c =
     let x = c.in-Some.field-0-0.now in
     let here : get g.K.Ord.cmp c.self.inside.stores x ≡ Some c.in-Some.store.now =
@@ -25,6 +26,7 @@ loop-store-preserved g c =
     (sym (ap is_some (held_at_some g.S.DotStore.at (lookup (is_at (g.K.Ord.cmp x)) c.args.self.now) c.in-Some.store.now place d found)) ∙ h))
 
 pub returns-then-not-is_inside : goal.returns-then-not-is_inside
+unfolding at_stores
 returns-then-not-is_inside g c =
     let x = c.in-Some.field-0-0.now in
     let here : get g.K.Ord.cmp c.self.inside.stores x ≡ Some c.in-Some.store.now =
@@ -39,6 +41,7 @@ returns-then-not-is_inside g c =
     )
 
 pub returns : goal.returns
+unfolding at_stores
 returns g c =
     let all = (iter_end deref_pair c.self.inside.stores.entries c.loop-store.yielded _ _ _ _ c.into_iter-store-iterator.ensures.into_iter_gives.0 c.loop-store.yielded_by c.in-None.is c.next.ensures.steps).0 in (
       λ _ place d h. c.loop-store.invariant place.0

@@ -2,11 +2,12 @@ use Rattle.std.proofs.Common.{cond, None, ap, ◌∙◌}
 use Rattle.std.specs.Prelude.{is_some}
 use Rattle.std.specs.BTreeMap.{get}
 use Rattle.causal_context.specs.Context.{has}
-use Rattle.dot_store.specs.Stores.{joined_store}
+use Rattle.dot_store.specs.Stores.{joined_store, at_stores}
 use Rattle.dot_store.proofs.Reached.{both_halves, cond_past, test_from_none}
 use Rattle.dot_store.proofs.dot_map.DotMapDotStore.join.Goals as goal
 
 pub join_yours-requires : goal.join_yours-requires
+unfolding at_stores
 join_yours-requires g c = record {
   mine = λ q place d h.
       c.in_ok-stores.ensures.ok q place d
@@ -17,9 +18,11 @@ join_yours-requires g c = record {
 }
 
 pub invariant_of-result : goal.invariant_of-result
+unfolding at_stores
 invariant_of-result g c = c.in_ok-join_yours.ensures.still_filled
 
 pub returns-clause-ok : goal.returns-clause-ok
+unfolding at_stores
 returns-clause-ok g c =
     rw (← c.self.view_is, ← c.other.view_is)
     (λ place d.

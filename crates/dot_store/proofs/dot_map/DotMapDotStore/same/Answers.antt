@@ -1,8 +1,10 @@
+use Rattle.dot_store.specs.Stores.{at_stores}
 use Rattle.std.proofs.Common.{sym}
 use Rattle.dot_store.proofs.Stores.{same_from_inside, inside_from_same}
 use Rattle.dot_store.proofs.dot_map.DotMapDotStore.same.Goals as goal
 
 pub returns-then-stores_inside : goal.returns-then-stores_inside
+unfolding at_stores
 returns-then-stores_inside g c =
     let mine = c.self.inside.stores.entries in
     let yours = c.other.inside.stores.entries in
@@ -12,6 +14,7 @@ returns-then-stores_inside g c =
     )
 
 pub returns-else-stores_inside : goal.returns-else-stores_inside
+unfolding at_stores
 returns-else-stores_inside g c =
     let mine = c.self.inside.stores.entries in
     let yours = c.other.inside.stores.entries in

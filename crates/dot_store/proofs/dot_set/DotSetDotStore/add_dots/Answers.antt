@@ -16,6 +16,7 @@ use Rattle.dot_store.proofs.Gathered.{gathered_more}
 use Rattle.dot_store.proofs.dot_set.DotSetDotStore.add_dots.Goals as goal
 
 pub loop-dot-preserved : goal.loop-dot-preserved
+unfolding at_dots
 loop-dot-preserved g c =
     let x = c.in-Some.dot.now in
     let here : IsTrue (contains dot_cmp c.self.inside.dots x) =
@@ -26,6 +27,7 @@ loop-dot-preserved g c =
     c.loop-dot.invariant c.in_ok-add.ensures.ok (tt, rw held refl)
 
 pub returns-clause-added : goal.returns-clause-added
+unfolding at_dots
 returns-clause-added g c = λ place d h.
     let all : map deref c.loop-dot.yielded ≡ c.self.inside.dots.keys = search (rules, iter_end) in
     c.loop-dot.invariant.added d (reached_set dot_cmp deref c.loop-dot.yielded c.args.self.now (all ∙ c.self.view_is) d ∙ found_from_held c.args.self.now place d h)

@@ -1,3 +1,4 @@
+use Rattle.dot_store.specs.Stores.{at_dots}
 use Rattle.std.proofs.Common.{◌≡◌, map, refl, sym, ap, ◌∙◌, rules}
 use Rattle.std.specs.Prelude.{IsTrue}
 use Rattle.std.specs.List.{list_any}
@@ -14,11 +15,13 @@ use Rattle.dot_store.proofs.Reached.{every_more, reached_set}
 use Rattle.dot_store.proofs.dot_set.DotSetDotStore.is_inside.Goals as goal
 
 pub loop-dot-preserved : goal.loop-dot-preserved
+unfolding at_dots
 loop-dot-preserved g c =
     every_more dot_cmp dot_cmp_total dot_exact (λ q. IsTrue (has c.args.context.now q)) (λ x. x.now) c.loop-dot.yielded c.in-Some.dot c.loop-dot.invariant
     (sym c.if-not-contains.ensures)
 
 pub returns-then-not-contains : goal.returns-then-not-contains
+unfolding at_dots
 returns-then-not-contains g c =
     let x = c.in-Some.dot.now in
     let here : IsTrue (contains dot_cmp c.self.inside.dots x) =
@@ -28,6 +31,7 @@ returns-then-not-contains g c =
     (λ h. absurd (cc h), λ inside. c.if-not-contains.ensures ∙ inside tt x (rw held refl))
 
 pub returns : goal.returns
+unfolding at_dots
 returns g c =
     let all : map deref c.loop-dot.yielded ≡ c.self.inside.dots.keys = search (rules, iter_end) in (
       λ _ place d h.

@@ -1,8 +1,10 @@
+use Rattle.dot_store.specs.Stores.{at_dots}
 use Rattle.std.proofs.Common.{sym}
 use Rattle.dot_store.proofs.Dots.{same_from_found, found_from_same}
 use Rattle.dot_store.proofs.dot_set.DotSetDotStore.same.Goals as goal
 
 pub returns-then-is_subset : goal.returns-then-is_subset
+unfolding at_dots
 returns-then-is_subset g c =
     let mine = c.self.inside.dots.keys in
     let yours = c.other.inside.dots.keys in
@@ -12,6 +14,7 @@ returns-then-is_subset g c =
     )
 
 pub returns-else-is_subset : goal.returns-else-is_subset
+unfolding at_dots
 returns-else-is_subset g c =
     let mine = c.self.inside.dots.keys in
     let yours = c.other.inside.dots.keys in
