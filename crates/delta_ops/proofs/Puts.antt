@@ -6,7 +6,7 @@ use Rattle.std.specs.BTreeMap.{is_at}
 use Rattle.causal_context.specs.Context.{ContextValue, IsGreatest}
 use Rattle.causal_context.specs.Context as context
 use Rattle.causal_join.specs.Causal.{state_of}
-use Rattle.dot_store.specs.Stores.{at_values, held_by}
+use Rattle.dot_store.specs.Stores.{at_stores, at_values, held_by}
 use Rattle.dots.specs.Dot.{DotValue, same_dot}
 use Rattle.delta_ops.specs.Pair.{StoreValue, PairValue, store_at, pair_state}
 use Rattle.op_model.specs.State.{Same, IsInside}
@@ -35,6 +35,7 @@ has-values [] d = refl
 has-values ((dot, v) ∷ values) d = rw (same_dot-symm dot d, has-values values d) (found_or (same_dot d dot) v (lookup (same_dot d) values))
 
 pub has-dots_at : (stores : StoreValue) (key : List ℕ) (d : DotValue) → has (dots_at stores key) d ≡ is_some (store_at stores (key, tt) d)
+unfolding at_stores at_values
 has-dots_at stores key d = go (lookup (is_at (bytes_cmp key)) stores)
   where
     go : (found : Option (List (DotValue × List ℕ))) → has (dots_of found) d ≡ is_some (held_by at_values found tt d)
