@@ -14,3 +14,6 @@ pub use key::Key;
 pub use name::Name;
 pub use refusal::Refusal;
 pub use value::Value;
+
+#[cfg(test)]
+mod tests;

@@ -143,8 +143,7 @@ fn each_read_may_fail_in_turn_and_whole_lines_were_answered(rt: HostRuntime) {
         }
         assert_eq!(rt; outcome, Err(Refusal::Input), "call {call}");
         assert!(rt; reader.failed(), "call {call}");
-        let read = bytes.len() - reader.into_inner().rest.len();
-        assert!(rt; read <= bytes.len());
+        let read = bytes.len().saturating_sub(reader.into_inner().rest.len());
         assert_eq!(rt;
             lines(text.as_slice()),
             lines(&bytes[..read]),
