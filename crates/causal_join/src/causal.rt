@@ -107,7 +107,8 @@ impl<S: DotStore<A>, A: Allocator + Copy> Causal<S, A> {
     /// Whether this state is below the other: whether joining it into the other gives the other.
     pub fn is_below(&self, alloc: A, other: &Causal<S, A>) -> Result<bool, Refusal>
         ensures ok { IfOk result (λ below. IsTrue below
-            ↔ Same (join S.greater (state_of S.at other.now) (state_of S.at self.now)) (state_of S.at other.now)) }
+            ↔ Same (join S.greater (state_of S.at other.now) (state_of S.at self.now))
+            (state_of S.at other.now)) }
         ensures err { IsOkUnless result Refusal.OutOfMemory }
     {
         if !other.context.includes(&self.context) {

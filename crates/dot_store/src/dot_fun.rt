@@ -46,7 +46,8 @@ impl<V: Drop, A: Allocator + Copy> DotFun<V, A> {
     /// The dots with their values, in the order of the dots.
     pub fn iter(&self) -> Iter<'_, Dot, V>
         ensures rest { result ≡ self.now }
-        ensures held { (place : _) (d : DotValue) (v : V) → (at_values self.now place d ≡ Some v) ↔ Contains result (d, v) }
+        ensures held { (place : _) (d : DotValue) (v : V)
+            → (at_values self.now place d ≡ Some v) ↔ Contains result (d, v) }
     {
         self.values.iter()
     }
@@ -54,7 +55,8 @@ impl<V: Drop, A: Allocator + Copy> DotFun<V, A> {
     /// Puts the value at the dot, in place of what was there. A refused call leaves the map as it was.
     pub fn insert(&mut self, dot: Dot, value: V) -> Result<(), Refusal>
         ensures ok { OnOk result ((place : _) (d : DotValue)
-            → at_values self.new place d ≡ cond (same_dot dot d) (Some value) (at_values self.old place d)) }
+            → at_values self.new place d
+            ≡ cond (same_dot dot d) (Some value) (at_values self.old place d)) }
         ensures unchanged { OnErr result (self.new ≡ self.old) }
         ensures err { IsOkUnless result Refusal.OutOfMemory }
     {
@@ -98,8 +100,11 @@ fn join_mine<V: Kept<A>, A: Allocator + Copy>(
     yours: &BTreeMap<Dot, V, A>,
     theirs: &Context<A>,
 ) -> Result<BTreeMap<Dot, V, A>, Refusal>
-    ensures ok { IfOk result (λ kept. (d : DotValue) → get dot_cmp kept d ≡ cond (is_some (get dot_cmp mine.now d))
-        (joined_value (ord_max V.cmp) (get dot_cmp mine.now) (has own.now) (get dot_cmp yours.now) (has theirs.now) d) None) }
+    ensures ok { IfOk result (λ kept. (d : DotValue)
+        → get dot_cmp kept d ≡ cond (is_some (get dot_cmp mine.now d))
+        (joined_value (ord_max V.cmp) (get dot_cmp mine.now) (has own.now)
+        (get dot_cmp yours.now) (has theirs.now) d)
+        None) }
     ensures err { IsOkUnless result Refusal.OutOfMemory }
 {
     let mut kept = BTreeMap::new(alloc);
@@ -122,7 +127,8 @@ fn join_yours<V: Kept<A>, A: Allocator + Copy>(
     requires { (d : DotValue) → get dot_cmp mine.now d ≡ None → get dot_cmp kept.old d ≡ None }
     ensures ok { OnOk result ((d : DotValue) → get dot_cmp kept.new d
         ≡ cond (is_some (get dot_cmp mine.now d)) (get dot_cmp kept.old d)
-        (joined_value (ord_max V.cmp) (get dot_cmp mine.now) (has own.now) (get dot_cmp yours.now) (has theirs.now) d)) }
+        (joined_value (ord_max V.cmp) (get dot_cmp mine.now) (has own.now)
+        (get dot_cmp yours.now) (has theirs.now) d)) }
     ensures err { IsOkUnless result Refusal.OutOfMemory }
 {
     for dot in yours.keys() {
@@ -210,7 +216,8 @@ fn values_inside<V: Kept<A>, A: Allocator + Copy>(
     mine: &BTreeMap<Dot, V, A>,
     yours: &BTreeMap<Dot, V, A>,
 ) -> bool
-    ensures { IsTrue result ↔ ((d : DotValue) (v : V) → get dot_cmp mine.now d ≡ Some v → get dot_cmp yours.now d ≡ Some v) }
+    ensures { IsTrue result ↔ ((d : DotValue) (v : V)
+        → get dot_cmp mine.now d ≡ Some v → get dot_cmp yours.now d ≡ Some v) }
 {
     for (dot, value) in mine {
         match yours.get(dot) {

@@ -39,7 +39,8 @@ impl<K: Kept<A>, S: DotStore<A>, A: Allocator + Copy> DotMap<K, S, A> {
     /// The store at the key, which is never an empty one.
     pub fn get(&self, key: &K) -> Option<&S>
         ensures held { (place : S.Place) (d : DotValue)
-            → at_stores S.at K.cmp self.now (key.now, place) d ≡ held_by S.at (option_copied result) place d }
+            → at_stores S.at K.cmp self.now (key.now, place) d
+            ≡ held_by S.at (option_copied result) place d }
         ensures filled { IfSome result (λ store. ¬ HasNothing (S.at store.now)) }
     {
         self.stores.get(key)
@@ -49,9 +50,11 @@ impl<K: Kept<A>, S: DotStore<A>, A: Allocator + Copy> DotMap<K, S, A> {
     pub fn iter(&self) -> Iter<'_, K, S>
         ensures rest { result ≡ self.now }
         ensures filled { NoKeyIsEmpty S.at result }
-        ensures held { (key : K) (store : S) → Contains result (key, store) → (place : S.Place) (d : DotValue)
+        ensures held { (key : K) (store : S) → Contains result (key, store)
+            → (place : S.Place) (d : DotValue)
             → at_stores S.at K.cmp self.now (key, place) d ≡ S.at store place d }
-        ensures only { (key : K) (place : S.Place) (d : DotValue) → IsSome (at_stores S.at K.cmp self.now (key, place) d)
+        ensures only { (key : K) (place : S.Place) (d : DotValue)
+            → IsSome (at_stores S.at K.cmp self.now (key, place) d)
             → (store : S) × Contains result (key, store) }
     {
         self.stores.iter()
@@ -84,7 +87,8 @@ fn joined_at<K: Kept<A>, S: DotStore<A>, A: Allocator + Copy>(
     theirs: &Context<A>,
 ) -> Result<Option<S>, Refusal>
     ensures ok { IfOk result (λ kept. HoldsSame (held_by S.at kept)
-        (joined_store S.at S.greater (get K.cmp mine.now key.now) (has own.now) (get K.cmp yours.now key.now) (has theirs.now))) }
+        (joined_store S.at S.greater (get K.cmp mine.now key.now) (has own.now)
+        (get K.cmp yours.now key.now) (has theirs.now))) }
     ensures filled { IfOk result (λ kept. IfSome kept (λ store. ¬ HasNothing (S.at store))) }
     ensures err { IsOkUnless result Refusal.OutOfMemory }
 {
@@ -114,7 +118,9 @@ fn join_mine<K: Kept<A>, S: DotStore<A>, A: Allocator + Copy>(
 ) -> Result<BTreeMap<K, S, A>, Refusal>
     ensures ok { IfOk result (λ kept. (q : K) (place : S.Place) (d : DotValue)
         → held_by S.at (get K.cmp kept q) place d ≡ cond (is_some (get K.cmp mine.now q))
-        (joined_store S.at S.greater (get K.cmp mine.now q) (has own.now) (get K.cmp yours.now q) (has theirs.now) place d) None) }
+        (joined_store S.at S.greater (get K.cmp mine.now q) (has own.now)
+        (get K.cmp yours.now q) (has theirs.now) place d)
+        None) }
     ensures filled { IfOk result (λ kept. NoKeyIsEmpty S.at kept.entries) }
     ensures err { IsOkUnless result Refusal.OutOfMemory }
 {
@@ -141,7 +147,8 @@ fn join_yours<K: Kept<A>, S: DotStore<A>, A: Allocator + Copy>(
     ensures ok { OnOk result ((q : K) (place : S.Place) (d : DotValue)
         → held_by S.at (get K.cmp kept.new q) place d ≡ cond (is_some (get K.cmp mine.now q))
         (held_by S.at (get K.cmp kept.old q) place d)
-        (joined_store S.at S.greater (get K.cmp mine.now q) (has own.now) (get K.cmp yours.now q) (has theirs.now) place d)) }
+        (joined_store S.at S.greater (get K.cmp mine.now q) (has own.now)
+        (get K.cmp yours.now q) (has theirs.now) place d)) }
     ensures still_filled { OnOk result (NoKeyIsEmpty S.at kept.new.entries) }
     ensures err { IsOkUnless result Refusal.OutOfMemory }
 {

@@ -33,7 +33,8 @@ pub(crate) fn put_some<K: Kept<A>, V: Drop, A: Allocator + Copy>(
     value: Option<V>,
 ) -> Result<(), Refusal>
     ensures updates { OnOk result ((q : K)
-        → get K.cmp map.new q ≡ cond (is_eq (K.cmp key.now q)) (option_or value (get K.cmp map.old q)) (get K.cmp map.old q)) }
+        → get K.cmp map.new q ≡ cond (is_eq (K.cmp key.now q))
+        (option_or value (get K.cmp map.old q)) (get K.cmp map.old q)) }
     ensures entries { OnOk result (MatchOption value (map.new.entries ≡ map.old.entries)
         (λ v. map.new.entries ≡ insert_entry K.cmp map.old.entries key.now v)) }
     ensures unchanged { OnErr result (map.new.entries ≡ map.old.entries) }

@@ -77,7 +77,8 @@ pub trait DotStore<A: Allocator + Copy>: Drop {
         theirs: &Context<A>,
     ) -> Result<Self, Refusal>
         ensures ok { IfOk result (λ both. HoldsSame (at both)
-            (join greater (state_with (at self.now) (has own.now)) (state_with (at other.now) (has theirs.now))).at) }
+            (join greater (state_with (at self.now) (has own.now))
+            (state_with (at other.now) (has theirs.now))).at) }
         ensures err { IsOkUnless result Refusal.OutOfMemory };
 
     /// A store that holds the same, on this allocator.
