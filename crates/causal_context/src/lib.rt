@@ -1,7 +1,13 @@
 // Causal contexts: which dots a replica has seen.
-// Offered to the crates above: a context is its set of dots, and nothing else of it can be told.
+// Offered to the crates above: a context is its set of dots, kept as a version vector and a cloud in one form.
 #![tactic(auto)]
 
+mod adding;
+mod cloud;
 mod context;
+mod laws;
+mod tests;
+mod vector;
 
 pub use context::Context;
+pub use laws::equal_sets_are_one;
