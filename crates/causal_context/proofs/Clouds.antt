@@ -51,7 +51,7 @@ pub taken_more : (dot x : DotValue) (n : ℕ) (start old new : DotValue → Bool
     → (d : DotValue) → new d ≡ (start d && not (is_in_run dot (n + 1) d))
 taken_more dot x n start old new is l h k d =
     let removed : new d ≡ cond (eqb dot.name d.name && eqb (n + 1) d.number) false (old d) =
-        h d ∙ ap (λ b. cond b false (old d)) (is_eq-dot_cmp x d ∙ ap (λ y. same_dot y d) is) in
+    h d ∙ ap (λ b. cond b false (old d)) (is_eq-dot_cmp x d ∙ ap (λ y. same_dot y d) is) in
     taken_at dot.number n d.number (eqb dot.name d.name) (start d) (new d) (old d) l removed (k d)
 
 -- the last dot of a range that has all dots of a name

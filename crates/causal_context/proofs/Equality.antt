@@ -14,12 +14,13 @@ use Rattle.causal_context.proofs.Dots.{same_dot-refl, same_from_test}
 use Rattle.causal_context.proofs.Forms.{one_form}
 
 entries_decide : (p q : ℕ × ℕ) → Decides (eqb p.0 q.0 && eqb p.1 q.1) (p ≡ q)
-entries_decide p q =
-    (λ h. let parts = and_parts (eqb p.0 q.0) (eqb p.1 q.1) h in
-        let name = (Decides-eqb p.0 q.0).0 parts.0 in
-        let number = (Decides-eqb p.1 q.1).0 parts.1 in
-        λ i. (name i, number i),
-     λ e. and_from (eqb p.0 q.0) (eqb p.1 q.1) ((Decides-eqb p.0 q.0).1 (ap (λ (x : ℕ × ℕ). x.0) e)) ((Decides-eqb p.1 q.1).1 (ap (λ (x : ℕ × ℕ). x.1) e)))
+entries_decide p q = (
+  λ h. let parts = and_parts (eqb p.0 q.0) (eqb p.1 q.1) h in
+      let name = (Decides-eqb p.0 q.0).0 parts.0 in
+      let number = (Decides-eqb p.1 q.1).0 parts.1 in
+      λ i. (name i, number i),
+  λ e. and_from (eqb p.0 q.0) (eqb p.1 q.1) ((Decides-eqb p.0 q.0).1 (ap (λ (x : ℕ × ℕ). x.0) e)) ((Decides-eqb p.1 q.1).1 (ap (λ (x : ℕ × ℕ). x.1) e)),
+)
 
 dots_decide : (d e : DotValue) → Decides (same_dot d e) (d ≡ e)
 dots_decide d e = (same_from_test d e, λ h. ap (same_dot d) (sym h) ∙ same_dot-refl d)
@@ -28,12 +29,13 @@ dots_decide d e = (same_from_test d e, λ h. ap (same_dot d) (sym h) ∙ same_do
 pub same_form-decides : (a b : ContextValue) → Decides (same_form a b) (a ≡ b)
 same_form-decides a b =
     let vectors = slice_eq-Decides entries_decide a.vector b.vector (pointwise (λ (p q : ℕ × ℕ). eqb p.0 q.0 && eqb p.1 q.1) a.vector b.vector) refl in
-    let clouds = slice_eq-Decides dots_decide a.cloud b.cloud (pointwise same_dot a.cloud b.cloud) refl in
-    (λ h. let parts = and_parts _ (pointwise same_dot a.cloud b.cloud) h in
-        let v = vectors.0 parts.0 in
-        let c = clouds.0 parts.1 in
-        λ i. record { vector = v i; cloud = c i },
-     λ e. and_from _ (pointwise same_dot a.cloud b.cloud) (vectors.1 (ap (λ (x : ContextValue). x.vector) e)) (clouds.1 (ap (λ (x : ContextValue). x.cloud) e)))
+    let clouds = slice_eq-Decides dots_decide a.cloud b.cloud (pointwise same_dot a.cloud b.cloud) refl in (
+      λ h. let parts = and_parts _ (pointwise same_dot a.cloud b.cloud) h in
+          let v = vectors.0 parts.0 in
+          let c = clouds.0 parts.1 in
+          λ i. record { vector = v i; cloud = c i },
+      λ e. and_from _ (pointwise same_dot a.cloud b.cloud) (vectors.1 (ap (λ (x : ContextValue). x.vector) e)) (clouds.1 (ap (λ (x : ContextValue). x.cloud) e)),
+    )
 
 pub same_form-equal : (a b : ContextValue) (r : Bool) → r ≡ same_form a b → IsTrue r ↔ (a ≡ b)
 same_form-equal a b r is = (λ h. (same_form-decides a b).0 (sym is ∙ h), λ e. is ∙ (same_form-decides a b).1 e)

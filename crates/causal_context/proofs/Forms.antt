@@ -22,9 +22,9 @@ pub one_form : EqualSetsAreOne
 unfolding has
 one_form a b ca cb h =
     let vectors = vector_from_known a.vector b.vector ca.names_ascend cb.names_ascend ca.no_zero cb.no_zero
-        (same_entries (known_up_to a.vector) (known_up_to b.vector) (in_cloud a.cloud) (in_cloud b.cloud) ca.apart cb.apart h) in
+    (same_entries (known_up_to a.vector) (known_up_to b.vector) (in_cloud a.cloud) (in_cloud b.cloud) ca.apart cb.apart h) in
     let clouds = cloud_from_test a.cloud b.cloud ca.dots_ascend cb.dots_ascend
-        (same_clouds (known_up_to a.vector) (known_up_to b.vector) (in_cloud a.cloud) (in_cloud b.cloud) ca.apart cb.apart h) in
+    (same_clouds (known_up_to a.vector) (known_up_to b.vector) (in_cloud a.cloud) (in_cloud b.cloud) ca.apart cb.apart h) in
     λ i. record { vector = vectors i; cloud = clouds i }
 
 -- a set has no dots exactly where the vector and the cloud are empty
@@ -68,7 +68,7 @@ pub copied_form : (none vector : List (ℕ × ℕ)) (cloud : List DotValue) (fro
     → (let context : List (ℕ × ℕ) → List DotValue → ContextValue = λ v c. record { vector = v; cloud = c } in context vector cloud ≡ context from dots)
 copied_form none vector cloud from dots c empty s z raised t found =
     let entry : (name : ℕ) → known_up_to vector name ≡ known_up_to from name =
-        λ name. let begun : known_up_to none name ≡ 0 = ap (λ es. known_up_to es name) empty in let up = raised name in omega arith in
+    λ name. let begun : known_up_to none name ≡ 0 = ap (λ es. known_up_to es name) empty in let up = raised name in omega arith in
     let vectors = vector_from_known vector from s c.names_ascend z c.no_zero entry in
     let clouds = cloud_from_test cloud dots t c.dots_ascend (λ d. sym (list_any-dot_cmp d cloud) ∙ found d ∙ list_any-dot_cmp d dots) in
     λ i. record { vector = vectors i; cloud = clouds i }

@@ -154,6 +154,7 @@ apart-raised entry entry' old new dot end is apart run raised kept d k = by_name
   where
     was : IsTrue (old d)
     was = old_from_new (old d) (not (is_in_run dot end d)) (new d) (kept d) k
+
     by_name : (b : Bool) → (b ≡ true → dot.name ≡ d.name) → eqb dot.name d.name ≡ b → entry' d.name + 1 < d.number
     by_name true names at =
         let entry_is : entry' d.name ≡ end = raised d.name ∙ ap (λ b. cond b end (entry d.name)) at in

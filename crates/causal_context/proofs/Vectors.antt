@@ -63,6 +63,7 @@ known_up_to-push_le [] x q n h k = by_test (is_eq (nat_cmp q x.0)) (λ e. exact_
     equal_from_test Less h = absurd (cc h)
     equal_from_test Equal h = refl
     equal_from_test Greater h = absurd (cc h)
+
     by_test : (b : Bool) → (b ≡ true → q ≡ x.0) → unwrap_or (cond b (Some x.1) None) 0 ≤ n
     by_test true e = k (sym (e refl))
     by_test false e = omega arith
@@ -98,7 +99,7 @@ pub raised_more : (start other seen old new : List (ℕ × ℕ)) (x : ℕ × ℕ
     → IsRaised start other (seen ++ x ∷ []) new
 raised_more start other seen old new x so_far found here others s z =
     let at = λ (q : ℕ). raised_at x q (known_up_to old q) (known_up_to new q) (known_up_to start q) (known_up_to other q)
-        (λ e. subst (λ n. known_up_to new n ≡ max (known_up_to old n) x.1) e here) (others q) (λ e. subst (λ n. known_up_to other n ≡ x.1) e found) (so_far.most q) in
+    (λ e. subst (λ n. known_up_to new n ≡ max (known_up_to old n) x.1) e here) (others q) (λ e. subst (λ n. known_up_to other n ≡ x.1) e found) (so_far.most q) in
     record {
       mine = λ q. let up = (at q).0 in let was = so_far.mine q in omega arith;
       yours = λ q. let up = (at q).0 in let was = so_far.yours q in known_up_to-push_le seen x q (known_up_to new q) (omega arith) (at q).2;

@@ -6,8 +6,7 @@ ghost use Rattle.dots.specs.Dot.{DotValue, same_dot};
 ghost use Rattle.causal_context.specs.Context.{is_known, known_up_to};
 ghost use Rattle.causal_context.specs.Canonical.{IsCanonical};
 
-use crate::cloud;
-use crate::vector;
+use crate::{cloud, vector};
 use dots::{Dot, Name, Refusal};
 use std::alloc::Allocator;
 use std::collections::{BTreeMap, BTreeSet};

@@ -7,13 +7,10 @@ ghost use Rattle.causal_context.specs.Canonical.{IsCanonical};
 ghost use Rattle.causal_context.specs.Equal.{same_form, same_form_equiv};
 
 use crate::adding::add_to;
-use crate::cloud;
-use crate::vector;
+use crate::{cloud, vector};
 use dots::{Dot, Name, Refusal};
 use std::alloc::{Allocator, Global};
-use std::collections::btree_map;
-use std::collections::btree_set;
-use std::collections::{BTreeMap, BTreeSet};
+use std::collections::{BTreeMap, BTreeSet, btree_map, btree_set};
 use std::marker::Model;
 
 /// A causal context: a set of dots. Those that a replica has seen, or that a delta speaks of.

@@ -6,8 +6,10 @@ mod adding;
 mod cloud;
 mod context;
 mod laws;
-mod tests;
 mod vector;
 
 pub use context::Context;
-pub use laws::equal_sets_are_one;
+pub use laws::{equal_sets_are_one, equality_is_that_of_sets};
+
+#[cfg(test)]
+mod tests;

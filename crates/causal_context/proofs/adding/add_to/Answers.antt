@@ -20,7 +20,7 @@ returns-clause-canonical g c =
     let adds : (d : DotValue) → in_cloud new d ≡ (same_dot c.args.dot d || in_cloud old d) = λ d. added c.args.dot d old new (c.in_ok-insert.ensures.updates.0 d) in
     let at = ap entry c.name.ensures in
     let above : entry c.args.dot.name < c.args.dot.number =
-        ⊎_elim (λ l. l) (λ l. absurd (cc (known_below entry (in_cloud old) c.args.dot (omega arith) l, c.requires.absent))) (cases_lt (entry c.args.dot.name) c.args.dot.number) in
+    ⊎_elim (λ l. l) (λ l. absurd (cc (known_below entry (in_cloud old) c.args.dot (omega arith) l, c.requires.absent))) (cases_lt (entry c.args.dot.name) c.args.dot.number) in
     record {
       names_ascend = c.requires.canonical.names_ascend;
       dots_ascend = c.insert.ensures.ordered;

@@ -10,7 +10,7 @@ returns-clause-ok g c =
     let new = c.insert.new.self.entries in
     let end = c.run_end-end.result in
     let raised : (q : ℕ) → known_up_to new q ≡ cond (eqb c.args.dot.name q) end (known_up_to old q) =
-        λ q. known_up_to-insert old new c.name.result end q (c.in_ok-insert.ensures.updates.0 q) ∙ ap (λ n. cond (eqb n q) end (known_up_to old q)) c.name.ensures in
+    λ q. known_up_to-insert old new c.name.result end q (c.in_ok-insert.ensures.updates.0 q) ∙ ap (λ n. cond (eqb n q) end (known_up_to old q)) c.name.ensures in
     known-raised (known_up_to old) (known_up_to new) (in_cloud c.args.cloud.now.keys) (in_cloud c.take_run.new.cloud.keys) c.args.dot end c.requires.next c.run_end-end.ensures raised c.take_run.ensures.run
 
 pub returns-clause-canonical : goal.returns-clause-canonical
@@ -19,12 +19,12 @@ returns-clause-canonical g c =
     let new = c.insert.new.self.entries in
     let end = c.run_end-end.result in
     let raised : (q : ℕ) → known_up_to new q ≡ cond (eqb c.args.dot.name q) end (known_up_to old q) =
-        λ q. known_up_to-insert old new c.name.result end q (c.in_ok-insert.ensures.updates.0 q) ∙ ap (λ n. cond (eqb n q) end (known_up_to old q)) c.name.ensures in
+    λ q. known_up_to-insert old new c.name.result end q (c.in_ok-insert.ensures.updates.0 q) ∙ ap (λ n. cond (eqb n q) end (known_up_to old q)) c.name.ensures in
     record {
       names_ascend = c.insert.ensures.ordered;
       dots_ascend = c.take_run.ensures.ordered;
       no_zero = HasNoZero-insert old new c.name.result end (omega arith) c.in_ok-insert.ensures.updates.0 c.requires.canonical.no_zero;
       apart = apart-raised (known_up_to old) (known_up_to new) (in_cloud c.args.cloud.now.keys) (in_cloud c.take_run.new.cloud.keys) c.args.dot end c.requires.next
-        c.requires.canonical.apart c.run_end-end.ensures raised c.take_run.ensures.run;
+          c.requires.canonical.apart c.run_end-end.ensures raised c.take_run.ensures.run;
       bounded = λ d h. c.requires.canonical.bounded d (old_from_new _ _ _ (c.take_run.ensures.run d) h);
     }

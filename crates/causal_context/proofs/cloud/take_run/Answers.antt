@@ -13,12 +13,13 @@ loop-number-preserved g c =
     let old = c.loop-number.cloud.keys in
     let new = c.remove.new.self.keys in
     let updates : (d : DotValue) → in_cloud new d ≡ cond (is_eq (dot_cmp c.dot_at.result d)) false (in_cloud old d) =
-        λ d. sym (list_any-dot_cmp d new) ∙ c.remove.ensures.updates.0 d ∙ ap (λ b. cond (is_eq (dot_cmp c.dot_at.result d)) false b) (list_any-dot_cmp d old) in
+    λ d. sym (list_any-dot_cmp d new) ∙ c.remove.ensures.updates.0 d ∙ ap (λ b. cond (is_eq (dot_cmp c.dot_at.result d)) false b) (list_any-dot_cmp d old) in
     let is : c.dot_at.result ≡ record { name = c.args.dot.name; number = c.loop-number.number + 1 } =
-        let with_name : ℕ → DotValue = λ n. record { name = n; number = c.loop-number.number + 1 } in
-        c.dot_at.ensures ∙ ap with_name c.name.ensures in
-    (taken_more c.args.dot c.dot_at.result c.loop-number.number (in_cloud c.args.cloud.now.keys) (in_cloud old) (in_cloud new) is (omega arith) updates c.loop-number.invariant.0,
-     c.remove.ensures.ordered)
+    let with_name : ℕ → DotValue = λ n. record { name = n; number = c.loop-number.number + 1 } in
+    c.dot_at.ensures ∙ ap with_name c.name.ensures in (
+      taken_more c.args.dot c.dot_at.result c.loop-number.number (in_cloud c.args.cloud.now.keys) (in_cloud old) (in_cloud new) is (omega arith) updates c.loop-number.invariant.0,
+      c.remove.ensures.ordered,
+    )
 
 pub returns-clause-run : goal.returns-clause-run
 returns-clause-run g c = λ d.

@@ -11,7 +11,7 @@ pub returns-then-number-known_up_to : goal.returns-then-number-known_up_to
 returns-then-number-known_up_to g c =
     let gives = c.into_iter-name-iterator.ensures.into_iter_gives in
     let turn = btree_map_turn deref_pair c.loop-name.yielded _ _ _ _ (c.in-Some.name, c.in-Some.number) c.loop-name.yielded_by c.in-Some.is c.next.ensures.steps
-        nat_cmp_total c.args.other.now gives.0 gives.5 in
+    nat_cmp_total c.args.other.now gives.0 gives.5 in
     let there = known_from_found c.args.other.now.entries c.in-Some.name.now c.in-Some.number.now turn.1 in
     (λ h. absurd (cc h), λ all. let below = all c.in-Some.name.now in absurd (omega (arith, there)))
 

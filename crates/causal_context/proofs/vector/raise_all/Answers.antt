@@ -13,7 +13,7 @@ loop-name-preserved g c =
     let x : ℕ × ℕ = (c.in-Some.name.now, c.in-Some.number.now) in
     let gives = c.into_iter-name-iterator.ensures.into_iter_gives in
     let turn = btree_map_turn deref_pair c.loop-name.yielded _ _ _ _ (c.in-Some.name, c.in-Some.number) c.loop-name.yielded_by c.in-Some.is c.next.ensures.steps
-        nat_cmp_total c.args.other.now gives.0 gives.5 in
+    nat_cmp_total c.args.other.now gives.0 gives.5 in
     let e : map deref_pair (c.loop-name.yielded ++ (c.in-Some.name, c.in-Some.number) ∷ []) ≡ map deref_pair c.loop-name.yielded ++ x ∷ [] = map-append deref_pair c.loop-name.yielded _ in
     subst (λ seen. IsRaised start other seen c.raise.new.vector.entries) (sym e)
     (raised_more start other (map deref_pair c.loop-name.yielded) c.loop-name.vector.entries c.raise.new.vector.entries x c.loop-name.invariant

@@ -17,5 +17,5 @@ loop-dot-preserved g c =
 pub returns-clause-ok : goal.returns-clause-ok
 returns-clause-ok g c = λ d.
     let all : map deref c.loop-dot.yielded ≡ c.args.dots.now.keys =
-        (iter_end deref c.args.dots.now.keys c.loop-dot.yielded _ _ _ _ c.into_iter-dot-iterator.ensures.into_iter_gives.0 c.loop-dot.yielded_by c.in-None.is c.next.ensures.steps).0 in
+    (iter_end deref c.args.dots.now.keys c.loop-dot.yielded _ _ _ _ c.into_iter-dot-iterator.ensures.into_iter_gives.0 c.loop-dot.yielded_by c.in-None.is c.next.ensures.steps).0 in
     c.loop-dot.invariant d ∙ ap (λ ds. has c.args.self.now d || in_cloud ds d) all

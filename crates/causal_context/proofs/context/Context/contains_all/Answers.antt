@@ -25,11 +25,11 @@ returns-then-not-contains g c =
     let x = c.in-Some.dot.now in
     let gives = c.into_iter-dot-iterator.ensures.into_iter_gives in
     let here : contains dot_cmp c.args.dots.now x ≡ true =
-        All-turn deref (λ k. contains dot_cmp c.args.dots.now k ≡ true) keys c.loop-dot.yielded _ _ _ _ _ gives.5 gives.0 c.loop-dot.yielded_by c.in-Some.is c.next.ensures.steps in
+    All-turn deref (λ k. contains dot_cmp c.args.dots.now k ≡ true) keys c.loop-dot.yielded _ _ _ _ _ gives.5 gives.0 c.loop-dot.yielded_by c.in-Some.is c.next.ensures.steps in
     (λ h. absurd (cc h), λ all. c.if-not-contains.ensures ∙ all x (sym (list_any-dot_cmp x keys) ∙ here))
 
 pub returns : goal.returns
 returns g c =
     let all : map deref c.loop-dot.yielded ≡ c.args.dots.now.keys =
-        (iter_end deref c.args.dots.now.keys c.loop-dot.yielded _ _ _ _ c.into_iter-dot-iterator.ensures.into_iter_gives.0 c.loop-dot.yielded_by c.in-None.is c.next.ensures.steps).0 in
+    (iter_end deref c.args.dots.now.keys c.loop-dot.yielded _ _ _ _ c.into_iter-dot-iterator.ensures.into_iter_gives.0 c.loop-dot.yielded_by c.in-None.is c.next.ensures.steps).0 in
     (λ _ d h. c.loop-dot.invariant d (ap (λ ds. in_cloud ds d) all ∙ h), λ _. refl)

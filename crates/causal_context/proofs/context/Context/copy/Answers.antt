@@ -7,7 +7,7 @@ use Rattle.causal_context.proofs.context.Context.copy.Goals as goal
 pub invariant_of-result : goal.invariant_of-result
 invariant_of-result g c =
     let same = copied_form c.new-vector.result.entries c.raise_all.new.vector.entries c.in_ok-cloud.cloud.keys c.self.inside.vector.entries c.self.inside.cloud.keys
-        c.self.invariant c.new-vector.ensures.empty c.raise_all.ensures.ordered c.raise_all.ensures.no_zero c.in_ok-raise_all.ensures.ok c.in_ok-cloud.ensures.1 c.in_ok-cloud.ensures.0 in
+    c.self.invariant c.new-vector.ensures.empty c.raise_all.ensures.ordered c.raise_all.ensures.no_zero c.in_ok-raise_all.ensures.ok c.in_ok-cloud.ensures.1 c.in_ok-cloud.ensures.0 in
     subst IsCanonical (sym same) c.self.invariant
 
 pub returns-clause-equal : goal.returns-clause-equal
