@@ -1,4 +1,6 @@
 // Values, and the uncompressed set of dots as the plain program to compare with.
+ghost use Rattle.std.specs.Prelude.{◌<◌};
+
 use super::*;
 use dots::{Dot, Name, Refusal};
 use std::alloc::Global;
@@ -65,12 +67,15 @@ struct Draws {
 
 impl Draws {
     // A number below the bound.
-    fn below(&mut self, bound: u64) -> u64 {
+    fn below(&mut self, bound: u64) -> u64
+        requires { 0 < bound }
+        ensures { result < bound }
+    {
         self.state = self
             .state
             .wrapping_mul(6364136223846793005)
             .wrapping_add(1442695040888963407);
-        (self.state >> 33).checked_rem(bound).unwrap_or(0)
+        (self.state >> 33) % bound
     }
 
     // A dot of one of three names, of a small number or of one of the greatest.
