@@ -1,21 +1,20 @@
 -- The canonical form of a set of dots.
-use Rattle.std.proofs.Common.{◌≡◌, ◌≢◌, ℕ, ◌+◌, ◌≤◌, ◌<◌, ◌^◌, Bool, true, false, ◌||◌, ◌&&◌, cond, List, [], ◌∷◌, length, refl, sym, ap, subst, ◌∙◌, arith, max, not, eqb, leb}
-use Rattle.std.specs.Prelude.{IsTrue, ◌↔◌}
+use Rattle.std.proofs.Common.{◌≡◌, ℕ, Bool, true, false, ◌||◌, ◌&&◌, List, [], ◌∷◌, length, refl, sym, ap, ◌∙◌, arith, max, leb}
+use Rattle.std.specs.Prelude.{IsTrue}
 use Rattle.std.proofs.lemmas.Bool.Decides.{nat_tests}
 use Rattle.std.specs.Ordering.{nat_cmp}
 use Rattle.std.specs.List.{list_any}
 use Rattle.std.specs.List.Sorted.{IsStrictlySortedBy}
 use Rattle.std.specs.Map.{keys_of}
 use Rattle.std.specs.BTreeMap.{is_at}
-use Rattle.dots.specs.Dot.{DotValue, same_dot}
+use Rattle.dots.specs.Dot.{DotValue}
 use Rattle.causal_context.specs.Dots.{dot_cmp}
-use Rattle.causal_context.specs.Context.{ContextValue, has, known_up_to, in_cloud, is_known, HasNone, HasSame, Includes}
-use Rattle.causal_context.specs.Canonical.{IsCanonical, IsApart, IsBounded, HasNoZero, EqualSetsAreOne}
-use Rattle.causal_context.specs.Run.{IsRunEnd, is_in_run}
+use Rattle.causal_context.specs.Context.{ContextValue, has, known_up_to, in_cloud, is_known}
+use Rattle.causal_context.specs.Canonical.{IsCanonical, IsApart, HasNoZero, EqualSetsAreOne}
 use Rattle.causal_context.proofs.Dots.{list_any-dot_cmp}
 use Rattle.causal_context.proofs.Vectors.{vector_from_known, first_known}
 use Rattle.causal_context.proofs.Clouds.{cloud_from_test, first_in_cloud}
-use Rattle.causal_context.proofs.Known.{known_below, known_in_cloud, known_max, known-cloud, known-raised, apart-cloud, apart-raised, same_entries, same_clouds}
+use Rattle.causal_context.proofs.Known.{known_below, known_in_cloud, known_max, same_entries, same_clouds}
 
 -- equal sets have equal representation
 pub one_form : EqualSetsAreOne

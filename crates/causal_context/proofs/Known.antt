@@ -7,7 +7,7 @@ use Rattle.std.proofs.lemmas.Bool.Decides.{nat_tests}
 use Rattle.dots.specs.Dot.{DotValue, same_dot}
 use Rattle.causal_context.specs.Context.{IsGreatest}
 use Rattle.causal_context.specs.Run.{is_in_run, IsRunEnd}
-use Rattle.causal_context.proofs.Dots.{same_dot-refl, same_from_test}
+use Rattle.causal_context.proofs.Dots.{same_from_test}
 
 -- `is_known`, with the vector as a function and the cloud as a test
 abbrev pub known : (ℕ → ℕ) → (DotValue → Bool) → DotValue → Bool

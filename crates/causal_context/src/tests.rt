@@ -210,3 +210,32 @@ fn a_union_of_what_fills_each_others_gaps_is_one_entry(rt: HostRuntime) -> Resul
     equality_is_that_of_sets();
     Ok(())
 }
+
+#[test]
+fn the_next_dot_follows_the_greatest_of_its_name(rt: HostRuntime) -> Result<(), Fail> {
+    let alloc = rt.alloc();
+    let mut context = Context::new(alloc);
+    context.add(dot(&rt, 1, 3))?;
+    context.add(dot(&rt, 1, 1))?;
+    context.add(dot(&rt, 2, 7))?;
+    assert_eq!(rt; context.next(name(&rt, 1)), Some(dot(&rt, 1, 4)));
+    assert_eq!(rt; context.next(name(&rt, 2)), Some(dot(&rt, 2, 8)));
+    assert_eq!(rt; context.next(name(&rt, 3)), Some(dot(&rt, 3, 1)));
+    Ok(())
+}
+
+#[test]
+fn a_union_has_the_dots_of_both_and_leaves_the_other(rt: HostRuntime) -> Result<(), Fail> {
+    let alloc = rt.alloc();
+    let mut mine = Context::new(alloc);
+    mine.add(dot(&rt, 1, 1))?;
+    let mut yours = mine.copy(alloc)?;
+    yours.add(dot(&rt, 2, 1))?;
+    let mut both = mine.copy(alloc)?;
+    both.union(&yours)?;
+    assert!(rt; both.contains(dot(&rt, 1, 1)) && both.contains(dot(&rt, 2, 1)));
+    assert!(rt; !both.contains(dot(&rt, 1, 2)));
+    assert!(rt; both == yours && both != mine);
+    assert!(rt; both.includes(&mine) && !mine.includes(&both));
+    Ok(())
+}

@@ -1,5 +1,5 @@
-use Rattle.std.proofs.Common.{◌≡◌, ◌||◌, ◌+◌, ◌<◌, ap, sym, ◌∙◌, arith, subst, ⊎_elim}
-use Rattle.std.proofs.lemmas.Bool.{cases_lt, cases_Bool}
+use Rattle.std.proofs.Common.{◌≡◌, ◌||◌, ◌<◌, ap, arith, ⊎_elim}
+use Rattle.std.proofs.lemmas.Bool.{cases_lt}
 use Rattle.dots.specs.Dot.{DotValue, same_dot}
 use Rattle.causal_context.specs.Context.{known_up_to, in_cloud}
 use Rattle.causal_context.proofs.Clouds.{added}

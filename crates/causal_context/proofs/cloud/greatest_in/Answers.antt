@@ -1,6 +1,4 @@
-use Rattle.std.proofs.Common.{◌≡◌, ◌≤◌, ◌∙◌, sym, ap, arith, rules, false, subst}
-use Rattle.std.specs.Prelude.{IsTrue}
-use Rattle.dots.specs.Dot.{DotValue}
+use Rattle.std.proofs.Common.{◌∙◌, sym, arith, rules, subst}
 use Rattle.causal_context.specs.Context.{in_cloud, IsGreatest}
 use Rattle.causal_context.proofs.Dots.{list_any-dot_cmp}
 use Rattle.causal_context.proofs.Clouds.{greatest_from_last, greatest_from_none}

@@ -1,4 +1,4 @@
-use Rattle.std.proofs.Common.{◌-◌, ◌+◌, ◌≤◌, ◌<◌, ℕ}
+use Rattle.std.proofs.Common.{◌-◌, ◌≤◌, ◌<◌, ℕ}
 use Rattle.std.specs.Prelude.{IsTrue}
 use Rattle.causal_context.specs.Context.{in_cloud}
 use Rattle.causal_context.proofs.cloud.run_end.Given as goal

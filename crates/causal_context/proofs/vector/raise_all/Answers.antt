@@ -1,9 +1,9 @@
-use Rattle.std.proofs.Common.{◌≡◌, ℕ, List, [], ◌∷◌, ◌++◌, map, sym, subst}
+use Rattle.std.proofs.Common.{◌≡◌, ℕ, [], ◌∷◌, ◌++◌, map, sym, subst}
 use Rattle.std.specs.Cmp.{nat_cmp_total}
 use Rattle.std.specs.Map.Iter.{deref_pair}
 use Rattle.std.proofs.lemmas.List.{map-append}
-use Rattle.std.proofs.lemmas.Map.Iter.{iter_end, btree_map_turn}
-use Rattle.causal_context.proofs.Vectors.{IsRaised, raised_more, raised_all, known_from_found}
+use Rattle.std.proofs.lemmas.Map.Iter.{btree_map_turn}
+use Rattle.causal_context.proofs.Vectors.{IsRaised, raised_more, known_from_found}
 use Rattle.causal_context.proofs.vector.raise_all.Goals as goal
 
 pub loop-name-preserved : goal.loop-name-preserved

@@ -1,4 +1,4 @@
-use Rattle.std.proofs.Common.{◌≡◌, sym, ap, subst, ◌∙◌}
+use Rattle.std.proofs.Common.{sym, ap, subst, ◌∙◌}
 use Rattle.causal_context.specs.Context.{has}
 use Rattle.causal_context.specs.Canonical.{IsCanonical}
 use Rattle.causal_context.proofs.Forms.{copied_form}

@@ -1,7 +1,5 @@
-use Rattle.std.proofs.Common.{◌≡◌, subst, sym, ap, ◌∙◌, arith, ◌+◌, ◌<◌}
-use Rattle.std.specs.Prelude.{IsTrue}
-use Rattle.dots.specs.Dot.{DotValue}
-use Rattle.causal_context.specs.Context.{has, is_known, known_up_to, in_cloud, Includes}
+use Rattle.std.proofs.Common.{sym, ap, ◌∙◌, arith}
+use Rattle.causal_context.specs.Context.{has, known_up_to, in_cloud}
 use Rattle.causal_context.proofs.Known.{covers_from_includes, includes_from_parts, known_in_cloud}
 use Rattle.causal_context.proofs.context.Context.includes.Goals as goal
 

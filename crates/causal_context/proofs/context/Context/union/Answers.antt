@@ -1,5 +1,4 @@
-use Rattle.std.proofs.Common.{◌≡◌, ◌||◌, sym, ap, ◌∙◌}
-use Rattle.dots.specs.Dot.{DotValue}
+use Rattle.std.proofs.Common.{◌||◌, ap, ◌∙◌}
 use Rattle.causal_context.specs.Context.{has, is_known, known_up_to, in_cloud}
 use Rattle.causal_context.proofs.Known.{known-union}
 use Rattle.causal_context.proofs.context.Context.union.Goals as goal
