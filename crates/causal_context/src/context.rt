@@ -16,8 +16,8 @@ use std::marker::Model;
 /// A causal context: a set of dots. Those that a replica has seen, or that a delta speaks of.
 ///
 /// It is kept as a version vector, which has for each name the number up to which all its dots are
-/// known, and a cloud of the other dots. So the dots of a name with no gap take the room of one number,
-/// and no call takes time in them. Equal sets have equal representation.
+/// known, and a cloud of the other dots. So a million dots of one name with no gap are one entry, and no
+/// call takes time in them. Equal sets have equal representation.
 ///
 /// What grows keeps to the allocator that `new` or `copy` was given.
 #[derive(Drop)]
@@ -133,8 +133,8 @@ impl<A: Allocator + Copy> Context<A> {
         self.cloud.iter()
     }
 
-    /// The same set of dots, on this allocator. Takes time and memory in the number of names and of the
-    /// dots in the cloud.
+    /// The same set of dots, on this allocator. Takes memory in the number of names and of the dots in the
+    /// cloud, and time in these, times their logarithms.
     pub fn copy(&self, alloc: A) -> Result<Context<A>, Refusal>
         ensures ok { IfOk result (HasSame self.now) }
         ensures equal { IfOk result (λ copy. copy ≡ self.now) }
@@ -150,12 +150,12 @@ impl<A: Allocator + Copy> Context<A> {
         })
     }
 
-    /// Adds the dot. A refused call leaves the context as it was. Takes time as `contains` does, and for
-    /// each dot of the cloud that the vector now covers, since the dot closed the gap below it.
+    /// Adds the dot. A refused call leaves the context as it was. Takes time as `contains` does, and the
+    /// same again for each dot of the cloud that goes to the vector, where the dot closes the gap below.
     pub fn add(&mut self, dot: Dot) -> Result<(), Refusal>
         ensures ok { OnOk result ((d : DotValue) → has self.new d ≡ (same_dot dot d || has self.old d)) }
         ensures unchanged { OnErr result (HasSame self.new self.old) }
-        ensures same { OnErr result (self.new ≡ self.old) }
+        ensures as_it_was { OnErr result (self.new ≡ self.old) }
         ensures err { IsOkUnless result Refusal.OutOfMemory }
     {
         if self.contains(dot) {
@@ -165,11 +165,12 @@ impl<A: Allocator + Copy> Context<A> {
     }
 
     /// Adds each dot of the other. A refused call leaves the context as it was, so the union is made
-    /// anew: it takes time and memory in the number of names and of the dots in the clouds of both.
+    /// anew: it takes memory in the number of names and of the dots in the clouds of both, and time in
+    /// these, times their logarithms.
     pub fn union(&mut self, other: &Context<A>) -> Result<(), Refusal>
         ensures ok { OnOk result ((d : DotValue) → has self.new d ≡ (has self.old d || has other.now d)) }
         ensures unchanged { OnErr result (HasSame self.new self.old) }
-        ensures same { OnErr result (self.new ≡ self.old) }
+        ensures as_it_was { OnErr result (self.new ≡ self.old) }
         ensures err { IsOkUnless result Refusal.OutOfMemory }
     {
         let mut both = covering(self.alloc, &self.vector, &other.vector)?;
