@@ -1,2 +1,7 @@
 pub mod Dots
-pub mod Sets
+pub mod Entries
+pub mod Vectors
+pub mod Clouds
+pub mod Known
+pub mod Forms
+pub mod Equality

@@ -1,2 +1,5 @@
 pub mod Dots
 pub mod Context
+pub mod Canonical
+pub mod Run
+pub mod Equal

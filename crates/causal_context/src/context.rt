@@ -1,29 +1,41 @@
-ghost use Rattle.std.specs.Prelude.{◌≡◌, ◌-◌, ◌^◌, ◌↔◌, ◌||◌, false, IsTrue, IsNone, IfSome, IfOk, OnOk, OnErr, IsOkUnless};
-ghost use Rattle.std.specs.BTreeSet.{IsFromIterResult};
+ghost use Rattle.std.specs.Prelude.{◌≡◌, ◌^◌, ◌-◌, ◌↔◌, ◌||◌, ◌&&◌, ℕ, false, [], IsTrue, IsNone, IfSome, IfOk, OnOk, OnErr, IsOkUnless};
+ghost use Rattle.std.specs.Cmp.{partial_equiv_from_equiv};
+ghost use Rattle.std.specs.Map.Iter.{ShowsInOrder, deref, deref_pair};
 ghost use Rattle.dots.specs.Dot.{DotValue, same_dot};
-ghost use Rattle.causal_context.specs.Dots.{dot_cmp};
-ghost use Rattle.causal_context.specs.Context.{has, HasNone, HasSame, Includes, IsGreatest, IsNext};
+ghost use Rattle.causal_context.specs.Context.{has, is_known, in_cloud, HasNone, HasSame, Includes, IsGreatest, IsNext};
+ghost use Rattle.causal_context.specs.Canonical.{IsCanonical};
+ghost use Rattle.causal_context.specs.Equal.{same_form, same_form_equiv};
 
+use crate::adding::add_to;
+use crate::{cloud, vector};
 use dots::{Dot, Name, Refusal};
-use std::alloc::{AllocError, Allocator, Global};
-use std::collections::BTreeSet;
+use std::alloc::{Allocator, Global};
+use std::collections::{BTreeMap, BTreeSet, btree_map, btree_set};
 use std::marker::Model;
 
 /// A causal context: a set of dots. Those that a replica has seen, or that a delta speaks of.
 ///
+/// It is kept as a version vector, which has for each name the number up to which all its dots are
+/// known, and a cloud of the other dots. So a million dots of one name with no gap are one entry, and no
+/// call takes time in them. Equal sets have equal representation.
+///
 /// What grows keeps to the allocator that `new` or `copy` was given.
 #[derive(Drop)]
 pub struct Context<A: Allocator = Global> {
-    dots: BTreeSet<Dot, A>,
+    vector: BTreeMap<Name, u64, A>,
+    cloud: BTreeSet<Dot, A>,
     alloc: A,
 }
 
 impl<A: Allocator> Model for Context<A> {
     ghost use Rattle.causal_context.specs.Context.{ContextValue};
+    ghost use Rattle.causal_context.specs.Canonical.{IsCanonical};
 
     ghost Value = { ContextValue };
 
-    ghost view = { λ context. record { dots = context.dots.keys } };
+    ghost view = { λ context. record { vector = context.vector.entries; cloud = context.cloud.keys } };
+
+    ghost invariant = { λ context. IsCanonical (record { vector = context.vector.entries; cloud = context.cloud.keys }) };
 }
 
 impl<A: Allocator + Copy> Context<A> {
@@ -32,7 +44,8 @@ impl<A: Allocator + Copy> Context<A> {
         ensures { HasNone result }
     {
         Context {
-            dots: BTreeSet::new(alloc),
+            vector: BTreeMap::new(alloc),
+            cloud: BTreeSet::new(alloc),
             alloc,
         }
     }
@@ -46,18 +59,19 @@ impl<A: Allocator + Copy> Context<A> {
     pub fn is_empty(&self) -> bool
         ensures { IsTrue result ↔ HasNone self.now }
     {
-        self.dots.is_empty()
+        self.vector.is_empty() && self.cloud.is_empty()
     }
 
-    /// Whether the dot is in the context. Takes time in the logarithm of the number of dots.
+    /// Whether the dot is in the context. Takes time in the logarithms of the number of names and of the
+    /// dots in the cloud, and no memory.
     pub fn contains(&self, dot: Dot) -> bool
         ensures { result ≡ has self.now dot }
     {
-        self.dots.contains(&dot)
+        dot.number() <= vector::known_up_to(&self.vector, dot.name()) || self.cloud.contains(&dot)
     }
 
     /// The dot after the greatest of this name, which nothing of this context has used, or None where
-    /// the greatest has the number 2^64 - 1. Takes time in the number of dots.
+    /// the greatest has the number 2^64 - 1. Takes time as `contains` does, and no memory.
     pub fn next(&self, name: Name) -> Option<Dot>
         ensures next { IfSome result (IsNext name (has self.now)) }
         ensures unknown { IfSome result (λ dot. has self.now dot ≡ false) }
@@ -74,61 +88,144 @@ impl<A: Allocator + Copy> Context<A> {
     fn greatest(&self, name: Name) -> u64
         ensures { IsGreatest name (has self.now) result }
     {
-        let mut greatest = 0;
-        for dot in &self.dots {
-            if dot.name() == name {
-                greatest = greatest.max(dot.number());
-            }
-        }
-        greatest
+        let above = cloud::greatest_in(&self.cloud, name);
+        above.max(vector::known_up_to(&self.vector, name))
     }
 
-    /// Whether each dot of the other is in this one. Takes time in the number of dots of both.
+    /// Whether each dot of the other is in this one. Takes no memory, and time in the number of names and
+    /// cloud dots of the other, each times that of `contains` here.
     pub fn includes(&self, other: &Context<A>) -> bool
         ensures { IsTrue result ↔ Includes self.now other.now }
     {
-        other.dots.is_subset(&self.dots)
+        vector::covers(&self.vector, &other.vector) && self.contains_all(&other.cloud)
     }
 
-    /// The same set of dots, on this allocator. Takes time and memory in the number of dots.
+    // Whether each of the dots is in the context.
+    fn contains_all(&self, dots: &BTreeSet<Dot, A>) -> bool
+        ensures { IsTrue result ↔ ((d : DotValue) → IsTrue (in_cloud dots.now.keys d) → IsTrue (has self.now d)) }
+    {
+        for dot in dots {
+            if !self.contains(*dot) {
+                return false;
+            }
+        }
+        true
+    }
+
+    /// The version vector: each name that has an entry, in order, with the number up to which all its
+    /// dots are in the context. Takes no memory.
+    pub fn vector(&self) -> btree_map::Iter<'_, Name, u64>
+        ensures rest { result ≡ self.now.vector }
+        ensures runs { ShowsInOrder (deref_pair {K = ℕ} {X = ℕ}) }
+        ensures has { (d : DotValue) → has self.now d ≡ is_known result self.now.cloud d }
+        ensures canonical { IsCanonical self.now }
+    {
+        self.vector.iter()
+    }
+
+    /// The cloud: the dots that stand apart from the vector, in order. Takes no memory.
+    pub fn cloud(&self) -> btree_set::Iter<'_, Dot>
+        ensures rest { result ≡ self.now.cloud }
+        ensures runs { ShowsInOrder (deref {X = DotValue}) }
+        ensures has { (d : DotValue) → has self.now d ≡ is_known self.now.vector result d }
+        ensures canonical { IsCanonical self.now }
+    {
+        self.cloud.iter()
+    }
+
+    /// The same set of dots, on this allocator. Takes memory in the number of names and of the dots in the
+    /// cloud, and time in these, times their logarithms.
     pub fn copy(&self, alloc: A) -> Result<Context<A>, Refusal>
         ensures ok { IfOk result (HasSame self.now) }
+        ensures equal { IfOk result (λ copy. copy ≡ self.now) }
         ensures err { IsOkUnless result Refusal.OutOfMemory }
     {
-        let dots = copied(alloc, &self.dots)?;
-        Ok(Context { dots, alloc })
+        let mut vector = BTreeMap::new(alloc);
+        vector::raise_all(&mut vector, &self.vector)?;
+        let cloud = cloud::copied(alloc, &self.cloud)?;
+        Ok(Context {
+            vector,
+            cloud,
+            alloc,
+        })
     }
 
-    /// Adds the dot. A refused call leaves the context as it was.
+    /// Adds the dot. A refused call leaves the context as it was. Takes time as `contains` does, and the
+    /// same again for each dot of the cloud that goes to the vector, where the dot closes the gap below.
     pub fn add(&mut self, dot: Dot) -> Result<(), Refusal>
         ensures ok { OnOk result ((d : DotValue) → has self.new d ≡ (same_dot dot d || has self.old d)) }
         ensures unchanged { OnErr result (HasSame self.new self.old) }
+        ensures as_it_was { OnErr result (self.new ≡ self.old) }
         ensures err { IsOkUnless result Refusal.OutOfMemory }
     {
-        self.dots.insert(dot)?;
-        Ok(())
+        if self.contains(dot) {
+            return Ok(());
+        }
+        add_to(&mut self.vector, &mut self.cloud, dot)
     }
 
     /// Adds each dot of the other. A refused call leaves the context as it was, so the union is made
-    /// in a copy: it takes time and memory in the number of dots of both.
+    /// anew: it takes memory in the number of names and of the dots in the clouds of both, and time in
+    /// these, times their logarithms.
     pub fn union(&mut self, other: &Context<A>) -> Result<(), Refusal>
         ensures ok { OnOk result ((d : DotValue) → has self.new d ≡ (has self.old d || has other.now d)) }
         ensures unchanged { OnErr result (HasSame self.new self.old) }
+        ensures as_it_was { OnErr result (self.new ≡ self.old) }
         ensures err { IsOkUnless result Refusal.OutOfMemory }
     {
-        let mut both = self.copy(self.alloc)?;
-        both.dots.extend(&other.dots)?;
+        let mut both = covering(self.alloc, &self.vector, &other.vector)?;
+        both.add_all(&self.cloud)?;
+        both.add_all(&other.cloud)?;
         *self = both;
+        Ok(())
+    }
+
+    // Adds each of the dots.
+    fn add_all(&mut self, dots: &BTreeSet<Dot, A>) -> Result<(), Refusal>
+        ensures ok { OnOk result ((d : DotValue) → has self.new d ≡ (has self.old d || in_cloud dots.now.keys d)) }
+        ensures err { IsOkUnless result Refusal.OutOfMemory }
+    {
+        for dot in dots {
+            self.add(*dot)?;
+        }
         Ok(())
     }
 }
 
-// The same set on another allocator.
-fn copied<A: Allocator + Copy>(
+impl<A: Allocator> PartialEq for Context<A> {
+    ghost eq = { same_form };
+
+    ghost laws = { partial_equiv_from_equiv same_form_equiv };
+
+    /// Whether the two have the same dots. Takes no memory, and time in the names and cloud dots of both.
+    fn eq(&self, other: &Context<A>) -> bool
+        ensures form { result ≡ same_form self.now other.now }
+        ensures same { IsTrue result ↔ HasSame self.now other.now }
+        ensures equal { IsTrue result ↔ (self.now ≡ other.now) }
+    {
+        self.vector == other.vector && self.cloud == other.cloud
+    }
+}
+
+impl<A: Allocator> Eq for Context<A> {
+    ghost laws = { same_form_equiv };
+}
+
+// The context of what either vector stands for.
+fn covering<A: Allocator + Copy>(
     alloc: A,
-    dots: &BTreeSet<Dot, A>,
-) -> Result<BTreeSet<Dot, A>, AllocError>
-    ensures { IfOk result (IsFromIterResult dot_cmp dots.now.keys) }
+    mine: &BTreeMap<Name, u64, A>,
+    yours: &BTreeMap<Name, u64, A>,
+) -> Result<Context<A>, Refusal>
+    ensures ok { IfOk result (λ both. (d : DotValue) → has both d ≡ (is_known mine.now.entries [] d || is_known yours.now.entries [] d)) }
+    ensures err { IsOkUnless result Refusal.OutOfMemory }
 {
-    dots.iter().copied().collect(alloc)
+    let mut vector = BTreeMap::new(alloc);
+    vector::raise_all(&mut vector, mine)?;
+    vector::raise_all(&mut vector, yours)?;
+    Ok(Context {
+        vector,
+        cloud: BTreeSet::new(alloc),
+        alloc,
+    })
 }

@@ -1,9 +1,7 @@
-use Rattle.std.proofs.Common.{ap}
-use Rattle.std.specs.List.{list_any}
-use Rattle.dots.specs.Dot.{same_dot}
 use Rattle.causal_context.specs.Context.{has}
+use Rattle.causal_context.proofs.Forms.{none_from_empty}
 use Rattle.causal_context.proofs.context.Context.new.Goals as goal
 
 pub returns : goal.returns
 unfolding has
-returns g c = λ dot. ap (λ dots. list_any (same_dot dot) dots) c.new.ensures.empty
+returns g c = none_from_empty c.new.result.entries c.new-2.result.keys c.new.ensures.len c.new-2.ensures.len
