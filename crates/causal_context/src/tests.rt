@@ -239,3 +239,26 @@ fn a_union_has_the_dots_of_both_and_leaves_the_other(rt: HostRuntime) -> Result<
     assert!(rt; both.includes(&mine) && !mine.includes(&both));
     Ok(())
 }
+
+#[test]
+fn a_million_writes_of_one_name_are_one_entry(rt: HostRuntime) -> Result<(), Fail> {
+    let alloc = rt.alloc();
+    let mut context = Context::new(alloc);
+    for number in 1..1_000_001 {
+        context.add(dot(&rt, 5, number))?;
+    }
+    assert_eq!(rt;
+        vector_of(alloc, &context)?.as_slice(),
+        [(5, 1_000_000)].as_slice()
+    );
+    assert!(rt; cloud_of(alloc, &context)?.is_empty());
+    let mut other = Context::new(alloc);
+    other.add(dot(&rt, 5, 1_000_002))?;
+    other.union(&context)?;
+    assert!(rt; other.includes(&context) && !other.contains(dot(&rt, 5, 1_000_001)));
+    assert_eq!(rt;
+        cloud_of(alloc, &other)?.as_slice(),
+        [dot(&rt, 5, 1_000_002)].as_slice()
+    );
+    Ok(())
+}
