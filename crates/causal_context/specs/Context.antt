@@ -1,4 +1,4 @@
--- Causal contexts, after Almeida, Shoker and Baquero, "Delta State Replicated Data Types" (2018), section 5:
+-- Causal contexts, after Almeida, Shoker and Baquero, "Delta State Replicated Data Types" (2018):
 -- a causal context is a set of dots, max_i(c) is the greatest number of the name i in c, or 0, and
 -- next_i(c) is the dot of the name i and the number above it. They compress such a set to a version vector, which
 -- has for each name the number up to which all its dots are there, and a cloud of the other dots.

@@ -1,4 +1,4 @@
--- Causal pairs, after Almeida, Shoker and Baquero, "Delta State Replicated Data Types" (2018), section 5:
+-- Causal pairs, after Almeida, Shoker and Baquero, "Delta State Replicated Data Types" (2018):
 -- a causal state is a pair of a dot store and a causal context, and each dot of the store is in the context.
 use Rattle.std.specs.Prelude.{Option}
 use Rattle.dots.specs.Dot.{DotValue}

@@ -58,9 +58,9 @@ pub next_is : (name : ℕ) (test : DotValue → Bool) (dot : DotValue) → conte
 next_is name test dot next = record {
   named = next.name;
   above = λ d named known.
-    let within : d.number ≤ next.greatest = next.is_greatest.bound d.number (rw (← named) known) in
-    omega (arith, next.number, within);
-  least = least name next.greatest dot test next.is_greatest next.number
+      let within : d.number ≤ next.greatest = next.is_greatest.bound d.number (rw (← named) known) in
+      omega (arith, next.number, within);
+  least = least name next.greatest dot test next.is_greatest next.number;
 }
 
 -- the put was made at the pair
@@ -70,7 +70,7 @@ put_at_pair live name key value dot next = record {
   id = next_is name (context.has live.1) dot next;
   same_key = refl;
   same_value = refl;
-  over = has-dots_at live.0 key
+  over = has-dots_at live.0 key;
 }
 
 -- what the new dot did not observe: itself
@@ -100,5 +100,5 @@ pub delta_state : (live : PairValue) (key value : List ℕ) (dot : DotValue) (st
     → IsInside (state_of store_at live) → context.has live.1 dot ≡ false → Same (pair_state (store, knows)) (state (Wrote (write_of live dot key value) ∷ []))
 delta_state live key value dot store knows delta inside unknown = record {
   at = λ k d. delta.held k d ∙ sym (at-write-own (write_of live dot key value) (not_itself live key dot inside unknown) k d);
-  has = λ d. delta.known d ∙ (ap (λ b. same_dot dot d || b) (sym (has-dots_at live.0 key d)) ∙ sym (has-write (write_of live dot key value) d))
+  has = λ d. delta.known d ∙ (ap (λ b. same_dot dot d || b) (sym (has-dots_at live.0 key d)) ∙ sym (has-write (write_of live dot key value) d));
 }

@@ -1,4 +1,4 @@
--- Dot stores, after Almeida, Shoker and Baquero, "Delta State Replicated Data Types" (2018), section 5.
+-- Dot stores, after Almeida, Shoker and Baquero, "Delta State Replicated Data Types" (2018).
 --
 -- A dot store is read as a function: what it holds at each place and dot, if anything. A place is the path of
 -- keys that leads to a dot. It is the pair of a key and a place below it in a map, and `tt` in a store with no keys.

@@ -1,5 +1,5 @@
--- What the three dot stores hold, after Almeida, Shoker and Baquero, "Delta State Replicated Data Types" (2018),
--- section 5: DotSet is a set of dots, DotFun a map from dots to values, DotMap a map from keys to dot stores.
+-- What the three dot stores hold, after Almeida, Shoker and Baquero, "Delta State Replicated Data Types" (2018):
+-- DotSet is a set of dots, DotFun a map from dots to values, DotMap a map from keys to dot stores.
 use Rattle.std.specs.Prelude.{Bool, cond, Option, Some, None, List}
 use Rattle.std.specs.declared.cmp.Ordering.{Ordering}
 use Rattle.std.specs.List.{list_any, All}

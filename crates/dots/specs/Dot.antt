@@ -1,4 +1,4 @@
--- Dots, after Almeida, Shoker and Baquero, "Delta State Replicated Data Types" (2018), section 5:
+-- Dots, after Almeida, Shoker and Baquero, "Delta State Replicated Data Types" (2018):
 -- a dot is a pair of a replica's name and a number, and stands for one write of that replica.
 use Rattle.std.specs.Prelude.{ℕ, Bool, ◌==◌, ◌&&◌}
 

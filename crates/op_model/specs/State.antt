@@ -1,5 +1,5 @@
 -- The states of causal dot stores, dot by dot, after Almeida, Shoker and Baquero, "Delta State Replicated
--- Data Types" (2018), section 5 (causal contexts, dot stores and the causal join).
+-- Data Types" (2018): causal contexts, dot stores and the causal join.
 --
 -- A dot store is read as what stands at each place and dot: nothing, or a held value. A place is the path of
 -- keys that leads there, and is of the type `Unit` in a store with no keys.

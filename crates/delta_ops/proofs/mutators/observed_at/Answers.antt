@@ -7,10 +7,11 @@ pub returns-clause-ok : goal.returns-clause-ok
 returns-clause-ok g c d =
     let held = rw c.store.ensures.value at (c.get.ensures.held tt d) in
     elim c.match-get.branch [
-        in-Some+in_ok-dots_into w ↦
+      | in-Some+in_ok-dots_into w ↦
           (let there = rw w.in-Some.is at held in
-           rw w.context-is (test_of _ _ (w.in_ok-dots_into.ensures.added tt d)
-             (λ yes. (second_of _ (c.new-context.ensures d) (w.dots_into.ensures.only d yes)).1) ∙ ap is_some (sym there)))
+          rw w.context-is (test_of _ _ (w.in_ok-dots_into.ensures.added tt d)
+          (λ yes. (second_of _ (c.new-context.ensures d) (w.dots_into.ensures.only d yes)).1) ∙ ap is_some (sym there)))
       | in_default w ↦
           (let there = rw w.in_default.is at held in
-           rw w.context-is (c.new-context.ensures d ∙ ap is_some (sym there))) ]
+          rw w.context-is (c.new-context.ensures d ∙ ap is_some (sym there)))
+    ]

@@ -9,4 +9,4 @@ returns-clause-ok g c k d =
     let stored = rw c.in_ok-copy-2.ensures.ok at (c.in_ok-insert-2.ensures.ok (k, tt) d) in
     let held = rw c.in_ok-copy.ensures.ok at (c.in_ok-insert.ensures.ok tt d) in
     held_alone (is_eq (bytes_cmp c.args.key.now k)) (same_dot c.args.dot d) _ _ _ _ c.args.value.now stored held
-      (c.empty-values.ensures tt d) (c.empty-store.ensures (k, tt) d)
+    (c.empty-values.ensures tt d) (c.empty-store.ensures (k, tt) d)

@@ -8,7 +8,7 @@ pub unwrap-requires : goal.unwrap-requires
 unwrap-requires g c =
     let delta : IsDelta c.args.live.now c.args.key.now c.args.value.now c.in_ok-dot.dot c.in_ok-store.store c.add.new.self = record {
       held = c.in_ok-store.ensures.ok;
-      known = λ d. c.in_ok-add.ensures.ok d ∙ ap (λ b. same_dot c.in_ok-dot.dot d || b) (c.in_ok-context.ensures.ok d)
+      known = λ d. c.in_ok-add.ensures.ok d ∙ ap (λ b. same_dot c.in_ok-dot.dot d || b) (c.in_ok-context.ensures.ok d);
     } in
     there_from c.from_parts.result c.from_parts.ensures.outside.0 (delta_inside _ _ _ _ _ _ delta)
 
@@ -16,11 +16,13 @@ pub returns-clause-ok : goal.returns-clause-ok
 returns-clause-ok g c =
     let delta : IsDelta c.args.live.now c.args.key.now c.args.value.now c.in_ok-dot.dot c.in_ok-store.store c.add.new.self = record {
       held = c.in_ok-store.ensures.ok;
-      known = λ d. c.in_ok-add.ensures.ok d ∙ ap (λ b. same_dot c.in_ok-dot.dot d || b) (c.in_ok-context.ensures.ok d)
+      known = λ d. c.in_ok-add.ensures.ok d ∙ ap (λ b. same_dot c.in_ok-dot.dot d || b) (c.in_ok-context.ensures.ok d);
     } in
     let next = rw (c.in_ok-dot.ensures.ok_part, c.context.ensures.value) at c.next.ensures.next in
     let unknown = rw (c.in_ok-dot.ensures.ok_part, c.context.ensures.value) at c.next.ensures.unknown in
-    let made = rw c.unwrap.ensures at c.from_parts.ensures.pair in
-    (write_of c.args.live.now c.in_ok-dot.dot c.args.key.now c.args.value.now,
-     put_at_pair c.args.live.now c.args.name c.args.key.now c.args.value.now c.in_ok-dot.dot next,
-     rw made (delta_state _ _ _ _ _ _ delta c.context.ensures.inside unknown), refl)
+    let made = rw c.unwrap.ensures at c.from_parts.ensures.pair in (
+      write_of c.args.live.now c.in_ok-dot.dot c.args.key.now c.args.value.now,
+      put_at_pair c.args.live.now c.args.name c.args.key.now c.args.value.now c.in_ok-dot.dot next,
+      rw made (delta_state _ _ _ _ _ _ delta c.context.ensures.inside unknown),
+      refl,
+    )
