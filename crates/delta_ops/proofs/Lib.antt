@@ -1,2 +1,4 @@
 pub mod Stores
 pub mod Puts
+mod Erasing
+mod Groups

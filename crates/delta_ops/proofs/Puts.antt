@@ -34,6 +34,10 @@ has-values : (values : List (DotValue × List ℕ)) (d : DotValue) → has (map 
 has-values [] d = refl
 has-values ((dot, v) ∷ values) d = rw (same_dot-symm dot d, has-values values d) (found_or (same_dot d dot) v (lookup (same_dot d) values))
 
+pub has-at_values : (values : List (DotValue × List ℕ)) (d : DotValue) → has (map (λ entry. entry.0) values) d ≡ is_some (at_values values tt d)
+unfolding at_values
+has-at_values values d = has-values values d
+
 pub has-dots_at : (stores : StoreValue) (key : List ℕ) (d : DotValue) → has (dots_at stores key) d ≡ is_some (store_at stores (key, tt) d)
 unfolding at_stores at_values
 has-dots_at stores key d = go (lookup (is_at (bytes_cmp key)) stores)

@@ -1,0 +1,7 @@
+use Rattle.std.proofs.Common.{◌≡◌, ◌||◌, map}
+use Rattle.dots.specs.Dot.{DotValue}
+use Rattle.op_model.specs.Operation.{has as is_among}
+use Rattle.delta_ops.proofs.erasures.gather.Given as goal
+
+abbrev pub invariant-loop-dot : goal.invariant-loop-dot
+invariant-loop-dot g l = (d : DotValue) → is_among l.dots.keys d ≡ (is_among l.fn.dots.keys d || is_among (map (λ entry. entry.0.now) l.yielded) d)

@@ -1,0 +1,153 @@
+ghost use Rattle.std.specs.Prelude.{◌≡◌, ◌<◌, ◌≤◌, ◌∷◌, [], length, false, IsTrue, IfOk, IfSome, IfNone, OnOk, OnErr, IsOkUnless};
+ghost use Rattle.causal_context.specs.Context.{HasNone};
+ghost use Rattle.delta_ops.specs.Group.{group_state};
+ghost use Rattle.delta_ops.specs.Pair.{pair_state};
+ghost use Rattle.delta_ops.specs.Run.{groups_of};
+ghost use Rattle.dots.specs.Dot.{DotValue};
+ghost use Rattle.op_model.specs.Meaning.{greater, state};
+ghost use Rattle.op_model.specs.State.{Same, join};
+
+use crate::grouping::group;
+use crate::pair::Pair;
+use crate::run::Run;
+use causal_join::Causal;
+use dots::Refusal;
+use std::alloc::{Allocator, Global};
+use std::marker::Model;
+
+/// What a replica made since it last sent: a group of deltas.
+///
+/// It is kept as runs, the oldest first, whose lengths fall as the digits of a binary counter do: a delta takes part
+/// in one join for each time that its run doubles, so that n deltas take as many joins of each entry as n has binary
+/// digits, and no more.
+#[derive(Drop)]
+pub struct Outgoing<A: Allocator + Copy = Global> {
+    runs: Vec<Run<A>, A>,
+}
+
+impl<A: Allocator + Copy> Model for Outgoing<A> {
+    ghost use Rattle.std.specs.Prelude.{List};
+    ghost use Rattle.delta_ops.specs.Pair.{PairValue};
+    ghost use Rattle.delta_ops.specs.Run.{groups_of};
+
+    ghost Value = { List PairValue };
+
+    ghost view = { λ o. groups_of o.runs.items };
+}
+
+impl<A: Allocator + Copy> Outgoing<A> {
+    /// The group of no delta. Takes no memory.
+    pub fn new(alloc: A) -> Outgoing<A>
+        ensures { result ≡ [] }
+    {
+        Outgoing {
+            runs: Vec::new(alloc),
+        }
+    }
+
+    /// Joins the delta into the group. A refused call leaves the group as it was.
+    pub fn push(&mut self, alloc: A, delta: Pair<A>) -> Result<(), Refusal>
+        ensures ok { OnOk result (Same (group_state self.new) (join greater (group_state self.old) (pair_state delta))) }
+        ensures unchanged { OnErr result (Same (group_state self.new) (group_state self.old)) }
+        ensures err { IsOkUnless result Refusal.OutOfMemory }
+    {
+        push_run(&mut self.runs, alloc, delta)
+    }
+
+    /// The whole group, which is empty from then on; None where it knows no dot. A refused call changes nothing.
+    pub fn take(&mut self, alloc: A) -> Result<Option<Pair<A>>, Refusal>
+        ensures some { IfOk result (λ taken. IfSome taken (λ whole.
+            Same (pair_state whole) (group_state self.old) × ¬ HasNone whole.1 × (self.new ≡ []))) }
+        ensures none { IfOk result (λ taken. IfNone taken (
+            ((d : DotValue) → (group_state self.old).has d ≡ false) × (self.new ≡ self.old))) }
+        ensures unchanged { OnErr result (self.new ≡ self.old) }
+        ensures err { IsOkUnless result Refusal.OutOfMemory }
+    {
+        let whole = joined(&self.runs, alloc)?;
+        if whole.context().is_empty() {
+            return Ok(None);
+        }
+        self.runs.clear();
+        Ok(Some(whole))
+    }
+}
+
+/// The join of all runs.
+fn joined<A: Allocator + Copy>(runs: &Vec<Run<A>, A>, alloc: A) -> Result<Pair<A>, Refusal>
+    ensures ok { IfOk result (λ whole. Same (pair_state whole) (group_state (groups_of runs.now.items))) }
+    ensures err { IsOkUnless result Refusal.OutOfMemory }
+{
+    let mut whole = Causal::bottom(alloc);
+    for run in runs {
+        group(alloc, &mut whole, &run.group)?;
+    }
+    Ok(whole)
+}
+
+/// Puts the delta at the end, as a run of its own, once the runs before it were joined as far as is due.
+fn push_run<A: Allocator + Copy>(
+    runs: &mut Vec<Run<A>, A>,
+    alloc: A,
+    delta: Pair<A>,
+) -> Result<(), Refusal>
+    ensures ok { OnOk result (Same (group_state (groups_of runs.new.items))
+        (join greater (group_state (groups_of runs.old.items)) (pair_state delta))) }
+    ensures unchanged { OnErr result (Same (group_state (groups_of runs.new.items))
+        (group_state (groups_of runs.old.items))) }
+    ensures err { IsOkUnless result Refusal.OutOfMemory }
+{
+    settle(runs, alloc)?;
+    runs.push(Run {
+        group: delta,
+        deltas: 1,
+    })?;
+    Ok(())
+}
+
+/// Joins the two newest runs as long as the newest is no shorter than the one before it.
+fn settle<A: Allocator + Copy>(runs: &mut Vec<Run<A>, A>, alloc: A) -> Result<(), Refusal>
+    ensures same { Same (group_state (groups_of runs.new.items)) (group_state (groups_of runs.old.items)) }
+    ensures err { IsOkUnless result Refusal.OutOfMemory }
+{
+    while is_due(runs.as_slice()) {
+        join_newest(runs, alloc)?;
+    }
+    Ok(())
+}
+
+/// Whether the newest run is no shorter than the one before it.
+fn is_due<A: Allocator + Copy>(runs: &[Run<A>]) -> bool
+    ensures { IsTrue result → 2 ≤ length runs.now }
+{
+    match runs {
+        [.., older, newest] => older.deltas <= newest.deltas,
+        _ => false,
+    }
+}
+
+/// Joins the two newest runs into one, where there are two.
+fn join_newest<A: Allocator + Copy>(runs: &mut Vec<Run<A>, A>, alloc: A) -> Result<(), Refusal>
+    ensures same { Same (group_state (groups_of runs.new.items)) (group_state (groups_of runs.old.items)) }
+    ensures fewer { OnOk result (2 ≤ length runs.old.items → length runs.new.items < length runs.old.items) }
+    ensures err { IsOkUnless result Refusal.OutOfMemory }
+{
+    let Some(newest) = runs.pop() else {
+        return Ok(());
+    };
+    let Some(mut older) = runs.pop() else {
+        runs.push(newest).unwrap();
+        return Ok(());
+    };
+    let done = group(alloc, &mut older.group, &newest.group);
+    match done {
+        Ok(()) => {
+            older.deltas = older.deltas.saturating_add(newest.deltas);
+            runs.push(older).unwrap();
+        }
+        Err(_) => {
+            runs.push(older).unwrap();
+            runs.push(newest).unwrap();
+        }
+    }
+    done
+}
