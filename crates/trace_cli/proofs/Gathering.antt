@@ -55,6 +55,21 @@ Gathers-entries {P = P} found entries gathered to back value = (
   λ stands. let entry = back value stands in gathered.there value (in_map (λ entry. entry.1) entries (entry.0, value) entry.1),
 )
 
+-- The keys of all entries were gathered: those that have an entry.
+pub Gathers-keys : {X : Type 0} {P : List ℕ → Type 0} (found : List (List ℕ)) (entries : List (List ℕ × X)) → Gathers found (map (λ entry. entry.0) entries)
+    → ((key : List ℕ) (x : X) → Contains entries (key, x) → P key) → ((key : List ℕ) → P key → (x : X) × Contains entries (key, x))
+    → (key : List ℕ) → Contains found key ↔ P key
+Gathers-keys {P = P} found entries gathered to back key = (
+  λ in_it. let entry = from_map (λ entry. entry.0) entries key (gathered.back key in_it) in
+      to key entry.0.1 (at_same entries entry.0 (key, entry.0.1) (ap (λ k. (k, entry.0.1)) entry.2) entry.1),
+  λ stands. let entry = back key stands in gathered.there key (in_map (λ entry. entry.0) entries (key, entry.0) entry.1),
+)
+
+-- the keys of entries that were lent
+pub lent_keys : {K X : Type 0} (lent : List (Bor K × Bor X)) → map (λ entry. entry.0) (map deref_pair lent) ≡ map (λ entry. entry.0.now) lent
+lent_keys [] = refl
+lent_keys (entry ∷ lent) = ap (λ keys. entry.0.now ∷ keys) (lent_keys lent)
+
 -- the values of entries that were lent
 pub lent_values : {K X : Type 0} (lent : List (Bor K × Bor X)) → map (λ entry. entry.1) (map deref_pair lent) ≡ map (λ entry. entry.1.now) lent
 lent_values [] = refl

@@ -8,20 +8,22 @@ use Rattle.std.specs.BTreeMap.{BTreeMap, get, is_at, Updates}
 use Rattle.std.specs.List.{slice_get}
 use Rattle.std.specs.Ordering.{nat_cmp}
 use Rattle.causal_context.specs.Context.{HasNone}
+use Rattle.delta_ops.specs.Group.{group_state}
 use Rattle.delta_ops.specs.Pair.{PairValue, pair_state}
-use Rattle.op_model.specs.Made.{IsPutAt}
+use Rattle.op_model.specs.Made.{IsPutAt, IsRemoveAt, IsClearAt, erasure}
 use Rattle.op_model.specs.Meaning.{greater, state}
 use Rattle.op_model.specs.Operation.{Operation, Write, Wrote}
-use Rattle.op_model.specs.State.{Same, join}
-use Rattle.op_model.specs.World.{World, Event, Node, Put, Flush, Deliver, after, is_node, message, sent, replica_of, Means}
+use Rattle.op_model.specs.State.{State, Same, join}
+use Rattle.dots.specs.declared.dot.Dot.{Dot}
+use Rattle.op_model.specs.World.{World, Event, Node, Put, Remove, Clear, Flush, Deliver, after, is_node, message, sent, replica_of, Means}
 use Rattle.op_model.proofs.Joins.{same-itself, same-back, same-chain}
 use Rattle.op_model.proofs.Fresh.{after-push}
 use Rattle.op_model.proofs.Pairs.{message-kept, message-added, sent-some, means-same}
-use Rattle.op_model.proofs.Events.{after_put_at, after_flush, group_empty, after_deliver, means_elsewhere, messages_after, node_there, node_means}
+use Rattle.op_model.proofs.Events.{after_put_at, after_remove_at, after_clear_at, after_flush, group_empty, after_deliver, means_elsewhere, messages_after, node_there, node_means}
 use Rattle.trace_cli.specs.Keeps.{Keeps, bottom, live_of, group_of}
-use Rattle.trace_cli.specs.Replaces.{Replaces, SameReplicas}
+use Rattle.trace_cli.specs.Replaces.{Replaces, SameReplicas, Takes, IsAlike, AreAlike, Sends, HasNothingToSend}
 use Rattle.trace_cli.specs.declared.replica.Replica.{Replica}
-use Rattle.trace_cli.proofs.ReplicaMaps.{at_is}
+use Rattle.trace_cli.proofs.ReplicaMaps.{at_is, alike_found}
 
 -- the messages are those of the world
 pub record Carries (messages : List PairValue) (w : World) : Type 0 where
@@ -64,6 +66,10 @@ carries-sent messages pair S v w more same carries = record {
     at number found (inr last) =
         let e : number ≡ length v.messages = last.0 ∙ carries.count in
         rw (e, last.1, message-added v.messages S) same
+
+-- a group that knows some dot is of some operation
+some_outgoing : (pair : PairValue) (S : List Operation) → Same (pair_state pair) (state S) → ¬ HasNone pair.1 → S ≢ []
+some_outgoing pair S same some none = some (λ dot. same.has dot ∙ ap (λ S. (state S).has dot) none)
 
 module _ {A : Type 0} where
   -- which replicas are there stays where one is replaced
@@ -115,31 +121,46 @@ module _ {A : Type 0} where
     carry = λ number pair is. absurd cc;
   }
 
+  -- replicas that are alike mean the same
+  alike_there : (before after : Option (Replica A)) → AreAlike before after → is_some after ≡ is_some before
+  alike_there None None alike = refl
+  alike_there None (Some after) alike = absurd alike
+  alike_there (Some before) None alike = absurd alike
+  alike_there (Some before) (Some after) alike = refl
+
+  alike_means : (before after : Option (Replica A)) (w : World) (name : ℕ) → AreAlike before after → Means (live_of before) (group_of before) w name → Means (live_of after) (group_of after) w name
+  alike_means None None w name alike means = means
+  alike_means None (Some after) w name alike means = absurd alike
+  alike_means (Some before) None w name alike means = absurd alike
+  alike_means (Some before) (Some after) w name alike means =
+      means-same (pair_state before.live) (pair_state after.live) (group_state before.group) (group_state after.group) w name
+      (rw alike.live (same-itself (pair_state before.live))) alike.group means
+
   -- the replicas by what is found of them
   pub keeps_same : (old new : BTreeMap ℕ (Replica A)) (messages : List PairValue) (past : List Event) → SameReplicas old new → Keeps old messages past → Keeps new messages past
   keeps_same old new messages past same keeps = record {
-    there = λ name. ap is_some (same name) ∙ keeps.there name;
-    means = λ name. let P : Option (Replica A) → Type 0 = λ replica. Means (live_of replica) (group_of replica) (after past) name in subst P (sym (same name)) (keeps.means name);
+    there = λ name. alike_there (get nat_cmp old name) (get nat_cmp new name) (same name) ∙ keeps.there name;
+    means = λ name. alike_means (get nat_cmp old name) (get nat_cmp new name) (after past) name (same name) (keeps.means name);
     count = keeps.count;
     carry = keeps.carry;
   }
 
   -- what a replica that is there means
   pub means_at : (replicas : BTreeMap ℕ (Replica A)) (messages : List PairValue) (past : List Event) (name : ℕ) (replica : Replica A) → Keeps replicas messages past
-      → get nat_cmp replicas name ≡ Some replica → Means (pair_state replica.live) (pair_state replica.group) (after past) name
+      → get nat_cmp replicas name ≡ Some replica → Means (pair_state replica.live) (group_state replica.group) (after past) name
   means_at replicas messages past name replica keeps is =
       let P : Option (Replica A) → Type 0 = λ r. Means (live_of r) (group_of r) (after past) name in subst P is (keeps.means name)
 
   pub keeps_node : (old new : BTreeMap ℕ (Replica A)) (messages : List PairValue) (past : List Event) (name : ℕ) (replica : Replica A) → Keeps old messages past
-      → get nat_cmp old name ≡ None → Updates nat_cmp old new name (Some replica) → Same (pair_state replica.live) (state []) → Same (pair_state replica.group) (state [])
+      → get nat_cmp old name ≡ None → Updates nat_cmp old new name (Some replica) → Same (pair_state replica.live) (state []) → replica.group ≡ []
       → Keeps new messages (past ++ Node name ∷ [])
   keeps_node old new messages past name replica keeps absent updates live group =
       keeps_event old new messages messages past (Node name) keeps
       (λ n apart. updates.2 n (at_is name n ∙ other n apart))
       (let P : Option (Replica A) → Type 0 = λ r. Means (live_of r) (group_of r) (after (past ++ Node name ∷ [])) name in
       subst P (sym updates.1)
-      (means-same bottom (pair_state replica.live) bottom (pair_state replica.group) (after (past ++ Node name ∷ [])) name
-      (same-chain _ _ _ live nothing_state) (same-chain _ _ _ group nothing_state)
+      (means-same bottom (pair_state replica.live) bottom (group_state replica.group) (after (past ++ Node name ∷ [])) name
+      (same-chain _ _ _ live nothing_state) (rw group nothing_state)
       (node_means past name name bottom bottom
       (let Q : Option (Replica A) → Type 0 = λ r. Means (live_of r) (group_of r) (after past) name in subst Q absent (keeps.means name)))))
       (λ n. ap is_some (updates.0 n) ∙ (by n (is_at (nat_cmp name) n) (at_is name n) ∙ sym (node_there past name n)))
@@ -160,21 +181,46 @@ module _ {A : Type 0} where
       by n true is = sym (ap (λ b. is_node (after past) n || b) (sym is) ∙ or_true (is_node (after past) n))
       by n false is = keeps.there n ∙ sym (ap (λ b. is_node (after past) n || b) (sym is) ∙ or_false (is_node (after past) n))
 
-  pub keeps_put : (old new : BTreeMap ℕ (Replica A)) (messages : List PairValue) (past : List Event) (name : ℕ) (key value : List ℕ) (before now : Replica A) (w : Write)
-      → Keeps old messages past → Replaces old new name before now → IsPutAt (pair_state before.live) name key value w
-      → Same (pair_state now.live) (join greater (pair_state before.live) (state (Wrote w ∷ [])))
-      → Same (pair_state now.group) (join greater (pair_state before.group) (state (Wrote w ∷ [])))
-      → Keeps new messages (past ++ Put name key value ∷ [])
-  keeps_put old new messages past name key value before now w keeps replaces made live group =
-      keeps_event old new messages messages past (Put name key value) keeps replaces.others
-      (let P : Option (Replica A) → Type 0 = λ r. Means (live_of r) (group_of r) (after (past ++ Put name key value ∷ [])) name in
+  -- an operation of a replica, whose delta is one with which its pairs mean what they should after the event
+  keeps_made : (old new : BTreeMap ℕ (Replica A)) (messages : List PairValue) (past : List Event) (e : Event) (before now : Replica A) (delta : State (List ℕ) (List ℕ))
+      → Keeps old messages past → Replaces old new (replica_of e) before now → Takes before now delta
+      → (Means (pair_state before.live) (group_state before.group) (after past) (replica_of e)
+      → Means (join greater (pair_state before.live) delta) (join greater (group_state before.group) delta) (after (past ++ e ∷ [])) (replica_of e))
+      → (after (past ++ e ∷ [])).messages ≡ (after past).messages
+      → ((n : ℕ) → is_node (after (past ++ e ∷ [])) n ≡ is_node (after past) n)
+      → Keeps new messages (past ++ e ∷ [])
+  keeps_made old new messages past e before now delta keeps replaces takes means same there =
+      keeps_event old new messages messages past e keeps replaces.others
+      (let P : Option (Replica A) → Type 0 = λ r. Means (live_of r) (group_of r) (after (past ++ e ∷ [])) (replica_of e) in
       subst P (sym replaces.becomes)
-      (means-same (join greater (pair_state before.live) (state (Wrote w ∷ []))) (pair_state now.live) (join greater (pair_state before.group) (state (Wrote w ∷ []))) (pair_state now.group)
-      (after (past ++ Put name key value ∷ [])) name live group
-      (after_put_at past name (pair_state before.live) (pair_state before.group) (means_at old messages past name before keeps replaces.was) key value w (state (Wrote w ∷ [])) made
-      (same-itself (state (Wrote w ∷ []))))))
-      (λ n. same_there old new name before now replaces n ∙ (keeps.there n ∙ sym (ap (λ w. is_node w n) (after-push past (Put name key value)))))
-      (carries-same messages (after past) (after (past ++ Put name key value ∷ [])) (messages_after past (Put name key value)) (carries_of old messages past keeps))
+      (means-same (join greater (pair_state before.live) delta) (pair_state now.live) (join greater (group_state before.group) delta) (group_state now.group)
+      (after (past ++ e ∷ [])) (replica_of e) takes.live takes.group (means (means_at old messages past (replica_of e) before keeps replaces.was))))
+      (λ n. same_there old new (replica_of e) before now replaces n ∙ (keeps.there n ∙ sym (there n)))
+      (carries-same messages (after past) (after (past ++ e ∷ [])) same (carries_of old messages past keeps))
+
+  pub keeps_put : (old new : BTreeMap ℕ (Replica A)) (messages : List PairValue) (past : List Event) (name : ℕ) (key value : List ℕ) (before now : Replica A) (delta : State (List ℕ) (List ℕ)) (w : Write)
+      → Keeps old messages past → Replaces old new name before now → Takes before now delta → IsPutAt (pair_state before.live) name key value w → Same delta (state (Wrote w ∷ []))
+      → Keeps new messages (past ++ Put name key value ∷ [])
+  keeps_put old new messages past name key value before now delta w keeps replaces takes made means =
+      keeps_made old new messages past (Put name key value) before now delta keeps replaces takes
+      (λ holds. after_put_at past name (pair_state before.live) (group_state before.group) holds key value w delta made means)
+      (messages_after past (Put name key value)) (λ n. ap (λ w. is_node w n) (after-push past (Put name key value)))
+
+  pub keeps_remove : (old new : BTreeMap ℕ (Replica A)) (messages : List PairValue) (past : List Event) (name : ℕ) (key : List ℕ) (before now : Replica A) (delta : State (List ℕ) (List ℕ)) (over : List Dot)
+      → Keeps old messages past → Replaces old new name before now → Takes before now delta → IsRemoveAt (pair_state before.live) key over → Same delta (state (erasure over))
+      → Keeps new messages (past ++ Remove name key ∷ [])
+  keeps_remove old new messages past name key before now delta over keeps replaces takes made means =
+      keeps_made old new messages past (Remove name key) before now delta keeps replaces takes
+      (λ holds. after_remove_at past name (pair_state before.live) (group_state before.group) holds key over delta made means)
+      (messages_after past (Remove name key)) (λ n. ap (λ w. is_node w n) (after-push past (Remove name key)))
+
+  pub keeps_clear : (old new : BTreeMap ℕ (Replica A)) (messages : List PairValue) (past : List Event) (name : ℕ) (before now : Replica A) (delta : State (List ℕ) (List ℕ)) (over : List Dot)
+      → Keeps old messages past → Replaces old new name before now → Takes before now delta → IsClearAt (pair_state before.live) over → Same delta (state (erasure over))
+      → Keeps new messages (past ++ Clear name ∷ [])
+  keeps_clear old new messages past name before now delta over keeps replaces takes made means =
+      keeps_made old new messages past (Clear name) before now delta keeps replaces takes
+      (λ holds. after_clear_at past name (pair_state before.live) (group_state before.group) holds over delta made means)
+      (messages_after past (Clear name)) (λ n. ap (λ w. is_node w n) (after-push past (Clear name)))
 
   pub keeps_deliver : (old new : BTreeMap ℕ (Replica A)) (messages : List PairValue) (past : List Event) (name number : ℕ) (pair : PairValue) (before now : Replica A)
       → Keeps old messages past → Replaces old new name before now → 1 ≤ number → slice_get messages (number - 1) ≡ Some pair
@@ -185,42 +231,42 @@ module _ {A : Type 0} where
       (let P : Option (Replica A) → Type 0 = λ r. Means (live_of r) (group_of r) (after (past ++ Deliver number name ∷ [])) name in
       let same : number - 1 + 1 ≡ number = omega arith in
       subst P (sym replaces.becomes)
-      (means-same (join greater (pair_state before.live) (pair_state pair)) (pair_state now.live) (pair_state before.group) (pair_state now.group)
-      (after (past ++ Deliver number name ∷ [])) name live (rw group (same-itself (pair_state before.group)))
-      (after_deliver past name (pair_state before.live) (pair_state before.group) (means_at old messages past name before keeps replaces.was) number (pair_state pair)
+      (means-same (join greater (pair_state before.live) (pair_state pair)) (pair_state now.live) (group_state before.group) (group_state now.group)
+      (after (past ++ Deliver number name ∷ [])) name live (rw group (same-itself (group_state before.group)))
+      (after_deliver past name (pair_state before.live) (group_state before.group) (means_at old messages past name before keeps replaces.was) number (pair_state pair)
       (rw same at (keeps.carry (number - 1) pair found)))))
       (λ n. same_there old new name before now replaces n ∙ (keeps.there n ∙ sym (ap (λ w. is_node w n) (after-push past (Deliver number name)))))
       (carries-same messages (after past) (after (past ++ Deliver number name ∷ [])) (messages_after past (Deliver number name)) (carries_of old messages past keeps))
 
   -- a flush of a group that knows some dot
-  pub keeps_sent : (old new : BTreeMap ℕ (Replica A)) (messages : List PairValue) (past : List Event) (name : ℕ) (before now : Replica A) → Keeps old messages past
-      → Replaces old new name before now → now.live ≡ before.live → ¬ HasNone before.group.1 → Same (pair_state now.group) (state [])
-      → Keeps new (messages ++ before.group ∷ []) (past ++ Flush name ∷ [])
-  keeps_sent old new messages past name before now keeps replaces live some group =
+  pub keeps_sent : (old new : BTreeMap ℕ (Replica A)) (messages : List PairValue) (past : List Event) (name : ℕ) (before now : Replica A) (pair : PairValue) → Keeps old messages past
+      → Replaces old new name before now → Sends before now pair
+      → Keeps new (messages ++ pair ∷ []) (past ++ Flush name ∷ [])
+  keeps_sent old new messages past name before now pair keeps replaces sends =
       let means = means_at old messages past name before keeps replaces.was in
-      keeps_event old new messages (messages ++ before.group ∷ []) past (Flush name) keeps replaces.others
+      let same = same-chain _ _ _ sends.means means.outgoing in
+      keeps_event old new messages (messages ++ pair ∷ []) past (Flush name) keeps replaces.others
       (let P : Option (Replica A) → Type 0 = λ r. Means (live_of r) (group_of r) (after (past ++ Flush name ∷ [])) name in
       subst P (sym replaces.becomes)
-      (rw live (after_flush past name (pair_state before.live) (pair_state before.group) means (pair_state now.group) group)))
+      (rw (sends.live, sends.empty) (after_flush past name (pair_state before.live) (group_state before.group) means (state []) (same-itself (state [])))))
       (λ n. same_there old new name before now replaces n ∙ (keeps.there n ∙ sym (ap (λ w. is_node w n) (after-push past (Flush name)))))
-      (carries-sent messages before.group ((after past).outgoing name) (after past) (after (past ++ Flush name ∷ []))
+      (carries-sent messages pair ((after past).outgoing name) (after past) (after (past ++ Flush name ∷ []))
       (messages_after past (Flush name) ∙ ap (λ more. (after past).messages ++ more) (sent-some ((after past).outgoing name)
-      (λ none. some ((group_empty past name (pair_state before.live) (pair_state before.group) means).1 none))))
-      means.outgoing (carries_of old messages past keeps))
+      (some_outgoing pair ((after past).outgoing name) same sends.some)))
+      same (carries_of old messages past keeps))
 
   -- a flush of a group that knows no dot
   pub keeps_unsent : (old new : BTreeMap ℕ (Replica A)) (messages : List PairValue) (past : List Event) (name : ℕ) (replica : Replica A) → Keeps old messages past
-      → SameReplicas old new → get nat_cmp old name ≡ Some replica → HasNone replica.group.1
+      → SameReplicas old new → get nat_cmp old name ≡ Some replica → HasNothingToSend replica
       → Keeps new messages (past ++ Flush name ∷ [])
   keeps_unsent old new messages past name replica keeps same is unknown =
       let means = means_at old messages past name replica keeps is in
-      let none = (group_empty past name (pair_state replica.live) (pair_state replica.group) means).0 unknown in
-      keeps_event old new messages messages past (Flush name) keeps (λ n apart. same n)
-      (let P : Option (Replica A) → Type 0 = λ r. Means (live_of r) (group_of r) (after (past ++ Flush name ∷ [])) name in
-      subst P (sym (same name ∙ is))
-      (after_flush past name (pair_state replica.live) (pair_state replica.group) means (pair_state replica.group)
-      (let Q : List Operation → Type 0 = λ S. Same (pair_state replica.group) (state S) in subst Q none means.outgoing)))
-      (λ n. ap is_some (same n) ∙ (keeps.there n ∙ sym (ap (λ w. is_node w n) (after-push past (Flush name)))))
+      let none = (group_empty past name (pair_state replica.live) (group_state replica.group) means).0 unknown in
+      let kept = keeps_same old new messages past same keeps in
+      keeps_event new new messages messages past (Flush name) kept (λ n apart. refl)
+      (after_flush past name (live_of (get nat_cmp new name)) (group_of (get nat_cmp new name)) (kept.means name) (group_of (get nat_cmp new name))
+      (let Q : List Operation → Type 0 = λ S. Same (group_of (get nat_cmp new name)) (state S) in subst Q none (kept.means name).outgoing))
+      (λ n. kept.there n ∙ sym (ap (λ w. is_node w n) (after-push past (Flush name))))
       (carries-same messages (after past) (after (past ++ Flush name ∷ []))
       (messages_after past (Flush name) ∙ (ap (λ S. (after past).messages ++ sent S) none ∙ append-nil (after past).messages)) (carries_of old messages past keeps))
 
@@ -228,7 +274,7 @@ module _ {A : Type 0} where
   pub keeps_unchanged : (old new : BTreeMap ℕ (Replica A)) (messages : List PairValue) (past reserved : List Event) → new.entries ≡ old.entries → reserved ≡ past
       → Keeps old messages past → Keeps new messages reserved
   keeps_unchanged old new messages past reserved same room keeps =
-      rw room (keeps_same old new messages past (λ name. ap (lookup (is_at (nat_cmp name))) same) keeps)
+      rw room (keeps_same old new messages past (λ name. alike_found (get nat_cmp old name) (get nat_cmp new name) (ap (lookup (is_at (nat_cmp name))) same)) keeps)
 
 -- one more at the end, after room was made for it
 pub list_push : {E X D : Type 0} (old reserved new : List E) (e : E) (r : Result X D) (x : X) → reserved ≡ old

@@ -1,12 +1,16 @@
 -- Pairs by what they stand for: over plain variables.
-use Rattle.std.proofs.Common.{◌≡◌, ℕ, List, [], Some, None, Contains, ◌↔◌, sym, ◌∙◌, subst}
+use Rattle.std.proofs.Common.{◌≡◌, ℕ, List, [], ◌∷◌, Some, None, is_some, IsSome, refl, ap, Contains, ◌↔◌, sym, ◌∙◌, subst}
 use Rattle.causal_context.specs.Context.{HasNone}
 use Rattle.causal_join.specs.Causal.{state_of}
-use Rattle.delta_ops.specs.Pair.{PairValue, pair_state, store_at}
+use Rattle.delta_ops.specs.Pair.{PairValue, StoreValue, pair_state, store_at}
+use Rattle.std.specs.Map.{values_of}
+use Rattle.std.proofs.lemmas.List.Elements.{All-contains}
+use Rattle.std.proofs.lemmas.Map.Made.{Contains-values_of}
+use Rattle.op_model.proofs.Dots.{same_dot-self}
 use Rattle.dot_store.specs.Store.{HasNothing}
-use Rattle.dot_store.specs.Stores.{at_values}
+use Rattle.dot_store.specs.Stores.{at_values, NoKeyIsEmpty}
 use Rattle.dots.specs.Dot.{DotValue}
-use Rattle.op_model.specs.Meaning.{greater, state, Stands}
+use Rattle.op_model.specs.Meaning.{greater, state, Stands, HoldsKey}
 use Rattle.op_model.proofs.Members.{nothing_in}
 use Rattle.op_model.proofs.Joins.{join-same, same-itself, same-chain}
 use Rattle.op_model.specs.State.{State, Same, join}
@@ -41,3 +45,18 @@ pub stands_nowhere : (live : PairValue) (key : List ℕ) (items : List (List ℕ
 stands_nowhere live key items empty nothing value =
     let P : List (List ℕ) → Type 0 = λ values. Contains values value ↔ Stands (pair_state live) key value in
     subst P (sym nothing) (λ in_it. nothing_in value in_it, λ there. absurd (let both : None ≡ Some value = sym (empty there.0) ∙ there.1 in cc))
+
+-- something stands in a store that is not empty
+stands_somewhere : (standing : List (DotValue × List ℕ)) → ¬ HasNothing (at_values standing) → (dot : DotValue) × IsSome (at_values standing tt dot)
+unfolding at_values
+stands_somewhere [] filled = absurd (filled (λ place dot. refl))
+stands_somewhere ((dot, value) ∷ standing) filled = (dot, rw (same_dot-self dot) refl)
+
+-- a key that has an entry holds something
+pub holds_key : (live : PairValue) (entries : StoreValue) → NoKeyIsEmpty at_values entries
+    → ((key : List ℕ) (standing : List (DotValue × List ℕ)) → Contains entries (key, standing) → (place : Unit {0}) (d : DotValue) → store_at live.0 (key, place) d ≡ at_values standing place d)
+    → (key : List ℕ) (standing : List (DotValue × List ℕ)) → Contains entries (key, standing) → HoldsKey (pair_state live) key
+holds_key live entries filled held key standing in_it =
+    let P : List (DotValue × List ℕ) → Type 0 = λ store. ¬ HasNothing (at_values store) in
+    let some = stands_somewhere standing (All-contains P (values_of entries) standing filled (Contains-values_of entries key standing in_it)) in
+    (some.0, ap is_some (held key standing in_it tt some.0) ∙ some.1)

@@ -5,18 +5,23 @@ use Rattle.std.proofs.lemmas.Option.{slice_get_within}
 use Rattle.std.specs.BTreeMap.{BTreeMap, get}
 use Rattle.std.specs.List.{slice_get}
 use Rattle.std.specs.Ordering.{nat_cmp}
-use Rattle.causal_context.specs.Context.{IsGreatest, HasNone, has}
+use Rattle.causal_context.specs.Context.{IsGreatest, has}
+use Rattle.delta_ops.specs.Group.{group_state}
+use Rattle.dots.specs.Dot.{same_dot}
+use Rattle.dots.specs.declared.dot.Dot.{Dot}
+use Rattle.std.specs.List.{IsDistinct}
+use Rattle.trace_cli.specs.Replaces.{Sends, HasNothingToSend}
 use Rattle.delta_ops.specs.Pair.{PairValue, pair_state}
 use Rattle.delta_ops.proofs.Puts.{next_is}
-use Rattle.op_model.specs.Made.{IsPutAt, dot_at}
-use Rattle.op_model.specs.Meaning.{Stands}
+use Rattle.op_model.specs.Made.{IsPutAt, IsRemoveAt, IsClearAt, dot_at, removed_at, cleared_at}
+use Rattle.op_model.specs.Meaning.{Stands, HoldsKey, state}
 use Rattle.op_model.specs.Operation.{Operation, Write}
-use Rattle.op_model.specs.Shown.{IsAscending, values}
+use Rattle.op_model.specs.Shown.{IsAscending, values, keys}
 use Rattle.op_model.specs.World.{Event, after, is_node, is_message}
 use Rattle.op_model.proofs.Events.{group_empty}
 use Rattle.op_model.proofs.Fresh.{seen-NoReuse}
-use Rattle.op_model.proofs.Making.{put_dot}
-use Rattle.op_model.proofs.Showing.{values_standing}
+use Rattle.op_model.proofs.Making.{put_dot, remove_count, clear_count}
+use Rattle.op_model.proofs.Showing.{values_standing, keys_standing}
 use Rattle.trace_cli.specs.Keeps.{Keeps}
 use Rattle.trace_cli.specs.Outcome.{sent_number}
 use Rattle.trace_cli.specs.declared.replica.Replica.{Replica}
@@ -72,13 +77,35 @@ module _ {A : Type 0} (replicas : BTreeMap ℕ (Replica A)) (messages : List Pai
   sent_next group [] some = absurd (some refl)
   sent_next group (o ∷ S) some = let count = keeps.count in ap Some (length-append messages (group ∷ []) ∙ ap (λ n. n + 1) count)
 
-  pub outgoing_some : (name : ℕ) (replica : Replica A) → get nat_cmp replicas name ≡ Some replica → ¬ HasNone replica.group.1 → (after past).outgoing name ≢ []
-  outgoing_some name replica found some none =
-      some ((group_empty past name (pair_state replica.live) (pair_state replica.group) (means_at replicas messages past name replica keeps found)).1 none)
+  pub outgoing_some : (name : ℕ) (before now : Replica A) (pair : PairValue) → get nat_cmp replicas name ≡ Some before → Sends before now pair → (after past).outgoing name ≢ []
+  outgoing_some name before now pair found sends none =
+      let means = means_at replicas messages past name before keeps found in
+      sends.some (λ dot. sends.means.has dot ∙ (means.outgoing.has dot ∙ ap (λ S. (state S).has dot) none))
 
-  pub outgoing_none : (name : ℕ) (replica : Replica A) → get nat_cmp replicas name ≡ Some replica → HasNone replica.group.1 → (after past).outgoing name ≡ []
+  pub outgoing_none : (name : ℕ) (replica : Replica A) → get nat_cmp replicas name ≡ Some replica → HasNothingToSend replica → (after past).outgoing name ≡ []
   outgoing_none name replica found unknown =
-      (group_empty past name (pair_state replica.live) (pair_state replica.group) (means_at replicas messages past name replica keeps found)).0 unknown
+      (group_empty past name (pair_state replica.live) (group_state replica.group) (means_at replicas messages past name replica keeps found)).0 unknown
+
+  -- the counts of a remove and a clear
+  pub removed_of_key : (name : ℕ) (key : List ℕ) (replica : Replica A) (over : List Dot) (number : ℕ) → Some replica ≡ get nat_cmp replicas name → IsRemoveAt (pair_state replica.live) key over
+      → IsDistinct same_dot over → number ≡ length over → number ≡ removed_at ((after past).seen name) key
+  removed_of_key name key replica over number found made apart is =
+      let means = means_at replicas messages past name replica keeps (sym found) in
+      remove_count ((after past).seen name) (pair_state replica.live) means.seen key number
+      (record { dots = over; apart = apart; just = λ dot. (λ h. sym (made dot) ∙ h, λ h. made dot ∙ h); number = is })
+
+  pub cleared_of_all : (name : ℕ) (replica : Replica A) (over : List Dot) (number : ℕ) → Some replica ≡ get nat_cmp replicas name → IsClearAt (pair_state replica.live) over
+      → IsDistinct same_dot over → number ≡ length over → number ≡ cleared_at ((after past).seen name)
+  cleared_of_all name replica over number found made apart is =
+      let means = means_at replicas messages past name replica keeps (sym found) in
+      clear_count ((after past).seen name) (pair_state replica.live) means.seen number (record { dots = over; apart = apart; just = made; number = is })
+
+  -- the keys
+  pub keys_of_all : (name : ℕ) (replica : Replica A) (found : List (List ℕ)) → Some replica ≡ get nat_cmp replicas name → IsAscending found
+      → ((key : List ℕ) → Contains found key ↔ HoldsKey (pair_state replica.live) key) → found ≡ keys ((after past).seen name)
+  keys_of_all name replica found is ascending standing =
+      let means = means_at replicas messages past name replica keeps (sym is) in
+      keys_standing ((after past).seen name) (pair_state replica.live) found means.seen ascending standing
 
 -- the value of an option that is there
 pub value_of : {X : Type 0} (P : X → Type 0) (o : Option X) → true ≡ is_some o → IfSome o P → (x : X) × (o ≡ Some x) × P x

@@ -10,6 +10,10 @@ pub data CommandValue : Type 0 where
   Get : ℕ → List ℕ → CommandValue
   Flush : ℕ → CommandValue
   Deliver : ℕ → ℕ → CommandValue
+  Remove : ℕ → List ℕ → CommandValue
+  Clear : ℕ → CommandValue
+  Show : ℕ → CommandValue
+  Size : ℕ → CommandValue
 
 -- the command that takes one number, where the word is one
 abbrev pub with_number : (ℕ → CommandValue) → Option ℕ → Option CommandValue
@@ -39,12 +43,16 @@ with_texts command None first second = None
 abbrev pub one_word_command : List ℕ → List ℕ → Option CommandValue
 one_word_command verb first =
     cond (bytes_eq verb (codes "node")) (with_number Node (number_of first))
-    (cond (bytes_eq verb (codes "flush")) (with_number Flush (number_of first)) None)
+    (cond (bytes_eq verb (codes "flush")) (with_number Flush (number_of first))
+    (cond (bytes_eq verb (codes "clear")) (with_number Clear (number_of first))
+    (cond (bytes_eq verb (codes "show")) (with_number Show (number_of first))
+    (cond (bytes_eq verb (codes "size")) (with_number Size (number_of first)) None))))
 
 abbrev pub two_word_command : List ℕ → List ℕ → List ℕ → Option CommandValue
 two_word_command verb first second =
     cond (bytes_eq verb (codes "get")) (with_text Get (number_of first) (text_of second))
-    (cond (bytes_eq verb (codes "deliver")) (with_numbers Deliver (number_of first) (number_of second)) None)
+    (cond (bytes_eq verb (codes "remove")) (with_text Remove (number_of first) (text_of second))
+    (cond (bytes_eq verb (codes "deliver")) (with_numbers Deliver (number_of first) (number_of second)) None))
 
 abbrev pub three_word_command : List ℕ → List ℕ → List ℕ → List ℕ → Option CommandValue
 three_word_command verb first second third =

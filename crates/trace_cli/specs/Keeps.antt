@@ -3,6 +3,7 @@ use Rattle.std.specs.Prelude.{◌≡◌, ℕ, ◌+◌, false, List, length, Opti
 use Rattle.std.specs.BTreeMap.{BTreeMap, get}
 use Rattle.std.specs.List.{slice_get}
 use Rattle.std.specs.Ordering.{nat_cmp}
+use Rattle.delta_ops.specs.Group.{group_state}
 use Rattle.delta_ops.specs.Pair.{PairValue, pair_state}
 use Rattle.op_model.specs.Meaning.{state}
 use Rattle.op_model.specs.State.{State, Same}
@@ -18,6 +19,8 @@ event_value (event.Node name) = world.Node name
 event_value (event.Put name key value) = world.Put name key value
 event_value (event.Flush name) = world.Flush name
 event_value (event.Deliver number name) = world.Deliver number name
+event_value (event.Remove name key) = world.Remove name key
+event_value (event.Clear name) = world.Clear name
 
 -- the state in which nothing stands and nothing is known
 abbrev pub bottom : State (List ℕ) (List ℕ)
@@ -30,7 +33,7 @@ live_of (Some replica) = pair_state replica.live
 
 abbrev pub group_of : {A : Type 0} → Option (Replica A) → State (List ℕ) (List ℕ)
 group_of None = bottom
-group_of (Some replica) = pair_state replica.group
+group_of (Some replica) = group_state replica.group
 
 -- the replicas and the messages are those of the world after these events
 pub record Keeps {A : Type 0} (replicas : BTreeMap ℕ (Replica A)) (messages : List PairValue) (past : List Event) : Type 0 where

@@ -10,11 +10,11 @@ use Rattle.dots.specs.declared.dot.Dot.{Dot}
 use Rattle.dots.specs.declared.refusal.Refusal.{Refusal}
 use Rattle.dots.specs.declared.refusal.Refusal.TheVariants.{TooLong, NumbersSpent, NameTaken, UnknownReplica, UnknownMessage}
 use Rattle.op_model.specs.Operation.{Operation}
-use Rattle.op_model.specs.Shown.{values}
-use Rattle.op_model.specs.Made.{dot_at}
+use Rattle.op_model.specs.Shown.{values, keys, size}
+use Rattle.op_model.specs.Made.{dot_at, removed_at, cleared_at}
 use Rattle.op_model.specs.World.{World, Event, is_node, is_message}
 use Rattle.op_model.specs.World as world
-use Rattle.trace_cli.specs.Command.{CommandValue, Node, Put, Get, Flush, Deliver}
+use Rattle.trace_cli.specs.Command.{CommandValue, Node, Put, Get, Flush, Deliver, Remove, Clear, Show, Size}
 use Rattle.trace_cli.specs.Word.{shown_as}
 
 -- a command is refused and changes nothing, or is done: its text, and the event that it was, if it was one
@@ -37,6 +37,22 @@ put_text dot = codes "ok " ++ (decimal dot.name ++ (codes ":" ++ decimal dot.num
 -- "=", then a space and the value for each value
 abbrev pub values_text : List (List ℕ) → List ℕ
 values_text found = codes "=" ++ flat_map (λ value. 32 ∷ shown_as value) found
+
+-- "ok <number>", of the writes that a remove or a clear observed
+abbrev pub erased_text : ℕ → List ℕ
+erased_text number = codes "ok " ++ decimal number
+
+-- "size <number>", of the keys
+abbrev pub size_text : ℕ → List ℕ
+size_text number = codes "size " ++ decimal number
+
+-- a space and the key, a space and the number of its values, then a space and the value for each value
+abbrev pub entry_text : List ℕ → List (List ℕ) → List ℕ
+entry_text key found = 32 ∷ (shown_as key ++ (32 ∷ (decimal (length found) ++ flat_map (λ value. 32 ∷ shown_as value) found)))
+
+-- "map <number of keys>", then each key with its values
+abbrev pub map_text : List Operation → List ℕ
+map_text S = (codes "map " ++ decimal (size S)) ++ flat_map (λ key. entry_text key (values S key)) (keys S)
 
 -- the number of the message that a flush makes, if there is anything to send
 abbrev pub sent_number : List Operation → ℕ → Option ℕ
@@ -73,6 +89,23 @@ abbrev pub deliver_outcome : World → ℕ → ℕ → Outcome
 deliver_outcome w number name =
     at_replica w name (cond (is_message w number) (Done (codes "joined") (world.Deliver number name ∷ [])) (Refused UnknownMessage))
 
+-- a remove of what a key shows
+abbrev pub remove_outcome : World → ℕ → List ℕ → Outcome
+remove_outcome w name key =
+    at_replica w name (with_bytes key (Done (erased_text (removed_at (w.seen name) key)) (world.Remove name key ∷ [])))
+
+-- a remove of all that is shown
+abbrev pub clear_outcome : World → ℕ → Outcome
+clear_outcome w name = at_replica w name (Done (erased_text (cleared_at (w.seen name))) (world.Clear name ∷ []))
+
+-- all keys that show a value, with what they show
+abbrev pub show_outcome : World → ℕ → Outcome
+show_outcome w name = at_replica w name (Done (map_text (w.seen name)) [])
+
+-- the number of keys that show a value
+abbrev pub size_outcome : World → ℕ → Outcome
+size_outcome w name = at_replica w name (Done (size_text (size (w.seen name))) [])
+
 -- what a command comes to in this world
 abbrev pub outcome_of : World → CommandValue → Outcome
 outcome_of w (Node name) = node_outcome w name
@@ -80,3 +113,7 @@ outcome_of w (Put name key value) = put_outcome w name key value
 outcome_of w (Get name key) = get_outcome w name key
 outcome_of w (Flush name) = flush_outcome w name
 outcome_of w (Deliver number name) = deliver_outcome w number name
+outcome_of w (Remove name key) = remove_outcome w name key
+outcome_of w (Clear name) = clear_outcome w name
+outcome_of w (Show name) = show_outcome w name
+outcome_of w (Size name) = size_outcome w name

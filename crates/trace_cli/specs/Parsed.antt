@@ -1,5 +1,5 @@
 -- What a command that was parsed says.
-use Rattle.trace_cli.specs.Command.{CommandValue, Node, Put, Get, Flush, Deliver}
+use Rattle.trace_cli.specs.Command.{CommandValue, Node, Put, Get, Flush, Deliver, Remove, Clear, Show, Size}
 use Rattle.trace_cli.specs.declared.command.Command.{Command}
 use Rattle.trace_cli.specs.declared.command.Command.TheVariants as command
 
@@ -9,3 +9,7 @@ command_value (command.Put name key value) = Put name key.items value.items
 command_value (command.Get name key) = Get name key.items
 command_value (command.Flush name) = Flush name
 command_value (command.Deliver message name) = Deliver message name
+command_value (command.Remove name key) = Remove name key.items
+command_value (command.Clear name) = Clear name
+command_value (command.Show name) = Show name
+command_value (command.Size name) = Size name

@@ -1,7 +1,13 @@
 -- How one replica of a world changes. Of this project.
-use Rattle.std.specs.Prelude.{◌≡◌, ◌≢◌, ℕ, Some}
+use Rattle.std.specs.Prelude.{◌≡◌, ◌≢◌, ℕ, false, List, [], Option, Some, None}
 use Rattle.std.specs.BTreeMap.{BTreeMap, get}
 use Rattle.std.specs.Ordering.{nat_cmp}
+use Rattle.causal_context.specs.Context.{HasNone}
+use Rattle.dots.specs.Dot.{DotValue}
+use Rattle.delta_ops.specs.Group.{group_state}
+use Rattle.delta_ops.specs.Pair.{PairValue, pair_state}
+use Rattle.op_model.specs.Meaning.{greater}
+use Rattle.op_model.specs.State.{State, Same, join}
 use Rattle.trace_cli.specs.declared.replica.Replica.{Replica}
 
 -- the replica of this name, which was `before`, is `after`, and each other is as it was
@@ -10,6 +16,34 @@ pub record Replaces {A : Type 0} (old new : BTreeMap ℕ (Replica A)) (name : �
   pub becomes : get nat_cmp new name ≡ Some after
   pub others : (other : ℕ) → other ≢ name → get nat_cmp new other ≡ get nat_cmp old other
 
--- each replica is as it was
+-- the replica took this in, into what it holds and into what it is to send
+pub record Takes {A : Type 0} (before after : Replica A) (delta : State (List ℕ) (List ℕ)) : Type 0 where
+  pub live : Same (pair_state after.live) (join greater (pair_state before.live) delta)
+  pub group : Same (group_state after.group) (join greater (group_state before.group) delta)
+
+-- the replica sent this pair, which means what it had to send, and has nothing more to send
+pub record Sends {A : Type 0} (before after : Replica A) (sent : PairValue) : Type 0 where
+  pub live : after.live ≡ before.live
+  pub means : Same (pair_state sent) (group_state before.group)
+  pub some : ¬ HasNone sent.1
+  pub empty : after.group ≡ []
+
+-- the replica has nothing to send: its group knows no dot
+abbrev pub HasNothingToSend : {A : Type 0} → Replica A → Type 0
+HasNothingToSend replica = (dot : DotValue) → (group_state replica.group).has dot ≡ false
+
+-- the replica holds what it held, and what it is to send means the same
+pub record IsAlike {A : Type 0} (before after : Replica A) : Type 0 where
+  pub live : after.live ≡ before.live
+  pub group : Same (group_state after.group) (group_state before.group)
+
+-- either is missing, or both are there and alike
+abbrev pub AreAlike : {A : Type 0} → Option (Replica A) → Option (Replica A) → Type 0
+AreAlike None None = Unit {0}
+AreAlike None (Some after) = ⊥
+AreAlike (Some before) None = ⊥
+AreAlike (Some before) (Some after) = IsAlike before after
+
+-- each replica is there as it was
 abbrev pub SameReplicas : {A : Type 0} → BTreeMap ℕ (Replica A) → BTreeMap ℕ (Replica A) → Type 0
-SameReplicas old new = (name : ℕ) → get nat_cmp new name ≡ get nat_cmp old name
+SameReplicas old new = (name : ℕ) → AreAlike (get nat_cmp old name) (get nat_cmp new name)

@@ -1,15 +1,17 @@
-ghost use Rattle.std.specs.Prelude.{◌≡◌, ◌++◌, IfOk, IsOkUnless, string_bytes, map, true};
+ghost use Rattle.std.specs.Prelude.{◌≡◌, ◌++◌, ◌∷◌, IfOk, OnOk, IsOkUnless, string_bytes, map, true, length, codes};
 ghost use Rattle.std.specs.List.{flat_map};
+ghost use Rattle.std.specs.Fmt.{decimal};
 ghost use Rattle.dots.specs.Refusal.{word_of};
+ghost use Rattle.trace_cli.specs.Word.{shown_as};
 ghost use Rattle.trace_cli.specs.Does.{Does};
 ghost use Rattle.trace_cli.specs.Fault.{is_fault};
 ghost use Rattle.trace_cli.specs.Machine.{Past, answer_by, events_by};
-ghost use Rattle.trace_cli.specs.Outcome.{Outcome, Refused, put_text, values_text, sent_text};
+ghost use Rattle.trace_cli.specs.Outcome.{Outcome, Refused, put_text, values_text, sent_text, erased_text, size_text, entry_text};
 ghost use Rattle.trace_cli.specs.Reply.{answer_of, TellsFaults};
 
 use crate::reply::Reply;
 use crate::word::push_text;
-use dots::{Refusal, Value};
+use dots::{Key, Refusal, Value};
 use std::alloc::Allocator;
 
 /// Whether a refusal is a fault, which ends a trace with a line that tells it.
@@ -43,11 +45,70 @@ pub(crate) fn get_answer<A: Allocator + Copy>(
     ensures err { IsOkUnless result Refusal.OutOfMemory }
 {
     let mut text = Vec::from_slice(alloc, b"=")?;
-    for value in found {
-        text.push(b' ')?;
-        push_text(alloc, &mut text, value.bytes())?;
-    }
+    push_values(alloc, &mut text, found)?;
     Ok(text)
+}
+
+/// The answer to a remove or a clear: `ok <number of the writes observed>`.
+pub(crate) fn erased_answer<A: Allocator + Copy>(
+    alloc: A,
+    number: u64,
+) -> Result<String<A>, Refusal>
+    ensures ok { IfOk result (λ text. string_bytes text ≡ erased_text number) }
+    ensures err { IsOkUnless result Refusal.OutOfMemory }
+{
+    Ok(format!(in alloc; "ok {number}")?)
+}
+
+/// The answer to a look at the number of keys: `size <number>`.
+pub(crate) fn size_answer<A: Allocator + Copy>(alloc: A, number: u64) -> Result<String<A>, Refusal>
+    ensures ok { IfOk result (λ text. string_bytes text ≡ size_text number) }
+    ensures err { IsOkUnless result Refusal.OutOfMemory }
+{
+    Ok(format!(in alloc; "size {number}")?)
+}
+
+/// The beginning of the answer to a look at all keys: `map <number of keys>`.
+pub(crate) fn map_answer<A: Allocator + Copy>(alloc: A, number: u64) -> Result<String<A>, Refusal>
+    ensures ok { IfOk result (λ text. string_bytes text ≡ codes "map " ++ decimal number) }
+    ensures err { IsOkUnless result Refusal.OutOfMemory }
+{
+    Ok(format!(in alloc; "map {number}")?)
+}
+
+/// Appends a key with the number of its values and the values. A refusal may leave a part of it there.
+pub(crate) fn push_entry<A: Allocator + Copy>(
+    alloc: A,
+    out: &mut Vec<u8, A>,
+    key: &Key<A>,
+    found: &[Value<A>],
+) -> Result<(), Refusal>
+    ensures ok { OnOk result (out.new.items ≡ out.old.items ++ entry_text key.now found.now) }
+    ensures err { IsOkUnless result Refusal.OutOfMemory }
+{
+    let number = found.len() as u64;
+    let digits: String<A> = format!(in alloc; "{number}")?;
+    out.push(b' ')?;
+    push_text(alloc, out, key.bytes())?;
+    out.push(b' ')?;
+    out.extend_from_slice(digits.as_bytes())?;
+    push_values(alloc, out, found)
+}
+
+/// Appends a space and the value for each value. A refusal may leave a part of it there.
+fn push_values<A: Allocator + Copy>(
+    alloc: A,
+    out: &mut Vec<u8, A>,
+    found: &[Value<A>],
+) -> Result<(), Refusal>
+    ensures ok { OnOk result (out.new.items ≡ out.old.items ++ flat_map (λ value. 32 ∷ shown_as value) found.now) }
+    ensures err { IsOkUnless result Refusal.OutOfMemory }
+{
+    for value in found {
+        out.push(b' ')?;
+        push_text(alloc, out, value.bytes())?;
+    }
+    Ok(())
 }
 
 /// The answer to a flush: `sent <number>:delta`, or `empty`.

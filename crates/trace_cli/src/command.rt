@@ -1,6 +1,6 @@
 ghost use Rattle.std.specs.Prelude.{◌≡◌, IfOk, IsOkUnless};
 ghost use Rattle.std.specs.Option.{option_map};
-ghost use Rattle.trace_cli.specs.Command.{command_of, one_word_command, two_word_command, three_word_command, with_text, with_texts, with_numbers, Get, Put, Deliver};
+ghost use Rattle.trace_cli.specs.Command.{command_of, one_word_command, two_word_command, three_word_command, with_text, with_texts, with_numbers, Get, Put, Deliver, Remove};
 ghost use Rattle.trace_cli.specs.Parsed.{command_value};
 
 use crate::word::{name, number, text, words};
@@ -30,6 +30,17 @@ pub(crate) enum Command<A: Allocator = Global> {
         message: u64,
         name: Name,
     },
+    /// What a key shows, removed.
+    Remove {
+        name: Name,
+        key: Vec<u8, A>,
+    },
+    /// All that is shown, removed.
+    Clear(Name),
+    /// All keys with their values.
+    Show(Name),
+    /// The number of keys.
+    Size(Name),
 }
 
 /// The command that a line is, or None where it is none.
@@ -58,6 +69,15 @@ fn with_one_word<A: Allocator + Copy>(verb: &[u8], first: &[u8]) -> Option<Comma
     if verb == b"flush".as_slice() {
         return Some(Command::Flush(name(first)?));
     }
+    if verb == b"clear".as_slice() {
+        return Some(Command::Clear(name(first)?));
+    }
+    if verb == b"show".as_slice() {
+        return Some(Command::Show(name(first)?));
+    }
+    if verb == b"size".as_slice() {
+        return Some(Command::Size(name(first)?));
+    }
     None
 }
 
@@ -72,6 +92,9 @@ fn with_two_words<A: Allocator + Copy>(
 {
     if verb == b"get".as_slice() {
         return Ok(get(name(first), text(alloc, second)?));
+    }
+    if verb == b"remove".as_slice() {
+        return Ok(remove(name(first), text(alloc, second)?));
     }
     if verb == b"deliver".as_slice() {
         return Ok(deliver(number(first), name(second)));
@@ -99,6 +122,15 @@ fn get<A: Allocator>(name: Option<Name>, key: Option<Vec<u8, A>>) -> Option<Comm
     ensures { option_map command_value result ≡ with_text Get name (option_map (λ bytes. bytes.items) key) }
 {
     Some(Command::Get {
+        name: name?,
+        key: key?,
+    })
+}
+
+fn remove<A: Allocator>(name: Option<Name>, key: Option<Vec<u8, A>>) -> Option<Command<A>>
+    ensures { option_map command_value result ≡ with_text Remove name (option_map (λ bytes. bytes.items) key) }
+{
+    Some(Command::Remove {
         name: name?,
         key: key?,
     })

@@ -19,4 +19,11 @@ pub(crate) enum Event<A: Allocator + Copy = Global> {
         message: u64,
         name: Name,
     },
+    /// What a key showed, removed.
+    Remove {
+        name: Name,
+        key: Key<A>,
+    },
+    /// All that was shown, removed.
+    Clear(Name),
 }

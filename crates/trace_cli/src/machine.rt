@@ -1,13 +1,14 @@
 ghost use Rattle.std.specs.Prelude.{◌≡◌, ◌⊎◌, ◌≤◌, ◌<◌, ◌++◌, ◌∷◌, [], Some, None, IfOk, IfErr, OnOk, IsOkUnless, true, map, string_bytes, MatchResult};
 ghost use Rattle.std.specs.List.{flat_map};
 ghost use Rattle.dots.specs.Refusal.{word_of};
-ghost use Rattle.op_model.specs.World.{after};
+ghost use Rattle.op_model.specs.Shown.{values};
+ghost use Rattle.op_model.specs.World.{after, is_node};
 ghost use Rattle.trace_cli.specs.Command.{command_of};
 ghost use Rattle.trace_cli.specs.Machine.{start, answer_to, past_after, answer_by, line_outcome, Told};
-ghost use Rattle.trace_cli.specs.Outcome.{Done, Refused, outcome_of, put_text, values_text, node_outcome, put_outcome, get_outcome, flush_outcome, deliver_outcome};
+ghost use Rattle.trace_cli.specs.Outcome.{Done, Refused, outcome_of, put_text, values_text, node_outcome, put_outcome, get_outcome, flush_outcome, deliver_outcome, remove_outcome, clear_outcome, show_outcome, size_outcome, entry_text};
 ghost use Rattle.trace_cli.specs.Word.{shown_as};
 
-use crate::answer::{flush_answer, get_answer, put_answer, reply};
+use crate::answer::{erased_answer, flush_answer, get_answer, map_answer, push_entry, put_answer, reply, size_answer};
 use crate::command::{Command, parse};
 use crate::reply::Reply;
 use crate::world::World;
@@ -80,6 +81,10 @@ impl<A: Allocator + Copy> Machine<A> {
             Command::Get { name, key } => self.get(name, key.as_slice()),
             Command::Flush(name) => self.flush(name),
             Command::Deliver { message, name } => self.deliver(message, name),
+            Command::Remove { name, key } => self.remove(name, key.as_slice()),
+            Command::Clear(name) => self.clear(name),
+            Command::Show(name) => self.show(name),
+            Command::Size(name) => self.size(name),
         }
     }
 
@@ -127,5 +132,63 @@ impl<A: Allocator + Copy> Machine<A> {
     {
         self.world.deliver(message, name)?;
         Ok(Vec::from_slice(self.alloc, b"joined")?)
+    }
+
+    fn remove(&mut self, name: Name, key: &[u8]) -> Result<Vec<u8, A>, Refusal>
+        ensures { Does (remove_outcome (after self.old) name key.now) self.old self.new result }
+    {
+        if !self.world.has_replica(name) {
+            return Err(Refusal::UnknownReplica);
+        }
+        let key = Key::new(self.alloc, key)?;
+        let number = self.world.remove(name, key)?;
+        Ok(erased_answer(self.alloc, number)?.into_bytes())
+    }
+
+    fn clear(&mut self, name: Name) -> Result<Vec<u8, A>, Refusal>
+        ensures { Does (clear_outcome (after self.old) name) self.old self.new result }
+    {
+        let number = self.world.clear(name)?;
+        Ok(erased_answer(self.alloc, number)?.into_bytes())
+    }
+
+    fn show(&self, name: Name) -> Result<Vec<u8, A>, Refusal>
+        ensures { Does (show_outcome (after self.now) name) self.now self.now result }
+    {
+        let keys = self.world.keys(name)?;
+        let mut text = map_answer(self.alloc, keys.len() as u64)?.into_bytes();
+        self.push_keys(&mut text, name, keys.as_slice())?;
+        Ok(text)
+    }
+
+    fn size(&self, name: Name) -> Result<Vec<u8, A>, Refusal>
+        ensures { Does (size_outcome (after self.now) name) self.now self.now result }
+    {
+        let keys = self.world.keys(name)?;
+        Ok(size_answer(self.alloc, keys.len() as u64)?.into_bytes())
+    }
+
+    /// Appends each key with its values at a replica that is there. A refusal may leave a part of it there.
+    fn push_keys(&self, out: &mut Vec<u8, A>, name: Name, keys: &[Key<A>]) -> Result<(), Refusal>
+        requires { is_node (after self.now) name ≡ true }
+        ensures ok { OnOk result (out.new.items ≡ out.old.items ++
+            flat_map (λ key. entry_text key (values ((after self.now).seen name) key)) keys.now) }
+        ensures err { IsOkUnless result Refusal.OutOfMemory }
+    {
+        for key in keys {
+            self.push_key(out, name, key)?;
+        }
+        Ok(())
+    }
+
+    /// Appends the key with its values at a replica that is there. A refusal may leave a part of it there.
+    fn push_key(&self, out: &mut Vec<u8, A>, name: Name, key: &Key<A>) -> Result<(), Refusal>
+        requires { is_node (after self.now) name ≡ true }
+        ensures ok { OnOk result (out.new.items ≡ out.old.items ++
+            entry_text key.now (values ((after self.now).seen name) key.now)) }
+        ensures err { IsOkUnless result Refusal.OutOfMemory }
+    {
+        let found = self.world.get(name, key)?;
+        push_entry(self.alloc, out, key, found.as_slice())
     }
 }

@@ -6,19 +6,17 @@ ghost use Rattle.std.specs.Ordering.{nat_cmp};
 ghost use Rattle.causal_context.specs.Context.{has, HasNone, IsGreatest};
 ghost use Rattle.delta_ops.specs.Pair.{pair_state};
 ghost use Rattle.dots.specs.Dot.{DotValue};
-ghost use Rattle.op_model.specs.Made.{IsPutAt};
 ghost use Rattle.op_model.specs.Meaning.{greater, state};
-ghost use Rattle.op_model.specs.Operation.{Write, Wrote};
 ghost use Rattle.op_model.specs.State.{Same, join};
-ghost use Rattle.trace_cli.specs.Replaces.{Replaces, SameReplicas};
-ghost use Rattle.op_model.specs.World.{Node, Put, Flush, Deliver, after, is_node, is_message};
-ghost use Rattle.op_model.specs.Made.{dot_at};
-ghost use Rattle.op_model.specs.Shown.{values};
+ghost use Rattle.trace_cli.specs.Replaces.{Replaces, SameReplicas, Takes, Sends, HasNothingToSend};
+ghost use Rattle.op_model.specs.World.{Node, Put, Flush, Deliver, Remove, Clear, after, is_node, is_message};
+ghost use Rattle.op_model.specs.Made.{dot_at, removed_at, cleared_at};
+ghost use Rattle.op_model.specs.Shown.{values, keys};
 ghost use Rattle.trace_cli.specs.Outcome.{sent_number};
 
 use crate::event::Event;
 use crate::replica::Replica;
-use delta_ops::Pair;
+use delta_ops::{Pair, clear, put, remove};
 use dots::{Dot, Key, Name, Refusal, Value};
 use std::alloc::{Allocator, Global};
 use std::collections::BTreeMap;
@@ -99,10 +97,51 @@ impl<A: Allocator + Copy> World<A> {
         if replica.live.context().next(name).is_none() {
             return Err(Refusal::NumbersSpent);
         }
+        let (delta, dot) = put(self.alloc, name, &replica.live, &key, &value)?;
         self.past.reserve(1)?;
-        let dot = put_at(&mut self.replicas, self.alloc, name, &key, &value)?;
+        make_at(&mut self.replicas, self.alloc, name, delta)?;
         self.past.push(Event::Put { name, key, value }).unwrap();
         Ok(dot)
+    }
+
+    /// A remove at a replica, and how many writes it observed. UnknownReplica exactly where no replica has the name;
+    /// a refused call changes nothing.
+    pub fn remove(&mut self, name: Name, key: Key<A>) -> Result<u64, Refusal>
+        ensures ok { IfOk result (λ number. (is_node (after self.old) name ≡ true) ×
+            (number ≡ removed_at ((after self.old).seen name) key) ×
+            (self.new ≡ self.old ++ Remove name key ∷ [])) }
+        ensures refused { IfErr result (λ refusal. (refusal ≡ Refusal.OutOfMemory) ⊎
+            ((refusal ≡ Refusal.UnknownReplica) × (is_node (after self.old) name ≡ false))) }
+        ensures err { OnErr result (self.new ≡ self.old) }
+    {
+        let Some(replica) = self.replicas.get(&name) else {
+            return Err(Refusal::UnknownReplica);
+        };
+        let (delta, number) = remove(self.alloc, &replica.live, &key)?;
+        self.past.reserve(1)?;
+        make_at(&mut self.replicas, self.alloc, name, delta)?;
+        self.past.push(Event::Remove { name, key }).unwrap();
+        Ok(number)
+    }
+
+    /// A clear at a replica, and how many writes it observed. UnknownReplica exactly where no replica has the name;
+    /// a refused call changes nothing.
+    pub fn clear(&mut self, name: Name) -> Result<u64, Refusal>
+        ensures ok { IfOk result (λ number. (is_node (after self.old) name ≡ true) ×
+            (number ≡ cleared_at ((after self.old).seen name)) ×
+            (self.new ≡ self.old ++ Clear name ∷ [])) }
+        ensures refused { IfErr result (λ refusal. (refusal ≡ Refusal.OutOfMemory) ⊎
+            ((refusal ≡ Refusal.UnknownReplica) × (is_node (after self.old) name ≡ false))) }
+        ensures err { OnErr result (self.new ≡ self.old) }
+    {
+        let Some(replica) = self.replicas.get(&name) else {
+            return Err(Refusal::UnknownReplica);
+        };
+        let (delta, number) = clear(self.alloc, &replica.live)?;
+        self.past.reserve(1)?;
+        make_at(&mut self.replicas, self.alloc, name, delta)?;
+        self.past.push(Event::Clear(name)).unwrap();
+        Ok(number)
     }
 
     /// The distinct values of a key at a replica, ascending by bytes. UnknownReplica exactly where no replica has
@@ -115,6 +154,20 @@ impl<A: Allocator + Copy> World<A> {
     {
         match self.replicas.get(&name) {
             Some(replica) => replica.values(self.alloc, key),
+            None => Err(Refusal::UnknownReplica),
+        }
+    }
+
+    /// The keys that show a value at a replica, ascending by bytes. UnknownReplica exactly where no replica has the
+    /// name.
+    pub fn keys(&self, name: Name) -> Result<Vec<Key<A>, A>, Refusal>
+        ensures ok { IfOk result (λ found. (is_node (after self.now) name ≡ true) ×
+            (found.items ≡ keys ((after self.now).seen name))) }
+        ensures refused { IfErr result (λ refusal. (refusal ≡ Refusal.OutOfMemory) ⊎
+            ((refusal ≡ Refusal.UnknownReplica) × (is_node (after self.now) name ≡ false))) }
+    {
+        match self.replicas.get(&name) {
+            Some(replica) => replica.keys(self.alloc),
             None => Err(Refusal::UnknownReplica),
         }
     }
@@ -134,7 +187,7 @@ impl<A: Allocator + Copy> World<A> {
         }
         self.past.reserve(1)?;
         self.messages.reserve(1)?;
-        let made = flush_at(&mut self.replicas, self.alloc, name);
+        let made = flush_at(&mut self.replicas, self.alloc, name)?;
         self.past.push(Event::Flush(name)).unwrap();
         match made {
             Some(group) => {
@@ -180,41 +233,38 @@ fn message_of<A: Allocator + Copy>(messages: &Vec<Pair<A>, A>, number: u64) -> O
     messages.get(number.checked_sub(1)? as usize)
 }
 
-/// Puts a value at the replica of this name. A refused call changes nothing.
-fn put_at<A: Allocator + Copy>(
+/// Joins the delta of an operation of the replica of this name into it. A refused call changes nothing.
+fn make_at<A: Allocator + Copy>(
     replicas: &mut BTreeMap<Name, Replica<A>, A>,
     alloc: A,
     name: Name,
-    key: &Key<A>,
-    value: &Value<A>,
-) -> Result<Dot, Refusal>
+    delta: Pair<A>,
+) -> Result<(), Refusal>
     requires { IsSome (get nat_cmp replicas.old name) }
-    ensures ok { IfOk result (λ dot. (before : _) × (after : _) × Replaces replicas.old replicas.new name before after ×
-        ((w : Write) × IsPutAt (pair_state before.live) name key.now value.now w × (dot ≡ w.id) ×
-        Same (pair_state after.live) (join greater (pair_state before.live) (state (Wrote w ∷ []))) ×
-        Same (pair_state after.group) (join greater (pair_state before.group) (state (Wrote w ∷ []))))) }
-    ensures refused { IfErr result (λ refusal. (refusal ≡ Refusal.OutOfMemory) ⊎ ((refusal ≡ Refusal.NumbersSpent) ×
-        IfSome (get nat_cmp replicas.old name) (λ replica. IsGreatest name (has replica.live.1) (2 ^ 64 - 1)))) }
+    ensures ok { OnOk result ((before : _) × (after : _) ×
+        Replaces replicas.old replicas.new name before after × Takes before after (pair_state delta)) }
+    ensures refusal { IsOkUnless result Refusal.OutOfMemory }
     ensures err { OnErr result (SameReplicas replicas.old replicas.new) }
 {
     match replicas.get_mut(&name) {
-        Some(replica) => replica.put(alloc, name, key, value),
+        Some(replica) => replica.make(alloc, delta),
         None => unreachable!(),
     }
 }
 
-/// Flushes the replica of this name: what it made since it last sent, if anything. Takes no memory.
+/// Flushes the replica of this name: what it made since it last sent, if anything. A refused call changes nothing.
 fn flush_at<A: Allocator + Copy>(
     replicas: &mut BTreeMap<Name, Replica<A>, A>,
     alloc: A,
     name: Name,
-) -> Option<Pair<A>>
+) -> Result<Option<Pair<A>>, Refusal>
     requires { IsSome (get nat_cmp replicas.old name) }
-    ensures some { IfSome result (λ sent. (before : _) × (after : _) × Replaces replicas.old replicas.new name before after ×
-        (after.live ≡ before.live) × (sent ≡ before.group) × ¬ HasNone before.group.1 ×
-        Same (pair_state after.group) (state [])) }
-    ensures none { IfNone result (SameReplicas replicas.old replicas.new ×
-        IfSome (get nat_cmp replicas.old name) (λ replica. HasNone replica.group.1)) }
+    ensures some { IfOk result (λ made. IfSome made (λ sent. (before : _) × (after : _) ×
+        Replaces replicas.old replicas.new name before after × Sends before after sent)) }
+    ensures none { IfOk result (λ made. IfNone made (SameReplicas replicas.old replicas.new ×
+        IfSome (get nat_cmp replicas.old name) HasNothingToSend)) }
+    ensures refusal { IsOkUnless result Refusal.OutOfMemory }
+    ensures err { OnErr result (SameReplicas replicas.old replicas.new) }
 {
     match replicas.get_mut(&name) {
         Some(replica) => replica.flush(alloc),

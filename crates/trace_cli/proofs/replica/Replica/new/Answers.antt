@@ -3,6 +3,3 @@ use Rattle.trace_cli.proofs.replica.Replica.new.Goals as goal
 
 pub returns-clause-live : goal.returns-clause-live
 returns-clause-live g c = bottom_state c.bottom.result c.bottom.ensures.store c.bottom.ensures.context
-
-pub returns-clause-group : goal.returns-clause-group
-returns-clause-group g c = bottom_state c.bottom-2.result c.bottom-2.ensures.store c.bottom-2.ensures.context
