@@ -21,7 +21,7 @@ use Rattle.op_model.proofs.Fresh.{after-push}
 use Rattle.op_model.proofs.Pairs.{message-kept, message-added, sent-some, means-same}
 use Rattle.op_model.proofs.Events.{after_put_at, after_remove_at, after_clear_at, after_flush, group_empty, after_deliver, means_elsewhere, messages_after, node_there, node_means}
 use Rattle.trace_cli.specs.Keeps.{Keeps, bottom, live_of, group_of}
-use Rattle.trace_cli.specs.Replaces.{Replaces, SameReplicas, Takes, IsAlike, AreAlike, Sends, HasNothingToSend}
+use Rattle.trace_cli.specs.Replaces.{Replaces, SameReplicas, Takes, AreAlike, Sends, HasNothingToSend}
 use Rattle.trace_cli.specs.declared.replica.Replica.{Replica}
 use Rattle.trace_cli.proofs.ReplicaMaps.{at_is, alike_found}
 

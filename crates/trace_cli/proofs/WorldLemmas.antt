@@ -1,7 +1,7 @@
 -- What a world that keeps its events answers: over plain variables.
-use Rattle.std.proofs.Common.{◌≡◌, ◌≢◌, ℕ, ◌+◌, ◌-◌, ◌^◌, ◌<◌, ◌≤◌, nat_lt, Bool, true, false, cond, List, [], ◌∷◌, ◌++◌, length, Contains, ◌↔◌, Option, Some, None, is_some, IfSome, Result, Ok, Err, IfOk, refl, sym, ◌∙◌, ap, arith, length-append}
+use Rattle.std.proofs.Common.{◌≡◌, ◌≢◌, ℕ, ◌+◌, ◌-◌, ◌^◌, ◌<◌, ◌≤◌, nat_lt, Bool, true, false, cond, List, [], ◌∷◌, ◌++◌, length, Contains, ◌↔◌, Option, Some, None, is_some, IfSome, Result, Ok, Err, IfOk, OnErr, ◌⊎◌, inl, inr, get_or, refl, sym, ◌∙◌, ap, arith, length-append}
 use Rattle.std.proofs.lemmas.Bool.Decides.{nat_tests}
-use Rattle.std.proofs.lemmas.Option.{slice_get_within}
+use Rattle.std.proofs.lemmas.Option.{slice_get_within, slice_get_cases}
 use Rattle.std.specs.BTreeMap.{BTreeMap, get}
 use Rattle.std.specs.List.{slice_get}
 use Rattle.std.specs.Ordering.{nat_cmp}
@@ -73,6 +73,22 @@ module _ {A : Type 0} (replicas : BTreeMap ℕ (Replica A)) (messages : List Pai
           let count = keeps.count in
           (one, sym found, grind (arith, nat_tests))
 
+  -- a message that was not found is none
+  pub no_message : (number : ℕ) → None ≡ cond (nat_lt 0 number) (slice_get messages (number - 1)) None → is_message (after past) number ≡ false
+  no_message number is = go (nat_lt 0 number) refl is
+    where
+      go : (b : Bool) → nat_lt 0 number ≡ b → None ≡ cond b (slice_get messages (number - 1)) None → is_message (after past) number ≡ false
+      go false none missing = let count = keeps.count in grind (arith, nat_tests)
+      go true first missing = past_all (slice_get_cases messages (number - 1)).1 first missing
+        where
+          past_all : ((x : PairValue) × (number - 1 < length messages) × (slice_get messages (number - 1) ≡ Some x) × (get_or messages (number - 1) x ≡ x))
+              ⊎ ((length messages ≤ number - 1) × (slice_get messages (number - 1) ≡ None)) → nat_lt 0 number ≡ true → None ≡ slice_get messages (number - 1) → is_message (after past) number ≡ false
+          past_all (inl there) first missing = absurd (let both : None ≡ Some there.0 = missing ∙ there.2 in cc)
+          past_all (inr past_end) first missing =
+              let count = keeps.count in
+              let beyond = past_end.0 in
+              grind (arith, nat_tests)
+
   pub sent_next : (group : PairValue) (S : List Operation) → S ≢ [] → Some (length (messages ++ group ∷ [])) ≡ sent_number S (length (after past).messages + 1)
   sent_next group [] some = absurd (some refl)
   sent_next group (o ∷ S) some = let count = keeps.count in ap Some (length-append messages (group ∷ []) ∙ ap (λ n. n + 1) count)
@@ -106,6 +122,15 @@ module _ {A : Type 0} (replicas : BTreeMap ℕ (Replica A)) (messages : List Pai
   keys_of_all name replica found is ascending standing =
       let means = means_at replicas messages past name replica keeps (sym is) in
       keys_standing ((after past).seen name) (pair_state replica.live) found means.seen ascending standing
+
+-- a replica that was found twice is one
+pub same_replica : {A : Type 0} (replicas : BTreeMap ℕ (Replica A)) (name : ℕ) (found again : Replica A) → Some found ≡ get nat_cmp replicas name → get nat_cmp replicas name ≡ Some again → found ≡ again
+same_replica replicas name found again is was = let both : Some found ≡ Some again = is ∙ was in cc
+
+-- what holds anyway holds where there is an error
+pub on_err_always : {T E P : Type 0} (r : Result T E) → P → OnErr r P
+on_err_always (Ok x) p = tt
+on_err_always (Err e) p = p
 
 -- the value of an option that is there
 pub value_of : {X : Type 0} (P : X → Type 0) (o : Option X) → true ≡ is_some o → IfSome o P → (x : X) × (o ≡ Some x) × P x

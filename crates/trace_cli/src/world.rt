@@ -94,9 +94,6 @@ impl<A: Allocator + Copy> World<A> {
         let Some(replica) = self.replicas.get(&name) else {
             return Err(Refusal::UnknownReplica);
         };
-        if replica.live.context().next(name).is_none() {
-            return Err(Refusal::NumbersSpent);
-        }
         let (delta, dot) = put(self.alloc, name, &replica.live, &key, &value)?;
         self.past.reserve(1)?;
         make_at(&mut self.replicas, self.alloc, name, delta)?;

@@ -1,8 +1,12 @@
-use Rattle.std.proofs.Common.{map, ◌∙◌, sym}
+use Rattle.std.proofs.Common.{map, refl, inr, ◌∙◌, sym}
 use Rattle.trace_cli.specs.Keeps.{event_value}
 use Rattle.trace_cli.proofs.Keeping.{keeps_deliver, keeps_same, past_push}
-use Rattle.trace_cli.proofs.WorldLemmas.{found_message}
+use Rattle.trace_cli.proofs.WorldLemmas.{found_message, no_message}
 use Rattle.trace_cli.proofs.world.World.deliver.Goals as goal
+
+pub returns-in_default-clause-refused : goal.returns-in_default-clause-refused
+returns-in_default-clause-refused g c =
+    rw (← c.self.view_is) (inr (inr (refl, sym (c.if-not-contains_key.ensures ∙ c.self.invariant.there c.args.name), no_message _ _ _ c.self.invariant c.args.number c.in_default.ensures)))
 
 pub invariant_of-self-in_err-deliver_at : goal.invariant_of-self-in_err-deliver_at
 invariant_of-self-in_err-deliver_at g c =
