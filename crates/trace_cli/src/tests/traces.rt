@@ -88,7 +88,7 @@ fn lines_that_are_no_commands_end_the_trace(rt: HostRuntime) {
         "deliver 0 1",
         "deliver 1",
         "deliver 1 1 1",
-        "size 1 1",
+        "sizes 1",
         "\r",
     ] {
         assert_eq!(rt;
