@@ -1,4 +1,4 @@
 pub mod Stores
 pub mod Puts
-mod Erasing
+pub mod Erasing
 mod Groups

@@ -9,3 +9,4 @@ pub mod PairLemmas
 pub mod ReplicaMaps
 pub mod Keeping
 pub mod WorldLemmas
+mod Compressing

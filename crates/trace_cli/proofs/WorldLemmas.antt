@@ -15,7 +15,9 @@ use Rattle.delta_ops.specs.Pair.{PairValue, pair_state}
 use Rattle.delta_ops.proofs.Puts.{next_is}
 use Rattle.op_model.specs.Made.{IsPutAt, IsRemoveAt, IsClearAt, dot_at, removed_at, cleared_at}
 use Rattle.op_model.specs.Meaning.{Stands, HoldsKey, state}
-use Rattle.op_model.specs.Operation.{Operation, Write}
+use Rattle.op_model.specs.Operation.{Operation, Write, known}
+use Rattle.op_model.specs.Operation.{has as is_among}
+use Rattle.dots.specs.Dot.{DotValue}
 use Rattle.op_model.specs.Shown.{IsAscending, values, keys}
 use Rattle.op_model.specs.World.{Event, after, is_node, is_message}
 use Rattle.op_model.proofs.Events.{group_empty}
@@ -115,6 +117,10 @@ module _ {A : Type 0} (replicas : BTreeMap ℕ (Replica A)) (messages : List Pai
   cleared_of_all name replica over number found made apart is =
       let means = means_at replicas messages past name replica keeps (sym found) in
       clear_count ((after past).seen name) (pair_state replica.live) means.seen number (record { dots = over; apart = apart; just = made; number = is })
+
+  -- the known dots
+  pub known_of : (name : ℕ) (replica : Replica A) → Some replica ≡ get nat_cmp replicas name → (d : DotValue) → has replica.live.1 d ≡ is_among (known ((after past).seen name)) d
+  known_of name replica found = let means = means_at replicas messages past name replica keeps (sym found) in means.seen.has
 
   -- the keys
   pub keys_of_all : (name : ℕ) (replica : Replica A) (found : List (List ℕ)) → Some replica ≡ get nat_cmp replicas name → IsAscending found

@@ -14,6 +14,7 @@ pub data CommandValue : Type 0 where
   Clear : ℕ → CommandValue
   Show : ℕ → CommandValue
   Size : ℕ → CommandValue
+  Context : ℕ → CommandValue
 
 -- the command that takes one number, where the word is one
 abbrev pub with_number : (ℕ → CommandValue) → Option ℕ → Option CommandValue
@@ -46,7 +47,8 @@ one_word_command verb first =
     (cond (bytes_eq verb (codes "flush")) (with_number Flush (number_of first))
     (cond (bytes_eq verb (codes "clear")) (with_number Clear (number_of first))
     (cond (bytes_eq verb (codes "show")) (with_number Show (number_of first))
-    (cond (bytes_eq verb (codes "size")) (with_number Size (number_of first)) None))))
+    (cond (bytes_eq verb (codes "size")) (with_number Size (number_of first))
+    (cond (bytes_eq verb (codes "context")) (with_number Context (number_of first)) None)))))
 
 abbrev pub two_word_command : List ℕ → List ℕ → List ℕ → Option CommandValue
 two_word_command verb first second =

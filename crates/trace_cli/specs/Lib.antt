@@ -13,3 +13,4 @@ pub mod Lines
 pub mod Output
 pub mod Streams
 pub mod Session
+pub mod Compressed

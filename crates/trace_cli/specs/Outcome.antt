@@ -9,12 +9,13 @@ use Rattle.dots.specs.Bytes.{MAX_LENGTH}
 use Rattle.dots.specs.declared.dot.Dot.{Dot}
 use Rattle.dots.specs.declared.refusal.Refusal.{Refusal}
 use Rattle.dots.specs.declared.refusal.Refusal.TheVariants.{TooLong, NumbersSpent, NameTaken, UnknownReplica, UnknownMessage}
-use Rattle.op_model.specs.Operation.{Operation}
+use Rattle.op_model.specs.Operation.{Operation, known}
 use Rattle.op_model.specs.Shown.{values, keys, size}
 use Rattle.op_model.specs.Made.{dot_at, removed_at, cleared_at}
 use Rattle.op_model.specs.World.{World, Event, is_node, is_message}
 use Rattle.op_model.specs.World as world
-use Rattle.trace_cli.specs.Command.{CommandValue, Node, Put, Get, Flush, Deliver, Remove, Clear, Show, Size}
+use Rattle.trace_cli.specs.Command.{CommandValue, Node, Put, Get, Flush, Deliver, Remove, Clear, Show, Size, Context}
+use Rattle.trace_cli.specs.Compressed.{vector_of, cloud_of}
 use Rattle.trace_cli.specs.Word.{shown_as}
 
 -- a command is refused and changes nothing, or is done: its text, and the event that it was, if it was one
@@ -53,6 +54,15 @@ entry_text key found = 32 ∷ (shown_as key ++ (32 ∷ (decimal (length found) +
 -- "map <number of keys>", then each key with its values
 abbrev pub map_text : List Operation → List ℕ
 map_text S = (codes "map " ++ decimal (size S)) ++ flat_map (λ key. entry_text key (values S key)) (keys S)
+
+-- "<name>:<number>"
+abbrev pub dot_text : ℕ → ℕ → List ℕ
+dot_text name number = decimal name ++ (codes ":" ++ decimal number)
+
+-- "context", then a space and each entry of the vector, then a space, a plus and each dot of the cloud
+abbrev pub context_text : List (ℕ × ℕ) → List Dot → List ℕ
+context_text vector cloud =
+    (codes "context" ++ flat_map (λ entry. codes " " ++ dot_text entry.0 entry.1) vector) ++ flat_map (λ dot. codes " +" ++ dot_text dot.name dot.number) cloud
 
 -- the number of the message that a flush makes, if there is anything to send
 abbrev pub sent_number : List Operation → ℕ → Option ℕ
@@ -106,6 +116,10 @@ show_outcome w name = at_replica w name (Done (map_text (w.seen name)) [])
 abbrev pub size_outcome : World → ℕ → Outcome
 size_outcome w name = at_replica w name (Done (size_text (size (w.seen name))) [])
 
+-- the known dots
+abbrev pub context_outcome : World → ℕ → Outcome
+context_outcome w name = at_replica w name (Done (context_text (vector_of (known (w.seen name))) (cloud_of (known (w.seen name)))) [])
+
 -- what a command comes to in this world
 abbrev pub outcome_of : World → CommandValue → Outcome
 outcome_of w (Node name) = node_outcome w name
@@ -117,3 +131,4 @@ outcome_of w (Remove name key) = remove_outcome w name key
 outcome_of w (Clear name) = clear_outcome w name
 outcome_of w (Show name) = show_outcome w name
 outcome_of w (Size name) = size_outcome w name
+outcome_of w (Context name) = context_outcome w name

@@ -41,6 +41,8 @@ pub(crate) enum Command<A: Allocator = Global> {
     Show(Name),
     /// The number of keys.
     Size(Name),
+    /// The known dots.
+    Context(Name),
 }
 
 /// The command that a line is, or None where it is none.
@@ -77,6 +79,9 @@ fn with_one_word<A: Allocator + Copy>(verb: &[u8], first: &[u8]) -> Option<Comma
     }
     if verb == b"size".as_slice() {
         return Some(Command::Size(name(first)?));
+    }
+    if verb == b"context".as_slice() {
+        return Some(Command::Context(name(first)?));
     }
     None
 }

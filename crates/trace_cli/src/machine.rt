@@ -5,10 +5,10 @@ ghost use Rattle.op_model.specs.Shown.{values};
 ghost use Rattle.op_model.specs.World.{after, is_node};
 ghost use Rattle.trace_cli.specs.Command.{command_of};
 ghost use Rattle.trace_cli.specs.Machine.{start, answer_to, past_after, answer_by, line_outcome, Told};
-ghost use Rattle.trace_cli.specs.Outcome.{Done, Refused, outcome_of, put_text, values_text, node_outcome, put_outcome, get_outcome, flush_outcome, deliver_outcome, remove_outcome, clear_outcome, show_outcome, size_outcome, entry_text};
+ghost use Rattle.trace_cli.specs.Outcome.{Done, Refused, outcome_of, put_text, values_text, node_outcome, put_outcome, get_outcome, flush_outcome, deliver_outcome, remove_outcome, clear_outcome, show_outcome, size_outcome, context_outcome, entry_text};
 ghost use Rattle.trace_cli.specs.Word.{shown_as};
 
-use crate::answer::{erased_answer, flush_answer, get_answer, map_answer, push_entry, put_answer, reply, size_answer};
+use crate::answer::{context_answer, erased_answer, flush_answer, get_answer, map_answer, push_entry, put_answer, reply, size_answer};
 use crate::command::{Command, parse};
 use crate::reply::Reply;
 use crate::world::World;
@@ -85,6 +85,7 @@ impl<A: Allocator + Copy> Machine<A> {
             Command::Clear(name) => self.clear(name),
             Command::Show(name) => self.show(name),
             Command::Size(name) => self.size(name),
+            Command::Context(name) => self.context(name),
         }
     }
 
@@ -166,6 +167,16 @@ impl<A: Allocator + Copy> Machine<A> {
     {
         let keys = self.world.keys(name)?;
         Ok(size_answer(self.alloc, keys.len() as u64)?.into_bytes())
+    }
+
+    fn context(&self, name: Name) -> Result<Vec<u8, A>, Refusal>
+        ensures { Does (context_outcome (after self.now) name) self.now self.now result }
+    {
+        let Some(context) = self.world.context(name) else {
+            return Err(Refusal::UnknownReplica);
+        };
+        let text = context_answer(self.alloc, context)?;
+        Ok(text)
     }
 
     /// Appends each key with its values at a replica that is there. A refusal may leave a part of it there.

@@ -12,10 +12,12 @@ ghost use Rattle.trace_cli.specs.Replaces.{Replaces, SameReplicas, Takes, Sends,
 ghost use Rattle.op_model.specs.World.{Node, Put, Flush, Deliver, Remove, Clear, after, is_node, is_message};
 ghost use Rattle.op_model.specs.Made.{dot_at, removed_at, cleared_at};
 ghost use Rattle.op_model.specs.Shown.{values, keys};
+ghost use Rattle.op_model.specs.Operation.{known, has as is_among};
 ghost use Rattle.trace_cli.specs.Outcome.{sent_number};
 
 use crate::event::Event;
 use crate::replica::Replica;
+use causal_context::Context;
 use delta_ops::{Pair, clear, put, remove};
 use dots::{Dot, Key, Name, Refusal, Value};
 use std::alloc::{Allocator, Global};
@@ -167,6 +169,16 @@ impl<A: Allocator + Copy> World<A> {
             Some(replica) => replica.keys(self.alloc),
             None => Err(Refusal::UnknownReplica),
         }
+    }
+
+    /// What a replica has seen of dots. None exactly where no replica has the name.
+    pub fn context(&self, name: Name) -> Option<&Context<A>>
+        ensures some { IfSome result (λ context. (is_node (after self.now) name ≡ true) ×
+            ((d : DotValue) → has context.now d ≡ is_among (known ((after self.now).seen name)) d)) }
+        ensures none { IfNone result (is_node (after self.now) name ≡ false) }
+    {
+        let replica = self.replicas.get(&name)?;
+        Some(replica.live.context())
     }
 
     /// What a replica made since its last flush becomes the next message: its number, or None where it made
