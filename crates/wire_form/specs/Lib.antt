@@ -1,0 +1,4 @@
+pub mod Spelling
+pub mod Fields
+pub mod Message
+pub mod Reading
