@@ -3,6 +3,9 @@
 #![tactic(auto)]
 
 mod field;
+mod items;
+mod number;
+mod text;
 
 #[cfg(test)]
 mod tests;

@@ -1,0 +1,5 @@
+pub mod Reading
+pub mod Pairs
+pub mod Numbers
+pub mod Texts
+pub mod Items
