@@ -2,4 +2,5 @@ pub mod Reading
 pub mod Pairs
 pub mod Numbers
 pub mod Texts
-pub mod Items
+pub mod Counting
+pub mod Bodies

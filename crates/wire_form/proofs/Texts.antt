@@ -10,22 +10,8 @@ use Rattle.dots.specs.declared.refusal.Refusal.TheVariants.{OutOfMemory, TooLong
 use Rattle.wire_form.specs.Spelling.{Begins, HasNone}
 use Rattle.wire_form.specs.Fields.{text, IsText}
 use Rattle.wire_form.specs.Reading.{Refuses}
-use Rattle.wire_form.proofs.Reading.{IsUnique}
-use Rattle.wire_form.proofs.Numbers.{AreBytes, AreBytes-take, same_front}
-
-length_again : (m n : ℕ) → m ≤ MAX_LENGTH → n ≤ MAX_LENGTH → to_be_bytes w16 m ≡ to_be_bytes w16 n → m ≡ n
-length_again m n p q e = sym (from_be_bytes-to_be_bytes_2 m (omega arith)) ∙ ap (from_be_bytes w16) e ∙ from_be_bytes-to_be_bytes_2 n (omega arith)
-
-pub text_unique : IsUnique text IsText
-unfolding text
-text_unique v w a b p q e =
-    let long = same_front 2 (to_be_bytes w16 (length v)) (to_be_bytes w16 (length w)) (v ++ a) (w ++ b) refl refl
-    (sym (append_assoc (to_be_bytes w16 (length v)) v a) ∙ e ∙ append_assoc (to_be_bytes w16 (length w)) w b) in
-    same_front (length v) v w a b refl (sym (length_again (length v) (length w) p q long.0)) long.1
-
-pub text_starts : (v : List ℕ) → IsText v → 0 < length (text v)
-unfolding text
-text_starts v p = omega (arith, length-append (to_be_bytes w16 (length v)) v)
+use Rattle.wire_form.specs.Unique.{same_front, length_again}
+use Rattle.wire_form.proofs.Numbers.{AreBytes, AreBytes-take}
 
 -- fewer than two bytes are no text
 pub no_length : (bytes : List ℕ) → length bytes < 2 → HasNone text IsText bytes
@@ -63,5 +49,5 @@ text_begins bytes rest front end n parts most long f e =
     }
 
 -- a text is not too long for a key or a value
-pub refuses_text : {P : Type 0} (bytes : List ℕ) (e : Refusal) → IsText bytes → (e ≡ TooLong → MAX_LENGTH < length bytes) → (e ≡ TooLong) ⊎ (e ≡ OutOfMemory) → Refuses P e
-refuses_text {P} bytes e fits long why = elim why [ inl l ↦ absurd (omega (arith, long l)) | inr m ↦ subst (Refuses P) (sym m) tt ]
+pub refuses_text : (P : Type 0) (bytes : List ℕ) (e : Refusal) → IsText bytes → (e ≡ TooLong → MAX_LENGTH < length bytes) → (e ≡ TooLong) ⊎ (e ≡ OutOfMemory) → Refuses P e
+refuses_text P bytes e fits long why = elim why [ inl l ↦ absurd (omega (arith, long l)) | inr m ↦ subst (Refuses P) (sym m) tt ]

@@ -2,7 +2,7 @@
 ghost use Rattle.std.specs.Prelude.{◌≡◌, ℕ, ◌<◌, List, ◌++◌, length};
 ghost use Rattle.wire_form.specs.Spelling.{pair, IsPair};
 ghost use Rattle.wire_form.specs.Reading.{Reads};
-ghost use Rattle.wire_form.proofs.Pairs.{pair_starts, pair_unique};
+ghost use Rattle.wire_form.specs.Unique.{pair_starts, pair_unique};
 
 use dots::Refusal;
 use std::alloc::Allocator;

@@ -2,10 +2,16 @@
 // Offered to the crates above: what is encoded spells the message, and what is decoded is what the bytes spell.
 #![tactic(auto)]
 
+mod context;
 mod field;
 mod items;
 mod number;
+mod pair;
+mod store;
 mod text;
+mod values;
+
+pub use pair::{Pair, Store};
 
 #[cfg(test)]
 mod tests;

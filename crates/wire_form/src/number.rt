@@ -1,8 +1,8 @@
 // Numbers, names and dots as fields.
-ghost use Rattle.std.specs.Prelude.{◌≡◌};
+ghost use Rattle.std.specs.Prelude.{◌≡◌, ◌≤◌, ◌↔◌, IsSome, IfSome};
 ghost use Rattle.wire_form.specs.Spelling.{number, IsNumber};
 ghost use Rattle.wire_form.specs.Fields.{IsName, dot, IsDot};
-ghost use Rattle.wire_form.proofs.Numbers.{number_starts, number_unique, name_starts, name_unique, dot_starts, dot_unique};
+ghost use Rattle.wire_form.specs.Unique.{number_starts, number_unique, name_starts, name_unique, dot_starts, dot_unique};
 
 use crate::field::Field;
 use dots::{Dot, Name, Refusal};
@@ -47,17 +47,26 @@ impl<A: Allocator + Copy> Field<A> for Name {
     ghost unique = { name_unique };
 }
 
+// The dot of this name and number, or None where either is 0.
+fn dot_of(name: u64, number: u64) -> Option<Dot>
+    ensures found { IsSome result ↔ ((1 ≤ name) × (1 ≤ number)) }
+    ensures value { IfSome result (λ dot. dot ≡ record { name = name; number = number }) }
+{
+    Dot::new(Name::new(name)?, number)
+}
+
 impl<A: Allocator + Copy> Field<A> for Dot {
     ghost spell = { dot };
 
     ghost fits = { IsDot };
 
     fn read(alloc: A, bytes: &[u8]) -> Result<(Dot, &[u8]), Refusal> {
-        let ((name, number), rest) = <(Name, u64)>::read(alloc, bytes)?;
-        let Some(dot) = Dot::new(name, number) else {
-            return Err(Refusal::NotAMessage);
-        };
-        Ok((dot, rest))
+        let (name, rest) = u64::read(alloc, bytes)?;
+        let (number, rest) = u64::read(alloc, rest)?;
+        match dot_of(name, number) {
+            Some(dot) => Ok((dot, rest)),
+            None => Err(Refusal::NotAMessage),
+        }
     }
 
     ghost starts = { dot_starts };

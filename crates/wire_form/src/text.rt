@@ -2,7 +2,7 @@
 ghost use Rattle.std.specs.Prelude.{◌≡◌, ◌≤◌, length};
 ghost use Rattle.wire_form.specs.Fields.{text, IsText};
 ghost use Rattle.wire_form.specs.Reading.{Reads};
-ghost use Rattle.wire_form.proofs.Texts.{text_starts, text_unique};
+ghost use Rattle.wire_form.specs.Unique.{text_starts, text_unique};
 
 use crate::field::Field;
 use dots::{Key, Refusal, Value};

@@ -5,8 +5,7 @@ use Rattle.std.specs.List.{flat_map, AllByRecursion}
 use Rattle.std.proofs.lemmas.List.{append-nil}
 use Rattle.std.proofs.lemmas.List.Concat.{flat_map-append}
 use Rattle.wire_form.specs.Spelling.{number, IsNumber, counted, AreCounted, Begins, HasNone}
-use Rattle.wire_form.proofs.Reading.{IsUnique}
-use Rattle.wire_form.proofs.Numbers.{number_unique, number_starts}
+use Rattle.wire_form.specs.Unique.{IsUnique, number_unique}
 
 module _ {X : Type 0} (item : X → List ℕ) (Item : X → Type 0) where
   -- a list of items, of this length
@@ -35,7 +34,7 @@ module _ {X : Type 0} (item : X → List ℕ) (Item : X → Type 0) where
     behind : (xs ys : List X) (rest end : List ℕ) → AllByRecursion Item xs → AllByRecursion Item ys → length xs < length ys → flat_map item xs ++ rest ≡ flat_map item ys ++ end
         → (y : X) × (more : List ℕ) × Begins item Item rest y more
     behind xs [] rest end p q l e = absurd (omega arith)
-    behind [] (y ∷ ys) rest end p q l e = (y, (flat_map item ys ++ end, record { fits = q.0; parts = e ∙ append_assoc (item y) (flat_map item ys) end }))
+    behind [] (y ∷ ys) rest end p q l e = (y, flat_map item ys ++ end, record { fits = q.0; parts = e ∙ append_assoc (item y) (flat_map item ys) end })
     behind (x ∷ xs) (y ∷ ys) rest end p q l e =
         let first = one x y (flat_map item xs ++ rest) (flat_map item ys ++ end) p.0 q.0 (sym (append_assoc (item x) (flat_map item xs) rest) ∙ e ∙ append_assoc (item y) (flat_map item ys) end) in
         behind xs ys rest end p.1 q.1 (omega arith) first.1
@@ -44,27 +43,7 @@ module _ {X : Type 0} (item : X → List ℕ) (Item : X → Type 0) where
         → HasNone (flat_map item) (AreSo n) bytes
     none_more bytes i n xs rest read l none ys end h =
         let b = behind xs ys rest end read.fits.1 h.fits.1 (omega (arith, read.fits.0, h.fits.0)) (sym read.parts ∙ h.parts) in
-        none b.0 b.1.0 b.1.1
-
-    -- ---- lists of one length are one
-
-    each_unique : (xs ys : List X) (a b : List ℕ) → AllByRecursion Item xs → AllByRecursion Item ys → length xs ≡ length ys → flat_map item xs ++ a ≡ flat_map item ys ++ b → (xs ≡ ys) × (a ≡ b)
-    each_unique [] [] a b p q l e = (refl, e)
-    each_unique [] (y ∷ ys) a b p q l e = absurd (omega arith)
-    each_unique (x ∷ xs) [] a b p q l e = absurd (omega arith)
-    each_unique (x ∷ xs) (y ∷ ys) a b p q l e =
-        let first = one x y (flat_map item xs ++ a) (flat_map item ys ++ b) p.0 q.0 (sym (append_assoc (item x) (flat_map item xs) a) ∙ e ∙ append_assoc (item y) (flat_map item ys) b) in
-        let others = each_unique xs ys a b p.1 q.1 (omega arith) first.1 in
-        (λ i. first.0 i ∷ others.0 i, others.1)
-
-    pub counted_unique : IsUnique (counted item) (AreCounted Item)
-    counted_unique xs ys a b p q e =
-        let count = number_unique (length xs) (length ys) (flat_map item xs ++ a) (flat_map item ys ++ b) p.0 q.0
-        (sym (append_assoc (number (length xs)) (flat_map item xs) a) ∙ e ∙ append_assoc (number (length ys)) (flat_map item ys) b) in
-        each_unique xs ys a b p.1 q.1 count.0 count.1
-
-  pub counted_starts : (xs : List X) → AreCounted Item xs → 0 < length (counted item xs)
-  counted_starts xs p = omega (arith, number_starts (length xs) p.0, length-append (number (length xs)) (flat_map item xs))
+        none b.0 b.1 b.2
 
   -- ---- behind a count
 
