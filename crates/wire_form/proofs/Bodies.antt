@@ -46,15 +46,19 @@ no_store bytes s rest read bad =
     none_lawful (counted (pair text values)) (AreCounted (IsPair IsText AreValues)) IsStore (counted_unique (pair text values) (IsPair IsText AreValues) (pair_unique text IsText values AreValues text_unique values_unique)) (λ v h. h.each) bytes s rest read
     (λ h. absurd (cc (bad (h.ascend, h.filled))))
 
+pub store_unique : IsUnique store IsStore
+store_unique v w a b p q e =
+    counted_unique (pair text values) (IsPair IsText AreValues) (pair_unique text IsText values AreValues text_unique values_unique) v w a b p.each q.each e
+
 -- ---- contexts
 
 entry_unique : IsUnique entry IsEntry
 entry_unique = pair_unique number IsName number IsNumber name_unique number_unique
 
-vector_unique : IsUnique (counted entry) (AreCounted IsEntry)
+pub vector_unique : IsUnique (counted entry) (AreCounted IsEntry)
 vector_unique = counted_unique entry IsEntry entry_unique
 
-cloud_unique : IsUnique (counted dot) (AreCounted IsDot)
+pub cloud_unique : IsUnique (counted dot) (AreCounted IsDot)
 cloud_unique = counted_unique dot IsDot dot_unique
 
 no_parts : (bytes : List ℕ) → HasNone (pair (counted entry) (counted dot)) (IsPair (AreCounted IsEntry) (AreCounted IsDot)) bytes → HasNone context IsContext bytes
@@ -81,3 +85,9 @@ no_context bytes vector rest cloud end first second bad c after h =
     let same = pair_unique (counted entry) (AreCounted IsEntry) (counted dot) (AreCounted IsDot) vector_unique cloud_unique (vector, cloud) (c.vector, c.cloud) end after both.fits (h.fits.entries, h.fits.dots) (sym both.parts ∙ h.parts) in
     let made : List (ℕ × ℕ) × List DotValue → ContextValue = λ p. record { vector = p.0; cloud = p.1 } in
     absurd (cc (bad (subst (λ (p : List (ℕ × ℕ) × List DotValue). IsCanonical (made p)) (sym same.0) h.fits.canonical)))
+
+pub context_unique : IsUnique context IsContext
+context_unique c d a b p q e =
+    let same = pair_unique (counted entry) (AreCounted IsEntry) (counted dot) (AreCounted IsDot) vector_unique cloud_unique (c.vector, c.cloud) (d.vector, d.cloud) a b (p.entries, p.dots) (q.entries, q.dots) e in
+    let made : List (ℕ × ℕ) × List DotValue → ContextValue = λ p. record { vector = p.0; cloud = p.1 } in
+    (ap made same.0, same.1)

@@ -4,3 +4,5 @@ pub mod Numbers
 pub mod Texts
 pub mod Counting
 pub mod Bodies
+pub mod Deltas
+pub mod Writes

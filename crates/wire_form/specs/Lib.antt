@@ -1,5 +1,6 @@
 pub mod Spelling
 pub mod Fields
 pub mod Message
-pub mod Reading
 pub mod Unique
+pub mod Reading
+pub mod Writing

@@ -3,14 +3,20 @@
 #![tactic(auto)]
 
 mod context;
+mod decoding;
+mod encoding;
 mod field;
 mod items;
+mod message;
 mod number;
 mod pair;
 mod store;
 mod text;
 mod values;
 
+pub use decoding::decode;
+pub use encoding::encode;
+pub use message::Message;
 pub use pair::{Pair, Store};
 
 #[cfg(test)]

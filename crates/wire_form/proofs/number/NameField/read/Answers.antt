@@ -1,4 +1,3 @@
-use Rattle.std.proofs.Common.{refl, arith}
 use Rattle.wire_form.proofs.Numbers.{no_name, zero_unless}
 use Rattle.wire_form.proofs.number.NameField.read.Goals as goal
 
