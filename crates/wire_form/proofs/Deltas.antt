@@ -99,6 +99,9 @@ one_message bytes (Delta d) (Delta e) p q =
     (append-nil (context d.1 ++ store d.0) ∙ ap (λ (b : List ℕ). tail_of (tail_of b)) (sym p.spelling ∙ q.spelling) ∙ sym (append-nil (context e.1 ++ store e.0))) in
     ap (λ (x : ContextValue × StoreValue). Delta (x.1, x.0)) same.0
 
+pub one_delta : (bytes : List ℕ) (d e : DeltaValue) → SpellsDelta bytes d → SpellsDelta bytes e → d ≡ e
+one_delta bytes d e p q = let same = one_message bytes (Delta d) (Delta e) p q in cc
+
 -- a message has one spelling
 pub one_spelling : (a b : List ℕ) (m : MessageValue) → Spells a m → Spells b m → a ≡ b
 one_spelling a b (Delta d) p q = p.spelling ∙ sym q.spelling

@@ -23,8 +23,7 @@ pub length_begins : (bytes front rest : List ℕ) (n : ℕ) → AreBytes bytes �
     → (bytes ≡ to_be_bytes w16 n ++ rest) × (n ≤ MAX_LENGTH)
 length_begins bytes front rest n fits long f r is =
     let two : length front ≡ 2 = ap length f ∙ omega (arith, length-take 2 bytes) in
-    let each : AreBytes front = subst AreBytes (sym f) (AreBytes-take 2 bytes fits) in
-    (
+    let each : AreBytes front = subst AreBytes (sym f) (AreBytes-take 2 bytes fits) in (
       sym (take-append-drop 2 bytes) ∙ ap (λ (x : List ℕ). x ++ drop 2 bytes) (sym f ∙ sym (be_bytes_2 front n two each is)) ∙ ap (λ (x : List ℕ). to_be_bytes w16 n ++ x) (sym r),
       rw is (omega (arith, each 0, each 1)),
     )

@@ -1,12 +1,21 @@
 -- What writers leave, from what other writers left.
-use Rattle.std.proofs.Common.{◌≡◌, ℕ, ◌≤◌, List, [], ◌∷◌, ◌++◌, length, map, refl, sym, ap, subst, ◌∙◌, append_assoc}
+use Rattle.std.proofs.Common.{◌≡◌, ℕ, ◌≤◌, List, [], ◌∷◌, ◌++◌, length, sym, ap, subst, ◌∙◌, append_assoc}
 use Rattle.std.specs.List.{flat_map, AllByRecursion}
 use Rattle.std.specs.Int.{w16, to_be_bytes}
 use Rattle.std.proofs.lemmas.List.{append-nil}
 use Rattle.std.proofs.lemmas.List.Concat.{flat_map-append}
 use Rattle.dots.specs.Bytes.{MAX_LENGTH}
 use Rattle.wire_form.specs.Spelling.{number, IsNumber, pair, IsPair, counted, AreCounted}
-use Rattle.wire_form.specs.Fields.{text, IsText}
+use Rattle.std.specs.Ordering.{nat_cmp}
+use Rattle.std.specs.Cmp.Lexicographic.{slice_cmp}
+use Rattle.std.specs.List.Sorted.{IsStrictlySortedBy}
+use Rattle.std.specs.Map.{keys_of}
+use Rattle.dots.specs.Dot.{DotValue}
+use Rattle.causal_context.specs.Context.{ContextValue}
+use Rattle.causal_context.specs.Canonical.{IsCanonical}
+use Rattle.causal_context.specs.Dots.{dot_cmp}
+use Rattle.dot_store.specs.Stores.{at_values, NoKeyIsEmpty}
+use Rattle.wire_form.specs.Fields.{text, IsText, dot, IsDot, entry, IsEntry, values, AreValues, store, IsStore, context, IsContext}
 use Rattle.wire_form.specs.Writing.{Appends}
 
 pub pair_appends : {X Y : Type 0} (first : X → List ℕ) (First : X → Type 0) (second : Y → List ℕ) (Second : Y → Type 0) (old mid new : List ℕ) (x : X) (y : Y)
@@ -50,3 +59,29 @@ module _ {X : Type 0} (item : X → List ℕ) (Item : X → Type 0) where
     fits = (subst IsNumber n p.count_fits, subst (AllByRecursion Item) e p.each);
     parts = p.parts ∙ ap (λ (k : ℕ). old ++ (number k ++ flat_map item xs)) n ∙ ap (λ (ys : List X). old ++ (number (length all) ++ flat_map item ys)) e;
   }
+
+-- ---- values, stores and contexts
+
+pub values_appended : (old now : List ℕ) (vs made : List (DotValue × List ℕ)) → Appends (counted (pair dot text)) (AreCounted (IsPair IsDot IsText)) old now vs → made ≡ vs
+    → IsStrictlySortedBy dot_cmp (keys_of made) → Appends values AreValues old now vs
+values_appended old now vs made p e s = record { fits = record { each = p.fits; ascend = subst (λ (m : List (DotValue × List ℕ)). IsStrictlySortedBy dot_cmp (keys_of m)) e s }; parts = p.parts }
+
+abbrev StoreValue : Type 0
+StoreValue = List (List ℕ × List (DotValue × List ℕ))
+
+pub store_appended : (old now : List ℕ) (s made : StoreValue) → Appends (counted (pair text values)) (AreCounted (IsPair IsText AreValues)) old now s → made ≡ s
+    → IsStrictlySortedBy (slice_cmp nat_cmp) (keys_of made) → NoKeyIsEmpty at_values made → Appends store IsStore old now s
+store_appended old now s made p e ascend filled = record {
+  fits = record {
+    each = p.fits;
+    ascend = subst (λ (m : StoreValue). IsStrictlySortedBy (slice_cmp nat_cmp) (keys_of m)) e ascend;
+    filled = subst (λ (m : StoreValue). NoKeyIsEmpty at_values m) e filled;
+  };
+  parts = p.parts;
+}
+
+pub context_appended : (old mid new : List ℕ) (c : ContextValue) → Appends (counted entry) (AreCounted IsEntry) old mid c.vector → IsCanonical c
+    → Appends (counted dot) (AreCounted IsDot) mid new c.cloud → Appends context IsContext old new c
+context_appended old mid new c p canonical q =
+    let both = pair_appends (counted entry) (AreCounted IsEntry) (counted dot) (AreCounted IsDot) old mid new c.vector c.cloud p q in
+    record { fits = record { entries = p.fits; dots = q.fits; canonical = canonical }; parts = both.parts }

@@ -4,3 +4,4 @@ pub mod Message
 pub mod Unique
 pub mod Reading
 pub mod Writing
+pub mod Laws

@@ -1,5 +1,6 @@
 ghost use Rattle.std.specs.Prelude.{◌≡◌, ◌≤◌, length, IfOk, OnOk, IsOkUnless};
 ghost use Rattle.dots.specs.Bytes.{MAX_LENGTH};
+ghost use Rattle.causal_context.specs.Canonical.{IsCanonical};
 ghost use Rattle.wire_form.specs.Spelling.{number, IsNumber, counted, AreCounted};
 ghost use Rattle.wire_form.specs.Fields as field;
 ghost use Rattle.wire_form.specs.Message.{message_of, Spells, SpellsDelta};
@@ -48,6 +49,7 @@ fn write_vector<A: Allocator + Copy>(
     context: &Context<A>,
 ) -> Result<(), Refusal>
     ensures ok { OnOk result (Appends (counted field.entry) (AreCounted field.IsEntry) out.old.items out.new.items context.now.vector) }
+    ensures canonical { IsCanonical context.now }
     ensures err { IsOkUnless result Refusal.OutOfMemory }
 {
     let entries = context.vector();

@@ -7,6 +7,7 @@ mod decoding;
 mod encoding;
 mod field;
 mod items;
+mod laws;
 mod message;
 mod number;
 mod pair;
@@ -16,6 +17,7 @@ mod values;
 
 pub use decoding::decode;
 pub use encoding::encode;
+pub use laws::{a_message_has_one_spelling, bytes_spell_one_delta, bytes_spell_one_message};
 pub use message::Message;
 pub use pair::{Pair, Store};
 
