@@ -1,6 +1,6 @@
 -- Whole bodies and whole messages.
-use Rattle.std.proofs.Common.{◌≡◌, ℕ, Bool, true, false, List, [], ◌∷◌, ◌++◌, length, Result, Ok, Err, refl, sym, ap, subst, ◌∙◌, append_assoc, arith, eqb}
-use Rattle.std.specs.Prelude.{MatchResult, IsNone, ◌⊎◌, Option}
+use Rattle.std.proofs.Common.{◌≡◌, ℕ, Bool, true, false, List, [], ◌∷◌, ◌++◌, length, Result, Ok, Err, refl, sym, ap, subst, ◌∙◌, arith, eqb}
+use Rattle.std.specs.Prelude.{MatchResult}
 use Rattle.std.specs.Ordering.{nat_cmp}
 use Rattle.std.specs.Cmp.Lexicographic.{slice_cmp}
 use Rattle.std.proofs.lemmas.Bool.{eqb-true}
@@ -14,7 +14,7 @@ use Rattle.dot_store.specs.Stores.{at_stores, at_values}
 use Rattle.causal_join.specs.Causal.{state_of}
 use Rattle.wire_form.specs.Spelling.{pair, IsPair, Begins, HasNone}
 use Rattle.wire_form.specs.Fields.{context, IsContext, store, IsStore}
-use Rattle.wire_form.specs.Message.{DeltaValue, MessageValue, Delta, IsDelta, SpellsBody, SpellsDelta, Spells, SpellsNone}
+use Rattle.wire_form.specs.Message.{DeltaValue, MessageValue, Delta, SpellsBody, SpellsDelta, Spells, SpellsNone}
 use Rattle.wire_form.specs.Reading.{Refuses, ReadsAll}
 use Rattle.wire_form.specs.Unique.{pair_unique}
 use Rattle.wire_form.proofs.Reading.{refuses_weaker}

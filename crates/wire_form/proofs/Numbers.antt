@@ -1,13 +1,12 @@
 -- Numbers, names and dots at the front of bytes.
-use Rattle.std.proofs.Common.{◌≡◌, ℕ, ◌<◌, ◌≤◌, ◌^◌, ◌≢◌, zero, suc, true, false, List, ◌++◌, length, get_or, take, drop, refl, sym, ap, subst, ◌∙◌, append_assoc, arith, length-append, inl, inr}
+use Rattle.std.proofs.Common.{◌≡◌, ℕ, ◌<◌, ◌≤◌, ◌≢◌, zero, suc, true, false, List, ◌++◌, length, get_or, take, drop, refl, sym, ap, subst, ◌∙◌, arith, length-append, inl, inr}
 use Rattle.std.specs.Int.{w64, to_be_bytes, from_be_bytes}
 use Rattle.std.proofs.lemmas.Bool.{cases_lt}
-use Rattle.std.proofs.lemmas.List.{take_at, drop_at, take-append-drop, length-take, get_or-take, get_or_past}
-use Rattle.std.proofs.lemmas.Nat.{be_bytes_8, from_be_bytes-to_be_bytes_8}
-use Rattle.dots.specs.Dot.{DotValue}
+use Rattle.std.proofs.lemmas.List.{take-append-drop, length-take, get_or-take, get_or_past}
+use Rattle.std.proofs.lemmas.Nat.{be_bytes_8}
 use Rattle.wire_form.specs.Spelling.{number, IsNumber, pair, IsPair, Begins, HasNone}
-use Rattle.wire_form.specs.Fields.{IsName, dot, IsDot, entry, IsEntry}
-use Rattle.wire_form.specs.Unique.{length-number, number_unique, name_unique, pair_unique}
+use Rattle.wire_form.specs.Fields.{IsName, dot, IsDot}
+use Rattle.wire_form.specs.Unique.{length-number, number_unique, pair_unique}
 use Rattle.wire_form.proofs.Pairs.{pair_begins, none_second}
 use Rattle.wire_form.proofs.Reading.{none_lawful}
 

@@ -1,5 +1,5 @@
 -- One field after another.
-use Rattle.std.proofs.Common.{◌≡◌, ℕ, ◌<◌, List, ◌++◌, length, sym, ap, subst, ◌∙◌, append_assoc, arith, length-append}
+use Rattle.std.proofs.Common.{ℕ, List, ◌++◌, sym, ap, ◌∙◌, append_assoc}
 use Rattle.wire_form.specs.Spelling.{pair, IsPair, Begins, HasNone}
 use Rattle.wire_form.specs.Unique.{IsUnique}
 

@@ -1,5 +1,5 @@
 -- What a reader may answer, from what other readers answered.
-use Rattle.std.proofs.Common.{Result, Ok, Err, ◌≡◌, ℕ, List, ◌++◌, sym, ◌∙◌, subst}
+use Rattle.std.proofs.Common.{Result, Ok, Err, ◌≡◌, ℕ, List, sym, ◌∙◌, subst}
 use Rattle.dots.specs.declared.refusal.Refusal.{Refusal}
 use Rattle.dots.specs.declared.refusal.Refusal.TheVariants.{OutOfMemory, TooLong, ReadOnly, NumbersSpent, SessionsFull, NotAMessage, NoPlace, NameTaken, UnknownReplica, UnknownMessage, BadLine, Input, Output}
 use Rattle.wire_form.specs.Spelling.{Begins, HasNone}
