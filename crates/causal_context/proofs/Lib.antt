@@ -5,3 +5,4 @@ pub mod Clouds
 pub mod Known
 pub mod Forms
 pub mod Equality
+pub mod InOrder

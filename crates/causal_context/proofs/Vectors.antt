@@ -39,6 +39,20 @@ HasNoZero-insert old new name number l h z q e = no_zero_by (is_eq (nat_cmp name
 pub HasNoZero-same : (old new : List (ℕ × ℕ)) → new ≡ old → HasNoZero old → HasNoZero new
 HasNoZero-same old new e z = subst HasNoZero (sym e) z
 
+no_zero_past : (b : Bool) (v : ℕ) (o p : Option ℕ) → cond b (Some v) o ≢ Some 0 → (o ≢ Some 0 → p ≢ Some 0) → cond b (Some v) p ≢ Some 0
+no_zero_past true v o p h k = h
+no_zero_past false v o p h k = k h
+
+no_zero_last : (b : Bool) (v : ℕ) → v ≢ 0 → cond b (Some v) None ≢ Some 0
+no_zero_last true v h e = h cc
+no_zero_last false v h e = absurd (cc e)
+
+-- one more entry at the end
+pub no_zero-push : (xs : List (ℕ × ℕ)) (x : ℕ × ℕ) (q : ℕ) → lookup (is_at (nat_cmp q)) xs ≢ Some 0 → x.1 ≢ 0 → lookup (is_at (nat_cmp q)) (xs ++ x ∷ []) ≢ Some 0
+no_zero-push [] x q h k = no_zero_last (is_eq (nat_cmp q x.0)) x.1 k
+no_zero-push (y ∷ ys) x q h k =
+    no_zero_past (is_eq (nat_cmp q y.0)) y.1 (lookup (is_at (nat_cmp q)) ys) (lookup (is_at (nat_cmp q)) (ys ++ x ∷ [])) h (λ l. no_zero-push ys x q l k)
+
 -- vectors with no zero that answer the same are one
 option_from_number : (o p : Option ℕ) → o ≢ Some 0 → p ≢ Some 0 → unwrap_or o 0 ≡ unwrap_or p 0 → o ≡ p
 option_from_number None None h k e = refl

@@ -1,15 +1,16 @@
 // The cloud: the dots that stand apart from the vector.
-ghost use Rattle.std.specs.Prelude.{◌≡◌, ◌+◌, ◌≤◌, ◌&&◌, not, IfOk};
+ghost use Rattle.std.specs.Prelude.{◌≡◌, ◌+◌, ◌≤◌, ◌↔◌, ◌&&◌, not, IsTrue, IfOk};
 ghost use Rattle.std.specs.BTreeSet.{IsFromIterResult, IsOrdered};
 ghost use Rattle.dots.specs.Dot.{DotValue};
 ghost use Rattle.causal_context.specs.Dots.{dot_cmp};
 ghost use Rattle.causal_context.specs.Context.{in_cloud, IsGreatest};
-ghost use Rattle.causal_context.specs.Canonical.{IsBounded};
+ghost use Rattle.causal_context.specs.Canonical.{IsApart, IsBounded};
 ghost use Rattle.causal_context.specs.Run.{is_in_run, IsRunEnd};
 
+use crate::vector::known_up_to;
 use dots::{Dot, Name};
 use std::alloc::{AllocError, Allocator};
-use std::collections::BTreeSet;
+use std::collections::{BTreeMap, BTreeSet};
 
 // The dot of this name and number.
 fn dot_at(name: Name, number: u64) -> Dot
@@ -63,4 +64,21 @@ pub(crate) fn copied<A: Allocator + Copy>(
     ensures { IfOk result (IsFromIterResult dot_cmp cloud.now.keys) }
 {
     cloud.iter().copied().collect(alloc)
+}
+
+// Whether each dot of the cloud stands above the entry of its name with a gap between.
+pub(crate) fn is_apart<A: Allocator>(
+    cloud: &BTreeSet<Dot, A>,
+    vector: &BTreeMap<Name, u64, A>,
+) -> bool
+    ensures apart { IsTrue result ↔ IsApart vector.now.entries cloud.now.keys }
+    ensures bounded { IsTrue result → IsBounded cloud.now.keys }
+{
+    for dot in cloud {
+        let number = dot.number();
+        if number - 1 <= known_up_to(vector, dot.name()) {
+            return false;
+        }
+    }
+    true
 }

@@ -1,4 +1,4 @@
-ghost use Rattle.std.specs.Prelude.{◌≡◌, ◌^◌, ◌-◌, ◌↔◌, ◌||◌, ◌&&◌, ℕ, false, [], IsTrue, IsNone, IfSome, IfOk, OnOk, OnErr, IsOkUnless};
+ghost use Rattle.std.specs.Prelude.{◌≡◌, ◌^◌, ◌-◌, ◌↔◌, ◌||◌, ◌&&◌, ℕ, false, [], IsTrue, IsNone, IsSome, IfSome, IfOk, OnOk, OnErr, IsOkUnless};
 ghost use Rattle.std.specs.Cmp.{partial_equiv_from_equiv};
 ghost use Rattle.std.specs.Map.Iter.{ShowsInOrder, deref, deref_pair};
 ghost use Rattle.dots.specs.Dot.{DotValue, same_dot};
@@ -7,6 +7,7 @@ ghost use Rattle.causal_context.specs.Canonical.{IsCanonical};
 ghost use Rattle.causal_context.specs.Equal.{same_form, same_form_equiv};
 
 use crate::adding::add_to;
+use crate::in_order::{map_in_order, set_in_order};
 use crate::{cloud, vector};
 use dots::{Dot, Name, Refusal};
 use std::alloc::{Allocator, Global};
@@ -48,6 +49,37 @@ impl<A: Allocator + Copy> Context<A> {
             cloud: BTreeSet::new(alloc),
             alloc,
         }
+    }
+
+    /// The context of this vector and this cloud, or None exactly where they are not the canonical form of a
+    /// set of dots: the vector by ascending name, each name once and no entry 0, and the cloud by ascending
+    /// dot, each once, no dot at or below the entry of its name or just above it, an absent entry counting
+    /// as 0. Takes time in the number of names and dots, times their logarithms.
+    pub fn from_parts(
+        alloc: A,
+        vector: Vec<(Name, u64), A>,
+        cloud: Vec<Dot, A>,
+    ) -> Result<Option<Context<A>>, Refusal>
+        ensures canonical { IfOk result (λ made. IsSome made
+            ↔ IsCanonical (record { vector = vector.items; cloud = cloud.items })) }
+        ensures form { IfOk result (λ made. IfSome made
+            (λ context. context ≡ record { vector = vector.items; cloud = cloud.items })) }
+        ensures err { IsOkUnless result Refusal.OutOfMemory }
+    {
+        let Some(vector) = map_in_order(alloc, vector)? else {
+            return Ok(None);
+        };
+        let Some(cloud) = set_in_order(alloc, cloud)? else {
+            return Ok(None);
+        };
+        if !vector::has_no_zero(&vector) || !cloud::is_apart(&cloud, &vector) {
+            return Ok(None);
+        }
+        Ok(Some(Context {
+            vector,
+            cloud,
+            alloc,
+        }))
     }
 
     /// The allocator that the context grows by.

@@ -262,3 +262,61 @@ fn a_million_writes_of_one_name_are_one_entry(rt: HostRuntime) -> Result<(), Fai
     );
     Ok(())
 }
+
+// Whether these lists, given by numbers, are the vector and the cloud of a context.
+fn are_parts(
+    rt: &impl Abort,
+    alloc: Global,
+    vector: &[(u64, u64)],
+    cloud: &[(u64, u64)],
+) -> Result<bool, Refusal> {
+    let mut entries = Vec::new(alloc);
+    for (of, number) in vector {
+        entries.push((name(rt, *of), *number))?;
+    }
+    let mut dots = Vec::new(alloc);
+    for (of, number) in cloud {
+        dots.push(dot(rt, *of, *number))?;
+    }
+    Ok(Context::from_parts(alloc, entries, dots)?.is_some())
+}
+
+#[test]
+fn a_context_is_made_from_its_own_vector_and_cloud(rt: HostRuntime) -> Result<(), Fail> {
+    let alloc = rt.alloc();
+    let vector = Vec::from_slice(alloc, &[(name(&rt, 1), 3), (name(&rt, 4), u64::MAX)])?;
+    let cloud = Vec::from_slice(alloc, &[dot(&rt, 1, 5), dot(&rt, 2, 2)])?;
+    let made = Context::from_parts(alloc, vector, cloud)?.ok_or("canonical")?;
+    assert!(rt; made.contains(dot(&rt, 1, 3)) && made.contains(dot(&rt, 1, 5)));
+    assert!(rt; !made.contains(dot(&rt, 1, 4)) && !made.contains(dot(&rt, 2, 1)));
+    let mut added = made.copy(alloc)?;
+    added.add(dot(&rt, 1, 4))?;
+    assert_eq!(rt; added.vector().len(), 2);
+    assert_eq!(rt;
+        cloud_of(alloc, &added)?.as_slice(),
+        [dot(&rt, 2, 2)].as_slice()
+    );
+    Ok(())
+}
+
+#[test]
+fn other_lists_make_no_context(rt: HostRuntime) -> Result<(), Fail> {
+    let alloc = rt.alloc();
+    assert!(rt; are_parts(&rt, alloc, &[], &[])?);
+    assert!(rt; are_parts(&rt, alloc, &[(1, 2)], &[(1, 4)])?);
+    assert!(rt; !are_parts(&rt, alloc, &[(2, 1), (1, 1)], &[])?);
+    assert!(rt; !are_parts(&rt, alloc, &[(1, 1), (1, 2)], &[])?);
+    assert!(rt; !are_parts(&rt, alloc, &[(1, 0)], &[])?);
+    Ok(())
+}
+
+#[test]
+fn a_cloud_that_touches_its_vector_makes_no_context(rt: HostRuntime) -> Result<(), Fail> {
+    let alloc = rt.alloc();
+    assert!(rt; !are_parts(&rt, alloc, &[(1, 2)], &[(1, 3)])?);
+    assert!(rt; !are_parts(&rt, alloc, &[(1, 2)], &[(1, 2)])?);
+    assert!(rt; !are_parts(&rt, alloc, &[], &[(1, 1)])?);
+    assert!(rt; !are_parts(&rt, alloc, &[], &[(1, 4), (1, 3)])?);
+    assert!(rt; !are_parts(&rt, alloc, &[], &[(1, 3), (1, 3)])?);
+    Ok(())
+}

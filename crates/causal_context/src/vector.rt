@@ -69,3 +69,15 @@ pub(crate) fn raise_all<A: Allocator + Copy>(
     }
     Ok(())
 }
+
+// Whether no entry is 0.
+pub(crate) fn has_no_zero<A: Allocator>(vector: &BTreeMap<Name, u64, A>) -> bool
+    ensures { IsTrue result ↔ HasNoZero vector.now.entries }
+{
+    for (_, number) in vector {
+        if *number == 0 {
+            return false;
+        }
+    }
+    true
+}

@@ -1,7 +1,9 @@
-ghost use Rattle.std.specs.Prelude.{◌≡◌, ◌↔◌, cond, Some, None, is_some, IsTrue, IfOk, OnOk, OnErr, IsOkUnless, List, Contains};
+ghost use Rattle.std.specs.Prelude.{◌≡◌, ◌↔◌, cond, Some, None, is_some, IsSome, IfSome, IsTrue, IfOk, OnOk, OnErr, IsOkUnless, List, Contains};
 ghost use Rattle.std.specs.Option.{option_copied};
 ghost use Rattle.std.specs.Ordering.{ord_max};
 ghost use Rattle.std.specs.BTreeMap.{get};
+ghost use Rattle.std.specs.List.Sorted.{IsStrictlySortedBy};
+ghost use Rattle.std.specs.Map.{keys_of};
 ghost use Rattle.dots.specs.Dot.{DotValue, same_dot};
 ghost use Rattle.causal_context.specs.Context.{has};
 ghost use Rattle.causal_context.specs.Dots.{dot_cmp};
@@ -11,7 +13,7 @@ ghost use Rattle.dot_store.specs.Greater.{ord_max-comm, ord_max-assoc, ord_max-i
 use crate::kept::Kept;
 use crate::put::{put, put_some};
 use crate::store::DotStore;
-use causal_context::Context;
+use causal_context::{Context, map_in_order};
 use dots::{Dot, Refusal};
 use std::alloc::{Allocator, Global};
 use std::collections::BTreeMap;
@@ -36,6 +38,19 @@ impl<V, A: Allocator> Model for DotFun<V, A> {
 }
 
 impl<V: Drop, A: Allocator + Copy> DotFun<V, A> {
+    /// The map of these values, or None exactly where their dots do not ascend, each dot once. Takes time in
+    /// their number, times its logarithm.
+    pub fn from_entries(alloc: A, values: Vec<(Dot, V), A>) -> Result<Option<DotFun<V, A>>, Refusal>
+        ensures ascend { IfOk result (λ made. IsSome made ↔ IsStrictlySortedBy dot_cmp (keys_of values.items)) }
+        ensures values { IfOk result (λ made. IfSome made (λ map. map ≡ values.items)) }
+        ensures err { IsOkUnless result Refusal.OutOfMemory }
+    {
+        let Some(values) = map_in_order(alloc, values)? else {
+            return Ok(None);
+        };
+        Ok(Some(DotFun { values }))
+    }
+
     /// The value at the dot.
     pub fn get(&self, dot: Dot) -> Option<&V>
         ensures { (place : _) → option_copied result ≡ at_values self.now place dot }
@@ -48,6 +63,7 @@ impl<V: Drop, A: Allocator + Copy> DotFun<V, A> {
         ensures rest { result ≡ self.now }
         ensures held { (place : _) (d : DotValue) (v : V)
             → (at_values self.now place d ≡ Some v) ↔ Contains result (d, v) }
+        ensures ordered { IsStrictlySortedBy dot_cmp (keys_of result) }
     {
         self.values.iter()
     }

@@ -1,6 +1,8 @@
 ghost use Rattle.std.specs.Prelude.{◌≡◌, ◌↔◌, cond, Some, None, is_some, IsTrue, IsSome, IfSome, IfOk, OnOk, OnErr, IsOkUnless, List, Contains};
 ghost use Rattle.std.specs.Option.{option_copied};
 ghost use Rattle.std.specs.BTreeMap.{get};
+ghost use Rattle.std.specs.List.Sorted.{IsStrictlySortedBy};
+ghost use Rattle.std.specs.Map.{keys_of};
 ghost use Rattle.dots.specs.Dot.{DotValue};
 ghost use Rattle.causal_context.specs.Context.{has};
 ghost use Rattle.dot_store.specs.Store.{HasNothing, HoldsSame};
@@ -9,7 +11,7 @@ ghost use Rattle.dot_store.specs.Stores.{at_stores, held_by, joined_store, with_
 use crate::kept::Kept;
 use crate::put::{put, put_some};
 use crate::store::DotStore;
-use causal_context::Context;
+use causal_context::{Context, map_in_order};
 use dots::{Dot, Refusal};
 use std::alloc::{Allocator, Global};
 use std::collections::BTreeMap;
@@ -36,6 +38,26 @@ impl<K: Kept<A>, S: DotStore<A>, A: Allocator + Copy> Model for DotMap<K, S, A> 
 }
 
 impl<K: Kept<A>, S: DotStore<A>, A: Allocator + Copy> DotMap<K, S, A> {
+    /// The map of these stores, or None exactly where their keys do not ascend, each key once, or a store is
+    /// empty. Takes time in their number, times its logarithm.
+    pub fn from_entries(
+        alloc: A,
+        stores: Vec<(K, S), A>,
+    ) -> Result<Option<DotMap<K, S, A>>, Refusal>
+        ensures canonical { IfOk result (λ made. IsSome made
+            ↔ (IsStrictlySortedBy K.cmp (keys_of stores.items) × NoKeyIsEmpty S.at stores.items)) }
+        ensures stores { IfOk result (λ made. IfSome made (λ map. map ≡ stores.items)) }
+        ensures err { IsOkUnless result Refusal.OutOfMemory }
+    {
+        let Some(stores) = map_in_order(alloc, stores)? else {
+            return Ok(None);
+        };
+        if !are_filled(&stores) {
+            return Ok(None);
+        }
+        Ok(Some(DotMap { stores }))
+    }
+
     /// The store at the key, which is never an empty one.
     pub fn get(&self, key: &K) -> Option<&S>
         ensures held { (place : S.Place) (d : DotValue)
@@ -56,6 +78,7 @@ impl<K: Kept<A>, S: DotStore<A>, A: Allocator + Copy> DotMap<K, S, A> {
         ensures only { (key : K) (place : S.Place) (d : DotValue)
             → IsSome (at_stores S.at K.cmp self.now (key, place) d)
             → (store : S) × Contains result (key, store) }
+        ensures ordered { IsStrictlySortedBy K.cmp (keys_of result) }
     {
         self.stores.iter()
     }
@@ -75,6 +98,18 @@ impl<K: Kept<A>, S: DotStore<A>, A: Allocator + Copy> DotMap<K, S, A> {
         }
         put(&mut self.stores, key, store)
     }
+}
+
+// Whether no key has an empty store.
+fn are_filled<K: Kept<A>, S: DotStore<A>, A: Allocator + Copy>(stores: &BTreeMap<K, S, A>) -> bool
+    ensures { IsTrue result ↔ NoKeyIsEmpty S.at stores.now.entries }
+{
+    for store in stores.values() {
+        if store.is_empty() {
+            return false;
+        }
+    }
+    true
 }
 
 // What the join keeps at the key: no store where it would be empty.

@@ -119,3 +119,44 @@ fn a_map_of_sets_goes_through_the_same_join(rt: HostRuntime) -> Result<(), Fail>
     assert!(rt; dots.contains(b) && !dots.contains(a));
     Ok(())
 }
+
+// The values at these dots, in this order.
+fn values_at(alloc: Global, dots: &[Dot]) -> Result<Option<DotFun<Value>>, Refusal> {
+    let mut values = Vec::new(alloc);
+    for dot in dots {
+        values.push((*dot, Value::new(alloc, b"x")?))?;
+    }
+    DotFun::from_entries(alloc, values)
+}
+
+// Whether these keys, in this order and each with this store, are those of a map.
+fn are_keys(alloc: Global, keys: &[&[u8]], dots: &[Dot]) -> Result<bool, Refusal> {
+    let mut stores: Vec<(Key, DotSet)> = Vec::new(alloc);
+    for key in keys {
+        stores.push((Key::new(alloc, key)?, set_of(alloc, dots)?))?;
+    }
+    Ok(DotMap::from_entries(alloc, stores)?.is_some())
+}
+
+#[test]
+fn values_by_ascending_dot_are_a_map(rt: HostRuntime) -> Result<(), Fail> {
+    let alloc = rt.alloc();
+    let (a, b) = (dot(&rt, 1, 2), dot(&rt, 2, 1));
+    let made = values_at(alloc, &[a, b])?.ok_or("ascending")?;
+    assert!(rt; made.contains(a) && made.contains(b) && made.iter().len() == 2);
+    assert!(rt; values_at(alloc, &[b, a])?.is_none());
+    assert!(rt; values_at(alloc, &[a, a])?.is_none());
+    assert!(rt; values_at(alloc, &[])?.is_some());
+    Ok(())
+}
+
+#[test]
+fn stores_by_ascending_key_are_a_map_where_none_is_empty(rt: HostRuntime) -> Result<(), Fail> {
+    let alloc = rt.alloc();
+    let a = dot(&rt, 1, 1);
+    assert!(rt; are_keys(alloc, &[b"k".as_slice(), b"l".as_slice()], &[a])?);
+    assert!(rt; !are_keys(alloc, &[b"l".as_slice(), b"k".as_slice()], &[a])?);
+    assert!(rt; !are_keys(alloc, &[b"k".as_slice(), b"k".as_slice()], &[a])?);
+    assert!(rt; !are_keys(alloc, &[b"k".as_slice()], &[])?);
+    Ok(())
+}

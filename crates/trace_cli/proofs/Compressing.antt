@@ -22,7 +22,6 @@ use Rattle.causal_context.specs.Context as context
 use Rattle.causal_context.specs.Canonical.{IsCanonical, HasNoZero}
 use Rattle.causal_context.proofs.Clouds.{cloud_from_test}
 use Rattle.causal_context.proofs.Vectors.{vector_from_known}
-use Rattle.causal_context.proofs.Dots.{dot_exact}
 use Rattle.op_model.specs.Made.{greatest_number}
 use Rattle.op_model.specs.Operation.{has}
 use Rattle.op_model.proofs.Dots.{same_dot-true, same_dot-symm, from_has}

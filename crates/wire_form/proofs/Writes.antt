@@ -1,0 +1,87 @@
+-- What writers leave, from what other writers left.
+use Rattle.std.proofs.Common.{◌≡◌, ℕ, ◌≤◌, List, [], ◌∷◌, ◌++◌, length, sym, ap, subst, ◌∙◌, append_assoc}
+use Rattle.std.specs.List.{flat_map, AllByRecursion}
+use Rattle.std.specs.Int.{w16, to_be_bytes}
+use Rattle.std.proofs.lemmas.List.{append-nil}
+use Rattle.std.proofs.lemmas.List.Concat.{flat_map-append}
+use Rattle.dots.specs.Bytes.{MAX_LENGTH}
+use Rattle.wire_form.specs.Spelling.{number, IsNumber, pair, IsPair, counted, AreCounted}
+use Rattle.std.specs.Ordering.{nat_cmp}
+use Rattle.std.specs.Cmp.Lexicographic.{slice_cmp}
+use Rattle.std.specs.List.Sorted.{IsStrictlySortedBy}
+use Rattle.std.specs.Map.{keys_of}
+use Rattle.dots.specs.Dot.{DotValue}
+use Rattle.causal_context.specs.Context.{ContextValue}
+use Rattle.causal_context.specs.Canonical.{IsCanonical}
+use Rattle.causal_context.specs.Dots.{dot_cmp}
+use Rattle.dot_store.specs.Stores.{at_values, NoKeyIsEmpty}
+use Rattle.wire_form.specs.Fields.{text, IsText, dot, IsDot, entry, IsEntry, values, AreValues, store, IsStore, context, IsContext}
+use Rattle.wire_form.specs.Writing.{Appends}
+
+pub pair_appends : {X Y : Type 0} (first : X → List ℕ) (First : X → Type 0) (second : Y → List ℕ) (Second : Y → Type 0) (old mid new : List ℕ) (x : X) (y : Y)
+    → Appends first First old mid x → Appends second Second mid new y → Appends (pair first second) (IsPair First Second) old new (x, y)
+pair_appends first First second Second old mid new x y p q = record {
+  fits = (p.fits, q.fits);
+  parts = q.parts ∙ ap (λ (t : List ℕ). t ++ second y) p.parts ∙ append_assoc old (first x) (second y);
+}
+
+pub text_appends : (old mid new bytes : List ℕ) → length bytes ≤ MAX_LENGTH → mid ≡ old ++ to_be_bytes w16 (length bytes) → new ≡ mid ++ bytes → Appends text IsText old new bytes
+unfolding text
+text_appends old mid new bytes fits first second = record {
+  fits = fits;
+  parts = second ∙ ap (λ (t : List ℕ). t ++ bytes) first ∙ append_assoc old (to_be_bytes w16 (length bytes)) bytes;
+}
+
+module _ {X : Type 0} (item : X → List ℕ) (Item : X → Type 0) where
+  -- a count and some of the items, behind what was there
+  pub record WritesSo (old now : List ℕ) (count : ℕ) (xs : List X) : Type 0 where
+    pub each : AllByRecursion Item xs
+    pub count_fits : IsNumber count
+    pub parts : now ≡ old ++ (number count ++ flat_map item xs)
+
+  pub none_written : (old now : List ℕ) (count : ℕ) → Appends number IsNumber old now count → WritesSo old now count []
+  none_written old now count p = record { each = tt; count_fits = p.fits; parts = p.parts ∙ ap (λ (t : List ℕ). old ++ t) (sym (append-nil (number count))) }
+
+  all-push : (xs : List X) (x : X) → AllByRecursion Item xs → Item x → AllByRecursion Item (xs ++ x ∷ [])
+  all-push [] x p q = (q, tt)
+  all-push (y ∷ ys) x p q = (p.0, all-push ys x p.1 q)
+
+  pub one_written : (old now new : List ℕ) (count : ℕ) (xs : List X) (x : X) → WritesSo old now count xs → Appends item Item now new x → WritesSo old new count (xs ++ x ∷ [])
+  one_written old now new count xs x p q = record {
+    each = all-push xs x p.each q.fits;
+    count_fits = p.count_fits;
+    parts = q.parts ∙ ap (λ (t : List ℕ). t ++ item x) p.parts ∙ append_assoc old (number count ++ flat_map item xs) (item x)
+        ∙ ap (λ (t : List ℕ). old ++ t) (append_assoc (number count) (flat_map item xs) (item x) ∙ ap (λ (t : List ℕ). number count ++ t) (ap (λ (t : List ℕ). flat_map item xs ++ t) (sym (append-nil (item x))) ∙ sym (flat_map-append item xs (x ∷ []))));
+  }
+
+  pub all_written : (old now : List ℕ) (count : ℕ) (xs all : List X) → WritesSo old now count xs → xs ≡ all → count ≡ length all → Appends (counted item) (AreCounted Item) old now all
+  all_written old now count xs all p e n = record {
+    fits = (subst IsNumber n p.count_fits, subst (AllByRecursion Item) e p.each);
+    parts = p.parts ∙ ap (λ (k : ℕ). old ++ (number k ++ flat_map item xs)) n ∙ ap (λ (ys : List X). old ++ (number (length all) ++ flat_map item ys)) e;
+  }
+
+-- ---- values, stores and contexts
+
+pub values_appended : (old now : List ℕ) (vs made : List (DotValue × List ℕ)) → Appends (counted (pair dot text)) (AreCounted (IsPair IsDot IsText)) old now vs → made ≡ vs
+    → IsStrictlySortedBy dot_cmp (keys_of made) → Appends values AreValues old now vs
+values_appended old now vs made p e s = record { fits = record { each = p.fits; ascend = subst (λ (m : List (DotValue × List ℕ)). IsStrictlySortedBy dot_cmp (keys_of m)) e s }; parts = p.parts }
+
+abbrev StoreValue : Type 0
+StoreValue = List (List ℕ × List (DotValue × List ℕ))
+
+pub store_appended : (old now : List ℕ) (s made : StoreValue) → Appends (counted (pair text values)) (AreCounted (IsPair IsText AreValues)) old now s → made ≡ s
+    → IsStrictlySortedBy (slice_cmp nat_cmp) (keys_of made) → NoKeyIsEmpty at_values made → Appends store IsStore old now s
+store_appended old now s made p e ascend filled = record {
+  fits = record {
+    each = p.fits;
+    ascend = subst (λ (m : StoreValue). IsStrictlySortedBy (slice_cmp nat_cmp) (keys_of m)) e ascend;
+    filled = subst (λ (m : StoreValue). NoKeyIsEmpty at_values m) e filled;
+  };
+  parts = p.parts;
+}
+
+pub context_appended : (old mid new : List ℕ) (c : ContextValue) → Appends (counted entry) (AreCounted IsEntry) old mid c.vector → IsCanonical c
+    → Appends (counted dot) (AreCounted IsDot) mid new c.cloud → Appends context IsContext old new c
+context_appended old mid new c p canonical q =
+    let both = pair_appends (counted entry) (AreCounted IsEntry) (counted dot) (AreCounted IsDot) old mid new c.vector c.cloud p q in
+    record { fits = record { entries = p.fits; dots = q.fits; canonical = canonical }; parts = both.parts }

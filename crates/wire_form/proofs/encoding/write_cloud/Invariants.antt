@@ -1,0 +1,8 @@
+use Rattle.std.proofs.Common.{map, length}
+use Rattle.std.specs.Map.Iter.{deref}
+use Rattle.wire_form.specs.Fields.{dot, IsDot}
+use Rattle.wire_form.proofs.Writes.{WritesSo}
+use Rattle.wire_form.proofs.encoding.write_cloud.Given as goal
+
+abbrev pub invariant-loop-dot : goal.invariant-loop-dot
+invariant-loop-dot g l = WritesSo dot IsDot l.fn.out.items l.out.items (length l.context.cloud) (map deref l.yielded)

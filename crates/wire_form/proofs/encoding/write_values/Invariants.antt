@@ -1,0 +1,9 @@
+use Rattle.std.proofs.Common.{map, length}
+use Rattle.std.specs.Map.Iter.{deref_pair}
+use Rattle.wire_form.specs.Spelling.{pair, IsPair}
+use Rattle.wire_form.specs.Fields.{text, IsText, dot, IsDot}
+use Rattle.wire_form.proofs.Writes.{WritesSo}
+use Rattle.wire_form.proofs.encoding.write_values.Given as goal
+
+abbrev pub invariant-loop-dot : goal.invariant-loop-dot
+invariant-loop-dot g l = WritesSo (pair dot text) (IsPair IsDot IsText) l.fn.out.items l.out.items (length l.values) (map deref_pair l.yielded)

@@ -1,0 +1,7 @@
+pub mod Spelling
+pub mod Fields
+pub mod Message
+pub mod Unique
+pub mod Reading
+pub mod Writing
+pub mod Laws

@@ -1,0 +1,52 @@
+ghost use Rattle.std.specs.Prelude.{◌≡◌, ◌⊎◌, IfOk, IfErr, IsErrOf, MatchResult};
+ghost use Rattle.wire_form.specs.Message.{MessageValue, message_of, Spells, SpellsNone, SpellsBody};
+ghost use Rattle.wire_form.specs.Reading.{ReadsAll};
+
+use crate::context::read_context;
+use crate::message::Message;
+use crate::pair::Pair;
+use crate::store::read_store;
+use causal_join::Causal;
+use dots::Refusal;
+use std::alloc::Allocator;
+
+/// The message that the bytes spell. NotAMessage where they spell none, else OutOfMemory or the message.
+///
+/// Takes time in the bytes, times a logarithm, and memory in the bytes: each count is compared with the bytes that are
+/// left before anything grows.
+pub fn decode<A: Allocator + Copy>(alloc: A, bytes: &[u8]) -> Result<Message<A>, Refusal>
+    // What is decoded is what the bytes spell.
+    ensures ok { IfOk result (λ message. Spells bytes.now (message_of message)) }
+    // What the bytes spell is decoded, want of memory aside, and nothing else is.
+    ensures only { (message : MessageValue) → Spells bytes.now message
+        → MatchResult result (λ decoded. message_of decoded ≡ message) (λ refusal. refusal ≡ Refusal.OutOfMemory) }
+    ensures not_a_message { IsErrOf result Refusal.NotAMessage → SpellsNone bytes.now }
+    ensures err { IfErr result (λ refusal. (refusal ≡ Refusal.NotAMessage) ⊎ (refusal ≡ Refusal.OutOfMemory)) }
+{
+    read_message(alloc, bytes)
+}
+
+// The message that all the bytes spell.
+fn read_message<A: Allocator + Copy>(alloc: A, bytes: &[u8]) -> Result<Message<A>, Refusal>
+    ensures { ReadsAll message_of (Spells bytes.now) result }
+{
+    match bytes {
+        [1, 1, body @ ..] => Ok(Message::Delta(read_delta(alloc, body)?)),
+        _ => Err(Refusal::NotAMessage),
+    }
+}
+
+// The delta whose body is all the bytes.
+fn read_delta<A: Allocator + Copy>(alloc: A, bytes: &[u8]) -> Result<Pair<A>, Refusal>
+    ensures { ReadsAll (λ delta. delta) (SpellsBody bytes.now) result }
+{
+    let (context, rest) = read_context(alloc, bytes)?;
+    let (store, rest) = read_store(alloc, rest)?;
+    if !rest.is_empty() {
+        return Err(Refusal::NotAMessage);
+    }
+    match Causal::from_parts(store, context) {
+        Some(delta) => Ok(delta),
+        None => Err(Refusal::NotAMessage),
+    }
+}

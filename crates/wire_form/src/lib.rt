@@ -1,0 +1,25 @@
+// Messages as bytes, in one canonical spelling.
+// Offered to the crates above: what is encoded spells the message, and what is decoded is what the bytes spell.
+#![tactic(auto)]
+
+mod context;
+mod decoding;
+mod encoding;
+mod field;
+mod items;
+mod laws;
+mod message;
+mod number;
+mod pair;
+mod store;
+mod text;
+mod values;
+
+pub use decoding::decode;
+pub use encoding::encode;
+pub use laws::{a_message_has_one_spelling, bytes_spell_one_delta, bytes_spell_one_message};
+pub use message::Message;
+pub use pair::{Pair, Store};
+
+#[cfg(test)]
+mod tests;

@@ -1,0 +1,27 @@
+// The values of a key as a field.
+ghost use Rattle.wire_form.specs.Fields.{values, AreValues};
+ghost use Rattle.wire_form.specs.Unique.{values_starts, values_unique};
+
+use crate::field::Field;
+use crate::items::read_items;
+use dot_store::DotFun;
+use dots::{Dot, Refusal, Value};
+use std::alloc::Allocator;
+
+impl<A: Allocator + Copy> Field<A> for DotFun<Value<A>, A> {
+    ghost spell = { values };
+
+    ghost fits = { AreValues };
+
+    fn read(alloc: A, bytes: &[u8]) -> Result<(DotFun<Value<A>, A>, &[u8]), Refusal> {
+        let (entries, rest) = read_items::<(Dot, Value<A>), A>(alloc, bytes)?;
+        match DotFun::from_entries(alloc, entries)? {
+            Some(values) => Ok((values, rest)),
+            None => Err(Refusal::NotAMessage),
+        }
+    }
+
+    ghost starts = { values_starts };
+
+    ghost unique = { values_unique };
+}
