@@ -54,21 +54,26 @@ impl<A: Allocator + Copy> Outgoing<A> {
         push_run(&mut self.runs, alloc, delta)
     }
 
-    /// The whole group, which is empty from then on; None where it knows no dot. A refused call changes nothing.
-    pub fn take(&mut self, alloc: A) -> Result<Option<Pair<A>>, Refusal>
-        ensures some { IfOk result (λ taken. IfSome taken (λ whole.
-            Same (pair_state whole) (group_state self.old) × ¬ HasNone whole.1 × (self.new ≡ []))) }
-        ensures none { IfOk result (λ taken. IfNone taken (
-            ((d : DotValue) → (group_state self.old).has d ≡ false) × (self.new ≡ self.old))) }
-        ensures unchanged { OnErr result (self.new ≡ self.old) }
+    /// The whole group, or None where it knows no dot.
+    pub fn whole(&self, alloc: A) -> Result<Option<Pair<A>>, Refusal>
+        ensures some { IfOk result (λ found. IfSome found (λ whole.
+            Same (pair_state whole) (group_state self.now) × ¬ HasNone whole.1)) }
+        ensures none { IfOk result (λ found. IfNone found (
+            (d : DotValue) → (group_state self.now).has d ≡ false)) }
         ensures err { IsOkUnless result Refusal.OutOfMemory }
     {
         let whole = joined(&self.runs, alloc)?;
         if whole.context().is_empty() {
             return Ok(None);
         }
-        self.runs.clear();
         Ok(Some(whole))
+    }
+
+    /// Empties the group. Takes no memory.
+    pub fn clear(&mut self)
+        ensures { self.new ≡ [] }
+    {
+        self.runs.clear();
     }
 }
 

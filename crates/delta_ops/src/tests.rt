@@ -97,7 +97,7 @@ fn grouped(alloc: Global, name: Name, live: &mut Pair, keys: &[&[u8]]) -> Result
         let delta = put_at(alloc, name, live, &Key::new(alloc, key)?, b"x")?;
         outgoing.push(alloc, delta)?;
     }
-    outgoing.take(alloc)
+    outgoing.whole(alloc)
 }
 
 #[test]

@@ -20,21 +20,22 @@ use Rattle.op_model.proofs.Joins.{same-itself, same-back, same-chain}
 use Rattle.op_model.proofs.Fresh.{after-push}
 use Rattle.op_model.proofs.Pairs.{message-kept, message-added, sent-some, means-same}
 use Rattle.op_model.proofs.Events.{after_put_at, after_remove_at, after_clear_at, after_flush, group_empty, after_deliver, means_elsewhere, messages_after, node_there, node_means}
-use Rattle.trace_cli.specs.Keeps.{Keeps, bottom, live_of, group_of}
-use Rattle.trace_cli.specs.Replaces.{Replaces, SameReplicas, Takes, AreAlike, Sends, HasNothingToSend}
+use Rattle.std.specs.declared.vec.Vec.{Vec}
+use Rattle.trace_cli.specs.Keeps.{Keeps, Carries, bottom, live_of, group_of}
+use Rattle.trace_cli.specs.Replaces.{Replaces, SameReplicas, Takes, AreAlike, CanSend, IsSent, HasNothingToSend}
 use Rattle.trace_cli.specs.declared.replica.Replica.{Replica}
 use Rattle.trace_cli.proofs.ReplicaMaps.{at_is, alike_found}
 
 -- the messages are those of the world
-pub record Carries (messages : List PairValue) (w : World) : Type 0 where
+pub record AreCarried {A : Type 0} (messages : List (Vec ℕ A)) (w : World) : Type 0 where
   pub count : length messages ≡ length w.messages
-  pub carry : (number : ℕ) (pair : PairValue) → slice_get messages number ≡ Some pair → Same (pair_state pair) (state (message w.messages (number + 1)))
+  pub carry : (number : ℕ) (bytes : Vec ℕ A) → slice_get messages number ≡ Some bytes → Carries bytes.items (message w.messages (number + 1))
 
 -- a world that carries the same messages
-carries-same : (messages : List PairValue) (v w : World) → w.messages ≡ v.messages → Carries messages v → Carries messages w
+carries-same : {A : Type 0} (messages : List (Vec ℕ A)) (v w : World) → w.messages ≡ v.messages → AreCarried messages v → AreCarried messages w
 carries-same messages v w same carries = record {
   count = carries.count ∙ ap length (sym same);
-  carry = λ number pair is. let P : List (List Operation) → Type 0 = λ sets. Same (pair_state pair) (state (message sets (number + 1))) in subst P (sym same) (carries.carry number pair is);
+  carry = λ number bytes is. let P : List (List Operation) → Type 0 = λ sets. Carries bytes.items (message sets (number + 1)) in subst P (sym same) (carries.carry number bytes is);
 }
 
 nothing_state : Same (state []) bottom
@@ -48,24 +49,24 @@ slice_get_push (z ∷ xs) y x zero is = inl is
 slice_get_push (z ∷ xs) y x (suc k) is =
     elim (slice_get_push xs y x k is) [ inl before ↦ inl before | inr last ↦ inr (let e : k ≡ length xs = last.0 in (omega arith, last.1)) ]
 
-carries-sent : (messages : List PairValue) (pair : PairValue) (S : List Operation) (v w : World) → w.messages ≡ v.messages ++ S ∷ [] → Same (pair_state pair) (state S)
-    → Carries messages v → Carries (messages ++ pair ∷ []) w
-carries-sent messages pair S v w more same carries = record {
-  count = length-append messages (pair ∷ []) ∙ (ap (λ n. n + 1) carries.count ∙ (sym (length-append v.messages (S ∷ [])) ∙ ap length (sym more)));
+carries-sent : {A : Type 0} (messages : List (Vec ℕ A)) (bytes : Vec ℕ A) (S : List Operation) (v w : World) → w.messages ≡ v.messages ++ S ∷ [] → Carries bytes.items S
+    → AreCarried messages v → AreCarried (messages ++ bytes ∷ []) w
+carries-sent {A = A} messages bytes S v w more carried carries = record {
+  count = length-append messages (bytes ∷ []) ∙ (ap (λ n. n + 1) carries.count ∙ (sym (length-append v.messages (S ∷ [])) ∙ ap length (sym more)));
   carry = λ number found is.
-      let P : List (List Operation) → Type 0 = λ sets. Same (pair_state found) (state (message sets (number + 1))) in
-      subst P (sym more) (at number found (slice_get_push messages pair found number is));
+      let P : List (List Operation) → Type 0 = λ sets. Carries found.items (message sets (number + 1)) in
+      subst P (sym more) (at number found (slice_get_push messages bytes found number is));
 }
   where
-    at : (number : ℕ) (found : PairValue) → (slice_get messages number ≡ Some found) ⊎ ((number ≡ length messages) × (found ≡ pair))
-        → Same (pair_state found) (state (message (v.messages ++ S ∷ []) (number + 1)))
+    at : (number : ℕ) (found : Vec ℕ A) → (slice_get messages number ≡ Some found) ⊎ ((number ≡ length messages) × (found ≡ bytes))
+        → Carries found.items (message (v.messages ++ S ∷ []) (number + 1))
     at number found (inl before) =
         let within = slice_get_within messages number found before in
         let inside : number + 1 ≤ length v.messages = let e = carries.count in omega arith in
         rw (message-kept v.messages (S ∷ []) (number + 1) inside) (carries.carry number found before)
     at number found (inr last) =
         let e : number ≡ length v.messages = last.0 ∙ carries.count in
-        rw (e, last.1, message-added v.messages S) same
+        rw (e, last.1, message-added v.messages S) carried
 
 -- a group that knows some dot is of some operation
 some_outgoing : (pair : PairValue) (S : List Operation) → Same (pair_state pair) (state S) → ¬ HasNone pair.1 → S ≢ []
@@ -84,11 +85,11 @@ module _ {A : Type 0} where
       go false is = let apart : n ≢ name = grind (arith, nat_tests) in ap is_some (replaces.others n apart)
 
   -- an event at one replica
-  keeps_event : (old new : BTreeMap ℕ (Replica A)) (messages more : List PairValue) (past : List Event) (e : Event) → Keeps old messages past
+  keeps_event : (old new : BTreeMap ℕ (Replica A)) (messages more : List (Vec ℕ A)) (past : List Event) (e : Event) → Keeps old messages past
       → ((n : ℕ) → n ≢ replica_of e → get nat_cmp new n ≡ get nat_cmp old n)
       → Means (live_of (get nat_cmp new (replica_of e))) (group_of (get nat_cmp new (replica_of e))) (after (past ++ e ∷ [])) (replica_of e)
       → ((n : ℕ) → is_some (get nat_cmp new n) ≡ is_node (after (past ++ e ∷ [])) n)
-      → Carries more (after (past ++ e ∷ []))
+      → AreCarried more (after (past ++ e ∷ []))
       → Keeps new more (past ++ e ∷ [])
   keeps_event old new messages more past e keeps others here there carries = record {
     there = there;
@@ -107,7 +108,7 @@ module _ {A : Type 0} where
           let P : Option (Replica A) → Type 0 = λ replica. Means (live_of replica) (group_of replica) (after (past ++ e ∷ [])) n in
           subst P (sym (others n apart)) (means_elsewhere past e n (live_of (get nat_cmp old n)) (group_of (get nat_cmp old n)) apart (keeps.means n))
 
-  carries_of : (replicas : BTreeMap ℕ (Replica A)) (messages : List PairValue) (past : List Event) → Keeps replicas messages past → Carries messages (after past)
+  carries_of : (replicas : BTreeMap ℕ (Replica A)) (messages : List (Vec ℕ A)) (past : List Event) → Keeps replicas messages past → AreCarried messages (after past)
   carries_of replicas messages past keeps = record { count = keeps.count; carry = keeps.carry }
 
   pub keeps_nothing : (replicas : BTreeMap ℕ (Replica A)) → replicas.entries ≡ [] → Keeps replicas [] []
@@ -118,7 +119,7 @@ module _ {A : Type 0} where
         let none : get nat_cmp replicas name ≡ None = rw empty refl in
         subst P (sym none) (record { seen = same-back _ _ nothing_state; outgoing = same-back _ _ nothing_state });
     count = refl;
-    carry = λ number pair is. absurd cc;
+    carry = λ number bytes is. absurd cc;
   }
 
   -- replicas that are alike mean the same
@@ -137,7 +138,7 @@ module _ {A : Type 0} where
       (rw alike.live (same-itself (pair_state before.live))) alike.group means
 
   -- the replicas by what is found of them
-  pub keeps_same : (old new : BTreeMap ℕ (Replica A)) (messages : List PairValue) (past : List Event) → SameReplicas old new → Keeps old messages past → Keeps new messages past
+  pub keeps_same : (old new : BTreeMap ℕ (Replica A)) (messages : List (Vec ℕ A)) (past : List Event) → SameReplicas old new → Keeps old messages past → Keeps new messages past
   keeps_same old new messages past same keeps = record {
     there = λ name. alike_there (get nat_cmp old name) (get nat_cmp new name) (same name) ∙ keeps.there name;
     means = λ name. alike_means (get nat_cmp old name) (get nat_cmp new name) (after past) name (same name) (keeps.means name);
@@ -146,12 +147,12 @@ module _ {A : Type 0} where
   }
 
   -- what a replica that is there means
-  pub means_at : (replicas : BTreeMap ℕ (Replica A)) (messages : List PairValue) (past : List Event) (name : ℕ) (replica : Replica A) → Keeps replicas messages past
+  pub means_at : (replicas : BTreeMap ℕ (Replica A)) (messages : List (Vec ℕ A)) (past : List Event) (name : ℕ) (replica : Replica A) → Keeps replicas messages past
       → get nat_cmp replicas name ≡ Some replica → Means (pair_state replica.live) (group_state replica.group) (after past) name
   means_at replicas messages past name replica keeps is =
       let P : Option (Replica A) → Type 0 = λ r. Means (live_of r) (group_of r) (after past) name in subst P is (keeps.means name)
 
-  pub keeps_node : (old new : BTreeMap ℕ (Replica A)) (messages : List PairValue) (past : List Event) (name : ℕ) (replica : Replica A) → Keeps old messages past
+  pub keeps_node : (old new : BTreeMap ℕ (Replica A)) (messages : List (Vec ℕ A)) (past : List Event) (name : ℕ) (replica : Replica A) → Keeps old messages past
       → get nat_cmp old name ≡ None → Updates nat_cmp old new name (Some replica) → Same (pair_state replica.live) (state []) → replica.group ≡ []
       → Keeps new messages (past ++ Node name ∷ [])
   keeps_node old new messages past name replica keeps absent updates live group =
@@ -182,7 +183,7 @@ module _ {A : Type 0} where
       by n false is = keeps.there n ∙ sym (ap (λ b. is_node (after past) n || b) (sym is) ∙ or_false (is_node (after past) n))
 
   -- an operation of a replica, whose delta is one with which its pairs mean what they should after the event
-  keeps_made : (old new : BTreeMap ℕ (Replica A)) (messages : List PairValue) (past : List Event) (e : Event) (before now : Replica A) (delta : State (List ℕ) (List ℕ))
+  keeps_made : (old new : BTreeMap ℕ (Replica A)) (messages : List (Vec ℕ A)) (past : List Event) (e : Event) (before now : Replica A) (delta : State (List ℕ) (List ℕ))
       → Keeps old messages past → Replaces old new (replica_of e) before now → Takes before now delta
       → (Means (pair_state before.live) (group_state before.group) (after past) (replica_of e)
       → Means (join greater (pair_state before.live) delta) (join greater (group_state before.group) delta) (after (past ++ e ∷ [])) (replica_of e))
@@ -198,7 +199,7 @@ module _ {A : Type 0} where
       (λ n. same_there old new (replica_of e) before now replaces n ∙ (keeps.there n ∙ sym (there n)))
       (carries-same messages (after past) (after (past ++ e ∷ [])) same (carries_of old messages past keeps))
 
-  pub keeps_put : (old new : BTreeMap ℕ (Replica A)) (messages : List PairValue) (past : List Event) (name : ℕ) (key value : List ℕ) (before now : Replica A) (delta : State (List ℕ) (List ℕ)) (w : Write)
+  pub keeps_put : (old new : BTreeMap ℕ (Replica A)) (messages : List (Vec ℕ A)) (past : List Event) (name : ℕ) (key value : List ℕ) (before now : Replica A) (delta : State (List ℕ) (List ℕ)) (w : Write)
       → Keeps old messages past → Replaces old new name before now → Takes before now delta → IsPutAt (pair_state before.live) name key value w → Same delta (state (Wrote w ∷ []))
       → Keeps new messages (past ++ Put name key value ∷ [])
   keeps_put old new messages past name key value before now delta w keeps replaces takes made means =
@@ -206,7 +207,7 @@ module _ {A : Type 0} where
       (λ holds. after_put_at past name (pair_state before.live) (group_state before.group) holds key value w delta made means)
       (messages_after past (Put name key value)) (λ n. ap (λ w. is_node w n) (after-push past (Put name key value)))
 
-  pub keeps_remove : (old new : BTreeMap ℕ (Replica A)) (messages : List PairValue) (past : List Event) (name : ℕ) (key : List ℕ) (before now : Replica A) (delta : State (List ℕ) (List ℕ)) (over : List Dot)
+  pub keeps_remove : (old new : BTreeMap ℕ (Replica A)) (messages : List (Vec ℕ A)) (past : List Event) (name : ℕ) (key : List ℕ) (before now : Replica A) (delta : State (List ℕ) (List ℕ)) (over : List Dot)
       → Keeps old messages past → Replaces old new name before now → Takes before now delta → IsRemoveAt (pair_state before.live) key over → Same delta (state (erasure over))
       → Keeps new messages (past ++ Remove name key ∷ [])
   keeps_remove old new messages past name key before now delta over keeps replaces takes made means =
@@ -214,7 +215,7 @@ module _ {A : Type 0} where
       (λ holds. after_remove_at past name (pair_state before.live) (group_state before.group) holds key over delta made means)
       (messages_after past (Remove name key)) (λ n. ap (λ w. is_node w n) (after-push past (Remove name key)))
 
-  pub keeps_clear : (old new : BTreeMap ℕ (Replica A)) (messages : List PairValue) (past : List Event) (name : ℕ) (before now : Replica A) (delta : State (List ℕ) (List ℕ)) (over : List Dot)
+  pub keeps_clear : (old new : BTreeMap ℕ (Replica A)) (messages : List (Vec ℕ A)) (past : List Event) (name : ℕ) (before now : Replica A) (delta : State (List ℕ) (List ℕ)) (over : List Dot)
       → Keeps old messages past → Replaces old new name before now → Takes before now delta → IsClearAt (pair_state before.live) over → Same delta (state (erasure over))
       → Keeps new messages (past ++ Clear name ∷ [])
   keeps_clear old new messages past name before now delta over keeps replaces takes made means =
@@ -222,56 +223,53 @@ module _ {A : Type 0} where
       (λ holds. after_clear_at past name (pair_state before.live) (group_state before.group) holds over delta made means)
       (messages_after past (Clear name)) (λ n. ap (λ w. is_node w n) (after-push past (Clear name)))
 
-  pub keeps_deliver : (old new : BTreeMap ℕ (Replica A)) (messages : List PairValue) (past : List Event) (name number : ℕ) (pair : PairValue) (before now : Replica A)
-      → Keeps old messages past → Replaces old new name before now → 1 ≤ number → slice_get messages (number - 1) ≡ Some pair
+  pub keeps_deliver : (old new : BTreeMap ℕ (Replica A)) (messages : List (Vec ℕ A)) (past : List Event) (name number : ℕ) (pair : PairValue) (before now : Replica A)
+      → Keeps old messages past → Replaces old new name before now → Same (pair_state pair) (state (message (after past).messages number))
       → Same (pair_state now.live) (join greater (pair_state before.live) (pair_state pair)) → now.group ≡ before.group
       → Keeps new messages (past ++ Deliver number name ∷ [])
-  keeps_deliver old new messages past name number pair before now keeps replaces first found live group =
+  keeps_deliver old new messages past name number pair before now keeps replaces means live group =
       keeps_event old new messages messages past (Deliver number name) keeps replaces.others
       (let P : Option (Replica A) → Type 0 = λ r. Means (live_of r) (group_of r) (after (past ++ Deliver number name ∷ [])) name in
-      let same : number - 1 + 1 ≡ number = omega arith in
       subst P (sym replaces.becomes)
       (means-same (join greater (pair_state before.live) (pair_state pair)) (pair_state now.live) (group_state before.group) (group_state now.group)
       (after (past ++ Deliver number name ∷ [])) name live (rw group (same-itself (group_state before.group)))
-      (after_deliver past name (pair_state before.live) (group_state before.group) (means_at old messages past name before keeps replaces.was) number (pair_state pair)
-      (rw same at (keeps.carry (number - 1) pair found)))))
+      (after_deliver past name (pair_state before.live) (group_state before.group) (means_at old messages past name before keeps replaces.was) number (pair_state pair) means)))
       (λ n. same_there old new name before now replaces n ∙ (keeps.there n ∙ sym (ap (λ w. is_node w n) (after-push past (Deliver number name)))))
       (carries-same messages (after past) (after (past ++ Deliver number name ∷ [])) (messages_after past (Deliver number name)) (carries_of old messages past keeps))
 
   -- a flush of a group that knows some dot
-  pub keeps_sent : (old new : BTreeMap ℕ (Replica A)) (messages : List PairValue) (past : List Event) (name : ℕ) (before now : Replica A) (pair : PairValue) → Keeps old messages past
-      → Replaces old new name before now → Sends before now pair
-      → Keeps new (messages ++ pair ∷ []) (past ++ Flush name ∷ [])
-  keeps_sent old new messages past name before now pair keeps replaces sends =
+  pub keeps_sent : (old new : BTreeMap ℕ (Replica A)) (messages : List (Vec ℕ A)) (past : List Event) (name : ℕ) (before now : Replica A) (bytes : Vec ℕ A) → Keeps old messages past
+      → Replaces old new name before now → CanSend before bytes.items → IsSent before now
+      → Keeps new (messages ++ bytes ∷ []) (past ++ Flush name ∷ [])
+  keeps_sent old new messages past name before now bytes keeps replaces can sent_now =
       let means = means_at old messages past name before keeps replaces.was in
-      let same = same-chain _ _ _ sends.means means.outgoing in
-      keeps_event old new messages (messages ++ pair ∷ []) past (Flush name) keeps replaces.others
+      let same = same-chain _ _ _ can.means means.outgoing in
+      keeps_event old new messages (messages ++ bytes ∷ []) past (Flush name) keeps replaces.others
       (let P : Option (Replica A) → Type 0 = λ r. Means (live_of r) (group_of r) (after (past ++ Flush name ∷ [])) name in
       subst P (sym replaces.becomes)
-      (rw (sends.live, sends.empty) (after_flush past name (pair_state before.live) (group_state before.group) means (state []) (same-itself (state [])))))
+      (rw (sent_now.live, sent_now.empty) (after_flush past name (pair_state before.live) (group_state before.group) means (state []) (same-itself (state [])))))
       (λ n. same_there old new name before now replaces n ∙ (keeps.there n ∙ sym (ap (λ w. is_node w n) (after-push past (Flush name)))))
-      (carries-sent messages pair ((after past).outgoing name) (after past) (after (past ++ Flush name ∷ []))
+      (carries-sent messages bytes ((after past).outgoing name) (after past) (after (past ++ Flush name ∷ []))
       (messages_after past (Flush name) ∙ ap (λ more. (after past).messages ++ more) (sent-some ((after past).outgoing name)
-      (some_outgoing pair ((after past).outgoing name) same sends.some)))
-      same (carries_of old messages past keeps))
+      (some_outgoing can.delta ((after past).outgoing name) same can.some)))
+      (record { delta = can.delta; spells = can.spells; means = same }) (carries_of old messages past keeps))
 
   -- a flush of a group that knows no dot
-  pub keeps_unsent : (old new : BTreeMap ℕ (Replica A)) (messages : List PairValue) (past : List Event) (name : ℕ) (replica : Replica A) → Keeps old messages past
-      → SameReplicas old new → get nat_cmp old name ≡ Some replica → HasNothingToSend replica
-      → Keeps new messages (past ++ Flush name ∷ [])
-  keeps_unsent old new messages past name replica keeps same is unknown =
-      let means = means_at old messages past name replica keeps is in
+  pub keeps_unsent : (replicas : BTreeMap ℕ (Replica A)) (messages : List (Vec ℕ A)) (past : List Event) (name : ℕ) (replica : Replica A) → Keeps replicas messages past
+      → get nat_cmp replicas name ≡ Some replica → HasNothingToSend replica
+      → Keeps replicas messages (past ++ Flush name ∷ [])
+  keeps_unsent replicas messages past name replica keeps is unknown =
+      let means = means_at replicas messages past name replica keeps is in
       let none = (group_empty past name (pair_state replica.live) (group_state replica.group) means).0 unknown in
-      let kept = keeps_same old new messages past same keeps in
-      keeps_event new new messages messages past (Flush name) kept (λ n apart. refl)
-      (after_flush past name (live_of (get nat_cmp new name)) (group_of (get nat_cmp new name)) (kept.means name) (group_of (get nat_cmp new name))
-      (let Q : List Operation → Type 0 = λ S. Same (group_of (get nat_cmp new name)) (state S) in subst Q none (kept.means name).outgoing))
-      (λ n. kept.there n ∙ sym (ap (λ w. is_node w n) (after-push past (Flush name))))
+      keeps_event replicas replicas messages messages past (Flush name) keeps (λ n apart. refl)
+      (after_flush past name (live_of (get nat_cmp replicas name)) (group_of (get nat_cmp replicas name)) (keeps.means name) (group_of (get nat_cmp replicas name))
+      (let Q : List Operation → Type 0 = λ S. Same (group_of (get nat_cmp replicas name)) (state S) in subst Q none (keeps.means name).outgoing))
+      (λ n. keeps.there n ∙ sym (ap (λ w. is_node w n) (after-push past (Flush name))))
       (carries-same messages (after past) (after (past ++ Flush name ∷ []))
-      (messages_after past (Flush name) ∙ (ap (λ S. (after past).messages ++ sent S) none ∙ append-nil (after past).messages)) (carries_of old messages past keeps))
+      (messages_after past (Flush name) ∙ (ap (λ S. (after past).messages ++ sent S) none ∙ append-nil (after past).messages)) (carries_of replicas messages past keeps))
 
   -- the same replicas, and room made for one more event
-  pub keeps_unchanged : (old new : BTreeMap ℕ (Replica A)) (messages : List PairValue) (past reserved : List Event) → new.entries ≡ old.entries → reserved ≡ past
+  pub keeps_unchanged : (old new : BTreeMap ℕ (Replica A)) (messages : List (Vec ℕ A)) (past reserved : List Event) → new.entries ≡ old.entries → reserved ≡ past
       → Keeps old messages past → Keeps new messages reserved
   keeps_unchanged old new messages past reserved same room keeps =
       rw room (keeps_same old new messages past (λ name. alike_found (get nat_cmp old name) (get nat_cmp new name) (ap (lookup (is_at (nat_cmp name))) same)) keeps)

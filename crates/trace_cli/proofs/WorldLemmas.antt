@@ -10,7 +10,7 @@ use Rattle.delta_ops.specs.Group.{group_state}
 use Rattle.dots.specs.Dot.{same_dot}
 use Rattle.dots.specs.declared.dot.Dot.{Dot}
 use Rattle.std.specs.List.{IsDistinct}
-use Rattle.trace_cli.specs.Replaces.{Sends, HasNothingToSend}
+use Rattle.trace_cli.specs.Replaces.{CanSend, HasNothingToSend}
 use Rattle.delta_ops.specs.Pair.{PairValue, pair_state}
 use Rattle.delta_ops.proofs.Puts.{next_is}
 use Rattle.op_model.specs.Made.{IsPutAt, IsRemoveAt, IsClearAt, dot_at, removed_at, cleared_at}
@@ -19,12 +19,13 @@ use Rattle.op_model.specs.Operation.{Operation, Write, known}
 use Rattle.op_model.specs.Operation.{has as is_among}
 use Rattle.dots.specs.Dot.{DotValue}
 use Rattle.op_model.specs.Shown.{IsAscending, values, keys}
-use Rattle.op_model.specs.World.{Event, after, is_node, is_message}
+use Rattle.op_model.specs.World.{Event, after, is_node, is_message, message}
 use Rattle.op_model.proofs.Events.{group_empty}
 use Rattle.op_model.proofs.Fresh.{seen-NoReuse}
 use Rattle.op_model.proofs.Making.{put_dot, remove_count, clear_count}
 use Rattle.op_model.proofs.Showing.{values_standing, keys_standing}
-use Rattle.trace_cli.specs.Keeps.{Keeps}
+use Rattle.std.specs.declared.vec.Vec.{Vec}
+use Rattle.trace_cli.specs.Keeps.{Keeps, Carries}
 use Rattle.trace_cli.specs.Outcome.{sent_number}
 use Rattle.trace_cli.specs.declared.replica.Replica.{Replica}
 use Rattle.trace_cli.proofs.Keeping.{means_at}
@@ -33,7 +34,7 @@ pub IfOk-both : {T E : Type 0} {P Q R : T → Type 0} (result : Result T E) → 
 IfOk-both (Ok x) both first then = both x first then
 IfOk-both (Err e) both first then = tt
 
-module _ {A : Type 0} (replicas : BTreeMap ℕ (Replica A)) (messages : List PairValue) (past : List Event) (keeps : Keeps replicas messages past) where
+module _ {A : Type 0} (replicas : BTreeMap ℕ (Replica A)) (messages : List (Vec ℕ A)) (past : List Event) (keeps : Keeps replicas messages past) where
   -- a replica that was found is there
   pub found_node : (name : ℕ) (replica : Replica A) → Some replica ≡ get nat_cmp replicas name → is_node (after past) name ≡ true
   found_node name replica found = sym (ap is_some found ∙ keeps.there name)
@@ -61,19 +62,20 @@ module _ {A : Type 0} (replicas : BTreeMap ℕ (Replica A)) (messages : List Pai
       let means = means_at replicas messages past name replica keeps (sym is) in
       values_standing ((after past).seen name) key (pair_state replica.live) found (seen-NoReuse past name) means.seen ascending standing
 
-  -- a message that was found is one
-  pub found_message : (number : ℕ) (pair : PairValue) → Some pair ≡ cond (nat_lt 0 number) (slice_get messages (number - 1)) None
-      → (1 ≤ number) × (slice_get messages (number - 1) ≡ Some pair) × (is_message (after past) number ≡ true)
-  found_message number pair is = go (nat_lt 0 number) refl is
+  -- a message that was found is one, and carries what it should
+  pub found_message : (number : ℕ) (bytes : Vec ℕ A) → Some bytes ≡ cond (nat_lt 0 number) (slice_get messages (number - 1)) None
+      → (is_message (after past) number ≡ true) × Carries bytes.items (message (after past).messages number)
+  found_message number bytes is = go (nat_lt 0 number) refl is
     where
-      go : (b : Bool) → nat_lt 0 number ≡ b → Some pair ≡ cond b (slice_get messages (number - 1)) None
-          → (1 ≤ number) × (slice_get messages (number - 1) ≡ Some pair) × (is_message (after past) number ≡ true)
+      go : (b : Bool) → nat_lt 0 number ≡ b → Some bytes ≡ cond b (slice_get messages (number - 1)) None
+          → (is_message (after past) number ≡ true) × Carries bytes.items (message (after past).messages number)
       go false none found = absurd cc
       go true first found =
           let one : 1 ≤ number = grind (arith, nat_tests) in
-          let within : number - 1 < length messages = slice_get_within messages (number - 1) pair (sym found) in
+          let within : number - 1 < length messages = slice_get_within messages (number - 1) bytes (sym found) in
           let count = keeps.count in
-          (one, sym found, grind (arith, nat_tests))
+          let same : number - 1 + 1 ≡ number = omega arith in
+          (grind (arith, nat_tests), rw same at (keeps.carry (number - 1) bytes (sym found)))
 
   -- a message that was not found is none
   pub no_message : (number : ℕ) → None ≡ cond (nat_lt 0 number) (slice_get messages (number - 1)) None → is_message (after past) number ≡ false
@@ -83,7 +85,7 @@ module _ {A : Type 0} (replicas : BTreeMap ℕ (Replica A)) (messages : List Pai
       go false none missing = let count = keeps.count in grind (arith, nat_tests)
       go true first missing = past_all (slice_get_cases messages (number - 1)).1 first missing
         where
-          past_all : ((x : PairValue) × (number - 1 < length messages) × (slice_get messages (number - 1) ≡ Some x) × (get_or messages (number - 1) x ≡ x))
+          past_all : ((x : Vec ℕ A) × (number - 1 < length messages) × (slice_get messages (number - 1) ≡ Some x) × (get_or messages (number - 1) x ≡ x))
               ⊎ ((length messages ≤ number - 1) × (slice_get messages (number - 1) ≡ None)) → nat_lt 0 number ≡ true → None ≡ slice_get messages (number - 1) → is_message (after past) number ≡ false
           past_all (inl there) first missing = absurd (let both : None ≡ Some there.0 = missing ∙ there.2 in cc)
           past_all (inr past_end) first missing =
@@ -91,14 +93,14 @@ module _ {A : Type 0} (replicas : BTreeMap ℕ (Replica A)) (messages : List Pai
               let beyond = past_end.0 in
               grind (arith, nat_tests)
 
-  pub sent_next : (group : PairValue) (S : List Operation) → S ≢ [] → Some (length (messages ++ group ∷ [])) ≡ sent_number S (length (after past).messages + 1)
+  pub sent_next : (group : Vec ℕ A) (S : List Operation) → S ≢ [] → Some (length (messages ++ group ∷ [])) ≡ sent_number S (length (after past).messages + 1)
   sent_next group [] some = absurd (some refl)
   sent_next group (o ∷ S) some = let count = keeps.count in ap Some (length-append messages (group ∷ []) ∙ ap (λ n. n + 1) count)
 
-  pub outgoing_some : (name : ℕ) (before now : Replica A) (pair : PairValue) → get nat_cmp replicas name ≡ Some before → Sends before now pair → (after past).outgoing name ≢ []
-  outgoing_some name before now pair found sends none =
-      let means = means_at replicas messages past name before keeps found in
-      sends.some (λ dot. sends.means.has dot ∙ (means.outgoing.has dot ∙ ap (λ S. (state S).has dot) none))
+  pub outgoing_some : (name : ℕ) (replica : Replica A) (bytes : List ℕ) → get nat_cmp replicas name ≡ Some replica → CanSend replica bytes → (after past).outgoing name ≢ []
+  outgoing_some name replica bytes found can none =
+      let means = means_at replicas messages past name replica keeps found in
+      can.some (λ dot. can.means.has dot ∙ (means.outgoing.has dot ∙ ap (λ S. (state S).has dot) none))
 
   pub outgoing_none : (name : ℕ) (replica : Replica A) → get nat_cmp replicas name ≡ Some replica → HasNothingToSend replica → (after past).outgoing name ≡ []
   outgoing_none name replica found unknown =

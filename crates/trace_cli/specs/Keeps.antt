@@ -9,6 +9,9 @@ use Rattle.op_model.specs.Meaning.{state}
 use Rattle.op_model.specs.State.{State, Same}
 use Rattle.op_model.specs.World.{Event, after, is_node, message, Means}
 use Rattle.op_model.specs.World as world
+use Rattle.op_model.specs.Operation.{Operation}
+use Rattle.std.specs.declared.vec.Vec.{Vec}
+use Rattle.wire_form.specs.Message.{SpellsDelta}
 use Rattle.trace_cli.specs.declared.event.Event.TheVariants as event
 use Rattle.trace_cli.specs.declared.event.Event as declared
 use Rattle.trace_cli.specs.declared.replica.Replica.{Replica}
@@ -35,9 +38,15 @@ abbrev pub group_of : {A : Type 0} → Option (Replica A) → State (List ℕ) (
 group_of None = bottom
 group_of (Some replica) = group_state replica.group
 
+-- the bytes spell a delta that means these operations
+pub record Carries (bytes : List ℕ) (S : List Operation) : Type 0 where
+  pub delta : PairValue
+  pub spells : SpellsDelta bytes delta
+  pub means : Same (pair_state delta) (state S)
+
 -- the replicas and the messages are those of the world after these events
-pub record Keeps {A : Type 0} (replicas : BTreeMap ℕ (Replica A)) (messages : List PairValue) (past : List Event) : Type 0 where
+pub record Keeps {A : Type 0} (replicas : BTreeMap ℕ (Replica A)) (messages : List (Vec ℕ A)) (past : List Event) : Type 0 where
   pub there : (name : ℕ) → is_some (get nat_cmp replicas name) ≡ is_node (after past) name
   pub means : (name : ℕ) → Means (live_of (get nat_cmp replicas name)) (group_of (get nat_cmp replicas name)) (after past) name
   pub count : length messages ≡ length (after past).messages
-  pub carry : (number : ℕ) (pair : PairValue) → slice_get messages number ≡ Some pair → Same (pair_state pair) (state (message (after past).messages (number + 1)))
+  pub carry : (number : ℕ) (bytes : Vec ℕ A) → slice_get messages number ≡ Some bytes → Carries bytes.items (message (after past).messages (number + 1))

@@ -8,6 +8,7 @@ use Rattle.delta_ops.specs.Group.{group_state}
 use Rattle.delta_ops.specs.Pair.{PairValue, pair_state}
 use Rattle.op_model.specs.Meaning.{greater}
 use Rattle.op_model.specs.State.{State, Same, join}
+use Rattle.wire_form.specs.Message.{SpellsDelta}
 use Rattle.trace_cli.specs.declared.replica.Replica.{Replica}
 
 -- the replica of this name, which was `before`, is `after`, and each other is as it was
@@ -21,11 +22,16 @@ pub record Takes {A : Type 0} (before after : Replica A) (delta : State (List �
   pub live : Same (pair_state after.live) (join greater (pair_state before.live) delta)
   pub group : Same (group_state after.group) (join greater (group_state before.group) delta)
 
--- the replica sent this pair, which means what it had to send, and has nothing more to send
-pub record Sends {A : Type 0} (before after : Replica A) (sent : PairValue) : Type 0 where
+-- these bytes spell what the replica has to send, which is something
+pub record CanSend {A : Type 0} (replica : Replica A) (bytes : List ℕ) : Type 0 where
+  pub delta : PairValue
+  pub spells : SpellsDelta bytes delta
+  pub means : Same (pair_state delta) (group_state replica.group)
+  pub some : ¬ HasNone delta.1
+
+-- the replica has nothing more to send
+pub record IsSent {A : Type 0} (before after : Replica A) : Type 0 where
   pub live : after.live ≡ before.live
-  pub means : Same (pair_state sent) (group_state before.group)
-  pub some : ¬ HasNone sent.1
   pub empty : after.group ≡ []
 
 -- the replica has nothing to send: its group knows no dot

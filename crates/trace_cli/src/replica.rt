@@ -14,6 +14,7 @@ use dot_store::DotFun;
 use dots::{Key, Refusal, Value};
 use std::alloc::{AllocError, Allocator, Global};
 use std::collections::BTreeSet;
+use wire_form::{Message, encode};
 
 /// One replica: what it holds, and what it made since it last sent.
 #[derive(Drop)]
@@ -23,7 +24,7 @@ pub(crate) struct Replica<A: Allocator + Copy = Global> {
 }
 
 impl<A: Allocator + Copy> Replica<A> {
-    ghost use Rattle.trace_cli.specs.Replaces.{Takes, IsAlike, Sends, HasNothingToSend};
+    ghost use Rattle.trace_cli.specs.Replaces.{Takes, IsAlike, CanSend, HasNothingToSend};
 
     /// A replica that has seen nothing. Takes no memory.
     pub fn new(alloc: A) -> Replica<A>
@@ -60,15 +61,16 @@ impl<A: Allocator + Copy> Replica<A> {
         self.live.join_into(alloc, message)
     }
 
-    /// What the replica made since it last sent, which it then has sent; None where it made nothing. A refused call
-    /// changes nothing.
-    pub fn flush(&mut self, alloc: A) -> Result<Option<Pair<A>>, Refusal>
-        ensures some { IfOk result (λ made. IfSome made (Sends self.old self.new)) }
-        ensures none { IfOk result (λ made. IfNone made (HasNothingToSend self.old × (self.new ≡ self.old))) }
-        ensures unchanged { OnErr result (self.new ≡ self.old) }
+    /// The bytes of the message that carries what the replica made since it last sent, or None where it made nothing.
+    pub fn message(&self, alloc: A) -> Result<Option<Vec<u8, A>>, Refusal>
+        ensures some { IfOk result (λ made. IfSome made (λ bytes. CanSend self.now bytes.items)) }
+        ensures none { IfOk result (λ made. IfNone made (HasNothingToSend self.now)) }
         ensures refusal { IsOkUnless result Refusal.OutOfMemory }
     {
-        self.group.take(alloc)
+        match self.group.whole(alloc)? {
+            Some(whole) => Ok(Some(encode(alloc, &Message::Delta(whole))?)),
+            None => Ok(None),
+        }
     }
 
     /// The distinct values of a key, ascending by bytes.

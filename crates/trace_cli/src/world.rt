@@ -1,4 +1,4 @@
-ghost use Rattle.std.specs.Prelude.{◌≡◌, ◌≢◌, ◌+◌, ◌<◌, ◌≤◌, ◌^◌, ◌⊎◌, ◌↔◌, ◌++◌, ◌∷◌, [], List, length, true, false, Some, None, IfOk, IfErr, OnOk, OnErr, IsErrOf, IsTrue, IfSome, IsSome, IfNone, IsOkUnless, Option, nat_lt, ◌-◌, if◌then◌else◌};
+ghost use Rattle.std.specs.Prelude.{◌≡◌, ◌≢◌, ◌+◌, ◌<◌, ◌≤◌, ◌^◌, ◌⊎◌, ◌↔◌, ◌++◌, ◌∷◌, [], List, length, true, false, Some, None, IfOk, IfErr, OnOk, OnErr, IsErrOf, IsTrue, IfSome, IsSome, IfNone, IsOkUnless, Option, MatchResult, nat_lt, ◌-◌, if◌then◌else◌};
 ghost use Rattle.std.specs.List.{slice_get};
 ghost use Rattle.std.specs.Option.{option_copied};
 ghost use Rattle.std.specs.BTreeMap.{get};
@@ -8,11 +8,12 @@ ghost use Rattle.delta_ops.specs.Pair.{pair_state};
 ghost use Rattle.dots.specs.Dot.{DotValue};
 ghost use Rattle.op_model.specs.Meaning.{greater, state};
 ghost use Rattle.op_model.specs.State.{Same, join};
-ghost use Rattle.trace_cli.specs.Replaces.{Replaces, SameReplicas, Takes, Sends, HasNothingToSend};
+ghost use Rattle.trace_cli.specs.Replaces.{Replaces, SameReplicas, Takes, IsSent};
 ghost use Rattle.op_model.specs.World.{Node, Put, Flush, Deliver, Remove, Clear, after, is_node, is_message};
 ghost use Rattle.op_model.specs.Made.{dot_at, removed_at, cleared_at};
 ghost use Rattle.op_model.specs.Shown.{values, keys};
-ghost use Rattle.op_model.specs.Operation.{known, has as is_among};
+ghost use Rattle.op_model.specs.Operation.{Operation, known, has as is_among};
+ghost use Rattle.trace_cli.specs.Keeps.{Carries};
 ghost use Rattle.trace_cli.specs.Outcome.{sent_number};
 
 use crate::event::Event;
@@ -23,13 +24,14 @@ use dots::{Dot, Key, Name, Refusal, Value};
 use std::alloc::{Allocator, Global};
 use std::collections::BTreeMap;
 use std::marker::Model;
+use wire_form::{Message, decode};
 
 /// A world of replicas and of the messages between them. It is seen as the list of its accepted events.
 #[derive(Drop)]
 pub(crate) struct World<A: Allocator + Copy = Global> {
     alloc: A,
     replicas: BTreeMap<Name, Replica<A>, A>,
-    messages: Vec<Pair<A>, A>,
+    messages: Vec<Vec<u8, A>, A>,
     past: Vec<Event<A>, A>,
 }
 
@@ -191,16 +193,17 @@ impl<A: Allocator + Copy> World<A> {
             ((refusal ≡ Refusal.UnknownReplica) × (is_node (after self.old) name ≡ false))) }
         ensures err { OnErr result (self.new ≡ self.old) }
     {
-        if !self.replicas.contains_key(&name) {
+        let Some(replica) = self.replicas.get(&name) else {
             return Err(Refusal::UnknownReplica);
-        }
+        };
+        let made = replica.message(self.alloc)?;
         self.past.reserve(1)?;
         self.messages.reserve(1)?;
-        let made = flush_at(&mut self.replicas, self.alloc, name)?;
         self.past.push(Event::Flush(name)).unwrap();
         match made {
-            Some(group) => {
-                self.messages.push(group).unwrap();
+            Some(bytes) => {
+                sent_at(&mut self.replicas, name);
+                self.messages.push(bytes).unwrap();
                 Ok(Some(self.messages.len() as u64))
             }
             None => Ok(None),
@@ -224,8 +227,9 @@ impl<A: Allocator + Copy> World<A> {
         let Some(message) = message_of(&self.messages, number) else {
             return Err(Refusal::UnknownMessage);
         };
+        let delta = delta_of(self.alloc, message.as_slice())?;
         self.past.reserve(1)?;
-        deliver_at(&mut self.replicas, self.alloc, name, message)?;
+        deliver_at(&mut self.replicas, self.alloc, name, &delta)?;
         let event = Event::Deliver {
             message: number,
             name,
@@ -236,10 +240,22 @@ impl<A: Allocator + Copy> World<A> {
 }
 
 /// The message of this number, from 1.
-fn message_of<A: Allocator + Copy>(messages: &Vec<Pair<A>, A>, number: u64) -> Option<&Pair<A>>
+fn message_of<A: Allocator + Copy>(
+    messages: &Vec<Vec<u8, A>, A>,
+    number: u64,
+) -> Option<&Vec<u8, A>>
     ensures { option_copied result ≡ (if nat_lt 0 number then slice_get messages.now.items (number - 1) else None) }
 {
     messages.get(number.checked_sub(1)? as usize)
+}
+
+/// The delta that a message carries.
+fn delta_of<A: Allocator + Copy>(alloc: A, message: &[u8]) -> Result<Pair<A>, Refusal>
+    ensures { (S : List Operation) → Carries message.now S →
+        MatchResult result (λ delta. Same (pair_state delta) (state S)) (λ refusal. refusal ≡ Refusal.OutOfMemory) }
+{
+    let Message::Delta(delta) = decode(alloc, message)?;
+    Ok(delta)
 }
 
 /// Joins the delta of an operation of the replica of this name into it. A refused call changes nothing.
@@ -261,22 +277,13 @@ fn make_at<A: Allocator + Copy>(
     }
 }
 
-/// Flushes the replica of this name: what it made since it last sent, if anything. A refused call changes nothing.
-fn flush_at<A: Allocator + Copy>(
-    replicas: &mut BTreeMap<Name, Replica<A>, A>,
-    alloc: A,
-    name: Name,
-) -> Result<Option<Pair<A>>, Refusal>
+/// Empties what the replica of this name has to send. Takes no memory.
+fn sent_at<A: Allocator + Copy>(replicas: &mut BTreeMap<Name, Replica<A>, A>, name: Name)
     requires { IsSome (get nat_cmp replicas.old name) }
-    ensures some { IfOk result (λ made. IfSome made (λ sent. (before : _) × (after : _) ×
-        Replaces replicas.old replicas.new name before after × Sends before after sent)) }
-    ensures none { IfOk result (λ made. IfNone made (SameReplicas replicas.old replicas.new ×
-        IfSome (get nat_cmp replicas.old name) HasNothingToSend)) }
-    ensures refusal { IsOkUnless result Refusal.OutOfMemory }
-    ensures err { OnErr result (SameReplicas replicas.old replicas.new) }
+    ensures { (before : _) × (after : _) × Replaces replicas.old replicas.new name before after × IsSent before after }
 {
     match replicas.get_mut(&name) {
-        Some(replica) => replica.flush(alloc),
+        Some(replica) => replica.group.clear(),
         None => unreachable!(),
     }
 }

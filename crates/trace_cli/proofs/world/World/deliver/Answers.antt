@@ -18,12 +18,13 @@ invariant_of-self-2 g c =
     c.reserve.ensures.items c.push.ensures.items c.unwrap.ensures in
     let made = c.in_ok-deliver_at.ensures.ok in
     let found = found_message _ _ _ c.self.invariant c.args.number c.in-Some.message.now c.in-Some.ensures in
-    rw pushed (keeps_deliver c.self.inside.replicas c.deliver_at.new.replicas c.self.inside.messages.items (map event_value c.self.inside.past.items) c.args.name c.args.number c.in-Some.message.now
-    made.0 made.1 c.self.invariant made.2 found.0 found.1 made.3 made.4)
+    let carried = rw (← c.as_slice.ensures.value) found.1 in
+    rw pushed (keeps_deliver c.self.inside.replicas c.deliver_at.new.replicas c.self.inside.messages.items (map event_value c.self.inside.past.items) c.args.name c.args.number c.in_ok-delta.delta
+    made.0 made.1 c.self.invariant made.2 (c.in_ok-delta.ensures _ carried) made.3 made.4)
 
 pub returns-clause-ok : goal.returns-clause-ok
 returns-clause-ok g c =
     let pushed = past_push event_value c.self.inside.past.items c.reserve.new.self.items c.push.new.self.items _ c.push.result c.unwrap.result
     c.reserve.ensures.items c.push.ensures.items c.unwrap.ensures in
     let found = found_message _ _ _ c.self.invariant c.args.number c.in-Some.message.now c.in-Some.ensures in
-    rw (← c.self.view_is) (sym (c.if-not-contains_key.ensures ∙ c.self.invariant.there c.args.name), found.2, pushed)
+    rw (← c.self.view_is) (sym (c.if-not-contains_key.ensures ∙ c.self.invariant.there c.args.name), found.0, pushed)
