@@ -25,6 +25,8 @@ use Rattle.op_model.proofs.Fresh.{seen-NoReuse}
 use Rattle.op_model.proofs.Making.{put_dot, remove_count, clear_count}
 use Rattle.op_model.proofs.Showing.{values_standing, keys_standing}
 use Rattle.std.specs.declared.vec.Vec.{Vec}
+use Rattle.wire_form.specs.Message.{MessageValue, Delta, Spells}
+use Rattle.op_model.specs.State.{Same}
 use Rattle.trace_cli.specs.Keeps.{Keeps, Carries}
 use Rattle.trace_cli.specs.Outcome.{sent_number}
 use Rattle.trace_cli.specs.declared.replica.Replica.{Replica}
@@ -130,6 +132,13 @@ module _ {A : Type 0} (replicas : BTreeMap ℕ (Replica A)) (messages : List (Ve
   keys_of_all name replica found is ascending standing =
       let means = means_at replicas messages past name replica keeps (sym is) in
       keys_standing ((after past).seen name) (pair_state replica.live) found means.seen ascending standing
+
+-- the delta that the bytes spell means what they carry
+pub delta_means : (bytes : List ℕ) (delta : PairValue) (S : List Operation) → Carries bytes S → ((m : MessageValue) → Spells bytes m → Delta delta ≡ m) → Same (pair_state delta) (state S)
+delta_means bytes delta S carried only = rw (delta_is delta carried.delta (only (Delta carried.delta) carried.spells)) carried.means
+  where
+    delta_is : (d e : PairValue) → Delta d ≡ Delta e → d ≡ e
+    delta_is d e same = cc
 
 -- a replica that was found twice is one
 pub same_replica : {A : Type 0} (replicas : BTreeMap ℕ (Replica A)) (name : ℕ) (found again : Replica A) → Some found ≡ get nat_cmp replicas name → get nat_cmp replicas name ≡ Some again → found ≡ again

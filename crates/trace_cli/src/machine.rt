@@ -8,7 +8,10 @@ ghost use Rattle.trace_cli.specs.Machine.{start, answer_to, past_after, answer_b
 ghost use Rattle.trace_cli.specs.Outcome.{Done, Refused, outcome_of, put_text, values_text, node_outcome, put_outcome, get_outcome, flush_outcome, deliver_outcome, remove_outcome, clear_outcome, show_outcome, size_outcome, context_outcome, entry_text};
 ghost use Rattle.trace_cli.specs.Word.{shown_as};
 
-use crate::answer::{context_answer, erased_answer, flush_answer, get_answer, map_answer, push_entry, put_answer, reply, size_answer};
+use crate::answer::{
+    context_answer, erased_answer, flush_answer, get_answer, map_answer, push_entry, put_answer,
+    reply, size_answer,
+};
 use crate::command::{Command, parse};
 use crate::reply::Reply;
 use crate::world::World;

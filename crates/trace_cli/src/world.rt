@@ -14,6 +14,7 @@ ghost use Rattle.op_model.specs.Made.{dot_at, removed_at, cleared_at};
 ghost use Rattle.op_model.specs.Shown.{values, keys};
 ghost use Rattle.op_model.specs.Operation.{Operation, known, has as is_among};
 ghost use Rattle.trace_cli.specs.Keeps.{Carries};
+ghost use Rattle.wire_form.specs.Message.{message_of, Delta};
 ghost use Rattle.trace_cli.specs.Outcome.{sent_number};
 
 use crate::event::Event;
@@ -254,8 +255,16 @@ fn delta_of<A: Allocator + Copy>(alloc: A, message: &[u8]) -> Result<Pair<A>, Re
     ensures { (S : List Operation) → Carries message.now S →
         MatchResult result (λ delta. Same (pair_state delta) (state S)) (λ refusal. refusal ≡ Refusal.OutOfMemory) }
 {
-    let Message::Delta(delta) = decode(alloc, message)?;
-    Ok(delta)
+    let message = decode(alloc, message)?;
+    Ok(carried_by(message))
+}
+
+/// The delta of the message: there is no other kind.
+fn carried_by<A: Allocator + Copy>(message: Message<A>) -> Pair<A>
+    ensures { message_of message ≡ Delta result }
+{
+    let Message::Delta(delta) = message;
+    delta
 }
 
 /// Joins the delta of an operation of the replica of this name into it. A refused call changes nothing.

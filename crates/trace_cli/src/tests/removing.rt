@@ -19,7 +19,12 @@ fn what_was_put_beside_a_clear_stays(rt: HostRuntime) {
 
 #[test]
 fn a_remove_that_finds_nothing_is_not_sent(rt: HostRuntime) {
-    answers(&rt, rt.alloc(), "node 1\nremove 1 a\nclear 1\nflush 1\n", "ok\nok 0\nok 0\nempty\n");
+    answers(
+        &rt,
+        rt.alloc(),
+        "node 1\nremove 1 a\nclear 1\nflush 1\n",
+        "ok\nok 0\nok 0\nempty\n",
+    );
 }
 
 #[test]

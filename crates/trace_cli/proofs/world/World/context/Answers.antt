@@ -1,4 +1,3 @@
-
 use Rattle.trace_cli.proofs.WorldLemmas.{found_node, known_of}
 use Rattle.trace_cli.proofs.world.World.context.Goals as goal
 

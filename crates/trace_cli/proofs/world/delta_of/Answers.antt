@@ -1,0 +1,14 @@
+use Rattle.std.proofs.Common.{sym, ◌∙◌}
+use Rattle.std.proofs.lemmas.Result.{err_from_is_err_and}
+use Rattle.wire_form.specs.Message.{Delta}
+use Rattle.trace_cli.proofs.WorldLemmas.{delta_means}
+use Rattle.trace_cli.proofs.world.delta_of.Goals as goal
+
+pub returns-in_err-message : goal.returns-in_err-message
+returns-in_err-message g c S carried =
+    let p = err_from_is_err_and c.from_residual.result c.from_residual.ensures.1 in
+    rw (p.1, p.2) (c.in_err-message.ensures.only (Delta carried.delta) carried.spells)
+
+pub returns : goal.returns
+returns g c S carried =
+    delta_means c.args.message.now c.carried_by.result S carried (λ m spells. sym c.carried_by.ensures ∙ c.in_ok-message.ensures.only m spells)
