@@ -19,7 +19,6 @@ pub use decoding::decode;
 pub use encoding::encode;
 pub use laws::{a_message_has_one_spelling, bytes_spell_one_delta, bytes_spell_one_message};
 pub use message::Message;
-pub use pair::{Pair, Store};
 
 #[cfg(test)]
 mod tests;

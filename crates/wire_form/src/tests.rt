@@ -2,6 +2,7 @@
 ghost use Rattle.std.specs.Prelude.{◌<◌, ◌≤◌};
 
 use super::*;
+use crate::pair::Store;
 use causal_context::Context;
 use dot_store::{DotFun, DotMap, DotStore};
 use dots::{Dot, Key, Name, Refusal, Value};
