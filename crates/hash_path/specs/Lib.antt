@@ -1,0 +1,3 @@
+pub mod Fnv1a
+pub mod Path
+pub mod PathLaws
