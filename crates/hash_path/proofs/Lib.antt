@@ -1,1 +1,6 @@
 pub mod Prefixes
+pub mod Orders
+pub mod Finding
+pub mod Putting
+pub mod Places
+pub mod Words

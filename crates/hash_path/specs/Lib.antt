@@ -1,3 +1,5 @@
 pub mod Fnv1a
 pub mod Path
 pub mod PathLaws
+pub mod Word
+pub mod Fan
