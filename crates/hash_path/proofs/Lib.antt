@@ -4,3 +4,4 @@ pub mod Finding
 pub mod Putting
 pub mod Places
 pub mod Words
+pub mod Bits

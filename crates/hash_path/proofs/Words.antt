@@ -1,10 +1,10 @@
 -- Words give back their hash and their bytes.
-use Rattle.std.proofs.Common.{◌≡◌, ℕ, zero, suc, ◌≤◌, List, [], ◌∷◌, length, get_or, drop, true, false, arith, refl, sym, ◌∙◌, ap}
+use Rattle.std.proofs.Common.{◌≡◌, ℕ, zero, suc, ◌≤◌, List, [], ◌∷◌, length, get_or, drop, true, false, nat_eq, arith, refl, sym, ◌∙◌, ap}
 use Rattle.std.specs.declared.cmp.Ordering.{Ordering}
 use Rattle.std.specs.declared.cmp.Ordering.TheVariants.{Less, Equal, Greater}
 use Rattle.std.specs.Ordering.{is_eq, eq_by_cmp}
 use Rattle.std.specs.Cmp.{tied_itself, both_ways}
-use Rattle.std.specs.Cmp.Lexicographic.{nat_list_cmp_total}
+use Rattle.std.specs.Cmp.Lexicographic.{nat_list_cmp_total, pointwise, texts_ties}
 use Rattle.std.specs.FinMap.{nat_cmp-IsAntisymmetric, slice_cmp-IsAntisymmetric}
 use Rattle.std.specs.FinMap.Entries.{by_order, put}
 use Rattle.hash_path.specs.Word.{order, word, hash_in, key_in, IsWord, AllWords}
@@ -72,3 +72,8 @@ two_apart {V} w x v u = step (order w x)
     step Less e = omega arith
     step Equal e = cc
     step Greater e = omega arith
+
+-- in code: hashes are compared as numbers and bytes as slices
+pub tied_bytes : (a b : ℕ) (k l : List ℕ) → b ≡ a → pointwise nat_eq l k ≡ eq_by_cmp order (a ∷ k) (b ∷ l)
+tied_bytes a b k l e =
+    texts_ties l k ∙ tied_by l k (a ∷ k) (b ∷ l) (λ p i. sym e i ∷ sym p i) (λ p. sym (ap (drop 1) p))

@@ -1,0 +1,9 @@
+// A trie with generations: a finite map from keys to values whose snapshots cost a few reference counts.
+// Offered to the crates above: the calls of a finite map. A frozen map stays what it was, whatever is written afterwards.
+#![tactic(auto)]
+
+mod entry;
+mod node;
+
+#[cfg(test)]
+mod tests;
