@@ -15,7 +15,7 @@ module _ {V A : Type 0} (below : ℕ) (ss : List (Slot V A)) where
       let within : n < length ss = ltb-true n (length ss) (ap (λ l. nat_lt n (length l)) (sym q) ∙ sym lt) in
       let inside : place i (children below ss) < length (children below ss) = subst (λ k. k < length (children below ss)) p (subst (λ k. n < k) (sym (length-map ss (child below))) within) in
       let seen : child below s ≡ get_or (children below ss) (place i (children below ss)) (child below s) =
-            subst (λ k. child below s ≡ get_or (children below ss) k (child below s)) p (ap (child below) here ∙ sym (get_or-map (child below) ss n s)) in
+      subst (λ k. child below s ≡ get_or (children below ss) k (child below s)) p (ap (child below) here ∙ sym (get_or-map (child below) ss n s)) in
       ap (λ k. nat_eq k i) is ∙ test_some i (child below s) (children below ss) inside seen
 
   pub none_there : (i n : ℕ) (items : List (Slot V A)) → items ≡ ss → false ≡ nat_lt n (length items) → n ≡ place i (children below ss) → false ≡ there i (children below ss)
@@ -36,9 +36,9 @@ module _ {V A : Type 0} (below : ℕ) (ss : List (Slot V A)) where
         taken_is = subst (λ k. t ≡ there k (children below ss)) e (is placed);
         room = omega arith;
         within = λ h.
-          let inside = (there_at j (0, []) (children below ss) (sym (is placed) ∙ h)).0 in
-          let less = subst (λ k. place j (children below ss) < k) (length-map ss (child below)) inside in
-          omega arith;
+            let inside = (there_at j (0, []) (children below ss) (sym (is placed) ∙ h)).0 in
+            let less = subst (λ k. place j (children below ss) < k) (length-map ss (child below)) inside in
+            omega arith;
       }
 
   pub found : (m i count j n : ℕ) (t : Bool) (s : Slot V A) → IsBranch below m ss → IsSeat i (children below ss) count j n t → count ≡ length ss → t ≡ true → s ≡ get_or ss n s
@@ -46,7 +46,7 @@ module _ {V A : Type 0} (below : ℕ) (ss : List (Slot V A)) where
   found m i count j n t s b seat c h e =
       let inside = there_at i (child below s) (children below ss) (sym seat.taken_is ∙ h) in
       let here : child below s ≡ get_or (children below ss) (place i (children below ss)) (child below s) =
-            subst (λ k. child below s ≡ get_or (children below ss) k (child below s)) seat.position_is (ap (child below) e ∙ sym (get_or-map (child below) ss n s)) in
+      subst (λ k. child below s ≡ get_or (children below ss) k (child below s)) seat.position_is (ap (child below) e ∙ sym (get_or-map (child below) ss n s)) in
       let first = ap (λ x. x.0) here ∙ inside.1 in
       let second = ap (λ x. x.1) here ∙ inside.2 in
       let within = seat.within h in

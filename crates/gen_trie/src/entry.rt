@@ -39,6 +39,28 @@ impl<V, A: Allocator> Entry<V, A> {
     pub fn is_before(&self, hash: u32, key: &[u8]) -> bool
         ensures { result ≡ is_gt (order (hash ∷ key.now) (self.now.hash ∷ self.now.key)) }
     {
-        self.hash < hash || (self.hash == hash && self.key.bytes() < key)
+        hash.cmp(&self.hash)
+            .then(key.cmp(&self.key.bytes()))
+            .is_gt()
     }
+}
+
+// Whether the first is the entry of the other's key.
+pub(crate) fn same_key<V, A: Allocator>(
+    entry: &Arc<Entry<V, A>, A>,
+    other: &Arc<Entry<V, A>, A>,
+) -> bool
+    ensures { result ≡ eq_by_cmp order (other.now.value.hash ∷ other.now.value.key) (entry.now.value.hash ∷ entry.now.value.key) }
+{
+    entry.is_at(other.hash, other.key.bytes())
+}
+
+// Whether the first comes before the other.
+pub(crate) fn comes_before<V, A: Allocator>(
+    entry: &Arc<Entry<V, A>, A>,
+    other: &Arc<Entry<V, A>, A>,
+) -> bool
+    ensures { result ≡ is_gt (order (other.now.value.hash ∷ other.now.value.key) (entry.now.value.hash ∷ entry.now.value.key)) }
+{
+    entry.is_before(other.hash, other.key.bytes())
 }

@@ -2,8 +2,10 @@
 // Offered to the crates above: the calls of a finite map. A frozen map stays what it was, whatever is written afterwards.
 #![tactic(auto)]
 
+mod copied;
 mod entry;
+mod listing;
 mod node;
-
+mod put;
 #[cfg(test)]
 mod tests;

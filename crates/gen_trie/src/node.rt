@@ -51,7 +51,6 @@ impl<V, A: Allocator> Model for Node<V, A> {
 
     ghost size = { λ d. d.0 };
 
-
     ghost use Rattle.gen_trie.specs.Falls.{falls};
 
     ghost size_decreases = { λ a h. falls V A A.Allocator a.shape h };
@@ -103,7 +102,12 @@ pub(crate) struct Seat {
     pub taken: bool,
 }
 
-pub(crate) fn seat_of<V, A: Allocator>(slots: &Vec<Slot<V, A>, A>, below: u32, bitmap: u32, hash: u32) -> Seat
+pub(crate) fn seat_of<V, A: Allocator>(
+    slots: &Vec<Slot<V, A>, A>,
+    below: u32,
+    bitmap: u32,
+    hash: u32,
+) -> Seat
     requires { IsBranch below bitmap slots.now.items }
     ensures { IsSeat (digit below hash) (children below slots.now.items) (vec_len slots.now) result.index result.at result.taken }
 {
@@ -114,7 +118,12 @@ pub(crate) fn seat_of<V, A: Allocator>(slots: &Vec<Slot<V, A>, A>, below: u32, b
 }
 
 // The child at the index of a hash.
-fn slot_at<V, A: Allocator>(slots: &Vec<Slot<V, A>, A>, below: u32, bitmap: u32, hash: u32) -> Option<&Slot<V, A>>
+fn slot_at<V, A: Allocator>(
+    slots: &Vec<Slot<V, A>, A>,
+    below: u32,
+    bitmap: u32,
+    hash: u32,
+) -> Option<&Slot<V, A>>
     requires { IsBranch below bitmap slots.now.items }
     ensures { MatchOption result (at (digit below hash) (children below slots.now.items) ≡ [])
         (λ slot. (child below slot.now ≡ (digit below hash, at (digit below hash) (children below slots.now.items))) × StandsBelow below slot.now) }
@@ -128,7 +137,11 @@ fn slot_at<V, A: Allocator>(slots: &Vec<Slot<V, A>, A>, below: u32, bitmap: u32,
 }
 
 // The value of a key among those of equal hashes.
-fn in_list<'a, V, A: Allocator>(entries: &'a [Arc<Entry<V, A>, A>], hash: u32, key: &[u8]) -> Option<&'a Arc<V, A>>
+fn in_list<'a, V, A: Allocator>(
+    entries: &'a [Arc<Entry<V, A>, A>],
+    hash: u32,
+    key: &[u8],
+) -> Option<&'a Arc<V, A>>
     ensures { option_map (λ value. value.now.value) result ≡ find order (word 0 hash key.now) (listed entries.now) }
 {
     for entry in entries {

@@ -5,3 +5,4 @@ pub mod Putting
 pub mod Places
 pub mod Words
 pub mod Bits
+pub mod Ranks

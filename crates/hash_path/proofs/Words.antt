@@ -77,3 +77,12 @@ two_apart {V} w x v u = step (order w x)
 pub tied_bytes : (a b : ℕ) (k l : List ℕ) → b ≡ a → pointwise nat_eq l k ≡ eq_by_cmp order (a ∷ k) (b ∷ l)
 tied_bytes a b k l e =
     texts_ties l k ∙ tied_by l k (a ∷ k) (b ∷ l) (λ p i. sym e i ∷ sym p i) (λ p. sym (ap (drop 1) p))
+
+-- putting at a word that ties with the only one
+pub put_tied : {V : Type 0} (w x : List ℕ) (v u : V) → w ≡ x → ◌≡◌ {A = List (List ℕ × V)} (put order w v ((x, u) ∷ [])) ((x, v) ∷ [])
+put_tied {V} w x v u e = step (order w x) (equal (order w x) (same_tied w x e))
+  where
+    step : (o : Ordering) → o ≡ Equal → ◌≡◌ {A = List (List ℕ × V)} (by_order o ((w, v) ∷ (x, u) ∷ []) ((x, v) ∷ []) ((x, u) ∷ (w, v) ∷ [])) ((x, v) ∷ [])
+    step Less q = cc
+    step Equal q = refl
+    step Greater q = cc

@@ -3,3 +3,4 @@ pub mod Path
 pub mod PathLaws
 pub mod Word
 pub mod Fan
+pub mod Rank
