@@ -1,5 +1,5 @@
 -- What an edit of the slots of a branch leaves.
-use Rattle.std.proofs.Common.{◌≡◌, ℕ, zero, suc, ◌+◌, ◌*◌, ◌%◌, ◌^◌, ◌<◌, ◌≤◌, List, [], ◌∷◌, ◌++◌, length, get_or, take, drop, set, map, Bool, true, false, arith, refl, sym, ◌∙◌, ap, subst}
+use Rattle.std.proofs.Common.{◌≡◌, ℕ, zero, suc, ◌+◌, ◌*◌, ◌%◌, ◌^◌, ◌<◌, ◌≤◌, List, [], ◌∷◌, ◌++◌, length, get_or, take, drop, set, map, Bool, true, false, not, arith, refl, sym, ◌∙◌, ap, subst}
 use Rattle.std.specs.List.{All, insert}
 use Rattle.std.specs.declared.sync.Arc.{Arc}
 use Rattle.std.proofs.lemmas.List.{map-append, map-set, take_more, take_all, length-map}
@@ -157,7 +157,7 @@ module _ {V A : Type 0} where
       let d = entry_at 0 e.value in
       let tie : eq_by_cmp order w (get_or (listed es) (rank w (listed es)) d).0 ≡ true = subst (λ k. eq_by_cmp order w (get_or (listed es) k d).0 ≡ true) p (sym (t d)) in
       let within : rank w (listed es) < length (listed es) = subst (λ k. k < length (listed es)) p (subst (λ k. n < k) (sym (length-map es (λ (x : Arc (Entry V A) A). entry_at 0 x.value))) h) in
-      map-set (λ (x : Arc (Entry V A) A). entry_at 0 x.value) es n e ∙ ap (λ k. set (listed es) k d) p ∙ sym (put_set w e.value.value d (listed es) tie within)
+      map-set (λ (x : Arc (Entry V A) A). entry_at 0 x.value) es n e ∙ ap (λ k. set (listed es) k d) p ∙ sym (put_set w e.value.value.value d (listed es) tie within)
 
   pub list_room : (n : ℕ) (e : Entry V A) (es : List (Arc (Entry V A) A)) → n ≡ rank (e.hash ∷ e.key) (listed es) → n ≤ length es
   list_room n e es p =
@@ -173,7 +173,7 @@ module _ {V A : Type 0} where
       let apart : rank w (listed es) < length (listed es) → eq_by_cmp order w (get_or (listed es) (rank w (listed es)) d).0 ≡ false =
       λ h. sym (subst (λ k. false ≡ eq_by_cmp order w (get_or (listed es) k d).0) p (t (subst (λ k. k < length es) (sym p) (subst (λ k. rank w (listed es) < k) (length-map es f) h)) d)) in
       ap listed is ∙ map-append f (take n es) (e ∷ drop n es) ∙ (λ i. sym (take-map f n es) i ++ f e ∷ sym (drop-map f n es) i) ∙ ap (λ k. insert (listed es) k d) p
-      ∙ sym (put_insert w e.value.value d (listed es) apart)
+      ∙ sym (put_insert w e.value.value.value d (listed es) apart)
 
   pub rank_step : (k : ℕ) (e : Entry V A) (x : Arc (Entry V A) A) (es : List (Arc (Entry V A) A)) → k < length es → x ≡ get_or es k x
       → true ≡ is_gt (order (e.hash ∷ e.key) (x.value.hash ∷ x.value.key))
@@ -218,3 +218,21 @@ module _ {V A : Type 0} where
   more_keys (Ok x) below leaf n m ok err h =
       (ap (λ x. x.0) ok ∙ h.0, let grows = length_put_ge (word m.0 leaf.hash leaf.key) leaf.value.value m.1 in let same = ap (λ x. length x.1) ok in let old = h.1 in omega arith)
   more_keys (Err x) below leaf n m ok err h = (ap (λ x. x.0) err ∙ h.0, subst (λ x. 2 ≤ length x.1) (sym err) h.1)
+
+-- ---- results
+
+pub ok_so : {T E P Q : Type 0} (r : Result T E) → (P → Q) → OnOk r P → OnOk r Q
+ok_so (Ok x) f p = f p
+ok_so (Err x) f p = tt
+
+pub err_so : {T E P Q : Type 0} (r : Result T E) → (P → Q) → OnErr r P → OnErr r Q
+err_so (Ok x) f p = tt
+err_so (Err x) f p = f p
+
+pub either_so : {T E P Q R : Type 0} (r : Result T E) → (P → R) → (Q → R) → OnOk r P → OnErr r Q → R
+either_so (Ok x) f g p q = f p
+either_so (Err x) f g p q = g q
+
+pub not_false : (b : Bool) → not b ≡ false → b ≡ true
+not_false true e = refl
+not_false false e = cc
