@@ -1,3 +1,4 @@
 pub mod Seats
 pub mod Lookups
 pub mod Puts
+pub mod Roots

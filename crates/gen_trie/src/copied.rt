@@ -11,7 +11,7 @@ use std::alloc::Allocator;
 use std::sync::Arc;
 
 // A second owner of the same entry or node.
-fn shared<V: Drop, A: Allocator + Copy>(slot: &Slot<V, A>) -> Result<Slot<V, A>, Refusal>
+pub(crate) fn shared<V: Drop, A: Allocator + Copy>(slot: &Slot<V, A>) -> Result<Slot<V, A>, Refusal>
     ensures same { IfOk result (λ copy. (below : ℕ) → child below copy ≡ child below slot.now) }
     ensures fits { IfOk result (λ copy. (below : ℕ) → StandsBelow below slot.now → StandsBelow below copy) }
     ensures err { IsOkUnless result OutOfMemory }

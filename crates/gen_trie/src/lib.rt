@@ -4,8 +4,15 @@
 
 mod copied;
 mod entry;
+mod frozen;
 mod listing;
 mod node;
 mod put;
+mod root;
+mod trie;
+
+pub use frozen::Frozen;
+pub use trie::GenTrie;
+
 #[cfg(test)]
 mod tests;

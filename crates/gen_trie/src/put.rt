@@ -77,7 +77,7 @@ fn put_new<V: Drop, A: Allocator + Copy>(
 }
 
 #[cycle(put)]
-fn put_slot<V: Drop, A: Allocator + Copy>(
+pub(crate) fn put_slot<V: Drop, A: Allocator + Copy>(
     slot: &mut Slot<V, A>,
     below: u32,
     alloc: A,
@@ -85,7 +85,7 @@ fn put_slot<V: Drop, A: Allocator + Copy>(
     leaf: Arc<Entry<V, A>, A>,
 ) -> Result<(), Refusal>
     requires fits { StandsBelow below slot.old }
-    requires height { below ≤ 6 }
+    requires height { below ≤ 7 }
     ensures ok { OnOk result (child below slot.new ≡ ((child below slot.old).0, with_entry below leaf.value (child below slot.old).1)) }
     ensures fits { StandsBelow below slot.new }
     ensures same { OnErr result (child below slot.new ≡ child below slot.old) }

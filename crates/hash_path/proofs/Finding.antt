@@ -27,8 +27,8 @@ find-under i j w (e ∷ es) rest Less p =
     ap (λ r. cond (is_eq (ordering_then r (order w e.0))) (Some e.1) (find order (i ∷ w) (under j es ++ rest))) p ∙ find-under i j w es rest Less p
 find-under i j w (e ∷ es) rest Equal p =
     ap (λ r. cond (is_eq (ordering_then r (order w e.0))) (Some e.1) (find order (i ∷ w) (under j es ++ rest))) p
-      ∙ ap (cond (is_eq (order w e.0)) (Some e.1)) (find-under i j w es rest Equal p)
-      ∙ first_found (is_eq (order w e.0)) e.1 (find order w es) (find order (i ∷ w) rest)
+    ∙ ap (cond (is_eq (order w e.0)) (Some e.1)) (find-under i j w es rest Equal p)
+    ∙ first_found (is_eq (order w e.0)) e.1 (find order w es) (find order (i ∷ w) rest)
 find-under i j w (e ∷ es) rest Greater p =
     ap (λ r. cond (is_eq (ordering_then r (order w e.0))) (Some e.1) (find order (i ∷ w) (under j es ++ rest))) p ∙ find-under i j w es rest Greater p
 

@@ -6,3 +6,4 @@ pub mod Places
 pub mod Words
 pub mod Bits
 pub mod Ranks
+pub mod Maps

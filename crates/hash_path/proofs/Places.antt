@@ -23,10 +23,11 @@ multiple low (c ∷ cs) r =
     let rest = multiple (suc c.0) cs r.2 in
     let j = c.0 - low in
     let split : c.0 ≡ j + low = let h = r.0 in omega arith in
-    let power : 2 ^ c.0 ≡ 2 ^ j * 2 ^ low = ap (λ e. 2 ^ e) split ∙ pow-add 2 j low in
-    ((1 + 2 * rest.0) * 2 ^ j,
+    let power : 2 ^ c.0 ≡ 2 ^ j * 2 ^ low = ap (λ e. 2 ^ e) split ∙ pow-add 2 j low in (
+      (1 + 2 * rest.0) * 2 ^ j,
       ap (λ x. 2 ^ c.0 + x) (rest.1 ∙ ap (λ x. rest.0 * x) (pow-suc 2 c.0))
-        ∙ ap (λ x. x + rest.0 * (x * 2)) power ∙ odd (2 ^ low) (2 ^ j) rest.0)
+          ∙ ap (λ x. x + rest.0 * (x * 2)) power ∙ odd (2 ^ low) (2 ^ j) rest.0,
+    )
 
 ones_none : (q i : ℕ) → count_ones ((q * 2 ^ i) % 2 ^ i) ≡ 0
 unfolding ones
@@ -68,7 +69,7 @@ position_step low i c cs Greater p r rest =
     let split : i ≡ j + suc c.0 = let h = more i c.0 p in omega arith in
     let m = multiple (suc c.0) cs r.2 in
     ap (λ x. count_ones ((2 ^ c.0 + x) % 2 ^ i)) m.1 ∙ ap (λ e. count_ones ((2 ^ c.0 + m.0 * 2 ^ suc c.0) % 2 ^ e)) split ∙ next_bit m.0 j c.0
-      ∙ ap suc (ap (λ e. count_ones ((m.0 * 2 ^ suc c.0) % 2 ^ e)) (sym split) ∙ ap (λ x. count_ones (x % 2 ^ i)) (sym m.1) ∙ rest)
+    ∙ ap suc (ap (λ e. count_ones ((m.0 * 2 ^ suc c.0) % 2 ^ e)) (sym split) ∙ ap (λ x. count_ones (x % 2 ^ i)) (sym m.1) ∙ rest)
 
 pub position_is : {V : Type 0} (low i : ℕ) (cs : List (ℕ × List (List ℕ × V))) → Rise low cs → count_ones (bits_of cs % 2 ^ i) ≡ place i cs
 unfolding ones

@@ -28,12 +28,12 @@ module _ {V : Type 0} (i : ℕ) (w : List ℕ) (v : V) where
   put_past j [] rest p = refl
   put_past j (e ∷ es) rest p =
       ap (λ r. by_order (ordering_then r (order w e.0)) ((i ∷ w, v) ∷ (under j (e ∷ es) ++ rest)) ((j ∷ e.0, v) ∷ (under j es ++ rest)) ((j ∷ e.0, e.1) ∷ put order (i ∷ w) v (under j es ++ rest))) p
-        ∙ ap (λ l. (j ∷ e.0, e.1) ∷ l) (put_past j es rest p)
+      ∙ ap (λ l. (j ∷ e.0, e.1) ∷ l) (put_past j es rest p)
 
   among : (j : ℕ) (e : List ℕ × V) (es rest : List (List ℕ × V)) (o : Ordering) → i ≡ j
       → put order (i ∷ w) v (under j es ++ rest) ≡ under j (put order w v es) ++ rest
       → by_order o ((i ∷ w, v) ∷ (under j (e ∷ es) ++ rest)) ((j ∷ e.0, v) ∷ (under j es ++ rest)) ((j ∷ e.0, e.1) ∷ put order (i ∷ w) v (under j es ++ rest))
-        ≡ under j (by_order o ((w, v) ∷ e ∷ es) ((e.0, v) ∷ es) (e ∷ put order w v es)) ++ rest
+      ≡ under j (by_order o ((w, v) ∷ e ∷ es) ((e.0, v) ∷ es) (e ∷ put order w v es)) ++ rest
   among j e es rest Less q h = ap (λ k. (k ∷ w, v) ∷ (under j (e ∷ es) ++ rest)) q
   among j e es rest Equal q h = refl
   among j e es rest Greater q h = ap (λ l. (j ∷ e.0, e.1) ∷ l) h
@@ -43,12 +43,12 @@ module _ {V : Type 0} (i : ℕ) (w : List ℕ) (v : V) where
   put_here j [] rest p h = h ∙ ap (λ k. (k ∷ w, v) ∷ rest) (same i j p)
   put_here j (e ∷ es) rest p h =
       ap (λ r. by_order (ordering_then r (order w e.0)) ((i ∷ w, v) ∷ (under j (e ∷ es) ++ rest)) ((j ∷ e.0, v) ∷ (under j es ++ rest)) ((j ∷ e.0, e.1) ∷ put order (i ∷ w) v (under j es ++ rest))) p
-        ∙ among j e es rest (order w e.0) (same i j p) (put_here j es rest p h)
+      ∙ among j e es rest (order w e.0) (same i j p) (put_here j es rest p h)
 
   put_step : (c : ℕ × List (List ℕ × V)) (cs : List (ℕ × List (List ℕ × V))) (o : Ordering) → nat_cmp i c.0 ≡ o → Rise (suc c.0) cs
       → put order (i ∷ w) v (fan cs) ≡ fan (put_child i (put order w v (at i cs)) cs)
       → put order (i ∷ w) v (under c.0 c.1 ++ fan cs)
-        ≡ fan (by_order o ((i, put order w v (by_order o [] c.1 (at i cs))) ∷ c ∷ cs) ((c.0, put order w v (by_order o [] c.1 (at i cs))) ∷ cs) (c ∷ put_child i (put order w v (by_order o [] c.1 (at i cs))) cs))
+      ≡ fan (by_order o ((i, put order w v (by_order o [] c.1 (at i cs))) ∷ c ∷ cs) ((c.0, put order w v (by_order o [] c.1 (at i cs))) ∷ cs) (c ∷ put_child i (put order w v (by_order o [] c.1 (at i cs))) cs))
   put_step c cs Less p r rest =
       let next : i < suc c.0 = let h = less i c.0 p in omega arith in
       put_above c.0 c.1 (fan cs) p (put_first (suc c.0) cs r next)

@@ -50,8 +50,8 @@ pub tied-word : (height a b : ℕ) (k l : List ℕ) → eq_by_cmp order (word he
 tied-word height a b k l =
     tied_by (word height a k) (word height b l) (a ∷ k) (b ∷ l)
     (λ e. let h = sym (hash_in-word height a k) ∙ ap (hash_in height) e ∙ hash_in-word height b l in
-          let t = sym (key_in-word height a k) ∙ ap (key_in height) e ∙ key_in-word height b l in
-          λ i. h i ∷ t i)
+    let t = sym (key_in-word height a k) ∙ ap (key_in height) e ∙ key_in-word height b l in
+    λ i. h i ∷ t i)
     (λ e. ap (λ x. word height (get_or x 0 0) (drop 1 x)) e)
 
 -- ---- how many

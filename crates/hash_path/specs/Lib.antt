@@ -4,3 +4,4 @@ pub mod PathLaws
 pub mod Word
 pub mod Fan
 pub mod Rank
+pub mod Map

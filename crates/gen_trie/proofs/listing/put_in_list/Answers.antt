@@ -1,4 +1,4 @@
-use Rattle.std.proofs.Common.{◌≡◌, ℕ, ◌<◌, ◌∷◌, List, length, get_or, true, false, refl, arith, sym, ◌∙◌, ap, subst}
+use Rattle.std.proofs.Common.{◌≡◌, ◌<◌, ◌∷◌, length, get_or, true, false, refl, arith, sym, ◌∙◌, ap, subst}
 use Rattle.std.specs.Ordering.{eq_by_cmp}
 use Rattle.hash_path.specs.Word.{order}
 use Rattle.hash_path.specs.Rank.{rank}
@@ -34,5 +34,5 @@ returns-clause-ok g c =
     list_insert c.rank_of-at.result c.args.leaf c.args.entries.now.items c.insert.new.self.items
     (c.rank_of-at.ensures ∙ ap (λ es. rank w (listed es)) c.deref.ensures.value)
     (λ h d. subst (λ es. false ≡ eq_by_cmp order w (get_or (listed es) c.rank_of-at.result d).0) c.deref-2.ensures.value
-      (c.if-has_key_at.ensures.same (subst (λ es. c.rank_of-at.result < length es) (sym c.deref-2.ensures.value) h) d))
+    (c.if-has_key_at.ensures.same (subst (λ es. c.rank_of-at.result < length es) (sym c.deref-2.ensures.value) h) d))
     c.in_ok-insert.ensures.items

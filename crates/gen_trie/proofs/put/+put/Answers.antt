@@ -1,4 +1,4 @@
-use Rattle.std.proofs.Common.{◌<◌, length, vec_len, subst, sym, refl, arith}
+use Rattle.std.proofs.Common.{◌<◌, length, vec_len, subst, refl, arith}
 use Rattle.hash_path.specs.Word.{digit}
 use Rattle.gen_trie.specs.Shapes.{children, StandsBelow, IsSeat}
 use Rattle.gen_trie.proofs.Puts.{put_old_is, put_none_is, replaced, two_keys, more_keys, ok_so, err_so, either_so, not_false}
