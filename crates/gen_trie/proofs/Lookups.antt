@@ -13,7 +13,7 @@ use Rattle.gen_trie.specs.declared.node.Shape.{Shape}
 use Rattle.gen_trie.specs.declared.node.Shape.TheVariants.{Branch}
 use Rattle.gen_trie.specs.declared.node.Slot.{Slot}
 use Rattle.gen_trie.specs.declared.node.Slot.TheVariants.{One, Many}
-use Rattle.gen_trie.specs.Shapes.{children, child, entry_at, height_and_entries, StandsBelow, IsBranch, IsCanonical}
+use Rattle.gen_trie.specs.Shapes.{children, child, entry_at, height_and_entries, StandsBelow, IsCanonical}
 
 -- one entry is found by its hash and its bytes
 pub found_one : {V A : Type 0} (below hash : ℕ) (key : List ℕ) (e : Entry V A) → find order (word below hash key) (entry_at below e ∷ []) ≡ find order (hash ∷ key) (entry_at 0 e ∷ [])

@@ -1,8 +1,8 @@
 -- What an edit of the slots of a branch leaves.
-use Rattle.std.proofs.Common.{◌≡◌, ℕ, zero, suc, ◌+◌, ◌*◌, ◌%◌, ◌^◌, ◌<◌, ◌≤◌, List, [], ◌∷◌, ◌++◌, length, get_or, take, drop, set, map, Bool, true, false, not, arith, refl, sym, ◌∙◌, ap, subst}
+use Rattle.std.proofs.Common.{◌≡◌, ℕ, suc, ◌+◌, ◌*◌, ◌%◌, ◌^◌, ◌<◌, ◌≤◌, List, [], ◌∷◌, ◌++◌, length, get_or, take, drop, set, map, Bool, true, false, not, arith, refl, sym, ◌∙◌, ap, subst}
 use Rattle.std.specs.List.{All, insert}
 use Rattle.std.specs.declared.sync.Arc.{Arc}
-use Rattle.std.proofs.lemmas.List.{map-append, map-set, take_more, take_all, length-map}
+use Rattle.std.proofs.lemmas.List.{map-append, map-set, take_more, length-map}
 use Rattle.std.proofs.lemmas.List.Elements.{All-set, All-append, All-cons, All-nil, All-take, All-drop}
 use Rattle.std.proofs.lemmas.Nat.{one_shl}
 use Rattle.std.specs.List.{take-map, drop-map}
@@ -24,7 +24,7 @@ use Rattle.hash_path.proofs.Ranks.{put_set, put_insert, rank_le, rank_more, rank
 use Rattle.hash_path.proofs.Words.{IsWord-word, AllWords-put, tied_same, tied-word, put_tied, two_apart, length_put_ge}
 use Rattle.gen_trie.specs.declared.entry.Entry.{Entry}
 use Rattle.gen_trie.specs.declared.node.Slot.{Slot}
-use Rattle.gen_trie.specs.declared.node.Slot.TheVariants.{One, Many}
+use Rattle.gen_trie.specs.declared.node.Slot.TheVariants.{One}
 use Rattle.gen_trie.specs.Shapes.{children, child, entry_at, listed, with_entry, StandsBelow, IsBranch, IsSeat}
 
 -- ---- copies

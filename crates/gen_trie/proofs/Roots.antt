@@ -1,6 +1,6 @@
 -- What a write at the root leaves, and what the parts of a trie are as a map.
-use Rattle.std.proofs.Common.{◌≡◌, ℕ, ◌+◌, List, [], ◌∷◌, length, Bool, true, false, cond, T, Some, None, refl, sym, ◌∙◌, ap, subst}
-use Rattle.std.specs.Prelude.{is_some, is_none}
+use Rattle.std.proofs.Common.{◌≡◌, ℕ, ◌+◌, List, length, Bool, true, false, cond, T, Some, None, sym, ◌∙◌, ap, subst}
+use Rattle.std.specs.Prelude.{is_some, not}
 use Rattle.std.specs.declared.option.Option.{Option}
 use Rattle.std.specs.Option.{option_map}
 use Rattle.std.specs.Cmp.Lexicographic.{nat_list_cmp_total}
@@ -12,11 +12,11 @@ use Rattle.hash_path.proofs.Maps.{HashedBy-put, as_map-put, get-as_map, len-as_m
 use Rattle.gen_trie.specs.declared.node.Slot.{Slot}
 use Rattle.gen_trie.specs.Root.{root_entries, RootStands, IsRoot, IsTrie}
 
-count_new : {X V : Type 0} (r : Option X) (f : X → V) (o : Option V) (n : ℕ) → option_map f r ≡ o → is_none r ≡ true → n + 1 ≡ cond (is_some o) n (n + 1)
+count_new : {X V : Type 0} (r : Option X) (f : X → V) (o : Option V) (n : ℕ) → option_map f r ≡ o → is_some r ≡ false → n + 1 ≡ cond (is_some o) n (n + 1)
 count_new None f o n e t = ap (λ x. cond (is_some x) n (n + 1)) e
 count_new (Some x) f o n e t = cc
 
-count_old : {X V : Type 0} (r : Option X) (f : X → V) (o : Option V) (n : ℕ) → option_map f r ≡ o → is_none r ≡ false → n ≡ cond (is_some o) n (n + 1)
+count_old : {X V : Type 0} (r : Option X) (f : X → V) (o : Option V) (n : ℕ) → option_map f r ≡ o → is_some r ≡ true → n ≡ cond (is_some o) n (n + 1)
 count_old None f o n e t = cc
 count_old (Some x) f o n e t = ap (λ x. cond (is_some x) n (n + 1)) e
 
@@ -38,18 +38,15 @@ module _ {V A : Type 0} where
 
   pub put_fresh : {X : Type 0} (r : Option X) (f : X → V) (fresh : Bool) (root new : Option (Slot V A)) (count : ℕ) (w : List ℕ) (v : V) → IsRoot root count
       → root_entries new ≡ put order w v (root_entries root) → RootStands new
-      → option_map f r ≡ find order w (root_entries root) → fresh ≡ is_none r → fresh ≡ true → IsRoot new (count + 1)
-  put_fresh r f fresh root new count w v h e s o q t = put_root_is root new count (count + 1) w v h e s (count_new r f (find order w (root_entries root)) count o (sym q ∙ t))
+      → option_map f r ≡ find order w (root_entries root) → is_some r ≡ not fresh → fresh ≡ true → IsRoot new (count + 1)
+  put_fresh r f fresh root new count w v h e s o q t = put_root_is root new count (count + 1) w v h e s (count_new r f (find order w (root_entries root)) count o (q ∙ ap not t))
 
   pub put_there : {X : Type 0} (r : Option X) (f : X → V) (fresh : Bool) (root new : Option (Slot V A)) (count : ℕ) (w : List ℕ) (v : V) → IsRoot root count
       → root_entries new ≡ put order w v (root_entries root) → RootStands new
-      → option_map f r ≡ find order w (root_entries root) → fresh ≡ is_none r → fresh ≡ false → IsRoot new count
-  put_there r f fresh root new count w v h e s o q t = put_root_is root new count count w v h e s (count_old r f (find order w (root_entries root)) count o (sym q ∙ t))
+      → option_map f r ≡ find order w (root_entries root) → is_some r ≡ not fresh → fresh ≡ false → IsRoot new count
+  put_there r f fresh root new count w v h e s o q t = put_root_is root new count count w v h e s (count_old r f (find order w (root_entries root)) count o (q ∙ ap not t))
 
   -- ---- as a map
-
-  pub IsTrie-none : (f : List ℕ → ℕ) → IsTrie {A = A} f (None {T = Slot V A}) 0
-  IsTrie-none f = record { root_is = record { stands = tt; sorted = tt; counted = refl }; hashed = tt }
 
   pub IsTrie-put : (f : List ℕ → ℕ) (root new : Option (Slot V A)) (count n hash : ℕ) (key : List ℕ) (v : V) → IsTrie f root count → hash ≡ f key → IsRoot new n
       → root_entries new ≡ put order (word 7 hash key) v (root_entries root) → IsTrie f new n
@@ -72,3 +69,9 @@ module _ {V A : Type 0} where
 
   pub size_is : (f : List ℕ → ℕ) (root : Option (Slot V A)) (count : ℕ) → IsTrie f root count → count ≡ finite.len (as_map (root_entries root))
   size_is f root count h = let r = h.root_is in r.counted ∙ sym (len-as_map f (root_entries root) h.hashed r.sorted)
+
+  -- with the bytes as they were read for the hash and for the look-up
+  pub lookup_at : (f : List ℕ → ℕ) (root : Option (Slot V A)) (count hash : ℕ) (hashed read key : List ℕ) (o : Option V) → IsTrie f root count → hash ≡ f hashed → hashed ≡ key → read ≡ key
+      → o ≡ find order (word 7 hash read) (root_entries root) → o ≡ finite.get (as_map (root_entries root)) key
+  lookup_at f root count hash hashed read key o h e p q is =
+      lookup_is f root count hash key o h (e ∙ ap f p) (is ∙ ap (λ k. find order (word 7 hash k) (root_entries root)) q)

@@ -1,4 +1,4 @@
-use Rattle.std.proofs.Common.{sym, ◌∙◌, ap}
+use Rattle.std.proofs.Common.{◌∙◌, ap}
 use Rattle.std.specs.FinMap.Entries.{put, find}
 use Rattle.hash_path.specs.Word.{order, word}
 use Rattle.gen_trie.specs.Root.{root_entries}
