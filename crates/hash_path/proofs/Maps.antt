@@ -35,7 +35,6 @@ second true b p = p
 second false b p = absurd p
 
 module _ {V : Type 0} (f : List ℕ → ℕ) where
-
   find-keyed : (k : List ℕ) (es : List (List ℕ × V)) → HashedBy f es → find order k (keyed es) ≡ find order (path f k) es
   find-keyed k [] h = refl
   find-keyed k (e ∷ es) h =
