@@ -1,0 +1,4 @@
+pub mod Seats
+pub mod Lookups
+pub mod Puts
+pub mod Roots

@@ -1,0 +1,17 @@
+use Rattle.std.proofs.Common.{suc, sym, ◌∙◌, ap, subst}
+use Rattle.std.specs.List.{All}
+use Rattle.hash_path.specs.Fan.{fan}
+use Rattle.gen_trie.specs.Shapes.{children, StandsBelow, IsCanonical, height_and_entries}
+use Rattle.gen_trie.proofs.Puts.{same_branch}
+use Rattle.gen_trie.proofs.node.Node.copy.Goals as goal
+
+pub invariant_of-result : goal.invariant_of-result
+invariant_of-result g c =
+    same_branch c.in-Branch.below c.in-Branch.bitmap c.in-Branch.slots.items c.in_ok-slots-in-Branch.slots.items (subst IsCanonical c.in-Branch.is c.self.invariant)
+    (c.in_ok-slots-in-Branch.ensures.same c.in-Branch.below ∙ ap (children c.in-Branch.below) c.deref.ensures.value)
+    (λ f. c.in_ok-slots-in-Branch.ensures.fits c.in-Branch.below (subst (All (StandsBelow c.in-Branch.below)) (sym c.deref.ensures.value) f))
+
+pub returns-in_ok-slots-in-Branch-clause-ok : goal.returns-in_ok-slots-in-Branch-clause-ok
+returns-in_ok-slots-in-Branch-clause-ok g c =
+    ap (λ cs. (suc c.in-Branch.below, fan cs)) (c.in_ok-slots-in-Branch.ensures.same c.in-Branch.below ∙ ap (children c.in-Branch.below) c.deref.ensures.value)
+    ∙ ap height_and_entries (sym c.in-Branch.is) ∙ c.self.view_is

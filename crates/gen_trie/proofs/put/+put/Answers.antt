@@ -1,0 +1,47 @@
+use Rattle.std.proofs.Common.{◌<◌, length, vec_len, subst, refl, arith}
+use Rattle.hash_path.specs.Word.{digit}
+use Rattle.gen_trie.specs.Shapes.{children, StandsBelow, IsSeat}
+use Rattle.gen_trie.proofs.Puts.{put_old_is, put_none_is, replaced, two_keys, more_keys, ok_so, err_so, either_so, not_false}
+use Rattle.gen_trie.proofs.put.+put.Goals as goal
+
+pub put_branch-returns-clause-ok : goal.put_branch-returns-clause-ok
+put_branch-returns-clause-ok g t c =
+    let taken = not_false c.seat_of-seat.result.taken c.if-not-seat.false in
+    let seat = subst (λ e. IsSeat (digit c.args.below e.hash) (children c.args.below c.args.slots.now.items) (vec_len c.args.slots.now) c.seat_of-seat.result.index c.seat_of-seat.result.at c.seat_of-seat.result.taken) c.deref.ensures c.seat_of-seat.ensures in
+    ok_so c.put_slot.result
+    (λ new. (put_old_is c.args.below c.args.bitmap.now _ _ _ _ c.args.leaf.value c.index_mut.result.now c.put_slot.new.slot c.args.slots.now.items _ c.requires seat taken c.index_mut.ensures.value refl new c.put_slot.ensures.fits).0)
+    c.put_slot.ensures.ok
+
+pub put_branch-returns-clause-branch : goal.put_branch-returns-clause-branch
+put_branch-returns-clause-branch g t c =
+    let taken = not_false c.seat_of-seat.result.taken c.if-not-seat.false in
+    let seat = subst (λ e. IsSeat (digit c.args.below e.hash) (children c.args.below c.args.slots.now.items) (vec_len c.args.slots.now) c.seat_of-seat.result.index c.seat_of-seat.result.at c.seat_of-seat.result.taken) c.deref.ensures c.seat_of-seat.ensures in
+    let within = seat.within taken in
+    let len = c.args.slots.now.ok.0 in
+    let less : c.seat_of-seat.result.at < length c.args.slots.now.items = omega arith in
+    either_so c.put_slot.result
+    (λ new. (put_old_is c.args.below c.args.bitmap.now _ _ _ _ c.args.leaf.value c.index_mut.result.now c.put_slot.new.slot c.args.slots.now.items _ c.requires seat taken c.index_mut.ensures.value refl new c.put_slot.ensures.fits).1)
+    (λ same. (put_none_is c.args.below c.args.bitmap.now c.seat_of-seat.result.at c.index_mut.result.now c.put_slot.new.slot c.args.slots.now.items _ c.requires less c.index_mut.ensures.value refl same c.put_slot.ensures.fits).1)
+    c.put_slot.ensures.ok c.put_slot.ensures.same
+
+pub put_branch-returns-clause-same : goal.put_branch-returns-clause-same
+put_branch-returns-clause-same g t c =
+    let taken = not_false c.seat_of-seat.result.taken c.if-not-seat.false in
+    let within = c.seat_of-seat.ensures.within taken in
+    let len = c.args.slots.now.ok.0 in
+    let less : c.seat_of-seat.result.at < length c.args.slots.now.items = omega arith in
+    err_so c.put_slot.result
+    (λ same. (put_none_is c.args.below c.args.bitmap.now c.seat_of-seat.result.at c.index_mut.result.now c.put_slot.new.slot c.args.slots.now.items _ c.requires less c.index_mut.ensures.value refl same c.put_slot.ensures.fits).0)
+    c.put_slot.ensures.same
+
+pub put_slot-returns-then-same_key-clause-ok : goal.put_slot-returns-then-same_key-clause-ok
+put_slot-returns-then-same_key-clause-ok g t c = replaced c.args.below c.in-One.index c.in-One.entry c.args.leaf c.args.slot.now c.in-One.is c.if-same_key.ensures
+
+pub put_slot-returns-in_ok-node-in-One-clause-fits : goal.put_slot-returns-in_ok-node-in-One-clause-fits
+put_slot-returns-in_ok-node-in-One-clause-fits g t c =
+    two_keys c.args.below c.args.below c.in-One.entry.value c.args.leaf.value c.in_ok-node-in-One.node.value c.in_ok-node-in-One.ensures.ok c.if-same_key.ensures
+
+pub put_slot-returns-in-Many-clause-fits : goal.put_slot-returns-in-Many-clause-fits
+put_slot-returns-in-Many-clause-fits g t c =
+    more_keys c.put_shared.result c.args.below c.args.leaf.value c.put_shared.new.node.value c.in-Many.node.value c.put_shared.ensures.ok c.put_shared.ensures.same
+    (subst (StandsBelow c.args.below) c.in-Many.is c.requires.fits)

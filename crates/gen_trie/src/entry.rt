@@ -1,0 +1,66 @@
+ghost use Rattle.std.specs.Prelude.{◌≡◌, [], ◌∷◌};
+ghost use Rattle.std.specs.Option.{option_map};
+ghost use Rattle.std.specs.FinMap.Entries.{find};
+ghost use Rattle.std.specs.Ordering.{eq_by_cmp, is_gt};
+ghost use Rattle.hash_path.specs.Word.{order};
+
+use dots::Key;
+use std::alloc::Allocator;
+use std::sync::Arc;
+
+// A key of the map with its hash and its value. It does not depend on the depth that it stands at.
+#[derive(Drop)]
+pub(crate) struct Entry<V, A: Allocator> {
+    pub hash: u32,
+    pub key: Key<A>,
+    pub value: Arc<V, A>,
+}
+
+impl<V, A: Allocator> Entry<V, A> {
+    // Whether it is the entry of this hash and these bytes.
+    pub fn is_at(&self, hash: u32, key: &[u8]) -> bool
+        ensures { result ≡ eq_by_cmp order (hash ∷ key.now) (self.now.hash ∷ self.now.key) }
+    {
+        self.hash == hash && self.key.bytes() == key
+    }
+
+    // The value, where it is the entry of this hash and these bytes.
+    pub fn value_at<'a>(&'a self, hash: u32, key: &[u8]) -> Option<&'a Arc<V, A>>
+        ensures { option_map (λ value. value.now.value) result ≡ find order (hash ∷ key.now) ((self.now.hash ∷ self.now.key, self.now.value.value) ∷ []) }
+    {
+        if self.is_at(hash, key) {
+            Some(&self.value)
+        } else {
+            None
+        }
+    }
+
+    // Whether its hash and bytes come before these.
+    pub fn is_before(&self, hash: u32, key: &[u8]) -> bool
+        ensures { result ≡ is_gt (order (hash ∷ key.now) (self.now.hash ∷ self.now.key)) }
+    {
+        hash.cmp(&self.hash)
+            .then(key.cmp(&self.key.bytes()))
+            .is_gt()
+    }
+}
+
+// Whether the first is the entry of the other's key.
+pub(crate) fn same_key<V, A: Allocator>(
+    entry: &Arc<Entry<V, A>, A>,
+    other: &Arc<Entry<V, A>, A>,
+) -> bool
+    ensures { result ≡ eq_by_cmp order (other.now.value.hash ∷ other.now.value.key) (entry.now.value.hash ∷ entry.now.value.key) }
+{
+    entry.is_at(other.hash, other.key.bytes())
+}
+
+// Whether the first comes before the other.
+pub(crate) fn comes_before<V, A: Allocator>(
+    entry: &Arc<Entry<V, A>, A>,
+    other: &Arc<Entry<V, A>, A>,
+) -> bool
+    ensures { result ≡ is_gt (order (other.now.value.hash ∷ other.now.value.key) (entry.now.value.hash ∷ entry.now.value.key)) }
+{
+    entry.is_before(other.hash, other.key.bytes())
+}

@@ -1,0 +1,125 @@
+ghost use Rattle.std.specs.Prelude.{◌≡◌, IfOk, IsOkUnless};
+ghost use Rattle.std.specs.Option.{option_map};
+ghost use Rattle.std.specs.FinMap as finite;
+ghost use Rattle.hash_path.specs.Map.{as_map};
+ghost use Rattle.gen_trie.specs.Root.{root_entries, IsTrie};
+ghost use Rattle.dots.specs.declared.refusal.Refusal.TheVariants.{OutOfMemory};
+
+use crate::node::Slot;
+use crate::root::{look_root, share_root};
+use crate::trie::GenTrie;
+use dots::{Key, Refusal};
+use hash_path::PathHash;
+use std::alloc::{Allocator, Global};
+use std::marker::Model;
+
+/// A finite map from keys to values that is only read. It shares its nodes with the tries that it comes from, and stays
+/// what it is whatever they write.
+#[derive(Drop)]
+pub struct Frozen<V, H: PathHash, A: Allocator = Global> {
+    alloc: A,
+    hash: H,
+    // No node of it has a later stamp.
+    generation: u64,
+    count: u64,
+    root: Option<Slot<V, A>>,
+}
+
+impl<V, H: PathHash, A: Allocator> Model for Frozen<V, H, A> {
+    ghost use Rattle.std.specs.Prelude.{ℕ};
+    ghost use Rattle.std.specs.Coded.{coded×, coded_list, coded_ℕ};
+    ghost use Rattle.std.specs.FinMap as map;
+    ghost use Rattle.hash_path.specs.Word.{order};
+
+    ghost Value = { H × map.FinMap order V };
+
+    ghost coded = { coded× H.code (map.code (coded_list coded_ℕ) V.code) };
+
+    ghost use Rattle.hash_path.specs.Map.{as_map};
+    ghost use Rattle.gen_trie.specs.Root.{root_entries, IsTrie};
+
+    ghost view = { λ a. (a.hash, as_map (root_entries a.root)) };
+
+    ghost invariant = { λ a. IsTrie (H.hash_of a.hash) a.root a.count };
+}
+
+impl<V, H: PathHash, A: Allocator + Copy> Frozen<V, H, A> {
+    /// The map with no keys, whose paths are by this hash. Takes no memory.
+    pub fn new(alloc: A, hash: H) -> Frozen<V, H, A>
+        ensures { result ≡ (hash, finite.empty) }
+    {
+        Frozen {
+            alloc,
+            hash,
+            generation: 0,
+            count: 0,
+            root: None,
+        }
+    }
+
+    /// The value of the key. Touches eight nodes at most, and takes no memory.
+    pub fn lookup(&self, key: &Key<A>) -> Option<&V>
+        ensures { option_map (λ value. value.now) result ≡ finite.get self.now.1 key.now }
+    {
+        let hash = self.hash.hash(key.bytes());
+        match look_root(&self.root, hash, key.bytes()) {
+            None => None,
+            Some(value) => Some(&**value),
+        }
+    }
+
+    /// The number of keys.
+    pub fn size(&self) -> u64
+        ensures { result ≡ finite.len self.now.1 }
+    {
+        self.count
+    }
+
+    // The map of the parts of a trie.
+    pub(crate) fn of(
+        alloc: A,
+        hash: H,
+        generation: u64,
+        count: u64,
+        root: Option<Slot<V, A>>,
+    ) -> Frozen<V, H, A>
+        requires { IsTrie (H.hash_of hash) root count }
+        ensures { result ≡ (hash, as_map (root_entries root)) }
+    {
+        Frozen {
+            alloc,
+            hash,
+            generation,
+            count,
+            root,
+        }
+    }
+}
+
+impl<V: Drop, H: PathHash, A: Allocator + Copy> Frozen<V, H, A> {
+    /// The same map. Copies no node: it takes a reference count, and is refused only where that is full.
+    pub fn copy(&self) -> Result<Frozen<V, H, A>, Refusal>
+        ensures ok { IfOk result (λ copy. copy ≡ self.now) }
+        ensures err { IsOkUnless result OutOfMemory }
+    {
+        let root = share_root(&self.root)?;
+        Ok(Frozen {
+            alloc: self.alloc,
+            hash: self.hash,
+            generation: self.generation,
+            count: self.count,
+            root,
+        })
+    }
+
+    /// A trie of the same map that can be written, in a generation after those of all nodes that it shares; at the last,
+    /// 2^64 - 1, it stays. Copies no node.
+    pub fn thaw(&self) -> Result<GenTrie<V, H, A>, Refusal>
+        ensures ok { IfOk result (λ trie. trie ≡ self.now) }
+        ensures err { IsOkUnless result OutOfMemory }
+    {
+        let root = share_root(&self.root)?;
+        let generation = self.generation.saturating_add(1);
+        Ok(GenTrie::of(self.alloc, self.hash, generation, self.count, root))
+    }
+}

@@ -1,0 +1,18 @@
+// A trie with generations: a finite map from keys to values whose snapshots cost a few reference counts.
+// Offered to the crates above: the calls of a finite map. A frozen map stays what it was, whatever is written afterwards.
+#![tactic(auto)]
+
+mod copied;
+mod entry;
+mod frozen;
+mod listing;
+mod node;
+mod put;
+mod root;
+mod trie;
+
+pub use frozen::Frozen;
+pub use trie::GenTrie;
+
+#[cfg(test)]
+mod tests;

@@ -1,0 +1,174 @@
+ghost use Rattle.std.specs.Prelude.{◌≡◌, ℕ, ◌<◌, ◌≤◌, [], ◌^◌, ◌%◌, count_ones, MatchOption, vec_len};
+ghost use Rattle.std.specs.Option.{option_map};
+ghost use Rattle.std.specs.FinMap.Entries.{find};
+ghost use Rattle.hash_path.specs.Word.{order, word, digit};
+ghost use Rattle.hash_path.specs.Fan.{at, place, there};
+ghost use Rattle.gen_trie.specs.Shapes.{children, child, StandsBelow, IsBranch, IsSeat, listed};
+
+use crate::entry::Entry;
+use hash_path::index_at;
+use std::alloc::Allocator;
+use std::marker::Model;
+use std::sync::Arc;
+
+// A node of the trie, seen as its height and its entries by word. It is stamped with the generation that wrote it.
+#[cycle(node)]
+#[derive(Drop)]
+pub(crate) struct Node<V, A: Allocator> {
+    pub stamp: u64,
+    pub shape: Shape<V, A>,
+}
+
+#[cycle(node)]
+#[derive(Drop)]
+pub(crate) enum Shape<V, A: Allocator> {
+    // The levels of branches below, the bitmap of the indices that have a child, and the children by index.
+    Branch(u32, u32, Vec<Slot<V, A>, A>),
+    // Past the last index: the entries of keys with equal hashes, by key bytes.
+    Keys(Vec<Arc<Entry<V, A>, A>, A>),
+}
+
+// A child, with its index.
+#[cycle(node)]
+#[derive(Drop)]
+pub(crate) enum Slot<V, A: Allocator> {
+    // One key alone.
+    One(u32, Arc<Entry<V, A>, A>),
+    // A node of two keys or more.
+    Many(u32, Arc<Node<V, A>, A>),
+}
+
+impl<V, A: Allocator> Model for Node<V, A> {
+    ghost use Rattle.std.specs.Prelude.{ℕ, List};
+
+    ghost Value = { ℕ × List (List ℕ × V) };
+
+    ghost use Rattle.gen_trie.specs.Shapes.{height_and_entries, IsCanonical};
+
+    ghost view = { λ a. height_and_entries a.shape };
+
+    ghost invariant = { λ a. IsCanonical a.shape };
+
+    ghost size = { λ d. d.0 };
+
+    ghost use Rattle.gen_trie.specs.Falls.{falls};
+
+    ghost size_decreases = { λ a h. falls V A A.Allocator a.shape h };
+}
+
+impl<V, A: Allocator> Slot<V, A> {
+    fn index(&self) -> u32
+        ensures { (below : ℕ) → result ≡ (child below self.now).0 }
+    {
+        match self {
+            Slot::One(index, _) => *index,
+            Slot::Many(index, _) => *index,
+        }
+    }
+}
+
+// The index of a hash where so many levels of branches are below.
+pub(crate) fn digit_of(below: u32, hash: u32) -> u32
+    requires { below ≤ 6 }
+    ensures value { result ≡ digit below hash }
+    ensures bound { result < 32 }
+{
+    index_at(hash, 6 - below)
+}
+
+// How many indices below this one the bitmap has.
+fn position(bitmap: u32, index: u32) -> usize
+    requires { index < 32 }
+    ensures { result ≡ count_ones (bitmap % 2 ^ index) }
+{
+    (bitmap & ((1 << index) - 1)).count_ones() as usize
+}
+
+// Whether the child at a position has this index. The position is where it would stand.
+fn is_there<V, A: Allocator>(slots: &Vec<Slot<V, A>, A>, at: usize, index: u32) -> bool
+    ensures { (below : ℕ) → at ≡ place index (children below slots.now.items) → result ≡ there index (children below slots.now.items) }
+{
+    match slots.get(at) {
+        Some(slot) => slot.index() == index,
+        None => false,
+    }
+}
+
+// Where the child at the index of a hash stands, or would stand.
+#[derive(Clone, Copy)]
+pub(crate) struct Seat {
+    pub index: u32,
+    pub at: usize,
+    pub taken: bool,
+}
+
+pub(crate) fn seat_of<V, A: Allocator>(
+    slots: &Vec<Slot<V, A>, A>,
+    below: u32,
+    bitmap: u32,
+    hash: u32,
+) -> Seat
+    requires { IsBranch below bitmap slots.now.items }
+    ensures { IsSeat (digit below hash) (children below slots.now.items) (vec_len slots.now) result.index result.at result.taken }
+{
+    let index = digit_of(below, hash);
+    let at = position(bitmap, index);
+    let taken = is_there(slots, at, index);
+    Seat { index, at, taken }
+}
+
+// The child at the index of a hash.
+fn slot_at<V, A: Allocator>(
+    slots: &Vec<Slot<V, A>, A>,
+    below: u32,
+    bitmap: u32,
+    hash: u32,
+) -> Option<&Slot<V, A>>
+    requires { IsBranch below bitmap slots.now.items }
+    ensures { MatchOption result (at (digit below hash) (children below slots.now.items) ≡ [])
+        (λ slot. (child below slot.now ≡ (digit below hash, at (digit below hash) (children below slots.now.items))) × StandsBelow below slot.now) }
+{
+    let seat = seat_of(slots, below, bitmap, hash);
+    if seat.taken {
+        Some(&slots[seat.at])
+    } else {
+        None
+    }
+}
+
+// The value of a key among those of equal hashes.
+fn in_list<'a, V, A: Allocator>(
+    entries: &'a [Arc<Entry<V, A>, A>],
+    hash: u32,
+    key: &[u8],
+) -> Option<&'a Arc<V, A>>
+    ensures { option_map (λ value. value.now.value) result ≡ find order (word 0 hash key.now) (listed entries.now) }
+{
+    for entry in entries {
+        if let Some(value) = entry.value_at(hash, key) {
+            return Some(value);
+        }
+    }
+    None
+}
+
+impl<V, A: Allocator> Node<V, A> {
+    // The generation that wrote it.
+    pub fn stamp(&self) -> u64 {
+        self.stamp
+    }
+
+    // The value of the key of this hash and these bytes.
+    pub fn lookup<'a>(&'a self, hash: u32, key: &[u8]) -> Option<&'a Arc<V, A>>
+        ensures { option_map (λ value. value.now.value) result ≡ find order (word self.now.0 hash key.now) self.now.1 }
+    {
+        match &self.shape {
+            Shape::Branch(below, bitmap, slots) => match slot_at(slots, *below, *bitmap, hash) {
+                None => None,
+                Some(Slot::One(_, entry)) => entry.value_at(hash, key),
+                Some(Slot::Many(_, node)) => node.lookup(hash, key),
+            },
+            Shape::Keys(entries) => in_list(entries, hash, key),
+        }
+    }
+}

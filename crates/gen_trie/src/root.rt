@@ -1,0 +1,110 @@
+// The root of a trie: nothing, one entry, or a node.
+ghost use Rattle.std.specs.Prelude.{◌≡◌, ℕ, None, OnOk, OnErr, IfOk, IsOkUnless};
+ghost use Rattle.std.specs.Option.{option_map};
+ghost use Rattle.std.specs.FinMap.Entries.{find, put};
+ghost use Rattle.dots.specs.declared.refusal.Refusal.TheVariants.{OutOfMemory};
+ghost use Rattle.hash_path.specs.Word.{order, word};
+ghost use Rattle.gen_trie.specs.Shapes.{with_entry};
+ghost use Rattle.gen_trie.specs.Root.{root_entries, RootStands, IsRoot};
+
+use crate::copied::shared;
+use crate::entry::Entry;
+use crate::node::Slot;
+use crate::put::put_slot;
+use dots::{Key, Refusal};
+use std::alloc::Allocator;
+use std::sync::Arc;
+
+// The value of the key of this hash and these bytes.
+pub(crate) fn look_root<'a, V, A: Allocator>(
+    root: &'a Option<Slot<V, A>>,
+    hash: u32,
+    key: &[u8],
+) -> Option<&'a Arc<V, A>>
+    requires { RootStands root.now }
+    ensures { option_map (λ value. value.now.value) result ≡ find order (word 7 hash key.now) (root_entries root.now) }
+{
+    match root {
+        None => None,
+        Some(Slot::One(_, entry)) => entry.value_at(hash, key),
+        Some(Slot::Many(_, node)) => node.lookup(hash, key),
+    }
+}
+
+// A second owner of the same entry or node.
+pub(crate) fn share_root<V: Drop, A: Allocator + Copy>(
+    root: &Option<Slot<V, A>>,
+) -> Result<Option<Slot<V, A>>, Refusal>
+    ensures same { IfOk result (λ copy. root_entries copy ≡ root_entries root.now) }
+    ensures is_root { IfOk result (λ copy. (count : ℕ) → IsRoot root.now count → IsRoot copy count) }
+    ensures err { IsOkUnless result OutOfMemory }
+{
+    match root {
+        None => Ok(None),
+        Some(slot) => Ok(Some(shared(slot)?)),
+    }
+}
+
+// Puts an entry into the trie of this root.
+fn put_root<V: Drop, A: Allocator + Copy>(
+    root: &mut Option<Slot<V, A>>,
+    alloc: A,
+    generation: u64,
+    leaf: Arc<Entry<V, A>, A>,
+) -> Result<(), Refusal>
+    requires { RootStands root.old }
+    ensures ok { OnOk result (root_entries root.new ≡ with_entry 7 leaf.value (root_entries root.old)) }
+    ensures stands { RootStands root.new }
+    ensures same { OnErr result (root_entries root.new ≡ root_entries root.old) }
+    ensures err { IsOkUnless result OutOfMemory }
+{
+    match root {
+        None => {
+            *root = Some(Slot::One(0, leaf));
+            Ok(())
+        }
+        Some(slot) => put_slot(slot, 7, alloc, generation, leaf),
+    }
+}
+
+// The entry of a key, in memory of its own.
+fn new_leaf<V: Drop, A: Allocator + Copy>(
+    alloc: A,
+    hash: u32,
+    key: Key<A>,
+    value: V,
+) -> Result<Arc<Entry<V, A>, A>, Refusal>
+    ensures ok { IfOk result (λ leaf. (leaf.value.hash ≡ hash) × (leaf.value.key ≡ key) × (leaf.value.value.value ≡ value)) }
+    ensures err { IsOkUnless result OutOfMemory }
+{
+    let value = Arc::new(alloc, value)?;
+    Ok(Arc::new(alloc, Entry { hash, key, value })?)
+}
+
+// Puts a value at a key, and counts the keys. At 2^64 - 1 keys a new one is refused as for want of memory.
+pub(crate) fn insert_at<V: Drop, A: Allocator + Copy>(
+    root: &mut Option<Slot<V, A>>,
+    count: &mut u64,
+    alloc: A,
+    generation: u64,
+    hash: u32,
+    key: Key<A>,
+    value: V,
+) -> Result<(), Refusal>
+    requires { IsRoot root.old count.old }
+    ensures ok { OnOk result (root_entries root.new ≡ put order (word 7 hash key) value (root_entries root.old)) }
+    ensures is_root { IsRoot root.new count.new }
+    ensures same { OnErr result (root_entries root.new ≡ root_entries root.old) }
+    ensures err { IsOkUnless result OutOfMemory }
+{
+    let fresh = look_root(root, hash, key.bytes()).is_none();
+    if fresh && *count == u64::MAX {
+        return Err(Refusal::OutOfMemory);
+    }
+    let leaf = new_leaf(alloc, hash, key, value)?;
+    put_root(root, alloc, generation, leaf)?;
+    if fresh {
+        *count += 1;
+    }
+    Ok(())
+}

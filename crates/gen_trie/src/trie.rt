@@ -1,0 +1,144 @@
+ghost use Rattle.std.specs.Prelude.{◌≡◌, OnOk, OnErr, IfOk, IsOkUnless};
+ghost use Rattle.std.specs.Option.{option_map};
+ghost use Rattle.std.specs.FinMap as finite;
+ghost use Rattle.hash_path.specs.Map.{as_map};
+ghost use Rattle.gen_trie.specs.Root.{root_entries, IsTrie};
+ghost use Rattle.dots.specs.declared.refusal.Refusal.TheVariants.{OutOfMemory};
+
+use crate::frozen::Frozen;
+use crate::node::Slot;
+use crate::root::{insert_at, look_root, share_root};
+use dots::{Key, Refusal};
+use hash_path::PathHash;
+use std::alloc::{Allocator, Global};
+use std::marker::Model;
+
+/// A finite map from keys to values that can be frozen at the cost of a few reference counts.
+///
+/// It is a trie by the path hash of the keys: 32 children a branch, five bits of the hash a level, and lists of keys
+/// with equal hashes past the last. What is written after a freeze is copied first, node by node, so a frozen map stays
+/// what it was. An entry takes three allocations: the entry, the key's bytes, the value.
+#[derive(Drop)]
+pub struct GenTrie<V, H: PathHash, A: Allocator = Global> {
+    alloc: A,
+    hash: H,
+    generation: u64,
+    count: u64,
+    root: Option<Slot<V, A>>,
+}
+
+impl<V, H: PathHash, A: Allocator> Model for GenTrie<V, H, A> {
+    ghost use Rattle.std.specs.Prelude.{ℕ};
+    ghost use Rattle.std.specs.Coded.{coded×, coded_list, coded_ℕ};
+    ghost use Rattle.std.specs.FinMap as map;
+    ghost use Rattle.hash_path.specs.Word.{order};
+
+    ghost Value = { H × map.FinMap order V };
+
+    ghost coded = { coded× H.code (map.code (coded_list coded_ℕ) V.code) };
+
+    ghost use Rattle.hash_path.specs.Map.{as_map};
+    ghost use Rattle.gen_trie.specs.Root.{root_entries, IsTrie};
+
+    ghost view = { λ a. (a.hash, as_map (root_entries a.root)) };
+
+    ghost invariant = { λ a. IsTrie (H.hash_of a.hash) a.root a.count };
+}
+
+impl<V, H: PathHash, A: Allocator + Copy> GenTrie<V, H, A> {
+    /// The map with no keys, whose paths are by this hash. Takes no memory.
+    pub fn new(alloc: A, hash: H) -> GenTrie<V, H, A>
+        ensures { result ≡ (hash, finite.empty) }
+    {
+        GenTrie {
+            alloc,
+            hash,
+            generation: 0,
+            count: 0,
+            root: None,
+        }
+    }
+
+    /// The value of the key. Touches eight nodes at most, and takes no memory.
+    pub fn lookup(&self, key: &Key<A>) -> Option<&V>
+        ensures { option_map (λ value. value.now) result ≡ finite.get self.now.1 key.now }
+    {
+        let hash = self.hash.hash(key.bytes());
+        match look_root(&self.root, hash, key.bytes()) {
+            None => None,
+            Some(value) => Some(&**value),
+        }
+    }
+
+    // The map of the parts of a frozen one.
+    pub(crate) fn of(
+        alloc: A,
+        hash: H,
+        generation: u64,
+        count: u64,
+        root: Option<Slot<V, A>>,
+    ) -> GenTrie<V, H, A>
+        requires { IsTrie (H.hash_of hash) root count }
+        ensures { result ≡ (hash, as_map (root_entries root)) }
+    {
+        GenTrie {
+            alloc,
+            hash,
+            generation,
+            count,
+            root,
+        }
+    }
+
+    /// The number of keys.
+    pub fn size(&self) -> u64
+        ensures { result ≡ finite.len self.now.1 }
+    {
+        self.count
+    }
+}
+
+impl<V: Drop, H: PathHash, A: Allocator + Copy> GenTrie<V, H, A> {
+    /// Puts the value at the key, in the place of one that is there. A refused call leaves the map as it was, and drops
+    /// the value. A map of 2^64 - 1 keys refuses a new one as for want of memory. Touches eight nodes at most, and
+    /// copies those that a frozen map shares.
+    pub fn insert(&mut self, key: Key<A>, value: V) -> Result<(), Refusal>
+        ensures ok { OnOk result (self.new ≡ (self.old.0, finite.insert self.old.1 key value)) }
+        ensures same { OnErr result (self.new ≡ self.old) }
+        ensures err { IsOkUnless result OutOfMemory }
+    {
+        let hash = self.hash.hash(key.bytes());
+        insert_at(
+            &mut self.root,
+            &mut self.count,
+            self.alloc,
+            self.generation,
+            hash,
+            key,
+            value,
+        )
+    }
+
+    /// Takes all keys out.
+    pub fn clear(&mut self)
+        ensures { self.new ≡ (self.old.0, finite.empty) }
+    {
+        self.root = None;
+        self.count = 0;
+    }
+
+    /// The map as it is, which stays so whatever is written afterwards. The next generation starts on both sides; at the
+    /// last, 2^64 - 1, it stays. Copies no node: it takes a reference count, and is refused only where that is full.
+    pub fn freeze(&mut self) -> Result<Frozen<V, H, A>, Refusal>
+        ensures ok { IfOk result (λ frozen. frozen ≡ self.old) }
+        ensures same { self.new ≡ self.old }
+        ensures err { IsOkUnless result OutOfMemory }
+    {
+        let root = share_root(&self.root)?;
+        let frozen = Frozen::of(self.alloc, self.hash, self.generation, self.count, root);
+        if self.generation < u64::MAX {
+            self.generation += 1;
+        }
+        Ok(frozen)
+    }
+}

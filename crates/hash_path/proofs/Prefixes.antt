@@ -1,0 +1,41 @@
+-- What the calls of a prefix do to its bits, and so to its indices.
+use Rattle.std.proofs.Common.{◌≡◌, ℕ, ◌+◌, ◌*◌, ◌%◌, ◌^◌, ◌<◌, ◌≤◌, ◌++◌, ◌∷◌, [], IsTrue, nat_eq, ◌↔◌, arith, sym, ◌∙◌, ap, add-one, eq-eqb, eqb-true}
+use Rattle.std.proofs.lemmas.Nat.{one_shl}
+use Rattle.std.proofs.Math.Nat.{mod-eq_of_lt}
+use Rattle.hash_path.specs.Path.{indices, last_index}
+use Rattle.hash_path.specs.PathLaws.{same_indices, same_bits, child_fits, child_below, indices-child}
+
+-- the test of a prefix's bits, at a mask or at the whole hash
+pub test_is : (a b : ℕ) (P : Type 0) → (a ≡ b → P) → (P → a ≡ b) → IsTrue (nat_eq a b) ↔ P
+test_is a b P f g = (λ t. f (eqb-true a b t), λ p. eq-eqb a b (g p))
+
+pub covers_mask : (d bits hash : ℕ) → d < 7 → bits < 2 ^ (5 * d) → IsTrue (nat_eq (hash % (1 * 2 ^ (5 * d) % 4294967296)) bits) ↔ (indices d hash ≡ indices d bits)
+covers_mask d bits hash h b =
+    let room : 5 * d < 32 = omega arith in
+    let mask : 1 * 2 ^ (5 * d) % 4294967296 ≡ 2 ^ (5 * d) = one_shl (5 * d) 32 room in
+    rw mask
+    (test_is _ _ _
+    (λ e. same_indices d hash bits (e ∙ sym (mod-eq_of_lt b)))
+    (λ e. same_bits d hash bits e ∙ mod-eq_of_lt b))
+
+pub covers_whole : (d bits hash : ℕ) → d ≡ 7 → bits < 2 ^ 32 → hash < 2 ^ 32 → IsTrue (nat_eq hash bits) ↔ (indices d hash ≡ indices d bits)
+covers_whole d bits hash e b h =
+    let below : hash < 2 ^ (5 * 7) = omega arith in
+    let under : bits < 2 ^ (5 * 7) = omega arith in
+    rw e
+    (test_is hash bits _ (ap (indices 7)) (λ p. sym (mod-eq_of_lt below) ∙ same_bits 7 hash bits p ∙ mod-eq_of_lt under))
+
+pub shift_is : (d bits index : ℕ) → d < 7 → index ≤ last_index d → bits < 2 ^ (5 * d) → index * 2 ^ (5 * d) % 4294967296 ≡ index * 2 ^ (5 * d)
+shift_is d bits index h l b = mod-eq_of_lt (child_fits d bits index h l b).0
+
+pub child_holds : (d bits index : ℕ) → d < 7 → index ≤ last_index d → bits < 2 ^ (5 * d)
+    → (d + 1 ≤ 7) × (bits + index * 2 ^ (5 * d) % 4294967296 < 2 ^ (5 * (d + 1))) × (bits + index * 2 ^ (5 * d) % 4294967296 < 4294967296)
+child_holds d bits index h l b =
+    let fits = child_fits d bits index h l b in
+    rw (shift_is d bits index h l b) (omega arith, child_below d bits index fits.2 b, fits.1)
+
+pub child_is : (d bits index : ℕ) → d < 7 → index ≤ last_index d → bits < 2 ^ (5 * d)
+    → indices (d + 1) (bits + index * 2 ^ (5 * d) % 4294967296) ≡ indices d bits ++ index ∷ []
+child_is d bits index h l b =
+    let fits = child_fits d bits index h l b in
+    rw (shift_is d bits index h l b, add-one) (indices-child d bits index b fits.2)

@@ -1,0 +1,26 @@
+-- What a trie stands for: a finite map from keys to values. Its entries stand by path, and the map is that of their
+-- keys; the walk of a map is its entries in the order of their paths. Of this project.
+use Rattle.std.specs.Prelude.{◌≡◌, ℕ, List, [], ◌∷◌}
+use Rattle.std.specs.FinMap as finite
+use Rattle.hash_path.specs.Word.{order, word, key_in}
+
+-- the word of a key at the root: its seven indices, its hash, its bytes
+abbrev pub path : (List ℕ → ℕ) → List ℕ → List ℕ
+path hash_of key = word 7 (hash_of key) key
+
+-- the bytes of a key, of its path
+abbrev pub key_of : List ℕ → List ℕ
+key_of = key_in 7
+
+-- each entry stands at the path of its key
+abbrev pub HashedBy : {V : Type 0} → (List ℕ → ℕ) → List (List ℕ × V) → Type 0
+HashedBy hash_of [] = Unit {0}
+HashedBy hash_of (e ∷ es) = (e.0 ≡ path hash_of (key_of e.0)) × HashedBy hash_of es
+
+-- the entries by key, and their map
+abbrev pub keyed : {V : Type 0} → List (List ℕ × V) → List (List ℕ × V)
+keyed [] = []
+keyed (e ∷ es) = (key_of e.0, e.1) ∷ keyed es
+
+abbrev pub as_map : {V : Type 0} → List (List ℕ × V) → finite.FinMap order V
+as_map es = finite.from_entries (keyed es)

@@ -1,0 +1,22 @@
+-- Paths, after Prokopec, Bronson, Bagwell and Odersky, "Concurrent Tries with Efficient Non-Blocking Snapshots" (2012):
+-- the index at the level lev is (hash >> lev) & 31, for lev = 0, 5, .. 30. So a hash of 32 bits has seven indices,
+-- the last of them from 0 to 3.
+use Rattle.std.specs.Prelude.{ℕ, zero, suc, ◌+◌, ◌*◌, ◌/◌, ◌%◌, ◌^◌, List, [], ◌∷◌, cond, nat_lt}
+
+-- the index at a depth from 0 to 6
+abbrev pub index_in : ℕ → ℕ → ℕ
+index_in hash depth = (hash / 2 ^ (5 * depth)) % 32
+
+-- the first indices of a hash, from the lowest bits on
+abbrev pub indices : ℕ → ℕ → List ℕ
+indices zero bits = []
+indices (suc depth) bits = (bits % 32) ∷ indices depth (bits / 32)
+
+-- the least hash with these indices
+abbrev pub packed : List ℕ → ℕ
+packed [] = 0
+packed (index ∷ path) = index + 32 * packed path
+
+-- the greatest index that a child at this depth can have
+abbrev pub last_index : ℕ → ℕ
+last_index depth = cond (nat_lt depth 6) 31 3

@@ -1,0 +1,88 @@
+ghost use Rattle.std.specs.Prelude.{◌≡◌, ◌+◌, ◌<◌, ◌≤◌, ◌⊎◌, ◌↔◌, [], ◌∷◌, ◌++◌, length, IsTrue, MatchOption};
+ghost use Rattle.hash_path.specs.Path.{index_in, indices, last_index};
+
+use std::marker::Model;
+
+// How many indices a hash has.
+const DEPTHS: u32 = 7;
+
+/// The index of a hash at a depth from 0 to 6: five of its bits, from the lowest on, so 0 to 31, and 0 to 3 at the
+/// depth 6, where two bits are left.
+pub fn index_at(hash: u32, depth: u32) -> u32
+    requires { depth ≤ 6 }
+    ensures { result ≡ index_in hash depth }
+{
+    (hash >> (5 * depth)) & 31
+}
+
+// The greatest index that a child at this depth can have.
+fn last_at(depth: u32) -> u32
+    ensures { result ≡ last_index depth }
+{
+    if depth < DEPTHS - 1 { 31 } else { 3 }
+}
+
+/// The indices from the root of a trie down to a node, of which there are at most seven.
+#[derive(Clone, Copy, Debug)]
+pub struct Prefix {
+    depth: u32,
+    // The indices, each in five bits, the first in the lowest.
+    bits: u32,
+}
+
+impl Model for Prefix {
+    ghost use Rattle.std.specs.Prelude.{ℕ, ◌*◌, ◌^◌, ◌<◌, ◌≤◌, List, length};
+    ghost use Rattle.hash_path.specs.Path.{indices, packed};
+    ghost use Rattle.hash_path.specs.PathLaws.{unpacked};
+
+    ghost Value = { List ℕ };
+
+    ghost view = { λ a. indices a.depth a.bits };
+
+    ghost invariant = { λ a. (a.depth ≤ 7) × (a.bits < 2 ^ (5 * a.depth)) × (a.bits < 2 ^ 32) };
+
+    ghost inverse = { λ path. record { depth = length path; bits = packed path } };
+
+    ghost inverse_ok = { λ a h i. record { depth = (unpacked a.depth a.bits h.1).0 i; bits = (unpacked a.depth a.bits h.1).1 i } };
+}
+
+impl Prefix {
+    /// The prefix of no indices, which each hash is under.
+    pub fn root() -> Prefix
+        ensures { result ≡ [] }
+    {
+        Prefix { depth: 0, bits: 0 }
+    }
+
+    /// This prefix and one index more. None at the depth 7, and for an index past the greatest there: 31, at the
+    /// seventh 3.
+    pub fn child(self, index: u32) -> Option<Prefix>
+        ensures { MatchOption result ((length self ≡ 7) ⊎ (last_index (length self) < index)) (λ child. child ≡ self ++ index ∷ []) }
+    {
+        if self.depth >= DEPTHS || index > last_at(self.depth) {
+            return None;
+        }
+        Some(Prefix {
+            depth: self.depth + 1,
+            bits: self.bits + (index << (5 * self.depth)),
+        })
+    }
+
+    /// The number of indices, from 0 to 7.
+    pub fn depth(self) -> u32
+        ensures length { result ≡ length self }
+        ensures bound { result ≤ 7 }
+    {
+        self.depth
+    }
+
+    /// Whether the path of a hash begins with this prefix.
+    pub fn covers(self, hash: u32) -> bool
+        ensures { IsTrue result ↔ (indices (length self) hash ≡ self) }
+    {
+        if self.depth >= DEPTHS {
+            return hash == self.bits;
+        }
+        hash % (1 << (5 * self.depth)) == self.bits
+    }
+}
