@@ -145,10 +145,11 @@ pub gathers_clear : (live : PairValue) (entries : List (List ℕ × List (DotVal
     → ((key : List ℕ) (standing : List (DotValue × List ℕ)) → Contains entries (key, standing) → (place : Unit {0}) (d : DotValue) → store_at live.0 (key, place) d ≡ at_values standing place d)
     → ((key : List ℕ) (place : Unit {0}) (d : DotValue) → IsSome (store_at live.0 (key, place) d) → (standing : List (DotValue × List ℕ)) × Contains entries (key, standing))
     → GathersAll dots (map (λ entry. entry.1) entries) → IsClearAt (pair_state live) dots
-gathers_clear live entries dots held only gathered d =
-    (λ found. let there = from_any entries d (sym (gathered d) ∙ found) in (there.0, ap is_some (held there.0 there.1 there.2 tt d) ∙ there.3),
-    λ (key, there). let standing = only key tt d there in
-        gathered d ∙ to_any entries key standing.0 d standing.1 (sym (ap is_some (held key standing.0 standing.1 tt d)) ∙ there))
+gathers_clear live entries dots held only gathered d = (
+  λ found. let there = from_any entries d (sym (gathered d) ∙ found) in (there.0, ap is_some (held there.0 there.1 there.2 tt d) ∙ there.3),
+  λ (key, there). let standing = only key tt d there in
+      gathered d ∙ to_any entries key standing.0 d standing.1 (sym (ap is_some (held key standing.0 standing.1 tt d)) ∙ there),
+)
 
 -- the stores of entries that were lent
 pub lent_stores : {K X : Type 0} (lent : List (Bor K × Bor X)) → map (λ entry. entry.1.now) lent ≡ map (λ entry. entry.1) (map deref_pair lent)

@@ -36,10 +36,7 @@ pub fn remove<A: Allocator + Copy>(
 /// The delta of a clear, and how many dots it observed, which is how many stand at any key.
 ///
 /// The delta holds nothing, and knows these dots. Where there are none it is the bottom, as no operation is made.
-pub fn clear<A: Allocator + Copy>(
-    alloc: A,
-    live: &Pair<A>,
-) -> Result<(Pair<A>, u64), Refusal>
+pub fn clear<A: Allocator + Copy>(alloc: A, live: &Pair<A>) -> Result<(Pair<A>, u64), Refusal>
     ensures ok { IfOk result (λ made. (over : List DotValue) × IsClearAt (pair_state live.now) over ×
         Same (pair_state made.0) (state (erasure over)) × IsDistinct same_dot over × (made.1 ≡ length over)) }
     ensures err { IsOkUnless result Refusal.OutOfMemory }
@@ -65,10 +62,7 @@ fn dots_at<A: Allocator + Copy>(
 }
 
 /// The dots that stand at any key.
-fn dots_anywhere<A: Allocator + Copy>(
-    alloc: A,
-    live: &Pair<A>,
-) -> Result<BTreeSet<Dot, A>, Refusal>
+fn dots_anywhere<A: Allocator + Copy>(alloc: A, live: &Pair<A>) -> Result<BTreeSet<Dot, A>, Refusal>
     ensures ok { IfOk result (λ dots. IsClearAt (pair_state live.now) dots.keys) }
     ensures err { IsOkUnless result Refusal.OutOfMemory }
 {

@@ -10,7 +10,13 @@ fn named(rt: &impl Abort, name: u64) -> Name {
 }
 
 // Puts the value on the key at the pair, which takes the delta in, and gives the delta.
-fn put_at(alloc: Global, name: Name, live: &mut Pair, key: &Key, value: &[u8]) -> Result<Pair, Refusal> {
+fn put_at(
+    alloc: Global,
+    name: Name,
+    live: &mut Pair,
+    key: &Key,
+    value: &[u8],
+) -> Result<Pair, Refusal> {
     let value = Value::new(alloc, value)?;
     let (delta, _) = put(alloc, name, live, key, &value)?;
     group(alloc, live, &delta)?;
@@ -64,8 +70,20 @@ fn a_remove_of_an_absent_key_makes_no_operation(rt: HostRuntime) -> Result<(), F
 fn a_clear_counts_the_dots_of_all_keys(rt: HostRuntime) -> Result<(), Fail> {
     let alloc = rt.alloc();
     let mut live = Causal::bottom(alloc);
-    put_at(alloc, named(&rt, 1), &mut live, &Key::new(alloc, b"a")?, b"x")?;
-    put_at(alloc, named(&rt, 1), &mut live, &Key::new(alloc, b"b")?, b"y")?;
+    put_at(
+        alloc,
+        named(&rt, 1),
+        &mut live,
+        &Key::new(alloc, b"a")?,
+        b"x",
+    )?;
+    put_at(
+        alloc,
+        named(&rt, 1),
+        &mut live,
+        &Key::new(alloc, b"b")?,
+        b"y",
+    )?;
     let (_, number) = clear(alloc, &live)?;
     assert_eq!(rt; number, 2);
     Ok(())
@@ -91,7 +109,12 @@ fn deltas_are_grouped_in_either_order(rt: HostRuntime) -> Result<(), Fail> {
 }
 
 // All deltas of puts on one key after another, taken out as one group.
-fn grouped(alloc: Global, name: Name, live: &mut Pair, keys: &[&[u8]]) -> Result<Option<Pair>, Refusal> {
+fn grouped(
+    alloc: Global,
+    name: Name,
+    live: &mut Pair,
+    keys: &[&[u8]],
+) -> Result<Option<Pair>, Refusal> {
     let mut outgoing = Outgoing::new(alloc);
     for key in keys {
         let delta = put_at(alloc, name, live, &Key::new(alloc, key)?, b"x")?;
