@@ -89,13 +89,13 @@ module _ {V A : Type 0} (below : ℕ) where
       option_so r
       (λ f two. f (let same = ap (λ x. length x.1) seen in omega arith))
       (λ x q.
-        let q' : n.value.1 ≡ entry_at below (a x) ∷ entry_at below (b x) ∷ [] = q ∙ ap (λ k. entry_at k (a x) ∷ entry_at k (b x) ∷ []) fits.0 in
-        let w = subst (λ l. AllWords (suc below) (under i l ++ [])) q' words in
-        let first = word_index below i (a x).hash (a x).key w.0 in
-        let second = word_index below i (b x).hash (b x).key w.1.0 in
-        ap (λ y. y.1) seen ∙ ap (λ l. under i l ++ []) q'
-          ∙ (λ k. (first k ∷ word below (a x).hash (a x).key, (a x).value.value) ∷ (second k ∷ word below (b x).hash (b x).key, (b x).value.value) ∷ [])
-          ∙ ap (λ k. entry_at k (a x) ∷ entry_at k (b x) ∷ []) (sym (ap (λ y. y.0) seen)))
+      let q' : n.value.1 ≡ entry_at below (a x) ∷ entry_at below (b x) ∷ [] = q ∙ ap (λ k. entry_at k (a x) ∷ entry_at k (b x) ∷ []) fits.0 in
+      let w = subst (λ l. AllWords (suc below) (under i l ++ [])) q' words in
+      let first = word_index below i (a x).hash (a x).key w.0 in
+      let second = word_index below i (b x).hash (b x).key w.1.0 in
+      ap (λ y. y.1) seen ∙ ap (λ l. under i l ++ []) q'
+      ∙ (λ k. (first k ∷ word below (a x).hash (a x).key, (a x).value.value) ∷ (second k ∷ word below (b x).hash (b x).key, (b x).value.value) ∷ [])
+      ∙ ap (λ k. entry_at k (a x) ∷ entry_at k (b x) ∷ []) (sym (ap (λ y. y.0) seen)))
       h
 
   pub pair_two : {X : Type 0} (a b : X → Entry V A) (m : ℕ) (ss : List (Slot V A)) (s t : Slot V A) (node : ℕ × List (List ℕ × V)) (r : Option X)
@@ -119,6 +119,6 @@ module _ {V A : Type 0} (below : ℕ) where
       option_so r
       (λ f two. let same = ap (λ x. length x.1) seen in let long = f fits_s fits_t in omega arith)
       (λ x q.
-        ap (λ y. y.1) seen ∙ up_one i (a x) es (under j fs ++ []) q.0 words ∙ ap (λ l. entry_at (suc below) (a x) ∷ l) (up_one j (b x) fs [] q.1 (words_rest (suc below) i es (under j fs ++ []) words))
-          ∙ ap (λ k. entry_at k (a x) ∷ entry_at k (b x) ∷ []) (sym (ap (λ y. y.0) seen)))
+      ap (λ y. y.1) seen ∙ up_one i (a x) es (under j fs ++ []) q.0 words ∙ ap (λ l. entry_at (suc below) (a x) ∷ l) (up_one j (b x) fs [] q.1 (words_rest (suc below) i es (under j fs ++ []) words))
+      ∙ ap (λ k. entry_at k (a x) ∷ entry_at k (b x) ∷ []) (sym (ap (λ y. y.0) seen)))
       h
