@@ -3,3 +3,4 @@ pub mod Lookups
 pub mod Puts
 pub mod Roots
 pub mod Pairs
+pub mod Takes
