@@ -109,18 +109,20 @@ module _ {V A : Type 0} (below : ℕ) (hash : ℕ) (key : List ℕ) where
       let less : j < 32 = subst (λ k. k < 32) (sym seat.index_is) seat.bound in
       let child_is : children below ts ≡ without i cs = ap (children below) is ∙ map_remove ss n ∙ ap (remove cs) seat.position_is ∙ remove_there i cs yes in
       let entries : fan (children below ts) ≡ cut (i ∷ w) (fan cs) =
-            ap fan child_is ∙ sym (fan-without i cs yes) ∙ ap (λ es. fan (put_child i es cs)) (sym none) ∙ sym (cut-fan i w 0 cs b.rise yes) in
+      ap fan child_is ∙ sym (fan-without i cs yes) ∙ ap (λ es. fan (put_child i es cs)) (sym none) ∙ sym (cut-fan i w 0 cs b.rise yes) in
       let bits = bits_without i cs yes in
       let same = b.bitmap_is in
       let shift : 1 * 2 ^ j % 4294967296 ≡ 2 ^ i = one_shl j 32 less ∙ ap (λ k. 2 ^ k) seat.index_is in
-      let left : m - 1 * 2 ^ j % 4294967296 ≡ bits_of (without i cs) = omega arith in
-      (entries, record {
-        height = b.height;
-        bitmap_is = left ∙ ap bits_of (sym child_is);
-        rise = subst (Rise 0) (sym child_is) (Rise-without i 0 cs b.rise);
-        fits = subst (All (StandsBelow below)) (sym is) (All-append (StandsBelow below) (take n ss) (drop (suc n) ss) (All-take (StandsBelow below) n ss b.fits) (All-drop (StandsBelow below) (suc n) ss b.fits));
-        words = subst (AllWords (suc below)) (sym entries) (AllWords-cut (suc below) (i ∷ w) (fan cs) b.words);
-      })
+      let left : m - 1 * 2 ^ j % 4294967296 ≡ bits_of (without i cs) = omega arith in (
+        entries,
+        record {
+          height = b.height;
+          bitmap_is = left ∙ ap bits_of (sym child_is);
+          rise = subst (Rise 0) (sym child_is) (Rise-without i 0 cs b.rise);
+          fits = subst (All (StandsBelow below)) (sym is) (All-append (StandsBelow below) (take n ss) (drop (suc n) ss) (All-take (StandsBelow below) n ss b.fits) (All-drop (StandsBelow below) (suc n) ss b.fits));
+          words = subst (AllWords (suc below)) (sym entries) (AllWords-cut (suc below) (i ∷ w) (fan cs) b.words);
+        },
+      )
 
   -- ---- a child that stays
 
@@ -135,15 +137,17 @@ module _ {V A : Type 0} (below : ℕ) (hash : ℕ) (key : List ℕ) where
       let yes : there i cs ≡ true = sym seat.taken_is ∙ taken in
       let seen : child below s' ≡ (i, cut w (at i cs)) = new ∙ (λ k. ((here k).0, cut w (here k).1)) in
       let child_is : children below ts ≡ put_child i (cut w (at i cs)) cs =
-            ap (children below) is ∙ map-set (child below) ss n s' ∙ (λ k. set cs (seat.position_is k) (seen k)) ∙ set_there i (cut w (at i cs)) cs yes in
-      let entries : fan (children below ts) ≡ cut (i ∷ w) (fan cs) = ap fan child_is ∙ sym (cut-fan i w 0 cs b.rise yes) in
-      (entries, record {
-        height = b.height;
-        bitmap_is = b.bitmap_is ∙ sym (bits_there i (cut w (at i cs)) cs yes) ∙ ap bits_of (sym child_is);
-        rise = subst (Rise 0) (sym child_is) (Rise-put_child 0 i (cut w (at i cs)) cs (omega arith) seat.bound b.rise);
-        fits = subst (All (StandsBelow below)) (sym is) (All-set (StandsBelow below) ss n s' fits b.fits);
-        words = subst (AllWords (suc below)) (sym entries) (AllWords-cut (suc below) (i ∷ w) (fan cs) b.words);
-      })
+      ap (children below) is ∙ map-set (child below) ss n s' ∙ (λ k. set cs (seat.position_is k) (seen k)) ∙ set_there i (cut w (at i cs)) cs yes in
+      let entries : fan (children below ts) ≡ cut (i ∷ w) (fan cs) = ap fan child_is ∙ sym (cut-fan i w 0 cs b.rise yes) in (
+        entries,
+        record {
+          height = b.height;
+          bitmap_is = b.bitmap_is ∙ sym (bits_there i (cut w (at i cs)) cs yes) ∙ ap bits_of (sym child_is);
+          rise = subst (Rise 0) (sym child_is) (Rise-put_child 0 i (cut w (at i cs)) cs (omega arith) seat.bound b.rise);
+          fits = subst (All (StandsBelow below)) (sym is) (All-set (StandsBelow below) ss n s' fits b.fits);
+          words = subst (AllWords (suc below)) (sym entries) (AllWords-cut (suc below) (i ∷ w) (fan cs) b.words);
+        },
+      )
 
   -- what the child at the index gives to be taken from
   pub child_gives : {X : Type 0} (m : ℕ) (ss : List (Slot V A)) (s : Slot V A) (r : Option X) (e : X → Entry V A) → IsBranch below m ss → T (is_sorted order (fan (children below ss)))
@@ -152,9 +156,11 @@ module _ {V A : Type 0} (below : ℕ) (hash : ℕ) (key : List ℕ) where
       → MatchOption r (StandsBelow below s → 2 ≤ length (child below s).1) (λ x. (child below s).1 ≡ entry_at below (e x) ∷ []) → is_some r ≡ false
       → (2 ≤ length (child below s).1) × T (is_sorted order (child below s).1) × (is_some (find order (word below hash key) (child below s).1) ≡ true)
   child_gives m ss s None e b sorted f here h t =
-      let is = ap (λ c. c.1) here.0 in
-      (h here.1, subst (λ l. T (is_sorted order l)) (sym is) (sorted-at (digit below hash) (children below ss) sorted),
-        subst (λ l. is_some (find order (word below hash key) l) ≡ true) (sym is) (found_at m ss b f))
+      let is = ap (λ c. c.1) here.0 in (
+        h here.1,
+        subst (λ l. T (is_sorted order l)) (sym is) (sorted-at (digit below hash) (children below ss) sorted),
+        subst (λ l. is_some (find order (word below hash key) l) ≡ true) (sym is) (found_at m ss b f),
+      )
   child_gives m ss s (Some x) e b sorted f here h t = cc
 
   pub one_gives : {X : Type 0} (m : ℕ) (ss : List (Slot V A)) (s : Slot V A) (r : Option X) (e : X → Entry V A) → IsBranch below m ss
@@ -164,4 +170,3 @@ module _ {V A : Type 0} (below : ℕ) (hash : ℕ) (key : List ℕ) where
       → cut (word below hash key) (at (digit below hash) (children below ss)) ≡ []
   one_gives m ss s None e b f here h t = cc
   one_gives m ss s (Some x) e b f here h t = cut_one m ss s (e x) b f here h
-

@@ -1,6 +1,7 @@
 // Taking the entry of a key out of a node, where two entries or more remain. So a node of two entries is replaced by the
 // one that remains, by the slot that it stands in, and no branch is left with one key.
-ghost use Rattle.std.specs.Prelude.{◌≡◌, ◌≢◌, ◌+◌, ◌<◌, ◌≤◌, ℕ, suc, [], ◌∷◌, length, true, false, vec_len, T, is_some, MatchOption, OnOk, OnErr, IfOk, IsOkUnless};
+ghost use Rattle.std.specs.Prelude.{◌≡◌, ◌≢◌, ◌+◌, ◌<◌, ◌≤◌, ℕ, suc, [], ◌∷◌, length, true, false, vec_len, not, T, is_some, MatchOption, OnOk, OnErr, IfOk, IsOkUnless};
+ghost use Rattle.std.specs.Ordering.{eq_by_cmp};
 ghost use Rattle.std.specs.FinMap.Entries.{find, is_sorted};
 ghost use Rattle.dots.specs.declared.refusal.Refusal.TheVariants.{OutOfMemory};
 ghost use Rattle.hash_path.specs.Word.{order, word, digit};
@@ -103,7 +104,11 @@ fn take_from_list<V: Drop, A: Allocator + Copy>(
 )
     ensures { listed entries.new.items ≡ cut (hash ∷ key.now) (listed entries.old.items) }
 {
-    entries.retain(|entry| !entry.is_at(hash, key));
+    entries.retain(
+        |entry| -> bool
+            ensures { result ≡ not (eq_by_cmp order (hash ∷ key.entry.now) (entry.now.value.hash ∷ entry.now.value.key)) }
+        { !entry.is_at(hash, key) },
+    );
 }
 
 // Takes the entry of a key out of a node that has it. A refused call leaves what the node stands for.

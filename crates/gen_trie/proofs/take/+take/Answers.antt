@@ -16,8 +16,8 @@ take-returns-clause-ok g t c =
       | take-in-Branch w ↦
           rw (w.result-is, w.node-inside-is)
           (ok_so w.take_branch.result
-            (λ e. ap (λ l. (suc w.in-Branch.below, l)) e ∙ ap (λ n. (n.0, cut (word n.0 c.args.hash c.args.key.now) n.1)) (ap height_and_entries (sym w.in-Branch.is) ∙ c.node.view_is))
-            w.take_branch.ensures.ok)
+          (λ e. ap (λ l. (suc w.in-Branch.below, l)) e ∙ ap (λ n. (n.0, cut (word n.0 c.args.hash c.args.key.now) n.1)) (ap height_and_entries (sym w.in-Branch.is) ∙ c.node.view_is))
+          w.take_branch.ensures.ok)
       | take-in-Keys w ↦
           rw (w.result-is, w.node-inside-is)
           (ap (λ l. (0, l)) w.take_from_list.ensures ∙ ap (λ n. (n.0, cut (word n.0 c.args.hash c.args.key.now) n.1)) (ap height_and_entries (sym w.in-Keys.is) ∙ c.node.view_is))
@@ -56,7 +56,7 @@ take_branch-take_below-requires g t c =
     let read = found c.args.below c.args.slots.now.items c.args.bitmap.now _ _ _ _ _ c.index.result.now c.requires.branch c.seat_of-seat.ensures c.args.slots.now.ok.0 taken c.index.ensures in
     let here = found c.args.below c.args.slots.now.items c.args.bitmap.now _ _ _ _ _ c.index_mut.result.now c.requires.branch c.seat_of-seat.ensures c.args.slots.now.ok.0 taken c.index_mut.ensures.value in
     let gives = child_gives c.args.below c.args.hash c.args.key.now c.args.bitmap.now c.args.slots.now.items c.index.result.now c.one_of.result (λ x. x.now.value) c.requires.branch c.requires.sorted c.requires.found read
-      (c.one_of.ensures c.args.below) (sym c.is_some.ensures ∙ c.if-is_some.false) in
+    (c.one_of.ensures c.args.below) (sym c.is_some.ensures ∙ c.if-is_some.false) in
     let facts = subst (λ k. (2 ≤ length k.1) × T (is_sorted order k.1) × (is_some (find order (word c.args.below c.args.hash c.args.key.now) k.1) ≡ true)) (read.0 ∙ sym here.0) gives in
     search (rules, here.1, facts.0, facts.1, facts.2)
 
