@@ -1,5 +1,5 @@
 -- What taking an entry out of the slots of a branch leaves.
-use Rattle.std.proofs.Common.{◌≡◌, ◌≢◌, ℕ, suc, ◌+◌, ◌-◌, ◌*◌, ◌%◌, ◌^◌, ◌<◌, ◌≤◌, List, [], ◌∷◌, ◌++◌, length, get_or, take, drop, set, map, Bool, true, false, not, cond, T, Some, None, arith, refl, sym, ◌∙◌, ap, subst}
+use Rattle.std.proofs.Common.{◌≡◌, ◌≢◌, ℕ, suc, ◌-◌, ◌*◌, ◌%◌, ◌^◌, ◌<◌, ◌≤◌, List, [], ◌∷◌, ◌++◌, length, take, drop, set, Bool, true, false, not, cond, T, Some, None, arith, refl, sym, ◌∙◌, ap, subst}
 use Rattle.std.specs.Prelude.{is_some, OnOk, OnErr, MatchOption}
 use Rattle.std.proofs.Common.{Ok, Err}
 use Rattle.std.specs.List.{All, remove, take-map, drop-map}
@@ -8,21 +8,20 @@ use Rattle.std.specs.declared.result.Result.{Result}
 use Rattle.std.specs.declared.sync.Arc.{Arc}
 use Rattle.std.specs.Ordering.{eq_by_cmp}
 use Rattle.std.specs.FinMap.Entries.{find, is_sorted}
-use Rattle.std.proofs.lemmas.List.{map-append, map-set}
+use Rattle.std.proofs.lemmas.List.{map-append, map-set, length-map}
 use Rattle.std.proofs.lemmas.List.Elements.{All-set, All-append, All-take, All-drop}
 use Rattle.std.proofs.lemmas.Nat.{one_shl}
-use Rattle.std.proofs.Math.ListN.{get_or-map}
 use Rattle.hash_path.specs.Word.{order, digit, word, AllWords}
-use Rattle.hash_path.specs.Cut.{cut, without}
-use Rattle.hash_path.specs.Fan.{fan, at, there, place, put_child, bits_of, Rise}
+use Rattle.hash_path.specs.Cut.{cut, without, spot}
+use Rattle.hash_path.specs.Fan.{fan, at, there, put_child, bits_of, Rise}
 use Rattle.hash_path.proofs.Finding.{find-fan}
-use Rattle.hash_path.proofs.Cutting.{cut-fan, fan-without, remove_there, Rise-without, bits_without, AllWords-cut, length-cut, sorted-at}
+use Rattle.hash_path.proofs.Cutting.{cut-fan, fan-without, remove_there, Rise-without, bits_without, AllWords-cut, length-cut, sorted-at, remove_spot, cut_past}
 use Rattle.hash_path.proofs.MapCuts.{cut_first, cut_second}
-use Rattle.hash_path.proofs.Places.{set_there, bits_there, Rise-put_child, there_at, at_absent}
+use Rattle.hash_path.proofs.Places.{set_there, bits_there, Rise-put_child, at_absent}
 use Rattle.hash_path.proofs.Words.{tied-word}
 use Rattle.gen_trie.specs.declared.entry.Entry.{Entry}
 use Rattle.gen_trie.specs.declared.node.Slot.{Slot}
-use Rattle.gen_trie.specs.Shapes.{children, child, entry_at, StandsBelow, IsBranch, IsSeat}
+use Rattle.gen_trie.specs.Shapes.{children, child, entry_at, listed, StandsBelow, IsBranch, IsSeat}
 
 -- ---- of two entries the other
 
@@ -170,3 +169,19 @@ module _ {V A : Type 0} (below : ℕ) (hash : ℕ) (key : List ℕ) where
       → cut (word below hash key) (at (digit below hash) (children below ss)) ≡ []
   one_gives m ss s None e b f here h t = cc
   one_gives m ss s (Some x) e b f here h t = cut_one m ss s (e x) b f here h
+
+-- ---- a list
+
+module _ {V A : Type 0} where
+  pub list_cut : (n : ℕ) (w : List ℕ) (es ts : List (Arc (Entry V A) A)) → T (is_sorted order (listed es)) → n ≡ spot w (listed es) → n < length es → ts ≡ remove es n
+      → listed ts ≡ cut w (listed es)
+  list_cut n w es ts s p h is =
+      let f = λ (x : Arc (Entry V A) A). entry_at 0 x.value in
+      let within : spot w (listed es) < length (listed es) = subst (λ k. k < length (listed es)) p (subst (λ k. n < k) (sym (length-map es f)) h) in
+      ap listed is ∙ map-append f (take n es) (drop (suc n) es) ∙ (λ i. sym (take-map f n es) i ++ sym (drop-map f (suc n) es) i) ∙ ap (remove (listed es)) p
+      ∙ remove_spot w (listed es) s within
+
+  pub list_kept : (n : ℕ) (w : List ℕ) (es : List (Arc (Entry V A) A)) → n ≡ spot w (listed es) → length es ≤ n → listed es ≡ cut w (listed es)
+  list_kept n w es p h =
+      let f = λ (x : Arc (Entry V A) A). entry_at 0 x.value in
+      sym (cut_past w (listed es) (subst (λ k. length (listed es) ≤ k) p (subst (λ k. k ≤ n) (sym (length-map es f)) h)))

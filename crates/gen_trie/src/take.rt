@@ -1,22 +1,22 @@
 // Taking the entry of a key out of a node, where two entries or more remain. So a node of two entries is replaced by the
 // one that remains, by the slot that it stands in, and no branch is left with one key.
-ghost use Rattle.std.specs.Prelude.{◌≡◌, ◌≢◌, ◌+◌, ◌<◌, ◌≤◌, ℕ, suc, [], ◌∷◌, length, true, false, vec_len, not, T, is_some, MatchOption, OnOk, OnErr, IfOk, IsOkUnless};
-ghost use Rattle.std.specs.Ordering.{eq_by_cmp};
+ghost use Rattle.std.specs.Prelude.{◌≡◌, ◌≢◌, ◌+◌, ◌≤◌, ℕ, suc, [], ◌∷◌, length, true, vec_len, T, is_some, MatchOption, OnOk, OnErr, IfOk, IsOkUnless};
 ghost use Rattle.std.specs.FinMap.Entries.{find, is_sorted};
 ghost use Rattle.dots.specs.declared.refusal.Refusal.TheVariants.{OutOfMemory};
 ghost use Rattle.hash_path.specs.Word.{order, word, digit};
 ghost use Rattle.hash_path.specs.Cut.{cut};
 ghost use Rattle.hash_path.specs.Fan.{fan, at};
-ghost use Rattle.gen_trie.specs.Shapes.{children, child, entry_at, listed, StandsBelow, IsBranch, IsSeat};
+ghost use Rattle.gen_trie.specs.Shapes.{children, child, entry_at, StandsBelow, IsBranch, IsSeat};
 
 use crate::entry::Entry;
+use crate::listing::take_from_list;
 use crate::node::{Node, Seat, Shape, Slot, seat_of};
 use dots::Refusal;
 use std::alloc::Allocator;
 use std::sync::Arc;
 
 // The entry of a slot that has one alone.
-fn one_of<V, A: Allocator>(slot: &Slot<V, A>) -> Option<&Arc<Entry<V, A>, A>>
+pub(crate) fn one_of<V, A: Allocator>(slot: &Slot<V, A>) -> Option<&Arc<Entry<V, A>, A>>
     ensures { (below : ℕ) → MatchOption result (StandsBelow below slot.now → 2 ≤ length (child below slot.now).1) (λ entry. (child below slot.now).1 ≡ entry_at below entry.now.value ∷ []) }
 {
     match slot {
@@ -96,21 +96,6 @@ fn lone_after<V: Drop, A: Allocator + Copy>(
     }
 }
 
-// Takes the entry of a key out of a list of keys with equal hashes.
-fn take_from_list<V: Drop, A: Allocator + Copy>(
-    entries: &mut Vec<Arc<Entry<V, A>, A>, A>,
-    hash: u32,
-    key: &[u8],
-)
-    ensures { listed entries.new.items ≡ cut (hash ∷ key.now) (listed entries.old.items) }
-{
-    entries.retain(
-        |entry| -> bool
-            ensures { result ≡ not (eq_by_cmp order (hash ∷ key.entry.now) (entry.now.value.hash ∷ entry.now.value.key)) }
-        { !entry.is_at(hash, key) },
-    );
-}
-
 // Takes the entry of a key out of a node that has it. A refused call leaves what the node stands for.
 #[cycle(take)]
 fn take<V: Drop, A: Allocator + Copy>(
@@ -184,7 +169,7 @@ fn drop_slot<V: Drop, A: Allocator + Copy>(
 }
 
 #[cycle(take)]
-fn take_below<V: Drop, A: Allocator + Copy>(
+pub(crate) fn take_below<V: Drop, A: Allocator + Copy>(
     slot: &mut Slot<V, A>,
     below: u32,
     alloc: A,

@@ -1,5 +1,5 @@
 -- Cutting a word out of a branch is cutting the rest of it out of the child at its first index.
-use Rattle.std.proofs.Common.{◌≡◌, ℕ, suc, ◌+◌, ◌^◌, ◌<◌, ◌≤◌, List, [], ◌∷◌, ◌++◌, length, Bool, true, false, not, cond, T, arith, refl, ◌∙◌, ap, subst}
+use Rattle.std.proofs.Common.{◌≡◌, ℕ, suc, ◌+◌, ◌^◌, ◌<◌, ◌≤◌, List, [], ◌∷◌, ◌++◌, length, Bool, true, false, not, cond, T, arith, refl, sym, ◌∙◌, ap, subst}
 use Rattle.std.specs.Prelude.{◌&&◌, is_some}
 use Rattle.std.specs.List.{remove}
 use Rattle.std.specs.declared.cmp.Ordering.{Ordering}
@@ -10,9 +10,10 @@ use Rattle.std.specs.Cmp.Lexicographic.{nat_list_cmp_total}
 use Rattle.std.specs.FinMap.Entries.{by_order, find, is_sorted, below_all, length_without}
 use Rattle.std.proofs.lemmas.List.Elements.{filter-append}
 use Rattle.hash_path.specs.Word.{order, AllWords}
-use Rattle.hash_path.specs.Cut.{cut, without}
+use Rattle.hash_path.specs.Cut.{cut, without, spot}
 use Rattle.hash_path.specs.Fan.{under, fan, Rise, at, there, place, put_child, bits_of}
 use Rattle.hash_path.proofs.Orders.{same, is_less}
+use Rattle.hash_path.proofs.Words.{tied_same}
 
 both : (a b : Bool) → T a → T b → T (a && b)
 both true b p q = q
@@ -177,3 +178,36 @@ module _ {V : Type 0} where
       step Less rest = tt
       step Equal rest = sorted-under c.0 c.1 (sorted_left (under c.0 c.1) (fan cs) t)
       step Greater rest = rest
+
+-- ---- the place of what goes
+
+not_tied : (o : Ordering) → T (is_lt o) → is_eq o ≡ false
+not_tied Less t = refl
+not_tied Equal t = absurd t
+not_tied Greater t = absurd t
+
+module _ {V : Type 0} (w : List ℕ) where
+  cut_none : (es : List (List ℕ × V)) → T (below_all order w es) → cut w es ≡ es
+  cut_none [] t = refl
+  cut_none (e ∷ es) t =
+      let apart : eq_by_cmp order w e.0 ≡ false = not_tied (order w e.0) (first (is_lt (order w e.0)) (below_all order w es) t) in
+      let rest = cut_none es (second (is_lt (order w e.0)) (below_all order w es) t) in
+      (λ i. cond (not (apart i)) (e ∷ cut w es) (cut w es)) ∙ ap (λ l. e ∷ l) rest
+
+  -- in an ascending list nothing behind the first that ties does
+  pub remove_spot : (es : List (List ℕ × V)) → T (is_sorted order es) → spot w es < length es → remove es (spot w es) ≡ cut w es
+  remove_spot [] s h = absurd (omega arith)
+  remove_spot (e ∷ es) s h = step (eq_by_cmp order w e.0) refl (remove_spot es (second (below_all order e.0 es) (is_sorted order es) s)) h
+    where
+      step : (b : Bool) → eq_by_cmp order w e.0 ≡ b → (spot w es < length es → remove es (spot w es) ≡ cut w es) → cond b 0 (suc (spot w es)) < suc (length es)
+          → remove (e ∷ es) (cond b 0 (suc (spot w es))) ≡ cond (not b) (e ∷ cut w es) (cut w es)
+      step true t rest l = sym (cut_none es (subst (λ x. T (below_all order x es)) (sym (tied_same w e.0 t)) (first (below_all order e.0 es) (is_sorted order es) s)))
+      step false t rest l = ap (λ r. e ∷ r) (rest (omega arith))
+
+  pub cut_past : (es : List (List ℕ × V)) → length es ≤ spot w es → cut w es ≡ es
+  cut_past [] h = refl
+  cut_past (e ∷ es) h = step (eq_by_cmp order w e.0) (cut_past es) h
+    where
+      step : (b : Bool) → (length es ≤ spot w es → cut w es ≡ es) → suc (length es) ≤ cond b 0 (suc (spot w es)) → cond (not b) (e ∷ cut w es) (cut w es) ≡ e ∷ es
+      step true rest l = absurd (omega arith)
+      step false rest l = ap (λ r. e ∷ r) (rest (omega arith))
