@@ -47,7 +47,7 @@ no_entry : {V : Type 0} (w : List ℕ) (es : List (List ℕ × V)) → es ≡ []
 no_entry w es e f X = let none = ap (λ l. is_some (find order w l)) (sym e) ∙ f in cc
 
 module _ {V : Type 0} (below : ℕ) (hash : ℕ) (key : List ℕ) where
-  cut_only : (e : List ℕ × V) → is_some (find order (word below hash key) (e ∷ [])) ≡ true → ◌≡◌ {A = List (List ℕ × V)} (cut (word below hash key) (e ∷ [])) []
+  pub cut_only : (e : List ℕ × V) → is_some (find order (word below hash key) (e ∷ [])) ≡ true → ◌≡◌ {A = List (List ℕ × V)} (cut (word below hash key) (e ∷ [])) []
   cut_only e f = by (eq_by_cmp order (word below hash key) e.0) f
     where
       by : (t : Bool) → is_some {T = V} (cond t (Some e.1) None) ≡ true → ◌≡◌ {A = List (List ℕ × V)} (cond (not t) (e ∷ []) []) []

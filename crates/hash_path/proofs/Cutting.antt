@@ -1,5 +1,5 @@
 -- Cutting a word out of a branch is cutting the rest of it out of the child at its first index.
-use Rattle.std.proofs.Common.{◌≡◌, ℕ, suc, ◌+◌, ◌^◌, ◌<◌, ◌≤◌, List, [], ◌∷◌, ◌++◌, length, Bool, true, false, not, cond, T, arith, refl, sym, ◌∙◌, ap, subst}
+use Rattle.std.proofs.Common.{◌≡◌, ℕ, suc, ◌+◌, ◌^◌, ◌<◌, ◌≤◌, List, [], ◌∷◌, ◌++◌, length, Bool, true, false, not, cond, T, Some, None, arith, refl, sym, ◌∙◌, ap, subst}
 use Rattle.std.specs.Prelude.{◌&&◌, is_some}
 use Rattle.std.specs.List.{remove}
 use Rattle.std.specs.declared.cmp.Ordering.{Ordering}
@@ -211,3 +211,12 @@ module _ {V : Type 0} (w : List ℕ) where
       step : (b : Bool) → (length es ≤ spot w es → cut w es ≡ es) → suc (length es) ≤ cond b 0 (suc (spot w es)) → cond (not b) (e ∷ cut w es) (cut w es) ≡ e ∷ es
       step true rest l = absurd (omega arith)
       step false rest l = ap (λ r. e ∷ r) (rest (omega arith))
+
+  -- a word that is not there
+  pub cut_missing : (es : List (List ℕ × V)) → find order w es ≡ None → cut w es ≡ es
+  cut_missing [] h = refl
+  cut_missing (e ∷ es) h = step (eq_by_cmp order w e.0) (cut_missing es) h
+    where
+      step : (b : Bool) → (find order w es ≡ None → cut w es ≡ es) → cond b (Some e.1) (find order w es) ≡ None → cond (not b) (e ∷ cut w es) (cut w es) ≡ e ∷ es
+      step true rest l = cc
+      step false rest l = ap (λ r. e ∷ r) (rest l)

@@ -1,4 +1,4 @@
-use Rattle.std.proofs.Common.{rules, ◌≡◌, ◌≢◌, ◌≤◌, ◌<◌, suc, length, vec_len, true, sym, ◌∙◌, ap, subst, refl, arith, Ok, Err}
+use Rattle.std.proofs.Common.{rules, ◌≡◌, ◌≢◌, ◌≤◌, ◌<◌, suc, length, true, sym, ◌∙◌, ap, subst, refl, arith}
 use Rattle.std.specs.Prelude.{T, is_some}
 use Rattle.std.specs.FinMap.Entries.{find, is_sorted}
 use Rattle.hash_path.specs.Word.{order, word}
