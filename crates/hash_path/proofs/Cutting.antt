@@ -44,7 +44,7 @@ module _ {V : Type 0} (i : ℕ) (w : List ℕ) where
       ap (λ r. cond (not (is_eq (ordering_then r (order w e.0)))) ((j ∷ e.0, e.1) ∷ cut (i ∷ w) (under j es)) (cut (i ∷ w) (under j es))) p ∙ ap (λ l. (j ∷ e.0, e.1) ∷ l) (cut-under j es Less p)
   cut-under j (e ∷ es) Equal p =
       ap (λ r. cond (not (is_eq (ordering_then r (order w e.0)))) ((j ∷ e.0, e.1) ∷ cut (i ∷ w) (under j es)) (cut (i ∷ w) (under j es))) p
-        ∙ kept j (not (is_eq (order w e.0))) e es (cut (i ∷ w) (under j es)) (cut-under j es Equal p)
+      ∙ kept j (not (is_eq (order w e.0))) e es (cut (i ∷ w) (under j es)) (cut-under j es Equal p)
   cut-under j (e ∷ es) Greater p =
       ap (λ r. cond (not (is_eq (ordering_then r (order w e.0)))) ((j ∷ e.0, e.1) ∷ cut (i ∷ w) (under j es)) (cut (i ∷ w) (under j es))) p ∙ ap (λ l. (j ∷ e.0, e.1) ∷ l) (cut-under j es Greater p)
 
@@ -63,7 +63,7 @@ module _ {V : Type 0} (i : ℕ) (w : List ℕ) where
   cut_step : (c : ℕ × List (List ℕ × V)) (cs : List (ℕ × List (List ℕ × V))) (o : Ordering) → nat_cmp i c.0 ≡ o → Rise (suc c.0) cs
       → (there i cs ≡ true → cut (i ∷ w) (fan cs) ≡ fan (put_child i (cut w (at i cs)) cs)) → by_order o false true (there i cs) ≡ true
       → cut (i ∷ w) (under c.0 c.1 ++ fan cs)
-        ≡ fan (by_order o ((i, cut w (by_order o [] c.1 (at i cs))) ∷ c ∷ cs) ((c.0, cut w (by_order o [] c.1 (at i cs))) ∷ cs) (c ∷ put_child i (cut w (by_order o [] c.1 (at i cs))) cs))
+      ≡ fan (by_order o ((i, cut w (by_order o [] c.1 (at i cs))) ∷ c ∷ cs) ((c.0, cut w (by_order o [] c.1 (at i cs))) ∷ cs) (c ∷ put_child i (cut w (by_order o [] c.1 (at i cs))) cs))
   cut_step c cs Less p r rest t = cc
   cut_step c cs Equal p r rest t =
       let next : i < suc c.0 = let h = same i c.0 p in omega arith in

@@ -32,11 +32,11 @@ module _ {V : Type 0} (f : List ℕ → ℕ) where
   as_map-cut k es h =
       same_map nat_list_cmp_total (slice_cmp-IsAntisymmetric nat_cmp-IsAntisymmetric) _ _
       (λ q. get-as_map f q (cut (path f k) es) (HashedBy-cut (path f k) es h)
-        ∙ find-where_key order (λ x. not (eq_by_cmp order (path f k) x)) (path f q)
-          (λ x t. ap (λ y. not (eq_by_cmp order (path f k) y)) (sym (slice_cmp-IsAntisymmetric nat_cmp-IsAntisymmetric (path f q) x t))) es
-        ∙ turned (eq_by_cmp order (path f k) (path f q)) (find order (path f q) es) None
-        ∙ (λ i. cond ((tied_path f k q ∙ (eq_by_cmp_equiv nat_list_cmp_total).symm k q) i) None (sym (get-as_map f q es h) i))
-        ∙ sym (get-remove nat_list_cmp_total (as_map es) k q))
+      ∙ find-where_key order (λ x. not (eq_by_cmp order (path f k) x)) (path f q)
+      (λ x t. ap (λ y. not (eq_by_cmp order (path f k) y)) (sym (slice_cmp-IsAntisymmetric nat_cmp-IsAntisymmetric (path f q) x t))) es
+      ∙ turned (eq_by_cmp order (path f k) (path f q)) (find order (path f q) es) None
+      ∙ (λ i. cond ((tied_path f k q ∙ (eq_by_cmp_equiv nat_list_cmp_total).symm k q) i) None (sym (get-as_map f q es h) i))
+      ∙ sym (get-remove nat_list_cmp_total (as_map es) k q))
 
 -- ---- two entries, of which one is cut
 

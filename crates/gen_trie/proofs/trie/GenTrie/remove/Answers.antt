@@ -21,9 +21,9 @@ pub returns-clause-value : goal.returns-clause-value
 returns-clause-value g c =
     if_ok_so c.remove_at.result
     (λ taken is.
-      lookup_at (g.H.PathHash.hash_of c.self.inside.hash) c.self.inside.root c.self.inside.count c.hash-hash.result c.bytes.result.now c.bytes-2.result.now c.args.key.now _ c.self.invariant
-      c.hash-hash.ensures c.bytes.ensures.value c.bytes-2.ensures.value is
-      ∙ ap (λ x. finite.get x.1 c.args.key.now) c.self.view_is)
+    lookup_at (g.H.PathHash.hash_of c.self.inside.hash) c.self.inside.root c.self.inside.count c.hash-hash.result c.bytes.result.now c.bytes-2.result.now c.args.key.now _ c.self.invariant
+    c.hash-hash.ensures c.bytes.ensures.value c.bytes-2.ensures.value is
+    ∙ ap (λ x. finite.get x.1 c.args.key.now) c.self.view_is)
     c.remove_at.ensures.value
 
 pub returns-clause-ok : goal.returns-clause-ok
