@@ -2,3 +2,5 @@ pub mod Seats
 pub mod Lookups
 pub mod Puts
 pub mod Roots
+pub mod Pairs
+pub mod Takes

@@ -14,7 +14,7 @@ use Rattle.hash_path.proofs.Putting.{put-fan}
 use Rattle.hash_path.proofs.Places.{set_there, insert_absent, bits_there, bits_absent, bits_fit, Rise-put_child, there_at, at_absent}
 use Rattle.std.proofs.lemmas.List.{get_or-map as get_or-map_at}
 use Rattle.std.proofs.Math.Seq.{drop-cons}
-use Rattle.std.specs.Prelude.{OnOk, OnErr}
+use Rattle.std.specs.Prelude.{OnOk, OnErr, IfOk}
 use Rattle.std.proofs.Common.{Ok, Err, add-one}
 use Rattle.std.specs.declared.result.Result.{Result}
 use Rattle.std.specs.Ordering.{eq_by_cmp, is_gt}
@@ -228,6 +228,10 @@ ok_so (Err x) f p = tt
 pub err_so : {T E P Q : Type 0} (r : Result T E) → (P → Q) → OnErr r P → OnErr r Q
 err_so (Ok x) f p = tt
 err_so (Err x) f p = f p
+
+pub if_ok_so : {T E : Type 0} {P Q : T → Type 0} (r : Result T E) → ((x : T) → P x → Q x) → IfOk r P → IfOk r Q
+if_ok_so (Ok x) f p = f x p
+if_ok_so (Err x) f p = tt
 
 pub either_so : {T E P Q R : Type 0} (r : Result T E) → (P → R) → (Q → R) → OnOk r P → OnErr r Q → R
 either_so (Ok x) f g p q = f p

@@ -1,16 +1,23 @@
 -- What a write at the root leaves, and what the parts of a trie are as a map.
-use Rattle.std.proofs.Common.{◌≡◌, ℕ, ◌+◌, List, length, Bool, true, false, cond, T, Some, None, sym, ◌∙◌, ap, subst}
-use Rattle.std.specs.Prelude.{is_some, not}
+use Rattle.std.proofs.Common.{◌≡◌, ℕ, ◌+◌, ◌-◌, ◌≤◌, List, [], ◌∷◌, length, Bool, true, false, cond, T, Some, None, arith, sym, ◌∙◌, ap, subst}
+use Rattle.std.specs.Prelude.{is_some, not, MatchOption}
+use Rattle.std.specs.Ordering.{eq_by_cmp}
 use Rattle.std.specs.declared.option.Option.{Option}
 use Rattle.std.specs.Option.{option_map}
 use Rattle.std.specs.Cmp.Lexicographic.{nat_list_cmp_total}
 use Rattle.std.specs.FinMap as finite
-use Rattle.std.specs.FinMap.Entries.{put, find, is_sorted, is_sorted-put, length-put}
+use Rattle.std.specs.FinMap.Entries.{put, find, is_sorted, is_sorted-put, is_sorted-where_key, length-put}
 use Rattle.hash_path.specs.Word.{order, word}
+use Rattle.hash_path.specs.Cut.{cut}
 use Rattle.hash_path.specs.Map.{path, HashedBy, as_map}
+use Rattle.hash_path.proofs.Cutting.{length-cut}
+use Rattle.hash_path.proofs.MapCuts.{HashedBy-cut, as_map-cut}
 use Rattle.hash_path.proofs.Maps.{HashedBy-put, as_map-put, get-as_map, len-as_map}
+use Rattle.gen_trie.specs.declared.entry.Entry.{Entry}
 use Rattle.gen_trie.specs.declared.node.Slot.{Slot}
+use Rattle.gen_trie.specs.Shapes.{child, entry_at, StandsBelow}
 use Rattle.gen_trie.specs.Root.{root_entries, RootStands, IsRoot, IsTrie}
+use Rattle.gen_trie.proofs.Takes.{cut_only}
 
 count_new : {X V : Type 0} (r : Option X) (f : X → V) (o : Option V) (n : ℕ) → option_map f r ≡ o → is_some r ≡ false → n + 1 ≡ cond (is_some o) n (n + 1)
 count_new None f o n e t = ap (λ x. cond (is_some x) n (n + 1)) e
@@ -46,6 +53,30 @@ module _ {V A : Type 0} where
       → option_map f r ≡ find order w (root_entries root) → is_some r ≡ not fresh → fresh ≡ false → IsRoot new count
   put_there r f fresh root new count w v h e s o q t = put_root_is root new count count w v h e s (count_old r f (find order w (root_entries root)) count o (q ∙ ap not t))
 
+  -- ---- a key that goes
+
+  pub taken_alone : {X : Type 0} (root : Option (Slot V A)) (s : Slot V A) (r : Option X) (e : X → Entry V A) (hash : ℕ) (key : List ℕ) → root ≡ Some s
+      → is_some (find order (word 7 hash key) (root_entries root)) ≡ true
+      → MatchOption r (StandsBelow 7 s → 2 ≤ length (child 7 s).1) (λ x. (child 7 s).1 ≡ entry_at 7 (e x) ∷ []) → is_some r ≡ true
+      → [] ≡ cut (word 7 hash key) (root_entries root)
+  taken_alone root s None e hash key q f h t = cc
+  taken_alone root s (Some x) e hash key q f h t =
+      let is : root_entries root ≡ entry_at 7 (e x) ∷ [] = ap root_entries q ∙ h in
+      sym (ap (cut (word 7 hash key)) is ∙ cut_only 7 hash key (entry_at 7 (e x)) (subst (λ l. is_some (find order (word 7 hash key) l) ≡ true) is f))
+
+  pub two_there : {X : Type 0} (root : Option (Slot V A)) (s : Slot V A) (r : Option X) (e : X → Entry V A) → root ≡ Some s → RootStands root
+      → MatchOption r (StandsBelow 7 s → 2 ≤ length (child 7 s).1) (λ x. (child 7 s).1 ≡ entry_at 7 (e x) ∷ []) → is_some r ≡ false → 2 ≤ length (child 7 s).1
+  two_there root s None e q stands h t = h (subst RootStands q stands)
+  two_there root s (Some x) e q stands h t = cc
+
+  pub IsRoot-cut : (root new : Option (Slot V A)) (count : ℕ) (w : List ℕ) → IsRoot root count → is_some (find order w (root_entries root)) ≡ true
+      → root_entries new ≡ cut w (root_entries root) → RootStands new → IsRoot new (count - 1)
+  IsRoot-cut root new count w h f e s = record {
+    stands = s;
+    sorted = subst (λ es. T (is_sorted order es)) (sym e) (is_sorted-where_key order (λ x. not (eq_by_cmp order w x)) (root_entries root) h.sorted);
+    counted = let fewer = length-cut w (root_entries root) h.sorted f in let same = h.counted in let less = ap length e in omega arith;
+  }
+
   -- ---- as a map
 
   pub IsTrie-put : (f : List ℕ → ℕ) (root new : Option (Slot V A)) (count n hash : ℕ) (key : List ℕ) (v : V) → IsTrie f root count → hash ≡ f key → IsRoot new n
@@ -61,6 +92,17 @@ module _ {V A : Type 0} where
       → root_entries new ≡ put order (word 7 hash key) v (root_entries root) → as_map (root_entries new) ≡ finite.insert (as_map (root_entries root)) key v
   insert_is f root new count hash key v h e is =
       ap as_map (is ∙ ap (λ x. put order (word 7 x key) v (root_entries root)) e) ∙ as_map-put f key v (root_entries root) h.hashed
+
+  pub IsTrie-cut : (f : List ℕ → ℕ) (root new : Option (Slot V A)) (count n hash : ℕ) (key : List ℕ) → IsTrie f root count → hash ≡ f key → IsRoot new n
+      → root_entries new ≡ cut (word 7 hash key) (root_entries root) → IsTrie f new n
+  IsTrie-cut f root new count n hash key h e r is =
+      let at_path : root_entries new ≡ cut (path f key) (root_entries root) = is ∙ ap (λ x. cut (word 7 x key) (root_entries root)) e in
+      record { root_is = r; hashed = subst (HashedBy f) (sym at_path) (HashedBy-cut f (path f key) (root_entries root) h.hashed) }
+
+  pub remove_is : (f : List ℕ → ℕ) (root new : Option (Slot V A)) (count hash : ℕ) (key : List ℕ) → IsTrie f root count → hash ≡ f key
+      → root_entries new ≡ cut (word 7 hash key) (root_entries root) → as_map (root_entries new) ≡ finite.remove (as_map (root_entries root)) key
+  remove_is f root new count hash key h e is =
+      ap as_map (is ∙ ap (λ x. cut (word 7 x key) (root_entries root)) e) ∙ as_map-cut f key (root_entries root) h.hashed
 
   pub lookup_is : (f : List ℕ → ℕ) (root : Option (Slot V A)) (count hash : ℕ) (key : List ℕ) (o : Option V) → IsTrie f root count → hash ≡ f key
       → o ≡ find order (word 7 hash key) (root_entries root) → o ≡ finite.get (as_map (root_entries root)) key

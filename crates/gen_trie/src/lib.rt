@@ -9,6 +9,7 @@ mod listing;
 mod node;
 mod put;
 mod root;
+mod take;
 mod trie;
 
 pub use frozen::Frozen;

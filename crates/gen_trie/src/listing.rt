@@ -1,8 +1,10 @@
 // Lists of keys with equal hashes, by key bytes.
-ghost use Rattle.std.specs.Prelude.{◌≡◌, ℕ, ◌<◌, List, ◌∷◌, length, slice_index_or, IsTrue, OnOk, OnErr, IsOkUnless};
+ghost use Rattle.std.specs.Prelude.{◌≡◌, ℕ, ◌<◌, List, ◌∷◌, length, slice_index_or, T, IsTrue, OnOk, OnErr, IsOkUnless};
 ghost use Rattle.std.specs.Ordering.{eq_by_cmp};
+ghost use Rattle.std.specs.FinMap.Entries.{is_sorted};
 ghost use Rattle.hash_path.specs.Word.{order};
 ghost use Rattle.dots.specs.declared.refusal.Refusal.TheVariants.{OutOfMemory};
+ghost use Rattle.hash_path.specs.Cut.{cut, spot};
 ghost use Rattle.hash_path.specs.Rank.{rank};
 ghost use Rattle.gen_trie.specs.Shapes.{listed, with_entry};
 
@@ -56,4 +58,33 @@ pub(crate) fn put_in_list<V: Drop, A: Allocator + Copy>(
     }
     entries.insert(at, leaf)?;
     Ok(())
+}
+
+// The position of the entry of a key, or the number of entries.
+fn place_of<V, A: Allocator>(entries: &[Arc<Entry<V, A>, A>], hash: u32, key: &[u8]) -> usize
+    ensures { result ≡ spot (hash ∷ key.now) (listed entries.now) }
+{
+    let mut count = 0;
+    for entry in entries {
+        if entry.is_at(hash, key) {
+            return count;
+        }
+        count += 1;
+    }
+    count
+}
+
+// Takes the entry of a key out, if it is there.
+pub(crate) fn take_from_list<V: Drop, A: Allocator + Copy>(
+    entries: &mut Vec<Arc<Entry<V, A>, A>, A>,
+    hash: u32,
+    key: &[u8],
+)
+    requires { T (is_sorted order (listed entries.old.items)) }
+    ensures { listed entries.new.items ≡ cut (hash ∷ key.now) (listed entries.old.items) }
+{
+    let at = place_of(entries, hash, key);
+    if at < entries.len() {
+        let _ = entries.remove(at);
+    }
 }

@@ -1,9 +1,10 @@
 // The root of a trie: nothing, one entry, or a node.
-ghost use Rattle.std.specs.Prelude.{◌≡◌, ℕ, None, OnOk, OnErr, IfOk, IsOkUnless};
+ghost use Rattle.std.specs.Prelude.{◌≡◌, ℕ, true, T, is_some, None, OnOk, OnErr, IfOk, IsOkUnless};
 ghost use Rattle.std.specs.Option.{option_map};
-ghost use Rattle.std.specs.FinMap.Entries.{find, put};
+ghost use Rattle.std.specs.FinMap.Entries.{find, put, is_sorted};
 ghost use Rattle.dots.specs.declared.refusal.Refusal.TheVariants.{OutOfMemory};
 ghost use Rattle.hash_path.specs.Word.{order, word};
+ghost use Rattle.hash_path.specs.Cut.{cut};
 ghost use Rattle.gen_trie.specs.Shapes.{with_entry};
 ghost use Rattle.gen_trie.specs.Root.{root_entries, RootStands, IsRoot};
 
@@ -11,6 +12,7 @@ use crate::copied::shared;
 use crate::entry::Entry;
 use crate::node::Slot;
 use crate::put::put_slot;
+use crate::take::{one_of, take_below};
 use dots::{Key, Refusal};
 use std::alloc::Allocator;
 use std::sync::Arc;
@@ -107,4 +109,57 @@ pub(crate) fn insert_at<V: Drop, A: Allocator + Copy>(
         *count += 1;
     }
     Ok(())
+}
+
+// Takes the entry of a key that is there out of the trie of this root.
+fn take_root<V: Drop, A: Allocator + Copy>(
+    root: &mut Option<Slot<V, A>>,
+    alloc: A,
+    generation: u64,
+    hash: u32,
+    key: &[u8],
+) -> Result<(), Refusal>
+    requires stands { RootStands root.old }
+    requires sorted { T (is_sorted order (root_entries root.old)) }
+    requires found { is_some (find order (word 7 hash key.now) (root_entries root.old)) ≡ true }
+    ensures ok { OnOk result (root_entries root.new ≡ cut (word 7 hash key.now) (root_entries root.old)) }
+    ensures stands { RootStands root.new }
+    ensures same { OnErr result (root_entries root.new ≡ root_entries root.old) }
+    ensures err { IsOkUnless result OutOfMemory }
+{
+    match root {
+        None => Ok(()),
+        Some(slot) => {
+            if one_of(slot).is_some() {
+                *root = None;
+                return Ok(());
+            }
+            take_below(slot, 7, alloc, generation, hash, key)
+        }
+    }
+}
+
+// Takes a key out with its value, and counts the keys. A key that is not there takes no memory.
+pub(crate) fn remove_at<V: Drop, A: Allocator + Copy>(
+    root: &mut Option<Slot<V, A>>,
+    count: &mut u64,
+    alloc: A,
+    generation: u64,
+    hash: u32,
+    key: &[u8],
+) -> Result<Option<Arc<V, A>>, Refusal>
+    requires { IsRoot root.old count.old }
+    ensures value { IfOk result (λ taken. option_map (λ value. value.value) taken ≡ find order (word 7 hash key.now) (root_entries root.old)) }
+    ensures ok { OnOk result (root_entries root.new ≡ cut (word 7 hash key.now) (root_entries root.old)) }
+    ensures is_root { IsRoot root.new count.new }
+    ensures same { OnErr result (root_entries root.new ≡ root_entries root.old) }
+    ensures err { IsOkUnless result OutOfMemory }
+{
+    let value = match look_root(root, hash, key) {
+        None => return Ok(None),
+        Some(value) => Arc::try_clone(value)?,
+    };
+    take_root(root, alloc, generation, hash, key)?;
+    *count -= 1;
+    Ok(Some(value))
 }

@@ -38,6 +38,19 @@ fn frozen_at<H: PathHash>(
     Ok(frozen.lookup(&key).copied())
 }
 
+// Takes the key of these bytes out.
+fn taken<H: PathHash>(
+    alloc: Global,
+    trie: &mut GenTrie<u64, H>,
+    key: &[u8],
+) -> Result<Option<u64>, Refusal> {
+    let key = Key::new(alloc, key)?;
+    match trie.remove(&key)? {
+        None => Ok(None),
+        Some(value) => Ok(Some(*value)),
+    }
+}
+
 #[test]
 fn a_second_value_replaces_the_first(rt: HostRuntime) -> Result<(), Fail> {
     let alloc = rt.alloc();
@@ -58,6 +71,28 @@ fn keys_of_one_hash_are_told_apart(rt: HostRuntime) -> Result<(), Fail> {
     assert_eq!(rt; at(alloc, &trie, b"a")?, Some(1));
     assert_eq!(rt; at(alloc, &trie, b"c")?, Some(3));
     assert_eq!(rt; at(alloc, &trie, b"d")?, None);
+    Ok(())
+}
+
+#[test]
+fn a_removed_key_is_gone(rt: HostRuntime) -> Result<(), Fail> {
+    let alloc = rt.alloc();
+    let mut trie = three(alloc, Fnv1a)?;
+    assert_eq!(rt; taken(alloc, &mut trie, b"a")?, Some(1));
+    assert_eq!(rt; taken(alloc, &mut trie, b"a")?, None);
+    trie.insert(Key::new(alloc, b"b")?, 9)?;
+    assert_eq!(rt; trie.size(), 2);
+    Ok(())
+}
+
+#[test]
+fn one_key_of_equal_hashes_is_left(rt: HostRuntime) -> Result<(), Fail> {
+    let alloc = rt.alloc();
+    let mut trie = three(alloc, SameHash(0))?;
+    assert_eq!(rt; taken(alloc, &mut trie, b"b")?, Some(2));
+    assert_eq!(rt; taken(alloc, &mut trie, b"c")?, Some(3));
+    assert_eq!(rt; trie.size(), 1);
+    assert_eq!(rt; at(alloc, &trie, b"a")?, Some(1));
     Ok(())
 }
 
@@ -114,6 +149,31 @@ fn key_of(alloc: Global, number: u64) -> Result<Key, Refusal> {
 }
 
 // Puts one value into both, and tells whether the two had the same at its key.
+fn put_both<H: PathHash>(
+    alloc: Global,
+    trie: &mut GenTrie<u64, H>,
+    plain: &mut Plain,
+    number: u64,
+    value: u64,
+) -> Result<bool, Fail> {
+    let same = trie.lookup(&key_of(alloc, number)?).copied() == plain.get(&number).copied();
+    trie.insert(key_of(alloc, number)?, value)?;
+    plain.insert(number, value)?;
+    Ok(same)
+}
+
+// Takes a key out of both, and tells whether the two had the same there.
+fn take_both<H: PathHash>(
+    alloc: Global,
+    trie: &mut GenTrie<u64, H>,
+    plain: &mut Plain,
+    number: u64,
+) -> Result<bool, Refusal> {
+    let value = taken(alloc, trie, &number.to_be_bytes())?;
+    Ok(value == plain.remove(&number))
+}
+
+// Writes into both at a key: three times of four a value, else the key is taken out.
 fn step<H: PathHash>(
     alloc: Global,
     trie: &mut GenTrie<u64, H>,
@@ -122,13 +182,13 @@ fn step<H: PathHash>(
     seed: u64,
 ) -> Result<bool, Fail> {
     let number = (seed >> 33) % keys.max(1);
-    let same = trie.lookup(&key_of(alloc, number)?).copied() == plain.get(&number).copied();
-    trie.insert(key_of(alloc, number)?, seed)?;
-    plain.insert(number, seed)?;
-    Ok(same)
+    if (seed >> 20) % 4 == 0 {
+        return Ok(take_both(alloc, trie, plain, number)?);
+    }
+    put_both(alloc, trie, plain, number, seed)
 }
 
-// Puts so many values into both, by a linear congruential generator.
+// Writes so often into both, by a linear congruential generator.
 fn run<H: PathHash>(
     alloc: Global,
     trie: &mut GenTrie<u64, H>,

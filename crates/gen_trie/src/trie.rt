@@ -7,11 +7,12 @@ ghost use Rattle.dots.specs.declared.refusal.Refusal.TheVariants.{OutOfMemory};
 
 use crate::frozen::Frozen;
 use crate::node::Slot;
-use crate::root::{insert_at, look_root, share_root};
+use crate::root::{insert_at, look_root, remove_at, share_root};
 use dots::{Key, Refusal};
 use hash_path::PathHash;
 use std::alloc::{Allocator, Global};
 use std::marker::Model;
+use std::sync::Arc;
 
 /// A finite map from keys to values that can be frozen at the cost of a few reference counts.
 ///
@@ -116,6 +117,25 @@ impl<V: Drop, H: PathHash, A: Allocator + Copy> GenTrie<V, H, A> {
             hash,
             key,
             value,
+        )
+    }
+
+    /// Takes the key out, and gives the value that was there. A refused call leaves the map as it was. A key that is not
+    /// there takes no memory. Touches eight nodes at most, and copies those that a frozen map shares.
+    pub fn remove(&mut self, key: &Key<A>) -> Result<Option<Arc<V, A>>, Refusal>
+        ensures value { IfOk result (λ taken. option_map (λ value. value.value) taken ≡ finite.get self.old.1 key.now) }
+        ensures ok { OnOk result (self.new ≡ (self.old.0, finite.remove self.old.1 key.now)) }
+        ensures same { OnErr result (self.new ≡ self.old) }
+        ensures err { IsOkUnless result OutOfMemory }
+    {
+        let hash = self.hash.hash(key.bytes());
+        remove_at(
+            &mut self.root,
+            &mut self.count,
+            self.alloc,
+            self.generation,
+            hash,
+            key.bytes(),
         )
     }
 

@@ -7,3 +7,5 @@ pub mod Words
 pub mod Bits
 pub mod Ranks
 pub mod Maps
+pub mod Cutting
+pub mod MapCuts

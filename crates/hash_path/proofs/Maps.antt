@@ -12,7 +12,7 @@ use Rattle.hash_path.specs.Word.{order, key_in}
 use Rattle.hash_path.specs.Map.{path, key_of, HashedBy, keyed, as_map}
 use Rattle.hash_path.proofs.Words.{key_in-word, tied_by}
 
-tied_path : (f : List ℕ → ℕ) (k l : List ℕ) → eq_by_cmp order (path f k) (path f l) ≡ eq_by_cmp order k l
+pub tied_path : (f : List ℕ → ℕ) (k l : List ℕ) → eq_by_cmp order (path f k) (path f l) ≡ eq_by_cmp order k l
 tied_path f k l =
     tied_by (path f k) (path f l) k l
     (λ e. sym (key_in-word 7 (f k) k) ∙ ap (key_in 7) e ∙ key_in-word 7 (f l) l)

@@ -5,3 +5,4 @@ pub mod Word
 pub mod Fan
 pub mod Rank
 pub mod Map
+pub mod Cut

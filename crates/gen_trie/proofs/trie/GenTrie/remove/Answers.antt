@@ -1,0 +1,37 @@
+use Rattle.std.proofs.Common.{ℕ, List, ◌∙◌, ap}
+use Rattle.std.specs.FinMap as finite
+use Rattle.hash_path.specs.Word.{word}
+use Rattle.hash_path.specs.Cut.{cut}
+use Rattle.gen_trie.specs.Root.{root_entries}
+use Rattle.gen_trie.proofs.Puts.{ok_so, either_so, if_ok_so}
+use Rattle.gen_trie.proofs.Roots.{IsTrie-cut, IsTrie-same, remove_is, lookup_at}
+use Rattle.gen_trie.proofs.trie.GenTrie.remove.Goals as goal
+
+pub invariant_of-self : goal.invariant_of-self
+invariant_of-self g c =
+    let f = g.H.PathHash.hash_of c.self.inside.hash in
+    let hashed = c.hash-hash.ensures ∙ ap f c.bytes.ensures.value in
+    let read = λ (k : List ℕ). cut (word 7 c.hash-hash.result k) (root_entries c.self.inside.root) in
+    either_so c.remove_at.result
+    (λ is. IsTrie-cut f c.self.inside.root c.remove_at.new.root c.self.inside.count c.remove_at.new.count c.hash-hash.result c.args.key.now c.self.invariant hashed c.remove_at.ensures.is_root (is ∙ ap read c.bytes-2.ensures.value))
+    (λ same. IsTrie-same f c.self.inside.root c.remove_at.new.root c.self.inside.count c.remove_at.new.count c.self.invariant c.remove_at.ensures.is_root same)
+    c.remove_at.ensures.ok c.remove_at.ensures.same
+
+pub returns-clause-value : goal.returns-clause-value
+returns-clause-value g c =
+    if_ok_so c.remove_at.result
+    (λ taken is.
+    lookup_at (g.H.PathHash.hash_of c.self.inside.hash) c.self.inside.root c.self.inside.count c.hash-hash.result c.bytes.result.now c.bytes-2.result.now c.args.key.now _ c.self.invariant
+    c.hash-hash.ensures c.bytes.ensures.value c.bytes-2.ensures.value is
+    ∙ ap (λ x. finite.get x.1 c.args.key.now) c.self.view_is)
+    c.remove_at.ensures.value
+
+pub returns-clause-ok : goal.returns-clause-ok
+returns-clause-ok g c =
+    let f = g.H.PathHash.hash_of c.self.inside.hash in
+    let hashed = c.hash-hash.ensures ∙ ap f c.bytes.ensures.value in
+    let read = λ (k : List ℕ). cut (word 7 c.hash-hash.result k) (root_entries c.self.inside.root) in
+    ok_so c.remove_at.result
+    (λ is. ap (λ m. (c.self.inside.hash, m)) (remove_is f c.self.inside.root c.remove_at.new.root c.self.inside.count c.hash-hash.result c.args.key.now c.self.invariant hashed (is ∙ ap read c.bytes-2.ensures.value))
+    ∙ ap (λ x. (x.0, finite.remove x.1 c.args.key.now)) c.self.view_is)
+    c.remove_at.ensures.ok
