@@ -9,3 +9,4 @@ pub mod Ranks
 pub mod Maps
 pub mod Cutting
 pub mod MapCuts
+pub mod Walks
