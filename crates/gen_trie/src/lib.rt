@@ -5,6 +5,7 @@
 mod copied;
 mod entry;
 mod frozen;
+mod iter;
 mod listing;
 mod node;
 mod put;
