@@ -6,8 +6,11 @@ use Rattle.std.specs.declared.sync.Arc.{Arc}
 use Rattle.std.proofs.lemmas.List.Elements.{All-head, All-tail}
 use Rattle.hash_path.specs.Word.{key_in}
 use Rattle.hash_path.specs.Fan.{under, fan}
-use Rattle.hash_path.specs.Map.{keyed, key_of}
+use Rattle.hash_path.specs.Map.{keyed, key_of, as_map, walk}
+use Rattle.hash_path.proofs.Walks.{walk_is}
 use Rattle.hash_path.proofs.Words.{key_in-word}
+use Rattle.std.specs.declared.option.Option.{Option}
+use Rattle.gen_trie.specs.Root.{root_entries, IsTrie}
 use Rattle.gen_trie.specs.declared.entry.Entry.{Entry}
 use Rattle.gen_trie.specs.declared.node.Node.{Node}
 use Rattle.gen_trie.specs.declared.node.Shape.{Shape}
@@ -141,3 +144,9 @@ module _ {V A : Type 0} where
   pub entered_one : (below i : ℕ) (s : Slot V A) (e : Arc (Entry V A) A) (rest : List (List ℕ × V)) → s ≡ One i e → by_key below (child below s).1 ++ rest ≡ item e.value ∷ rest
   entered_one below i s e rest is =
       ap (λ t. by_key below (child below t).1 ++ rest) is ∙ (λ k. (key_in-word below e.value.hash e.value.key k, e.value.value.value) ∷ rest)
+
+-- ---- the whole
+
+module _ {V A : Type 0} (f : List ℕ → ℕ) (root : Option (Slot V A)) (count : ℕ) (trie : IsTrie f root count) (all : List (List ℕ × V)) (is : all ≡ by_key 7 (root_entries root)) where
+  pub iter_is : all ≡ walk f (as_map (root_entries root))
+  iter_is = is ∙ by_key-keyed (root_entries root) ∙ sym (walk_is f (root_entries root) trie.hashed (let r = trie.root_is in r.sorted))

@@ -14,6 +14,7 @@ mod take;
 mod trie;
 
 pub use frozen::Frozen;
+pub use iter::Iter;
 pub use trie::GenTrie;
 
 #[cfg(test)]
