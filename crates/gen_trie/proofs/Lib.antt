@@ -4,3 +4,4 @@ pub mod Puts
 pub mod Roots
 pub mod Pairs
 pub mod Takes
+pub mod Iters

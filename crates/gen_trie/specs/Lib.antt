@@ -1,3 +1,4 @@
 pub mod Shapes
 pub mod Falls
 pub mod Root
+pub mod Left

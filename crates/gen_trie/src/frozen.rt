@@ -1,10 +1,11 @@
 ghost use Rattle.std.specs.Prelude.{◌≡◌, IfOk, IsOkUnless};
 ghost use Rattle.std.specs.Option.{option_map};
 ghost use Rattle.std.specs.FinMap as finite;
-ghost use Rattle.hash_path.specs.Map.{as_map};
+ghost use Rattle.hash_path.specs.Map.{as_map, walk};
 ghost use Rattle.gen_trie.specs.Root.{root_entries, IsTrie};
 ghost use Rattle.dots.specs.declared.refusal.Refusal.TheVariants.{OutOfMemory};
 
+use crate::iter::Iter;
 use crate::node::Slot;
 use crate::root::{look_root, share_root};
 use crate::summary::Summary;
@@ -78,6 +79,14 @@ impl<V, M: Summary<V>, H: PathHash, A: Allocator + Copy> Frozen<V, M, H, A> {
         self.count
     }
 
+    /// The keys with their values, by ascending index sequence of the key's hash, and those of equal hashes by key bytes.
+    /// Takes no memory.
+    pub fn iter(&self) -> Iter<'_, V, A>
+        ensures { result ≡ walk (H.hash_of self.now.0) self.now.1 }
+    {
+        Iter::new(&self.root)
+    }
+
     // The map of the parts of a trie.
     pub(crate) fn of(
         alloc: A,
@@ -126,5 +135,17 @@ impl<V: Drop, M: Summary<V>, H: PathHash, A: Allocator + Copy> Frozen<V, M, H, A
         let root = share_root(&self.root)?;
         let generation = self.generation.saturating_add(1);
         Ok(GenTrie::of(self.alloc, self.hash, generation, self.count, root))
+    }
+}
+
+impl<'a, V, H: PathHash, A: Allocator + Copy> IntoIterator for &'a Frozen<V, H, A> {
+    type Item = (&'a Key<A>, &'a V);
+
+    type IntoIter = Iter<'a, V, A>;
+
+    ghost into_iter_gives = { λ map it. it ≡ walk (H.hash_of map.now.0) map.now.1 };
+
+    fn into_iter(self) -> Iter<'a, V, A> {
+        self.iter()
     }
 }

@@ -5,12 +5,14 @@
 mod copied;
 mod entry;
 mod frozen;
+mod iter;
 mod listing;
 mod no_summary;
 mod node;
 mod put;
 mod root;
 mod summary;
+mod summing;
 mod take;
 mod trie;
 
@@ -18,6 +20,7 @@ pub use entry::Entry;
 pub use frozen::Frozen;
 pub use no_summary::NoSummary;
 pub use summary::Summary;
+pub use iter::Iter;
 pub use trie::GenTrie;
 
 #[cfg(test)]

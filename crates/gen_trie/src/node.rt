@@ -112,9 +112,43 @@ pub(crate) fn seat_of<V, A: Allocator>(
     ensures { IsSeat (digit below hash) (children below slots.now.items) (vec_len slots.now) result.index result.at result.taken }
 {
     let index = digit_of(below, hash);
+    seat_at(slots, below, bitmap, index)
+}
+
+// Where the child at an index stands, or would stand.
+fn seat_at<V, A: Allocator>(
+    slots: &Vec<Slot<V, A>, A>,
+    below: u32,
+    bitmap: u32,
+    index: u32,
+) -> Seat
+    requires branch { IsBranch below bitmap slots.now.items }
+    requires bound { index < 32 }
+    ensures { IsSeat index (children below slots.now.items) (vec_len slots.now) result.index result.at result.taken }
+{
     let at = position(bitmap, index);
     let taken = is_there(slots, at, index);
     Seat { index, at, taken }
+}
+
+// The child at an index.
+pub(crate) fn slot_of<V, A: Allocator>(
+    slots: &Vec<Slot<V, A>, A>,
+    below: u32,
+    bitmap: u32,
+    index: u32,
+) -> Option<&Slot<V, A>>
+    requires branch { IsBranch below bitmap slots.now.items }
+    requires bound { index < 32 }
+    ensures { MatchOption result (at index (children below slots.now.items) ≡ [])
+        (λ slot. (child below slot.now ≡ (index, at index (children below slots.now.items))) × StandsBelow below slot.now) }
+{
+    let seat = seat_at(slots, below, bitmap, index);
+    if seat.taken {
+        Some(&slots[seat.at])
+    } else {
+        None
+    }
 }
 
 // The child at the index of a hash.
@@ -128,12 +162,8 @@ fn slot_at<V, A: Allocator>(
     ensures { MatchOption result (at (digit below hash) (children below slots.now.items) ≡ [])
         (λ slot. (child below slot.now ≡ (digit below hash, at (digit below hash) (children below slots.now.items))) × StandsBelow below slot.now) }
 {
-    let seat = seat_of(slots, below, bitmap, hash);
-    if seat.taken {
-        Some(&slots[seat.at])
-    } else {
-        None
-    }
+    let index = digit_of(below, hash);
+    slot_of(slots, below, bitmap, index)
 }
 
 // The value of a key among those of equal hashes.

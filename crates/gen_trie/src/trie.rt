@@ -1,11 +1,12 @@
 ghost use Rattle.std.specs.Prelude.{◌≡◌, OnOk, OnErr, IfOk, IsOkUnless};
 ghost use Rattle.std.specs.Option.{option_map};
 ghost use Rattle.std.specs.FinMap as finite;
-ghost use Rattle.hash_path.specs.Map.{as_map};
+ghost use Rattle.hash_path.specs.Map.{as_map, walk};
 ghost use Rattle.gen_trie.specs.Root.{root_entries, IsTrie};
 ghost use Rattle.dots.specs.declared.refusal.Refusal.TheVariants.{OutOfMemory};
 
 use crate::frozen::Frozen;
+use crate::iter::Iter;
 use crate::node::Slot;
 use crate::root::{insert_at, look_root, remove_at, share_root};
 use crate::summary::Summary;
@@ -101,6 +102,14 @@ impl<V, M: Summary<V>, H: PathHash, A: Allocator + Copy> GenTrie<V, M, H, A> {
     {
         self.count
     }
+
+    /// The keys with their values, by ascending index sequence of the key's hash, and those of equal hashes by key bytes.
+    /// Takes no memory.
+    pub fn iter(&self) -> Iter<'_, V, A>
+        ensures { result ≡ walk (H.hash_of self.now.0) self.now.1 }
+    {
+        Iter::new(&self.root)
+    }
 }
 
 impl<V: Drop, M: Summary<V>, H: PathHash, A: Allocator + Copy> GenTrie<V, M, H, A> {
@@ -164,5 +173,17 @@ impl<V: Drop, M: Summary<V>, H: PathHash, A: Allocator + Copy> GenTrie<V, M, H, 
             self.generation += 1;
         }
         Ok(frozen)
+    }
+}
+
+impl<'a, V, H: PathHash, A: Allocator + Copy> IntoIterator for &'a GenTrie<V, H, A> {
+    type Item = (&'a Key<A>, &'a V);
+
+    type IntoIter = Iter<'a, V, A>;
+
+    ghost into_iter_gives = { λ map it. it ≡ walk (H.hash_of map.now.0) map.now.1 };
+
+    fn into_iter(self) -> Iter<'a, V, A> {
+        self.iter()
     }
 }

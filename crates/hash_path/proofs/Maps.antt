@@ -18,7 +18,7 @@ tied_path f k l =
     (λ e. sym (key_in-word 7 (f k) k) ∙ ap (key_in 7) e ∙ key_in-word 7 (f l) l)
     (λ e. ap (path f) e)
 
-is_path : (f : List ℕ → ℕ) (k : List ℕ) → path f k ≡ path f (key_of (path f k))
+pub is_path : (f : List ℕ → ℕ) (k : List ℕ) → path f k ≡ path f (key_of (path f k))
 is_path f k = ap (path f) (sym (key_in-word 7 (f k) k))
 
 is_less : (o : Ordering) → T (is_lt o) → is_eq o ≡ false

@@ -24,3 +24,19 @@ keyed (e ∷ es) = (key_of e.0, e.1) ∷ keyed es
 
 abbrev pub as_map : {V : Type 0} → List (List ℕ × V) → finite.FinMap order V
 as_map es = finite.from_entries (keyed es)
+
+-- the entries with the path of each key in the key's place
+abbrev pub with_path : {V : Type 0} → (List ℕ → ℕ) → List (List ℕ × V) → List (List ℕ × V)
+with_path hash_of [] = []
+with_path hash_of (e ∷ es) = (path hash_of e.0, e.1) ∷ with_path hash_of es
+
+-- the entries of a map by path, ascending
+abbrev pub by_path : {V : Type 0} → (List ℕ → ℕ) → finite.FinMap order V → List (List ℕ × V)
+by_path hash_of m = finite.entries (finite.from_entries {R = order} (with_path hash_of (finite.entries m)))
+
+-- The walk of a map: its keys and values as a walk of the whole trie meets them, at each branch the children by
+-- ascending index. So the entries ascend by the sequence of the seven indices of their keys' hashes, the one of the
+-- lowest five bits first, and those of equal hashes by key bytes. It is a function of the map and the hash alone, and
+-- not of the order that the keys were written in.
+abbrev pub walk : {V : Type 0} → (List ℕ → ℕ) → finite.FinMap order V → List (List ℕ × V)
+walk hash_of m = keyed (by_path hash_of m)

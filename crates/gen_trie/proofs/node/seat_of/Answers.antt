@@ -1,7 +1,7 @@
-use Rattle.gen_trie.proofs.Seats.{seat_is}
+use Rattle.gen_trie.specs.Shapes.{children, IsSeat}
+use Rattle.std.proofs.Common.{subst, vec_len}
 use Rattle.gen_trie.proofs.node.seat_of.Goals as goal
 
 pub returns : goal.returns
 returns g c =
-    seat_is c.args.below c.args.slots.now.items c.args.bitmap _ _ _ _ _ c.requires c.args.slots.now.ok.0 c.digit_of-index.ensures.value c.digit_of-index.ensures.bound c.position-at.ensures
-    (c.is_there-taken.ensures c.args.below)
+    subst (λ i. IsSeat i (children c.args.below c.args.slots.now.items) (vec_len c.args.slots.now) c.seat_at.result.index c.seat_at.result.at c.seat_at.result.taken) c.digit_of-index.ensures.value c.seat_at.ensures

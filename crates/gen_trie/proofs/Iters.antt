@@ -1,0 +1,152 @@
+-- What is left of a walk as it goes on.
+use Rattle.std.proofs.Common.{◌≡◌, ℕ, zero, suc, ◌+◌, ◌<◌, ◌≤◌, List, [], ◌∷◌, ◌++◌, length, get_or, set, Vec, arith, refl, sym, ◌∙◌, ap, subst}
+use Rattle.std.specs.Borrow.{Bor}
+use Rattle.std.specs.List.{All}
+use Rattle.std.specs.declared.sync.Arc.{Arc}
+use Rattle.std.proofs.lemmas.List.Elements.{All-head, All-tail}
+use Rattle.hash_path.specs.Word.{key_in}
+use Rattle.hash_path.specs.Fan.{under, fan}
+use Rattle.hash_path.specs.Map.{keyed, key_of, as_map, walk}
+use Rattle.hash_path.proofs.Walks.{walk_is}
+use Rattle.hash_path.proofs.Words.{key_in-word}
+use Rattle.std.specs.declared.option.Option.{Option}
+use Rattle.gen_trie.specs.Root.{root_entries, IsTrie}
+use Rattle.gen_trie.specs.declared.entry.Entry.{Entry}
+use Rattle.gen_trie.specs.declared.node.Node.{Node}
+use Rattle.gen_trie.specs.declared.node.Shape.{Shape}
+use Rattle.gen_trie.specs.declared.node.Shape.TheVariants.{Branch, Keys}
+use Rattle.gen_trie.specs.declared.node.Slot.{Slot}
+use Rattle.gen_trie.specs.declared.node.Slot.TheVariants.{One, Many}
+use Rattle.gen_trie.specs.Shapes.{children, child, listed, height_and_entries, StandsBelow, IsBranch, IsCanonical}
+use Rattle.gen_trie.specs.Left.{by_key, item, slots_left, levels_left, LevelsStand, NoneBelow}
+
+module _ {V : Type 0} where
+  by_key-under : (below i : ℕ) (es rest : List (List ℕ × V)) → by_key (suc below) (under i es ++ rest) ≡ by_key below es ++ by_key (suc below) rest
+  by_key-under below i [] rest = refl
+  by_key-under below i (e ∷ es) rest = ap (λ l. (key_in below e.0, e.1) ∷ l) (by_key-under below i es rest)
+
+  pub by_key-keyed : (es : List (List ℕ × V)) → by_key 7 es ≡ keyed es
+  by_key-keyed [] = refl
+  by_key-keyed (e ∷ es) = ap (λ l. (key_of e.0, e.1) ∷ l) (by_key-keyed es)
+
+  joined : (xs ys zs : List (List ℕ × V)) → (xs ++ ys) ++ zs ≡ xs ++ (ys ++ zs)
+  joined [] ys zs = refl
+  joined (x ∷ xs) ys zs = ap (λ l. x ∷ l) (joined xs ys zs)
+
+module _ {V A : Type 0} where
+  -- the entries of a branch are those of its children
+  fan_left : (below : ℕ) (ss : List (Slot V A)) → by_key (suc below) (fan (children below ss)) ≡ slots_left below ss
+  fan_left below [] = refl
+  fan_left below (s ∷ ss) = by_key-under below (child below s).0 (child below s).1 (fan (children below ss)) ∙ ap (λ l. by_key below (child below s).1 ++ l) (fan_left below ss)
+
+  first_left : (below : ℕ) (s : Slot V A) (ss ts : List (Slot V A)) (rest : List (List ℕ × V)) → ts ≡ s ∷ ss → slots_left below ts ++ rest ≡ by_key below (child below s).1 ++ (slots_left below ss ++ rest)
+  first_left below s ss ts rest is = ap (λ l. slots_left below l ++ rest) is ∙ joined (by_key below (child below s).1) (slots_left below ss) rest
+
+  -- the first child of the lowest branch that has one left
+  pub next_slot_is : (from k n : ℕ) (ls : List (Bor (List (Slot V A)))) (d others : Bor (List (Slot V A))) (s : Slot V A) → n ≡ from + k → k < length ls
+      → (get_or ls k d).now ≡ s ∷ others.now → LevelsStand from ls → NoneBelow k ls
+      → ((levels_left from ls ≡ by_key n (child n s).1 ++ levels_left from (set ls k others)) × StandsBelow n s × NoneBelow k (set ls k others)) × LevelsStand from (set ls k others)
+  next_slot_is from k n [] d others s e h first stand past = absurd (omega arith)
+  next_slot_is from zero n (x ∷ xs) d others s e h first stand past =
+      let same : n ≡ from = omega arith in
+      let fits = subst (All (StandsBelow from)) first stand.0 in (
+        (
+          first_left from s others.now x.now (levels_left (suc from) xs) first ∙ ap (λ m. by_key m (child m s).1 ++ (slots_left from others.now ++ levels_left (suc from) xs)) (sym same),
+          subst (λ m. StandsBelow m s) (sym same) (All-head (StandsBelow from) s others.now fits),
+          tt,
+        ),
+        (All-tail (StandsBelow from) s others.now fits, stand.1),
+      )
+  next_slot_is from (suc k) n (x ∷ xs) d others s e h first stand past =
+      let next : n ≡ suc from + k = omega arith in
+      let rest = next_slot_is (suc from) k n xs d others s next (omega arith) first stand.1 past.1 in
+      let none = λ (ls : List (Bor (List (Slot V A)))). ap (λ y. slots_left from y ++ levels_left (suc from) ls) past.0 in (
+        (
+          none xs ∙ rest.0.0 ∙ ap (λ l. by_key n (child n s).1 ++ l) (sym (none (set xs k others))),
+          rest.0.1,
+          (past.0, rest.0.2),
+        ),
+        (stand.0, rest.1),
+      )
+
+-- ---- a slot that is gone into
+
+module _ {V A : Type 0} (below : ℕ) (s : Slot V A) (i : ℕ) (n : Arc (Node V A) A) (x : Node V A) (shape : Shape V A)
+    (many : s ≡ Many i n) (read : x ≡ n.value) (fits : StandsBelow below s) (seen : height_and_entries shape ≡ x) where
+  -- the node of a slot has its height, two entries or more, and those of the slot
+  node_is : ((height_and_entries shape).0 ≡ below) × (2 ≤ length (height_and_entries shape).1) × ((child below s).1 ≡ (height_and_entries shape).1)
+  node_is =
+      let is : height_and_entries shape ≡ n.value = seen ∙ read in
+      let low = subst (StandsBelow below) many fits in
+      (ap (λ y. y.0) is ∙ low.0, subst (λ y. 2 ≤ length y.1) (sym is) low.1, ap (λ t. (child below t).1) many ∙ ap (λ y. y.1) (sym is))
+
+  module _ (lower m : ℕ) (v : Vec (Slot V A) A) (branch : shape ≡ Branch lower m v) (holds : IsCanonical shape) where
+    branch_is : (suc lower ≡ below) × (2 ≤ length (fan (children lower v.items))) × ((child below s).1 ≡ fan (children lower v.items))
+    branch_is = subst (λ y. ((height_and_entries y).0 ≡ below) × (2 ≤ length (height_and_entries y).1) × ((child below s).1 ≡ (height_and_entries y).1)) branch node_is
+
+    pub lower_is : suc lower ≡ below
+    lower_is = branch_is.0
+
+    pub no_empty_branch : (items : List (Slot V A)) → items ≡ v.items → length items ≡ 0 → ⊥
+    no_empty_branch items is none = no_items v.items (ap length (sym is) ∙ none) branch_is.1
+      where
+        no_items : (ss : List (Slot V A)) → length ss ≡ 0 → 2 ≤ length (fan (children lower ss)) → ⊥
+        no_items [] e h = omega arith
+        no_items (t ∷ ss) e h = omega arith
+
+    module _ (items others : List (Slot V A)) (t : Slot V A) (as_items : items ≡ v.items) (split : items ≡ t ∷ others) where
+      branch_holds : IsBranch lower m v.items
+      branch_holds = subst IsCanonical branch holds
+
+      child_fits : All (StandsBelow lower) (t ∷ others)
+      child_fits = subst (All (StandsBelow lower)) (sym as_items ∙ split) branch_holds.fits
+
+      pub first_fits : StandsBelow lower t
+      first_fits = All-head (StandsBelow lower) t others child_fits
+
+      pub leave_asks : (levels : List (Bor (List (Slot V A)))) → LevelsStand 0 levels → NoneBelow below levels
+          → (112 < 9223372036854775808) × ((lower < 7) × (All (StandsBelow lower) others × (LevelsStand 0 levels × NoneBelow (suc lower) levels)))
+      leave_asks levels stand past = (
+        omega arith,
+        (
+          let low = branch_holds.height in omega arith,
+          (All-tail (StandsBelow lower) t others child_fits, (stand, subst (λ b. NoneBelow b levels) (sym lower_is) past)),
+        ),
+      )
+
+      pub entered_branch : (new old left : List (List ℕ × V)) → left ≡ slots_left lower others ++ old → (y : List ℕ × V)
+          → by_key lower (child lower t).1 ++ left ≡ y ∷ new → by_key below (child below s).1 ++ old ≡ y ∷ new
+      entered_branch new old left leaves y first =
+          (λ k. by_key (sym lower_is k) (branch_is.2 k) ++ old)
+          ∙ ap (λ l. l ++ old) (fan_left lower v.items)
+          ∙ first_left lower t others v.items old (sym as_items ∙ split)
+          ∙ ap (λ l. by_key lower (child lower t).1 ++ l) (sym leaves)
+          ∙ first
+
+  module _ (v : Vec (Arc (Entry V A) A) A) (keys : shape ≡ Keys v) where
+    keys_are : (0 ≡ below) × (2 ≤ length (listed v.items)) × ((child below s).1 ≡ listed v.items)
+    keys_are = subst (λ y. ((height_and_entries y).0 ≡ below) × (2 ≤ length (height_and_entries y).1) × ((child below s).1 ≡ (height_and_entries y).1)) keys node_is
+
+    pub no_empty_list : (items : List (Arc (Entry V A) A)) → items ≡ v.items → length items ≡ 0 → ⊥
+    no_empty_list items is none = no_items v.items (ap length (sym is) ∙ none) keys_are.1
+      where
+        no_items : (es : List (Arc (Entry V A) A)) → length es ≡ 0 → 2 ≤ length (listed es) → ⊥
+        no_items [] e h = omega arith
+        no_items (t ∷ es) e h = omega arith
+
+module _ {V A : Type 0} where
+  -- children that are left stand before what was left, where the list has none
+  pub left_after : (es : List (Arc (Entry V A) A)) (new slots old root : List (List ℕ × V)) → es ≡ [] → new ≡ slots ++ old
+      → by_key 0 (listed es) ++ (new ++ root) ≡ slots ++ (by_key 0 (listed es) ++ (old ++ root))
+  left_after es new slots old root none is =
+      ap (λ l. by_key 0 (listed l) ++ (new ++ root)) none ∙ ap (λ l. l ++ root) is ∙ joined slots old root ∙ ap (λ l. slots ++ (by_key 0 (listed l) ++ (old ++ root))) (sym none)
+
+  pub entered_one : (below i : ℕ) (s : Slot V A) (e : Arc (Entry V A) A) (rest : List (List ℕ × V)) → s ≡ One i e → by_key below (child below s).1 ++ rest ≡ item e.value ∷ rest
+  entered_one below i s e rest is =
+      ap (λ t. by_key below (child below t).1 ++ rest) is ∙ (λ k. (key_in-word below e.value.hash e.value.key k, e.value.value.value) ∷ rest)
+
+-- ---- the whole
+
+module _ {V A : Type 0} (f : List ℕ → ℕ) (root : Option (Slot V A)) (count : ℕ) (trie : IsTrie f root count) (all : List (List ℕ × V)) (is : all ≡ by_key 7 (root_entries root)) where
+  pub iter_is : all ≡ walk f (as_map (root_entries root))
+  iter_is = is ∙ by_key-keyed (root_entries root) ∙ sym (walk_is f (root_entries root) trie.hashed (let r = trie.root_is in r.sorted))

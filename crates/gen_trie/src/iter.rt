@@ -1,0 +1,178 @@
+ghost use Rattle.std.specs.Prelude.{◌≡◌, ◌<◌, suc, [], ◌∷◌, ◌++◌, MatchOption};
+ghost use Rattle.std.specs.List.{All};
+ghost use Rattle.std.specs.Iterator.{YieldsFirstBy, item_count};
+ghost use Rattle.gen_trie.specs.Shapes.{child, StandsBelow};
+ghost use Rattle.gen_trie.specs.Root.{root_entries, RootStands};
+ghost use Rattle.gen_trie.specs.Left.{by_key, item, slots_left, levels_left, left, LevelsStand, RestStands, NoneBelow, IsPast};
+
+use crate::entry::Entry;
+use crate::node::{Shape, Slot};
+use dots::Key;
+use std::alloc::{Allocator, Global};
+use std::iter::FusedIterator;
+use std::marker::Model;
+use std::sync::Arc;
+
+// What is left of a walk.
+#[derive(Drop)]
+pub(crate) struct Rest<'a, V, A: Allocator> {
+    // Of a list of keys with equal hashes.
+    list: &'a [Arc<Entry<V, A>, A>],
+    // Of the branches on the way down, each at the number of levels of branches below it.
+    levels: [&'a [Slot<V, A>]; 7],
+    // The root, before the first call.
+    root: Option<&'a Slot<V, A>>,
+}
+
+/// The keys of a map with their values, by ascending index sequence of the key's hash, and those of equal hashes by key
+/// bytes. It takes no memory, and a call of `next` touches eight nodes at most.
+#[derive(Drop)]
+pub struct Iter<'a, V, A: Allocator = Global> {
+    rest: Rest<'a, V, A>,
+}
+
+impl<'a, V, A: Allocator> Model for Iter<'a, V, A> {
+    ghost use Rattle.std.specs.Prelude.{ℕ, List};
+    ghost use Rattle.std.specs.Coded.{coded×, coded_list, coded_ℕ};
+
+    ghost Value = { List (List ℕ × V) };
+
+    ghost coded = { coded_list (coded× (coded_list coded_ℕ) V.code) };
+
+    ghost use Rattle.gen_trie.specs.Left.{left, RestStands};
+
+    ghost view = { λ it. left it.rest };
+
+    ghost invariant = { λ it. RestStands it.rest };
+}
+
+// Leaves these children of a branch with so many levels of branches below for later calls.
+fn leave<'a, V, A: Allocator>(
+    levels: &mut [&'a [Slot<V, A>]; 7],
+    below: u32,
+    slots: &'a [Slot<V, A>],
+)
+    requires bound { below < 7 }
+    requires fits { All (StandsBelow below) slots.now }
+    requires stand { LevelsStand 0 levels.old }
+    requires past { NoneBelow (suc below) levels.old }
+    ensures left { levels_left 0 levels.new ≡ slots_left below slots.now ++ levels_left 0 levels.old }
+    ensures stand { LevelsStand 0 levels.new }
+    ensures past { NoneBelow below levels.new }
+{
+    levels[below as usize] = slots;
+}
+
+// The first of the children that are left of the branch with so many levels of branches below.
+fn next_slot<'a, V, A: Allocator>(
+    levels: &mut [&'a [Slot<V, A>]; 7],
+    below: u32,
+) -> Option<&'a Slot<V, A>>
+    requires bound { below < 7 }
+    requires stand { LevelsStand 0 levels.old }
+    requires past { NoneBelow below levels.old }
+    ensures first { MatchOption result ((levels.new ≡ levels.old) × NoneBelow (suc below) levels.old)
+        (λ slot. (levels_left 0 levels.old ≡ by_key below (child below slot.now).1 ++ levels_left 0 levels.new) × StandsBelow below slot.now × NoneBelow below levels.new) }
+    ensures stand { LevelsStand 0 levels.new }
+{
+    let (first, others) = levels[below as usize].split_first()?;
+    levels[below as usize] = others;
+    Some(first)
+}
+
+// The first entry of a slot. What stands behind it there is left for later calls.
+fn enter<'a, V, A: Allocator>(
+    rest: &mut Rest<'a, V, A>,
+    below: u32,
+    slot: &'a Slot<V, A>,
+) -> &'a Arc<Entry<V, A>, A>
+    requires fits { StandsBelow below slot.now }
+    requires stands { RestStands rest.old }
+    requires past { IsPast below rest.old }
+    ensures first { by_key below (child below slot.now).1 ++ left rest.old ≡ item result.now.value ∷ left rest.new }
+    ensures stands { RestStands rest.new }
+{
+    match slot {
+        Slot::One(_, entry) => entry,
+        Slot::Many(_, node) => match &node.shape {
+            Shape::Branch(lower, _, slots) => match slots.as_slice().split_first() {
+                None => unreachable!(),
+                Some((first, others)) => {
+                    leave(&mut rest.levels, *lower, others);
+                    enter(rest, *lower, first)
+                }
+            },
+            Shape::Keys(entries) => match entries.as_slice().split_first() {
+                None => unreachable!(),
+                Some((first, others)) => {
+                    rest.list = others;
+                    first
+                }
+            },
+        },
+    }
+}
+
+// The next entry of the branches, once the list has none.
+fn next_below<'a, V, A: Allocator>(rest: &mut Rest<'a, V, A>) -> Option<&'a Arc<Entry<V, A>, A>>
+    requires stands { RestStands rest.old }
+    requires past { IsPast 0 rest.old }
+    ensures first { MatchOption result ((rest.new ≡ rest.old) × IsPast 7 rest.old) (λ entry. left rest.old ≡ item entry.now.value ∷ left rest.new) }
+    ensures stands { RestStands rest.new }
+{
+    for below in 0..7 {
+        if let Some(slot) = next_slot(&mut rest.levels, below) {
+            return Some(enter(rest, below, slot));
+        }
+    }
+    None
+}
+
+// The next entry of the walk.
+fn next_entry<'a, V, A: Allocator>(rest: &mut Rest<'a, V, A>) -> Option<&'a Arc<Entry<V, A>, A>>
+    requires stands { RestStands rest.old }
+    ensures first { MatchOption result ((left rest.old ≡ []) × (left rest.new ≡ [])) (λ entry. left rest.old ≡ item entry.now.value ∷ left rest.new) }
+    ensures stands { RestStands rest.new }
+{
+    if let Some((first, others)) = rest.list.split_first() {
+        rest.list = others;
+        return Some(first);
+    }
+    if let Some(entry) = next_below(rest) {
+        return Some(entry);
+    }
+    match rest.root.take() {
+        None => None,
+        Some(slot) => Some(enter(rest, 7, slot)),
+    }
+}
+
+impl<'a, V, A: Allocator> Iter<'a, V, A> {
+    // The entries of the trie of this root.
+    pub(crate) fn new(root: &'a Option<Slot<V, A>>) -> Iter<'a, V, A>
+        requires { RootStands root.now }
+        ensures { result ≡ by_key 7 (root_entries root.now) }
+    {
+        let rest = Rest {
+            list: &[],
+            levels: [&[]; 7],
+            root: root.as_ref(),
+        };
+        Iter { rest }
+    }
+}
+
+impl<'a, V, A: Allocator> Iterator for Iter<'a, V, A> {
+    type Item = (&'a Key<A>, &'a V);
+
+    ghost next_gives = { YieldsFirstBy (λ item. (item.0.now, item.1.now)) (λ it. it) };
+
+    ghost remaining = { item_count (λ it. it) };
+
+    fn next(&mut self) -> Option<(&'a Key<A>, &'a V)> {
+        let entry = next_entry(&mut self.rest)?;
+        Some((&entry.key, &*entry.value))
+    }
+}
+
+impl<'a, V, A: Allocator> FusedIterator for Iter<'a, V, A> {}
