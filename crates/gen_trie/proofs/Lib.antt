@@ -5,3 +5,4 @@ pub mod Roots
 pub mod Pairs
 pub mod Takes
 pub mod Iters
+pub mod Sums

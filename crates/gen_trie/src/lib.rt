@@ -18,9 +18,9 @@ mod trie;
 
 pub use entry::Entry;
 pub use frozen::Frozen;
+pub use iter::Iter;
 pub use no_summary::NoSummary;
 pub use summary::Summary;
-pub use iter::Iter;
 pub use trie::GenTrie;
 
 #[cfg(test)]

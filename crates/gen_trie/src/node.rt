@@ -116,12 +116,7 @@ pub(crate) fn seat_of<V, A: Allocator>(
 }
 
 // Where the child at an index stands, or would stand.
-fn seat_at<V, A: Allocator>(
-    slots: &Vec<Slot<V, A>, A>,
-    below: u32,
-    bitmap: u32,
-    index: u32,
-) -> Seat
+fn seat_at<V, A: Allocator>(slots: &Vec<Slot<V, A>, A>, below: u32, bitmap: u32, index: u32) -> Seat
     requires branch { IsBranch below bitmap slots.now.items }
     requires bound { index < 32 }
     ensures { IsSeat index (children below slots.now.items) (vec_len slots.now) result.index result.at result.taken }

@@ -54,6 +54,7 @@ rest_fits (suc d) bits n h =
   where
     less_one : (k : ℕ) → k ≡ suc k - 1
     less_one k = omega arith
+
     five : (d : ℕ) → 5 * suc d ≡ 5 * d + 5
     five d = omega arith
 

@@ -74,7 +74,7 @@ module _ {V M : Type 0} (s : List (List ℕ × V) → Option M) (none_is : s [] 
       let e = same i c.0 p in
       let rises : Rise (suc i) cs = subst (λ k. Rise (suc k) cs) (sym e) r.2 in
       let later : present (suc i) n (λ j. s (at j (c ∷ cs))) ≡ sums s cs =
-          present_agree (suc i) n (λ j. s (at j (c ∷ cs))) (λ j. s (at j cs)) (λ j l. ap (λ o. s (by_order o [] c.1 (at j cs))) (is_more j c.0 (omega (arith, e)))) ∙ rest rises in
+      present_agree (suc i) n (λ j. s (at j (c ∷ cs))) (λ j. s (at j cs)) (λ j l. ap (λ o. s (by_order o [] c.1 (at j cs))) (is_more j c.0 (omega (arith, e)))) ∙ rest rises in
       λ t. one_present (e t) (s c.1) (later t)
   present_step i n c cs Greater p r all rest = let h = more i c.0 p in let l = r.0 in absurd (omega arith)
 
@@ -94,10 +94,10 @@ module _ {V M : Type 0} (c : Calls V M) where
   summary_branch below cs r h =
       several below (fan cs) h
       ∙ ap (λ l. Some (c.branch l))
-          (present_agree 0 32 (λ i. summary_of c below (under_index i (fan cs))) (λ i. summary_of c below (at i cs)) (λ i l. ap (summary_of c below) (under_index-fan 0 i cs r))
-          ∙ present_is (summary_of c below) refl 0 32 cs refl r)
+      (present_agree 0 32 (λ i. summary_of c below (under_index i (fan cs))) (λ i. summary_of c below (at i cs)) (λ i l. ap (summary_of c below) (under_index-fan 0 i cs r))
+      ∙ present_is (summary_of c below) refl 0 32 cs refl r)
 
-  pub summary_list : (es : List (List ℕ × V)) → 2 ≤ length es → summary_of c 0 es ≡ Some (c.list (by_key es))
+  pub summary_list : (es : List (List ℕ × V)) → 2 ≤ length es → summary_of c 0 es ≡ Some (c.list (by_key 0 es))
   summary_list [] h = absurd (omega arith)
   summary_list (e ∷ []) h = absurd (omega arith)
   summary_list (e ∷ f ∷ es) h = refl
@@ -112,12 +112,14 @@ module _ {V M : Type 0} (c : Calls V M) where
   pub summary_child : (i : ℕ) (p : List ℕ) (below : ℕ) (cs : List (ℕ × List (List ℕ × V))) → Rise 0 cs → summary_at c (i ∷ p) (suc below) (fan cs) ≡ summary_at c p below (at i cs)
   summary_child i p below cs r = ap (summary_at c p below) (under_index-fan 0 i cs r)
 
-  -- ---- one child after another
+-- ---- one child after another
 
+module _ {M : Type 0} where
   append_step : (i : ℕ) (r : Option M) (ks rest : List (ℕ × M)) (one : ℕ × M) → ks ≡ rest ++ one ∷ [] → one_present i r ks ≡ one_present i r rest ++ one ∷ []
   append_step i None ks rest one e = e
   append_step i (Some y) ks rest one e = ap (λ l. (i, y) ∷ l) e
 
+module _ {V M : Type 0} where
   pub sums_append : (s : List (List ℕ × V) → Option M) (cs : List (ℕ × List (List ℕ × V))) (k : ℕ × List (List ℕ × V)) (m : M) → s k.1 ≡ Some m → sums s (cs ++ k ∷ []) ≡ sums s cs ++ (k.0, m) ∷ []
   sums_append s [] k m e = ap (λ x. one_present k.0 x []) e
   sums_append s (x ∷ cs) k m e = append_step x.0 (s x.1) (sums s (cs ++ k ∷ [])) (sums s cs) (k.0, m) (sums_append s cs k m e)

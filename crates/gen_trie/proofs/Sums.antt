@@ -1,0 +1,64 @@
+-- The summaries of a branch's children, one after another.
+use Rattle.std.proofs.Common.{◌≡◌, ◌≢◌, ℕ, suc, ◌+◌, ◌≤◌, ◌<◌, List, [], ◌∷◌, ◌++◌, length, take, get_or, map, cond, None, Some, arith, refl, ne_eqb, sym, ◌∙◌, ap, subst}
+use Rattle.std.specs.declared.option.Option.{Option}
+use Rattle.std.proofs.lemmas.List.{map-append}
+use Rattle.std.proofs.Math.Seq.{take-suc}
+use Rattle.hash_path.specs.Word.{word, digit}
+use Rattle.hash_path.specs.Fan.{fan, Rise, at}
+use Rattle.hash_path.specs.Summary.{Calls, sums, by_key, summary_of, summary_at}
+use Rattle.hash_path.proofs.Summaries.{sums_append, summary_list, summary_none, summary_child}
+use Rattle.hash_path.proofs.Words.{key_in-word}
+use Rattle.std.specs.declared.sync.Arc.{Arc}
+use Rattle.gen_trie.specs.declared.entry.Entry.{Entry}
+use Rattle.gen_trie.specs.declared.node.Slot.{Slot}
+use Rattle.gen_trie.specs.declared.node.Slot.TheVariants.{One}
+use Rattle.gen_trie.specs.Shapes.{children, child, listed}
+
+module _ {V A M : Type 0} (below : ℕ) (ss : List (Slot V A)) (s : List (List ℕ × V) → Option M) where
+  pub one_more : (at : ℕ) (slot : Slot V A) (held : List (ℕ × M)) (x : ℕ × M) → at < length ss → slot ≡ get_or ss at slot
+      → x.0 ≡ (child below slot).0 → s (child below slot).1 ≡ Some x.1
+      → held ≡ sums s (children below (take at ss)) → held ++ x ∷ [] ≡ sums s (children below (take (at + 1) ss))
+  one_more at slot held x within is index sum so =
+      let next : at + 1 ≡ suc at = omega arith in
+      let more : take (at + 1) ss ≡ take at ss ++ slot ∷ [] = ap (λ n. take n ss) next ∙ take-suc ss at slot within ∙ ap (λ k. take at ss ++ k ∷ []) (sym is) in
+      (λ t. so t ++ (index t, x.1) ∷ [])
+      ∙ sym (sums_append s (children below (take at ss)) (child below slot) x.1 sum)
+      ∙ ap (sums s) (sym (map-append (child below) (take at ss) (slot ∷ [])) ∙ ap (children below) (sym more))
+
+module _ {V A M : Type 0} (c : Calls V M) where
+  pub one_key : (below : ℕ) (slot : Slot V A) (i : ℕ) (e : Arc (Entry V A) A) (k : List ℕ) (v : V) (m : M) → slot ≡ One i e → k ≡ e.value.key → v ≡ e.value.value.value → m ≡ c.leaf k v
+      → summary_of c below (child below slot).1 ≡ Some m
+  one_key below slot i e k v m is ks vs ms =
+      ap (λ s. summary_of c below (child below s).1) is
+      ∙ ap (λ x. Some (c.leaf x e.value.value.value)) (key_in-word below e.value.hash e.value.key)
+      ∙ (λ t. Some (c.leaf (sym ks t) (sym vs t))) ∙ ap Some (sym ms)
+
+  pub keys_listed : (es : List (Arc (Entry V A) A)) → by_key 0 (listed es) ≡ map (λ e. (e.value.key, e.value.value.value)) es
+  keys_listed [] = refl
+  keys_listed (e ∷ es) = ap (λ l. (e.value.key, e.value.value.value) ∷ l) (keys_listed es)
+
+  pub of_keys : (node : ℕ × List (List ℕ × V)) (es found : List (Arc (Entry V A) A)) (m : M) → node ≡ (0, listed es) → 2 ≤ length node.1 → found ≡ es
+      → m ≡ c.list (map (λ e. (e.value.key, e.value.value.value)) found) → summary_of c node.0 node.1 ≡ Some m
+  of_keys node es found m e h f ms =
+      ap (λ n. summary_of c n.0 n.1) e ∙ summary_list c (listed es) (subst (λ n. 2 ≤ length n.1) e h)
+      ∙ ap (λ l. Some (c.list l)) (keys_listed es ∙ ap (map (λ e. (e.value.key, e.value.value.value))) (sym f)) ∙ ap Some (sym ms)
+
+-- ---- at a prefix
+
+module _ {V M : Type 0} (c : Calls V M) where
+  pub no_levels : (prefix : List ℕ) (i : ℕ) (p : List ℕ) (height : ℕ) (es : List (List ℕ × V)) → prefix ≡ i ∷ p → height ≡ 0 → None ≡ summary_at c prefix height es
+  no_levels prefix i p height es e z = sym (λ t. summary_at c (e t) (z t) es)
+
+  pub other_index : (prefix : List ℕ) (i : ℕ) (p : List ℕ) (below height hash : ℕ) (key : List ℕ) (v : V) → prefix ≡ i ∷ p → height ≡ suc below → i ≢ digit below hash
+      → None ≡ summary_at c prefix height ((word height hash key, v) ∷ [])
+  other_index prefix i p below height hash key v e up apart =
+      sym (
+      (λ t. summary_at c (e t) (up t) ((word (up t) hash key, v) ∷ []))
+      ∙ ap (λ b. summary_at c p below (cond b ((word below hash key, v) ∷ []) [])) (ne_eqb i (digit below hash) apart)
+      ∙ summary_none c p below
+      )
+
+  pub under_branch : (node : ℕ × List (List ℕ × V)) (i : ℕ) (p : List ℕ) (below : ℕ) (cs : List (ℕ × List (List ℕ × V))) (es : List (List ℕ × V)) (r : Option M) → node ≡ (suc below, fan cs) → Rise 0 cs
+      → at i cs ≡ es → r ≡ summary_at c p below es → r ≡ summary_at c (i ∷ p) node.0 node.1
+  under_branch node i p below cs es r e rise is so =
+      so ∙ ap (summary_at c p below) (sym is) ∙ sym (summary_child c i p below cs rise) ∙ ap (λ n. summary_at c (i ∷ p) n.0 n.1) (sym e)
