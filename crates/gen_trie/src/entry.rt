@@ -8,24 +8,38 @@ use dots::Key;
 use std::alloc::Allocator;
 use std::sync::Arc;
 
-// A key of the map with its hash and its value. It does not depend on the depth that it stands at.
+/// A key of the map with its hash and its value. It does not depend on the depth that it stands at.
 #[derive(Drop)]
-pub(crate) struct Entry<V, A: Allocator> {
-    pub hash: u32,
-    pub key: Key<A>,
-    pub value: Arc<V, A>,
+pub struct Entry<V, A: Allocator> {
+    pub(crate) hash: u32,
+    pub(crate) key: Key<A>,
+    pub(crate) value: Arc<V, A>,
 }
 
 impl<V, A: Allocator> Entry<V, A> {
+    /// The key.
+    pub fn key(&self) -> &Key<A>
+        ensures { result.now ≡ self.now.key }
+    {
+        &self.key
+    }
+
+    /// The value.
+    pub fn value(&self) -> &V
+        ensures { result.now ≡ self.now.value.value }
+    {
+        &self.value
+    }
+
     // Whether it is the entry of this hash and these bytes.
-    pub fn is_at(&self, hash: u32, key: &[u8]) -> bool
+    pub(crate) fn is_at(&self, hash: u32, key: &[u8]) -> bool
         ensures { result ≡ eq_by_cmp order (hash ∷ key.now) (self.now.hash ∷ self.now.key) }
     {
         self.hash == hash && self.key.bytes() == key
     }
 
     // The value, where it is the entry of this hash and these bytes.
-    pub fn value_at<'a>(&'a self, hash: u32, key: &[u8]) -> Option<&'a Arc<V, A>>
+    pub(crate) fn value_at<'a>(&'a self, hash: u32, key: &[u8]) -> Option<&'a Arc<V, A>>
         ensures { option_map (λ value. value.now.value) result ≡ find order (hash ∷ key.now) ((self.now.hash ∷ self.now.key, self.now.value.value) ∷ []) }
     {
         if self.is_at(hash, key) {
@@ -36,7 +50,7 @@ impl<V, A: Allocator> Entry<V, A> {
     }
 
     // Whether its hash and bytes come before these.
-    pub fn is_before(&self, hash: u32, key: &[u8]) -> bool
+    pub(crate) fn is_before(&self, hash: u32, key: &[u8]) -> bool
         ensures { result ≡ is_gt (order (hash ∷ key.now) (self.now.hash ∷ self.now.key)) }
     {
         hash.cmp(&self.hash)

@@ -8,25 +8,27 @@ ghost use Rattle.dots.specs.declared.refusal.Refusal.TheVariants.{OutOfMemory};
 use crate::iter::Iter;
 use crate::node::Slot;
 use crate::root::{look_root, share_root};
+use crate::summary::Summary;
 use crate::trie::GenTrie;
 use dots::{Key, Refusal};
 use hash_path::PathHash;
 use std::alloc::{Allocator, Global};
-use std::marker::Model;
+use std::marker::{Model, PhantomData};
 
 /// A finite map from keys to values that is only read. It shares its nodes with the tries that it comes from, and stays
 /// what it is whatever they write.
 #[derive(Drop)]
-pub struct Frozen<V, H: PathHash, A: Allocator = Global> {
+pub struct Frozen<V, M: Summary<V>, H: PathHash, A: Allocator = Global> {
     alloc: A,
     hash: H,
     // No node of it has a later stamp.
     generation: u64,
     count: u64,
     root: Option<Slot<V, A>>,
+    summary: PhantomData<M>,
 }
 
-impl<V, H: PathHash, A: Allocator> Model for Frozen<V, H, A> {
+impl<V, M: Summary<V>, H: PathHash, A: Allocator> Model for Frozen<V, M, H, A> {
     ghost use Rattle.std.specs.Prelude.{ℕ};
     ghost use Rattle.std.specs.Coded.{coded×, coded_list, coded_ℕ};
     ghost use Rattle.std.specs.FinMap as map;
@@ -44,9 +46,9 @@ impl<V, H: PathHash, A: Allocator> Model for Frozen<V, H, A> {
     ghost invariant = { λ a. IsTrie (H.hash_of a.hash) a.root a.count };
 }
 
-impl<V, H: PathHash, A: Allocator + Copy> Frozen<V, H, A> {
+impl<V, M: Summary<V>, H: PathHash, A: Allocator + Copy> Frozen<V, M, H, A> {
     /// The map with no keys, whose paths are by this hash. Takes no memory.
-    pub fn new(alloc: A, hash: H) -> Frozen<V, H, A>
+    pub fn new(alloc: A, hash: H) -> Frozen<V, M, H, A>
         ensures { result ≡ (hash, finite.empty) }
     {
         Frozen {
@@ -55,6 +57,7 @@ impl<V, H: PathHash, A: Allocator + Copy> Frozen<V, H, A> {
             generation: 0,
             count: 0,
             root: None,
+            summary: PhantomData,
         }
     }
 
@@ -91,7 +94,7 @@ impl<V, H: PathHash, A: Allocator + Copy> Frozen<V, H, A> {
         generation: u64,
         count: u64,
         root: Option<Slot<V, A>>,
-    ) -> Frozen<V, H, A>
+    ) -> Frozen<V, M, H, A>
         requires { IsTrie (H.hash_of hash) root count }
         ensures { result ≡ (hash, as_map (root_entries root)) }
     {
@@ -101,13 +104,14 @@ impl<V, H: PathHash, A: Allocator + Copy> Frozen<V, H, A> {
             generation,
             count,
             root,
+            summary: PhantomData,
         }
     }
 }
 
-impl<V: Drop, H: PathHash, A: Allocator + Copy> Frozen<V, H, A> {
+impl<V: Drop, M: Summary<V>, H: PathHash, A: Allocator + Copy> Frozen<V, M, H, A> {
     /// The same map. Copies no node: it takes a reference count, and is refused only where that is full.
-    pub fn copy(&self) -> Result<Frozen<V, H, A>, Refusal>
+    pub fn copy(&self) -> Result<Frozen<V, M, H, A>, Refusal>
         ensures ok { IfOk result (λ copy. copy ≡ self.now) }
         ensures err { IsOkUnless result OutOfMemory }
     {
@@ -118,12 +122,13 @@ impl<V: Drop, H: PathHash, A: Allocator + Copy> Frozen<V, H, A> {
             generation: self.generation,
             count: self.count,
             root,
+            summary: PhantomData,
         })
     }
 
     /// A trie of the same map that can be written, in a generation after those of all nodes that it shares; at the last,
     /// 2^64 - 1, it stays. Copies no node.
-    pub fn thaw(&self) -> Result<GenTrie<V, H, A>, Refusal>
+    pub fn thaw(&self) -> Result<GenTrie<V, M, H, A>, Refusal>
         ensures ok { IfOk result (λ trie. trie ≡ self.now) }
         ensures err { IsOkUnless result OutOfMemory }
     {
@@ -133,7 +138,7 @@ impl<V: Drop, H: PathHash, A: Allocator + Copy> Frozen<V, H, A> {
     }
 }
 
-impl<'a, V, H: PathHash, A: Allocator + Copy> IntoIterator for &'a Frozen<V, H, A> {
+impl<'a, V, M: Summary<V>, H: PathHash, A: Allocator + Copy> IntoIterator for &'a Frozen<V, M, H, A> {
     type Item = (&'a Key<A>, &'a V);
 
     type IntoIter = Iter<'a, V, A>;

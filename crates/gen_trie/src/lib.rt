@@ -7,14 +7,19 @@ mod entry;
 mod frozen;
 mod iter;
 mod listing;
+mod no_summary;
 mod node;
 mod put;
 mod root;
+mod summary;
 mod take;
 mod trie;
 
+pub use entry::Entry;
 pub use frozen::Frozen;
 pub use iter::Iter;
+pub use no_summary::NoSummary;
+pub use summary::Summary;
 pub use trie::GenTrie;
 
 #[cfg(test)]

@@ -11,7 +11,7 @@ use std::process::Abort;
 use std::test::Fail;
 
 // A trie with the values 1, 2 and 3 at the keys a, b and c.
-fn three<H: PathHash>(alloc: Global, hash: H) -> Result<GenTrie<u64, H>, Refusal> {
+fn three<H: PathHash>(alloc: Global, hash: H) -> Result<GenTrie<u64, NoSummary, H>, Refusal> {
     let mut trie = GenTrie::new(alloc, hash);
     trie.insert(Key::new(alloc, b"a")?, 1)?;
     trie.insert(Key::new(alloc, b"b")?, 2)?;
@@ -22,7 +22,7 @@ fn three<H: PathHash>(alloc: Global, hash: H) -> Result<GenTrie<u64, H>, Refusal
 // The value at the key of these bytes.
 fn at<H: PathHash>(
     alloc: Global,
-    trie: &GenTrie<u64, H>,
+    trie: &GenTrie<u64, NoSummary, H>,
     key: &[u8],
 ) -> Result<Option<u64>, Refusal> {
     let key = Key::new(alloc, key)?;
@@ -31,7 +31,7 @@ fn at<H: PathHash>(
 
 fn frozen_at<H: PathHash>(
     alloc: Global,
-    frozen: &Frozen<u64, H>,
+    frozen: &Frozen<u64, NoSummary, H>,
     key: &[u8],
 ) -> Result<Option<u64>, Refusal> {
     let key = Key::new(alloc, key)?;
@@ -41,7 +41,7 @@ fn frozen_at<H: PathHash>(
 // Takes the key of these bytes out.
 fn taken<H: PathHash>(
     alloc: Global,
-    trie: &mut GenTrie<u64, H>,
+    trie: &mut GenTrie<u64, NoSummary, H>,
     key: &[u8],
 ) -> Result<Option<u64>, Refusal> {
     let key = Key::new(alloc, key)?;
@@ -109,7 +109,7 @@ fn a_cleared_trie_is_empty(rt: HostRuntime) -> Result<(), Fail> {
 #[test]
 fn an_empty_frozen_map_has_no_keys(rt: HostRuntime) -> Result<(), Fail> {
     let alloc = rt.alloc();
-    let frozen: Frozen<u64, Fnv1a> = Frozen::new(alloc, Fnv1a);
+    let frozen: Frozen<u64, NoSummary, Fnv1a> = Frozen::new(alloc, Fnv1a);
     assert_eq!(rt; frozen.size(), 0);
     assert_eq!(rt; frozen_at(alloc, &frozen, b"a")?, None);
     Ok(())
@@ -151,7 +151,7 @@ fn key_of(alloc: Global, number: u64) -> Result<Key, Refusal> {
 // Puts one value into both, and tells whether the two had the same at its key.
 fn put_both<H: PathHash>(
     alloc: Global,
-    trie: &mut GenTrie<u64, H>,
+    trie: &mut GenTrie<u64, NoSummary, H>,
     plain: &mut Plain,
     number: u64,
     value: u64,
@@ -165,7 +165,7 @@ fn put_both<H: PathHash>(
 // Takes a key out of both, and tells whether the two had the same there.
 fn take_both<H: PathHash>(
     alloc: Global,
-    trie: &mut GenTrie<u64, H>,
+    trie: &mut GenTrie<u64, NoSummary, H>,
     plain: &mut Plain,
     number: u64,
 ) -> Result<bool, Refusal> {
@@ -176,7 +176,7 @@ fn take_both<H: PathHash>(
 // Writes into both at a key: three times of four a value, else the key is taken out.
 fn step<H: PathHash>(
     alloc: Global,
-    trie: &mut GenTrie<u64, H>,
+    trie: &mut GenTrie<u64, NoSummary, H>,
     plain: &mut Plain,
     keys: u64,
     seed: u64,
@@ -191,7 +191,7 @@ fn step<H: PathHash>(
 // Writes so often into both, by a linear congruential generator.
 fn run<H: PathHash>(
     alloc: Global,
-    trie: &mut GenTrie<u64, H>,
+    trie: &mut GenTrie<u64, NoSummary, H>,
     plain: &mut Plain,
     keys: u64,
     from: u64,
@@ -211,7 +211,7 @@ fn run<H: PathHash>(
 // Whether the two have the same at each key.
 fn agree<H: PathHash>(
     alloc: Global,
-    frozen: &Frozen<u64, H>,
+    frozen: &Frozen<u64, NoSummary, H>,
     plain: &Plain,
     keys: u64,
 ) -> Result<bool, Refusal> {
@@ -268,9 +268,9 @@ fn random_writes_agree_where_hashes_meet(rt: HostRuntime) -> Result<(), Fail> {
 // Writes, freezes, and writes again at the key of a number.
 fn freezes_between<H: PathHash>(
     alloc: Global,
-    trie: &mut GenTrie<u64, H>,
+    trie: &mut GenTrie<u64, NoSummary, H>,
     number: u64,
-) -> Result<Frozen<u64, H>, Fail> {
+) -> Result<Frozen<u64, NoSummary, H>, Fail> {
     trie.insert(key_of(alloc, number)?, number)?;
     let frozen = trie.freeze()?;
     trie.insert(key_of(alloc, number)?, 0)?;
@@ -280,7 +280,7 @@ fn freezes_between<H: PathHash>(
 // The value at a number's key.
 fn number_at<H: PathHash>(
     alloc: Global,
-    frozen: &Frozen<u64, H>,
+    frozen: &Frozen<u64, NoSummary, H>,
     number: u64,
 ) -> Result<Option<u64>, Refusal> {
     let key = key_of(alloc, number)?;

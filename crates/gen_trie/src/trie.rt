@@ -9,10 +9,11 @@ use crate::frozen::Frozen;
 use crate::iter::Iter;
 use crate::node::Slot;
 use crate::root::{insert_at, look_root, remove_at, share_root};
+use crate::summary::Summary;
 use dots::{Key, Refusal};
 use hash_path::PathHash;
 use std::alloc::{Allocator, Global};
-use std::marker::Model;
+use std::marker::{Model, PhantomData};
 use std::sync::Arc;
 
 /// A finite map from keys to values that can be frozen at the cost of a few reference counts.
@@ -21,15 +22,16 @@ use std::sync::Arc;
 /// with equal hashes past the last. What is written after a freeze is copied first, node by node, so a frozen map stays
 /// what it was. An entry takes three allocations: the entry, the key's bytes, the value.
 #[derive(Drop)]
-pub struct GenTrie<V, H: PathHash, A: Allocator = Global> {
+pub struct GenTrie<V, M: Summary<V>, H: PathHash, A: Allocator = Global> {
     alloc: A,
     hash: H,
     generation: u64,
     count: u64,
     root: Option<Slot<V, A>>,
+    summary: PhantomData<M>,
 }
 
-impl<V, H: PathHash, A: Allocator> Model for GenTrie<V, H, A> {
+impl<V, M: Summary<V>, H: PathHash, A: Allocator> Model for GenTrie<V, M, H, A> {
     ghost use Rattle.std.specs.Prelude.{ℕ};
     ghost use Rattle.std.specs.Coded.{coded×, coded_list, coded_ℕ};
     ghost use Rattle.std.specs.FinMap as map;
@@ -47,9 +49,9 @@ impl<V, H: PathHash, A: Allocator> Model for GenTrie<V, H, A> {
     ghost invariant = { λ a. IsTrie (H.hash_of a.hash) a.root a.count };
 }
 
-impl<V, H: PathHash, A: Allocator + Copy> GenTrie<V, H, A> {
+impl<V, M: Summary<V>, H: PathHash, A: Allocator + Copy> GenTrie<V, M, H, A> {
     /// The map with no keys, whose paths are by this hash. Takes no memory.
-    pub fn new(alloc: A, hash: H) -> GenTrie<V, H, A>
+    pub fn new(alloc: A, hash: H) -> GenTrie<V, M, H, A>
         ensures { result ≡ (hash, finite.empty) }
     {
         GenTrie {
@@ -58,6 +60,7 @@ impl<V, H: PathHash, A: Allocator + Copy> GenTrie<V, H, A> {
             generation: 0,
             count: 0,
             root: None,
+            summary: PhantomData,
         }
     }
 
@@ -79,7 +82,7 @@ impl<V, H: PathHash, A: Allocator + Copy> GenTrie<V, H, A> {
         generation: u64,
         count: u64,
         root: Option<Slot<V, A>>,
-    ) -> GenTrie<V, H, A>
+    ) -> GenTrie<V, M, H, A>
         requires { IsTrie (H.hash_of hash) root count }
         ensures { result ≡ (hash, as_map (root_entries root)) }
     {
@@ -89,6 +92,7 @@ impl<V, H: PathHash, A: Allocator + Copy> GenTrie<V, H, A> {
             generation,
             count,
             root,
+            summary: PhantomData,
         }
     }
 
@@ -108,7 +112,7 @@ impl<V, H: PathHash, A: Allocator + Copy> GenTrie<V, H, A> {
     }
 }
 
-impl<V: Drop, H: PathHash, A: Allocator + Copy> GenTrie<V, H, A> {
+impl<V: Drop, M: Summary<V>, H: PathHash, A: Allocator + Copy> GenTrie<V, M, H, A> {
     /// Puts the value at the key, in the place of one that is there. A refused call leaves the map as it was, and drops
     /// the value. A map of 2^64 - 1 keys refuses a new one as for want of memory. Touches eight nodes at most, and
     /// copies those that a frozen map shares.
@@ -158,7 +162,7 @@ impl<V: Drop, H: PathHash, A: Allocator + Copy> GenTrie<V, H, A> {
 
     /// The map as it is, which stays so whatever is written afterwards. The next generation starts on both sides; at the
     /// last, 2^64 - 1, it stays. Copies no node: it takes a reference count, and is refused only where that is full.
-    pub fn freeze(&mut self) -> Result<Frozen<V, H, A>, Refusal>
+    pub fn freeze(&mut self) -> Result<Frozen<V, M, H, A>, Refusal>
         ensures ok { IfOk result (λ frozen. frozen ≡ self.old) }
         ensures same { self.new ≡ self.old }
         ensures err { IsOkUnless result OutOfMemory }
@@ -172,7 +176,7 @@ impl<V: Drop, H: PathHash, A: Allocator + Copy> GenTrie<V, H, A> {
     }
 }
 
-impl<'a, V, H: PathHash, A: Allocator + Copy> IntoIterator for &'a GenTrie<V, H, A> {
+impl<'a, V, M: Summary<V>, H: PathHash, A: Allocator + Copy> IntoIterator for &'a GenTrie<V, M, H, A> {
     type Item = (&'a Key<A>, &'a V);
 
     type IntoIter = Iter<'a, V, A>;

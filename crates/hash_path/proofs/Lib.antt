@@ -10,3 +10,4 @@ pub mod Maps
 pub mod Cutting
 pub mod MapCuts
 pub mod Walks
+pub mod Summaries

@@ -15,3 +15,6 @@ more i j e = ranked i j Greater (sym e)
 
 pub is_less : (i j : ℕ) → i < j → nat_cmp i j ≡ Less
 is_less i j h = sym (nat_cmp_is i j Less h)
+
+pub is_more : (i j : ℕ) → j < i → nat_cmp i j ≡ Greater
+is_more i j h = sym (nat_cmp_is i j Greater h)

@@ -1,6 +1,6 @@
 -- What the calls of a prefix do to its bits, and so to its indices.
-use Rattle.std.proofs.Common.{◌≡◌, ℕ, ◌+◌, ◌*◌, ◌%◌, ◌^◌, ◌<◌, ◌≤◌, ◌++◌, ◌∷◌, [], IsTrue, nat_eq, ◌↔◌, arith, sym, ◌∙◌, ap, add-one, eq-eqb, eqb-true}
-use Rattle.std.proofs.lemmas.Nat.{one_shl}
+use Rattle.std.proofs.Common.{◌≡◌, ◌≢◌, ℕ, zero, suc, ◌+◌, ◌-◌, ◌*◌, ◌/◌, ◌%◌, ◌^◌, ◌<◌, ◌≤◌, ◌++◌, ◌∷◌, [], IsTrue, nat_eq, ◌↔◌, arith, refl, sym, ◌∙◌, ap, subst, add-one, eq-eqb, eqb-true}
+use Rattle.std.proofs.lemmas.Nat.{one_shl, pow-add}
 use Rattle.std.proofs.Math.Nat.{mod-eq_of_lt}
 use Rattle.hash_path.specs.Path.{indices, last_index}
 use Rattle.hash_path.specs.PathLaws.{same_indices, same_bits, child_fits, child_below, indices-child}
@@ -39,3 +39,27 @@ pub child_is : (d bits index : ℕ) → d < 7 → index ≤ last_index d → bit
 child_is d bits index h l b =
     let fits = child_fits d bits index h l b in
     rw (shift_is d bits index h l b, add-one) (indices-child d bits index b fits.2)
+
+-- the bits after the first index
+pub rest_fits : (depth bits : ℕ) → depth ≢ 0 → (depth ≤ 7) × (bits < 2 ^ (5 * depth)) × (bits < 2 ^ 32)
+    → (depth - 1 ≤ 7) × (bits / 32 < 2 ^ (5 * (depth - 1))) × (bits / 32 < 2 ^ 32)
+rest_fits zero bits n h = absurd (n refl)
+rest_fits (suc d) bits n h =
+    let low = h.1 in
+    let e : 2 ^ (5 * suc d) ≡ 2 ^ (5 * d) * 32 = ap (λ x. 2 ^ x) (five d) ∙ pow-add 2 (5 * d) 5 in
+    let first = h.0 in
+    let last = h.2 in
+    let rest : bits / 32 < 2 ^ (5 * d) = omega arith in
+    (omega arith, subst (λ k. bits / 32 < 2 ^ (5 * k)) (less_one d) rest, omega arith)
+  where
+    less_one : (k : ℕ) → k ≡ suc k - 1
+    less_one k = omega arith
+    five : (d : ℕ) → 5 * suc d ≡ 5 * d + 5
+    five d = omega arith
+
+pub first_and_rest : (depth bits : ℕ) → depth ≢ 0 → indices depth bits ≡ bits % 32 ∷ indices (depth - 1) (bits / 32)
+first_and_rest zero bits n = absurd (n refl)
+first_and_rest (suc d) bits n = ap (λ k. bits % 32 ∷ indices k (bits / 32)) (less_one d)
+  where
+    less_one : (k : ℕ) → k ≡ suc k - 1
+    less_one k = omega arith

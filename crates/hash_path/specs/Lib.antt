@@ -6,3 +6,4 @@ pub mod Fan
 pub mod Rank
 pub mod Map
 pub mod Cut
+pub mod Summary

@@ -1,4 +1,4 @@
-ghost use Rattle.std.specs.Prelude.{◌≡◌, ◌+◌, ◌<◌, ◌≤◌, ◌⊎◌, ◌↔◌, [], ◌∷◌, ◌++◌, length, IsTrue, MatchOption};
+ghost use Rattle.std.specs.Prelude.{◌≡◌, ◌+◌, ◌<◌, ◌≤◌, ◌⊎◌, ◌↔◌, [], ◌∷◌, ◌++◌, length, IsTrue, MatchOption, IfSome};
 ghost use Rattle.hash_path.specs.Path.{index_in, indices, last_index};
 
 use std::marker::Model;
@@ -66,6 +66,21 @@ impl Prefix {
             depth: self.depth + 1,
             bits: self.bits + (index << (5 * self.depth)),
         })
+    }
+
+    /// The first index, and the prefix of those after it. None at the root.
+    pub fn split_first(self) -> Option<(u32, Prefix)>
+        ensures parts { MatchOption result (self ≡ []) (λ parts. self ≡ parts.0 ∷ parts.1) }
+        ensures bound { IfSome result (λ parts. parts.0 < 32) }
+    {
+        if self.depth == 0 {
+            return None;
+        }
+        let rest = Prefix {
+            depth: self.depth - 1,
+            bits: self.bits / 32,
+        };
+        Some((self.bits % 32, rest))
     }
 
     /// The number of indices, from 0 to 7.
