@@ -2,6 +2,8 @@
 ghost use Rattle.std.specs.Prelude.{bit_and};
 ghost use Rattle.hash_path.specs.Fnv1a.{fnv1a};
 
+mod walks;
+
 use super::*;
 use dots::{Key, Refusal};
 use hash_path::{Fnv1a, PathHash, SameHash};
