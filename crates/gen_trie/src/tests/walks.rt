@@ -50,3 +50,48 @@ fn a_frozen_map_walks_as_it_was(rt: HostRuntime) -> Result<(), Fail> {
     assert!(rt; is_walk(trie.iter(), &[(b"b", 9), (b"c", 3)]));
     Ok(())
 }
+
+// ---- many keys
+
+// Whether the first of two keys comes before the other, by the indices of their hashes and then by bytes.
+fn comes_before<H: PathHash>(hash: H, first: &Key, second: &Key) -> bool {
+    let a = hash.hash(first.bytes());
+    let b = hash.hash(second.bytes());
+    for depth in 0..7 {
+        if index_at(a, depth) != index_at(b, depth) {
+            return index_at(a, depth) < index_at(b, depth);
+        }
+    }
+    first.bytes() < second.bytes()
+}
+
+// Whether a plain map has the value at the number that these bytes spell.
+fn has(plain: &Plain, key: &Key, value: u64) -> bool {
+    match key.bytes().first_chunk::<8>() {
+        None => false,
+        Some(bytes) => plain.get(&u64::from_be_bytes(*bytes)) == Some(&value),
+    }
+}
+
+// Whether a frozen map walks through just what the plain map has, in order.
+pub(super) fn agree<H: PathHash>(
+    hash: H,
+    frozen: &Frozen<u64, NoSummary, H>,
+    plain: &Plain,
+) -> bool {
+    let mut left = plain.len();
+    let mut last: Option<&Key> = None;
+    for (key, value) in frozen {
+        if left == 0 || !has(plain, key, *value) {
+            return false;
+        }
+        if let Some(before) = last
+            && !comes_before(hash, before, key)
+        {
+            return false;
+        }
+        left -= 1;
+        last = Some(key);
+    }
+    left == 0
+}
