@@ -18,7 +18,8 @@ use Rattle.gen_trie.specs.declared.node.Shape.TheVariants.{Branch, Keys}
 use Rattle.gen_trie.specs.declared.node.Slot.{Slot}
 use Rattle.gen_trie.specs.declared.node.Slot.TheVariants.{One, Many}
 use Rattle.gen_trie.specs.Shapes.{children, child, listed, height_and_entries, StandsBelow, IsBranch, IsCanonical}
-use Rattle.gen_trie.specs.Left.{by_key, item, slots_left, levels_left, LevelsStand, NoneBelow}
+use Rattle.hash_path.specs.Map.{by_key}
+use Rattle.gen_trie.specs.Left.{item, slots_left, levels_left, LevelsStand, NoneBelow}
 
 module _ {V : Type 0} where
   by_key-under : (below i : ℕ) (es rest : List (List ℕ × V)) → by_key (suc below) (under i es ++ rest) ≡ by_key below es ++ by_key (suc below) rest

@@ -5,9 +5,12 @@ use Rattle.std.proofs.lemmas.List.{map-append}
 use Rattle.std.proofs.Math.Seq.{take-suc}
 use Rattle.hash_path.specs.Word.{word, digit}
 use Rattle.hash_path.specs.Fan.{fan, Rise, at}
-use Rattle.hash_path.specs.Summary.{Calls, sums, by_key, summary_of, summary_at}
+use Rattle.hash_path.specs.Map.{as_map, by_key, by_path}
+use Rattle.hash_path.specs.Summary.{Calls, sums, summary_of, summary_at}
 use Rattle.hash_path.proofs.Summaries.{sums_append, summary_list, summary_none, summary_child}
 use Rattle.hash_path.proofs.Words.{key_in-word}
+use Rattle.hash_path.proofs.Walks.{by_path_is}
+use Rattle.gen_trie.specs.Root.{root_entries, IsTrie}
 use Rattle.std.specs.declared.sync.Arc.{Arc}
 use Rattle.gen_trie.specs.declared.entry.Entry.{Entry}
 use Rattle.gen_trie.specs.declared.node.Slot.{Slot}
@@ -62,3 +65,9 @@ module _ {V M : Type 0} (c : Calls V M) where
       → at i cs ≡ es → r ≡ summary_at c p below es → r ≡ summary_at c (i ∷ p) node.0 node.1
   under_branch node i p below cs es r e rise is so =
       so ∙ ap (summary_at c p below) (sym is) ∙ sym (summary_child c i p below cs rise) ∙ ap (λ n. summary_at c (i ∷ p) n.0 n.1) (sym e)
+
+-- ---- at the root of a trie
+
+module _ {V A M : Type 0} (c : Calls V M) (f : List ℕ → ℕ) (root : Option (Slot V A)) (count : ℕ) (trie : IsTrie f root count) where
+  pub at_root : (prefix : List ℕ) → summary_at c prefix 7 (root_entries root) ≡ summary_at c prefix 7 (by_path f (as_map (root_entries root)))
+  at_root prefix = ap (summary_at c prefix 7) (sym (by_path_is f (root_entries root) trie.hashed (let r = trie.root_is in r.sorted)))

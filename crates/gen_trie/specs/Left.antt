@@ -5,15 +5,11 @@ use Rattle.std.specs.Borrow.{Bor}
 use Rattle.std.specs.List.{All}
 use Rattle.std.specs.declared.option.Option.{Option}
 use Rattle.std.specs.declared.option.Option.TheVariants.{None, Some}
-use Rattle.hash_path.specs.Word.{key_in}
+use Rattle.hash_path.specs.Map.{by_key}
 use Rattle.gen_trie.specs.declared.entry.Entry.{Entry}
 use Rattle.gen_trie.specs.declared.iter.Rest.{Rest}
 use Rattle.gen_trie.specs.declared.node.Slot.{Slot}
 use Rattle.gen_trie.specs.Shapes.{child, listed, StandsBelow}
-
--- entries by word at a node of this height, by key
-abbrev pub by_key : {V : Type 0} → ℕ → List (List ℕ × V) → List (List ℕ × V)
-by_key height = map (λ e. (key_in height e.0, e.1))
 
 module _ {V A : Type 0} where
   -- the key and the value of an entry

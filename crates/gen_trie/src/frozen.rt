@@ -1,7 +1,8 @@
 ghost use Rattle.std.specs.Prelude.{◌≡◌, IfOk, IsOkUnless};
 ghost use Rattle.std.specs.Option.{option_map};
 ghost use Rattle.std.specs.FinMap as finite;
-ghost use Rattle.hash_path.specs.Map.{as_map, walk};
+ghost use Rattle.hash_path.specs.Map.{as_map, by_path, walk};
+ghost use Rattle.hash_path.specs.Summary.{summary_at};
 ghost use Rattle.gen_trie.specs.Root.{root_entries, IsTrie};
 ghost use Rattle.dots.specs.declared.refusal.Refusal.TheVariants.{OutOfMemory};
 
@@ -9,9 +10,10 @@ use crate::iter::Iter;
 use crate::node::Slot;
 use crate::root::{look_root, share_root};
 use crate::summary::Summary;
+use crate::summing::summary_below;
 use crate::trie::GenTrie;
 use dots::{Key, Refusal};
-use hash_path::PathHash;
+use hash_path::{PathHash, Prefix};
 use std::alloc::{Allocator, Global};
 use std::marker::{Model, PhantomData};
 
@@ -135,6 +137,21 @@ impl<V: Drop, M: Summary<V>, H: PathHash, A: Allocator + Copy> Frozen<V, M, H, A
         let root = share_root(&self.root)?;
         let generation = self.generation.saturating_add(1);
         Ok(GenTrie::of(self.alloc, self.hash, generation, self.count, root))
+    }
+}
+
+impl<V, M: Summary<V>, H: PathHash, A: Allocator + Copy> Frozen<V, M, H, A> {
+    /// The summary of the keys whose paths begin with a prefix, by recursion over their entries. None exactly where there
+    /// are no such keys. Nodes keep no summaries yet: it visits all nodes under the prefix, and takes a list of at most 32
+    /// summaries at each level.
+    pub fn summary(&self, prefix: Prefix) -> Result<Option<M>, Refusal>
+        ensures ok { IfOk result (λ summary. summary ≡ summary_at M.calls prefix 7 (by_path (H.hash_of self.now.0) self.now.1)) }
+        ensures err { IsOkUnless result OutOfMemory }
+    {
+        match &self.root {
+            None => Ok(None),
+            Some(slot) => summary_below(self.alloc, slot, 7, prefix),
+        }
     }
 }
 

@@ -1,9 +1,10 @@
 ghost use Rattle.std.specs.Prelude.{◌≡◌, ◌<◌, suc, [], ◌∷◌, ◌++◌, MatchOption};
 ghost use Rattle.std.specs.List.{All};
 ghost use Rattle.std.specs.Iterator.{YieldsFirstBy, item_count};
+ghost use Rattle.hash_path.specs.Map.{by_key};
 ghost use Rattle.gen_trie.specs.Shapes.{child, StandsBelow};
 ghost use Rattle.gen_trie.specs.Root.{root_entries, RootStands};
-ghost use Rattle.gen_trie.specs.Left.{by_key, item, slots_left, levels_left, left, LevelsStand, RestStands, NoneBelow, IsPast};
+ghost use Rattle.gen_trie.specs.Left.{item, slots_left, levels_left, left, LevelsStand, RestStands, NoneBelow, IsPast};
 
 use crate::entry::Entry;
 use crate::node::{Shape, Slot};

@@ -2,6 +2,9 @@
 ghost use Rattle.std.specs.Prelude.{bit_and};
 ghost use Rattle.hash_path.specs.Fnv1a.{fnv1a};
 
+mod summaries;
+mod walks;
+
 use super::*;
 use dots::{Key, Refusal};
 use hash_path::{Fnv1a, PathHash, SameHash};
@@ -223,7 +226,7 @@ fn agree<H: PathHash>(
     Ok(same)
 }
 
-// 20,000 writes with a freeze between, whose map is compared at the end.
+// 20,000 writes with a freeze after each 2,000, whose maps are compared at the end.
 fn writes_agree<H: PathHash>(
     rt: &impl Abort,
     alloc: Global,
@@ -232,12 +235,15 @@ fn writes_agree<H: PathHash>(
 ) -> Result<(), Fail> {
     let mut trie = GenTrie::new(alloc, hash);
     let mut plain = Plain::new(alloc);
-    assert!(rt; run(alloc, &mut trie, &mut plain, keys, 1, 2000)?);
-    let frozen = trie.freeze()?;
-    let then = plain.clone()?;
-    assert!(rt; run(alloc, &mut trie, &mut plain, keys, 2, 18_000)?);
-    assert!(rt; agree(alloc, &frozen, &then, keys)?);
-    assert!(rt; agree(alloc, &trie.freeze()?, &plain, keys)?);
+    let mut kept = Vec::new(alloc);
+    for round in 1..11 {
+        assert!(rt; run(alloc, &mut trie, &mut plain, keys, round, 2000)?);
+        kept.push((trie.freeze()?, plain.clone()?))?;
+    }
+    for (frozen, then) in &kept {
+        assert!(rt; agree(alloc, frozen, then, keys)?);
+        assert!(rt; walks::agree(hash, frozen, then));
+    }
     Ok(())
 }
 

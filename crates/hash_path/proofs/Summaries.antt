@@ -6,7 +6,8 @@ use Rattle.std.specs.declared.cmp.Ordering.TheVariants.{Less, Equal, Greater}
 use Rattle.std.specs.Ordering.{nat_cmp}
 use Rattle.std.specs.FinMap.Entries.{by_order}
 use Rattle.hash_path.specs.Fan.{under, fan, Rise, at}
-use Rattle.hash_path.specs.Summary.{Calls, under_index, by_key, one_present, present, summary_of, summary_at, sums}
+use Rattle.hash_path.specs.Map.{by_key}
+use Rattle.hash_path.specs.Summary.{Calls, under_index, one_present, present, summary_of, summary_at, sums}
 use Rattle.hash_path.proofs.Orders.{less, same, more, is_more}
 
 module _ {V : Type 0} where

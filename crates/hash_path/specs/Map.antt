@@ -1,6 +1,6 @@
 -- What a trie stands for: a finite map from keys to values. Its entries stand by path, and the map is that of their
 -- keys; the walk of a map is its entries in the order of their paths. Of this project.
-use Rattle.std.specs.Prelude.{◌≡◌, ℕ, List, [], ◌∷◌}
+use Rattle.std.specs.Prelude.{◌≡◌, ℕ, List, [], ◌∷◌, map}
 use Rattle.std.specs.FinMap as finite
 use Rattle.hash_path.specs.Word.{order, word, key_in}
 
@@ -16,6 +16,10 @@ key_of = key_in 7
 abbrev pub HashedBy : {V : Type 0} → (List ℕ → ℕ) → List (List ℕ × V) → Type 0
 HashedBy hash_of [] = Unit {0}
 HashedBy hash_of (e ∷ es) = (e.0 ≡ path hash_of (key_of e.0)) × HashedBy hash_of es
+
+-- entries by word at a node of this height, by key
+abbrev pub by_key : {V : Type 0} → ℕ → List (List ℕ × V) → List (List ℕ × V)
+by_key height = map (λ e. (key_in height e.0, e.1))
 
 -- the entries by key, and their map
 abbrev pub keyed : {V : Type 0} → List (List ℕ × V) → List (List ℕ × V)

@@ -1,9 +1,10 @@
 -- The summary of entries by word, as three calls make it: of one key, of keys with equal hashes, and of a branch from
 -- the summaries of its children. It is told by the entries alone, so equal maps have equal summaries. Of this project.
-use Rattle.std.specs.Prelude.{ℕ, zero, suc, List, [], ◌∷◌, cond, nat_eq, get_or, drop, map}
+use Rattle.std.specs.Prelude.{ℕ, zero, suc, List, [], ◌∷◌, cond, nat_eq, get_or, drop}
 use Rattle.std.specs.declared.option.Option.{Option}
 use Rattle.std.specs.declared.option.Option.TheVariants.{None, Some}
 use Rattle.hash_path.specs.Word.{key_in}
+use Rattle.hash_path.specs.Map.{by_key}
 
 -- the three calls. A list is by key bytes, the children of a branch are by index
 pub record Calls (V M : Type 0) : Type 0 where
@@ -15,10 +16,6 @@ pub record Calls (V M : Type 0) : Type 0 where
 abbrev pub under_index : {V : Type 0} → ℕ → List (List ℕ × V) → List (List ℕ × V)
 under_index i [] = []
 under_index i (e ∷ es) = cond (nat_eq i (get_or e.0 0 0)) ((drop 1 e.0, e.1) ∷ under_index i es) (under_index i es)
-
--- entries by word at a node of this height, by key
-abbrev pub by_key : {V : Type 0} → ℕ → List (List ℕ × V) → List (List ℕ × V)
-by_key height = map (λ e. (key_in height e.0, e.1))
 
 -- of so many indices from a first one on, those that have a summary
 abbrev pub one_present : {M : Type 0} → ℕ → Option M → List (ℕ × M) → List (ℕ × M)

@@ -1,0 +1,23 @@
+use Rattle.std.proofs.Common.{sym, ◌∙◌, ap}
+use Rattle.hash_path.specs.Map.{by_path}
+use Rattle.hash_path.specs.Summary.{summary_at}
+use Rattle.hash_path.proofs.Summaries.{summary_none}
+use Rattle.gen_trie.specs.Root.{root_entries}
+use Rattle.gen_trie.proofs.Puts.{if_ok_so}
+use Rattle.gen_trie.proofs.Sums.{at_root}
+use Rattle.gen_trie.proofs.frozen.Frozen.summary.Goals as goal
+
+pub returns-in-None-clause-ok : goal.returns-in-None-clause-ok
+returns-in-None-clause-ok g c =
+    sym (summary_none g.M.Summary.calls c.args.prefix 7)
+    ∙ ap (λ root. summary_at g.M.Summary.calls c.args.prefix 7 (root_entries root)) (sym c.in-None.is)
+    ∙ at_root g.M.Summary.calls (g.H.PathHash.hash_of c.self.inside.hash) c.self.inside.root c.self.inside.count c.self.invariant c.args.prefix
+    ∙ ap (λ x. summary_at g.M.Summary.calls c.args.prefix 7 (by_path (g.H.PathHash.hash_of x.0) x.1)) c.self.view_is
+
+pub returns-in-Some-clause-ok : goal.returns-in-Some-clause-ok
+returns-in-Some-clause-ok g c =
+    if_ok_so c.summary_below.result
+    (λ r so. so ∙ ap (λ root. summary_at g.M.Summary.calls c.args.prefix 7 (root_entries root)) (sym c.in-Some.is)
+    ∙ at_root g.M.Summary.calls (g.H.PathHash.hash_of c.self.inside.hash) c.self.inside.root c.self.inside.count c.self.invariant c.args.prefix
+    ∙ ap (λ x. summary_at g.M.Summary.calls c.args.prefix 7 (by_path (g.H.PathHash.hash_of x.0) x.1)) c.self.view_is)
+    c.summary_below.ensures.ok

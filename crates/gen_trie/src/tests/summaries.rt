@@ -1,0 +1,96 @@
+// What a summary is made of: a kind of call, and a count.
+ghost use Rattle.std.specs.Prelude.{length};
+
+use super::*;
+use hash_path::Prefix;
+use std::alloc::Allocator;
+use std::sync::Arc;
+
+#[derive(Clone, Copy, Debug, PartialEq)]
+enum Mark {
+    // The value of one key.
+    Leaf(u64),
+    // How many keys of equal hashes.
+    List(usize),
+    // How many children.
+    Branch(usize),
+}
+
+impl Summary<u64> for Mark {
+    ghost use Rattle.gen_trie.specs.declared.tests.summaries.Mark.TheVariants.{Leaf, List, Branch};
+
+    ghost calls = { record { leaf = λ key value. Leaf value; list = λ entries. List (length entries); branch = λ children. Branch (length children) } };
+
+    fn leaf(_key: &[u8], value: &u64) -> Mark {
+        Mark::Leaf(*value)
+    }
+
+    fn list<A: Allocator>(entries: &[Arc<Entry<u64, A>, A>]) -> Mark {
+        Mark::List(entries.len())
+    }
+
+    fn branch(children: &[(u32, Mark)]) -> Mark {
+        Mark::Branch(children.len())
+    }
+}
+
+// A trie with the values 1, 2 and 3 at the keys a, b and c, frozen.
+fn frozen_three<H: PathHash>(alloc: Global, hash: H) -> Result<Frozen<u64, Mark, H>, Refusal> {
+    let mut trie = GenTrie::new(alloc, hash);
+    trie.insert(Key::new(alloc, b"a")?, 1)?;
+    trie.insert(Key::new(alloc, b"b")?, 2)?;
+    trie.insert(Key::new(alloc, b"c")?, 3)?;
+    trie.freeze()
+}
+
+// The prefix of these indices, or the root where they are no prefix.
+fn prefix_of(indices: &[u32]) -> Prefix {
+    let mut prefix = Prefix::root();
+    for index in indices {
+        prefix = prefix.child(*index).unwrap_or(Prefix::root());
+    }
+    prefix
+}
+
+#[test]
+fn a_branch_counts_its_children(rt: HostRuntime) -> Result<(), Fail> {
+    let frozen = frozen_three(rt.alloc(), Fnv1a)?;
+    assert_eq!(rt; frozen.summary(Prefix::root())?, Some(Mark::Branch(3)));
+    Ok(())
+}
+
+#[test]
+fn a_key_alone_is_a_leaf_at_each_prefix_of_its_path(rt: HostRuntime) -> Result<(), Fail> {
+    let frozen = frozen_three(rt.alloc(), Fnv1a)?;
+    assert_eq!(rt; frozen.summary(prefix_of(&[12]))?, Some(Mark::Leaf(1)));
+    assert_eq!(rt; frozen.summary(prefix_of(&[12, 9]))?, Some(Mark::Leaf(1)));
+    assert_eq!(rt; frozen.summary(prefix_of(&[12, 8]))?, None);
+    Ok(())
+}
+
+#[test]
+fn keys_of_equal_hashes_are_a_list(rt: HostRuntime) -> Result<(), Fail> {
+    let frozen = frozen_three(rt.alloc(), SameHash(0))?;
+    assert_eq!(rt; frozen.summary(Prefix::root())?, Some(Mark::Branch(1)));
+    assert_eq!(rt;
+        frozen.summary(prefix_of(&[0, 0, 0, 0, 0, 0, 0]))?,
+        Some(Mark::List(3))
+    );
+    Ok(())
+}
+
+#[test]
+fn an_empty_map_has_no_summary(rt: HostRuntime) -> Result<(), Fail> {
+    let frozen: Frozen<u64, NoSummary, Fnv1a> = Frozen::new(rt.alloc(), Fnv1a);
+    assert_eq!(rt; frozen.summary(Prefix::root())?, None);
+    Ok(())
+}
+
+#[test]
+fn no_summary_tells_that_there_are_keys(rt: HostRuntime) -> Result<(), Fail> {
+    let mut trie = three(rt.alloc(), Fnv1a)?;
+    let frozen = trie.freeze()?;
+    assert_eq!(rt; frozen.summary(prefix_of(&[5]))?, Some(NoSummary));
+    assert_eq!(rt; frozen.summary(prefix_of(&[6]))?, None);
+    Ok(())
+}

@@ -1,0 +1,97 @@
+use super::*;
+use hash_path::index_at;
+
+// Whether a walk gives these keys and values, and then nothing.
+fn is_walk(mut walk: Iter<'_, u64>, expected: &[(&[u8], u64)]) -> bool {
+    for (key, value) in expected {
+        match walk.next() {
+            Some((k, v)) if k.bytes() == *key && v == value => {}
+            _ => return false,
+        }
+    }
+    walk.next().is_none()
+}
+
+#[test]
+fn a_walk_goes_by_the_lowest_bits_of_the_hash(rt: HostRuntime) -> Result<(), Fail> {
+    let trie = three(rt.alloc(), Fnv1a)?;
+    assert!(rt; is_walk(trie.iter(), &[(b"b", 2), (b"a", 1), (b"c", 3)]));
+    Ok(())
+}
+
+#[test]
+fn a_walk_of_equal_hashes_goes_by_bytes(rt: HostRuntime) -> Result<(), Fail> {
+    let alloc = rt.alloc();
+    let mut trie = three(alloc, SameHash(0))?;
+    assert!(rt; is_walk(trie.iter(), &[(b"a", 1), (b"b", 2), (b"c", 3)]));
+    taken(alloc, &mut trie, b"b")?;
+    taken(alloc, &mut trie, b"c")?;
+    assert!(rt; is_walk(trie.iter(), &[(b"a", 1)]));
+    Ok(())
+}
+
+#[test]
+fn a_walk_of_no_keys_ends_at_once(rt: HostRuntime) -> Result<(), Fail> {
+    let frozen: Frozen<u64, NoSummary, Fnv1a> = Frozen::new(rt.alloc(), Fnv1a);
+    let mut walk = frozen.iter();
+    assert!(rt; walk.next().is_none());
+    assert!(rt; walk.next().is_none());
+    Ok(())
+}
+
+#[test]
+fn a_frozen_map_walks_as_it_was(rt: HostRuntime) -> Result<(), Fail> {
+    let alloc = rt.alloc();
+    let mut trie = three(alloc, Fnv1a)?;
+    let frozen = trie.freeze()?;
+    trie.insert(Key::new(alloc, b"b")?, 9)?;
+    taken(alloc, &mut trie, b"a")?;
+    assert!(rt; is_walk(frozen.iter(), &[(b"b", 2), (b"a", 1), (b"c", 3)]));
+    assert!(rt; is_walk(trie.iter(), &[(b"b", 9), (b"c", 3)]));
+    Ok(())
+}
+
+// ---- many keys
+
+// Whether the first of two keys comes before the other, by the indices of their hashes and then by bytes.
+fn comes_before<H: PathHash>(hash: H, first: &Key, second: &Key) -> bool {
+    let a = hash.hash(first.bytes());
+    let b = hash.hash(second.bytes());
+    for depth in 0..7 {
+        if index_at(a, depth) != index_at(b, depth) {
+            return index_at(a, depth) < index_at(b, depth);
+        }
+    }
+    first.bytes() < second.bytes()
+}
+
+// Whether a plain map has the value at the number that these bytes spell.
+fn has(plain: &Plain, key: &Key, value: u64) -> bool {
+    match key.bytes().first_chunk::<8>() {
+        None => false,
+        Some(bytes) => plain.get(&u64::from_be_bytes(*bytes)) == Some(&value),
+    }
+}
+
+// Whether a frozen map walks through just what the plain map has, in order.
+pub(super) fn agree<H: PathHash>(
+    hash: H,
+    frozen: &Frozen<u64, NoSummary, H>,
+    plain: &Plain,
+) -> bool {
+    let mut left = plain.len();
+    let mut last: Option<&Key> = None;
+    for (key, value) in frozen {
+        if left == 0 || !has(plain, key, *value) {
+            return false;
+        }
+        if let Some(before) = last
+            && !comes_before(hash, before, key)
+        {
+            return false;
+        }
+        left -= 1;
+        last = Some(key);
+    }
+    left == 0
+}
