@@ -23,7 +23,7 @@ module _ {V : Type 0} (f : List ℕ → ℕ) where
       λ i. cond (tied_path f k e.0 i) (Some e.1) (rest i)
 
   -- nothing is found at a word that is no key's path
-  find_off : (q : List ℕ) (es : List (List ℕ × V)) → HashedBy f es → eq_by_cmp order q (path f (key_of q)) ≡ false → find order q es ≡ None
+  pub find_off : (q : List ℕ) (es : List (List ℕ × V)) → HashedBy f es → eq_by_cmp order q (path f (key_of q)) ≡ false → find order q es ≡ None
   find_off q [] h no_path = refl
   find_off q (e ∷ es) h no_path = step (eq_by_cmp order q e.0) refl (find_off q es h.1 no_path)
     where
