@@ -1,5 +1,5 @@
 -- The summaries of a branch's children, one after another.
-use Rattle.std.proofs.Common.{◌≡◌, ◌≢◌, ℕ, suc, ◌+◌, ◌≤◌, ◌<◌, List, [], ◌∷◌, ◌++◌, length, take, get_or, map, cond, None, Some, arith, refl, ne_eqb, sym, ◌∙◌, ap, subst}
+use Rattle.std.proofs.Common.{◌≡◌, ◌≢◌, ◌↔◌, ℕ, suc, ◌+◌, ◌≤◌, ◌<◌, List, [], ◌∷◌, ◌++◌, length, take, get_or, map, cond, None, Some, arith, refl, ne_eqb, sym, ◌∙◌, ap, subst}
 use Rattle.std.specs.declared.option.Option.{Option}
 use Rattle.std.proofs.lemmas.List.{map-append}
 use Rattle.std.proofs.Math.Seq.{take-suc}
@@ -9,6 +9,10 @@ use Rattle.hash_path.specs.Map.{as_map, by_key, by_path}
 use Rattle.hash_path.specs.Summary.{Calls, sums, summary_of, summary_at}
 use Rattle.hash_path.proofs.Summaries.{sums_append, summary_list, summary_none, summary_child}
 use Rattle.hash_path.proofs.Words.{key_in-word}
+use Rattle.std.specs.FinMap as finite
+use Rattle.hash_path.specs.Path.{indices}
+use Rattle.hash_path.proofs.Absences.{none_exactly}
+use Rattle.hash_path.proofs.Maps.{get-as_map}
 use Rattle.hash_path.proofs.Walks.{by_path_is}
 use Rattle.gen_trie.specs.Root.{root_entries, IsTrie}
 use Rattle.std.specs.declared.sync.Arc.{Arc}
@@ -71,3 +75,14 @@ module _ {V M : Type 0} (c : Calls V M) where
 module _ {V A M : Type 0} (c : Calls V M) (f : List ℕ → ℕ) (root : Option (Slot V A)) (count : ℕ) (trie : IsTrie f root count) where
   pub at_root : (prefix : List ℕ) → summary_at c prefix 7 (root_entries root) ≡ summary_at c prefix 7 (by_path f (as_map (root_entries root)))
   at_root prefix = ap (summary_at c prefix 7) (sym (by_path_is f (root_entries root) trie.hashed (let r = trie.root_is in r.sorted)))
+
+  -- no summary is there exactly where no key's path begins with the prefix
+  pub none_at : (prefix : List ℕ) (r : Option M) → length prefix ≤ 7 → r ≡ summary_at c prefix 7 (root_entries root)
+      → (r ≡ None) ↔ ((key : List ℕ) → indices (length prefix) (f key) ≡ prefix → finite.get (as_map (root_entries root)) key ≡ None)
+  none_at prefix r short so =
+      let exactly = none_exactly c f prefix (root_entries root) short trie.hashed in
+      (λ e. exactly.0 (sym so ∙ e), λ all. so ∙ exactly.1 all)
+
+module _ {V A M : Type 0} (f : List ℕ → ℕ) (root : Option (Slot V A)) where
+  pub none_nowhere : (prefix : List ℕ) → root ≡ None → (◌≡◌ {A = Option M} None None) ↔ ((key : List ℕ) → indices (length prefix) (f key) ≡ prefix → finite.get (as_map (root_entries root)) key ≡ None)
+  none_nowhere prefix e = (λ same key covers. ap (λ r. finite.get (as_map (root_entries r)) key) e ∙ get-as_map f key [] tt, λ all. refl)

@@ -1,7 +1,9 @@
-ghost use Rattle.std.specs.Prelude.{◌≡◌, IfOk, IsOkUnless};
+ghost use Rattle.std.specs.Prelude.{◌≡◌, ◌↔◌, ℕ, List, length, IfOk, IsOkUnless};
+ghost use Rattle.std.specs.declared.option.Option.TheVariants.{None};
 ghost use Rattle.std.specs.Option.{option_map};
 ghost use Rattle.std.specs.FinMap as finite;
 ghost use Rattle.hash_path.specs.Map.{as_map, by_path, walk};
+ghost use Rattle.hash_path.specs.Path.{indices};
 ghost use Rattle.hash_path.specs.Summary.{summary_at};
 ghost use Rattle.gen_trie.specs.Root.{root_entries, IsTrie};
 ghost use Rattle.dots.specs.declared.refusal.Refusal.TheVariants.{OutOfMemory};
@@ -146,6 +148,7 @@ impl<V, M: Summary<V>, H: PathHash, A: Allocator + Copy> Frozen<V, M, H, A> {
     /// summaries at each level.
     pub fn summary(&self, prefix: Prefix) -> Result<Option<M>, Refusal>
         ensures ok { IfOk result (λ summary. summary ≡ summary_at M.calls prefix 7 (by_path (H.hash_of self.now.0) self.now.1)) }
+        ensures none { IfOk result (λ summary. (summary ≡ None) ↔ ((key : List ℕ) → indices (length prefix) (H.hash_of self.now.0 key) ≡ prefix → finite.get self.now.1 key ≡ None)) }
         ensures err { IsOkUnless result OutOfMemory }
     {
         match &self.root {

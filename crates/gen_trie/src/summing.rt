@@ -90,6 +90,7 @@ pub(crate) fn summary_below<V, A: Allocator + Copy, M: Summary<V>>(
 ) -> Result<Option<M>, Refusal>
     requires fits { StandsBelow height slot.now }
     requires height { height ≤ 7 }
+    ensures short { length prefix ≤ 7 }
     ensures ok { IfOk result (λ summary. summary ≡ summary_at M.calls prefix height (child height slot.now).1) }
     ensures err { IsOkUnless result OutOfMemory }
 {

@@ -72,6 +72,7 @@ impl Prefix {
     pub fn split_first(self) -> Option<(u32, Prefix)>
         ensures parts { MatchOption result (self ≡ []) (λ parts. self ≡ parts.0 ∷ parts.1) }
         ensures bound { IfSome result (λ parts. parts.0 < 32) }
+        ensures length { length self ≤ 7 }
     {
         if self.depth == 0 {
             return None;
