@@ -1,6 +1,6 @@
 -- What an iterator has left of the walk: of a list of keys with equal hashes, of the branches on the way down to it, the
 -- lowest first, and of the root before the first call. Of this project.
-use Rattle.std.specs.Prelude.{◌≡◌, ℕ, zero, suc, List, [], ◌∷◌, ◌++◌, map}
+use Rattle.std.specs.Prelude.{◌≡◌, ℕ, zero, suc, List, [], ◌∷◌, ◌++◌}
 use Rattle.std.specs.Borrow.{Bor}
 use Rattle.std.specs.List.{All}
 use Rattle.std.specs.declared.option.Option.{Option}

@@ -1,0 +1,6 @@
+// The calls that bench/speed measures, for a program in Rust. Each does its work so many times, and answers a number that
+// depends on the work, or 2^64 - 1 where memory ran out or the bytes are no message.
+#![tactic(auto)]
+
+mod tries;
+mod wire;

@@ -1,0 +1,87 @@
+use dots::{Key, Refusal};
+use gen_trie::{Frozen, GenTrie, NoSummary};
+use hash_path::Fnv1a;
+use std::alloc::Global;
+
+type Trie = GenTrie<u64, NoSummary, Fnv1a>;
+
+fn key_of(alloc: Global, number: u64) -> Result<Key, Refusal> {
+    Key::new(alloc, &number.to_be_bytes())
+}
+
+fn insert_all(alloc: Global, trie: &mut Trie, keys: &[u64]) -> Result<(), Refusal> {
+    for number in keys {
+        trie.insert(key_of(alloc, *number)?, *number)?;
+    }
+    Ok(())
+}
+
+fn found(alloc: Global, trie: &Trie, keys: &[u64]) -> Result<u64, Refusal> {
+    let mut count: u64 = 0;
+    for number in keys {
+        let key = key_of(alloc, *number)?;
+        if trie.lookup(&key).is_some() {
+            count = count.wrapping_add(1);
+        }
+    }
+    Ok(count)
+}
+
+fn remove_all(alloc: Global, trie: &mut Trie, keys: &[u64]) -> Result<(), Refusal> {
+    for number in keys {
+        let key = key_of(alloc, *number)?;
+        trie.remove(&key)?;
+    }
+    Ok(())
+}
+
+fn sum_of_walk(trie: &Trie) -> u64 {
+    let mut sum: u64 = 0;
+    for (_, value) in trie.iter() {
+        sum = sum.wrapping_add(*value);
+    }
+    sum
+}
+
+// Writes each key with a frozen map beside it.
+fn write_beside(alloc: Global, trie: &mut Trie, keys: &[u64]) -> Result<u64, Refusal> {
+    let frozen: Frozen<u64, NoSummary, Fnv1a> = trie.freeze()?;
+    insert_all(alloc, trie, keys)?;
+    Ok(frozen.size())
+}
+
+// Freezes as often as there are keys.
+fn freeze_often(trie: &mut Trie, keys: &[u64]) -> Result<u64, Refusal> {
+    let mut sum: u64 = 0;
+    for _ in keys {
+        let frozen: Frozen<u64, NoSummary, Fnv1a> = trie.freeze()?;
+        sum = sum.wrapping_add(frozen.size());
+    }
+    Ok(sum)
+}
+
+fn steps(alloc: Global, keys: &[u64], step: u32) -> Result<u64, Refusal> {
+    let mut trie: Trie = GenTrie::new(alloc, Fnv1a);
+    insert_all(alloc, &mut trie, keys)?;
+    match step {
+        1 => found(alloc, &trie, keys),
+        2 => {
+            remove_all(alloc, &mut trie, keys)?;
+            Ok(trie.size())
+        }
+        3 => Ok(sum_of_walk(&trie)),
+        4 => freeze_often(&mut trie, keys),
+        5 => write_beside(alloc, &mut trie, keys),
+        _ => Ok(trie.size()),
+    }
+}
+
+/// Inserts the keys, eight bytes each, into a new trie, and then by the step: 0 nothing, 1 looks each up, 2 removes each,
+/// 3 walks, 4 freezes once for each key, 5 freezes and writes each again.
+#[unsafe(no_mangle)]
+pub extern "C" fn measure_trie(alloc: Global, keys: &[u64], step: u32) -> u64 {
+    match steps(alloc, keys, step) {
+        Ok(number) => number,
+        Err(_) => u64::MAX,
+    }
+}
