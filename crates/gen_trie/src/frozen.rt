@@ -138,7 +138,8 @@ impl<V: Drop, M: Summary<V>, H: PathHash, A: Allocator + Copy> Frozen<V, M, H, A
     }
 }
 
-impl<'a, V, M: Summary<V>, H: PathHash, A: Allocator + Copy> IntoIterator for &'a Frozen<V, M, H, A> {
+impl<'a, V, M: Summary<V>, H: PathHash, A: Allocator + Copy> IntoIterator
+    for &'a Frozen<V, M, H, A> {
     type Item = (&'a Key<A>, &'a V);
 
     type IntoIter = Iter<'a, V, A>;

@@ -176,7 +176,8 @@ impl<V: Drop, M: Summary<V>, H: PathHash, A: Allocator + Copy> GenTrie<V, M, H, 
     }
 }
 
-impl<'a, V, M: Summary<V>, H: PathHash, A: Allocator + Copy> IntoIterator for &'a GenTrie<V, M, H, A> {
+impl<'a, V, M: Summary<V>, H: PathHash, A: Allocator + Copy> IntoIterator
+    for &'a GenTrie<V, M, H, A> {
     type Item = (&'a Key<A>, &'a V);
 
     type IntoIter = Iter<'a, V, A>;
