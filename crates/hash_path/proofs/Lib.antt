@@ -11,3 +11,4 @@ pub mod Cutting
 pub mod MapCuts
 pub mod Walks
 pub mod Summaries
+pub mod Paths
