@@ -9,9 +9,9 @@ unsafe extern "C" {
     fn measure_encode(bytes: *const u8, length: usize, times: u32) -> u64;
 }
 
-/// Seconds of the fastest of three runs.
-fn seconds(mut run: impl FnMut()) -> f64 {
-    (0..3)
+/// Seconds of the fastest of so many runs.
+fn seconds(runs: usize, mut run: impl FnMut()) -> f64 {
+    (0..runs)
         .map(|_| {
             let begin = Instant::now();
             run();
@@ -38,7 +38,14 @@ fn trie(keys: &[u64], step: u32) -> u64 {
     number
 }
 
-const STEPS: [&str; 6] = ["insert", "lookup", "remove", "iterate", "freeze", "write after a freeze"];
+const STEPS: [&str; 6] = [
+    "insert",
+    "lookup",
+    "remove",
+    "iterate",
+    "freeze",
+    "write after a freeze",
+];
 
 /// The same steps with a map of std, where a freeze is a clone. One clone is timed, and not one for each key.
 macro_rules! steps_of {
@@ -49,10 +56,17 @@ macro_rules! steps_of {
         }
         let begin = Instant::now();
         match $step {
-            1 => $keys.iter().for_each(|key| assert!(map.get(key.to_be_bytes().to_vec().as_slice()).is_some())),
-            2 => $keys.iter().for_each(|key| assert!(map.remove(key.to_be_bytes().to_vec().as_slice()).is_some())),
+            1 => $keys
+                .iter()
+                .for_each(|key| assert!(map.get(key.to_be_bytes().to_vec().as_slice()).is_some())),
+            2 => $keys.iter().for_each(|key| {
+                assert!(map.remove(key.to_be_bytes().to_vec().as_slice()).is_some())
+            }),
             3 => {
-                black_box(map.iter().fold(0_u64, |sum, (_, value)| sum.wrapping_add(*value)));
+                black_box(
+                    map.iter()
+                        .fold(0_u64, |sum, (_, value)| sum.wrapping_add(*value)),
+                );
             }
             4 => {
                 black_box(map.clone());
@@ -72,45 +86,67 @@ macro_rules! steps_of {
     }};
 }
 
-fn fastest(mut run: impl FnMut() -> f64) -> f64 {
-    (0..3).map(|_| run()).fold(f64::INFINITY, f64::min)
+fn fastest(runs: usize, mut run: impl FnMut() -> f64) -> f64 {
+    (0..runs).map(|_| run()).fold(f64::INFINITY, f64::min)
 }
 
 fn tries(count: usize) {
     let keys = random_keys(count);
-    let fill = seconds(|| {
+    let runs = 2 + 2_000_000 / count;
+    let fill = seconds(runs, || {
         black_box(trie(&keys, 0));
     });
     println!("{count} keys of 8 bytes: microseconds a key, and times a HashMap's and a BTreeMap's");
     for (step, name) in STEPS.iter().enumerate() {
         let ours = match step {
             0 => fill,
-            _ => seconds(|| {
-                black_box(trie(&keys, step as u32));
-            }) - fill,
+            _ => {
+                seconds(runs, || {
+                    black_box(trie(&keys, step as u32));
+                }) - fill
+            }
         };
         let (hash, tree) = match step {
             0 => (
-                seconds(|| {
-                    black_box(keys.iter().map(|key| (key.to_be_bytes().to_vec(), *key)).fold(HashMap::new(), |mut map, (key, value)| {
-                        map.insert(key, value);
-                        map
-                    }));
+                seconds(runs, || {
+                    black_box(
+                        keys.iter()
+                            .map(|key| (key.to_be_bytes().to_vec(), *key))
+                            .fold(HashMap::new(), |mut map, (key, value)| {
+                                map.insert(key, value);
+                                map
+                            }),
+                    );
                 }),
-                seconds(|| {
-                    black_box(keys.iter().map(|key| (key.to_be_bytes().to_vec(), *key)).fold(BTreeMap::new(), |mut map, (key, value)| {
-                        map.insert(key, value);
-                        map
-                    }));
+                seconds(runs, || {
+                    black_box(
+                        keys.iter()
+                            .map(|key| (key.to_be_bytes().to_vec(), *key))
+                            .fold(BTreeMap::new(), |mut map, (key, value)| {
+                                map.insert(key, value);
+                                map
+                            }),
+                    );
                 }),
             ),
-            _ => (fastest(|| steps_of!(HashMap, &keys, step)), fastest(|| steps_of!(BTreeMap, &keys, step))),
+            _ => (
+                fastest(runs, || steps_of!(HashMap, &keys, step)),
+                fastest(runs, || steps_of!(BTreeMap, &keys, step)),
+            ),
         };
         let each = 1e6 * ours / count as f64;
         if step == 4 {
-            println!("  {name:22} {each:8.3}   (a clone takes {:.0} and {:.0} microseconds, once)", 1e6 * hash, 1e6 * tree);
+            println!(
+                "  {name:22} {each:8.3}   (a clone takes {:.0} and {:.0} microseconds, once)",
+                1e6 * hash,
+                1e6 * tree
+            );
         } else {
-            println!("  {name:22} {each:8.3}   {:6.2} {:6.2}", ours / hash, ours / tree);
+            println!(
+                "  {name:22} {each:8.3}   {:6.2} {:6.2}",
+                ours / hash,
+                ours / tree
+            );
         }
     }
 }
@@ -136,15 +172,32 @@ fn delta(count: u64) -> Vec<u8> {
 fn messages(count: u64, times: u32) {
     let bytes = delta(count);
     let all = f64::from(times) * bytes.len() as f64 / 1e6;
-    let once = seconds(|| assert_eq!(unsafe { measure_decode(bytes.as_ptr(), bytes.len(), 1) }, 1));
-    let decode = seconds(|| assert_eq!(unsafe { measure_decode(bytes.as_ptr(), bytes.len(), times) }, u64::from(times)));
-    let encode = seconds(|| {
+    let once = seconds(3, || {
+        assert_eq!(unsafe { measure_decode(bytes.as_ptr(), bytes.len(), 1) }, 1)
+    });
+    let decode = seconds(3, || {
+        assert_eq!(
+            unsafe { measure_decode(bytes.as_ptr(), bytes.len(), times) },
+            u64::from(times)
+        )
+    });
+    let encode = seconds(3, || {
         let written = unsafe { measure_encode(bytes.as_ptr(), bytes.len(), times) };
         assert_eq!(written, u64::from(times) * bytes.len() as u64);
     }) - once;
-    let copy = seconds(|| (0..times).for_each(|_| drop(black_box(black_box(&bytes).clone()))));
-    println!("a delta of {count} entries, {} bytes: megabytes a second", bytes.len());
-    println!("  decode {:8.1}\n  encode {:8.1}\n  copy   {:8.1}", all / decode, all / encode, all / copy);
+    let copy = seconds(3, || {
+        (0..times).for_each(|_| drop(black_box(black_box(&bytes).clone())))
+    });
+    println!(
+        "a delta of {count} entries, {} bytes: megabytes a second",
+        bytes.len()
+    );
+    println!(
+        "  decode {:8.1}\n  encode {:8.1}\n  copy   {:8.1}",
+        all / decode,
+        all / encode,
+        all / copy
+    );
 }
 
 fn main() {

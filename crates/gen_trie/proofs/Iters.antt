@@ -4,7 +4,8 @@ use Rattle.std.specs.Borrow.{Bor}
 use Rattle.std.specs.List.{All}
 use Rattle.std.specs.declared.sync.Arc.{Arc}
 use Rattle.std.proofs.lemmas.List.Elements.{All-head, All-tail}
-use Rattle.hash_path.specs.Word.{key_in}
+use Rattle.std.specs.FinMap as finite
+use Rattle.hash_path.specs.Word.{key_in, order}
 use Rattle.hash_path.specs.Fan.{under, fan}
 use Rattle.hash_path.specs.Map.{keyed, key_of, as_map, walk}
 use Rattle.hash_path.proofs.Walks.{walk_is}
@@ -149,5 +150,10 @@ module _ {V A : Type 0} where
 -- ---- the whole
 
 module _ {V A : Type 0} (f : List ℕ → ℕ) (root : Option (Slot V A)) (count : ℕ) (trie : IsTrie f root count) (all : List (List ℕ × V)) (is : all ≡ by_key 7 (root_entries root)) where
-  pub iter_is : all ≡ walk f (as_map (root_entries root))
+  iter_is : all ≡ walk f (as_map (root_entries root))
   iter_is = is ∙ by_key-keyed (root_entries root) ∙ sym (walk_is f (root_entries root) trie.hashed (let r = trie.root_is in r.sorted))
+
+module _ {V A H : Type 0} (hash_of : H → List ℕ → ℕ) (hash : H) (root : Option (Slot V A)) (count : ℕ) (seen : H × finite.FinMap order V) (all : List (List ℕ × V)) where
+  -- as the map is seen
+  pub iter_shown : IsTrie (hash_of hash) root count → (hash, as_map (root_entries root)) ≡ seen → all ≡ by_key 7 (root_entries root) → all ≡ walk (hash_of seen.0) seen.1
+  iter_shown trie shown is = iter_is (hash_of hash) root count trie all is ∙ ap (λ x. walk (hash_of x.0) x.1) shown

@@ -137,8 +137,8 @@ module _ {V M : Type 0} (c : Calls V M) where
         let is : w ≡ path f (key_of w) = found_path f w x.1 es h found in
         let r = 7 - length p in
         let covers : indices (length p) (f (key_of w)) ≡ p =
-            same_front (indices (length p) (f (key_of w))) p (word r (f (key_of w)) (key_of w)) x.0 (length-indices (length p) (f (key_of w)))
-            (sym (path_begins f (length p) r (key_of w) (omega arith)) ∙ sym is) in
+        same_front (indices (length p) (f (key_of w))) p (word r (f (key_of w)) (key_of w)) x.0 (length-indices (length p) (f (key_of w)))
+        (sym (path_begins f (length p) r (key_of w) (omega arith)) ∙ sym is) in
         let gone : Some x.1 ≡ None = sym found ∙ ap (λ q. find order q es) is ∙ sym (get-as_map f (key_of w) es h) ∙ all (key_of w) covers in
         absurd cc
 

@@ -12,3 +12,4 @@ pub mod MapCuts
 pub mod Summaries
 pub mod Walks
 pub mod Absences
+pub mod Paths

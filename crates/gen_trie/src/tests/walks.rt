@@ -40,6 +40,18 @@ fn a_walk_of_no_keys_ends_at_once(rt: HostRuntime) -> Result<(), Fail> {
 }
 
 #[test]
+fn a_loop_over_a_trie_is_its_walk(rt: HostRuntime) -> Result<(), Fail> {
+    let alloc = rt.alloc();
+    let trie = three(alloc, Fnv1a)?;
+    let mut seen = Vec::new(alloc);
+    for (_, value) in &trie {
+        seen.push(*value)?;
+    }
+    assert!(rt; seen.as_slice() == [2, 1, 3].as_slice());
+    Ok(())
+}
+
+#[test]
 fn a_frozen_map_walks_as_it_was(rt: HostRuntime) -> Result<(), Fail> {
     let alloc = rt.alloc();
     let mut trie = three(alloc, Fnv1a)?;
