@@ -1,7 +1,8 @@
 -- Runs of tries, of this project. The tries are a list, in the order in which they were made. A write changes its own map
 -- alone, and a snapshot appends a copy.
 -- Example: of one empty trie, insert a 1 at 0, snapshot 0, clear 0 lead to two tries: an empty one, and one with a at 1.
-use Rattle.std.specs.Prelude.{◌≡◌, ℕ, zero, suc, cond, List, [], ◌∷◌, ◌++◌, Option, Some, None, IsTrue, true, fold, slice_get}
+use Rattle.std.specs.Prelude.{◌≡◌, ℕ, zero, suc, Bool, true, false, cond, List, [], ◌∷◌, ◌++◌, Option, Some, None, fold, slice_get}
+use Rattle.std.specs.Option.{option_map}
 use Rattle.std.specs.FinMap as finite
 use Rattle.hash_path.specs.Word.{order}
 use Rattle.ctrie_api.specs.Trie.{Trie}
@@ -14,22 +15,24 @@ changed_at index change [] = []
 changed_at zero change (x ∷ xs) = change x ∷ xs
 changed_at (suc index) change (x ∷ xs) = x ∷ changed_at index change xs
 
--- the element of this index, if it is there, with a change
-abbrev pub copy_of : {X : Type 0} → (X → X) → Option X → List X
-copy_of change None = []
-copy_of change (Some x) = change x ∷ []
+-- what there is, as a list
+abbrev pub as_list : {X : Type 0} → Option X → List X
+as_list None = []
+as_list (Some x) = x ∷ []
 
 module _ {H V : Type 0} where
   -- a trie after its map was written: one that is read-only stays
   abbrev pub written : (finite.FinMap order V → finite.FinMap order V) → Trie H V → Trie H V
   written change trie = cond trie.read_only trie (record trie { map = change trie.map })
 
-  -- a trie as its snapshots are
-  abbrev pub same : Trie H V → Trie H V
-  same trie = trie
-
+  -- the same map, read-only
   abbrev pub read_only : Trie H V → Trie H V
   read_only trie = record trie { read_only = true }
+
+  -- whether a trie is there and is read-only
+  abbrev pub takes_no_write : Option (Trie H V) → Bool
+  takes_no_write None = false
+  takes_no_write (Some trie) = trie.read_only
 
   module _ {A : Type 0} where
     -- the tries after an act
@@ -37,12 +40,20 @@ module _ {H V : Type 0} where
     acted tries (Insert index key value) = changed_at index (written (λ map. finite.insert map key value)) tries
     acted tries (Remove index key) = changed_at index (written (λ map. finite.remove map key)) tries
     acted tries (Clear index) = changed_at index (written (λ map. finite.empty)) tries
-    acted tries (Snapshot index) = tries ++ copy_of same (slice_get tries index)
-    acted tries (ReadOnlySnapshot index) = tries ++ copy_of read_only (slice_get tries index)
+    acted tries (Snapshot index) = tries ++ as_list (slice_get tries index)
+    acted tries (ReadOnlySnapshot index) = tries ++ as_list (option_map read_only (slice_get tries index))
 
     -- the tries after these acts, in their order
     abbrev pub acted_all : List (Trie H V) → List (Act V A) → List (Trie H V)
     acted_all tries acts = fold acted tries acts
+
+    -- whether an act is a write at a trie that is read-only
+    abbrev pub is_refused : List (Trie H V) → Act V A → Bool
+    is_refused tries (Insert index key value) = takes_no_write (slice_get tries index)
+    is_refused tries (Remove index key) = takes_no_write (slice_get tries index)
+    is_refused tries (Clear index) = takes_no_write (slice_get tries index)
+    is_refused tries (Snapshot index) = false
+    is_refused tries (ReadOnlySnapshot index) = false
 
 module _ {V A : Type 0} where
   -- the index of the trie that an act is at
@@ -60,9 +71,3 @@ module _ {V A : Type 0} where
   IsWriteAt place (Clear index) = index ≡ place
   IsWriteAt place (Snapshot index) = ⊥
   IsWriteAt place (ReadOnlySnapshot index) = ⊥
-
--- the trie of this index is there and is read-only
-pub record IsReadOnlyAt {H V : Type 0} (tries : List (Trie H V)) (index : ℕ) : Type 0 where
-  pub trie : Trie H V
-  pub there : slice_get tries index ≡ Some trie
-  pub marked : IsTrue trie.read_only

@@ -1,4 +1,4 @@
-ghost use Rattle.std.specs.Prelude.{◌≡◌, ◌↔◌, ◌⊎◌, IsTrue, IsErr, IsErrOf, IfOk, IfErr, OnOk, OnErr, IsOkUnless, true, false};
+ghost use Rattle.std.specs.Prelude.{◌≡◌, ◌↔◌, ◌⊎◌, IsTrue, IsErrOf, IfOk, IfErr, OnOk, OnErr, IsOkUnless, true, false};
 ghost use Rattle.std.specs.Option.{option_map};
 ghost use Rattle.std.specs.FinMap as finite;
 
@@ -110,7 +110,7 @@ impl<V: Drop, H: PathHash, A: Allocator + Copy> Ctrie<V, H, A> {
 
     /// Takes all keys out. Takes no memory.
     pub fn clear(&mut self) -> Result<(), Refusal>
-        ensures read_only { IsErr result ↔ IsTrue self.old.read_only }
+        ensures read_only { IsErrOf result Refusal.ReadOnly ↔ IsTrue self.old.read_only }
         ensures ok { OnOk result (self.new ≡ record self.old { map = finite.empty }) }
         ensures same { OnErr result (self.new ≡ self.old) }
         ensures err { IsOkUnless result Refusal.ReadOnly }

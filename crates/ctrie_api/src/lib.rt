@@ -4,11 +4,11 @@
 
 mod act;
 mod ctrie;
-// mod tries;
+mod tries;
 
 pub use act::Act;
 pub use ctrie::Ctrie;
-// pub use tries::Tries;
+pub use tries::Tries;
 
 
 // mod tests;
