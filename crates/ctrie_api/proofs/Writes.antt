@@ -29,12 +29,12 @@ module _ {X : Type 0} where
 module _ {H V : Type 0} (tries : List (Trie H V)) (i : ℕ) (d : Trie H V) (within : i < length tries) where
   -- a trie that takes writes was written, and is put back
   pub write_done : (change : finite.FinMap order V → finite.FinMap order V) (new : Trie H V)
-    → ¬ (IsTrue (slice_index_or tries i d).read_only)
-    → new ≡ record (slice_index_or tries i d) { map = change (slice_index_or tries i d).map }
-    → slice_set tries i new ≡ changed_at i (written change) tries
+      → ¬ (IsTrue (slice_index_or tries i d).read_only)
+      → new ≡ record (slice_index_or tries i d) { map = change (slice_index_or tries i d).map }
+      → slice_set tries i new ≡ changed_at i (written change) tries
   write_done change new writable is =
-    let trie = slice_index_or tries i d in
-    changed_set i (written change) tries d new within (is ∙ sym (cond_off trie.read_only trie (record trie { map = change trie.map }) writable))
+      let trie = slice_index_or tries i d in
+      changed_set i (written change) tries d new within (is ∙ sym (cond_off trie.read_only trie (record trie { map = change trie.map }) writable))
 
   marked : takes_no_write (slice_get tries i) ≡ (slice_index_or tries i d).read_only
   marked = ap takes_no_write (slice_get-get_or tries i d within)
@@ -53,12 +53,12 @@ writable_there b x exact so = ok_not_err x ReadOnly (exact.1 so)
 
 module _ {H V T : Type 0} (S : Type 0) (tries : List (Trie H V)) (i : ℕ) (d : Trie H V) (within : i < length tries) where
   pub ok_clause : (x : T) (y : S) → (◌≡◌ {A = Result T Refusal} (Ok x) (Err ReadOnly)) ↔ IsTrue (slice_index_or tries i d).read_only
-    → (◌≡◌ {A = Result S Refusal} (Ok y) (Err ReadOnly)) ↔ IsTrue (takes_no_write (slice_get tries i))
+      → (◌≡◌ {A = Result S Refusal} (Ok y) (Err ReadOnly)) ↔ IsTrue (takes_no_write (slice_get tries i))
   ok_clause x y exact =
-    (λ bad. absurd (ok_not_err y ReadOnly bad), λ t. absurd (ok_not_err x ReadOnly (exact.1 (sym (marked tries i d within) ∙ t))))
+      (λ bad. absurd (ok_not_err y ReadOnly bad), λ t. absurd (ok_not_err x ReadOnly (exact.1 (sym (marked tries i d within) ∙ t))))
 
   -- and one that was refused is refused alike
   pub err_clause : (refusal : Refusal) → (◌≡◌ {A = Result T Refusal} (Err refusal) (Err ReadOnly)) ↔ IsTrue (slice_index_or tries i d).read_only
-    → (◌≡◌ {A = Result S Refusal} (Err refusal) (Err ReadOnly)) ↔ IsTrue (takes_no_write (slice_get tries i))
+      → (◌≡◌ {A = Result S Refusal} (Err refusal) (Err ReadOnly)) ↔ IsTrue (takes_no_write (slice_get tries i))
   err_clause refusal exact =
-    (λ same. marked tries i d within ∙ exact.0 (ap Err (ap refusal_in same)), λ t. ap Err (ap refusal_in (exact.1 (sym (marked tries i d within) ∙ t))))
+      (λ same. marked tries i d within ∙ exact.0 (ap Err (ap refusal_in same)), λ t. ap Err (ap refusal_in (exact.1 (sym (marked tries i d within) ∙ t))))

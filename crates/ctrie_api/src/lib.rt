@@ -10,5 +10,5 @@ pub use act::Act;
 pub use ctrie::Ctrie;
 pub use tries::Tries;
 
-
-// mod tests;
+#[cfg(test)]
+mod tests;

@@ -1,4 +1,4 @@
-ghost use Rattle.std.specs.Prelude.{◌≡◌, ◌↔◌, ◌⊎◌, ◌<◌, ◌≤◌, ◌∷◌, [], ℕ, ◌++◌, is_some, length, take, slice_get, IsTrue, IsErrOf, IfOk, IfErr, IfSome, OnOk, OnErr, IsOkUnless, Some};
+ghost use Rattle.std.specs.Prelude.{◌≡◌, ◌↔◌, ◌⊎◌, ◌<◌, ◌≤◌, ◌∷◌, [], ℕ, ◌++◌, is_some, true, false, length, take, slice_get, IsTrue, IsErrOf, IfOk, IfErr, IfSome, OnOk, OnErr, IsOkUnless, Some};
 ghost use Rattle.std.specs.List.{All};
 ghost use Rattle.std.specs.Option.{option_map};
 ghost use Rattle.std.specs.FinMap as finite;
@@ -66,7 +66,12 @@ impl<V: Drop, H: PathHash, A: Allocator + Copy> Tries<V, H, A> {
         ensures err { IfErr result (λ refusal. (refusal ≡ Refusal.ReadOnly) ⊎ (refusal ≡ Refusal.OutOfMemory)) }
     {
         match act {
-            Act::Insert(index, key, value) => insert_at(self.tries.as_mut_slice(), index, key, value),
+            Act::Insert(index, key, value) => insert_at(
+                self.tries.as_mut_slice(),
+                index,
+                key,
+                value,
+            ),
             Act::Remove(index, key) => remove_at(self.tries.as_mut_slice(), index, &key),
             Act::Clear(index) => clear_at(self.tries.as_mut_slice(), index),
             Act::Snapshot(index) => {
@@ -90,12 +95,26 @@ impl<V: Drop, H: PathHash, A: Allocator + Copy> Tries<V, H, A> {
         ensures others { (i : ℕ) → i < length self.old → All (λ act. ¬ (IsWriteAt i act)) acts.items → slice_get self.new i ≡ slice_get self.old i }
         ensures read_only { (i : ℕ) → IfSome (slice_get self.old i) (λ trie. IsTrue trie.read_only → slice_get self.new i ≡ Some trie) }
     {
-        for (done, act) in acts.into_iter().enumerate() {
-            if let Err(Refusal::OutOfMemory) = self.act(act) {
+        let mut done = 0;
+        for act in acts {
+            if self.lacks_memory_for(act) {
                 return Err(done);
             }
+            done += 1;
         }
         Ok(())
+    }
+
+    // Carries an act out, and tells whether memory was refused for it.
+    fn lacks_memory_for(&mut self, act: Act<V, A>) -> bool
+        ensures done { result ≡ false → self.new ≡ acted self.old act }
+        ensures same { result ≡ true → self.new ≡ self.old }
+    {
+        match self.act(act) {
+            Ok(_) => false,
+            Err(Refusal::ReadOnly) => false,
+            Err(_) => true,
+        }
     }
 }
 
