@@ -1,16 +1,15 @@
 -- What whole runs keep: the tries that are not written to, and those that are read-only.
-use Rattle.std.specs.Prelude.{◌≡◌, ◌≢◌, ◌<◌, ◌≤◌, ◌+◌, ◌↔◌, ◌⊎◌, ℕ, zero, suc, Bool, true, false, IsTrue, List, [], ◌∷◌, ◌++◌, length, refl, take, fold, Option, Some, None, Result, Ok, Err, IfSome, IfErr, OnOk, OnErr, IsErrOf, cond, slice_get}
+use Rattle.std.specs.Prelude.{◌≡◌, ◌<◌, ◌≤◌, ◌+◌, ◌↔◌, ℕ, zero, suc, Bool, true, false, IsTrue, List, [], ◌∷◌, ◌++◌, length, refl, take, Option, Some, None, Result, Err, IfSome, cond, slice_get}
 use Rattle.std.specs.List.{All}
 use Rattle.std.specs.Option.{option_map}
-use Rattle.std.proofs.Common.{arith, ap, sym, ◌∙◌, inl, inr, subst, length-append, append_assoc}
+use Rattle.std.proofs.Common.{arith, ap, sym, ◌∙◌, subst, length-append, append_assoc}
 use Rattle.std.specs.FinMap as finite
-use Rattle.std.proofs.lemmas.Option.{none-some, slice_get_within}
+use Rattle.std.proofs.lemmas.Option.{slice_get_within}
 use Rattle.std.proofs.lemmas.Bool.{false≢true}
-use Rattle.std.proofs.lemmas.List.{take_all}
 use Rattle.std.proofs.lemmas.List.Elements.{All-take, All-tail}
 use Rattle.std.proofs.lemmas.List.Sums.{fold_push}
 use Rattle.dots.specs.declared.refusal.Refusal.{Refusal}
-use Rattle.dots.specs.declared.refusal.Refusal.TheVariants.{OutOfMemory, ReadOnly}
+use Rattle.dots.specs.declared.refusal.Refusal.TheVariants.{ReadOnly}
 use Rattle.hash_path.specs.Word.{order}
 use Rattle.ctrie_api.specs.Trie.{Trie}
 use Rattle.ctrie_api.specs.Run.{changed_at, written, as_list, read_only, takes_no_write, acted, acted_all, is_refused, IsWriteAt}

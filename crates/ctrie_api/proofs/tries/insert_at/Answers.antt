@@ -20,5 +20,5 @@ returns-clause-read_only g c =
 pub returns-clause-ok : goal.returns-clause-ok
 returns-clause-ok g c =
     let within : c.args.index < length c.args.tries.now = omega arith in
-    write_done _ _ c.index-tries-index.result within _ _
+    write_done _ _ c.index-tries-index.result within _ c.insert.new.self
     (writable_there _ c.in_ok-insert.field-0 c.in_ok-insert.ensures.read_only) c.in_ok-insert.ensures.ok
