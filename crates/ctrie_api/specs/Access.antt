@@ -1,0 +1,9 @@
+-- What a trie that can be written, and one that is only read, stand for.
+use Rattle.std.specs.Prelude.{true, false}
+use Rattle.ctrie_api.specs.Trie.{Trie}
+use Rattle.ctrie_api.specs.declared.ctrie.Access.{Access}
+use Rattle.ctrie_api.specs.declared.ctrie.Access.TheVariants.{Writable, ReadOnly}
+
+abbrev pub trie_of : {V H A : Type 0} → Access V H A → Trie H V
+trie_of (Writable trie) = record { read_only = false; hash = trie.0; map = trie.1 }
+trie_of (ReadOnly frozen) = record { read_only = true; hash = frozen.0; map = frozen.1 }

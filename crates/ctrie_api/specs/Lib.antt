@@ -1,0 +1,3 @@
+pub mod Trie
+pub mod Access
+pub mod Run

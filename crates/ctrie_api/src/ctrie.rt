@@ -1,0 +1,180 @@
+ghost use Rattle.std.specs.Prelude.{◌≡◌, ◌↔◌, ◌⊎◌, IsTrue, IsErrOf, IfOk, IfErr, OnOk, OnErr, IsOkUnless, true, false};
+ghost use Rattle.std.specs.Option.{option_map};
+ghost use Rattle.std.specs.FinMap as finite;
+ghost use Rattle.hash_path.specs.Map.{walk};
+
+use dots::{Key, Refusal};
+use gen_trie::{Frozen, GenTrie, Iter, NoSummary};
+use hash_path::PathHash;
+use std::alloc::{Allocator, Global};
+use std::marker::Model;
+use std::sync::Arc;
+
+/// A finite map from keys to values, with snapshots: the calls of Workiva's package `trie/ctrie`.
+///
+/// A snapshot is a map of its own: what is written to one is not seen in the other. A read-only trie refuses each write
+/// with ReadOnly, also one that would change nothing; Workiva's answers there are not followed. To write while another
+/// trie of the same entries is read, take a snapshot first.
+#[derive(Drop)]
+pub struct Ctrie<V, H: PathHash, A: Allocator = Global> {
+    access: Access<V, H, A>,
+}
+
+#[derive(Drop)]
+enum Access<V, H: PathHash, A: Allocator> {
+    Writable(GenTrie<V, NoSummary, H, A>),
+    ReadOnly(Frozen<V, NoSummary, H, A>),
+}
+
+impl<V, H: PathHash, A: Allocator> Model for Ctrie<V, H, A> {
+    ghost use Rattle.ctrie_api.specs.Trie.{Trie, trie_code};
+
+    ghost Value = { Trie H V };
+
+    ghost coded = { trie_code H.code V.code };
+
+    ghost use Rattle.ctrie_api.specs.Access.{trie_of};
+
+    ghost view = { λ a. trie_of a.access };
+}
+
+impl<V, H: PathHash, A: Allocator + Copy> Ctrie<V, H, A> {
+    /// The map with no keys, whose paths are by this hash. It can be written. Takes no memory.
+    pub fn new(alloc: A, hash: H) -> Ctrie<V, H, A>
+        ensures { result ≡ record { read_only = false; hash = hash; map = finite.empty } }
+    {
+        Ctrie {
+            access: Access::Writable(GenTrie::new(alloc, hash)),
+        }
+    }
+
+    /// The value of the key. Touches eight nodes at most, and takes no memory.
+    pub fn lookup(&self, key: &Key<A>) -> Option<&V>
+        ensures { option_map (λ value. value.now) result ≡ finite.get self.now.map key.now }
+    {
+        match &self.access {
+            Access::Writable(trie) => trie.lookup(key),
+            Access::ReadOnly(frozen) => frozen.lookup(key),
+        }
+    }
+
+    /// The number of keys.
+    pub fn size(&self) -> u64
+        ensures { result ≡ finite.len self.now.map }
+    {
+        match &self.access {
+            Access::Writable(trie) => trie.size(),
+            Access::ReadOnly(frozen) => frozen.size(),
+        }
+    }
+
+    /// Whether each write is refused.
+    pub fn is_read_only(&self) -> bool
+        ensures { result ≡ self.now.read_only }
+    {
+        match &self.access {
+            Access::Writable(_) => false,
+            Access::ReadOnly(_) => true,
+        }
+    }
+
+    /// The keys with their values, by ascending index sequence of the key's hash, and those of equal hashes by key bytes.
+    /// Takes no memory. To write meanwhile, iterate over a snapshot.
+    pub fn iter(&self) -> Iter<'_, V, A>
+        ensures { result ≡ walk (H.hash_of self.now.hash) self.now.map }
+    {
+        match &self.access {
+            Access::Writable(trie) => trie.iter(),
+            Access::ReadOnly(frozen) => frozen.iter(),
+        }
+    }
+}
+
+impl<'a, V, H: PathHash, A: Allocator + Copy> IntoIterator for &'a Ctrie<V, H, A> {
+    type Item = (&'a Key<A>, &'a V);
+
+    type IntoIter = Iter<'a, V, A>;
+
+    ghost into_iter_gives = { λ trie it. it ≡ walk (H.hash_of trie.now.hash) trie.now.map };
+
+    fn into_iter(self) -> Iter<'a, V, A> {
+        self.iter()
+    }
+}
+
+impl<V: Drop, H: PathHash, A: Allocator + Copy> Ctrie<V, H, A> {
+    /// Puts the value at the key, in the place of one that is there. A refused call leaves the map as it was, and drops
+    /// the value. Touches eight nodes at most, and copies those that a snapshot shares.
+    pub fn insert(&mut self, key: Key<A>, value: V) -> Result<(), Refusal>
+        ensures read_only { IsErrOf result Refusal.ReadOnly ↔ IsTrue self.old.read_only }
+        ensures ok { OnOk result (self.new ≡ record self.old { map = finite.insert self.old.map key value }) }
+        ensures same { OnErr result (self.new ≡ self.old) }
+        ensures err { IfErr result (λ refusal. (refusal ≡ Refusal.ReadOnly) ⊎ (refusal ≡ Refusal.OutOfMemory)) }
+    {
+        match &mut self.access {
+            Access::Writable(trie) => trie.insert(key, value),
+            Access::ReadOnly(_) => Err(Refusal::ReadOnly),
+        }
+    }
+
+    /// Takes the key out, and gives the value that was there. A refused call leaves the map as it was. A key that is not
+    /// there takes no memory. Touches eight nodes at most, and copies those that a snapshot shares.
+    pub fn remove(&mut self, key: &Key<A>) -> Result<Option<Arc<V, A>>, Refusal>
+        ensures read_only { IsErrOf result Refusal.ReadOnly ↔ IsTrue self.old.read_only }
+        ensures value { IfOk result (λ taken. option_map (λ value. value.value) taken ≡ finite.get self.old.map key.now) }
+        ensures ok { OnOk result (self.new ≡ record self.old { map = finite.remove self.old.map key.now }) }
+        ensures same { OnErr result (self.new ≡ self.old) }
+        ensures err { IfErr result (λ refusal. (refusal ≡ Refusal.ReadOnly) ⊎ (refusal ≡ Refusal.OutOfMemory)) }
+    {
+        match &mut self.access {
+            Access::Writable(trie) => trie.remove(key),
+            Access::ReadOnly(_) => Err(Refusal::ReadOnly),
+        }
+    }
+
+    /// Takes all keys out. Takes no memory.
+    pub fn clear(&mut self) -> Result<(), Refusal>
+        ensures read_only { IsErrOf result Refusal.ReadOnly ↔ IsTrue self.old.read_only }
+        ensures ok { OnOk result (self.new ≡ record self.old { map = finite.empty }) }
+        ensures same { OnErr result (self.new ≡ self.old) }
+        ensures err { IsOkUnless result Refusal.ReadOnly }
+    {
+        match &mut self.access {
+            Access::Writable(trie) => {
+                trie.clear();
+                Ok(())
+            }
+            Access::ReadOnly(_) => Err(Refusal::ReadOnly),
+        }
+    }
+
+    /// A trie of the same map, which is read-only where this one is. What is written to either is not seen in the
+    /// other. Copies no node: it takes a few reference counts, and is refused only where one is full.
+    pub fn snapshot(&mut self) -> Result<Ctrie<V, H, A>, Refusal>
+        ensures ok { IfOk result (λ snapshot. snapshot ≡ self.old) }
+        ensures same { self.new ≡ self.old }
+        ensures err { IsOkUnless result Refusal.OutOfMemory }
+    {
+        let access = match &mut self.access {
+            Access::Writable(trie) => Access::Writable(trie.freeze()?.thaw()?),
+            Access::ReadOnly(frozen) => Access::ReadOnly(frozen.copy()?),
+        };
+        Ok(Ctrie { access })
+    }
+
+    /// A read-only trie of the same map. What is written to this trie is not seen in it. Copies no node: it takes a
+    /// reference count, and is refused only where that is full.
+    pub fn read_only_snapshot(&mut self) -> Result<Ctrie<V, H, A>, Refusal>
+        ensures ok { IfOk result (λ snapshot. snapshot ≡ record self.old { read_only = true }) }
+        ensures same { self.new ≡ self.old }
+        ensures err { IsOkUnless result Refusal.OutOfMemory }
+    {
+        let frozen = match &mut self.access {
+            Access::Writable(trie) => trie.freeze()?,
+            Access::ReadOnly(frozen) => frozen.copy()?,
+        };
+        Ok(Ctrie {
+            access: Access::ReadOnly(frozen),
+        })
+    }
+}

@@ -1,0 +1,227 @@
+ghost use Rattle.std.specs.Prelude.{◌≡◌, ◌↔◌, ◌⊎◌, ◌<◌, ◌≤◌, ◌∷◌, [], ℕ, ◌++◌, is_some, true, false, length, take, slice_get, IsTrue, IsErrOf, IfOk, IfErr, IfSome, OnOk, OnErr, IsOkUnless, Some};
+ghost use Rattle.std.specs.List.{All};
+ghost use Rattle.std.specs.Option.{option_map};
+ghost use Rattle.std.specs.FinMap as finite;
+ghost use Rattle.ctrie_api.specs.Run.{acted, acted_all, index_of, is_refused, IsWriteAt, changed_at, written, read_only, takes_no_write, as_list};
+
+use crate::act::Act;
+use crate::ctrie::Ctrie;
+use dots::{Key, Refusal};
+use hash_path::PathHash;
+use std::alloc::{Allocator, Global};
+use std::marker::Model;
+
+/// A trie with all snapshots that were taken of it, and of these, in the order in which they were made.
+///
+/// A write changes its own trie alone, and a snapshot is a copy that comes last.
+#[derive(Drop)]
+pub struct Tries<V, H: PathHash, A: Allocator = Global> {
+    tries: Vec<Ctrie<V, H, A>, A>,
+}
+
+impl<V, H: PathHash, A: Allocator> Model for Tries<V, H, A> {
+    ghost use Rattle.std.specs.Prelude.{List};
+    ghost use Rattle.std.specs.Coded.{coded_list};
+    ghost use Rattle.ctrie_api.specs.Trie.{Trie, trie_code};
+
+    ghost Value = { List (Trie H V) };
+
+    ghost coded = { coded_list (trie_code H.code V.code) };
+
+    ghost view = { λ a. a.tries.items };
+}
+
+impl<V: Drop, H: PathHash, A: Allocator + Copy> Tries<V, H, A> {
+    /// This trie alone.
+    pub fn new(alloc: A, first: Ctrie<V, H, A>) -> Result<Tries<V, H, A>, Refusal>
+        ensures ok { IfOk result (λ tries. tries ≡ first ∷ []) }
+        ensures err { IsOkUnless result Refusal.OutOfMemory }
+    {
+        let mut tries = Vec::new(alloc);
+        tries.push(first)?;
+        Ok(Tries { tries })
+    }
+
+    /// How many tries were made.
+    pub fn len(&self) -> usize
+        ensures { result ≡ length self.now }
+    {
+        self.tries.len()
+    }
+
+    /// The trie of this index.
+    pub fn trie(&self, index: usize) -> Option<&Ctrie<V, H, A>>
+        ensures { option_map (λ trie. trie.now) result ≡ slice_get self.now index }
+    {
+        self.tries.get(index)
+    }
+
+    /// Carries an act out, and tells whether its trie is there: where it is not, nothing changes. A write on a read-only
+    /// trie is refused. A refused act changes nothing.
+    pub fn act(&mut self, act: Act<V, A>) -> Result<bool, Refusal>
+        ensures there { IfOk result (λ there. IsTrue there ↔ index_of act < length self.old) }
+        ensures read_only { IsErrOf result Refusal.ReadOnly ↔ IsTrue (is_refused self.old act) }
+        ensures ok { OnOk result (self.new ≡ acted self.old act) }
+        ensures same { OnErr result (self.new ≡ self.old) }
+        ensures err { IfErr result (λ refusal. (refusal ≡ Refusal.ReadOnly) ⊎ (refusal ≡ Refusal.OutOfMemory)) }
+    {
+        match act {
+            Act::Insert(index, key, value) => insert_at(
+                self.tries.as_mut_slice(),
+                index,
+                key,
+                value,
+            ),
+            Act::Remove(index, key) => remove_at(self.tries.as_mut_slice(), index, &key),
+            Act::Clear(index) => clear_at(self.tries.as_mut_slice(), index),
+            Act::Snapshot(index) => {
+                let made = snapshot_at(self.tries.as_mut_slice(), index)?;
+                add(&mut self.tries, made)
+            }
+            Act::ReadOnlySnapshot(index) => {
+                let made = read_only_snapshot_at(self.tries.as_mut_slice(), index)?;
+                add(&mut self.tries, made)
+            }
+        }
+    }
+}
+
+impl<V: Drop, H: PathHash, A: Allocator + Copy> Tries<V, H, A> {
+    /// Carries acts out, one after the other, up to the first for which memory was refused: an error tells how many were
+    /// carried out before it. An act that is refused as its trie is read-only, or that is at none, is passed over.
+    pub fn run(&mut self, acts: Vec<Act<V, A>, A>) -> Result<(), usize>
+        ensures ok { OnOk result (self.new ≡ acted_all self.old acts.items) }
+        ensures err { IfErr result (λ done. (done < length acts.items) × (self.new ≡ acted_all self.old (take done acts.items))) }
+        ensures others { (i : ℕ) → i < length self.old → All (λ act. ¬ (IsWriteAt i act)) acts.items → slice_get self.new i ≡ slice_get self.old i }
+        ensures read_only { (i : ℕ) → IfSome (slice_get self.old i) (λ trie. IsTrue trie.read_only → slice_get self.new i ≡ Some trie) }
+    {
+        let mut done = 0;
+        for act in acts {
+            if self.lacks_memory_for(act) {
+                return Err(done);
+            }
+            done += 1;
+        }
+        Ok(())
+    }
+
+    // Carries an act out, and tells whether memory was refused for it.
+    fn lacks_memory_for(&mut self, act: Act<V, A>) -> bool
+        ensures done { result ≡ false → self.new ≡ acted self.old act }
+        ensures same { result ≡ true → self.new ≡ self.old }
+    {
+        match self.act(act) {
+            Ok(_) => false,
+            Err(Refusal::ReadOnly) => false,
+            Err(_) => true,
+        }
+    }
+}
+
+// Puts the value into the trie of this index, and tells whether that is there.
+fn insert_at<V: Drop, H: PathHash, A: Allocator + Copy>(
+    tries: &mut [Ctrie<V, H, A>],
+    index: usize,
+    key: Key<A>,
+    value: V,
+) -> Result<bool, Refusal>
+    ensures there { IfOk result (λ there. IsTrue there ↔ index < length tries.old) }
+    ensures read_only { IsErrOf result Refusal.ReadOnly ↔ IsTrue (takes_no_write (slice_get tries.old index)) }
+    ensures ok { OnOk result (tries.new ≡ changed_at index (written (λ map. finite.insert map key value)) tries.old) }
+    ensures same { OnErr result (tries.new ≡ tries.old) }
+    ensures err { IfErr result (λ refusal. (refusal ≡ Refusal.ReadOnly) ⊎ (refusal ≡ Refusal.OutOfMemory)) }
+{
+    if index >= tries.len() {
+        return Ok(false);
+    }
+    tries[index].insert(key, value)?;
+    Ok(true)
+}
+
+// Takes the key out of the trie of this index, and tells whether that is there.
+fn remove_at<V: Drop, H: PathHash, A: Allocator + Copy>(
+    tries: &mut [Ctrie<V, H, A>],
+    index: usize,
+    key: &Key<A>,
+) -> Result<bool, Refusal>
+    ensures there { IfOk result (λ there. IsTrue there ↔ index < length tries.old) }
+    ensures read_only { IsErrOf result Refusal.ReadOnly ↔ IsTrue (takes_no_write (slice_get tries.old index)) }
+    ensures ok { OnOk result (tries.new ≡ changed_at index (written (λ map. finite.remove map key.now)) tries.old) }
+    ensures same { OnErr result (tries.new ≡ tries.old) }
+    ensures err { IfErr result (λ refusal. (refusal ≡ Refusal.ReadOnly) ⊎ (refusal ≡ Refusal.OutOfMemory)) }
+{
+    if index >= tries.len() {
+        return Ok(false);
+    }
+    tries[index].remove(key)?;
+    Ok(true)
+}
+
+// Takes all keys out of the trie of this index, and tells whether that is there.
+fn clear_at<V: Drop, H: PathHash, A: Allocator + Copy>(
+    tries: &mut [Ctrie<V, H, A>],
+    index: usize,
+) -> Result<bool, Refusal>
+    ensures there { IfOk result (λ there. IsTrue there ↔ index < length tries.old) }
+    ensures read_only { IsErrOf result Refusal.ReadOnly ↔ IsTrue (takes_no_write (slice_get tries.old index)) }
+    ensures ok { OnOk result (tries.new ≡ changed_at index (written (λ map. finite.empty)) tries.old) }
+    ensures same { OnErr result (tries.new ≡ tries.old) }
+    ensures err { IfErr result (λ refusal. (refusal ≡ Refusal.ReadOnly) ⊎ (refusal ≡ Refusal.OutOfMemory)) }
+{
+    if index >= tries.len() {
+        return Ok(false);
+    }
+    tries[index].clear()?;
+    Ok(true)
+}
+
+// A snapshot of the trie of this index, if that is there.
+fn snapshot_at<V: Drop, H: PathHash, A: Allocator + Copy>(
+    tries: &mut [Ctrie<V, H, A>],
+    index: usize,
+) -> Result<Option<Ctrie<V, H, A>>, Refusal>
+    ensures ok { IfOk result (λ made. made ≡ slice_get tries.old index) }
+    ensures same { tries.new ≡ tries.old }
+    ensures err { IsOkUnless result Refusal.OutOfMemory }
+{
+    if index >= tries.len() {
+        return Ok(None);
+    }
+    let made = tries[index].snapshot()?;
+    Ok(Some(made))
+}
+
+// A read-only snapshot of the trie of this index, if that is there.
+fn read_only_snapshot_at<V: Drop, H: PathHash, A: Allocator + Copy>(
+    tries: &mut [Ctrie<V, H, A>],
+    index: usize,
+) -> Result<Option<Ctrie<V, H, A>>, Refusal>
+    ensures ok { IfOk result (λ made. made ≡ option_map read_only (slice_get tries.old index)) }
+    ensures same { tries.new ≡ tries.old }
+    ensures err { IsOkUnless result Refusal.OutOfMemory }
+{
+    if index >= tries.len() {
+        return Ok(None);
+    }
+    let made = tries[index].read_only_snapshot()?;
+    Ok(Some(made))
+}
+
+// Appends the trie that was made, if one was, and tells whether one was.
+fn add<V: Drop, H: PathHash, A: Allocator + Copy>(
+    tries: &mut Vec<Ctrie<V, H, A>, A>,
+    made: Option<Ctrie<V, H, A>>,
+) -> Result<bool, Refusal>
+    ensures there { IfOk result (λ there. there ≡ is_some made) }
+    ensures ok { OnOk result (tries.new.items ≡ tries.old.items ++ as_list made) }
+    ensures same { OnErr result (tries.new.items ≡ tries.old.items) }
+    ensures err { IsOkUnless result Refusal.OutOfMemory }
+{
+    match made {
+        None => Ok(false),
+        Some(trie) => {
+            tries.push(trie)?;
+            Ok(true)
+        }
+    }
+}
