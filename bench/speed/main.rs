@@ -1,21 +1,37 @@
 //! Times the trie beside std's maps, and messages beside a copy of their bytes. bench/README.md says how to run it.
 use std::collections::{BTreeMap, HashMap};
 use std::hint::black_box;
-use std::time::Instant;
 
 unsafe extern "C" {
-    fn measure_trie(keys: *const u64, count: usize, step: u32) -> u64;
+    fn measure_trie(keys: *const u64, count: usize, step: u32, times: u32) -> u64;
     fn measure_decode(bytes: *const u8, length: usize, times: u32) -> u64;
     fn measure_encode(bytes: *const u8, length: usize, times: u32) -> u64;
+    fn clock_gettime(clock: i32, time: *mut Time) -> i32;
 }
 
-/// Seconds of the fastest of so many runs.
-fn seconds(runs: usize, mut run: impl FnMut()) -> f64 {
-    (0..runs)
+#[repr(C)]
+struct Time {
+    seconds: i64,
+    nanoseconds: i64,
+}
+
+/// The seconds that this process has had a processor, on Linux: other work on the machine counts less than in wall time.
+fn now() -> f64 {
+    let mut time = Time {
+        seconds: 0,
+        nanoseconds: 0,
+    };
+    assert_eq!(unsafe { clock_gettime(2, &mut time) }, 0);
+    time.seconds as f64 + time.nanoseconds as f64 / 1e9
+}
+
+/// Seconds of the fastest of three runs.
+fn seconds(mut run: impl FnMut()) -> f64 {
+    (0..3)
         .map(|_| {
-            let begin = Instant::now();
+            let begin = now();
             run();
-            begin.elapsed().as_secs_f64()
+            now() - begin
         })
         .fold(f64::INFINITY, f64::min)
 }
@@ -32,123 +48,114 @@ fn random_keys(count: usize) -> Vec<u64> {
         .collect()
 }
 
-fn trie(keys: &[u64], step: u32) -> u64 {
-    let number = unsafe { measure_trie(keys.as_ptr(), keys.len(), step) };
+/// Seconds that a new trie takes, and that so many times a step takes with all keys.
+fn trie(keys: &[u64], step: u32, times: u32) -> f64 {
+    let begin = now();
+    let number = unsafe { measure_trie(keys.as_ptr(), keys.len(), step, times) };
     assert_ne!(number, u64::MAX, "want of memory");
-    number
+    now() - begin
 }
 
-const STEPS: [&str; 6] = [
-    "insert",
-    "lookup",
-    "remove",
-    "iterate",
-    "freeze",
-    "write after a freeze",
-];
+/// What is asked of a map of std, to compare with.
+trait Plain: Clone + Default {
+    fn put(&mut self, key: u64);
+    fn has(&self, key: u64) -> bool;
+    fn take(&mut self, key: u64) -> bool;
+    fn sum(&self) -> u64;
+}
 
-/// The same steps with a map of std, where a freeze is a clone. One clone is timed, and not one for each key.
-macro_rules! steps_of {
-    ($map:ident, $keys:expr, $step:expr) => {{
-        let mut map = $map::new();
-        for key in $keys {
-            map.insert(key.to_be_bytes().to_vec(), *key);
+macro_rules! plain {
+    ($map:ident) => {
+        impl Plain for $map<Vec<u8>, u64> {
+            fn put(&mut self, key: u64) {
+                self.insert(key.to_be_bytes().to_vec(), key);
+            }
+
+            fn has(&self, key: u64) -> bool {
+                self.contains_key(black_box(key.to_be_bytes().to_vec()).as_slice())
+            }
+
+            fn take(&mut self, key: u64) -> bool {
+                self.remove(black_box(key.to_be_bytes().to_vec()).as_slice())
+                    .is_some()
+            }
+
+            fn sum(&self) -> u64 {
+                self.values().fold(0, |sum, value| sum.wrapping_add(*value))
+            }
         }
-        let begin = Instant::now();
-        match $step {
-            1 => $keys
-                .iter()
-                .for_each(|key| assert!(map.get(key.to_be_bytes().to_vec().as_slice()).is_some())),
-            2 => $keys.iter().for_each(|key| {
-                assert!(map.remove(key.to_be_bytes().to_vec().as_slice()).is_some())
-            }),
-            3 => {
-                black_box(
-                    map.iter()
-                        .fold(0_u64, |sum, (_, value)| sum.wrapping_add(*value)),
-                );
+    };
+}
+
+plain!(HashMap);
+plain!(BTreeMap);
+
+/// The same with a map of std. A freeze is a clone, and so is the freeze before the writes.
+fn plain<M: Plain>(keys: &[u64], step: u32, times: u32) -> f64 {
+    let begin = now();
+    let mut map = M::default();
+    keys.iter().for_each(|key| map.put(*key));
+    for _ in 0..times {
+        match step {
+            0 => assert!(keys.iter().all(|key| map.has(*key))),
+            1 => {
+                assert!(keys.iter().all(|key| map.take(*key)));
+                keys.iter().for_each(|key| map.put(*key));
             }
-            4 => {
-                black_box(map.clone());
-            }
-            5 => {
+            2 => drop(black_box(map.sum())),
+            3 => drop(black_box(map.clone())),
+            _ => {
                 let old = map.clone();
-                for key in $keys {
-                    map.insert(key.to_be_bytes().to_vec(), *key);
-                }
-                black_box(old);
+                keys.iter().for_each(|key| map.put(*key));
+                drop(black_box(old));
             }
-            _ => {}
         }
-        let elapsed = begin.elapsed().as_secs_f64();
-        black_box(map);
-        elapsed
-    }};
+    }
+    drop(black_box(map));
+    now() - begin
 }
 
-fn fastest(runs: usize, mut run: impl FnMut() -> f64) -> f64 {
-    (0..runs).map(|_| run()).fold(f64::INFINITY, f64::min)
+/// Seconds of one step with all keys, by the fastest of three runs, and of the insertion of all.
+fn step_of(run: impl Fn(u32, u32) -> f64, step: u32) -> (f64, f64) {
+    let fastest = |times| {
+        (0..3)
+            .map(|_| run(step, times))
+            .fold(f64::INFINITY, f64::min)
+    };
+    let fill = fastest(0);
+    let each = (fastest(TIMES) - fill) / f64::from(TIMES);
+    (fill, if step == 1 { each - fill } else { each })
 }
+
+const TIMES: u32 = 5;
 
 fn tries(count: usize) {
     let keys = random_keys(count);
-    let runs = 2 + 2_000_000 / count;
-    let fill = seconds(runs, || {
-        black_box(trie(&keys, 0));
-    });
+    let ours: Vec<_> = (0..5)
+        .map(|step| step_of(|s, t| trie(&keys, s, t), step))
+        .collect();
+    let hash: Vec<_> = (0..5)
+        .map(|step| step_of(|s, t| plain::<HashMap<_, _>>(&keys, s, t), step))
+        .collect();
+    let tree: Vec<_> = (0..5)
+        .map(|step| step_of(|s, t| plain::<BTreeMap<_, _>>(&keys, s, t), step))
+        .collect();
+    let scale = 1e6 / count as f64;
     println!("{count} keys of 8 bytes: microseconds a key, and times a HashMap's and a BTreeMap's");
-    for (step, name) in STEPS.iter().enumerate() {
-        let ours = match step {
-            0 => fill,
-            _ => {
-                seconds(runs, || {
-                    black_box(trie(&keys, step as u32));
-                }) - fill
-            }
-        };
-        let (hash, tree) = match step {
-            0 => (
-                seconds(runs, || {
-                    black_box(
-                        keys.iter()
-                            .map(|key| (key.to_be_bytes().to_vec(), *key))
-                            .fold(HashMap::new(), |mut map, (key, value)| {
-                                map.insert(key, value);
-                                map
-                            }),
-                    );
-                }),
-                seconds(runs, || {
-                    black_box(
-                        keys.iter()
-                            .map(|key| (key.to_be_bytes().to_vec(), *key))
-                            .fold(BTreeMap::new(), |mut map, (key, value)| {
-                                map.insert(key, value);
-                                map
-                            }),
-                    );
-                }),
-            ),
-            _ => (
-                fastest(runs, || steps_of!(HashMap, &keys, step)),
-                fastest(runs, || steps_of!(BTreeMap, &keys, step)),
-            ),
-        };
-        let each = 1e6 * ours / count as f64;
-        if step == 4 {
-            println!(
-                "  {name:22} {each:8.3}   (a clone takes {:.0} and {:.0} microseconds, once)",
-                1e6 * hash,
-                1e6 * tree
-            );
-        } else {
-            println!(
-                "  {name:22} {each:8.3}   {:6.2} {:6.2}",
-                ours / hash,
-                ours / tree
-            );
-        }
-    }
+    let row = |name: &str, a: f64, b: f64, c: f64| {
+        println!("  {name:22} {:8.3} {:8.2} {:8.2}", a * scale, a / b, a / c)
+    };
+    row("insert", ours[0].0, hash[0].0, tree[0].0);
+    row("lookup", ours[0].1, hash[0].1, tree[0].1);
+    row("remove", ours[1].1, hash[1].1, tree[1].1);
+    row("iterate", ours[2].1, hash[2].1, tree[2].1);
+    row("write after a freeze", ours[4].1, hash[4].1, tree[4].1);
+    println!(
+        "  freeze                 {:8.3} (a clone, once: {:.0} and {:.0} microseconds)",
+        ours[3].1 * scale,
+        hash[3].1 * 1e6,
+        tree[3].1 * 1e6
+    );
 }
 
 /// A delta of so many keys, each with one value of eight bytes, as docs/FORMATS.md spells it.
@@ -172,22 +179,18 @@ fn delta(count: u64) -> Vec<u8> {
 fn messages(count: u64, times: u32) {
     let bytes = delta(count);
     let all = f64::from(times) * bytes.len() as f64 / 1e6;
-    let once = seconds(3, || {
-        assert_eq!(unsafe { measure_decode(bytes.as_ptr(), bytes.len(), 1) }, 1)
-    });
-    let decode = seconds(3, || {
+    let once = seconds(|| assert_eq!(unsafe { measure_decode(bytes.as_ptr(), bytes.len(), 1) }, 1));
+    let decode = seconds(|| {
         assert_eq!(
             unsafe { measure_decode(bytes.as_ptr(), bytes.len(), times) },
             u64::from(times)
         )
     });
-    let encode = seconds(3, || {
+    let encode = seconds(|| {
         let written = unsafe { measure_encode(bytes.as_ptr(), bytes.len(), times) };
         assert_eq!(written, u64::from(times) * bytes.len() as u64);
     }) - once;
-    let copy = seconds(3, || {
-        (0..times).for_each(|_| drop(black_box(black_box(&bytes).clone())))
-    });
+    let copy = seconds(|| (0..times).for_each(|_| drop(black_box(black_box(&bytes).clone()))));
     println!(
         "a delta of {count} entries, {} bytes: megabytes a second",
         bytes.len()

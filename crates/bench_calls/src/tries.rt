@@ -60,27 +60,36 @@ fn freeze_often(trie: &mut Trie, keys: &[u64]) -> Result<u64, Refusal> {
     Ok(sum)
 }
 
-fn steps(alloc: Global, keys: &[u64], step: u32) -> Result<u64, Refusal> {
-    let mut trie: Trie = GenTrie::new(alloc, Fnv1a);
-    insert_all(alloc, &mut trie, keys)?;
+// One step with all keys, which leaves them in the trie.
+fn step_once(alloc: Global, trie: &mut Trie, keys: &[u64], step: u32) -> Result<u64, Refusal> {
     match step {
-        1 => found(alloc, &trie, keys),
-        2 => {
-            remove_all(alloc, &mut trie, keys)?;
+        0 => found(alloc, trie, keys),
+        1 => {
+            remove_all(alloc, trie, keys)?;
+            insert_all(alloc, trie, keys)?;
             Ok(trie.size())
         }
-        3 => Ok(sum_of_walk(&trie)),
-        4 => freeze_often(&mut trie, keys),
-        5 => write_beside(alloc, &mut trie, keys),
-        _ => Ok(trie.size()),
+        2 => Ok(sum_of_walk(trie)),
+        3 => freeze_often(trie, keys),
+        _ => write_beside(alloc, trie, keys),
     }
 }
 
-/// Inserts the keys, eight bytes each, into a new trie, and then by the step: 0 nothing, 1 looks each up, 2 removes each,
-/// 3 walks, 4 freezes once for each key, 5 freezes and writes each again.
+fn steps(alloc: Global, keys: &[u64], step: u32, times: u32) -> Result<u64, Refusal> {
+    let mut trie: Trie = GenTrie::new(alloc, Fnv1a);
+    insert_all(alloc, &mut trie, keys)?;
+    let mut number = trie.size();
+    for _ in 0..times {
+        number = step_once(alloc, &mut trie, keys, step)?;
+    }
+    Ok(number)
+}
+
+/// Inserts the keys, eight bytes each, into a new trie, and then so many times does the step with all of them: 0 looks
+/// each up, 1 removes each and inserts it again, 2 walks, 3 freezes once for each key, 4 freezes and writes each again.
 #[unsafe(no_mangle)]
-pub extern "C" fn measure_trie(alloc: Global, keys: &[u64], step: u32) -> u64 {
-    match steps(alloc, keys, step) {
+pub extern "C" fn measure_trie(alloc: Global, keys: &[u64], step: u32, times: u32) -> u64 {
+    match steps(alloc, keys, step, times) {
         Ok(number) => number,
         Err(_) => u64::MAX,
     }
