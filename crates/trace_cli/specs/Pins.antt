@@ -40,3 +40,8 @@ AllPinned events pins = All (IsPinned events) pins
 pub record ShowsKeys {A : Type 0} (m : finite.FinMap order (Vec (List ℕ) A)) (seen : List Operation) (keys : List (List ℕ)) : Type 0 where
   pub there : (key : List ℕ) → Contains keys key → found_values m key ≡ values seen key
   pub nowhere_else : (key : List ℕ) → ¬ (Contains keys key) → found_values m key ≡ []
+
+-- the events grew: those that were there are the first
+pub record Grows (old new : List Event) : Type 0 where
+  pub more : List Event
+  pub is : new ≡ old ++ more

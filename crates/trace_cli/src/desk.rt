@@ -1,10 +1,10 @@
-ghost use Rattle.std.specs.Prelude.{◌≡◌, ◌⊎◌, ◌≤◌, ◌<◌, ◌++◌, ◌∷◌, [], Some, None, ℕ, List, length, IfOk, IfErr, OnOk, IsOkUnless, true, false, if◌then◌else◌, map, string_bytes, MatchResult};
+ghost use Rattle.std.specs.Prelude.{◌≡◌, ◌⊎◌, ◌≤◌, ◌<◌, ◌++◌, ◌∷◌, [], Some, None, ℕ, List, length, IfOk, IfErr, OnOk, IsOkUnless, true, false, cond, map, string_bytes, MatchResult};
 ghost use Rattle.std.specs.List.{flat_map};
 ghost use Rattle.op_model.specs.Shown.{values, bytes_cmp};
 ghost use Rattle.std.specs.Ordering.{eq_by_cmp};
 ghost use Rattle.op_model.specs.World.{after, is_node};
 ghost use Rattle.trace_cli.specs.Outcome.{Done, Refused, outcome_of, is_at_world, put_text, values_text, node_outcome, put_outcome, get_outcome, flush_outcome, deliver_outcome, remove_outcome, clear_outcome, show_outcome, size_outcome, context_outcome, entry_text};
-ghost use Rattle.trace_cli.specs.Pins.{found_values, Shows, ShowsKeys};
+ghost use Rattle.trace_cli.specs.Pins.{found_values, Shows, ShowsKeys, Grows};
 ghost use Rattle.trace_cli.specs.Word.{shown_as};
 
 use crate::answer::{
@@ -60,7 +60,8 @@ impl<A: Allocator + Copy> Desk<A> {
     /// Does what the command asks, which speaks of no pin: the text that it is answered, or the refusal that it meets.
     pub fn obey(&mut self, command: Command<A>) -> Result<Vec<u8, A>, Refusal>
         requires { is_at_world (command_value command) ≡ true }
-        ensures { Does (outcome_of (after self.old) [] (command_value command)) self.old self.new result }
+        ensures does { Does (outcome_of (after self.old) [] (command_value command)) self.old self.new result }
+        ensures grows { Grows self.old self.new }
     {
         match command {
             Command::Node(name) => self.node(name),
@@ -106,7 +107,7 @@ impl<A: Allocator + Copy> Desk<A> {
         requires there { is_node (after self.now) name ≡ true }
         requires writable { shown.old.read_only ≡ false }
         ensures ok { OnOk result ((other : List ℕ) → found_values shown.new.map other
-            ≡ (if eq_by_cmp bytes_cmp other key.now then values ((after self.now).seen name) key.now else found_values shown.old.map other)) }
+            ≡ cond (eq_by_cmp bytes_cmp other key.now) (values ((after self.now).seen name) key.now) (found_values shown.old.map other)) }
         ensures writable { shown.new.read_only ≡ false }
         ensures err { IsOkUnless result Refusal.OutOfMemory }
     {
@@ -114,15 +115,19 @@ impl<A: Allocator + Copy> Desk<A> {
         shown.insert(key.copy(self.alloc)?, found)
     }
 
+    #[tactic(auto, using(crate::proofs::Pinning::grows_same, crate::proofs::Pinning::grows_by))]
     fn node(&mut self, name: Name) -> Result<Vec<u8, A>, Refusal>
-        ensures { Does (node_outcome (after self.old) name) self.old self.new result }
+        ensures does { Does (node_outcome (after self.old) name) self.old self.new result }
+        ensures grows { Grows self.old self.new }
     {
         self.world.node(name)?;
         Ok(Vec::from_slice(self.alloc, b"ok")?)
     }
 
+    #[tactic(auto, using(crate::proofs::Pinning::grows_same, crate::proofs::Pinning::grows_by))]
     fn put(&mut self, name: Name, key: &[u8], value: &[u8]) -> Result<Vec<u8, A>, Refusal>
-        ensures { Does (put_outcome (after self.old) name key.now value.now) self.old self.new result }
+        ensures does { Does (put_outcome (after self.old) name key.now value.now) self.old self.new result }
+        ensures grows { Grows self.old self.new }
     {
         if !self.world.has_replica(name) {
             return Err(Refusal::UnknownReplica);
@@ -146,22 +151,28 @@ impl<A: Allocator + Copy> Desk<A> {
         Ok(text)
     }
 
+    #[tactic(auto, using(crate::proofs::Pinning::grows_same, crate::proofs::Pinning::grows_by))]
     fn flush(&mut self, name: Name) -> Result<Vec<u8, A>, Refusal>
-        ensures { Does (flush_outcome (after self.old) name) self.old self.new result }
+        ensures does { Does (flush_outcome (after self.old) name) self.old self.new result }
+        ensures grows { Grows self.old self.new }
     {
         let made = self.world.flush(name)?;
         Ok(flush_answer(self.alloc, made)?.into_bytes())
     }
 
+    #[tactic(auto, using(crate::proofs::Pinning::grows_same, crate::proofs::Pinning::grows_by))]
     fn deliver(&mut self, message: u64, name: Name) -> Result<Vec<u8, A>, Refusal>
-        ensures { Does (deliver_outcome (after self.old) message name) self.old self.new result }
+        ensures does { Does (deliver_outcome (after self.old) message name) self.old self.new result }
+        ensures grows { Grows self.old self.new }
     {
         self.world.deliver(message, name)?;
         Ok(Vec::from_slice(self.alloc, b"joined")?)
     }
 
+    #[tactic(auto, using(crate::proofs::Pinning::grows_same, crate::proofs::Pinning::grows_by))]
     fn remove(&mut self, name: Name, key: &[u8]) -> Result<Vec<u8, A>, Refusal>
-        ensures { Does (remove_outcome (after self.old) name key.now) self.old self.new result }
+        ensures does { Does (remove_outcome (after self.old) name key.now) self.old self.new result }
+        ensures grows { Grows self.old self.new }
     {
         if !self.world.has_replica(name) {
             return Err(Refusal::UnknownReplica);
@@ -171,8 +182,10 @@ impl<A: Allocator + Copy> Desk<A> {
         Ok(erased_answer(self.alloc, number)?.into_bytes())
     }
 
+    #[tactic(auto, using(crate::proofs::Pinning::grows_same, crate::proofs::Pinning::grows_by))]
     fn clear(&mut self, name: Name) -> Result<Vec<u8, A>, Refusal>
-        ensures { Does (clear_outcome (after self.old) name) self.old self.new result }
+        ensures does { Does (clear_outcome (after self.old) name) self.old self.new result }
+        ensures grows { Grows self.old self.new }
     {
         let number = self.world.clear(name)?;
         Ok(erased_answer(self.alloc, number)?.into_bytes())
