@@ -1,7 +1,7 @@
 -- Pins: what a map of shown values shows, and that pins stay as more events come.
 use Rattle.std.specs.Prelude.{◌≡◌, ◌≤◌, ◌<◌, ◌+◌, ◌⊎◌, ℕ, zero, suc, Bool, true, false, cond, List, [], ◌∷◌, ◌++◌, map, take, length, refl, Option, Some, None, Result, Ok, Err, Contains, slice_get, slice_index_or, nat_lt, OnOk}
 use Rattle.std.specs.List.{All}
-use Rattle.std.proofs.Common.{arith, ap, sym, ◌∙◌, inl, inr, subst, length-append, append_nil, map-append}
+use Rattle.std.proofs.Common.{arith, ap, sym, ◌∙◌, inl, inr, subst, length-append, append-nil}
 use Rattle.std.specs.FinMap as finite
 use Rattle.std.specs.Ordering.{eq_by_cmp}
 use Rattle.std.proofs.lemmas.Bool.{false≢true, cases_Bool, cond-true, cond-false}
@@ -18,7 +18,7 @@ use Rattle.op_model.proofs.Words.{values-IsShown, keys-IsShown}
 use Rattle.op_model.specs.World.{World}
 use Rattle.ctrie_api.specs.Trie.{Trie}
 use Rattle.dots.specs.declared.refusal.Refusal.{Refusal}
-use Rattle.std.proofs.lemmas.List.{take_more, take_all}
+use Rattle.std.proofs.lemmas.List.{take_more, take_all, map-append}
 use Rattle.std.proofs.lemmas.List.Elements.{All-tail, All-append}
 use Rattle.trace_cli.specs.Command.{CommandValue, Node, Put, Get, Flush, Deliver, Remove, Clear, Show, Size, Context, Look}
 use Rattle.trace_cli.specs.Command as command
@@ -103,10 +103,10 @@ module _ {A : Type 0} where
   pub shows_start : {H : Type 0} (h : H) (t : Trie H (Vec (List ℕ) A)) (seen : List Operation) → t ≡ record { read_only = false; hash = h; map = finite.empty } → ShowsKeys t.map seen [] × (t.read_only ≡ false)
   shows_start h t seen is = (subst (λ m. ShowsKeys m seen []) (sym (ap (λ x. x.map) is)) (shows_none seen), ap (λ x. x.read_only) is)
 
-  pub shows_step : (m n : finite.FinMap order (Vec (List ℕ) A)) (seen : List Operation) (ks : List (List ℕ)) (i : ℕ) (d : List ℕ) → i < length ks → ShowsKeys m seen (take i ks)
-    → ((q : List ℕ) → found_values n q ≡ cond (eq_by_cmp bytes_cmp q (slice_index_or ks i d)) (values seen (slice_index_or ks i d)) (found_values m q)) → ShowsKeys n seen (take (i + 1) ks)
-  shows_step m n seen ks i d within before step =
-    subst (ShowsKeys n seen) (sym (take_more ks i d within)) (shows_more m n seen (take i ks) (slice_index_or ks i d) before step)
+  pub shows_step : (m n : finite.FinMap order (Vec (List ℕ) A)) (seen : List Operation) (ks : List (List ℕ)) (i : ℕ) (key : List ℕ) → i < length ks → key ≡ slice_index_or ks i key → ShowsKeys m seen (take i ks)
+    → ((q : List ℕ) → found_values n q ≡ cond (eq_by_cmp bytes_cmp q key) (values seen key) (found_values m q)) → ShowsKeys n seen (take (i + 1) ks)
+  shows_step m n seen ks i key within is before step =
+    subst (ShowsKeys n seen) (sym (take_more ks i key within ∙ ap (λ k. take i ks ++ k ∷ []) (sym is))) (shows_more m n seen (take i ks) key before step)
 
   pub shows_it : (m n : finite.FinMap order (Vec (List ℕ) A)) (seen : List Operation) (ks : List (List ℕ)) → ks ≡ keys seen → n ≡ m → ShowsKeys m seen ks → Shows n seen
   shows_it m n seen ks all same part =
@@ -119,10 +119,24 @@ take_front (suc n) (x ∷ xs) ys h = ap (λ zs. x ∷ zs) (take_front n xs ys (o
 
 -- more events came, or none
 pub grows_same : (old new : List Event) → new ≡ old → Grows old new
-grows_same old new same = record { more = []; is = same ∙ sym (append_nil old) }
+grows_same old new same = record { more = []; is = same ∙ sym (append-nil old) }
 
 pub grows_by : (old new more : List Event) → new ≡ old ++ more → Grows old new
 grows_by old new more is = record { more = more; is = is }
+
+world_only : (w : World) (pins : List (List Operation)) (command : CommandValue) → is_at_world command ≡ true → outcome_of w [] command ≡ outcome_of w pins command
+world_only w pins (Node name) h = refl
+world_only w pins (Put name key value) h = refl
+world_only w pins (Get name key) h = refl
+world_only w pins (Flush name) h = refl
+world_only w pins (Deliver number name) h = refl
+world_only w pins (Remove name key) h = refl
+world_only w pins (Clear name) h = refl
+world_only w pins (Show name) h = refl
+world_only w pins (Size name) h = refl
+world_only w pins (Context name) h = refl
+world_only w pins (command.Pin name) h = absurd (false≢true h)
+world_only w pins (Look pin key) h = absurd (false≢true h)
 
 module _ {A : Type 0} where
   pinned_later : (events more : List Event) (pin : Pin A) → pin.age ≤ length events → pinned (events ++ more) pin ≡ pinned events pin
@@ -149,20 +163,6 @@ module _ {A : Type 0} where
   -- the past of these events and pins
   abbrev past : List Event → List (Pin A) → Past
   past events pins = record { events = events; pins = pins_of events pins }
-
-  world_only : (w : World) (pins : List (List Operation)) (command : CommandValue) → is_at_world command ≡ true → outcome_of w [] command ≡ outcome_of w pins command
-  world_only w pins (Node name) h = refl
-  world_only w pins (Put name key value) h = refl
-  world_only w pins (Get name key) h = refl
-  world_only w pins (Flush name) h = refl
-  world_only w pins (Deliver number name) h = refl
-  world_only w pins (Remove name key) h = refl
-  world_only w pins (Clear name) h = refl
-  world_only w pins (Show name) h = refl
-  world_only w pins (Size name) h = refl
-  world_only w pins (Context name) h = refl
-  world_only w pins (command.Pin name) h = absurd (false≢true h)
-  world_only w pins (Look pin key) h = absurd (false≢true h)
 
   lifted : (outcome : Outcome) (old new : List Event) (pins : List (Pin A)) (r : Result (Vec ℕ A) Refusal) → AllPinned old pins → Does outcome old new r → Brings outcome (past old pins) (past new pins) r
   lifted outcome old new pins (Ok text) all done =

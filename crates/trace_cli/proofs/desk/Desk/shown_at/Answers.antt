@@ -8,4 +8,4 @@ loop-key-init g c = shows_start _ c.new-shown.result _ c.new-shown.ensures
 pub loop-key-preserved : goal.loop-key-preserved
 loop-key-preserved g c =
     let within : c.loop-key.key-index < length c.args.keys.now = omega arith in
-    (shows_step _ _ _ c.args.keys.now c.loop-key.key-index _ within c.loop-key.invariant.0 c.in_ok-show_key.ensures.ok, c.in_ok-show_key.ensures.writable)
+    (shows_step _ _ _ c.args.keys.now c.loop-key.key-index c.key-item.result within c.key-item.is c.loop-key.invariant.0 c.in_ok-show_key.ensures.ok, c.in_ok-show_key.ensures.writable)
