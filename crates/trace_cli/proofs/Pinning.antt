@@ -1,6 +1,8 @@
 -- Pins: what a map of shown values shows, and that pins stay as more events come.
-use Rattle.std.specs.Prelude.{◌≡◌, ◌≤◌, ◌<◌, ◌+◌, ◌⊎◌, ℕ, zero, suc, Bool, true, false, cond, List, [], ◌∷◌, ◌++◌, map, take, length, refl, Option, Some, None, Result, Ok, Err, Contains, slice_get, slice_index_or, nat_lt, OnOk}
+use Rattle.std.specs.Prelude.{◌≡◌, ◌≤◌, ◌<◌, ◌+◌, ◌-◌, ◌⊎◌, ℕ, zero, suc, Bool, true, false, cond, List, [], ◌∷◌, ◌++◌, map, take, length, refl, Option, Some, None, Result, Ok, Err, Contains, slice_get, slice_index_or, nat_lt, nat_le, ◌↔◌, is_ok, IfOk, IsOkUnless, OnOk}
 use Rattle.std.specs.List.{All}
+use Rattle.std.specs.Option.{option_map}
+use Rattle.std.proofs.lemmas.Option.{none-some, slice_get_within, get_or_from_slice_get}
 use Rattle.std.proofs.Common.{arith, ap, sym, ◌∙◌, inl, inr, subst, length-append, append-nil}
 use Rattle.std.specs.FinMap as finite
 use Rattle.std.specs.Ordering.{eq_by_cmp}
@@ -17,14 +19,20 @@ use Rattle.op_model.proofs.Members.{at_head, head_or_tail, nothing_in, at_same}
 use Rattle.op_model.proofs.Words.{values-IsShown, keys-IsShown}
 use Rattle.op_model.specs.World.{World}
 use Rattle.ctrie_api.specs.Trie.{Trie}
+use Rattle.dots.specs.Bytes.{MAX_LENGTH}
 use Rattle.dots.specs.declared.refusal.Refusal.{Refusal}
+use Rattle.dots.specs.declared.refusal.Refusal.TheVariants.{TooLong, OutOfMemory}
+use Rattle.trace_cli.specs.Parsed.{command_value}
+use Rattle.trace_cli.specs.declared.command.Command as parsed
+use Rattle.trace_cli.specs.declared.command.Command.TheVariants as parsed_command
+use Rattle.std.proofs.lemmas.Bool.Decides.{nat_tests}
 use Rattle.std.proofs.lemmas.List.{take_more, take_all, map-append}
 use Rattle.std.proofs.lemmas.List.Elements.{All-tail, All-append}
 use Rattle.trace_cli.specs.Command.{CommandValue, Node, Put, Get, Flush, Deliver, Remove, Clear, Show, Size, Context, Look}
 use Rattle.trace_cli.specs.Command as command
 use Rattle.trace_cli.specs.Does.{Does, Brings}
-use Rattle.trace_cli.specs.Machine.{Past, answer_by, past_by}
-use Rattle.trace_cli.specs.Outcome.{Outcome, outcome_of, is_at_world}
+use Rattle.trace_cli.specs.Machine.{Past, Told, answer_by, past_by}
+use Rattle.trace_cli.specs.Outcome.{Outcome, Refused, Done, outcome_of, is_at_world, pin_at, look_outcome, with_bytes, values_text}
 use Rattle.trace_cli.specs.Pins.{Grows, values_in, found_values, Shows, ShowsKeys, pinned, pins_of, IsPinned, AllPinned}
 use Rattle.trace_cli.specs.declared.pin.Pin.{Pin}
 
@@ -138,6 +146,17 @@ world_only w pins (Context name) h = refl
 world_only w pins (command.Pin name) h = absurd (false≢true h)
 world_only w pins (Look pin key) h = absurd (false≢true h)
 
+get_map : {X Y : Type 0} (f : X → Y) (xs : List X) (n : ℕ) → slice_get (map f xs) n ≡ option_map f (slice_get xs n)
+get_map f [] n = refl
+get_map f (x ∷ xs) zero = refl
+get_map f (x ∷ xs) (suc n) = get_map f xs n
+
+at_number : {X : Type 0} (xs : List X) (n : ℕ) {found : Option X} → found ≡ cond (nat_lt 0 (suc n)) (slice_get xs (suc n - 1)) None → found ≡ slice_get xs n
+at_number xs n is =
+    let less : nat_lt 0 (suc n) ≡ true = grind (arith, nat_tests) in
+    let same : suc n - 1 ≡ n = omega arith in
+    is ∙ cond-true (nat_lt 0 (suc n)) (slice_get xs (suc n - 1)) None less ∙ ap (slice_get xs) same
+
 module _ {A : Type 0} where
   pinned_later : (events more : List Event) (pin : Pin A) → pin.age ≤ length events → pinned (events ++ more) pin ≡ pinned events pin
   pinned_later events more pin was = ap (λ es. (after es).seen pin.name) (take_front pin.age events more was)
@@ -196,3 +215,54 @@ module _ {A : Type 0} where
 
   pub pins_more : (events : List Event) (pins : List (Pin A)) (pin : Pin A) → pin.age ≡ length events → pins_of events (pins ++ pin ∷ []) ≡ pins_of events pins ++ (after events).seen pin.name ∷ []
   pins_more events pins pin age = map-append (pinned events) pins (pin ∷ []) ∙ ap (λ s. pins_of events pins ++ s ∷ []) (pinned_now events pin age)
+
+  -- the pin of a number
+  pub found_pin : (events : List Event) (pins : List (Pin A)) (n : ℕ) (pin : Pin A) → Some pin ≡ cond (nat_lt 0 n) (slice_get pins (n - 1)) None
+    → pin_at (pins_of events pins) n ≡ Some (pinned events pin)
+  found_pin events pins zero pin is = absurd (none-some pin (sym is))
+  found_pin events pins (suc n) pin is = get_map (pinned events) pins n ∙ ap (option_map (pinned events)) (sym (at_number pins n is))
+
+  pub no_pin : (events : List Event) (pins : List (Pin A)) (n : ℕ) → None ≡ cond (nat_lt 0 n) (slice_get pins (n - 1)) None → pin_at (pins_of events pins) n ≡ None
+  no_pin events pins zero is = refl
+  no_pin events pins (suc n) is = get_map (pinned events) pins n ∙ ap (option_map (pinned events)) (sym (at_number pins n is))
+
+  pub pin_shows : (events : List Event) (pins : List (Pin A)) (n : ℕ) (pin : Pin A) → AllPinned events pins → Some pin ≡ cond (nat_lt 0 n) (slice_get pins (n - 1)) None → Shows pin.shown.map (pinned events pin)
+  pin_shows events pins zero pin all is = absurd (none-some pin (sym is))
+  pin_shows events pins (suc n) pin all is =
+    let there : slice_get pins n ≡ Some pin = sym (at_number pins n is) in
+    let within = slice_get_within pins n pin there in
+    subst (λ p. Shows p.shown.map (pinned events p)) (get_or_from_slice_get pins n pin pin there) (all n pin within).shows
+
+  pub look_at : (found : Option (List Operation)) (seen : List Operation) (key : List ℕ) (old : Past) (r : Result (Vec ℕ A) Refusal) → found ≡ Some seen
+    → Brings (with_bytes key (Done (values_text (values seen key)) [])) old old r → Brings (look_outcome found key) old old r
+  look_at found seen key old r is done = subst (λ f. Brings (look_outcome f key) old old r) (sym is) done
+
+  -- a command that is no pin and no look
+  pub at_world_command : (given : parsed.Command A) → ((name : ℕ) → given ≡ parsed_command.Pin name → ⊥) → ((pin : ℕ) (key : Vec ℕ A) → given ≡ parsed_command.Look pin key → ⊥) → is_at_world (command_value given) ≡ true
+  at_world_command (parsed_command.Node name) no_pin_is no_look = refl
+  at_world_command (parsed_command.Put name key value) no_pin_is no_look = refl
+  at_world_command (parsed_command.Get name key) no_pin_is no_look = refl
+  at_world_command (parsed_command.Flush name) no_pin_is no_look = refl
+  at_world_command (parsed_command.Deliver number name) no_pin_is no_look = refl
+  at_world_command (parsed_command.Remove name key) no_pin_is no_look = refl
+  at_world_command (parsed_command.Clear name) no_pin_is no_look = refl
+  at_world_command (parsed_command.Show name) no_pin_is no_look = refl
+  at_world_command (parsed_command.Size name) no_pin_is no_look = refl
+  at_world_command (parsed_command.Context name) no_pin_is no_look = refl
+  at_world_command (parsed_command.Pin name) no_pin_is no_look = absurd (no_pin_is name refl)
+  at_world_command (parsed_command.Look pin key) no_pin_is no_look = absurd (no_look pin key refl)
+
+  -- a key that was made is not too long
+  pub short_enough : {T : Type 0} (x : T) (n : ℕ) → ((◌≡◌ {A = Result T Refusal} (Ok x) (Err TooLong)) ↔ (MAX_LENGTH < n)) → nat_le n MAX_LENGTH ≡ true
+  short_enough x n exact = grind (arith, nat_tests, not_long) where
+    not_long : ¬ (MAX_LENGTH < n)
+    not_long h = false≢true (sym (ap is_ok (exact.1 h)))
+
+  pub look_done : (seen : List Operation) (key : List ℕ) (vs : List (List ℕ)) (old : Past) (r : Result (Vec ℕ A) Refusal) → nat_le (length key) MAX_LENGTH ≡ true → vs ≡ values seen key
+    → IfOk r (λ text. text.items ≡ values_text vs) → IsOkUnless r OutOfMemory → Brings (with_bytes key (Done (values_text (values seen key)) [])) old old r
+  look_done seen key vs old (Ok text) short same ok err =
+    let done = Done (values_text (values seen key)) [] in
+    let is : with_bytes key done ≡ done = cond-true (nat_le (length key) MAX_LENGTH) done (Refused TooLong) short in
+    (ap answer_by is ∙ ap (λ ws. Told (values_text ws)) (sym same) ∙ ap Told (sym ok),
+    ap (λ es. record old { events = es }) (sym (append-nil old.events)) ∙ ap (past_by old) (sym is))
+  look_done seen key vs old (Err refusal) short same ok err = inl err

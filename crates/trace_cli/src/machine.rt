@@ -106,7 +106,7 @@ impl<A: Allocator + Copy> Machine<A> {
         let key = Key::new(self.alloc, key)?;
         match pin.shown.lookup(&key) {
             Some(found) => get_answer(self.alloc, found.as_slice()),
-            None => get_answer(self.alloc, &[]),
+            None => get_answer(self.alloc, Vec::new(self.alloc).as_slice()),
         }
     }
 }
