@@ -157,6 +157,12 @@ at_number xs n is =
     let same : suc n - 1 ≡ n = omega arith in
     is ∙ cond-true (nat_lt 0 (suc n)) (slice_get xs (suc n - 1)) None less ∙ ap (slice_get xs) same
 
+-- a key that was made is not too long
+pub short_enough : {T : Type 0} (x : T) (n : ℕ) → ((◌≡◌ {A = Result T Refusal} (Ok x) (Err TooLong)) ↔ (MAX_LENGTH < n)) → nat_le n MAX_LENGTH ≡ true
+short_enough x n exact = grind (arith, nat_tests, not_long) where
+  not_long : ¬ (MAX_LENGTH < n)
+  not_long h = false≢true (sym (ap is_ok (exact.1 h)))
+
 module _ {A : Type 0} where
   pinned_later : (events more : List Event) (pin : Pin A) → pin.age ≤ length events → pinned (events ++ more) pin ≡ pinned events pin
   pinned_later events more pin was = ap (λ es. (after es).seen pin.name) (take_front pin.age events more was)
@@ -251,12 +257,6 @@ module _ {A : Type 0} where
   at_world_command (parsed_command.Context name) no_pin_is no_look = refl
   at_world_command (parsed_command.Pin name) no_pin_is no_look = absurd (no_pin_is name refl)
   at_world_command (parsed_command.Look pin key) no_pin_is no_look = absurd (no_look pin key refl)
-
-  -- a key that was made is not too long
-  pub short_enough : {T : Type 0} (x : T) (n : ℕ) → ((◌≡◌ {A = Result T Refusal} (Ok x) (Err TooLong)) ↔ (MAX_LENGTH < n)) → nat_le n MAX_LENGTH ≡ true
-  short_enough x n exact = grind (arith, nat_tests, not_long) where
-    not_long : ¬ (MAX_LENGTH < n)
-    not_long h = false≢true (sym (ap is_ok (exact.1 h)))
 
   pub look_done : (seen : List Operation) (key : List ℕ) (vs : List (List ℕ)) (old : Past) (r : Result (Vec ℕ A) Refusal) → nat_le (length key) MAX_LENGTH ≡ true → vs ≡ values seen key
     → IfOk r (λ text. text.items ≡ values_text vs) → IsOkUnless r OutOfMemory → Brings (with_bytes key (Done (values_text (values seen key)) [])) old old r

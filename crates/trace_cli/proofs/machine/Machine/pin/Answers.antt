@@ -1,4 +1,4 @@
-use Rattle.trace_cli.proofs.Pinning.{all_more, pins_more}
+use Rattle.trace_cli.proofs.Pinning.{all_more}
 use Rattle.trace_cli.proofs.machine.Machine.pin.Goals as goal
 
 pub invariant_of-self-2 : goal.invariant_of-self-2
