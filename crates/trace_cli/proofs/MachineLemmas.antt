@@ -1,5 +1,5 @@
 -- What a line is answered, by whether it has a byte.
-use Rattle.std.proofs.Common.{◌≡◌, ℕ, false, true, ◌==◌, List, [], ◌∷◌, ◌++◌, length, refl, suc, arith}
+use Rattle.std.proofs.Common.{◌≡◌, ℕ, false, true, ◌==◌, List, [], ◌∷◌, length, refl, suc, arith}
 use Rattle.std.proofs.lemmas.Bool.Decides.{nat_tests}
 use Rattle.trace_cli.specs.Command.{command_of}
 use Rattle.trace_cli.specs.Machine.{Past, Silent, answer_to, past_after, answer_by, past_by, line_outcome}

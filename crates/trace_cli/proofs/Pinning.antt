@@ -1,5 +1,5 @@
 -- Pins: what a map of shown values shows, and that pins stay as more events come.
-use Rattle.std.specs.Prelude.{◌≡◌, ◌≤◌, ◌<◌, ◌+◌, ◌-◌, ◌⊎◌, ℕ, zero, suc, Bool, true, false, cond, List, [], ◌∷◌, ◌++◌, map, take, length, refl, Option, Some, None, Result, Ok, Err, Contains, slice_get, slice_index_or, nat_lt, nat_le, ◌↔◌, is_ok, IfOk, IsOkUnless, OnOk}
+use Rattle.std.specs.Prelude.{◌≡◌, ◌≤◌, ◌<◌, ◌+◌, ◌-◌, ◌⊎◌, ℕ, zero, suc, Bool, true, false, cond, List, [], ◌∷◌, ◌++◌, map, take, length, refl, Option, Some, None, Result, Ok, Err, Contains, slice_get, slice_index_or, nat_lt, nat_le, ◌↔◌, is_ok, IfOk, IsOkUnless}
 use Rattle.std.specs.List.{All}
 use Rattle.std.specs.Option.{option_map}
 use Rattle.std.proofs.lemmas.Option.{none-some, slice_get_within, get_or_from_slice_get}
@@ -43,12 +43,12 @@ module _ {A : Type 0} where
 
   -- a map after the values of one key were put
   pub found_insert : (m n : finite.FinMap order (Vec (List ℕ) A)) (key : List ℕ) (found : Vec (List ℕ) A) (vs : List (List ℕ)) → n ≡ finite.insert m key found → found.items ≡ vs
-    → (q : List ℕ) → found_values n q ≡ cond (eq_by_cmp bytes_cmp q key) vs (found_values m q)
+      → (q : List ℕ) → found_values n q ≡ cond (eq_by_cmp bytes_cmp q key) vs (found_values m q)
   found_insert m n key found vs is items q =
-    ap (λ x. found_values x q) is
-    ∙ ap values_in (finite.get-insert nat_list_cmp_total m key found q)
-    ∙ values_if (eq_by_cmp order q key) found (finite.get m q)
-    ∙ ap (λ v. cond (eq_by_cmp order q key) v (found_values m q)) items
+      ap (λ x. found_values x q) is
+      ∙ ap values_in (finite.get-insert nat_list_cmp_total m key found q)
+      ∙ values_if (eq_by_cmp order q key) found (finite.get m q)
+      ∙ ap (λ v. cond (eq_by_cmp order q key) v (found_values m q)) items
 
   pub shows_none : (seen : List Operation) → ShowsKeys (finite.empty {X = Vec (List ℕ) A} {R = order}) seen []
   shows_none seen = record {
@@ -57,7 +57,7 @@ module _ {A : Type 0} where
   }
 
   pub shows_more : (m n : finite.FinMap order (Vec (List ℕ) A)) (seen : List Operation) (ks : List (List ℕ)) (key : List ℕ) → ShowsKeys m seen ks
-    → ((q : List ℕ) → found_values n q ≡ cond (eq_by_cmp bytes_cmp q key) (values seen key) (found_values m q)) → ShowsKeys n seen (ks ++ key ∷ [])
+      → ((q : List ℕ) → found_values n q ≡ cond (eq_by_cmp bytes_cmp q key) (values seen key) (found_values m q)) → ShowsKeys n seen (ks ++ key ∷ [])
   shows_more m n seen ks key before step = record {
     there = λ q h. elim (cases_Bool (eq_by_cmp order q key)) [
       | inr f ↦ step q ∙ cond-false (eq_by_cmp order q key) (values seen key) (found_values m q) f ∙ before.there q (old q f h)
@@ -81,9 +81,9 @@ module _ {A : Type 0} where
 no_values : (seen : List Operation) (key : List ℕ) (found : List (List ℕ)) → found ≡ values seen key → ¬ (Contains (keys seen) key) → values seen key ≡ []
 no_values seen key [] is absent = sym is
 no_values seen key (v ∷ vs) is absent =
-  let P : List (List ℕ) → Type 0 = λ xs. Contains xs v in
-  let shown_so = (values-IsShown seen key v).0 (subst P is (at_head v vs)) in
-  absurd (absent ((keys-IsShown seen key).1 (shown_so.0, shown_so.1)))
+    let P : List (List ℕ) → Type 0 = λ xs. Contains xs v in
+    let shown_so = (values-IsShown seen key v).0 (subst P is (at_head v vs)) in
+    absurd (absent ((keys-IsShown seen key).1 (shown_so.0, shown_so.1)))
 
 module _ {A : Type 0} where
   pub shows_all : (m : finite.FinMap order (Vec (List ℕ) A)) (seen : List Operation) → ShowsKeys m seen (keys seen) → ((key : List ℕ) → Contains (keys seen) key ⊎ ¬ (Contains (keys seen) key)) → Shows m seen
@@ -112,13 +112,13 @@ module _ {A : Type 0} where
   shows_start h t seen is = (subst (λ m. ShowsKeys m seen []) (sym (ap (λ x. x.map) is)) (shows_none seen), ap (λ x. x.read_only) is)
 
   pub shows_step : (m n : finite.FinMap order (Vec (List ℕ) A)) (seen : List Operation) (ks : List (List ℕ)) (i : ℕ) (key : List ℕ) → i < length ks → key ≡ slice_index_or ks i key → ShowsKeys m seen (take i ks)
-    → ((q : List ℕ) → found_values n q ≡ cond (eq_by_cmp bytes_cmp q key) (values seen key) (found_values m q)) → ShowsKeys n seen (take (i + 1) ks)
+      → ((q : List ℕ) → found_values n q ≡ cond (eq_by_cmp bytes_cmp q key) (values seen key) (found_values m q)) → ShowsKeys n seen (take (i + 1) ks)
   shows_step m n seen ks i key within is before step =
-    subst (ShowsKeys n seen) (sym (take_more ks i key within ∙ ap (λ k. take i ks ++ k ∷ []) (sym is))) (shows_more m n seen (take i ks) key before step)
+      subst (ShowsKeys n seen) (sym (take_more ks i key within ∙ ap (λ k. take i ks ++ k ∷ []) (sym is))) (shows_more m n seen (take i ks) key before step)
 
   pub shows_it : (m n : finite.FinMap order (Vec (List ℕ) A)) (seen : List Operation) (ks : List (List ℕ)) → ks ≡ keys seen → n ≡ m → ShowsKeys m seen ks → Shows n seen
   shows_it m n seen ks all same part =
-    subst (λ x. Shows x seen) (sym same) (shows_all m seen (subst (ShowsKeys m seen) all part) (is_there_or_not (keys seen)))
+      subst (λ x. Shows x seen) (sym same) (shows_all m seen (subst (ShowsKeys m seen) all part) (is_there_or_not (keys seen)))
 
 take_front : {X : Type 0} (n : ℕ) (xs ys : List X) → n ≤ length xs → take n (xs ++ ys) ≡ take n xs
 take_front zero xs ys h = refl
@@ -171,9 +171,9 @@ module _ {A : Type 0} where
   pins_later : (events more : List Event) (pins : List (Pin A)) → AllPinned events pins → pins_of (events ++ more) pins ≡ pins_of events pins
   pins_later events more [] all = refl
   pins_later events more (pin ∷ pins) all =
-    let rest = pins_later events more pins (All-tail (IsPinned events) pin pins all) in
-    let first = pinned_later events more pin (all 0 pin (omega arith)).was in
-    ap (λ s. s ∷ pins_of (events ++ more) pins) first ∙ ap (λ ss. pinned events pin ∷ ss) rest
+      let rest = pins_later events more pins (All-tail (IsPinned events) pin pins all) in
+      let first = pinned_later events more pin (all 0 pin (omega arith)).was in
+      ap (λ s. s ∷ pins_of (events ++ more) pins) first ∙ ap (λ ss. pinned events pin ∷ ss) rest
 
   one_later : (events more : List Event) (pin : Pin A) → IsPinned events pin → IsPinned (events ++ more) pin
   one_later events more pin is = record {
@@ -183,7 +183,7 @@ module _ {A : Type 0} where
 
   pub all_later : (old new : List Event) (pins : List (Pin A)) → AllPinned old pins → Grows old new → AllPinned new pins
   all_later old new pins all grows = λ k d within.
-    subst (λ es. IsPinned es (slice_index_or pins k d)) (sym grows.is) (one_later old grows.more (slice_index_or pins k d) (all k d within))
+      subst (λ es. IsPinned es (slice_index_or pins k d)) (sym grows.is) (one_later old grows.more (slice_index_or pins k d) (all k d within))
 
   -- the past of these events and pins
   abbrev past : List Event → List (Pin A) → Past
@@ -191,11 +191,12 @@ module _ {A : Type 0} where
 
   lifted : (outcome : Outcome) (old new : List Event) (pins : List (Pin A)) (r : Result (Vec ℕ A) Refusal) → AllPinned old pins → Does outcome old new r → Brings outcome (past old pins) (past new pins) r
   lifted outcome old new pins (Ok text) all done =
-    let later : pins_of (old ++ done.events) pins ≡ pins_of old pins = pins_later old done.events pins all in
-    (ap answer_by done.is,
-    ap (λ es. past es pins) done.past
-    ∙ ap (λ ss. record { events = old ++ done.events; pins = ss }) later
-    ∙ ap (past_by (past old pins)) (sym done.is))
+      let later : pins_of (old ++ done.events) pins ≡ pins_of old pins = pins_later old done.events pins all in (
+        ap answer_by done.is,
+        ap (λ es. past es pins) done.past
+            ∙ ap (λ ss. record { events = old ++ done.events; pins = ss }) later
+            ∙ ap (past_by (past old pins)) (sym done.is),
+      )
   lifted outcome old new pins (Err refusal) all done = elim done [
     | inl memory ↦ inl memory
     | inr (is, same) ↦ inr (is, ap (λ es. past es pins) same)
@@ -203,9 +204,9 @@ module _ {A : Type 0} where
 
   -- a command at the world, seen with the pins
   pub at_world : (command : CommandValue) (old new : List Event) (pins : List (Pin A)) (r : Result (Vec ℕ A) Refusal) → AllPinned old pins → is_at_world command ≡ true
-    → Does (outcome_of (after old) [] command) old new r → Brings (outcome_of (after old) (pins_of old pins) command) (past old pins) (past new pins) r
+      → Does (outcome_of (after old) [] command) old new r → Brings (outcome_of (after old) (pins_of old pins) command) (past old pins) (past new pins) r
   at_world command old new pins r all is done =
-    subst (λ o. Brings o (past old pins) (past new pins) r) (world_only (after old) (pins_of old pins) command is) (lifted (outcome_of (after old) [] command) old new pins r all done)
+      subst (λ o. Brings o (past old pins) (past new pins) r) (world_only (after old) (pins_of old pins) command is) (lifted (outcome_of (after old) [] command) old new pins r all done)
 
   pinned_now : (events : List Event) (pin : Pin A) → pin.age ≡ length events → pinned events pin ≡ (after events).seen pin.name
   pinned_now events pin age = ap (λ es. (after es).seen pin.name) (take_all pin.age events (omega (arith, age)))
@@ -213,18 +214,18 @@ module _ {A : Type 0} where
   -- one more pin
   pub all_more : (events : List Event) (pins : List (Pin A)) (pin : Pin A) → AllPinned events pins → pin.age ≡ length events → Shows pin.shown.map ((after events).seen pin.name) → AllPinned events (pins ++ pin ∷ [])
   all_more events pins pin all age shows = All-append (IsPinned events) pins (pin ∷ []) all
-    (All-one (record { was = omega (arith, age); shows = λ key. shows key ∙ ap (λ seen. values seen key) (sym (pinned_now events pin age)) }))
+      (All-one (record { was = omega (arith, age); shows = λ key. shows key ∙ ap (λ seen. values seen key) (sym (pinned_now events pin age)) }))
     where
-    All-one : IsPinned events pin → All (IsPinned events) (pin ∷ [])
-    All-one h zero d l = h
-    All-one h (suc k) d l = absurd (omega (arith, l))
+      All-one : IsPinned events pin → All (IsPinned events) (pin ∷ [])
+      All-one h zero d l = h
+      All-one h (suc k) d l = absurd (omega (arith, l))
 
   pub pins_more : (events : List Event) (pins : List (Pin A)) (pin : Pin A) → pin.age ≡ length events → pins_of events (pins ++ pin ∷ []) ≡ pins_of events pins ++ (after events).seen pin.name ∷ []
   pins_more events pins pin age = map-append (pinned events) pins (pin ∷ []) ∙ ap (λ s. pins_of events pins ++ s ∷ []) (pinned_now events pin age)
 
   -- the pin of a number
   pub found_pin : (events : List Event) (pins : List (Pin A)) (n : ℕ) (pin : Pin A) → Some pin ≡ cond (nat_lt 0 n) (slice_get pins (n - 1)) None
-    → pin_at (pins_of events pins) n ≡ Some (pinned events pin)
+      → pin_at (pins_of events pins) n ≡ Some (pinned events pin)
   found_pin events pins zero pin is = absurd (none-some pin (sym is))
   found_pin events pins (suc n) pin is = get_map (pinned events) pins n ∙ ap (option_map (pinned events)) (sym (at_number pins n is))
 
@@ -235,12 +236,12 @@ module _ {A : Type 0} where
   pub pin_shows : (events : List Event) (pins : List (Pin A)) (n : ℕ) (pin : Pin A) → AllPinned events pins → Some pin ≡ cond (nat_lt 0 n) (slice_get pins (n - 1)) None → Shows pin.shown.map (pinned events pin)
   pin_shows events pins zero pin all is = absurd (none-some pin (sym is))
   pin_shows events pins (suc n) pin all is =
-    let there : slice_get pins n ≡ Some pin = sym (at_number pins n is) in
-    let within = slice_get_within pins n pin there in
-    subst (λ p. Shows p.shown.map (pinned events p)) (get_or_from_slice_get pins n pin pin there) (all n pin within).shows
+      let there : slice_get pins n ≡ Some pin = sym (at_number pins n is) in
+      let within = slice_get_within pins n pin there in
+      subst (λ p. Shows p.shown.map (pinned events p)) (get_or_from_slice_get pins n pin pin there) (all n pin within).shows
 
   pub look_at : (found : Option (List Operation)) (seen : List Operation) (key : List ℕ) (old : Past) (r : Result (Vec ℕ A) Refusal) → found ≡ Some seen
-    → Brings (with_bytes key (Done (values_text (values seen key)) [])) old old r → Brings (look_outcome found key) old old r
+      → Brings (with_bytes key (Done (values_text (values seen key)) [])) old old r → Brings (look_outcome found key) old old r
   look_at found seen key old r is done = subst (λ f. Brings (look_outcome f key) old old r) (sym is) done
 
   -- a command that is no pin and no look
@@ -259,10 +260,11 @@ module _ {A : Type 0} where
   at_world_command (parsed_command.Look pin key) no_pin_is no_look = absurd (no_look pin key refl)
 
   pub look_done : (seen : List Operation) (key : List ℕ) (vs : List (List ℕ)) (old : Past) (r : Result (Vec ℕ A) Refusal) → nat_le (length key) MAX_LENGTH ≡ true → vs ≡ values seen key
-    → IfOk r (λ text. text.items ≡ values_text vs) → IsOkUnless r OutOfMemory → Brings (with_bytes key (Done (values_text (values seen key)) [])) old old r
+      → IfOk r (λ text. text.items ≡ values_text vs) → IsOkUnless r OutOfMemory → Brings (with_bytes key (Done (values_text (values seen key)) [])) old old r
   look_done seen key vs old (Ok text) short same ok err =
-    let done = Done (values_text (values seen key)) [] in
-    let is : with_bytes key done ≡ done = cond-true (nat_le (length key) MAX_LENGTH) done (Refused TooLong) short in
-    (ap answer_by is ∙ ap (λ ws. Told (values_text ws)) (sym same) ∙ ap Told (sym ok),
-    ap (λ es. record old { events = es }) (sym (append-nil old.events)) ∙ ap (past_by old) (sym is))
+      let done = Done (values_text (values seen key)) [] in
+      let is : with_bytes key done ≡ done = cond-true (nat_le (length key) MAX_LENGTH) done (Refused TooLong) short in (
+        ap answer_by is ∙ ap (λ ws. Told (values_text ws)) (sym same) ∙ ap Told (sym ok),
+        ap (λ es. record old { events = es }) (sym (append-nil old.events)) ∙ ap (past_by old) (sym is),
+      )
   look_done seen key vs old (Err refusal) short same ok err = inl err

@@ -1,5 +1,5 @@
 -- How the pins are kept: each with its replica's name, how many events had been accepted, and a map of what was shown.
-use Rattle.std.specs.Prelude.{◌≡◌, ◌≤◌, ℕ, Bool, List, [], map, take, length, Option, Some, None, Contains, ◌++◌}
+use Rattle.std.specs.Prelude.{◌≡◌, ◌≤◌, ℕ, List, [], map, take, length, Option, Some, None, Contains, ◌++◌}
 use Rattle.std.specs.List.{All}
 use Rattle.std.specs.FinMap as finite
 use Rattle.std.specs.declared.vec.Vec.{Vec}
