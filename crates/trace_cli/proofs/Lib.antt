@@ -10,3 +10,4 @@ pub mod ReplicaMaps
 pub mod Keeping
 pub mod WorldLemmas
 mod Compressing
+pub mod Pinning

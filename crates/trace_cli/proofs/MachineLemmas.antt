@@ -1,8 +1,8 @@
 -- What a line is answered, by whether it has a byte.
-use Rattle.std.proofs.Common.{◌≡◌, ℕ, false, true, ◌==◌, List, [], ◌∷◌, ◌++◌, length, refl, suc, arith}
+use Rattle.std.proofs.Common.{◌≡◌, ℕ, false, true, ◌==◌, List, [], ◌∷◌, length, refl, suc, arith}
 use Rattle.std.proofs.lemmas.Bool.Decides.{nat_tests}
 use Rattle.trace_cli.specs.Command.{command_of}
-use Rattle.trace_cli.specs.Machine.{Past, Silent, answer_to, past_after, answer_by, events_by, line_outcome}
+use Rattle.trace_cli.specs.Machine.{Past, Silent, answer_to, past_after, answer_by, past_by, line_outcome}
 
 zero_length : (n : ℕ) → true ≡ (suc n == 0) → ⊥
 zero_length n h = grind (arith, nat_tests)
@@ -22,7 +22,7 @@ unfolding answer_to
 answer_to-command past [] h = absurd cc
 answer_to-command past (byte ∷ line) h = refl
 
-pub past_after-command : (past : Past) (line : List ℕ) → false ≡ (length line == 0) → past_after past line ≡ past ++ events_by (line_outcome past (command_of line))
+pub past_after-command : (past : Past) (line : List ℕ) → false ≡ (length line == 0) → past_after past line ≡ past_by past (line_outcome past (command_of line))
 unfolding past_after
 past_after-command past [] h = absurd cc
 past_after-command past (byte ∷ line) h = refl

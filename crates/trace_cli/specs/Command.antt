@@ -15,6 +15,8 @@ pub data CommandValue : Type 0 where
   Show : ℕ → CommandValue
   Size : ℕ → CommandValue
   Context : ℕ → CommandValue
+  Pin : ℕ → CommandValue
+  Look : ℕ → List ℕ → CommandValue
 
 -- the command that takes one number, where the word is one
 abbrev pub with_number : (ℕ → CommandValue) → Option ℕ → Option CommandValue
@@ -48,13 +50,15 @@ one_word_command verb first =
     (cond (bytes_eq verb (codes "clear")) (with_number Clear (number_of first))
     (cond (bytes_eq verb (codes "show")) (with_number Show (number_of first))
     (cond (bytes_eq verb (codes "size")) (with_number Size (number_of first))
-    (cond (bytes_eq verb (codes "context")) (with_number Context (number_of first)) None)))))
+    (cond (bytes_eq verb (codes "context")) (with_number Context (number_of first))
+    (cond (bytes_eq verb (codes "pin")) (with_number Pin (number_of first)) None))))))
 
 abbrev pub two_word_command : List ℕ → List ℕ → List ℕ → Option CommandValue
 two_word_command verb first second =
     cond (bytes_eq verb (codes "get")) (with_text Get (number_of first) (text_of second))
     (cond (bytes_eq verb (codes "remove")) (with_text Remove (number_of first) (text_of second))
-    (cond (bytes_eq verb (codes "deliver")) (with_numbers Deliver (number_of first) (number_of second)) None))
+    (cond (bytes_eq verb (codes "deliver")) (with_numbers Deliver (number_of first) (number_of second))
+    (cond (bytes_eq verb (codes "look")) (with_text Look (number_of first) (text_of second)) None)))
 
 abbrev pub three_word_command : List ℕ → List ℕ → List ℕ → List ℕ → Option CommandValue
 three_word_command verb first second third =

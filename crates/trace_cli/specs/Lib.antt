@@ -14,3 +14,4 @@ pub mod Output
 pub mod Streams
 pub mod Session
 pub mod Compressed
+pub mod Pins

@@ -2,26 +2,28 @@
 --
 -- Here are no contexts, no stores and no deltas: a world is told by the sets of operations that its replicas have seen
 -- and are to send, and by the sets that its messages carry.
-use Rattle.std.specs.Prelude.{ℕ, ◌+◌, ◌^◌, nat_lt, nat_le, cond, List, [], ◌∷◌, ◌++◌, length, Option, Some, None, codes}
+use Rattle.std.specs.Prelude.{ℕ, zero, suc, Bool, true, false, slice_get, ◌+◌, ◌^◌, nat_lt, nat_le, cond, List, [], ◌∷◌, ◌++◌, length, Option, Some, None, codes}
 use Rattle.std.specs.Fmt.{decimal}
 use Rattle.std.specs.List.{flat_map}
 use Rattle.dots.specs.Bytes.{MAX_LENGTH}
 use Rattle.dots.specs.declared.dot.Dot.{Dot}
 use Rattle.dots.specs.declared.refusal.Refusal.{Refusal}
-use Rattle.dots.specs.declared.refusal.Refusal.TheVariants.{TooLong, NumbersSpent, NameTaken, UnknownReplica, UnknownMessage}
+use Rattle.dots.specs.declared.refusal.Refusal.TheVariants.{TooLong, NumbersSpent, NameTaken, UnknownReplica, UnknownMessage, BadLine}
 use Rattle.op_model.specs.Operation.{Operation, known}
 use Rattle.op_model.specs.Shown.{values, keys, size}
 use Rattle.op_model.specs.Made.{dot_at, removed_at, cleared_at}
 use Rattle.op_model.specs.World.{World, Event, is_node, is_message}
 use Rattle.op_model.specs.World as world
-use Rattle.trace_cli.specs.Command.{CommandValue, Node, Put, Get, Flush, Deliver, Remove, Clear, Show, Size, Context}
+use Rattle.trace_cli.specs.Command.{CommandValue, Node, Put, Get, Flush, Deliver, Remove, Clear, Show, Size, Context, Pin, Look}
 use Rattle.trace_cli.specs.Compressed.{vector_of, cloud_of}
 use Rattle.trace_cli.specs.Word.{shown_as}
 
--- a command is refused and changes nothing, or is done: its text, and the event that it was, if it was one
+-- a command is refused and changes nothing; or is done: its text, and the event that it was, if it was one; or pins what
+-- a replica has seen: its text, and that set
 pub data Outcome : Type 0 where
   Refused : Refusal → Outcome
   Done : List ℕ → List Event → Outcome
+  Pinned : List ℕ → List Operation → Outcome
 
 -- what a command comes to that names this replica
 abbrev pub at_replica : World → ℕ → Outcome → Outcome
@@ -120,15 +122,41 @@ size_outcome w name = at_replica w name (Done (size_text (size (w.seen name))) [
 abbrev pub context_outcome : World → ℕ → Outcome
 context_outcome w name = at_replica w name (Done (context_text (vector_of (known (w.seen name))) (cloud_of (known (w.seen name)))) [])
 
--- what a command comes to in this world
-abbrev pub outcome_of : World → CommandValue → Outcome
-outcome_of w (Node name) = node_outcome w name
-outcome_of w (Put name key value) = put_outcome w name key value
-outcome_of w (Get name key) = get_outcome w name key
-outcome_of w (Flush name) = flush_outcome w name
-outcome_of w (Deliver number name) = deliver_outcome w number name
-outcome_of w (Remove name key) = remove_outcome w name key
-outcome_of w (Clear name) = clear_outcome w name
-outcome_of w (Show name) = show_outcome w name
-outcome_of w (Size name) = size_outcome w name
-outcome_of w (Context name) = context_outcome w name
+-- "pin <number>"
+abbrev pub pin_text : ℕ → List ℕ
+pin_text number = codes "pin " ++ decimal number
+
+-- the pins are numbered from 1 on
+abbrev pub pin_at : List (List Operation) → ℕ → Option (List Operation)
+pin_at pins zero = None
+pin_at pins (suc n) = slice_get pins n
+
+-- what the replica has seen is kept as the next pin
+abbrev pub pin_outcome : World → List (List Operation) → ℕ → Outcome
+pin_outcome w pins name = at_replica w name (Pinned (pin_text (length pins + 1)) (w.seen name))
+
+-- the values that a key shows in a pin. A pin that was never made is no word of the language
+abbrev pub look_outcome : Option (List Operation) → List ℕ → Outcome
+look_outcome (Some seen) key = with_bytes key (Done (values_text (values seen key)) [])
+look_outcome None key = Refused BadLine
+
+-- what a command comes to in this world, after these pins
+abbrev pub outcome_of : World → List (List Operation) → CommandValue → Outcome
+outcome_of w pins (Node name) = node_outcome w name
+outcome_of w pins (Put name key value) = put_outcome w name key value
+outcome_of w pins (Get name key) = get_outcome w name key
+outcome_of w pins (Flush name) = flush_outcome w name
+outcome_of w pins (Deliver number name) = deliver_outcome w number name
+outcome_of w pins (Remove name key) = remove_outcome w name key
+outcome_of w pins (Clear name) = clear_outcome w name
+outcome_of w pins (Show name) = show_outcome w name
+outcome_of w pins (Size name) = size_outcome w name
+outcome_of w pins (Context name) = context_outcome w name
+outcome_of w pins (Pin name) = pin_outcome w pins name
+outcome_of w pins (Look pin key) = look_outcome (pin_at pins pin) key
+
+-- whether a command speaks of the replicas alone, and of no pin
+abbrev pub is_at_world : CommandValue → Bool
+is_at_world (Pin name) = false
+is_at_world (Look pin key) = false
+is_at_world command = true

@@ -1,5 +1,5 @@
 -- What a command that was parsed says.
-use Rattle.trace_cli.specs.Command.{CommandValue, Node, Put, Get, Flush, Deliver, Remove, Clear, Show, Size, Context}
+use Rattle.trace_cli.specs.Command.{CommandValue, Node, Put, Get, Flush, Deliver, Remove, Clear, Show, Size, Context, Pin, Look}
 use Rattle.trace_cli.specs.declared.command.Command.{Command}
 use Rattle.trace_cli.specs.declared.command.Command.TheVariants as command
 
@@ -14,3 +14,5 @@ command_value (command.Clear name) = Clear name
 command_value (command.Show name) = Show name
 command_value (command.Size name) = Size name
 command_value (command.Context name) = Context name
+command_value (command.Pin name) = Pin name
+command_value (command.Look pin key) = Look pin key.items

@@ -3,14 +3,14 @@ ghost use Rattle.std.specs.List.{flat_map};
 ghost use Rattle.std.specs.Fmt.{decimal};
 ghost use Rattle.dots.specs.Refusal.{word_of};
 ghost use Rattle.trace_cli.specs.Word.{shown_as};
-ghost use Rattle.trace_cli.specs.Does.{Does};
+ghost use Rattle.trace_cli.specs.Does.{Brings};
 ghost use Rattle.causal_context.specs.Context.{has};
 ghost use Rattle.dots.specs.Dot.{DotValue};
 ghost use Rattle.op_model.specs.Operation.{has as is_among};
 ghost use Rattle.trace_cli.specs.Compressed.{vector_of, cloud_of};
 ghost use Rattle.trace_cli.specs.Fault.{is_fault};
-ghost use Rattle.trace_cli.specs.Machine.{Past, answer_by, events_by};
-ghost use Rattle.trace_cli.specs.Outcome.{Outcome, Refused, put_text, values_text, sent_text, erased_text, size_text, entry_text, dot_text, context_text};
+ghost use Rattle.trace_cli.specs.Machine.{Past, answer_by, past_by};
+ghost use Rattle.trace_cli.specs.Outcome.{Outcome, Refused, put_text, values_text, sent_text, erased_text, size_text, pin_text, entry_text, dot_text, context_text};
 ghost use Rattle.trace_cli.specs.Reply.{answer_of, TellsFaults};
 
 use crate::reply::Reply;
@@ -72,6 +72,14 @@ pub(crate) fn size_answer<A: Allocator + Copy>(alloc: A, number: u64) -> Result<
     ensures err { IsOkUnless result Refusal.OutOfMemory }
 {
     Ok(format!(in alloc; "size {number}")?)
+}
+
+/// The answer to a pin: `pin <number>`.
+pub(crate) fn pin_answer<A: Allocator + Copy>(alloc: A, number: u64) -> Result<String<A>, Refusal>
+    ensures ok { IfOk result (λ text. string_bytes text ≡ pin_text number) }
+    ensures err { IsOkUnless result Refusal.OutOfMemory }
+{
+    Ok(format!(in alloc; "pin {number}")?)
 }
 
 /// The beginning of the answer to a look at all keys: `map <number of keys>`.
@@ -214,10 +222,10 @@ pub(crate) fn reply<A: Allocator + Copy>(
     alloc: A,
     done: Result<Vec<u8, A>, Refusal>,
 ) -> Result<Reply<A>, Refusal>
-    ensures answer { IfOk result (λ reply. (outcome : Outcome) (old new : Past) → Does outcome old new done →
+    ensures answer { IfOk result (λ reply. (outcome : Outcome) (old new : Past) → Brings outcome old new done →
         answer_of reply ≡ answer_by outcome) }
-    ensures events { IfOk result (λ reply. (outcome : Outcome) (old new : Past) → Does outcome old new done →
-        new ≡ old ++ events_by outcome) }
+    ensures after { IfOk result (λ reply. (outcome : Outcome) (old new : Past) → Brings outcome old new done →
+        new ≡ past_by old outcome) }
     ensures faults { IfOk result TellsFaults }
     ensures err { IsOkUnless result Refusal.OutOfMemory }
 {

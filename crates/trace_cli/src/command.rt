@@ -1,6 +1,6 @@
 ghost use Rattle.std.specs.Prelude.{◌≡◌, IfOk, IsOkUnless};
 ghost use Rattle.std.specs.Option.{option_map};
-ghost use Rattle.trace_cli.specs.Command.{command_of, one_word_command, two_word_command, three_word_command, with_text, with_texts, with_numbers, Get, Put, Deliver, Remove};
+ghost use Rattle.trace_cli.specs.Command.{command_of, one_word_command, two_word_command, three_word_command, with_text, with_texts, with_numbers, Get, Put, Deliver, Remove, Look};
 ghost use Rattle.trace_cli.specs.Parsed.{command_value};
 
 use crate::word::{name, number, text, words};
@@ -43,6 +43,13 @@ pub(crate) enum Command<A: Allocator = Global> {
     Size(Name),
     /// The known dots.
     Context(Name),
+    /// The map as it is, kept under the next pin's number.
+    Pin(Name),
+    /// The values of a key in a map that was kept.
+    Look {
+        pin: u64,
+        key: Vec<u8, A>,
+    },
 }
 
 /// The command that a line is, or None where it is none.
@@ -83,6 +90,9 @@ fn with_one_word<A: Allocator + Copy>(verb: &[u8], first: &[u8]) -> Option<Comma
     if verb == b"context".as_slice() {
         return Some(Command::Context(name(first)?));
     }
+    if verb == b"pin".as_slice() {
+        return Some(Command::Pin(name(first)?));
+    }
     None
 }
 
@@ -103,6 +113,9 @@ fn with_two_words<A: Allocator + Copy>(
     }
     if verb == b"deliver".as_slice() {
         return Ok(deliver(number(first), name(second)));
+    }
+    if verb == b"look".as_slice() {
+        return Ok(look(number(first), text(alloc, second)?));
     }
     Ok(None)
 }
@@ -147,6 +160,15 @@ fn deliver<A: Allocator>(message: Option<u64>, name: Option<Name>) -> Option<Com
     Some(Command::Deliver {
         message: message?,
         name: name?,
+    })
+}
+
+fn look<A: Allocator>(pin: Option<u64>, key: Option<Vec<u8, A>>) -> Option<Command<A>>
+    ensures { option_map command_value result ≡ with_text Look pin (option_map (λ bytes. bytes.items) key) }
+{
+    Some(Command::Look {
+        pin: pin?,
+        key: key?,
     })
 }
 

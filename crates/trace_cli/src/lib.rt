@@ -4,8 +4,10 @@
 
 mod answer;
 mod command;
+mod desk;
 mod event;
 mod machine;
+mod pin;
 mod replica;
 mod reply;
 mod running;

@@ -1,44 +1,45 @@
-ghost use Rattle.std.specs.Prelude.{◌≡◌, ◌⊎◌, ◌≤◌, ◌<◌, ◌++◌, ◌∷◌, [], Some, None, IfOk, IfErr, OnOk, IsOkUnless, true, map, string_bytes, MatchResult};
-ghost use Rattle.std.specs.List.{flat_map};
-ghost use Rattle.dots.specs.Refusal.{word_of};
-ghost use Rattle.op_model.specs.Shown.{values};
-ghost use Rattle.op_model.specs.World.{after, is_node};
+ghost use Rattle.std.specs.Prelude.{◌≡◌, ◌-◌, [], Some, None, IfOk, IfErr, OnOk, IsOkUnless, true, if◌then◌else◌, nat_lt};
+ghost use Rattle.std.specs.List.{slice_get};
+ghost use Rattle.std.specs.Option.{option_copied};
+ghost use Rattle.op_model.specs.World.{after};
 ghost use Rattle.trace_cli.specs.Command.{command_of};
-ghost use Rattle.trace_cli.specs.Machine.{start, answer_to, past_after, answer_by, line_outcome, Told};
-ghost use Rattle.trace_cli.specs.Outcome.{Done, Refused, outcome_of, put_text, values_text, node_outcome, put_outcome, get_outcome, flush_outcome, deliver_outcome, remove_outcome, clear_outcome, show_outcome, size_outcome, context_outcome, entry_text};
-ghost use Rattle.trace_cli.specs.Word.{shown_as};
+ghost use Rattle.trace_cli.specs.Machine.{start, answer_to, past_after, line_outcome};
+ghost use Rattle.trace_cli.specs.Outcome.{pin_outcome, look_outcome, pin_at};
 
-use crate::answer::{
-    context_answer, erased_answer, flush_answer, get_answer, map_answer, push_entry, put_answer,
-    reply, size_answer,
-};
+use crate::answer::{get_answer, pin_answer, reply};
 use crate::command::{Command, parse};
+use crate::desk::Desk;
+use crate::pin::Pin;
 use crate::reply::Reply;
-use crate::world::World;
-use dots::{Key, Name, Refusal, Value};
+use dots::{Key, Name, Refusal};
 use std::alloc::{Allocator, Global};
 use std::marker::Model;
 
-/// The machine behind the trace language: one line in, one reply out. It is seen as the events that it accepted.
+/// The machine behind the trace language: one line in, one reply out. It is seen as the events that it accepted and the
+/// pins that it made.
 #[derive(Drop)]
 pub(crate) struct Machine<A: Allocator + Copy = Global> {
     alloc: A,
-    world: World<A>,
+    desk: Desk<A>,
+    pins: Vec<Pin<A>, A>,
 }
 
 impl<A: Allocator + Copy> Model for Machine<A> {
-    ghost use Rattle.trace_cli.specs.Command.{command_of};
     ghost use Rattle.trace_cli.specs.Machine.{Past};
+    ghost use Rattle.trace_cli.specs.Pins.{pins_of, AllPinned};
 
     ghost Value = { Past };
 
-    ghost view = { λ m. m.world };
+    ghost view = { λ m. record { events = m.desk; pins = pins_of m.desk m.pins.items } };
+
+    ghost invariant = { λ m. AllPinned m.desk m.pins.items };
 }
 
 impl<A: Allocator + Copy> Machine<A> {
     ghost use Rattle.trace_cli.specs.Reply.{answer_of, TellsFaults};
     ghost use Rattle.trace_cli.specs.Parsed.{command_value};
-    ghost use Rattle.trace_cli.specs.Does.{Does};
+    ghost use Rattle.trace_cli.specs.Does.{Brings};
+    ghost use Rattle.trace_cli.specs.Outcome.{outcome_of};
 
     /// A machine to which nothing happened yet. Takes no memory.
     pub fn new(alloc: A) -> Machine<A>
@@ -46,7 +47,8 @@ impl<A: Allocator + Copy> Machine<A> {
     {
         Machine {
             alloc,
-            world: World::new(alloc),
+            desk: Desk::new(alloc),
+            pins: Vec::new(alloc),
         }
     }
 
@@ -66,7 +68,7 @@ impl<A: Allocator + Copy> Machine<A> {
 
     /// Carries out a line that has a byte: the text that it is answered, or the refusal that it meets.
     fn attempt(&mut self, line: &[u8]) -> Result<Vec<u8, A>, Refusal>
-        ensures { Does (line_outcome self.old (command_of line.now)) self.old self.new result }
+        ensures { Brings (line_outcome self.old (command_of line.now)) self.old self.new result }
     {
         match parse(self.alloc, line)? {
             Some(command) => self.obey(command),
@@ -76,133 +78,42 @@ impl<A: Allocator + Copy> Machine<A> {
 
     /// Does what the command asks: the text that it is answered, or the refusal that it meets.
     fn obey(&mut self, command: Command<A>) -> Result<Vec<u8, A>, Refusal>
-        ensures { Does (outcome_of (after self.old) (command_value command)) self.old self.new result }
+        ensures { Brings (outcome_of (after self.old.events) self.old.pins (command_value command)) self.old self.new result }
     {
         match command {
-            Command::Node(name) => self.node(name),
-            Command::Put { name, key, value } => self.put(name, key.as_slice(), value.as_slice()),
-            Command::Get { name, key } => self.get(name, key.as_slice()),
-            Command::Flush(name) => self.flush(name),
-            Command::Deliver { message, name } => self.deliver(message, name),
-            Command::Remove { name, key } => self.remove(name, key.as_slice()),
-            Command::Clear(name) => self.clear(name),
-            Command::Show(name) => self.show(name),
-            Command::Size(name) => self.size(name),
-            Command::Context(name) => self.context(name),
+            Command::Pin(name) => self.pin(name),
+            Command::Look { pin, key } => self.look(pin, key.as_slice()),
+            command => self.desk.obey(command),
         }
     }
 
-    fn node(&mut self, name: Name) -> Result<Vec<u8, A>, Refusal>
-        ensures { Does (node_outcome (after self.old) name) self.old self.new result }
+    fn pin(&mut self, name: Name) -> Result<Vec<u8, A>, Refusal>
+        ensures { Brings (pin_outcome (after self.old.events) self.old.pins name) self.old self.new result }
     {
-        self.world.node(name)?;
-        Ok(Vec::from_slice(self.alloc, b"ok")?)
+        let shown = self.desk.shown(name)?;
+        let text = pin_answer(self.alloc, self.pins.len() as u64 + 1)?;
+        let age = self.desk.age();
+        self.pins.push(Pin { name, age, shown })?;
+        Ok(text.into_bytes())
     }
 
-    fn put(&mut self, name: Name, key: &[u8], value: &[u8]) -> Result<Vec<u8, A>, Refusal>
-        ensures { Does (put_outcome (after self.old) name key.now value.now) self.old self.new result }
+    fn look(&self, pin: u64, key: &[u8]) -> Result<Vec<u8, A>, Refusal>
+        ensures { Brings (look_outcome (pin_at self.now.pins pin) key.now) self.now self.now result }
     {
-        if !self.world.has_replica(name) {
-            return Err(Refusal::UnknownReplica);
-        }
-        let key = Key::new(self.alloc, key)?;
-        let value = Value::new(self.alloc, value)?;
-        let dot = self.world.put(name, key, value)?;
-        let (name, number) = (dot.name().number(), dot.number());
-        Ok(put_answer(self.alloc, name, number)?.into_bytes())
-    }
-
-    fn get(&self, name: Name, key: &[u8]) -> Result<Vec<u8, A>, Refusal>
-        ensures { Does (get_outcome (after self.now) name key.now) self.now self.now result }
-    {
-        if !self.world.has_replica(name) {
-            return Err(Refusal::UnknownReplica);
-        }
-        let key = Key::new(self.alloc, key)?;
-        let found = self.world.get(name, &key)?;
-        let text = get_answer(self.alloc, found.as_slice())?;
-        Ok(text)
-    }
-
-    fn flush(&mut self, name: Name) -> Result<Vec<u8, A>, Refusal>
-        ensures { Does (flush_outcome (after self.old) name) self.old self.new result }
-    {
-        let made = self.world.flush(name)?;
-        Ok(flush_answer(self.alloc, made)?.into_bytes())
-    }
-
-    fn deliver(&mut self, message: u64, name: Name) -> Result<Vec<u8, A>, Refusal>
-        ensures { Does (deliver_outcome (after self.old) message name) self.old self.new result }
-    {
-        self.world.deliver(message, name)?;
-        Ok(Vec::from_slice(self.alloc, b"joined")?)
-    }
-
-    fn remove(&mut self, name: Name, key: &[u8]) -> Result<Vec<u8, A>, Refusal>
-        ensures { Does (remove_outcome (after self.old) name key.now) self.old self.new result }
-    {
-        if !self.world.has_replica(name) {
-            return Err(Refusal::UnknownReplica);
-        }
-        let key = Key::new(self.alloc, key)?;
-        let number = self.world.remove(name, key)?;
-        Ok(erased_answer(self.alloc, number)?.into_bytes())
-    }
-
-    fn clear(&mut self, name: Name) -> Result<Vec<u8, A>, Refusal>
-        ensures { Does (clear_outcome (after self.old) name) self.old self.new result }
-    {
-        let number = self.world.clear(name)?;
-        Ok(erased_answer(self.alloc, number)?.into_bytes())
-    }
-
-    fn show(&self, name: Name) -> Result<Vec<u8, A>, Refusal>
-        ensures { Does (show_outcome (after self.now) name) self.now self.now result }
-    {
-        let keys = self.world.keys(name)?;
-        let mut text = map_answer(self.alloc, keys.len() as u64)?.into_bytes();
-        self.push_keys(&mut text, name, keys.as_slice())?;
-        Ok(text)
-    }
-
-    fn size(&self, name: Name) -> Result<Vec<u8, A>, Refusal>
-        ensures { Does (size_outcome (after self.now) name) self.now self.now result }
-    {
-        let keys = self.world.keys(name)?;
-        Ok(size_answer(self.alloc, keys.len() as u64)?.into_bytes())
-    }
-
-    fn context(&self, name: Name) -> Result<Vec<u8, A>, Refusal>
-        ensures { Does (context_outcome (after self.now) name) self.now self.now result }
-    {
-        let Some(context) = self.world.context(name) else {
-            return Err(Refusal::UnknownReplica);
+        let Some(pin) = pin_of(&self.pins, pin) else {
+            return Err(Refusal::BadLine);
         };
-        let text = context_answer(self.alloc, context)?;
-        Ok(text)
-    }
-
-    /// Appends each key with its values at a replica that is there. A refusal may leave a part of it there.
-    fn push_keys(&self, out: &mut Vec<u8, A>, name: Name, keys: &[Key<A>]) -> Result<(), Refusal>
-        requires { is_node (after self.now) name ≡ true }
-        ensures ok { OnOk result (out.new.items ≡ out.old.items ++
-            flat_map (λ key. entry_text key (values ((after self.now).seen name) key)) keys.now) }
-        ensures err { IsOkUnless result Refusal.OutOfMemory }
-    {
-        for key in keys {
-            self.push_key(out, name, key)?;
+        let key = Key::new(self.alloc, key)?;
+        match pin.shown.lookup(&key) {
+            Some(found) => get_answer(self.alloc, found.as_slice()),
+            None => get_answer(self.alloc, Vec::new(self.alloc).as_slice()),
         }
-        Ok(())
     }
+}
 
-    /// Appends the key with its values at a replica that is there. A refusal may leave a part of it there.
-    fn push_key(&self, out: &mut Vec<u8, A>, name: Name, key: &Key<A>) -> Result<(), Refusal>
-        requires { is_node (after self.now) name ≡ true }
-        ensures ok { OnOk result (out.new.items ≡ out.old.items ++
-            entry_text key.now (values ((after self.now).seen name) key.now)) }
-        ensures err { IsOkUnless result Refusal.OutOfMemory }
-    {
-        let found = self.world.get(name, key)?;
-        push_entry(self.alloc, out, key, found.as_slice())
-    }
+/// The pin of this number, from 1.
+fn pin_of<A: Allocator + Copy>(pins: &Vec<Pin<A>, A>, number: u64) -> Option<&Pin<A>>
+    ensures { option_copied result ≡ (if nat_lt 0 number then slice_get pins.now.items (number - 1) else None) }
+{
+    pins.get(number.checked_sub(1)? as usize)
 }

@@ -2,6 +2,7 @@
 
 mod contexts;
 mod faults;
+mod pins;
 mod removing;
 mod traces;
 mod watched;

@@ -68,6 +68,13 @@ impl<A: Allocator + Copy> World<A> {
         self.replicas.contains_key(&name)
     }
 
+    /// How many events were accepted.
+    pub fn age(&self) -> usize
+        ensures { result ≡ length self.now }
+    {
+        self.past.len()
+    }
+
     /// A new replica of this name. NameTaken exactly where one is there; a refused call changes nothing.
     pub fn node(&mut self, name: Name) -> Result<(), Refusal>
         ensures ok { OnOk result ((is_node (after self.old) name ≡ false) × (self.new ≡ self.old ++ Node name ∷ [])) }

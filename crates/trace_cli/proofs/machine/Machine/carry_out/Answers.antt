@@ -15,4 +15,4 @@ returns-clause-answer g c =
 
 pub returns-clause-after : goal.returns-clause-after
 returns-clause-after g c =
-    IfOk-weaker c.reply.result _ _ (λ reply answered. answered _ _ _ c.attempt-done.ensures ∙ sym (past_after-command c.args.self.now c.args.line.now c.if-is_empty.ensures)) c.reply.ensures.events
+    IfOk-weaker c.reply.result _ _ (λ reply answered. answered _ _ _ c.attempt-done.ensures ∙ sym (past_after-command c.args.self.now c.args.line.now c.if-is_empty.ensures)) c.reply.ensures.after
