@@ -108,6 +108,68 @@ fn deltas_are_grouped_in_either_order(rt: HostRuntime) -> Result<(), Fail> {
     Ok(())
 }
 
+// The first replica writes the key, the other sees it, and the first removes it.
+fn write_and_remove(
+    alloc: Global,
+    name: Name,
+    live: &mut Pair,
+    other: &mut Pair,
+    key: &Key,
+) -> Result<(Pair, Pair), Refusal> {
+    let write = put_at(alloc, name, live, key, b"x")?;
+    group(alloc, other, &write)?;
+    let (erasure, _) = remove(alloc, live, key)?;
+    group(alloc, live, &erasure)?;
+    Ok((write, erasure))
+}
+
+// The other replica writes the key, the first sees it, and clears.
+fn write_and_clear(
+    alloc: Global,
+    name: Name,
+    live: &Pair,
+    other: &mut Pair,
+    key: &Key,
+) -> Result<(Pair, Pair), Refusal> {
+    let write = put_at(alloc, name, other, key, b"y")?;
+    let seen = group_of(alloc, live, &write)?;
+    let (erasure, _) = clear(alloc, &seen)?;
+    Ok((write, erasure))
+}
+
+// The four deltas of two replicas that write one key, remove it and clear.
+fn four_deltas(
+    alloc: Global,
+    one: Name,
+    two: Name,
+) -> Result<((Pair, Pair), (Pair, Pair)), Refusal> {
+    let key = Key::new(alloc, b"a")?;
+    let mut live = Causal::bottom(alloc);
+    let mut other = Causal::bottom(alloc);
+    let first = write_and_remove(alloc, one, &mut live, &mut other, &key)?;
+    let last = write_and_clear(alloc, two, &live, &mut other, &key)?;
+    Ok((first, last))
+}
+
+// The group of these deltas, taken in one after the other.
+fn group_of_all(alloc: Global, deltas: [&Pair; 4]) -> Result<Pair, Refusal> {
+    let mut all = Causal::bottom(alloc);
+    for delta in deltas {
+        group(alloc, &mut all, delta)?;
+    }
+    Ok(all)
+}
+
+#[test]
+fn four_deltas_are_grouped_in_either_order(rt: HostRuntime) -> Result<(), Fail> {
+    let alloc = rt.alloc();
+    let ((a, b), (c, d)) = four_deltas(alloc, named(&rt, 1), named(&rt, 2))?;
+    let forth = group_of_all(alloc, [&a, &b, &c, &d])?;
+    let back = group_of_all(alloc, [&d, &c, &b, &a])?;
+    assert!(rt; are_same(alloc, &forth, &back)?);
+    Ok(())
+}
+
 // All deltas of puts on one key after another, taken out as one group.
 fn grouped(
     alloc: Global,
