@@ -1,12 +1,16 @@
+ghost use Rattle.std.specs.Prelude.{◌≡◌, ◌⊎◌, IfOk};
+
 use dots::Refusal;
 use std::alloc::Global;
 use wire_form::{decode, encode};
 
-fn decode_times(alloc: Global, bytes: &[u8], times: u32) -> Result<u64, Refusal> {
+fn decode_times(alloc: Global, bytes: &[u8], times: u32) -> Result<u64, Refusal>
+    ensures { IfOk result (λ count. count ≡ times) }
+{
     let mut count: u64 = 0;
     for _ in 0..times {
         let _message = decode(alloc, bytes)?;
-        count = count.wrapping_add(1);
+        count += 1;
     }
     Ok(count)
 }
@@ -23,7 +27,9 @@ fn encode_times(alloc: Global, bytes: &[u8], times: u32) -> Result<u64, Refusal>
 
 /// Decodes the message so many times, and answers how many.
 #[unsafe(no_mangle)]
-pub extern "C" fn measure_decode(alloc: Global, bytes: &[u8], times: u32) -> u64 {
+pub extern "C" fn measure_decode(alloc: Global, bytes: &[u8], times: u32) -> u64
+    ensures { (result ≡ times) ⊎ (result ≡ u64.MAX) }
+{
     match decode_times(alloc, bytes, times) {
         Ok(count) => count,
         Err(_) => u64::MAX,
