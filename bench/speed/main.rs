@@ -115,47 +115,61 @@ fn plain<M: Plain>(keys: &[u64], step: u32, times: u32) -> f64 {
     now() - begin
 }
 
-/// Seconds of one step with all keys, by the fastest of three runs, and of the insertion of all.
-fn step_of(run: impl Fn(u32, u32) -> f64, step: u32) -> (f64, f64) {
+/// How often a step is repeated, and the whole: the fastest counts.
+#[derive(Clone, Copy)]
+struct Repeats {
+    times: u32,
+    runs: u32,
+}
+
+/// Seconds of the insertion of all keys, and then of one step with all of them.
+fn step_of(run: impl Fn(u32, u32) -> f64, repeats: Repeats, step: u32) -> (f64, f64) {
     let fastest = |times| {
-        (0..3)
+        (0..repeats.runs)
             .map(|_| run(step, times))
             .fold(f64::INFINITY, f64::min)
     };
     let fill = fastest(0);
-    let each = (fastest(TIMES) - fill) / f64::from(TIMES);
-    (fill, if step == 1 { each - fill } else { each })
+    (
+        fill,
+        (fastest(repeats.times) - fill) / f64::from(repeats.times),
+    )
 }
 
-const TIMES: u32 = 5;
+const STEPS: [&str; 5] = [
+    "lookup",
+    "remove, insert again",
+    "iterate",
+    "freeze",
+    "freeze, write again",
+];
 
-fn tries(count: usize) {
+fn tries(count: usize, repeats: Repeats) {
     let keys = random_keys(count);
-    let ours: Vec<_> = (0..5)
-        .map(|step| step_of(|s, t| trie(&keys, s, t), step))
-        .collect();
-    let hash: Vec<_> = (0..5)
-        .map(|step| step_of(|s, t| plain::<HashMap<_, _>>(&keys, s, t), step))
-        .collect();
-    let tree: Vec<_> = (0..5)
-        .map(|step| step_of(|s, t| plain::<BTreeMap<_, _>>(&keys, s, t), step))
-        .collect();
     let scale = 1e6 / count as f64;
     println!("{count} keys of 8 bytes: microseconds a key, and times a HashMap's and a BTreeMap's");
-    let row = |name: &str, a: f64, b: f64, c: f64| {
-        println!("  {name:22} {:8.3} {:8.2} {:8.2}", a * scale, a / b, a / c)
-    };
-    row("insert", ours[0].0, hash[0].0, tree[0].0);
-    row("lookup", ours[0].1, hash[0].1, tree[0].1);
-    row("remove", ours[1].1, hash[1].1, tree[1].1);
-    row("iterate", ours[2].1, hash[2].1, tree[2].1);
-    row("write after a freeze", ours[4].1, hash[4].1, tree[4].1);
-    println!(
-        "  freeze                 {:8.3} (a clone, once: {:.0} and {:.0} microseconds)",
-        ours[3].1 * scale,
-        hash[3].1 * 1e6,
-        tree[3].1 * 1e6
-    );
+    for (step, name) in (0..).zip(STEPS) {
+        // a walk is short beside the insertion before it
+        let times = if name == "iterate" { 20 } else { 1 } * repeats.times;
+        let repeats = Repeats { times, ..repeats };
+        let ours = step_of(|s, t| trie(&keys, s, t), repeats, step);
+        let hash = step_of(|s, t| plain::<HashMap<_, _>>(&keys, s, t), repeats, step);
+        let tree = step_of(|s, t| plain::<BTreeMap<_, _>>(&keys, s, t), repeats, step);
+        if step == 0 {
+            row("insert", ours.0 * scale, ours.0 / hash.0, ours.0 / tree.0);
+        }
+        if name == "freeze" {
+            // once for each key, where a plain map is cloned once
+            let each = ours.1 * scale;
+            row(name, each, each / (1e6 * hash.1), each / (1e6 * tree.1));
+        } else {
+            row(name, ours.1 * scale, ours.1 / hash.1, ours.1 / tree.1);
+        }
+    }
+}
+
+fn row(name: &str, each: f64, hash: f64, tree: f64) {
+    println!("  {name:22} {each:8.3} {hash:10.6} {tree:10.6}");
 }
 
 /// A delta of so many keys, each with one value of eight bytes, as docs/FORMATS.md spells it.
@@ -204,7 +218,7 @@ fn messages(count: u64, times: u32) {
 }
 
 fn main() {
-    tries(100_000);
-    tries(1_000_000);
+    tries(100_000, Repeats { times: 5, runs: 2 });
+    tries(1_000_000, Repeats { times: 2, runs: 2 });
     messages(10_000, 100);
 }
