@@ -1,13 +1,12 @@
 -- The summaries of a branch's children, one after another.
-use Rattle.std.proofs.Common.{◌≡◌, ◌≢◌, ◌↔◌, ℕ, suc, ◌+◌, ◌≤◌, ◌<◌, List, [], ◌∷◌, ◌++◌, length, take, get_or, map, cond, None, Some, arith, refl, ne_eqb, sym, ◌∙◌, ap, subst}
+use Rattle.std.proofs.Common.{◌≡◌, ◌≢◌, ◌↔◌, ℕ, suc, ◌+◌, ◌≤◌, List, [], ◌∷◌, ◌++◌, length, map, cond, None, Some, arith, refl, ne_eqb, sym, ◌∙◌, ap, subst}
 use Rattle.std.specs.declared.option.Option.{Option}
-use Rattle.std.proofs.lemmas.List.{map-append}
-use Rattle.std.proofs.Math.Seq.{take-suc}
+use Rattle.std.proofs.lemmas.List.{append_assoc, append-nil, length-map, map-append}
 use Rattle.hash_path.specs.Word.{word, digit}
 use Rattle.hash_path.specs.Fan.{fan, Rise, at}
 use Rattle.hash_path.specs.Map.{as_map, by_key, by_path}
 use Rattle.hash_path.specs.Summary.{Calls, sums, summary_of, summary_at}
-use Rattle.hash_path.proofs.Summaries.{sums_append, summary_list, summary_none, summary_child}
+use Rattle.hash_path.proofs.Summaries.{sums_append, summary_branch, summary_list, summary_none, summary_child}
 use Rattle.hash_path.proofs.Words.{key_in-word}
 use Rattle.std.specs.FinMap as finite
 use Rattle.hash_path.specs.Path.{indices}
@@ -21,18 +20,44 @@ use Rattle.gen_trie.specs.declared.node.Slot.{Slot}
 use Rattle.gen_trie.specs.declared.node.Slot.TheVariants.{One}
 use Rattle.gen_trie.specs.Shapes.{children, child, listed}
 
-module _ {V A M : Type 0} (below : ℕ) (ss : List (Slot V A)) (s : List (List ℕ × V) → Option M) where
-  pub one_more : (at : ℕ) (slot : Slot V A) (held : List (ℕ × M)) (x : ℕ × M) → at < length ss → slot ≡ get_or ss at slot
-      → x.0 ≡ (child below slot).0 → s (child below slot).1 ≡ Some x.1
-      → held ≡ sums s (children below (take at ss)) → held ++ x ∷ [] ≡ sums s (children below (take (at + 1) ss))
-  one_more at slot held x within is index sum so =
-      let next : at + 1 ≡ suc at = omega arith in
-      let more : take (at + 1) ss ≡ take at ss ++ slot ∷ [] = ap (λ n. take n ss) next ∙ take-suc ss at slot within ∙ ap (λ k. take at ss ++ k ∷ []) (sym is) in
-      (λ t. so t ++ (index t, x.1) ∷ [])
-      ∙ sym (sums_append s (children below (take at ss)) (child below slot) x.1 sum)
-      ∙ ap (sums s) (sym (map-append (child below) (take at ss) (slot ∷ [])) ∙ ap (children below) (sym more))
+module _ {V A M : Type 0} (below : ℕ) (s : List (List ℕ × V) → Option M) where
+  -- the summary of the last child goes in front of those behind it
+  pub one_before : (slots others : List (Slot V A)) (last : Slot V A) (x : ℕ × M) (behind list : List (ℕ × M)) → slots ≡ others ++ last ∷ []
+      → x.0 ≡ (child below last).0 → s (child below last).1 ≡ Some x.1 → list ≡ x ∷ behind
+      → sums s (children below others) ++ list ≡ sums s (children below slots) ++ behind
+  one_before slots others last x behind list is index sum ls =
+      ap (λ l. sums s (children below others) ++ l) ls
+      ∙ sym (append_assoc (sums s (children below others)) (x ∷ []) behind)
+      ∙ ap (λ l. l ++ behind) (
+      (λ t. sums s (children below others) ++ (index t, x.1) ∷ [])
+      ∙ sym (sums_append s (children below others) (child below last) x.1 sum)
+      ∙ ap (sums s) (sym (map-append (child below) others (last ∷ [])) ∙ ap (children below) (sym is))
+      )
+
+-- a branch has 32 children at most
+pub rise_short : {V : Type 0} (low : ℕ) (cs : List (ℕ × List (List ℕ × V))) → low ≤ 32 → Rise low cs → length cs + low ≤ 32
+rise_short low [] short rise = omega (arith, short)
+rise_short low (c ∷ cs) short rise =
+    let from = rise.0 in
+    let bound = rise.1 in
+    let rest = rise_short (suc c.0) cs (omega (arith, bound)) rise.2 in
+    omega (arith, rest, from)
+
+pub few_slots : {V A : Type 0} (below : ℕ) (slots : List (Slot V A)) → Rise 0 (children below slots) → length slots ≤ 32
+few_slots below slots rise =
+    let few = rise_short 0 (children below slots) (omega arith) rise in
+    let same = length-map slots (child below) in
+    omega (arith, few, same)
 
 module _ {V A M : Type 0} (c : Calls V M) where
+  pub of_children : (node : ℕ × List (List ℕ × V)) (below : ℕ) (slots found : List (Slot V A)) (behind : List (ℕ × M)) (m : M) → node ≡ (suc below, fan (children below slots)) → Rise 0 (children below slots) → 2 ≤ length node.1
+      → found ≡ slots → behind ≡ [] → m ≡ c.branch (sums (summary_of c below) (children below found) ++ behind) → summary_of c node.0 node.1 ≡ Some m
+  of_children node below slots found behind m e rise several fs none ms =
+      ap (λ n. summary_of c n.0 n.1) e
+      ∙ summary_branch c below (children below slots) rise (subst (λ n. 2 ≤ length n.1) e several)
+      ∙ ap (λ l. Some (c.branch l)) (sym (append-nil (sums (summary_of c below) (children below slots))) ∙ (λ t. sums (summary_of c below) (children below (sym fs t)) ++ sym none t))
+      ∙ ap Some (sym ms)
+
   pub one_key : (below : ℕ) (slot : Slot V A) (i : ℕ) (e : Arc (Entry V A) A) (k : List ℕ) (v : V) (m : M) → slot ≡ One i e → k ≡ e.value.key → v ≡ e.value.value.value → m ≡ c.leaf k v
       → summary_of c below (child below slot).1 ≡ Some m
   one_key below slot i e k v m is ks vs ms =

@@ -1,3 +1,4 @@
+pub mod Children
 pub mod Shapes
 pub mod Falls
 pub mod Root

@@ -144,16 +144,14 @@ impl<V: Drop, M: Summary<V>, H: PathHash, A: Allocator + Copy> Frozen<V, M, H, A
 
 impl<V, M: Summary<V>, H: PathHash, A: Allocator + Copy> Frozen<V, M, H, A> {
     /// The summary of the keys whose paths begin with a prefix, by recursion over their entries. None exactly where there
-    /// are no such keys. Nodes keep no summaries yet: it visits all nodes under the prefix, and takes a list of at most 32
-    /// summaries at each level.
-    pub fn summary(&self, prefix: Prefix) -> Result<Option<M>, Refusal>
-        ensures ok { IfOk result (λ summary. summary ≡ summary_at M.calls prefix 7 (by_path (H.hash_of self.now.0) self.now.1)) }
-        ensures none { IfOk result (λ summary. (summary ≡ None) ↔ ((key : List ℕ) → indices (length prefix) (H.hash_of self.now.0 key) ≡ prefix → finite.get self.now.1 key ≡ None)) }
-        ensures err { IsOkUnless result OutOfMemory }
+    /// are no such keys. Nodes keep no summaries yet, so it visits all nodes under the prefix. Takes no memory.
+    pub fn summary(&self, prefix: Prefix) -> Option<M>
+        ensures summary { result ≡ summary_at M.calls prefix 7 (by_path (H.hash_of self.now.0) self.now.1) }
+        ensures none { (result ≡ None) ↔ ((key : List ℕ) → indices (length prefix) (H.hash_of self.now.0 key) ≡ prefix → finite.get self.now.1 key ≡ None) }
     {
         match &self.root {
-            None => Ok(None),
-            Some(slot) => summary_below(self.alloc, slot, 7, prefix),
+            None => None,
+            Some(slot) => summary_below(slot, 7, prefix),
         }
     }
 }

@@ -2,6 +2,7 @@
 // Offered to the crates above: the calls of a finite map. A frozen map stays what it was, whatever is written afterwards.
 #![tactic(auto)]
 
+mod children;
 mod copied;
 mod entry;
 mod frozen;
@@ -16,6 +17,7 @@ mod summing;
 mod take;
 mod trie;
 
+pub use children::Children;
 pub use entry::Entry;
 pub use frozen::Frozen;
 pub use iter::Iter;

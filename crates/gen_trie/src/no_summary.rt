@@ -1,3 +1,6 @@
+ghost use Rattle.std.specs.Prelude.{◌≡◌};
+
+use crate::children::Children;
 use crate::entry::Entry;
 use crate::summary::Summary;
 use std::alloc::Allocator;
@@ -18,7 +21,9 @@ impl<V> Summary<V> for NoSummary {
         NoSummary
     }
 
-    fn branch(_children: &[(u32, NoSummary)]) -> NoSummary {
+    fn branch(_children: Children<'_, NoSummary>) -> NoSummary
+        ensures { result ≡ record {} }
+    {
         NoSummary
     }
 }

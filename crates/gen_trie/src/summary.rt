@@ -1,5 +1,6 @@
 ghost use Rattle.std.specs.Prelude.{◌≡◌, map};
 
+use crate::children::Children;
 use crate::entry::Entry;
 use std::alloc::Allocator;
 use std::sync::Arc;
@@ -20,6 +21,6 @@ pub trait Summary<V>: Copy + Drop {
         ensures { result ≡ calls.list (map (λ entry. (entry.value.key, entry.value.value.value)) entries.now) };
 
     /// The summary of a branch, of the summaries of its children by ascending index.
-    fn branch(children: &[(u32, Self)]) -> Self
-        ensures { result ≡ calls.branch children.now };
+    fn branch(children: Children<'_, Self>) -> Self
+        ensures { result ≡ calls.branch children.entry };
 }

@@ -1,132 +1,105 @@
-// The summary of a trie's entries, by recursion over its nodes. The memory is that of the lists of children's summaries,
-// one at each node on the way down.
-ghost use Rattle.std.specs.Prelude.{◌≡◌, ◌≤◌, ◌<◌, suc, length, ◌∷◌, IfOk, IsOkUnless};
+// The summary of a trie's entries, by recursion over its nodes.
+ghost use Rattle.std.specs.Prelude.{◌≡◌, ◌≤◌, ◌<◌, length, ◌∷◌, ◌++◌};
 ghost use Rattle.std.specs.List.{All};
 ghost use Rattle.std.specs.declared.option.Option.TheVariants.{Some};
-ghost use Rattle.dots.specs.declared.refusal.Refusal.TheVariants.{OutOfMemory};
-ghost use Rattle.hash_path.specs.Fan.{fan, Rise};
 ghost use Rattle.hash_path.specs.Summary.{summary_of, summary_at, sums};
 ghost use Rattle.gen_trie.specs.Shapes.{children, child, StandsBelow};
 
+use crate::children::{Child, Children};
 use crate::node::{Node, Shape, Slot, digit_of, slot_of};
 use crate::summary::Summary;
-use dots::Refusal;
 use hash_path::Prefix;
 use std::alloc::Allocator;
 
 // The index of a child, and the summary of its entries.
 #[cycle(summing)]
-fn sum_of<V, A: Allocator + Copy, M: Summary<V>>(
-    alloc: A,
-    slot: &Slot<V, A>,
-    below: u32,
-) -> Result<(u32, M), Refusal>
+fn sum_of<V, A: Allocator + Copy, M: Summary<V>>(slot: &Slot<V, A>, below: u32) -> (u32, M)
     requires { StandsBelow below slot.now }
-    ensures index { IfOk result (λ sum. sum.0 ≡ (child below slot.now).0) }
-    ensures summary { IfOk result (λ sum. summary_of M.calls below (child below slot.now).1 ≡ Some sum.1) }
-    ensures err { IsOkUnless result OutOfMemory }
+    ensures index { result.0 ≡ (child below slot.now).0 }
+    ensures summary { summary_of M.calls below (child below slot.now).1 ≡ Some result.1 }
 {
     match slot {
-        Slot::One(index, entry) => Ok((*index, M::leaf(entry.key.bytes(), &entry.value))),
-        Slot::Many(index, node) => Ok((*index, summary(alloc, node)?)),
+        Slot::One(index, entry) => (*index, M::leaf(entry.key.bytes(), &entry.value)),
+        Slot::Many(index, node) => (*index, summary(node)),
     }
 }
 
 // The summary of a node's entries, which are two or more.
 #[cycle(summing)]
-fn summary<V, A: Allocator + Copy, M: Summary<V>>(alloc: A, node: &Node<V, A>) -> Result<M, Refusal>
+fn summary<V, A: Allocator + Copy, M: Summary<V>>(node: &Node<V, A>) -> M
     requires { 2 ≤ length node.now.1 }
-    ensures ok { IfOk result (λ summary. summary_of M.calls node.now.0 node.now.1 ≡ Some summary) }
-    ensures err { IsOkUnless result OutOfMemory }
+    ensures { summary_of M.calls node.now.0 node.now.1 ≡ Some result }
 {
     match &node.shape {
-        Shape::Branch(below, _, slots) => branch_of(alloc, slots, *below),
-        Shape::Keys(entries) => Ok(M::list(entries)),
+        Shape::Branch(below, _, slots) => branch_of(slots, *below, Children::none()),
+        Shape::Keys(entries) => M::list(entries),
     }
 }
 
+// The summary of a branch, of these children and of those behind them, whose summaries are made already. The children are
+// summed from the last to the first, so that each has its place in a call of its own, and they take no memory.
 #[cycle(summing)]
 fn branch_of<V, A: Allocator + Copy, M: Summary<V>>(
-    alloc: A,
     slots: &[Slot<V, A>],
     below: u32,
-) -> Result<M, Refusal>
-    requires rise { Rise 0 (children below slots.now) }
-    requires fits { All (StandsBelow below) slots.now }
-    requires several { 2 ≤ length (fan (children below slots.now)) }
-    ensures ok { IfOk result (λ summary. summary_of M.calls (suc below) (fan (children below slots.now)) ≡ Some summary) }
-    ensures err { IsOkUnless result OutOfMemory }
-{
-    let sums = sums_of(alloc, slots, below)?;
-    Ok(M::branch(&sums))
-}
-
-// The indices and the summaries of the children.
-#[cycle(summing)]
-fn sums_of<V, A: Allocator + Copy, M: Summary<V>>(
-    alloc: A,
-    slots: &[Slot<V, A>],
-    below: u32,
-) -> Result<Vec<(u32, M), A>, Refusal>
+    behind: Children<'_, M>,
+) -> M
     requires { All (StandsBelow below) slots.now }
-    ensures ok { IfOk result (λ list. list.items ≡ sums (summary_of M.calls below) (children below slots.now)) }
-    ensures err { IsOkUnless result OutOfMemory }
+    ensures { result ≡ M.calls.branch (sums (summary_of M.calls below) (children below slots.now) ++ behind.entry) }
 {
-    let mut sums = Vec::with_capacity(alloc, slots.len())?;
-    for slot in slots {
-        let sum = sum_of(alloc, slot, below)?;
-        sums.push(sum)?;
+    match slots.split_last() {
+        None => M::branch(behind),
+        Some((last, others)) => {
+            let (index, summary) = sum_of(last, below);
+            let child = Child::new(index, summary, behind);
+            branch_of(others, below, Children::beginning_with(&child))
+        }
     }
-    Ok(sums)
 }
 
 // The summary of the entries of a child whose paths go on with a prefix.
 #[cycle(seeking)]
 pub(crate) fn summary_below<V, A: Allocator + Copy, M: Summary<V>>(
-    alloc: A,
     slot: &Slot<V, A>,
     height: u32,
     prefix: Prefix,
-) -> Result<Option<M>, Refusal>
+) -> Option<M>
     requires fits { StandsBelow height slot.now }
     requires height { height ≤ 7 }
     ensures short { length prefix ≤ 7 }
-    ensures ok { IfOk result (λ summary. summary ≡ summary_at M.calls prefix height (child height slot.now).1) }
-    ensures err { IsOkUnless result OutOfMemory }
+    ensures summary { result ≡ summary_at M.calls prefix height (child height slot.now).1 }
 {
     let Some((index, rest)) = prefix.split_first() else {
-        let (_, summary) = sum_of(alloc, slot, height)?;
-        return Ok(Some(summary));
+        let (_, summary) = sum_of(slot, height);
+        return Some(summary);
     };
     match slot {
         Slot::One(_, entry) => {
             if height > 0 && digit_of(height - 1, entry.hash) == index {
-                summary_below(alloc, slot, height - 1, rest)
+                summary_below(slot, height - 1, rest)
             } else {
-                Ok(None)
+                None
             }
         }
-        Slot::Many(_, node) => summary_under(alloc, node, index, rest),
+        Slot::Many(_, node) => summary_under(node, index, rest),
     }
 }
 
 // The same at a node, for a prefix of one index or more.
 #[cycle(seeking)]
 fn summary_under<V, A: Allocator + Copy, M: Summary<V>>(
-    alloc: A,
     node: &Node<V, A>,
     index: u32,
     rest: Prefix,
-) -> Result<Option<M>, Refusal>
+) -> Option<M>
     requires { index < 32 }
-    ensures ok { IfOk result (λ summary. summary ≡ summary_at M.calls (index ∷ rest) node.now.0 node.now.1) }
-    ensures err { IsOkUnless result OutOfMemory }
+    ensures { result ≡ summary_at M.calls (index ∷ rest) node.now.0 node.now.1 }
 {
     match &node.shape {
         Shape::Branch(below, bitmap, slots) => match slot_of(slots, *below, *bitmap, index) {
-            None => Ok(None),
-            Some(slot) => summary_below(alloc, slot, *below, rest),
+            None => None,
+            Some(slot) => summary_below(slot, *below, rest),
         },
-        Shape::Keys(_) => Ok(None),
+        Shape::Keys(_) => None,
     }
 }

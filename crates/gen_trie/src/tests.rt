@@ -15,6 +15,14 @@ use std::test::Fail;
 
 // A trie with the values 1, 2 and 3 at the keys a, b and c.
 fn three<H: PathHash>(alloc: Global, hash: H) -> Result<GenTrie<u64, NoSummary, H>, Refusal> {
+    three_with(alloc, hash)
+}
+
+// The same with any summary.
+fn three_with<M: Summary<u64>, H: PathHash>(
+    alloc: Global,
+    hash: H,
+) -> Result<GenTrie<u64, M, H>, Refusal> {
     let mut trie = GenTrie::new(alloc, hash);
     trie.insert(Key::new(alloc, b"a")?, 1)?;
     trie.insert(Key::new(alloc, b"b")?, 2)?;

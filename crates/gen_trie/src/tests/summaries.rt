@@ -29,18 +29,16 @@ impl Summary<u64> for Mark {
         Mark::List(entries.len())
     }
 
-    fn branch(children: &[(u32, Mark)]) -> Mark {
-        Mark::Branch(children.len())
+    fn branch(children: Children<'_, Mark>) -> Mark
+        ensures { result ≡ Branch (length children.entry) }
+    {
+        Mark::Branch(children.count())
     }
 }
 
-// A trie with the values 1, 2 and 3 at the keys a, b and c, frozen.
+// The trie of three keys, frozen.
 fn frozen_three<H: PathHash>(alloc: Global, hash: H) -> Result<Frozen<u64, Mark, H>, Refusal> {
-    let mut trie = GenTrie::new(alloc, hash);
-    trie.insert(Key::new(alloc, b"a")?, 1)?;
-    trie.insert(Key::new(alloc, b"b")?, 2)?;
-    trie.insert(Key::new(alloc, b"c")?, 3)?;
-    trie.freeze()
+    three_with(alloc, hash)?.freeze()
 }
 
 // The prefix of these indices, or the root where they are no prefix.
@@ -55,25 +53,25 @@ fn prefix_of(indices: &[u32]) -> Prefix {
 #[test]
 fn a_branch_counts_its_children(rt: HostRuntime) -> Result<(), Fail> {
     let frozen = frozen_three(rt.alloc(), Fnv1a)?;
-    assert_eq!(rt; frozen.summary(Prefix::root())?, Some(Mark::Branch(3)));
+    assert_eq!(rt; frozen.summary(Prefix::root()), Some(Mark::Branch(3)));
     Ok(())
 }
 
 #[test]
 fn a_key_alone_is_a_leaf_at_each_prefix_of_its_path(rt: HostRuntime) -> Result<(), Fail> {
     let frozen = frozen_three(rt.alloc(), Fnv1a)?;
-    assert_eq!(rt; frozen.summary(prefix_of(&[12]))?, Some(Mark::Leaf(1)));
-    assert_eq!(rt; frozen.summary(prefix_of(&[12, 9]))?, Some(Mark::Leaf(1)));
-    assert_eq!(rt; frozen.summary(prefix_of(&[12, 8]))?, None);
+    assert_eq!(rt; frozen.summary(prefix_of(&[12])), Some(Mark::Leaf(1)));
+    assert_eq!(rt; frozen.summary(prefix_of(&[12, 9])), Some(Mark::Leaf(1)));
+    assert_eq!(rt; frozen.summary(prefix_of(&[12, 8])), None);
     Ok(())
 }
 
 #[test]
 fn keys_of_equal_hashes_are_a_list(rt: HostRuntime) -> Result<(), Fail> {
     let frozen = frozen_three(rt.alloc(), SameHash(0))?;
-    assert_eq!(rt; frozen.summary(Prefix::root())?, Some(Mark::Branch(1)));
+    assert_eq!(rt; frozen.summary(Prefix::root()), Some(Mark::Branch(1)));
     assert_eq!(rt;
-        frozen.summary(prefix_of(&[0, 0, 0, 0, 0, 0, 0]))?,
+        frozen.summary(prefix_of(&[0, 0, 0, 0, 0, 0, 0])),
         Some(Mark::List(3))
     );
     Ok(())
@@ -82,7 +80,7 @@ fn keys_of_equal_hashes_are_a_list(rt: HostRuntime) -> Result<(), Fail> {
 #[test]
 fn an_empty_map_has_no_summary(rt: HostRuntime) -> Result<(), Fail> {
     let frozen: Frozen<u64, NoSummary, Fnv1a> = Frozen::new(rt.alloc(), Fnv1a);
-    assert_eq!(rt; frozen.summary(Prefix::root())?, None);
+    assert_eq!(rt; frozen.summary(Prefix::root()), None);
     Ok(())
 }
 
@@ -90,7 +88,7 @@ fn an_empty_map_has_no_summary(rt: HostRuntime) -> Result<(), Fail> {
 fn no_summary_tells_that_there_are_keys(rt: HostRuntime) -> Result<(), Fail> {
     let mut trie = three(rt.alloc(), Fnv1a)?;
     let frozen = trie.freeze()?;
-    assert_eq!(rt; frozen.summary(prefix_of(&[5]))?, Some(NoSummary));
-    assert_eq!(rt; frozen.summary(prefix_of(&[6]))?, None);
+    assert_eq!(rt; frozen.summary(prefix_of(&[5])), Some(NoSummary));
+    assert_eq!(rt; frozen.summary(prefix_of(&[6])), None);
     Ok(())
 }

@@ -6,24 +6,21 @@ use Rattle.hash_path.specs.Map.{by_path}
 use Rattle.hash_path.specs.Summary.{summary_at}
 use Rattle.hash_path.proofs.Summaries.{summary_none}
 use Rattle.gen_trie.specs.Root.{root_entries}
-use Rattle.gen_trie.proofs.Puts.{if_ok_so}
 use Rattle.gen_trie.proofs.Sums.{at_root, none_at, none_nowhere}
 use Rattle.gen_trie.proofs.frozen.Frozen.summary.Goals as goal
 
-pub returns-in-None-clause-ok : goal.returns-in-None-clause-ok
-returns-in-None-clause-ok g c =
+pub returns-in-None-clause-summary : goal.returns-in-None-clause-summary
+returns-in-None-clause-summary g c =
     sym (summary_none g.M.Summary.calls c.args.prefix 7)
     ∙ ap (λ root. summary_at g.M.Summary.calls c.args.prefix 7 (root_entries root)) (sym c.in-None.is)
     ∙ at_root g.M.Summary.calls (g.H.PathHash.hash_of c.self.inside.hash) c.self.inside.root c.self.inside.count c.self.invariant c.args.prefix
     ∙ ap (λ x. summary_at g.M.Summary.calls c.args.prefix 7 (by_path (g.H.PathHash.hash_of x.0) x.1)) c.self.view_is
 
-pub returns-in-Some-clause-ok : goal.returns-in-Some-clause-ok
-returns-in-Some-clause-ok g c =
-    if_ok_so c.summary_below.result
-    (λ r so. so ∙ ap (λ root. summary_at g.M.Summary.calls c.args.prefix 7 (root_entries root)) (sym c.in-Some.is)
+pub returns-in-Some-clause-summary : goal.returns-in-Some-clause-summary
+returns-in-Some-clause-summary g c =
+    c.summary_below.ensures.summary ∙ ap (λ root. summary_at g.M.Summary.calls c.args.prefix 7 (root_entries root)) (sym c.in-Some.is)
     ∙ at_root g.M.Summary.calls (g.H.PathHash.hash_of c.self.inside.hash) c.self.inside.root c.self.inside.count c.self.invariant c.args.prefix
-    ∙ ap (λ x. summary_at g.M.Summary.calls c.args.prefix 7 (by_path (g.H.PathHash.hash_of x.0) x.1)) c.self.view_is)
-    c.summary_below.ensures.ok
+    ∙ ap (λ x. summary_at g.M.Summary.calls c.args.prefix 7 (by_path (g.H.PathHash.hash_of x.0) x.1)) c.self.view_is
 
 pub returns-in-None-clause-none : goal.returns-in-None-clause-none
 returns-in-None-clause-none g c =
@@ -32,8 +29,6 @@ returns-in-None-clause-none g c =
 
 pub returns-in-Some-clause-none : goal.returns-in-Some-clause-none
 returns-in-Some-clause-none g c =
-    if_ok_so c.summary_below.result
-    (λ r so. subst (λ x. (r ≡ None) ↔ ((key : List ℕ) → indices (length c.args.prefix) (g.H.PathHash.hash_of x.0 key) ≡ c.args.prefix → finite.get x.1 key ≡ None)) c.self.view_is
-    (none_at g.M.Summary.calls (g.H.PathHash.hash_of c.self.inside.hash) c.self.inside.root c.self.inside.count c.self.invariant c.args.prefix r c.summary_below.ensures.short
-    (so ∙ ap (λ root. summary_at g.M.Summary.calls c.args.prefix 7 (root_entries root)) (sym c.in-Some.is))))
-    c.summary_below.ensures.ok
+    subst (λ x. (c.summary_below.result ≡ None) ↔ ((key : List ℕ) → indices (length c.args.prefix) (g.H.PathHash.hash_of x.0 key) ≡ c.args.prefix → finite.get x.1 key ≡ None)) c.self.view_is
+    (none_at g.M.Summary.calls (g.H.PathHash.hash_of c.self.inside.hash) c.self.inside.root c.self.inside.count c.self.invariant c.args.prefix c.summary_below.result c.summary_below.ensures.short
+    (c.summary_below.ensures.summary ∙ ap (λ root. summary_at g.M.Summary.calls c.args.prefix 7 (root_entries root)) (sym c.in-Some.is)))
