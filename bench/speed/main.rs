@@ -98,10 +98,7 @@ fn plain<M: Plain>(keys: &[u64], step: u32, times: u32) -> f64 {
     for _ in 0..times {
         match step {
             0 => assert!(keys.iter().all(|key| map.has(*key))),
-            1 => {
-                assert!(keys.iter().all(|key| map.take(*key)));
-                keys.iter().for_each(|key| map.put(*key));
-            }
+            1 => assert!(keys.iter().all(|key| map.take(*key))),
             2 => drop(black_box(map.sum())),
             3 => drop(black_box(map.clone())),
             _ => {
@@ -138,7 +135,7 @@ fn step_of(run: impl Fn(u32, u32) -> f64, repeats: Repeats, step: u32) -> (f64, 
 
 const STEPS: [&str; 5] = [
     "lookup",
-    "remove, insert again",
+    "remove",
     "iterate",
     "freeze",
     "freeze, write again",
@@ -149,9 +146,19 @@ fn tries(count: usize, repeats: Repeats) {
     let scale = 1e6 / count as f64;
     println!("{count} keys of 8 bytes: microseconds a key, and times a HashMap's and a BTreeMap's");
     for (step, name) in (0..).zip(STEPS) {
-        // a walk is short beside the insertion before it
-        let times = if name == "iterate" { 20 } else { 1 } * repeats.times;
-        let repeats = Repeats { times, ..repeats };
+        let repeats = match name {
+            // a walk is short beside the insertion before it
+            "iterate" => Repeats {
+                times: 20 * repeats.times,
+                ..repeats
+            },
+            // what is removed once is not there again
+            "remove" => Repeats {
+                times: 1,
+                runs: 3 * repeats.runs,
+            },
+            _ => repeats,
+        };
         let ours = step_of(|s, t| trie(&keys, s, t), repeats, step);
         let hash = step_of(|s, t| plain::<HashMap<_, _>>(&keys, s, t), repeats, step);
         let tree = step_of(|s, t| plain::<BTreeMap<_, _>>(&keys, s, t), repeats, step);
@@ -219,6 +226,6 @@ fn messages(count: u64, times: u32) {
 
 fn main() {
     tries(100_000, Repeats { times: 5, runs: 2 });
-    tries(1_000_000, Repeats { times: 2, runs: 2 });
+    tries(1_000_000, Repeats { times: 2, runs: 3 });
     messages(10_000, 100);
 }

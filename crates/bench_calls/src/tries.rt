@@ -60,13 +60,12 @@ fn freeze_often(trie: &mut Trie, keys: &[u64]) -> Result<u64, Refusal> {
     Ok(sum)
 }
 
-// One step with all keys, which leaves them in the trie.
+// One step with all keys.
 fn step_once(alloc: Global, trie: &mut Trie, keys: &[u64], step: u32) -> Result<u64, Refusal> {
     match step {
         0 => found(alloc, trie, keys),
         1 => {
             remove_all(alloc, trie, keys)?;
-            insert_all(alloc, trie, keys)?;
             Ok(trie.size())
         }
         2 => Ok(sum_of_walk(trie)),
@@ -86,7 +85,7 @@ fn steps(alloc: Global, keys: &[u64], step: u32, times: u32) -> Result<u64, Refu
 }
 
 /// Inserts the keys, eight bytes each, into a new trie, and then so many times does the step with all of them: 0 looks
-/// each up, 1 removes each and inserts it again, 2 walks, 3 freezes once for each key, 4 freezes and writes each again.
+/// each up, 1 removes each, 2 walks, 3 freezes once for each key, 4 freezes and writes each again.
 #[unsafe(no_mangle)]
 pub extern "C" fn measure_trie(alloc: Global, keys: &[u64], step: u32, times: u32) -> u64 {
     match steps(alloc, keys, step, times) {
