@@ -3,11 +3,12 @@ use Rattle.std.proofs.Common.{◌≡◌, ℕ, zero, suc, ◌+◌, ◌<◌, ◌�
 use Rattle.std.specs.Borrow.{Bor}
 use Rattle.std.specs.List.{All}
 use Rattle.std.specs.declared.sync.Arc.{Arc}
+use Rattle.std.proofs.lemmas.List.{append_assoc}
 use Rattle.std.proofs.lemmas.List.Elements.{All-head, All-tail}
 use Rattle.std.specs.FinMap as finite
 use Rattle.hash_path.specs.Word.{key_in, order}
 use Rattle.hash_path.specs.Fan.{under, fan}
-use Rattle.hash_path.specs.Map.{keyed, key_of, as_map, walk}
+use Rattle.hash_path.specs.Map.{as_map, walk}
 use Rattle.hash_path.proofs.Walks.{walk_is}
 use Rattle.hash_path.proofs.Words.{key_in-word}
 use Rattle.std.specs.declared.option.Option.{Option}
@@ -27,14 +28,6 @@ module _ {V : Type 0} where
   by_key-under below i [] rest = refl
   by_key-under below i (e ∷ es) rest = ap (λ l. (key_in below e.0, e.1) ∷ l) (by_key-under below i es rest)
 
-  pub by_key-keyed : (es : List (List ℕ × V)) → by_key 7 es ≡ keyed es
-  by_key-keyed [] = refl
-  by_key-keyed (e ∷ es) = ap (λ l. (key_of e.0, e.1) ∷ l) (by_key-keyed es)
-
-  joined : (xs ys zs : List (List ℕ × V)) → (xs ++ ys) ++ zs ≡ xs ++ (ys ++ zs)
-  joined [] ys zs = refl
-  joined (x ∷ xs) ys zs = ap (λ l. x ∷ l) (joined xs ys zs)
-
 module _ {V A : Type 0} where
   -- the entries of a branch are those of its children
   fan_left : (below : ℕ) (ss : List (Slot V A)) → by_key (suc below) (fan (children below ss)) ≡ slots_left below ss
@@ -42,7 +35,7 @@ module _ {V A : Type 0} where
   fan_left below (s ∷ ss) = by_key-under below (child below s).0 (child below s).1 (fan (children below ss)) ∙ ap (λ l. by_key below (child below s).1 ++ l) (fan_left below ss)
 
   first_left : (below : ℕ) (s : Slot V A) (ss ts : List (Slot V A)) (rest : List (List ℕ × V)) → ts ≡ s ∷ ss → slots_left below ts ++ rest ≡ by_key below (child below s).1 ++ (slots_left below ss ++ rest)
-  first_left below s ss ts rest is = ap (λ l. slots_left below l ++ rest) is ∙ joined (by_key below (child below s).1) (slots_left below ss) rest
+  first_left below s ss ts rest is = ap (λ l. slots_left below l ++ rest) is ∙ append_assoc (by_key below (child below s).1) (slots_left below ss) rest
 
   -- the first child of the lowest branch that has one left
   pub next_slot_is : (from k n : ℕ) (ls : List (Bor (List (Slot V A)))) (d others : Bor (List (Slot V A))) (s : Slot V A) → n ≡ from + k → k < length ls
@@ -141,7 +134,7 @@ module _ {V A : Type 0} where
   pub left_after : (es : List (Arc (Entry V A) A)) (new slots old root : List (List ℕ × V)) → es ≡ [] → new ≡ slots ++ old
       → by_key 0 (listed es) ++ (new ++ root) ≡ slots ++ (by_key 0 (listed es) ++ (old ++ root))
   left_after es new slots old root none is =
-      ap (λ l. by_key 0 (listed l) ++ (new ++ root)) none ∙ ap (λ l. l ++ root) is ∙ joined slots old root ∙ ap (λ l. slots ++ (by_key 0 (listed l) ++ (old ++ root))) (sym none)
+      ap (λ l. by_key 0 (listed l) ++ (new ++ root)) none ∙ ap (λ l. l ++ root) is ∙ append_assoc slots old root ∙ ap (λ l. slots ++ (by_key 0 (listed l) ++ (old ++ root))) (sym none)
 
   pub entered_one : (below i : ℕ) (s : Slot V A) (e : Arc (Entry V A) A) (rest : List (List ℕ × V)) → s ≡ One i e → by_key below (child below s).1 ++ rest ≡ item e.value ∷ rest
   entered_one below i s e rest is =
@@ -151,7 +144,7 @@ module _ {V A : Type 0} where
 
 module _ {V A : Type 0} (f : List ℕ → ℕ) (root : Option (Slot V A)) (count : ℕ) (trie : IsTrie f root count) (all : List (List ℕ × V)) (is : all ≡ by_key 7 (root_entries root)) where
   iter_is : all ≡ walk f (as_map (root_entries root))
-  iter_is = is ∙ by_key-keyed (root_entries root) ∙ sym (walk_is f (root_entries root) trie.hashed (let r = trie.root_is in r.sorted))
+  iter_is = is ∙ sym (walk_is f (root_entries root) trie.hashed (let r = trie.root_is in r.sorted))
 
 module _ {V A H : Type 0} (hash_of : H → List ℕ → ℕ) (hash : H) (root : Option (Slot V A)) (count : ℕ) (seen : H × finite.FinMap order V) (all : List (List ℕ × V)) where
   -- as the map is seen

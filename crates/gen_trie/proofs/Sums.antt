@@ -1,11 +1,15 @@
 -- The summaries of a branch's children, one after another.
-use Rattle.std.proofs.Common.{◌≡◌, ◌≢◌, ◌↔◌, ℕ, suc, ◌+◌, ◌≤◌, List, [], ◌∷◌, ◌++◌, length, map, cond, None, Some, arith, refl, ne_eqb, sym, ◌∙◌, ap, subst}
+use Rattle.std.proofs.Common.{◌≡◌, ◌≢◌, ◌↔◌, ℕ, suc, ◌≤◌, List, [], ◌∷◌, ◌++◌, length, map, cond, None, Some, arith, refl, ne_eqb, sym, ◌∙◌, ap, subst}
 use Rattle.std.specs.declared.option.Option.{Option}
+use Rattle.std.specs.List.{All}
+use Rattle.std.proofs.lemmas.List.Elements.{All-take}
+use Rattle.std.proofs.Math.Seq.{take-append_seam}
 use Rattle.std.proofs.lemmas.List.{append_assoc, append-nil, length-map, map-append}
 use Rattle.hash_path.specs.Word.{word, digit}
 use Rattle.hash_path.specs.Fan.{fan, Rise, at}
 use Rattle.hash_path.specs.Map.{as_map, by_key, by_path}
 use Rattle.hash_path.specs.Summary.{Calls, sums, summary_of, summary_at}
+use Rattle.hash_path.proofs.Rising.{rise_short, Rise-sums}
 use Rattle.hash_path.proofs.Summaries.{sums_append, summary_branch, summary_list, summary_none, summary_child}
 use Rattle.hash_path.proofs.Words.{key_in-word}
 use Rattle.std.specs.FinMap as finite
@@ -34,14 +38,8 @@ module _ {V A M : Type 0} (below : ℕ) (s : List (List ℕ × V) → Option M) 
       ∙ ap (sums s) (sym (map-append (child below) others (last ∷ [])) ∙ ap (children below) (sym is))
       )
 
--- a branch has 32 children at most
-pub rise_short : {V : Type 0} (low : ℕ) (cs : List (ℕ × List (List ℕ × V))) → low ≤ 32 → Rise low cs → length cs + low ≤ 32
-rise_short low [] short rise = omega (arith, short)
-rise_short low (c ∷ cs) short rise =
-    let from = rise.0 in
-    let bound = rise.1 in
-    let rest = rise_short (suc c.0) cs (omega (arith, bound)) rise.2 in
-    omega (arith, rest, from)
+pub front_fits : {X : Type 0} (P : X → Type 0) (all front : List X) (last : X) → all ≡ front ++ last ∷ [] → All P all → All P front
+front_fits P all front last is fits = subst (All P) (take-append_seam front (last ∷ [])) (All-take P (length front) (front ++ last ∷ []) (subst (All P) is fits))
 
 pub few_slots : {V A : Type 0} (below : ℕ) (slots : List (Slot V A)) → Rise 0 (children below slots) → length slots ≤ 32
 few_slots below slots rise =
@@ -57,6 +55,12 @@ module _ {V A M : Type 0} (c : Calls V M) where
       ∙ summary_branch c below (children below slots) rise (subst (λ n. 2 ≤ length n.1) e several)
       ∙ ap (λ l. Some (c.branch l)) (sym (append-nil (sums (summary_of c below) (children below slots))) ∙ (λ t. sums (summary_of c below) (children below (sym fs t)) ++ sym none t))
       ∙ ap Some (sym ms)
+
+  pub children_rise : (below : ℕ) (slots found : List (Slot V A)) (behind : List (ℕ × M)) → Rise 0 (children below slots) → found ≡ slots → behind ≡ []
+      → Rise 0 (sums (summary_of c below) (children below found) ++ behind)
+  children_rise below slots found behind rise fs none =
+      subst (Rise 0) (sym ((λ t. sums (summary_of c below) (children below (fs t)) ++ none t) ∙ append-nil (sums (summary_of c below) (children below slots))))
+      (Rise-sums (summary_of c below) 0 (children below slots) rise)
 
   pub one_key : (below : ℕ) (slot : Slot V A) (i : ℕ) (e : Arc (Entry V A) A) (k : List ℕ) (v : V) (m : M) → slot ≡ One i e → k ≡ e.value.key → v ≡ e.value.value.value → m ≡ c.leaf k v
       → summary_of c below (child below slot).1 ≡ Some m

@@ -1,4 +1,5 @@
 ghost use Rattle.std.specs.Prelude.{◌≡◌};
+ghost use Rattle.hash_path.specs.Fan.{Rise};
 
 use crate::children::Children;
 use crate::entry::Entry;
@@ -22,6 +23,7 @@ impl<V> Summary<V> for NoSummary {
     }
 
     fn branch(_children: Children<'_, NoSummary>) -> NoSummary
+        requires { Rise 0 _children }
         ensures { result ≡ record {} }
     {
         NoSummary

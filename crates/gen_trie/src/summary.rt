@@ -8,6 +8,7 @@ use std::sync::Arc;
 /// What is told of the entries under a prefix of a trie, as a digest or a count. It is made by three calls, each by law a
 /// function of its arguments' values; so equal maps have equal summaries.
 pub trait Summary<V>: Copy + Drop {
+    ghost use Rattle.hash_path.specs.Fan.{Rise};
     ghost use Rattle.hash_path.specs.Summary.{Calls};
 
     ghost calls: { Calls V Self };
@@ -20,7 +21,8 @@ pub trait Summary<V>: Copy + Drop {
     fn list<A: Allocator>(entries: &[Arc<Entry<V, A>, A>]) -> Self
         ensures { result ≡ calls.list (map (λ entry. (entry.value.key, entry.value.value.value)) entries.now) };
 
-    /// The summary of a branch, of the summaries of its children by ascending index.
+    /// The summary of a branch, of the summaries of its children by ascending index, which is below 32.
     fn branch(children: Children<'_, Self>) -> Self
+        requires { Rise 0 children }
         ensures { result ≡ calls.branch children.entry };
 }

@@ -2,6 +2,7 @@
 ghost use Rattle.std.specs.Prelude.{◌≡◌, ◌≤◌, ◌<◌, length, ◌∷◌, ◌++◌};
 ghost use Rattle.std.specs.List.{All};
 ghost use Rattle.std.specs.declared.option.Option.TheVariants.{Some};
+ghost use Rattle.hash_path.specs.Fan.{Rise};
 ghost use Rattle.hash_path.specs.Summary.{summary_of, summary_at, sums};
 ghost use Rattle.gen_trie.specs.Shapes.{children, child, StandsBelow};
 
@@ -44,7 +45,8 @@ fn branch_of<V, A: Allocator + Copy, M: Summary<V>>(
     below: u32,
     behind: Children<'_, M>,
 ) -> M
-    requires { All (StandsBelow below) slots.now }
+    requires fits { All (StandsBelow below) slots.now }
+    requires rise { Rise 0 (sums (summary_of M.calls below) (children below slots.now) ++ behind) }
     ensures { result ≡ M.calls.branch (sums (summary_of M.calls below) (children below slots.now) ++ behind.entry) }
 {
     match slots.split_last() {

@@ -160,6 +160,16 @@ impl<V: Drop, M: Summary<V>, H: PathHash, A: Allocator + Copy> GenTrie<V, M, H, 
         self.count = 0;
     }
 
+    /// Renews the summaries of the nodes that were written in the current generation, and leaves the map. Nodes keep no
+    /// summaries yet, so there is nothing to renew, and nothing is refused.
+    pub fn seal(&mut self) -> Result<(), Refusal>
+        ensures same { self.new ≡ self.old }
+        ensures err { IsOkUnless result OutOfMemory }
+    {
+        // no node has a summary
+        Ok(())
+    }
+
     /// The map as it is, which stays so whatever is written afterwards. The next generation starts on both sides; at the
     /// last, 2^64 - 1, it stays. Copies no node: it takes a reference count, and is refused only where that is full.
     pub fn freeze(&mut self) -> Result<Frozen<V, M, H, A>, Refusal>

@@ -1,52 +1,22 @@
 -- The entries under a prefix have no summary exactly where no key's path begins with the prefix.
-use Rattle.std.proofs.Common.{◌≡◌, ℕ, zero, suc, ◌+◌, ◌-◌, ◌*◌, ◌/◌, ◌^◌, ◌≤◌, ◌↔◌, List, [], ◌∷◌, ◌++◌, length, take, drop, get_or, Bool, true, false, cond, nat_eq, Some, None, arith, refl, sym, ◌∙◌, ap, subst, eq-eqb, ne_eqb}
+use Rattle.std.proofs.Common.{◌≡◌, ℕ, zero, suc, ◌-◌, ◌≤◌, ◌↔◌, List, [], ◌∷◌, ◌++◌, length, take, drop, get_or, Bool, true, false, cond, nat_eq, Some, None, arith, refl, sym, ◌∙◌, ap, subst, eq-eqb, ne_eqb}
 use Rattle.std.specs.declared.option.Option.{Option}
 use Rattle.std.specs.declared.cmp.Ordering.{Ordering}
 use Rattle.std.specs.declared.cmp.Ordering.TheVariants.{Less, Equal, Greater}
 use Rattle.std.specs.Ordering.{nat_cmp, is_eq, eq_by_cmp, ordering_then}
 use Rattle.std.specs.FinMap as finite
 use Rattle.std.specs.FinMap.Entries.{find}
-use Rattle.std.proofs.Math.Nat.{div-one, div-div-eq-div-mul}
 use Rattle.std.proofs.Math.Seq.{take-append_seam}
-use Rattle.std.proofs.lemmas.Nat.{pow-add}
-use Rattle.hash_path.specs.Path.{index_in, indices}
+use Rattle.hash_path.specs.Path.{indices}
 use Rattle.hash_path.specs.PathLaws.{length-indices}
 use Rattle.hash_path.specs.Word.{order, digit, word, hash_in, key_in, IsWord, AllWords}
 use Rattle.hash_path.specs.Map.{path, key_of, HashedBy, as_map}
 use Rattle.hash_path.specs.Summary.{Calls, under_index, summary_of, summary_at}
 use Rattle.hash_path.proofs.Orders.{less, same, more}
 use Rattle.hash_path.proofs.Maps.{get-as_map}
+use Rattle.hash_path.proofs.Paths.{path_begins}
 use Rattle.hash_path.proofs.Walks.{find_off}
 use Rattle.hash_path.proofs.Words.{IsWord-word, tied_same, same_tied}
-
--- ---- a path begins with its indices
-
-abbrev levels : ℕ → ℕ → ℕ
-levels zero r = r
-levels (suc d) r = suc (levels d r)
-
-levels_are : (d r : ℕ) → levels d r ≡ d + r
-levels_are zero r = omega arith
-levels_are (suc d) r = let e = levels_are d r in omega arith
-
-shifted_again : (hash k : ℕ) → hash / 2 ^ (5 * k) / 32 ≡ hash / 2 ^ (5 * suc k)
-shifted_again hash k = div-div-eq-div-mul hash (2 ^ (5 * k)) 32 ∙ ap (λ x. hash / x) (sym (pow-add 2 (5 * k) 5)) ∙ ap (λ e. hash / 2 ^ e) (five_more k)
-  where
-    five_more : (k : ℕ) → 5 * k + 5 ≡ 5 * suc k
-    five_more k = omega arith
-
-word_begins : (d r k hash : ℕ) (key : List ℕ) → levels d r + k ≡ 7 → word (levels d r) hash key ≡ indices d (hash / 2 ^ (5 * k)) ++ word r hash key
-word_begins zero r k hash key e = refl
-word_begins (suc d) r k hash key e =
-    let here : 6 - levels d r ≡ k = omega arith in
-    let rest = word_begins d r (suc k) hash key (omega arith) ∙ ap (λ x. indices d x ++ word r hash key) (sym (shifted_again hash k)) in
-    let first = ap (index_in hash) here in
-    λ i. first i ∷ rest i
-
-pub path_begins : (f : List ℕ → ℕ) (d r : ℕ) (key : List ℕ) → d + r ≡ 7 → path f key ≡ indices d (f key) ++ word r (f key) key
-path_begins f d r key e =
-    let all : levels d r ≡ 7 = levels_are d r ∙ e in
-    ap (λ h. word h (f key) key) (sym all) ∙ word_begins d r 0 (f key) key (omega arith) ∙ ap (λ x. indices d x ++ word r (f key) key) (div-one (f key))
 
 same_front : (a b x y : List ℕ) → length a ≡ length b → a ++ x ≡ b ++ y → a ≡ b
 same_front a b x y n e = sym (take-append_seam a x) ∙ (λ i. take (n i) (e i)) ∙ take-append_seam b y

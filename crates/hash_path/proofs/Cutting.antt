@@ -13,6 +13,7 @@ use Rattle.hash_path.specs.Word.{order, AllWords}
 use Rattle.hash_path.specs.Cut.{cut, without, spot}
 use Rattle.hash_path.specs.Fan.{under, fan, Rise, at, there, place, put_child, bits_of}
 use Rattle.hash_path.proofs.Orders.{same, is_less}
+use Rattle.hash_path.proofs.Rising.{Rise-weaken}
 use Rattle.hash_path.proofs.Words.{tied_same}
 
 both : (a b : Bool) → T a → T b → T (a && b)
@@ -103,17 +104,13 @@ module _ {V : Type 0} (i : ℕ) where
       step Equal rest k = refl
       step Greater rest k = ap (λ l. c ∷ l) (rest k)
 
-  weaken : (low high : ℕ) (cs : List (ℕ × List (List ℕ × V))) → low ≤ high → Rise high cs → Rise low cs
-  weaken low high [] h r = tt
-  weaken low high (c ∷ cs) h r = (let k = r.0 in omega arith, r.1, r.2)
-
   pub Rise-without : (low : ℕ) (cs : List (ℕ × List (List ℕ × V))) → Rise low cs → Rise low (without i cs)
   Rise-without low [] r = tt
   Rise-without low (c ∷ cs) r = step (nat_cmp i c.0) (Rise-without (suc c.0) cs r.2)
     where
       step : (o : Ordering) → Rise (suc c.0) (without i cs) → Rise low (by_order o (c ∷ cs) cs (c ∷ without i cs))
       step Less rest = r
-      step Equal rest = weaken low (suc c.0) cs (let k = r.0 in omega arith) r.2
+      step Equal rest = Rise-weaken low (suc c.0) cs (let k = r.0 in omega arith) r.2
       step Greater rest = (r.0, r.1, rest)
 
   pub bits_without : (cs : List (ℕ × List (List ℕ × V))) → there i cs ≡ true → bits_of (without i cs) + 2 ^ i ≡ bits_of cs

@@ -7,6 +7,7 @@ pub mod Words
 pub mod Bits
 pub mod Ranks
 pub mod Maps
+pub mod Rising
 pub mod Cutting
 pub mod MapCuts
 pub mod Summaries

@@ -9,7 +9,7 @@ use Rattle.std.specs.FinMap as finite
 use Rattle.std.specs.FinMap.{get-insert, get-from_entries, len-insert, len-empty, same_map, nat_cmp-IsAntisymmetric, slice_cmp-IsAntisymmetric}
 use Rattle.std.specs.FinMap.Entries.{by_order, put, find, is_sorted, below_all, find-put}
 use Rattle.hash_path.specs.Word.{order, key_in}
-use Rattle.hash_path.specs.Map.{path, key_of, HashedBy, keyed, as_map}
+use Rattle.hash_path.specs.Map.{path, key_of, HashedBy, by_key, as_map}
 use Rattle.hash_path.proofs.Words.{key_in-word, tied_by}
 
 pub tied_path : (f : List ℕ → ℕ) (k l : List ℕ) → eq_by_cmp order (path f k) (path f l) ≡ eq_by_cmp order k l
@@ -35,15 +35,15 @@ second true b p = p
 second false b p = absurd p
 
 module _ {V : Type 0} (f : List ℕ → ℕ) where
-  find-keyed : (k : List ℕ) (es : List (List ℕ × V)) → HashedBy f es → find order k (keyed es) ≡ find order (path f k) es
-  find-keyed k [] h = refl
-  find-keyed k (e ∷ es) h =
+  find-by_key : (k : List ℕ) (es : List (List ℕ × V)) → HashedBy f es → find order k (by_key 7 es) ≡ find order (path f k) es
+  find-by_key k [] h = refl
+  find-by_key k (e ∷ es) h =
       let same : eq_by_cmp order k (key_of e.0) ≡ eq_by_cmp order (path f k) e.0 = sym (tied_path f k (key_of e.0)) ∙ ap (eq_by_cmp order (path f k)) (sym h.0) in
-      let rest = find-keyed k es h.1 in
+      let rest = find-by_key k es h.1 in
       λ i. cond (same i) (Some e.1) (rest i)
 
   pub get-as_map : (k : List ℕ) (es : List (List ℕ × V)) → HashedBy f es → finite.get (as_map es) k ≡ find order (path f k) es
-  get-as_map k es h = get-from_entries nat_list_cmp_total (keyed es) k ∙ find-keyed k es h
+  get-as_map k es h = get-from_entries nat_list_cmp_total (by_key 7 es) k ∙ find-by_key k es h
 
   pub HashedBy-put : (k : List ℕ) (v : V) (es : List (List ℕ × V)) → HashedBy f es → HashedBy f (put order (path f k) v es)
   HashedBy-put k v [] h = (is_path f k, tt)

@@ -6,7 +6,7 @@ use Rattle.std.specs.FinMap as finite
 use Rattle.std.specs.FinMap.{get-entries, get-from_entries, entries_sorted, nat_cmp-IsAntisymmetric, slice_cmp-IsAntisymmetric}
 use Rattle.std.specs.FinMap.Entries.{find, is_sorted, same_entries}
 use Rattle.hash_path.specs.Word.{order}
-use Rattle.hash_path.specs.Map.{path, key_of, HashedBy, keyed, as_map, with_path, by_path, walk}
+use Rattle.hash_path.specs.Map.{path, key_of, HashedBy, by_key, as_map, with_path, by_path, walk}
 use Rattle.hash_path.proofs.Maps.{get-as_map, is_path, tied_path}
 use Rattle.hash_path.proofs.Words.{same_tied, tied_same}
 
@@ -51,5 +51,5 @@ module _ {V : Type 0} (f : List ℕ → ℕ) where
       same_entries order nat_list_cmp_total (slice_cmp-IsAntisymmetric nat_cmp-IsAntisymmetric) _ _ (entries_sorted (finite.from_entries {R = order} m)) s
       (λ q. sym (get-entries (finite.from_entries {R = order} m) q) ∙ get-from_entries nat_list_cmp_total m q ∙ found_alike q es h)
 
-  pub walk_is : (es : List (List ℕ × V)) → HashedBy f es → T (is_sorted order es) → walk f (as_map es) ≡ keyed es
-  walk_is es h s = ap keyed (by_path_is es h s)
+  pub walk_is : (es : List (List ℕ × V)) → HashedBy f es → T (is_sorted order es) → walk f (as_map es) ≡ by_key 7 es
+  walk_is es h s = ap (by_key 7) (by_path_is es h s)

@@ -19,8 +19,8 @@ abbrev pub bits_of : {V : Type 0} → List (ℕ × List (List ℕ × V)) → ℕ
 bits_of [] = 0
 bits_of (c ∷ cs) = 2 ^ c.0 + bits_of cs
 
--- the indices ascend from the low one on, and are below 32
-abbrev pub Rise : {V : Type 0} → ℕ → List (ℕ × List (List ℕ × V)) → Type 0
+-- the indices ascend from the low one on, and are below 32, whatever stands with each
+abbrev pub Rise : {X : Type 0} → ℕ → List (ℕ × X) → Type 0
 Rise low [] = Unit {0}
 Rise low (c ∷ cs) = (low ≤ c.0) × (c.0 < 32) × Rise (suc c.0) cs
 

@@ -21,13 +21,9 @@ HashedBy hash_of (e ∷ es) = (e.0 ≡ path hash_of (key_of e.0)) × HashedBy ha
 abbrev pub by_key : {V : Type 0} → ℕ → List (List ℕ × V) → List (List ℕ × V)
 by_key height = map (λ e. (key_in height e.0, e.1))
 
--- the entries by key, and their map
-abbrev pub keyed : {V : Type 0} → List (List ℕ × V) → List (List ℕ × V)
-keyed [] = []
-keyed (e ∷ es) = (key_of e.0, e.1) ∷ keyed es
-
+-- the map of the entries at the root
 abbrev pub as_map : {V : Type 0} → List (List ℕ × V) → finite.FinMap order V
-as_map es = finite.from_entries (keyed es)
+as_map es = finite.from_entries (by_key 7 es)
 
 -- the entries with the path of each key in the key's place
 abbrev pub with_path : {V : Type 0} → (List ℕ → ℕ) → List (List ℕ × V) → List (List ℕ × V)
@@ -43,4 +39,4 @@ by_path hash_of m = finite.entries (finite.from_entries {R = order} (with_path h
 -- lowest five bits first, and those of equal hashes by key bytes. It is a function of the map and the hash alone, and
 -- not of the order that the keys were written in.
 abbrev pub walk : {V : Type 0} → (List ℕ → ℕ) → finite.FinMap order V → List (List ℕ × V)
-walk hash_of m = keyed (by_path hash_of m)
+walk hash_of m = by_key 7 (by_path hash_of m)

@@ -1,5 +1,6 @@
 // What a summary is made of: a kind of call, and a count.
-ghost use Rattle.std.specs.Prelude.{length};
+ghost use Rattle.std.specs.Prelude.{◌≡◌, length};
+ghost use Rattle.hash_path.specs.Fan.{Rise};
 
 use super::*;
 use hash_path::Prefix;
@@ -30,6 +31,7 @@ impl Summary<u64> for Mark {
     }
 
     fn branch(children: Children<'_, Mark>) -> Mark
+        requires { Rise 0 children }
         ensures { result ≡ Branch (length children.entry) }
     {
         Mark::Branch(children.count())
@@ -81,6 +83,15 @@ fn keys_of_equal_hashes_are_a_list(rt: HostRuntime) -> Result<(), Fail> {
 fn an_empty_map_has_no_summary(rt: HostRuntime) -> Result<(), Fail> {
     let frozen: Frozen<u64, NoSummary, Fnv1a> = Frozen::new(rt.alloc(), Fnv1a);
     assert_eq!(rt; frozen.summary(Prefix::root()), None);
+    Ok(())
+}
+
+#[test]
+fn a_seal_leaves_the_map(rt: HostRuntime) -> Result<(), Fail> {
+    let mut trie = three(rt.alloc(), Fnv1a)?;
+    trie.seal()?;
+    assert_eq!(rt; trie.size(), 3);
+    assert_eq!(rt; at(rt.alloc(), &trie, b"c")?, Some(3));
     Ok(())
 }
 
