@@ -113,7 +113,9 @@ fn another_version_or_a_dot_outside_is_no_message(rt: HostRuntime) -> Result<(),
 #[test]
 fn the_last_dot_of_a_name_stands_in_the_cloud(rt: HostRuntime) -> Result<(), Fail> {
     let alloc = rt.alloc();
-    let Message::Delta(delta) = decode(alloc, &LAST_DOT)?;
+    let Message::Delta(delta) = decode(alloc, &LAST_DOT)? else {
+        return Err("a delta".into());
+    };
     assert!(rt; delta.store().is_empty());
     assert_eq!(rt; delta.context().vector().len(), 0);
     assert_eq!(rt; delta.context().cloud().len(), 1);
