@@ -54,7 +54,7 @@ fn read_delta<A: Allocator + Copy>(alloc: A, bytes: &[u8]) -> Result<Pair<A>, Re
     }
 }
 
-// The state whose body is all the bytes.
+// The state whose body is all the bytes. Its front is the session, with the bytes behind it.
 fn read_state<A: Allocator + Copy>(alloc: A, bytes: &[u8]) -> Result<Message<A>, Refusal>
     ensures { ReadsAll message_of (Spells (VERSION ∷ STATE ∷ bytes.now)) result }
 {
@@ -64,7 +64,7 @@ fn read_state<A: Allocator + Copy>(alloc: A, bytes: &[u8]) -> Result<Message<A>,
     }
 }
 
-// The hello whose body is all the bytes.
+// The hello whose body is all the bytes. Its front is the session, with the bytes behind it.
 fn read_hello<A: Allocator + Copy>(alloc: A, bytes: &[u8]) -> Result<Message<A>, Refusal>
     ensures { ReadsAll message_of (Spells (VERSION ∷ HELLO ∷ bytes.now)) result }
 {

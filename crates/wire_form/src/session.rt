@@ -71,7 +71,7 @@ impl Session {
 }
 
 // The session of these numbers, or None where one of them is 0.
-fn session_of(asker: u64, answerer: u64, number: u64) -> Option<Session>
+fn session_from(asker: u64, answerer: u64, number: u64) -> Option<Session>
     ensures found { IsSome result ↔ ((1 ≤ asker) × (1 ≤ answerer) × (1 ≤ number)) }
     ensures value { IfSome result (λ session. session ≡
         record { asker = asker; answerer = answerer; number = number }) }
@@ -89,7 +89,7 @@ pub(crate) fn read_session<A: Allocator + Copy>(
     let (asker, rest) = u64::read(alloc, bytes)?;
     let (answerer, rest) = u64::read(alloc, rest)?;
     let (number, rest) = u64::read(alloc, rest)?;
-    match session_of(asker, answerer, number) {
+    match session_from(asker, answerer, number) {
         Some(session) => Ok((session, rest)),
         None => Err(Refusal::NotAMessage),
     }
