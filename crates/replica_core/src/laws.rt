@@ -1,0 +1,55 @@
+//! The laws of worlds that synchronise.
+
+ghost use Rattle.std.specs.Prelude.{◌≡◌, ◌++◌, ◌∷◌, [], ◌+◌, ◌≤◌, ℕ, List, length, map, true, Some, fold};
+ghost use Rattle.op_model.specs.Operation.{NoReuse};
+ghost use Rattle.op_model.specs.World.{IsSound, message};
+ghost use Rattle.op_model.specs.World as sets;
+ghost use Rattle.wire_form.specs.Session.{SessionValue};
+ghost use Rattle.replica_core.specs.Replicas.{World, Event, At, Deliver, Ask, Hello, State, kind_at, is_open, without, happens, after};
+ghost use Rattle.replica_core.specs.Answers.{Came, Ignored, answer_of};
+ghost use Rattle.replica_core.specs.Laws.{AreSessions, event_of};
+
+/// No dot is ever used twice: after every list of events, whatever they are, all operations made have no reuse, and what
+/// each replica has seen, holds outgoing, and each message carries, is part of them.
+pub fn ids_are_fresh()
+    ensures no_reuse { (events : List Event) → NoReuse (after events).sets.made }
+    ensures sound { (events : List Event) → IsSound (after events).sets }
+    ensures seen { (events : List Event) (name : ℕ) → NoReuse ((after events).sets.seen name) }
+{}
+
+/// Each message has a kind, and what a message is and carries stays, whatever happens.
+pub fn messages_stay()
+    ensures kinds { (events : List Event) → length (after events).kinds ≡ length (after events).sets.messages }
+    ensures kind { (w : World) (e : Event) (number : ℕ) → number ≤ length w.kinds →
+        kind_at (happens w e).kinds number ≡ kind_at w.kinds number }
+    ensures carried { (w : World) (e : Event) (number : ℕ) → number ≤ length w.sets.messages →
+        message (happens w e).sets.messages number ≡ message w.sets.messages number }
+{}
+
+/// The open sessions of a replica are its own, and have different numbers, from 1 to that of the session opened last.
+pub fn sessions_are_numbered()
+    ensures { (events : List Event) (name : ℕ) → AreSessions (after events) name }
+{}
+
+/// A hello that comes to the replica that it asks is answered by a state that carries all that this one has seen. A state
+/// that comes to its asker while the session is open adds just what it carries, and ends the session.
+pub fn a_session_that_ends()
+    ensures answered { (w : World) (s : SessionValue) (number : ℕ) → length w.kinds ≡ length w.sets.messages →
+        kind_at w.kinds number ≡ Some (Hello s) →
+        (kind_at (happens w (Deliver number s.answerer)).kinds (length w.kinds + 1) ≡ Some (State s)) ×
+        (message (happens w (Deliver number s.answerer)).sets.messages (length w.kinds + 1) ≡ w.sets.seen s.answerer) }
+    ensures ended { (w : World) (s : SessionValue) (number : ℕ) → kind_at w.kinds number ≡ Some (State s) →
+        is_open (w.sessions s.asker) s ≡ true →
+        ((happens w (Deliver number s.asker)).sets.seen s.asker ≡ w.sets.seen s.asker ++ message w.sets.messages number) ×
+        ((happens w (Deliver number s.asker)).sessions s.asker ≡ without (w.sessions s.asker) s.number) }
+{}
+
+/// What is answered Ignored changes nothing.
+pub fn ignored_events_change_nothing()
+    ensures { (w : World) (e : Event) → answer_of w e ≡ Came Ignored → happens w e ≡ w }
+{}
+
+/// A world in which nobody asks is one of operations and deltas alone.
+pub fn without_sessions()
+    ensures { (events : List sets.Event) → (after (map event_of events)).sets ≡ sets.after events }
+{}

@@ -1,0 +1,17 @@
+// A world of replicas that write, send, deliver and synchronise by whole states: so far its definitions and their laws. No
+// code runs in it.
+// Offered to the crates above: what each event makes of a world, what it is answered and why it is refused; and as laws that
+// no dot is ever used twice, and that a session that ends adds to its asker just what its answerer had seen.
+#![tactic(auto)]
+
+mod examples;
+mod laws;
+
+pub use examples::{
+    a_hello_may_be_repeated, a_ninth_session_is_refused, a_replica_may_ask_itself,
+    an_abandoned_session_adds_nothing,
+};
+pub use laws::{
+    a_session_that_ends, ids_are_fresh, ignored_events_change_nothing, messages_stay,
+    sessions_are_numbered, without_sessions,
+};
