@@ -14,7 +14,7 @@ ghost use Rattle.op_model.specs.Made.{dot_at, removed_at, cleared_at};
 ghost use Rattle.op_model.specs.Shown.{values, keys};
 ghost use Rattle.op_model.specs.Operation.{Operation, known, has as is_among};
 ghost use Rattle.trace_cli.specs.Keeps.{Carries};
-ghost use Rattle.wire_form.specs.Message.{message_of, Delta};
+ghost use Rattle.wire_form.specs.Message.{DeltaValue, message_of, Delta};
 ghost use Rattle.trace_cli.specs.Outcome.{sent_number};
 
 use crate::event::Event;
@@ -263,15 +263,21 @@ fn delta_of<A: Allocator + Copy>(alloc: A, message: &[u8]) -> Result<Pair<A>, Re
         MatchResult result (λ delta. Same (pair_state delta) (state S)) (λ refusal. refusal ≡ Refusal.OutOfMemory) }
 {
     let message = decode(alloc, message)?;
-    Ok(carried_by(message))
+    match carried_by(message) {
+        Some(delta) => Ok(delta),
+        None => Err(Refusal::NotAMessage),
+    }
 }
 
-/// The delta of the message: there is no other kind.
-fn carried_by<A: Allocator + Copy>(message: Message<A>) -> Pair<A>
-    ensures { message_of message ≡ Delta result }
+/// The delta of the message, or None for a message of another kind.
+fn carried_by<A: Allocator + Copy>(message: Message<A>) -> Option<Pair<A>>
+    ensures delta { IfSome result (λ delta. message_of message ≡ Delta delta) }
+    ensures other { IfNone result ((delta : DeltaValue) → message_of message ≢ Delta delta) }
 {
-    let Message::Delta(delta) = message;
-    delta
+    match message {
+        Message::Delta(delta) => Some(delta),
+        Message::State(..) | Message::Hello(_) => None,
+    }
 }
 
 /// Joins the delta of an operation of the replica of this name into it. A refused call changes nothing.

@@ -4,5 +4,7 @@ pub mod Numbers
 pub mod Texts
 pub mod Counting
 pub mod Bodies
+pub mod Sessions
 pub mod Deltas
+pub mod Messages
 pub mod Writes

@@ -1,10 +1,11 @@
-ghost use Rattle.std.specs.Prelude.{◌≡◌, ◌⊎◌, IfOk, IfErr, IsErrOf, MatchResult};
-ghost use Rattle.wire_form.specs.Message.{MessageValue, message_of, Spells, SpellsNone, SpellsBody};
+ghost use Rattle.std.specs.Prelude.{◌≡◌, ◌⊎◌, ◌∷◌, IfOk, IfErr, IsErrOf, MatchResult};
+ghost use Rattle.wire_form.specs.Message.{MessageValue, message_of, Spells, SpellsNone, SpellsBody, VERSION, STATE, HELLO};
 ghost use Rattle.wire_form.specs.Reading.{ReadsAll};
 
 use crate::context::read_context;
 use crate::message::Message;
 use crate::pair::Pair;
+use crate::session::read_session;
 use crate::store::read_store;
 use causal_join::Causal;
 use dots::Refusal;
@@ -32,6 +33,8 @@ fn read_message<A: Allocator + Copy>(alloc: A, bytes: &[u8]) -> Result<Message<A
 {
     match bytes {
         [1, 1, body @ ..] => Ok(Message::Delta(read_delta(alloc, body)?)),
+        [1, 2, body @ ..] => read_state(alloc, body),
+        [1, 3, body @ ..] => read_hello(alloc, body),
         _ => Err(Refusal::NotAMessage),
     }
 }
@@ -48,5 +51,26 @@ fn read_delta<A: Allocator + Copy>(alloc: A, bytes: &[u8]) -> Result<Pair<A>, Re
     match Causal::from_parts(store, context) {
         Some(delta) => Ok(delta),
         None => Err(Refusal::NotAMessage),
+    }
+}
+
+// The state whose body is all the bytes. Its front is the session, with the bytes behind it.
+fn read_state<A: Allocator + Copy>(alloc: A, bytes: &[u8]) -> Result<Message<A>, Refusal>
+    ensures { ReadsAll message_of (Spells (VERSION ∷ STATE ∷ bytes.now)) result }
+{
+    match read_session(alloc, bytes) {
+        Ok(front) => Ok(Message::State(front.0, read_delta(alloc, front.1)?)),
+        Err(refusal) => Err(refusal),
+    }
+}
+
+// The hello whose body is all the bytes. Its front is the session, with the bytes behind it.
+fn read_hello<A: Allocator + Copy>(alloc: A, bytes: &[u8]) -> Result<Message<A>, Refusal>
+    ensures { ReadsAll message_of (Spells (VERSION ∷ HELLO ∷ bytes.now)) result }
+{
+    match read_session(alloc, bytes) {
+        Ok(front) if front.1.is_empty() => Ok(Message::Hello(front.0)),
+        Ok(_) => Err(Refusal::NotAMessage),
+        Err(refusal) => Err(refusal),
     }
 }

@@ -3,11 +3,13 @@ ghost use Rattle.dots.specs.Bytes.{MAX_LENGTH};
 ghost use Rattle.causal_context.specs.Canonical.{IsCanonical};
 ghost use Rattle.wire_form.specs.Spelling.{number, IsNumber, counted, AreCounted};
 ghost use Rattle.wire_form.specs.Fields as field;
-ghost use Rattle.wire_form.specs.Message.{message_of, Spells, SpellsDelta};
+ghost use Rattle.wire_form.specs.Message.{message_of, Spells, SpellsDelta, SpellsState, SpellsHello};
+ghost use Rattle.wire_form.specs.Session as field_session;
 ghost use Rattle.wire_form.specs.Writing.{Appends};
 
 use crate::message::Message;
 use crate::pair::{Pair, Store};
+use crate::session::Session;
 use causal_context::Context;
 use dot_store::DotFun;
 use dots::{Dot, Name, Refusal, Value};
@@ -20,6 +22,8 @@ pub fn encode<A: Allocator + Copy>(alloc: A, message: &Message<A>) -> Result<Vec
 {
     match message {
         Message::Delta(delta) => write_delta(alloc, delta),
+        Message::State(session, pair) => write_state(alloc, *session, pair),
+        Message::Hello(session) => write_hello(alloc, *session),
     }
 }
 
@@ -31,6 +35,39 @@ fn write_delta<A: Allocator + Copy>(alloc: A, delta: &Pair<A>) -> Result<Vec<u8,
     write_context(&mut out, delta.context())?;
     write_store(&mut out, delta.store())?;
     Ok(out)
+}
+
+fn write_state<A: Allocator + Copy>(
+    alloc: A,
+    session: Session,
+    pair: &Pair<A>,
+) -> Result<Vec<u8, A>, Refusal>
+    ensures ok { IfOk result (λ bytes. SpellsState bytes.items session pair.now) }
+    ensures err { IsOkUnless result Refusal.OutOfMemory }
+{
+    let mut out = Vec::from_slice(alloc, &[1, 2])?;
+    write_session(&mut out, session)?;
+    write_context(&mut out, pair.context())?;
+    write_store(&mut out, pair.store())?;
+    Ok(out)
+}
+
+fn write_hello<A: Allocator + Copy>(alloc: A, session: Session) -> Result<Vec<u8, A>, Refusal>
+    ensures ok { IfOk result (λ bytes. SpellsHello bytes.items session) }
+    ensures err { IsOkUnless result Refusal.OutOfMemory }
+{
+    let mut out = Vec::from_slice(alloc, &[1, 3])?;
+    write_session(&mut out, session)?;
+    Ok(out)
+}
+
+fn write_session<A: Allocator + Copy>(out: &mut Vec<u8, A>, session: Session) -> Result<(), Refusal>
+    ensures ok { OnOk result (Appends field_session.session field_session.IsSession out.old.items out.new.items session) }
+    ensures err { IsOkUnless result Refusal.OutOfMemory }
+{
+    write_name(out, session.asker())?;
+    write_name(out, session.answerer())?;
+    write_number(out, session.number())
 }
 
 fn write_context<A: Allocator + Copy>(

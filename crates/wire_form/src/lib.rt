@@ -11,6 +11,7 @@ mod laws;
 mod message;
 mod number;
 mod pair;
+mod session;
 mod store;
 mod text;
 mod values;
@@ -19,6 +20,7 @@ pub use decoding::decode;
 pub use encoding::encode;
 pub use laws::{a_message_has_one_spelling, bytes_spell_one_delta, bytes_spell_one_message};
 pub use message::Message;
+pub use session::Session;
 
 #[cfg(test)]
 mod tests;

@@ -113,7 +113,9 @@ fn another_version_or_a_dot_outside_is_no_message(rt: HostRuntime) -> Result<(),
 #[test]
 fn the_last_dot_of_a_name_stands_in_the_cloud(rt: HostRuntime) -> Result<(), Fail> {
     let alloc = rt.alloc();
-    let Message::Delta(delta) = decode(alloc, &LAST_DOT)?;
+    let Message::Delta(delta) = decode(alloc, &LAST_DOT)? else {
+        return Err("a delta".into());
+    };
     assert!(rt; delta.store().is_empty());
     assert_eq!(rt; delta.context().vector().len(), 0);
     assert_eq!(rt; delta.context().cloud().len(), 1);
@@ -161,5 +163,152 @@ fn a_count_of_more_than_there_is_makes_no_message(rt: HostRuntime) -> Result<(),
     bytes_spell_one_message();
     a_message_has_one_spelling();
     bytes_spell_one_delta();
+    Ok(())
+}
+
+// The hello of asker 1, answerer 2 and number 1.
+const HELLO: [u8; 26] = [
+    1, 3, 0, 0, 0, 0, 0, 0, 0, 1, 0, 0, 0, 0, 0, 0, 0, 2, 0, 0, 0, 0, 0, 0, 0, 1,
+];
+
+fn session(rt: &impl Abort, asker: u64, answerer: u64, number: u64) -> Session {
+    let asker = Name::new(asker).expect(rt, "a name");
+    let answerer = Name::new(answerer).expect(rt, "a name");
+    Session::new(asker, answerer, number).expect(rt, "a number")
+}
+
+#[test]
+fn a_session_tells_its_three_numbers(rt: HostRuntime) -> Result<(), Fail> {
+    let session = session(&rt, 1, 2, 3);
+    assert_eq!(rt; session.asker().number(), 1);
+    assert_eq!(rt; session.answerer().number(), 2);
+    assert_eq!(rt; session.number(), 3);
+    assert!(rt; Session::new(session.asker(), session.answerer(), 0).is_none());
+    Ok(())
+}
+
+#[test]
+fn sessions_are_ordered_by_asker_then_answerer_then_number(rt: HostRuntime) -> Result<(), Fail> {
+    assert!(rt; session(&rt, 1, 9, 9) < session(&rt, 2, 1, 1));
+    assert!(rt; session(&rt, 1, 1, 9) < session(&rt, 1, 2, 1));
+    assert!(rt; session(&rt, 1, 1, 1) < session(&rt, 1, 1, 2));
+    assert!(rt; session(&rt, 1, 2, 3) == session(&rt, 1, 2, 3));
+    Ok(())
+}
+
+#[test]
+fn the_hello_of_a_session_has_these_bytes(rt: HostRuntime) -> Result<(), Fail> {
+    let alloc = rt.alloc();
+    let asked = session(&rt, 1, 2, 1);
+    let message: Message = Message::hello(asked);
+    assert!(rt; message.session() == Some(asked));
+    assert_eq!(rt; encode(alloc, &message)?.as_slice(), HELLO.as_slice());
+    assert_eq!(rt; again(alloc, &HELLO)?.as_slice(), HELLO.as_slice());
+    assert!(rt; decode(alloc, &HELLO)?.session() == Some(asked));
+    Ok(())
+}
+
+#[test]
+fn a_part_of_a_hello_or_a_longer_one_is_no_message(rt: HostRuntime) -> Result<(), Fail> {
+    let alloc = rt.alloc();
+    for length in 0..26 {
+        assert!(rt; !is_message(alloc, &HELLO[..length])?, "at {length}");
+    }
+    let mut longer = Vec::from_slice(alloc, &HELLO)?;
+    longer.push(0)?;
+    assert!(rt; !is_message(alloc, &longer)?);
+    Ok(())
+}
+
+// Whether the hello with a 0 in the place of this byte is a message.
+fn is_hello_without(alloc: Global, at: usize) -> Result<bool, Refusal>
+    requires { at < 26 }
+{
+    let mut bytes = Vec::from_slice(alloc, &HELLO[..at])?;
+    bytes.push(0)?;
+    bytes.extend_from_slice(&HELLO[at + 1..])?;
+    is_message(alloc, &bytes)
+}
+
+#[test]
+fn a_hello_with_a_number_zero_is_no_message(rt: HostRuntime) -> Result<(), Fail> {
+    let alloc = rt.alloc();
+    assert!(rt; !is_hello_without(alloc, 9)?);
+    assert!(rt; !is_hello_without(alloc, 17)?);
+    assert!(rt; !is_hello_without(alloc, 25)?);
+    assert!(rt; is_hello_without(alloc, 24)?);
+    Ok(())
+}
+
+// The delta of one value behind the session of asker 1, answerer 2 and number 1, with another byte at this place of the
+// delta: a state.
+fn state_changed(alloc: Global, at: usize, byte: u8) -> Result<Vec<u8>, Refusal>
+    requires { (2 ≤ at) × (at < 72) }
+{
+    let mut bytes = Vec::from_slice(alloc, &[1, 2])?;
+    bytes.extend_from_slice(&HELLO[2..])?;
+    bytes.extend_from_slice(&ONE_VALUE[2..at])?;
+    bytes.push(byte)?;
+    bytes.extend_from_slice(&ONE_VALUE[at + 1..])?;
+    Ok(bytes)
+}
+
+#[test]
+fn the_state_of_one_value_is_a_session_and_the_body_of_its_delta(
+    rt: HostRuntime,
+) -> Result<(), Fail> {
+    let alloc = rt.alloc();
+    let expected = state_changed(alloc, 71, 0x78)?;
+    assert_eq!(rt; expected.len(), 96);
+    let mut context = Context::new(alloc);
+    context.add(dot(&rt, 1, 1))?;
+    let asked = session(&rt, 1, 2, 1);
+    let message = Message::state(asked, one_value(&rt, alloc)?, context).ok_or("inside")?;
+    assert!(rt; message.session() == Some(asked));
+    assert_eq!(rt; encode(alloc, &message)?.as_slice(), expected.as_slice());
+    assert_eq!(rt; again(alloc, &expected)?.as_slice(), expected.as_slice());
+    Ok(())
+}
+
+#[test]
+fn a_state_with_a_dot_outside_its_context_is_no_message(rt: HostRuntime) -> Result<(), Fail> {
+    let alloc = rt.alloc();
+    assert!(rt; !is_message(alloc, &state_changed(alloc, 68, 2)?)?);
+    assert!(rt; is_message(alloc, &state_changed(alloc, 71, 2)?)?);
+    let store = one_value(&rt, alloc)?;
+    let asked = session(&rt, 1, 2, 1);
+    assert!(rt; Message::state(asked, store, Context::new(alloc)).is_none());
+    Ok(())
+}
+
+#[test]
+fn a_part_of_a_state_or_a_longer_one_is_no_message(rt: HostRuntime) -> Result<(), Fail> {
+    let alloc = rt.alloc();
+    let mut state = state_changed(alloc, 71, 0x78)?;
+    for length in 0..state.len() {
+        assert!(rt; !is_message(alloc, &state[..length])?, "at {length}");
+    }
+    state.push(0)?;
+    assert!(rt; !is_message(alloc, &state)?);
+    Ok(())
+}
+
+// Whether these bytes behind the version and this kind are a message.
+fn is_of_kind(alloc: Global, kind: u8, body: &[u8]) -> Result<bool, Refusal> {
+    let mut bytes = Vec::from_slice(alloc, &[1, kind])?;
+    bytes.extend_from_slice(body)?;
+    is_message(alloc, &bytes)
+}
+
+#[test]
+fn no_other_kind_is_a_message(rt: HostRuntime) -> Result<(), Fail> {
+    let alloc = rt.alloc();
+    for kind in [0, 4, 5, 6, 7, 255] {
+        assert!(rt; !is_of_kind(alloc, kind, &HELLO[2..])?, "kind {kind}");
+        assert!(rt; !is_of_kind(alloc, kind, &ONE_VALUE[2..])?, "kind {kind}");
+        assert!(rt; !is_of_kind(alloc, kind, &[])?, "kind {kind}");
+    }
+    assert!(rt; is_of_kind(alloc, 3, &HELLO[2..])? && is_of_kind(alloc, 1, &ONE_VALUE[2..])?);
+    assert!(rt; !is_of_kind(alloc, 1, &HELLO[2..])?);
     Ok(())
 }

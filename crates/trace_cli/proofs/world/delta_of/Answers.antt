@@ -9,6 +9,10 @@ returns-in_err-message g c S carried =
     let p = err_from_is_err_and c.from_residual.result c.from_residual.ensures.1 in
     rw (p.1, p.2) (c.in_err-message.ensures.only (Delta carried.delta) carried.spells)
 
-pub returns : goal.returns
-returns g c S carried =
-    delta_means c.args.message.now c.carried_by.result S carried (λ m spells. sym c.carried_by.ensures ∙ c.in_ok-message.ensures.only m spells)
+pub returns-in-Some : goal.returns-in-Some
+returns-in-Some g c S carried =
+    delta_means c.args.message.now c.in-Some.delta S carried (λ m spells. sym c.in-Some.ensures.delta ∙ c.in_ok-message.ensures.only m spells)
+
+-- bytes that spell a delta are not decoded to a message of another kind
+pub returns-in-None : goal.returns-in-None
+returns-in-None g c S carried = absurd (c.in-None.ensures.other carried.delta (c.in_ok-message.ensures.only (Delta carried.delta) carried.spells))

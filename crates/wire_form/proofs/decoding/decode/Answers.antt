@@ -1,5 +1,5 @@
 use Rattle.wire_form.specs.Message.{message_of}
-use Rattle.wire_form.proofs.Deltas.{only_message}
+use Rattle.wire_form.proofs.Messages.{only_message}
 use Rattle.wire_form.proofs.decoding.decode.Goals as goal
 
 pub returns-clause-only : goal.returns-clause-only

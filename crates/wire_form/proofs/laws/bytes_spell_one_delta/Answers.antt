@@ -1,4 +1,4 @@
-use Rattle.wire_form.proofs.Deltas.{one_delta}
+use Rattle.wire_form.proofs.Messages.{one_delta}
 use Rattle.wire_form.proofs.laws.bytes_spell_one_delta.Goals as goal
 
 pub returns : goal.returns
