@@ -15,10 +15,20 @@ pub branch_of-branch_of-requires : goal.branch_of-branch_of-requires
 branch_of-branch_of-requires g t c κs within =
     let shorter = c.in-Some.ensures.cases.1 in
     let all =
-        one_before c.args.below (summary_of g.M.Summary.calls c.args.below) c.args.slots.now c.in-Some.others.now c.in-Some.last.now c.sum_of-index.result c.args.behind c.beginning_with.result c.in-Some.ensures.cases.0
-        c.sum_of-index.ensures.index c.sum_of-index.ensures.summary (c.beginning_with.ensures ∙ c.new-child.ensures) in
-    (omega (arith, shorter, c.decreases), (within.0, (within.1.0, (within.1.1,
-    (front_fits (StandsBelow c.args.below) c.args.slots.now c.in-Some.others.now c.in-Some.last.now c.in-Some.ensures.cases.0 c.requires.fits, subst (Rise 0) (sym all) c.requires.rise)))))
+    one_before c.args.below (summary_of g.M.Summary.calls c.args.below) c.args.slots.now c.in-Some.others.now c.in-Some.last.now c.sum_of-index.result c.args.behind c.beginning_with.result c.in-Some.ensures.cases.0
+    c.sum_of-index.ensures.index c.sum_of-index.ensures.summary (c.beginning_with.ensures ∙ c.new-child.ensures) in (
+      omega (arith, shorter, c.decreases),
+      (
+        within.0,
+        (
+          within.1.0,
+          (
+            within.1.1,
+            (front_fits (StandsBelow c.args.below) c.args.slots.now c.in-Some.others.now c.in-Some.last.now c.in-Some.ensures.cases.0 c.requires.fits, subst (Rise 0) (sym all) c.requires.rise),
+          ),
+        ),
+      ),
+    )
 
 pub branch_of-returns-in-Some : goal.branch_of-returns-in-Some
 branch_of-returns-in-Some g t c =
