@@ -1,3 +1,4 @@
 pub mod Sound
 pub mod Sessions
 pub mod Deltas
+pub mod Steps

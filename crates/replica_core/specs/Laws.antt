@@ -2,6 +2,8 @@
 use Rattle.std.specs.Prelude.{◌≡◌, ℕ, ◌≤◌, ◌<◌, List, [], ◌∷◌}
 use Rattle.wire_form.specs.Session.{SessionValue}
 use Rattle.op_model.specs.World as sets
+use Rattle.replica_core.specs.Answers.{Answer}
+use Rattle.replica_core.specs.Step.{Replica, Mail, IsReplicaOf, AreMails}
 use Rattle.replica_core.specs.Replicas.{World, Event, Node, At, Deliver, Put, Remove, Clear, Flush}
 
 -- a replica's sessions ascend by number from above the low one on, and none is above the high one; each is its own
@@ -21,3 +23,16 @@ event_of (sets.Remove name key) = At name (Remove key)
 event_of (sets.Clear name) = At name Clear
 event_of (sets.Flush name) = At name Flush
 event_of (sets.Deliver number name) = Deliver number name
+
+-- what a step of a replica comes to in the world: the replica means what the world says then, is answered what the world says,
+-- and sends the messages that are new, those behind this number
+pub record Follows (v : World) (name count : ℕ) (new : Replica) (answer told : Answer) (out : List Mail) : Type 0 where
+  pub replica : IsReplicaOf v name new
+  pub answered : answer ≡ told
+  pub mails : AreMails v count out
+
+-- the name of the replica at which an event happens
+abbrev pub replica_of : Event → ℕ
+replica_of (Node name) = name
+replica_of (At name call) = name
+replica_of (Deliver number name) = name

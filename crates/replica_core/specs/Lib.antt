@@ -1,4 +1,5 @@
 pub mod Replicas
 pub mod Answers
+pub mod Step
 pub mod Laws
 pub mod Examples

@@ -1,13 +1,14 @@
 //! The laws of worlds that synchronise.
 
-ghost use Rattle.std.specs.Prelude.{◌≡◌, ◌++◌, ◌∷◌, [], ◌+◌, ◌≤◌, ℕ, List, length, map, true, Some, fold};
+ghost use Rattle.std.specs.Prelude.{◌≡◌, ◌≢◌, ◌++◌, ◌∷◌, [], ◌+◌, ◌≤◌, ℕ, List, length, map, true, Some, fold};
 ghost use Rattle.op_model.specs.Operation.{NoReuse};
 ghost use Rattle.op_model.specs.World.{IsSound, message};
 ghost use Rattle.op_model.specs.World as sets;
 ghost use Rattle.wire_form.specs.Session.{SessionValue};
-ghost use Rattle.replica_core.specs.Replicas.{World, Event, At, Deliver, Ask, Hello, State, kind_at, is_open, without, happens, after};
-ghost use Rattle.replica_core.specs.Answers.{Came, Ignored, answer_of};
-ghost use Rattle.replica_core.specs.Laws.{AreSessions, event_of};
+ghost use Rattle.replica_core.specs.Replicas.{World, Event, Node, At, Deliver, Ask, Hello, State, kind_at, is_open, without, happens, after};
+ghost use Rattle.replica_core.specs.Answers.{Answer, Came, Ignored, answer_of};
+ghost use Rattle.replica_core.specs.Step.{Replica, Mail, Act, IsStep, IsReplicaOf, IsEventOf};
+ghost use Rattle.replica_core.specs.Laws.{AreSessions, Follows, event_of, replica_of};
 
 /// No dot is ever used twice: after every list of events, whatever they are, all operations made have no reuse, and what
 /// each replica has seen, holds outgoing, and each message carries, is part of them.
@@ -52,4 +53,19 @@ pub fn ignored_events_change_nothing()
 /// A world in which nobody asks is one of operations and deltas alone.
 pub fn without_sessions()
     ensures { (events : List sets.Event) → (after (map event_of events)).sets ≡ sets.after events }
+{}
+
+/// Each event of a world is a step of its replica: where a replica means what a sound world says of its name, it means what
+/// the world says after the event, is answered what the world answers, and sends just the messages that are new.
+pub fn events_are_steps()
+    ensures { (w : World) (name : ℕ) (act : Act) (e : Event) (old new : Replica) (answer : Answer) (out : List Mail) →
+        IsSound w.sets → length w.kinds ≡ length w.sets.messages → IsReplicaOf w name old → IsEventOf w name act e →
+        IsStep old act new answer out → Follows (happens w e) name (length w.kinds) new answer (answer_of w e) out }
+{}
+
+/// An event leaves every replica but its own as it was, and a new replica has seen nothing and asked nobody.
+pub fn events_elsewhere()
+    ensures untouched { (w : World) (e : Event) (name : ℕ) (r : Replica) → name ≢ replica_of e → IsReplicaOf w name r →
+        IsReplicaOf (happens w e) name r }
+    ensures node { (w : World) (name n : ℕ) (r : Replica) → IsReplicaOf w n r → IsReplicaOf (happens w (Node name)) n r }
 {}
