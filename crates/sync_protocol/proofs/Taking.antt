@@ -10,7 +10,7 @@ use Rattle.wire_form.specs.Message.{DeltaValue, MessageValue, Delta, State, Hell
 use Rattle.sync_protocol.specs.declared.step.Step.TheVariants.{Done, Ignored}
 use Rattle.sync_protocol.specs.Pair.{AreSamePairs}
 use Rattle.sync_protocol.specs.Asker.{AskerValue, opened, IsSameAsker}
-use Rattle.sync_protocol.specs.Laws.{Takes, FirstStateDecides, NoStateLeavesOpen}
+use Rattle.sync_protocol.specs.Laws.{Takes, FirstStateDecides, FirstAnswerDecides, NoStateLeavesOpen}
 
 pub pairs-chain : (p q r : Option DeltaValue) → AreSamePairs p q → AreSamePairs q r → AreSamePairs p r
 pairs-chain None None None h k = tt
@@ -60,6 +60,12 @@ first_decides s (m ∷ before) after pair last none (Done, next, turn, more) = a
 first_decides s (m ∷ before) after pair last none (Ignored, next, turn, more) =
     first_decides s before after pair last none.1
     (subst (λ a. Takes a (before ++ State s pair ∷ after) last) (waits_still (opened s) next refl turn.1) more)
+
+pub first_answer_decides : FirstAnswerDecides
+first_answer_decides s before after answer live last none is_answer takes =
+    pairs-chain last.accepted (Some is_answer.0) (Some live)
+    (first_decides s before after is_answer.0 last none (subst (λ m. Takes (opened s) (before ++ m ∷ after) last) is_answer.1 takes))
+    is_answer.2
 
 pub no_state_leaves_open : NoStateLeavesOpen
 no_state_leaves_open s [] last none is = is

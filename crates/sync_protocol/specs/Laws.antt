@@ -4,6 +4,7 @@ use Rattle.sync_protocol.specs.declared.step.Step.{Step}
 use Rattle.wire_form.specs.Session.{SessionValue}
 use Rattle.wire_form.specs.Message.{DeltaValue, MessageValue, State}
 use Rattle.sync_protocol.specs.Pair.{AreSamePairs}
+use Rattle.sync_protocol.specs.Answerer.{IsStateOf}
 use Rattle.sync_protocol.specs.Asker.{AskerValue, opened, IsTurn}
 
 -- the asker takes the messages, one after the other, and is the last asker then
@@ -21,6 +22,11 @@ HasNoState s (message ∷ messages) = ((pair : DeltaValue) → ¬ (message ≡ S
 abbrev pub FirstStateDecides : Type 0
 FirstStateDecides = (s : SessionValue) (before after : List MessageValue) (pair : DeltaValue) (last : AskerValue) →
     HasNoState s before → Takes (opened s) (before ++ State s pair ∷ after) last → AreSamePairs last.accepted (Some pair)
+
+-- so where that state is an answer, it is what the answerer held when it gave it
+abbrev pub FirstAnswerDecides : Type 0
+FirstAnswerDecides = (s : SessionValue) (before after : List MessageValue) (answer : MessageValue) (live : DeltaValue) (last : AskerValue) →
+    HasNoState s before → IsStateOf s live answer → Takes (opened s) (before ++ answer ∷ after) last → AreSamePairs last.accepted (Some live)
 
 -- where none of the messages is one, the asker is as it was opened
 abbrev pub NoStateLeavesOpen : Type 0
