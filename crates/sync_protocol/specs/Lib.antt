@@ -1,0 +1,4 @@
+pub mod Pair
+pub mod Asker
+pub mod Answerer
+pub mod Laws
