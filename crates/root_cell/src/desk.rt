@@ -1,0 +1,107 @@
+//! The two copies of a cell, of which readers read one, and what a publish does to them and to the cell's list of events.
+ghost use Rattle.std.specs.Prelude.{◌≡◌, ◌-◌, ◌<◌, ◌^◌, ◌++◌, ◌∷◌, [], length, drop, OnOk};
+ghost use Rattle.root_cell.specs.Book.{head_of};
+ghost use Rattle.root_cell.specs.Rule.{StandsIn, due};
+
+use crate::book::Counted;
+use crate::brand::Brand;
+use crate::front::Front;
+use crate::names::Names;
+use crate::published::Published;
+use crate::rule::{Ruled, Shows};
+use left_right::writer::Writer;
+use logbook::Word;
+use std::alloc::{AllocError, Allocator};
+use std::sync::Wait;
+
+/// The two copies, with the log of what one of them lacks.
+pub type Desk<R, E, J, A> = Writer<Published<R, E, A>, Published<R, E, A>, (), Ruled<J>, A>;
+
+/// Adds the event that a value names to the list, and answers the front that it ends. It tries until it is done: the front that is
+/// passed is the whole list, as only the one Writer adds to it, so the first try does it.
+pub fn add<R, E, J: Brand<R, E>, X, M: Names<X, E>, W: Wait>(
+    rt: &W,
+    front: &Front<R, E, J>,
+    head: &Word<E, u64, Counted>,
+    about: &X,
+) -> Front<R, E, J>
+    requires head { head.now ≡ head_of J.book }
+    requires room { length front.now < 2 ^ 64 - 1 }
+    ensures { result ≡ front.now ++ (M.event about.now) ∷ [] }
+{
+    for _ in rt.forever() {
+        let mut longer = front.again();
+        if longer.add::<X, M>(head, about) {
+            return longer;
+        }
+    }
+    unreachable!()
+}
+
+/// Publishes a root with its front. It tries until it is done: its event stands in the list. A cell is made with room for it.
+pub fn put_out<R: Drop, E, J: Brand<R, E>, A: Allocator, W: Wait>(
+    rt: &W,
+    desk: Desk<R, E, J, A>,
+    published: Published<R, E, A>,
+) -> Desk<R, E, J, A>
+    requires { StandsIn J.book J.stands published }
+    ensures { result.desk.shown.value ≡ published }
+{
+    show(rt, lay(rt, desk, published))
+}
+
+// Puts it behind all that pends.
+fn lay<R: Drop, E, J: Brand<R, E>, A: Allocator, W: Wait>(
+    rt: &W,
+    desk: Desk<R, E, J, A>,
+    published: Published<R, E, A>,
+) -> Desk<R, E, J, A>
+    ensures { due result.desk.shown.value (drop result.behind result.log.items) ≡ published }
+{
+    let (mut desk, mut waiting) = (desk, published);
+    for _ in rt.forever() {
+        match desk.append(waiting) {
+            Ok(()) => return desk,
+            Err(back) => waiting = back,
+        }
+    }
+    unreachable!()
+}
+
+// Publishes all that pends.
+fn show<R: Drop, E, J: Brand<R, E>, A: Allocator, W: Wait>(
+    rt: &W,
+    desk: Desk<R, E, J, A>,
+) -> Desk<R, E, J, A>
+    requires { StandsIn J.book J.stands (due desk.desk.shown.value (drop desk.behind desk.log.items)) }
+    ensures { result.desk.shown.value ≡ due desk.desk.shown.value (drop desk.behind desk.log.items) }
+{
+    let mut desk = desk;
+    for _ in rt.forever() {
+        let (next, answer) = desk.publish_as::<Shows<J>, W>(rt);
+        if answer.is_ok() {
+            return next;
+        }
+        desk = next;
+    }
+    unreachable!()
+}
+
+/// Publishes once more what is published, which makes room in the log for what comes later.
+pub fn make_room<R: Drop, E, J: Brand<R, E>, A: Allocator, W: Wait>(
+    rt: &W,
+    desk: Desk<R, E, J, A>,
+    first: &Published<R, E, A>,
+) -> (Desk<R, E, J, A>, Result<(), AllocError>)
+    requires { StandsIn J.book J.stands first.now }
+    ensures { OnOk result.1 (result.0.desk.shown.value ≡ first.now) }
+{
+    let mut desk = desk;
+    let Ok(again) = first.again() else {
+        return (desk, Err(AllocError));
+    };
+    if desk.append(again).is_err() {
+        return (desk, Err(AllocError));
+    }
+    desk.publish_as::<Shows<J>, W>(rt)
+}
