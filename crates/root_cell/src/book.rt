@@ -55,6 +55,7 @@ impl<X, E, M: Names<X, E>> Plain<X, E, u64> for Adding<M> {
 }
 
 /// The book of a cell that is still to be made: no events, and no Brand yet. Contracts see which book it is.
+#[derive(Drop)]
 pub struct Opened<E> {
     pub(crate) head: Word<E, u64, Counted>,
     pub(crate) seen: Seen<E, u64, Counted>,

@@ -24,3 +24,6 @@ pub use names::{Itself, Names};
 pub use note::Note;
 pub use view::View;
 pub use writer::Writer;
+
+#[cfg(test)]
+mod tests;
