@@ -13,6 +13,7 @@ use left_right::writer::Writer;
 use logbook::Word;
 use std::alloc::{AllocError, Allocator};
 use std::sync::Wait;
+use std::thread;
 
 /// The two copies, with the log of what one of them lacks.
 pub type Desk<R, E, J, A> = Writer<Published<R, E, A>, Published<R, E, A>, (), Ruled<J>, A>;
@@ -64,6 +65,7 @@ fn lay<R: Drop, E, J: Brand<R, E>, A: Allocator, W: Wait>(
             Ok(()) => return desk,
             Err(back) => waiting = back,
         }
+        thread::yield_now();
     }
     unreachable!()
 }
@@ -83,6 +85,7 @@ fn show<R: Drop, E, J: Brand<R, E>, A: Allocator, W: Wait>(
             return next;
         }
         desk = next;
+        thread::yield_now();
     }
     unreachable!()
 }

@@ -113,7 +113,7 @@ impl<R: Drop, E, J: Brand<R, E>, A: Allocator + Copy> Writer<R, E, J, A> {
         }
     }
 
-    /// Ends the cell: Views that are inside stay there, and none enters any more. It waits for Views to leave.
+    /// Ends the cell: no View enters any more. It waits for those that are inside.
     pub fn end<W: Wait>(self, rt: &W) {
         let Writer {
             alloc: _,
