@@ -2,10 +2,10 @@ ghost use Rattle.std.specs.Prelude.{◌≡◌, ◌≤◌, [], replicate, IfOk, I
 ghost use Rattle.dots.specs.declared.refusal.Refusal.TheVariants.{OutOfMemory};
 ghost use Rattle.root_cell.specs.Rule.{StandsIn};
 
-use crate::book::Opened;
 use crate::brand::Brand;
 use crate::desk::{Desk, make_room};
 use crate::front::Front;
+use crate::opened::Opened;
 use crate::published::Published;
 use crate::rule::Ruled;
 use crate::view::View;

@@ -1,12 +1,12 @@
-//! The two copies of a cell, of which readers read one, and what a publish does to them and to the cell's list of events.
+// The two copies of a cell, of which readers read one, and what a publish does to them and to the cell's list of events.
 ghost use Rattle.std.specs.Prelude.{◌≡◌, ◌-◌, ◌<◌, ◌^◌, ◌++◌, ◌∷◌, [], length, drop, OnOk};
 ghost use Rattle.root_cell.specs.Book.{head_of};
 ghost use Rattle.root_cell.specs.Rule.{StandsIn, due};
 
+use crate::about::About;
 use crate::book::Counted;
 use crate::brand::Brand;
 use crate::front::Front;
-use crate::names::Names;
 use crate::published::Published;
 use crate::rule::{Ruled, Shows};
 use left_right::writer::Writer;
@@ -18,9 +18,9 @@ use std::thread;
 /// The two copies, with the log of what one of them lacks.
 pub type Desk<R, E, J, A> = Writer<Published<R, E, A>, Published<R, E, A>, (), Ruled<J>, A>;
 
-/// Adds the event that a value names to the list, and answers the front that it ends. It tries until it is done: the front that is
+/// Adds the event that a value is about to the list, and answers the front that it ends. It tries until it is done: the front that is
 /// passed is the whole list, as only the one Writer adds to it, so the first try does it.
-pub fn add<R, E, J: Brand<R, E>, X, M: Names<X, E>, W: Wait>(
+pub fn add<R, E, J: Brand<R, E>, X, M: About<X, E>, W: Wait>(
     rt: &W,
     front: &Front<R, E, J>,
     head: &Word<E, u64, Counted>,

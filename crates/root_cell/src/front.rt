@@ -2,9 +2,9 @@ ghost use Rattle.std.specs.Prelude.{◌≡◌, ◌-◌, ◌<◌, ◌^◌, ◌++�
 ghost use mathlib.Core.List.{IsPrefix};
 ghost use Rattle.root_cell.specs.Book.{head_of};
 
+use crate::about::About;
 use crate::book::{Adding, Counted, Nothing};
 use crate::brand::Brand;
-use crate::names::Names;
 use logbook::{Offer, Seen, Word};
 use std::marker::{Model, PhantomData};
 
@@ -75,9 +75,9 @@ impl<R, E, J: Brand<R, E>> Front<R, E, J> {
         self.events <= other.events
     }
 
-    /// Adds the event that a value names to the cell's list, and says whether it did: it did not where the list is longer than
+    /// Adds the event that a value is about to the cell's list, and says whether it did: it did not where the list is longer than
     /// this front.
-    pub fn add<X, M: Names<X, E>>(&mut self, head: &Word<E, u64, Counted>, about: &X) -> bool
+    pub fn add<X, M: About<X, E>>(&mut self, head: &Word<E, u64, Counted>, about: &X) -> bool
         requires head { head.now ≡ head_of J.book }
         requires room { length self.old < 2 ^ 64 - 1 }
         ensures { MatchBool result (self.new ≡ self.old ++ (M.event about.now) ∷ []) (length self.old < length self.new) }

@@ -11,6 +11,13 @@ use std::process::Abort;
 use std::sync::Wait;
 use std::test::Fail;
 
+// A sale is about its amount, the second of its numbers.
+struct Amount;
+
+impl About<(u64, u64), u64> for Amount {
+    ghost event = { λ sale. sale.1 };
+}
+
 // Enters, and answers the View with the root and its number of events.
 fn look<J: Brand<u64, u64>, A: Allocator>(
     rt: &impl Abort,
@@ -72,7 +79,7 @@ fn learn_and_end<J: Brand<u64, u64>, R: Wait + Abort>(
     let (writer, mut views) = Cell::<u64, u64, J>::new(rt, alloc, opened, 1, 0)?;
     let mut view = views.pop().expect(rt, "one");
     let early = writer.tell();
-    let (writer, answer) = writer.publish::<u64, Itself, R>(rt, 3, &3);
+    let (writer, answer) = writer.publish::<(u64, u64), Amount, R>(rt, 3, &(9, 3));
     assert!(rt; answer.is_ok());
     view.learn(writer.tell());
     view.learn(early);

@@ -2,11 +2,11 @@ ghost use Rattle.std.specs.Prelude.{◌≡◌, ◌-◌, ◌<◌, ◌^◌, ◌++�
 ghost use Rattle.dots.specs.declared.refusal.Refusal.TheVariants.{OutOfMemory};
 ghost use Rattle.root_cell.specs.Book.{head_of};
 
+use crate::about::About;
 use crate::book::Counted;
 use crate::brand::Brand;
 use crate::desk::{Desk, add, put_out};
 use crate::front::Front;
-use crate::names::Names;
 use crate::note::Note;
 use crate::published::Published;
 use dots::Refusal;
@@ -62,9 +62,9 @@ impl<R: Drop, E, J: Brand<R, E>, A: Allocator + Copy> Writer<R, E, J, A> {
         }
     }
 
-    /// Publishes a root in place of the one that is there, and adds the event that `about` names to the cell's list. It may wait
+    /// Publishes a root in place of the one that is there, and adds the event that `about` tells to the cell's list. It may wait
     /// for Views to leave. OutOfMemory comes only where no place for the root was found; the cell is then as it was.
-    pub fn publish<X, M: Names<X, E>, W: Wait>(
+    pub fn publish<X, M: About<X, E>, W: Wait>(
         self,
         rt: &W,
         root: R,
