@@ -2,12 +2,12 @@
 ghost use Rattle.std.specs.Prelude.{◌≡◌, ◌+◌, ◌<◌, ℕ, List, [], ◌∷◌, ◌++◌, sum, length};
 
 use super::look;
-use crate::{Brand, Cell, Itself, Opened, View, Writer};
+use crate::{Brand, Cell, Itself, Note, Opened, View, Writer};
 use std::alloc::Global;
 use std::process::Abort;
-use std::sync::Wait;
 use std::sync::atomic::AtomicU64;
 use std::sync::atomic::Ordering::SeqCst;
+use std::sync::{Mutex, Wait};
 use std::test::Fail;
 use std::thread::Threads;
 use std::{marker, thread};
@@ -122,7 +122,9 @@ fn publish_thrice<'a, J: Brand<u64, u64>, R: Wait + Abort>(
 }
 
 #[test]
-fn reads_beside_publishes_are_whole_and_never_go_back(rt: HostRuntime) -> Result<(), Fail> {
+fn reads_beside_publishes_are_whole_and_have_all_that_was_learnt(
+    rt: HostRuntime,
+) -> Result<(), Fail> {
     race::<marker::Brand, _>(&rt, rt.alloc(), Opened::new())
 }
 
@@ -137,12 +139,13 @@ fn race<J: Brand<u64, u64> + Send + Sync, R: Threads + Wait + Abort + Sync>(
     let (writer, mut views) = Cell::<u64, u64, J>::new(rt, alloc, opened, 1, 0)?;
     let view = views.pop().expect(rt, "one");
     let writer = Ending { writer, rt };
+    let told = Mutex::new(None);
     let ((view, wrong), _writer) = thread::join(
         rt,
-        || read_often(rt, view),
+        || read_often(rt, view, &told),
         || -> Ending<'_, J, R>
             requires { (writer.writer ≡ []) × ((root : ℕ) (events : List ℕ) → root ≡ sum events → J.stands root events) }
-        { publish_often(writer) },
+        { publish_often(writer, &told) },
     );
     assert_eq!(rt; wrong, 0);
     let (_view, root, events) = look(rt, view);
@@ -150,13 +153,17 @@ fn race<J: Brand<u64, u64> + Send + Sync, R: Threads + Wait + Abort + Sync>(
     Ok(())
 }
 
-// Counts the reads whose root is not three times its number of events, or that went back.
-fn read_often<J: Brand<u64, u64>>(
-    rt: &impl Abort,
+// Learns each Note that comes, and counts the reads whose root is not three times its number of events, or that went back.
+fn read_often<J: Brand<u64, u64>, R: Wait + Abort>(
+    rt: &R,
     view: View<u64, u64, J>,
+    told: &Mutex<Option<Note<u64, u64, J>>>,
 ) -> (View<u64, u64, J>, u64) {
     let (mut view, mut last, mut wrong) = (view, 0, 0u64);
     for _ in 0..10_000 {
+        if let Some(note) = told.lock(rt).take() {
+            view.learn(note);
+        }
         let (next, root, events) = look(rt, view);
         if root != events.wrapping_mul(3) || events < last {
             wrong = wrong.wrapping_add(1);
@@ -166,9 +173,19 @@ fn read_often<J: Brand<u64, u64>>(
     (view, wrong)
 }
 
-// A thousand events, each of which is a 3.
+// Leaves a Note for the other thread, in place of one that it has not taken.
+fn hand_on<J: Brand<u64, u64>, R: Wait>(
+    rt: &R,
+    told: &Mutex<Option<Note<u64, u64, J>>>,
+    note: Note<u64, u64, J>,
+) {
+    *told.lock(rt) = Some(note);
+}
+
+// A thousand events, each of which is a 3, and after each a Note of it.
 fn publish_often<'a, J: Brand<u64, u64>, R: Wait + Abort>(
     writer: Ending<'a, J, R>,
+    told: &Mutex<Option<Note<u64, u64, J>>>,
 ) -> Ending<'a, J, R>
     requires empty { writer.writer ≡ [] }
     requires law { (root : ℕ) (events : List ℕ) → root ≡ sum events → J.stands root events }
@@ -177,6 +194,7 @@ fn publish_often<'a, J: Brand<u64, u64>, R: Wait + Abort>(
     for turn in 0..1000u64 {
         let (next, answer) = writer.publish::<u64, Itself, R>(rt, 3 * turn + 3, &3);
         assert!(rt; answer.is_ok());
+        hand_on(rt, told, next.tell());
         writer = next;
     }
     Ending { writer, rt }

@@ -1,5 +1,5 @@
 use Rattle.std.proofs.Common.{◌≡◌, sum}
-use Rattle.root_cell.proofs.tests.beside.reads_beside_publishes_are_whole_and_never_go_back.Given as goal
+use Rattle.root_cell.proofs.tests.beside.reads_beside_publishes_are_whole_and_have_all_that_was_learnt.Given as goal
 
 -- the book that was just opened, whose roots are sums
 abbrev pub ghosts-race : goal.ghosts-race
