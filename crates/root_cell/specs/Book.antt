@@ -3,7 +3,8 @@
 use Rattle.std.specs.Prelude.{ℕ, ◌≡◌, ◌==◌, true, List, [], ◌∷◌, ◌++◌, length, MatchBool}
 use Rattle.logbook.specs.Pages.{Cell, Step, View, Book, Named}
 
--- The first word is the number of the events. A book has two words, of which this one leaves the second at 0.
+-- The first word is the number of the events. A book has two words, of which this one leaves the second at 0: after two
+-- events they are 2 and 0.
 abbrev pub IsCounted : {E : Type 0} → List Cell → List E → Type 0
 IsCounted cells log = cells ≡ (length log, true) ∷ (0, true) ∷ []
 

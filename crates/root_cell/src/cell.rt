@@ -14,6 +14,7 @@ use dots::Refusal;
 use left_right::reader::Factory;
 use left_right::writer;
 use std::alloc::{Allocator, Global};
+use std::collections::LinkedList;
 use std::marker::PhantomData;
 use std::sync::{Arc, Wait};
 
@@ -68,6 +69,7 @@ fn furnish<R: Drop, E, J: Brand<R, E>, A: Allocator + Copy, W: Wait>(
     places: usize,
 ) -> (Desk<R, E, J, A>, Result<Vec<View<R, E, J, A>, A>, Refusal>)
     requires first { StandsIn J.book J.stands first.now }
+    requires shown { desk.desk.shown.value ≡ first.now }
     requires front { front.now ≡ [] }
     ensures desk { OnOk result.1 (result.0.desk.shown.value ≡ first.now) }
     ensures views { IfOk result.1 (λ v. v.items ≡ replicate places []) }
@@ -89,7 +91,7 @@ fn furnish<R: Drop, E, J: Brand<R, E>, A: Allocator + Copy, W: Wait>(
 // One View for each place.
 fn seats<R: Drop, E, J: Brand<R, E>, A: Allocator + Copy>(
     alloc: A,
-    factory: &Factory<Published<R, E, A>, (), Ruled<J>, A>,
+    factory: &Factory<Published<R, E, A>, LinkedList<E>, Ruled<J>, A>,
     front: &Front<R, E, J>,
     places: usize,
 ) -> Result<Vec<View<R, E, J, A>, A>, Refusal>

@@ -8,12 +8,13 @@ use crate::rule::Ruled;
 use crate::view::View;
 use left_right::reader::Reading;
 use std::alloc::{Allocator, Global};
+use std::collections::LinkedList;
 use std::marker::Model;
 
 /// A View that is inside. Contracts see the root that it entered, and the front that this root stands for. While it is inside the
 /// root stays, and the next publish but one waits. It is not `Drop`: it has to `leave`.
 pub struct Entered<R: Drop, E, J: Brand<R, E>, A: Allocator = Global> {
-    reading: Reading<Published<R, E, A>, (), Ruled<J>, A>,
+    reading: Reading<Published<R, E, A>, LinkedList<E>, Ruled<J>, A>,
     front: Front<R, E, J>,
 }
 
@@ -29,7 +30,9 @@ impl<R: Drop, E, J: Brand<R, E>, A: Allocator> Model for Entered<R, E, J, A> {
 
 impl<R: Drop, E, J: Brand<R, E>, A: Allocator> Entered<R, E, J, A> {
     /// Inside, with what is read.
-    pub(crate) fn new(reading: Reading<Published<R, E, A>, (), Ruled<J>, A>) -> Entered<R, E, J, A>
+    pub(crate) fn new(
+        reading: Reading<Published<R, E, A>, LinkedList<E>, Ruled<J>, A>,
+    ) -> Entered<R, E, J, A>
         requires { StandsIn J.book J.stands reading.part.value }
         ensures root { result ≡ (reading.part.value.0, reading.part.value.1) }
     {

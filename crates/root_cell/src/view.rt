@@ -6,15 +6,16 @@ use crate::entered::Entered;
 use crate::front::Front;
 use crate::note::Note;
 use crate::published::Published;
-use crate::rule::{Ruled, Shows};
+use crate::rule::{Ruled, Showing};
 use left_right::reader::Reader;
 use std::alloc::{Allocator, Global};
+use std::collections::LinkedList;
 use std::marker::Model;
 
 /// A reader's seat at a cell. Contracts see the front that it saw or learnt, a beginning of the cell's one list of events.
 #[derive(Drop)]
 pub struct View<R: Drop, E, J: Brand<R, E>, A: Allocator = Global> {
-    reader: Reader<Published<R, E, A>, (), Ruled<J>, A>,
+    reader: Reader<Published<R, E, A>, LinkedList<E>, Ruled<J>, A>,
     front: Front<R, E, J>,
 }
 
@@ -29,7 +30,7 @@ impl<R: Drop, E, J: Brand<R, E>, A: Allocator> Model for View<R, E, J, A> {
 impl<R: Drop, E, J: Brand<R, E>, A: Allocator> View<R, E, J, A> {
     /// A seat that has seen this front.
     pub(crate) fn new(
-        reader: Reader<Published<R, E, A>, (), Ruled<J>, A>,
+        reader: Reader<Published<R, E, A>, LinkedList<E>, Ruled<J>, A>,
         front: Front<R, E, J>,
     ) -> View<R, E, J, A>
         ensures { result ≡ front }
@@ -45,7 +46,7 @@ impl<R: Drop, E, J: Brand<R, E>, A: Allocator> View<R, E, J, A> {
         ensures back { IfErr result (λ v. v ≡ self) }
     {
         let View { reader, front } = self;
-        match reader.enter_as::<Shows<J>>() {
+        match reader.enter_as::<Showing<J>>() {
             Err(reader) => Err(View { reader, front }),
             Ok(reading) => {
                 let entered = Entered::new(reading);
