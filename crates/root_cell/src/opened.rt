@@ -1,0 +1,35 @@
+use crate::book::Counted;
+use logbook::{Seen, Start, Word};
+use std::marker::Model;
+
+/// The book of a cell that is still to be made: no events, and no Brand yet. Contracts see which book it is.
+#[derive(Drop)]
+pub struct Opened<E> {
+    pub(crate) head: Word<E, u64, Counted>,
+    pub(crate) seen: Seen<E, u64, Counted>,
+}
+
+impl<E> Model for Opened<E> {
+    ghost use Rattle.std.specs.Prelude.{◌≡◌, []};
+    ghost use Rattle.logbook.specs.Pages.{Book, book_coded};
+    ghost use Rattle.root_cell.specs.Book.{head_of};
+
+    ghost Value = { Book };
+
+    ghost coded = { book_coded };
+
+    ghost view = { λ o. o.seen.book };
+
+    ghost invariant = { λ o. (o.seen.log ≡ []) × (o.head ≡ head_of o.seen.book) };
+}
+
+impl<E> Opened<E> {
+    /// A new book. It takes no memory, and whoever makes a cell of it picks the Brand by it.
+    pub fn new() -> Opened<E> {
+        let (seen, mut first, _second) = Seen::open(Start::alone(), 0, 0);
+        Opened {
+            head: Word::tracked(0, &mut first),
+            seen,
+        }
+    }
+}

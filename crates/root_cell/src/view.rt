@@ -1,0 +1,73 @@
+ghost use Rattle.std.specs.Prelude.{◌≡◌, ◌⊎◌, [], IfOk, IfErr};
+ghost use mathlib.Core.List.{IsPrefix};
+
+use crate::brand::Brand;
+use crate::entered::Entered;
+use crate::front::Front;
+use crate::note::Note;
+use crate::published::Published;
+use crate::rule::{Ruled, Showing};
+use left_right::reader::Reader;
+use std::alloc::{Allocator, Global};
+use std::collections::LinkedList;
+use std::marker::Model;
+
+/// A reader's seat at a cell. Contracts see the front that it saw or learnt, a beginning of the cell's one list of events.
+#[derive(Drop)]
+pub struct View<R: Drop, E, J: Brand<R, E>, A: Allocator = Global> {
+    reader: Reader<Published<R, E, A>, LinkedList<E>, Ruled<J>, A>,
+    front: Front<R, E, J>,
+}
+
+impl<R: Drop, E, J: Brand<R, E>, A: Allocator> Model for View<R, E, J, A> {
+    ghost use Rattle.std.specs.Prelude.{List};
+
+    ghost Value = { List E };
+
+    ghost view = { λ v. v.front };
+}
+
+impl<R: Drop, E, J: Brand<R, E>, A: Allocator> View<R, E, J, A> {
+    /// A seat that has seen this front.
+    pub(crate) fn new(
+        reader: Reader<Published<R, E, A>, LinkedList<E>, Ruled<J>, A>,
+        front: Front<R, E, J>,
+    ) -> View<R, E, J, A>
+        ensures { result ≡ front }
+    {
+        View { reader, front }
+    }
+
+    /// Enters what is published. It waits for nobody and takes no memory. The View comes back where the Writer has ended; so it
+    /// would where less is published than this View saw or learnt, which a cell with its one Writer does not come to.
+    pub fn enter(self) -> Result<Entered<R, E, J, A>, View<R, E, J, A>>
+        ensures later { IfOk result (λ e. IsPrefix self e.1) }
+        ensures stands { IfOk result (λ e. J.stands e.0 e.1) }
+        ensures back { IfErr result (λ v. v ≡ self) }
+    {
+        let View { reader, front } = self;
+        match reader.enter_as::<Showing<J>>() {
+            Err(reader) => Err(View { reader, front }),
+            Ok(reading) => {
+                let entered = Entered::new(reading);
+                if front.begins(entered.front()) {
+                    return Ok(entered);
+                }
+                let View { reader, front: _ } = entered.leave();
+                Err(View { reader, front })
+            }
+        }
+    }
+
+    /// Takes in what a Note told: afterwards the View has seen the longer of its own front and the Note's. It takes no memory.
+    pub fn learn(&mut self, note: Note<R, E, J>)
+        ensures one { (self.new ≡ self.old) ⊎ (self.new ≡ note) }
+        ensures own { IsPrefix self.old self.new }
+        ensures told { IsPrefix note self.new }
+    {
+        let Note { front } = note;
+        if self.front.begins(&front) {
+            self.front = front;
+        }
+    }
+}
