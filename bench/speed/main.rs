@@ -147,8 +147,8 @@ fn tries(count: usize, repeats: Repeats) {
     println!("{count} keys of 8 bytes: microseconds a key, and times a HashMap's and a BTreeMap's");
     for (step, name) in (0..).zip(STEPS) {
         let repeats = match name {
-            // a walk is short beside the insertion before it
-            "iterate" => Repeats {
+            // a walk and a freeze are short beside the insertion before them
+            "iterate" | "freeze" => Repeats {
                 times: 20 * repeats.times,
                 ..repeats
             },
@@ -226,6 +226,6 @@ fn messages(count: u64, times: u32) {
 
 fn main() {
     tries(100_000, Repeats { times: 5, runs: 2 });
-    tries(1_000_000, Repeats { times: 2, runs: 3 });
+    tries(1_000_000, Repeats { times: 5, runs: 3 });
     messages(10_000, 100);
 }
