@@ -1,4 +1,4 @@
--- Each event of a world is a step of its replica.
+-- A step of a replica keeps to the world.
 use Rattle.std.proofs.Common.{◌≡◌, ℕ, suc, ◌+◌, List, [], ◌∷◌, ◌++◌, length, refl, sym, ap, ◌∙◌, subst, Bool, true, false, cond, Some, None, arith}
 use Rattle.std.specs.Prelude.{◌==◌, ◌&&◌, Contains, Option, is_some}
 use Rattle.std.proofs.lemmas.Bool.{eq-eqb, eqb-true, false≢true, or_left, or_right, and_parts}

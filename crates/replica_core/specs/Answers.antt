@@ -1,5 +1,5 @@
 -- What the events of a world are answered, and which are refused. Of this project.
-use Rattle.std.specs.Prelude.{ℕ, suc, ◌+◌, ◌^◌, ◌==◌, ◌&&◌, nat_lt, Bool, cond, List, [], ◌∷◌, length, Option, Some, None, is_some}
+use Rattle.std.specs.Prelude.{ℕ, ◌+◌, ◌^◌, ◌==◌, ◌&&◌, nat_lt, Bool, cond, length, Option, Some, None, is_some}
 use Rattle.dots.specs.declared.dot.Dot.{Dot}
 use Rattle.dots.specs.declared.refusal.Refusal.{Refusal}
 use Rattle.dots.specs.declared.refusal.Refusal.TheVariants.{NumbersSpent, SessionsFull, NameTaken, UnknownReplica, UnknownMessage}
@@ -64,8 +64,3 @@ abbrev pub answer_of : World → Event → Answer
 answer_of w (Node name) = Nothing
 answer_of w (At name call) = call_answer w name call
 answer_of w (Deliver number name) = Came (delivery_outcome w name (kind_at w.kinds number))
-
--- the numbers of the messages that an event makes: those after the ones that were there
-abbrev pub numbers_after : ℕ → List Kind → List ℕ
-numbers_after count [] = []
-numbers_after count (k ∷ ks) = suc count ∷ numbers_after (suc count) ks

@@ -4,7 +4,7 @@
 -- What each replica has seen and is to send, and what each message carries, are sets of operations, which change by the
 -- moves of op_model alone. Beside them stand the kinds of the messages and the sessions of each replica. A lost message is
 -- one that is never delivered, a repeated one is delivered again.
--- Example: after Node 1, Node 2, Call 2 (Put a x), Call 1 (Ask 2), Deliver 1 2, Deliver 2 1 both have seen {2:1 puts x on a}:
+-- Example: after Node 1, Node 2, At 2 (Put a x), At 1 (Ask 2), Deliver 1 2, Deliver 2 1 both have seen {2:1 puts x on a}:
 -- message 1 is the hello of session 1 of replica 1, message 2 the state that answers it.
 use Rattle.std.specs.Prelude.{ℕ, zero, suc, ◌+◌, ◌==◌, ◌&&◌, Bool, true, false, cond, List, [], ◌∷◌, ◌++◌, fold, slice_get, Option, Some, None}
 use Rattle.op_model.specs.Operation.{Operation}

@@ -1,11 +1,11 @@
 //! The laws of worlds that synchronise.
 
-ghost use Rattle.std.specs.Prelude.{◌≡◌, ◌≢◌, ◌++◌, ◌∷◌, [], ◌+◌, ◌≤◌, ℕ, List, length, map, true, Some, fold};
+ghost use Rattle.std.specs.Prelude.{◌≡◌, ◌≢◌, ◌++◌, ◌∷◌, [], ◌+◌, ◌≤◌, ℕ, List, length, map, true, Some};
 ghost use Rattle.op_model.specs.Operation.{NoReuse};
 ghost use Rattle.op_model.specs.World.{IsSound, message};
 ghost use Rattle.op_model.specs.World as sets;
 ghost use Rattle.wire_form.specs.Session.{SessionValue};
-ghost use Rattle.replica_core.specs.Replicas.{World, Event, Node, At, Deliver, Ask, Hello, State, kind_at, is_open, without, happens, after};
+ghost use Rattle.replica_core.specs.Replicas.{World, Event, Node, Deliver, Hello, State, kind_at, is_open, without, happens, after};
 ghost use Rattle.replica_core.specs.Answers.{Answer, Came, Ignored, answer_of};
 ghost use Rattle.replica_core.specs.Step.{Replica, Mail, Act, IsStep, IsReplicaOf, IsEventOf};
 ghost use Rattle.replica_core.specs.Laws.{AreSessions, Follows, event_of, replica_of};
@@ -55,15 +55,16 @@ pub fn without_sessions()
     ensures { (events : List sets.Event) → (after (map event_of events)).sets ≡ sets.after events }
 {}
 
-/// Each event of a world is a step of its replica: where a replica means what a sound world says of its name, it means what
-/// the world says after the event, is answered what the world answers, and sends just the messages that are new.
-pub fn events_are_steps()
+/// A step of a replica keeps to the world: where a replica means what a sound world says of its name, and a step takes it on,
+/// it means what the world says after the event, is answered what the world answers, and sends just the messages that are new.
+/// That there is such a step is for the code to show that takes it.
+pub fn steps_keep_to_the_world()
     ensures { (w : World) (name : ℕ) (act : Act) (e : Event) (old new : Replica) (answer : Answer) (out : List Mail) →
         IsSound w.sets → length w.kinds ≡ length w.sets.messages → IsReplicaOf w name old → IsEventOf w name act e →
         IsStep old act new answer out → Follows (happens w e) name (length w.kinds) new answer (answer_of w e) out }
 {}
 
-/// An event leaves every replica but its own as it was, and a new replica has seen nothing and asked nobody.
+/// An event leaves what a replica of another name means, and a new replica's event leaves what any means, its own too.
 pub fn events_elsewhere()
     ensures untouched { (w : World) (e : Event) (name : ℕ) (r : Replica) → name ≢ replica_of e → IsReplicaOf w name r →
         IsReplicaOf (happens w e) name r }

@@ -1,7 +1,7 @@
 // A world of replicas that write, send, deliver and synchronise by whole states, and one replica by itself: so far their
 // definitions and laws. No code runs in it.
 // Offered to the crates above: what each event makes of a world, what it is answered and why it is refused; what a call or a
-// message makes of one replica; and as laws that each event is a step of its replica, that no dot is ever used twice, and that a
+// message makes of one replica; and as laws that a step of a replica keeps to the world, that no dot is ever used twice, and that a
 // session that ends adds to its asker just what its answerer had seen.
 #![tactic(auto)]
 
@@ -13,6 +13,6 @@ pub use examples::{
     an_abandoned_session_adds_nothing,
 };
 pub use laws::{
-    a_session_that_ends, events_are_steps, events_elsewhere, ids_are_fresh,
-    ignored_events_change_nothing, messages_stay, sessions_are_numbered, without_sessions,
+    a_session_that_ends, events_elsewhere, ids_are_fresh, ignored_events_change_nothing,
+    messages_stay, sessions_are_numbered, steps_keep_to_the_world, without_sessions,
 };
