@@ -1,3 +1,4 @@
 pub mod Refusal
 pub mod Dot
 pub mod Bytes
+pub mod Store

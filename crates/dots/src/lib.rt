@@ -1,19 +1,19 @@
-// Names, dots, keys, values and refusals: the plain values that the replicated map is made of.
+// Names, dots, keys, fields, values and refusals: the plain values that the replicated map is made of.
 // Offered to the crates above: lawful equality and order of these values, and that `bytes` is what came in.
 #![tactic(auto)]
 
-mod bytes;
 mod dot;
-mod key;
+mod kind;
 mod name;
 mod refusal;
-mod value;
+mod store;
+mod text;
 
 pub use dot::Dot;
-pub use key::Key;
+pub use kind::{Field, FieldKind, Key, KeyKind, Value, ValueKind};
 pub use name::Name;
 pub use refusal::Refusal;
-pub use value::Value;
+pub use text::Text;
 
 #[cfg(test)]
 mod tests;

@@ -1,45 +1,54 @@
 use super::*;
+use std::alloc::Global;
+use std::mem::size_of;
 use std::process::Abort;
 use std::test::Fail;
 
 // This many zero bytes.
-fn zeros(alloc: std::alloc::Global, count: usize) -> Result<Vec<u8>, Refusal> {
+fn zeros(alloc: Global, count: usize) -> Result<Vec<u8>, Refusal> {
     let mut bytes = Vec::new(alloc);
     bytes.resize(count, 0)?;
     Ok(bytes)
 }
 
-#[test]
-fn a_key_holds_what_came_in(rt: HostRuntime) -> Result<(), Fail> {
-    let alloc = rt.alloc();
-    let empty = Key::new(alloc, b"")?;
-    let milk = Key::new(alloc, b"milk")?;
-    assert_eq!(rt; empty.bytes(), b"".as_slice());
-    assert_eq!(rt; milk.bytes(), b"milk".as_slice());
-    assert_eq!(rt; milk.copy(alloc)?.bytes(), b"milk".as_slice());
-    assert!(rt; empty < milk);
+// The text of these bytes, and its copy, give them back.
+fn expect_held<K>(rt: &impl Abort, alloc: Global, bytes: &[u8]) -> Result<(), Refusal> {
+    let text: Text<K> = Text::new(alloc, bytes)?;
+    assert_eq!(rt; text.bytes(), bytes);
+    assert_eq!(rt; text.copy(alloc)?.bytes(), bytes);
     Ok(())
 }
 
 #[test]
-fn a_value_holds_what_came_in(rt: HostRuntime) -> Result<(), Fail> {
+fn a_text_and_its_copy_hold_what_came_in(rt: HostRuntime) -> Result<(), Fail> {
     let alloc = rt.alloc();
-    let empty = Value::new(alloc, b"")?;
-    let one = Value::new(alloc, b"1")?;
-    assert_eq!(rt; empty.bytes(), b"".as_slice());
-    assert_eq!(rt; one.bytes(), b"1".as_slice());
-    assert_eq!(rt; one.copy(alloc)?.bytes(), b"1".as_slice());
-    assert!(rt; empty < one);
+    let past_the_place = b"twenty-three bytes long";
+    expect_held::<KeyKind>(&rt, alloc, b"")?;
+    expect_held::<KeyKind>(&rt, alloc, b"milk")?;
+    expect_held::<ValueKind>(&rt, alloc, &past_the_place[..22])?;
+    expect_held::<ValueKind>(&rt, alloc, past_the_place)?;
+    assert_eq!(rt; past_the_place.len(), 23);
+    assert_eq!(rt; size_of::<Key>(), 24);
+    Ok(())
+}
+
+#[test]
+fn a_text_comes_before_those_that_it_begins(rt: HostRuntime) -> Result<(), Fail> {
+    let alloc = rt.alloc();
+    let short = Field::new(alloc, b"twenty-two bytes long.")?;
+    let long = Field::new(alloc, b"twenty-two bytes long..")?;
+    assert!(rt; short < long);
+    assert!(rt; long < Field::new(alloc, b"u")?);
+    assert_eq!(rt; short, short.copy(alloc)?);
     Ok(())
 }
 
 #[test]
 fn texts_end_at_65535_bytes(rt: HostRuntime) -> Result<(), Fail> {
     let alloc = rt.alloc();
-    let longest = zeros(alloc, 65535)?;
     let too_long = zeros(alloc, 65536)?;
-    assert_eq!(rt; Key::new(alloc, &longest)?.bytes().len(), 65535);
-    assert_eq!(rt; Value::new(alloc, &longest)?.bytes().len(), 65535);
+    assert_eq!(rt; Field::new(alloc, &too_long[..65535])?.bytes().len(), 65535);
+    assert_eq!(rt; Field::new(alloc, &too_long).err(), Some(Refusal::TooLong));
     assert_eq!(rt; Key::new(alloc, &too_long).err(), Some(Refusal::TooLong));
     assert_eq!(rt; Value::new(alloc, &too_long).err(), Some(Refusal::TooLong));
     Ok(())
