@@ -6,7 +6,8 @@ use Rattle.std.specs.Ordering.{ordering_reverse}
 use Rattle.std.specs.Prelude.{Contains}
 use Rattle.std.proofs.Common.{◌≡◌, ℕ, zero, suc, ◌<◌, length, get_or, List, [], ◌∷◌, refl, sym, ap, ◌∙◌, subst, ◌⊎◌, inl, inr, arith}
 use Rattle.std.proofs.lemmas.List.Elements.{Contains-get_or}
-use Rattle.op_model.specs.Shown.{bytes_cmp, placed, with_one, ascending, IsAscending}
+use Rattle.dots.specs.Bytes.{bytes_cmp}
+use Rattle.op_model.specs.Shown.{placed, with_one, ascending, IsAscending}
 use Rattle.op_model.proofs.Greater.{bytes_exact}
 use Rattle.op_model.proofs.Members.{nothing_in, at_head, in_tail, head_or_tail, at_same}
 

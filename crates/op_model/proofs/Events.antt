@@ -4,70 +4,83 @@ use Rattle.std.specs.Prelude.{Contains, ◌↔◌, ◌==◌}
 use Rattle.std.proofs.lemmas.Bool.{false≢true, or_left, or_right}
 use Rattle.dots.specs.declared.dot.Dot.{Dot}
 use Rattle.dots.specs.Dot.{same_dot}
-use Rattle.op_model.specs.State.{State, join, Same}
+use Rattle.op_model.specs.Place.{Place}
+use Rattle.op_model.specs.State.{join, Same}
 use Rattle.op_model.specs.Operation.{Write, Operation, Wrote, Erased, has, ids, known, writes, observed}
-use Rattle.op_model.specs.Shown.{shown, shown_anywhere}
-use Rattle.op_model.specs.Meaning.{greater, state}
-use Rattle.op_model.specs.Made.{put_at, erasure, remove_at, clear_at, IsPutAt, IsRemoveAt, IsClearAt}
-use Rattle.op_model.specs.World.{World, Means, IsUntouched, replica_of, Event, Node, Put, Remove, Clear, Flush, Deliver, is_among, is_node, message, makes, happens, after}
+use Rattle.op_model.specs.Shown.{shown, shown_within, shown_anywhere}
+use Rattle.op_model.specs.Meaning.{MapState, greater, state}
+use Rattle.op_model.specs.Made.{put_at, erasure, remove_at, remove_field_at, clear_at, IsPutAt, IsRemoveAt, IsFieldRemoveAt, IsClearAt}
+use Rattle.op_model.specs.World.{World, Means, IsUntouched, replica_of, Event, Node, Put, Remove, RemoveField, Clear, Flush, Deliver, is_among, is_node, message, makes, happens, after}
 use Rattle.op_model.proofs.Joins.{same-chain, or_assoc}
 use Rattle.op_model.proofs.Dots.{same_dot-self, has-append}
-use Rattle.op_model.proofs.Making.{put_made, remove_made, clear_made}
+use Rattle.op_model.proofs.Making.{put_made, remove_made, field_remove_made, clear_made}
 use Rattle.op_model.proofs.Members.{at_head}
 use Rattle.op_model.proofs.Fresh.{IsNew, put-new, erasure-new, sound-after, after-push}
 use Rattle.op_model.proofs.Pairs.{grown-there, emptied-here, emptied-there, makes_live, makes_group, learns_live}
 
-then_after : (events : List Event) (e : Event) (p g : State (List ℕ) (List ℕ)) (name : ℕ) → Means p g (happens (after events) e) name → Means p g (after (events ++ e ∷ [])) name
+then_after : (events : List Event) (e : Event) (p g : MapState) (name : ℕ) → Means p g (happens (after events) e) name → Means p g (after (events ++ e ∷ [])) name
 then_after events e p g name h = let P : World → Type 0 = λ w. Means p g w name in subst P (sym (after-push events e)) h
 
-module _ (events : List Event) (name : ℕ) (p g : State (List ℕ) (List ℕ)) (means : Means p g (after events) name) where
-  makes_means : (more : List Operation) → IsNew ((after events).seen name) name more → (d : State (List ℕ) (List ℕ)) → Same d (state more) →
+module _ (events : List Event) (name : ℕ) (p g : MapState) (means : Means p g (after events) name) where
+  makes_means : (more : List Operation) → IsNew ((after events).seen name) name more → (d : MapState) → Same d (state more) →
       Means (join greater p d) (join greater g d) (makes name more (after events)) name
   makes_means more new d delta = record {
     seen = makes_live (after events) (sound-after events) name more new p d means.seen delta;
     outgoing = makes_group (after events) (sound-after events) name more new g d means.outgoing delta;
   }
 
-  -- a put, a remove and a clear, with the delta that means the operation made at the set
-  pub after_put : (key value : List ℕ) (d : State (List ℕ) (List ℕ)) → Same d (state (put_at ((after events).seen name) name key value)) →
-      Means (join greater p d) (join greater g d) (after (events ++ Put name key value ∷ [])) name
-  after_put key value d delta =
-      then_after events (Put name key value) (join greater p d) (join greater g d) name
-      (makes_means (put_at ((after events).seen name) name key value) (put-new ((after events).seen name) name key value) d delta)
+  -- a put, the removes and a clear, with the delta that means the operation made at the set
+  pub after_put : (place : Place) (value : List ℕ) (d : MapState) → Same d (state (put_at ((after events).seen name) name place value)) →
+      Means (join greater p d) (join greater g d) (after (events ++ Put name place value ∷ [])) name
+  after_put place value d delta =
+      then_after events (Put name place value) (join greater p d) (join greater g d) name
+      (makes_means (put_at ((after events).seen name) name place value) (put-new ((after events).seen name) name place value) d delta)
 
-  pub after_remove : (key : List ℕ) (d : State (List ℕ) (List ℕ)) → Same d (state (remove_at ((after events).seen name) key)) →
+  pub after_remove : (key : List ℕ) (d : MapState) → Same d (state (remove_at ((after events).seen name) key)) →
       Means (join greater p d) (join greater g d) (after (events ++ Remove name key ∷ [])) name
   after_remove key d delta =
       then_after events (Remove name key) (join greater p d) (join greater g d) name
-      (makes_means (remove_at ((after events).seen name) key) (erasure-new ((after events).seen name) name (ids (shown ((after events).seen name) key))) d delta)
+      (makes_means (remove_at ((after events).seen name) key) (erasure-new ((after events).seen name) name (ids (shown_within ((after events).seen name) key))) d delta)
 
-  pub after_clear : (d : State (List ℕ) (List ℕ)) → Same d (state (clear_at ((after events).seen name))) →
+  pub after_remove_field : (place : Place) (d : MapState) → Same d (state (remove_field_at ((after events).seen name) place)) →
+      Means (join greater p d) (join greater g d) (after (events ++ RemoveField name place ∷ [])) name
+  after_remove_field place d delta =
+      then_after events (RemoveField name place) (join greater p d) (join greater g d) name
+      (makes_means (remove_field_at ((after events).seen name) place) (erasure-new ((after events).seen name) name (ids (shown ((after events).seen name) place))) d delta)
+
+  pub after_clear : (d : MapState) → Same d (state (clear_at ((after events).seen name))) →
       Means (join greater p d) (join greater g d) (after (events ++ Clear name ∷ [])) name
   after_clear d delta =
       then_after events (Clear name) (join greater p d) (join greater g d) name
       (makes_means (clear_at ((after events).seen name)) (erasure-new ((after events).seen name) name (ids (shown_anywhere ((after events).seen name)))) d delta)
 
   -- the same with the delta of the operation made at the pair
-  pub after_put_at : (key value : List ℕ) (w : Write) (d : State (List ℕ) (List ℕ)) → IsPutAt p name key value w → Same d (state (Wrote w ∷ [])) →
-      Means (join greater p d) (join greater g d) (after (events ++ Put name key value ∷ [])) name
-  after_put_at key value w d made delta =
-      after_put key value d (same-chain d (state (Wrote w ∷ [])) (state (put_at ((after events).seen name) name key value)) delta
-      (put_made ((after events).seen name) p means.seen name key value w made))
+  pub after_put_at : (place : Place) (value : List ℕ) (w : Write) (d : MapState) → IsPutAt p name place value w → Same d (state (Wrote w ∷ [])) →
+      Means (join greater p d) (join greater g d) (after (events ++ Put name place value ∷ [])) name
+  after_put_at place value w d made delta =
+      after_put place value d (same-chain d (state (Wrote w ∷ [])) (state (put_at ((after events).seen name) name place value)) delta
+      (put_made ((after events).seen name) p means.seen name place value w made))
 
-  pub after_remove_at : (key : List ℕ) (over : List Dot) (d : State (List ℕ) (List ℕ)) → IsRemoveAt p key over → Same d (state (erasure over)) →
+  pub after_remove_at : (key : List ℕ) (over : List Dot) (d : MapState) → IsRemoveAt p key over → Same d (state (erasure over)) →
       Means (join greater p d) (join greater g d) (after (events ++ Remove name key ∷ [])) name
   after_remove_at key over d made delta =
       after_remove key d (same-chain d (state (erasure over)) (state (remove_at ((after events).seen name) key)) delta
       (remove_made ((after events).seen name) p means.seen key over made))
 
-  pub after_clear_at : (over : List Dot) (d : State (List ℕ) (List ℕ)) → IsClearAt p over → Same d (state (erasure over)) →
+  pub after_remove_field_at : (place : Place) (over : List Dot) (d : MapState) → IsFieldRemoveAt p place over → Same d (state (erasure over)) →
+      Means (join greater p d) (join greater g d) (after (events ++ RemoveField name place ∷ [])) name
+  after_remove_field_at place over d made delta =
+      after_remove_field place d (same-chain d (state (erasure over)) (state (remove_field_at ((after events).seen name) place)) delta
+      (field_remove_made ((after events).seen name) p means.seen place over made))
+
+  pub after_clear_at : (over : List Dot) (d : MapState) → IsClearAt p over → Same d (state (erasure over)) →
       Means (join greater p d) (join greater g d) (after (events ++ Clear name ∷ [])) name
   after_clear_at over d made delta =
       after_clear d (same-chain d (state (erasure over)) (state (clear_at ((after events).seen name))) delta
       (clear_made ((after events).seen name) p means.seen over made))
 
   -- a flush leaves the live pair, and an empty group
-  pub after_flush : (e : State (List ℕ) (List ℕ)) → Same e (state []) → Means p e (after (events ++ Flush name ∷ [])) name
+  pub after_flush : (e : MapState) → Same e (state []) → Means p e (after (events ++ Flush name ∷ [])) name
   after_flush e empty =
       then_after events (Flush name) p e name
       (record { seen = means.seen; outgoing = subst (λ S. Same e (state S)) (sym (emptied-here name ((after events).outgoing name))) empty })
@@ -88,7 +101,7 @@ module _ (events : List Event) (name : ℕ) (p g : State (List ℕ) (List ℕ)) 
           absurd (false≢true (sym (h d) ∙ means.outgoing.has d ∙ ap (λ T. has (known T) d) e ∙ there))
 
   -- a delivery leaves the group
-  pub after_deliver : (number : ℕ) (d : State (List ℕ) (List ℕ)) → Same d (state (message (after events).messages number)) →
+  pub after_deliver : (number : ℕ) (d : MapState) → Same d (state (message (after events).messages number)) →
       Means (join greater p d) g (after (events ++ Deliver number name ∷ [])) name
   after_deliver number d delta =
       then_after events (Deliver number name) (join greater p d) g name
@@ -100,8 +113,9 @@ module _ (events : List Event) (name : ℕ) (p g : State (List ℕ) (List ℕ)) 
 -- an event leaves every other replica as it was
 pub untouched : (w : World) (e : Event) (n : ℕ) → n ≢ replica_of e → IsUntouched w (happens w e) n
 untouched w (Node name) n apart = record { seen = refl; outgoing = refl }
-untouched w (Put name key value) n apart = record { seen = grown-there n name (w.seen n) (put_at (w.seen name) name key value) apart; outgoing = grown-there n name (w.outgoing n) (put_at (w.seen name) name key value) apart }
+untouched w (Put name place value) n apart = record { seen = grown-there n name (w.seen n) (put_at (w.seen name) name place value) apart; outgoing = grown-there n name (w.outgoing n) (put_at (w.seen name) name place value) apart }
 untouched w (Remove name key) n apart = record { seen = grown-there n name (w.seen n) (remove_at (w.seen name) key) apart; outgoing = grown-there n name (w.outgoing n) (remove_at (w.seen name) key) apart }
+untouched w (RemoveField name place) n apart = record { seen = grown-there n name (w.seen n) (remove_field_at (w.seen name) place) apart; outgoing = grown-there n name (w.outgoing n) (remove_field_at (w.seen name) place) apart }
 untouched w (Clear name) n apart = record { seen = grown-there n name (w.seen n) (clear_at (w.seen name)) apart; outgoing = grown-there n name (w.outgoing n) (clear_at (w.seen name)) apart }
 untouched w (Flush name) n apart = record { seen = refl; outgoing = emptied-there n name (w.outgoing n) apart }
 untouched w (Deliver number name) n apart = record { seen = grown-there n name (w.seen n) (message w.messages number) apart; outgoing = refl }
@@ -110,7 +124,7 @@ pub after_elsewhere : (events : List Event) (e : Event) (n : ℕ) → n ≢ repl
 after_elsewhere events e n apart = let P : World → Type 0 = λ w. IsUntouched (after events) w n in subst P (sym (after-push events e)) (untouched (after events) e n apart)
 
 -- and what another replica's pairs meant they mean
-pub means_elsewhere : (events : List Event) (e : Event) (n : ℕ) (p g : State (List ℕ) (List ℕ)) → n ≢ replica_of e → Means p g (after events) n → Means p g (after (events ++ e ∷ [])) n
+pub means_elsewhere : (events : List Event) (e : Event) (n : ℕ) (p g : MapState) → n ≢ replica_of e → Means p g (after events) n → Means p g (after (events ++ e ∷ [])) n
 means_elsewhere events e n p g apart means =
     let still = after_elsewhere events e n apart in
     record {
@@ -135,5 +149,5 @@ pub node_there : (events : List Event) (name n : ℕ) → is_node (after (events
 node_there events name n =
     ap (λ w. is_node w n) (after-push events (Node name)) ∙ among-append (after events).nodes (name ∷ []) n ∙ ap (λ b. is_node (after events) n || b) (or_false (name == n))
 
-pub node_means : (events : List Event) (name n : ℕ) (p g : State (List ℕ) (List ℕ)) → Means p g (after events) n → Means p g (after (events ++ Node name ∷ [])) n
+pub node_means : (events : List Event) (name n : ℕ) (p g : MapState) → Means p g (after events) n → Means p g (after (events ++ Node name ∷ [])) n
 node_means events name n p g means = then_after events (Node name) p g n (record { seen = means.seen; outgoing = means.outgoing })

@@ -5,9 +5,10 @@ use Rattle.std.proofs.lemmas.Bool.{false≢true, cases_Bool, or_left}
 use Rattle.std.proofs.lemmas.List.Elements.{Contains-append_left, Contains-append_right, Contains-append_cases}
 use Rattle.dots.specs.declared.dot.Dot.{Dot}
 use Rattle.op_model.specs.Operation.{Write, Operation, Wrote, Erased, writes, observed, ids, has, known, NoReuse, IsPartOf}
-use Rattle.op_model.specs.Shown.{is_on, shown, shown_where, shown_anywhere}
-use Rattle.op_model.specs.Made.{greatest_number, next, put_at, erasure, remove_at, clear_at}
-use Rattle.op_model.specs.World.{World, IsSound, Event, Node, Put, Remove, Clear, Flush, Deliver, nothing, message, grown, emptied, sent, makes, sends, shows, learns, happens, after}
+use Rattle.op_model.specs.Place.{Place}
+use Rattle.op_model.specs.Shown.{is_on, shown, shown_where, shown_within, shown_anywhere}
+use Rattle.op_model.specs.Made.{greatest_number, next, put_at, erasure, remove_at, remove_field_at, clear_at}
+use Rattle.op_model.specs.World.{World, IsSound, Event, Node, Put, Remove, RemoveField, Clear, Flush, Deliver, nothing, message, grown, emptied, sent, makes, sends, shows, learns, happens, after}
 use Rattle.op_model.proofs.Dots.{has-append, in_has, from_has}
 use Rattle.op_model.proofs.Members.{nothing_in, head_or_tail, at_same, in_map, from_map}
 use Rattle.op_model.proofs.Union.{in_writes_left, in_writes_right, in_writes_either}
@@ -67,20 +68,20 @@ only : (w v : Write) → Contains (w ∷ []) v → w ≡ v
 only w v h = elim (head_or_tail w [] v h) [ inl e ↦ e | inr t ↦ nothing_in v t ]
 
 -- an own dot that is not known was not observed
-put_not_itself : (S : List Operation) (name : ℕ) (key : List ℕ) → has (ids (shown S key)) (next name (known S)) ≡ false
-put_not_itself S name key =
-    elim (cases_Bool (has (ids (shown S key)) (next name (known S)))) [
-      | inl e ↦ absurd (false≢true (sym (next-fresh name (known S)) ∙ shown_known S (is_on key) (next name (known S)) e))
+put_not_itself : (S : List Operation) (name : ℕ) (place : Place) → has (ids (shown S place)) (next name (known S)) ≡ false
+put_not_itself S name place =
+    elim (cases_Bool (has (ids (shown S place)) (next name (known S)))) [
+      | inl e ↦ absurd (false≢true (sym (next-fresh name (known S)) ∙ shown_known S (is_on place) (next name (known S)) e))
       | inr e ↦ e
     ]
 
-pub put-new : (S : List Operation) (name : ℕ) (key value : List ℕ) → IsNew S name (put_at S name key value)
-put-new S name key value =
-    let w : Write = record { id = next name (known S); key = key; value = value; over = ids (shown S key) } in
+pub put-new : (S : List Operation) (name : ℕ) (place : Place) (value : List ℕ) → IsNew S name (put_at S name place value)
+put-new S name place value =
+    let w : Write = record { id = next name (known S); place = place; value = value; over = ids (shown S place) } in
     record {
       named = λ v h. ap (λ x. x.id.name) (sym (only w v h));
       fresh = λ v h. ap (λ x. has (known S) x.id) (sym (only w v h)) ∙ next-fresh name (known S);
-      not_itself = λ v h. ap (λ x. has x.over x.id) (sym (only w v h)) ∙ put_not_itself S name key;
+      not_itself = λ v h. ap (λ x. has x.over x.id) (sym (only w v h)) ∙ put_not_itself S name place;
       one_write = λ u v h g e. sym (only w u h) ∙ only w v g;
       told = λ h. elim (head_or_tail (Wrote w) [] (Erased []) h) [ inl e ↦ absurd (cc) | inr t ↦ nothing_in (Erased []) t ];
     }
@@ -231,8 +232,9 @@ sound-nothing = record {
 
 pub sound-happens : (w : World) (e : Event) → IsSound w → IsSound (happens w e)
 sound-happens w (Node name) s = record { seen = s.seen; outgoing = s.outgoing; messages = s.messages; own = s.own; told = s.told; no_reuse = s.no_reuse }
-sound-happens w (Put name key value) s = sound-makes w name (put_at (w.seen name) name key value) s (put-new (w.seen name) name key value)
-sound-happens w (Remove name key) s = sound-makes w name (remove_at (w.seen name) key) s (erasure-new (w.seen name) name (ids (shown (w.seen name) key)))
+sound-happens w (Put name place value) s = sound-makes w name (put_at (w.seen name) name place value) s (put-new (w.seen name) name place value)
+sound-happens w (Remove name key) s = sound-makes w name (remove_at (w.seen name) key) s (erasure-new (w.seen name) name (ids (shown_within (w.seen name) key)))
+sound-happens w (RemoveField name place) s = sound-makes w name (remove_field_at (w.seen name) place) s (erasure-new (w.seen name) name (ids (shown (w.seen name) place)))
 sound-happens w (Clear name) s = sound-makes w name (clear_at (w.seen name)) s (erasure-new (w.seen name) name (ids (shown_anywhere (w.seen name))))
 sound-happens w (Flush name) s = sound-sends w name s
 sound-happens w (Deliver number name) s = sound-learns w name (message w.messages number) s (s.messages number)

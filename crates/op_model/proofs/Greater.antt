@@ -7,7 +7,7 @@ use Rattle.std.specs.Ordering.{ord_max, is_lt, is_gt, is_eq, ordering_reverse}
 use Rattle.std.proofs.Common.{◌≡◌, ℕ, List, refl, sym, ap, ◌∙◌, true, false, cond, ◌⊎◌, inl, inr}
 use Rattle.std.proofs.lemmas.Bool.{cases_Bool, false≢true}
 use Rattle.std.proofs.lemmas.Cmp.{upto, tied_itself}
-use Rattle.op_model.specs.Shown.{bytes_cmp}
+use Rattle.dots.specs.Bytes.{bytes_cmp}
 use Rattle.op_model.specs.Meaning.{greater}
 
 -- two texts of bytes that the order does not tell apart are one

@@ -1,4 +1,5 @@
 pub mod Greater
+pub mod Places
 pub mod Joins
 pub mod Members
 pub mod Dots

@@ -3,21 +3,21 @@ use Rattle.std.proofs.Common.{◌≡◌, ℕ, ◌+◌, ◌-◌, ◌<◌, max, Li
 use Rattle.std.specs.Prelude.{◌==◌, IsTrue, IsSome, is_some, ◌↔◌}
 use Rattle.std.specs.Set.{distinct_count, is_member}
 use Rattle.std.specs.Cmp.{IsEquivalence}
-use Rattle.std.specs.Ordering.{eq_by_cmp}
 use Rattle.std.proofs.lemmas.Bool.{false≢true, cases_order, cases_lt, or_left, or_right}
 use Rattle.std.proofs.lemmas.List.{append-nil}
 use Rattle.std.proofs.lemmas.Map.Made.{length-from_keys}
 use Rattle.dots.specs.declared.dot.Dot.{Dot}
 use Rattle.dots.specs.Dot.{same_dot}
-use Rattle.op_model.specs.State.{State, Same, IsInside}
+use Rattle.op_model.specs.Place.{Place, place_of, same_place}
+use Rattle.op_model.specs.State.{Same, IsInside}
 use Rattle.op_model.specs.Operation.{Write, Operation, Wrote, ids, has, known}
-use Rattle.op_model.specs.Shown.{bytes_cmp, is_on, shown, shown_anywhere}
-use Rattle.op_model.specs.Meaning.{greater_if, state}
-use Rattle.op_model.specs.Made.{greatest_number, next, dot_at, write_at, put_at, erasure, remove_at, clear_at, removed_at, cleared_at, IsNext, IsPutAt, IsRemoveAt, IsClearAt, StandsAnywhere, Counts}
+use Rattle.op_model.specs.Shown.{is_on, shown, shown_within, shown_anywhere}
+use Rattle.op_model.specs.Meaning.{MapState, greater_if, state}
+use Rattle.op_model.specs.Made.{greatest_number, next, dot_at, write_at, put_at, erasure, remove_at, remove_field_at, clear_at, removed_at, field_removed_at, cleared_at, IsNext, IsPutAt, IsFieldRemoveAt, IsRemoveAt, IsClearAt, IsWithin, IsAnywhere, Counts}
 use Rattle.op_model.proofs.Dots.{same_dot-true, same_dot-self, same_dot-symm, from_has}
 use Rattle.op_model.proofs.SameSets.{both_ways}
 use Rattle.op_model.proofs.Union.{at-state, under_cond}
-use Rattle.op_model.proofs.Showing.{dots_standing, dots_anywhere}
+use Rattle.op_model.proofs.Showing.{dots_standing, dots_within, dots_anywhere}
 use Rattle.op_model.proofs.Fresh.{greatest_number-above, shown_known}
 
 pub same_dots : (d e : Dot) → d.name ≡ e.name → d.number ≡ e.number → d ≡ e
@@ -85,30 +85,30 @@ IsNext-same name f g d same n = record {
 }
 
 -- the state of one write, and of an erasure
-pub at-write : (w : Write) (key : List ℕ) (dot : Dot) →
-    (state (Wrote w ∷ [])).at key dot ≡ cond (has w.over dot) None (cond (is_on key w) (greater_if (same_dot w.id dot) w.value None) None)
-at-write w key dot =
-    at-state (Wrote w ∷ []) key dot
-    ∙ (λ i. cond (has (append-nil w.over i) dot) None (under_cond dot (is_on key w) w [] i))
+pub at-write : (w : Write) (place : Place) (dot : Dot) →
+    (state (Wrote w ∷ [])).at place dot ≡ cond (has w.over dot) None (cond (is_on place w) (greater_if (same_dot w.id dot) w.value None) None)
+at-write w place dot =
+    at-state (Wrote w ∷ []) place dot
+    ∙ (λ i. cond (has (append-nil w.over i) dot) None (under_cond dot (is_on place w) w [] i))
 
 pub has-write : (w : Write) (dot : Dot) → (state (Wrote w ∷ [])).has dot ≡ (same_dot w.id dot || has w.over dot)
 has-write w dot = ap (λ ds. same_dot w.id dot || has ds dot) (append-nil w.over)
 
-pub at-erasure : (ds : List Dot) (key : List ℕ) (dot : Dot) → (state (erasure ds)).at key dot ≡ None
-at-erasure [] key dot = refl
-at-erasure (d ∷ ds) key dot = refl
+pub at-erasure : (ds : List Dot) (place : Place) (dot : Dot) → (state (erasure ds)).at place dot ≡ None
+at-erasure [] place dot = refl
+at-erasure (d ∷ ds) place dot = refl
 
 pub has-erasure : (ds : List Dot) (dot : Dot) → (state (erasure ds)).has dot ≡ has ds dot
 has-erasure [] dot = refl
 has-erasure (d ∷ ds) dot = ap (λ es. has es dot) (append-nil (d ∷ ds))
 
 -- the state of a write goes by what it observed as a set
-pub write-same : (v w : Write) → v.id ≡ w.id → v.key ≡ w.key → v.value ≡ w.value → ((dot : Dot) → has v.over dot ≡ has w.over dot) →
+pub write-same : (v w : Write) → v.id ≡ w.id → v.place ≡ w.place → v.value ≡ w.value → ((dot : Dot) → has v.over dot ≡ has w.over dot) →
     Same (state (Wrote v ∷ [])) (state (Wrote w ∷ []))
-write-same v w id key value over = record {
+write-same v w id place value over = record {
   at = λ k dot.
       at-write v k dot
-      ∙ (λ i. cond (over dot i) None (cond (eq_by_cmp bytes_cmp (key i) k) (greater_if (same_dot (id i) dot) (value i) None) None))
+      ∙ (λ i. cond (over dot i) None (cond (same_place (place i) k) (greater_if (same_dot (id i) dot) (value i) None) None))
       ∙ sym (at-write w k dot);
   has = λ dot. has-write v dot ∙ (λ i. same_dot (id i) dot || over dot i) ∙ sym (has-write w dot);
 }
@@ -138,10 +138,10 @@ counted P ds n c all =
     (λ q. sym (has-is_member c.dots q) ∙ both_ways (has c.dots q) (has ds q) (λ h. (all q).1 ((c.just q).0 h)) (λ h. (c.just q).1 ((all q).0 h)) ∙ has-is_member ds q)
 
 -- a write's value stands at its key under its dot alone
-pub at-write-own : (w : Write) → has w.over w.id ≡ false → (key : List ℕ) (dot : Dot) →
-    (state (Wrote w ∷ [])).at key dot ≡ cond (is_on key w && same_dot w.id dot) (Some w.value) None
-at-write-own w new key dot =
-    at-write w key dot ∙ by (is_on key w) (same_dot w.id dot) (has w.over dot) (λ e. sym (ap (has w.over) (same_dot-true w.id dot e)) ∙ new)
+pub at-write-own : (w : Write) → has w.over w.id ≡ false → (place : Place) (dot : Dot) →
+    (state (Wrote w ∷ [])).at place dot ≡ cond (is_on place w && same_dot w.id dot) (Some w.value) None
+at-write-own w new place dot =
+    at-write w place dot ∙ by (is_on place w) (same_dot w.id dot) (has w.over dot) (λ e. sym (ap (has w.over) (same_dot-true w.id dot e)) ∙ new)
   where
     by : (b s h : Bool) → (s ≡ true → h ≡ false) → cond h None (cond b (greater_if s w.value None) None) ≡ cond (b && s) (Some w.value) None
     by true true true f = absurd (false≢true (sym (f refl)))
@@ -153,54 +153,76 @@ at-write-own w new key dot =
 
 -- what stands is known
 pub state-inside : (S : List Operation) → IsInside (state S)
-state-inside S key dot h = shown_known S (is_on key) dot (dots_standing S key dot ∙ h)
+state-inside S place dot h = shown_known S (is_on place) dot (dots_standing S place dot ∙ h)
 
-module _ (S : List Operation) (p : State (List ℕ) (List ℕ)) (same : Same p (state S)) where
-  -- what a put, a remove and a clear made at the state stand for
-  pub put_made : (name : ℕ) (key value : List ℕ) (w : Write) → IsPutAt p name key value w → Same (state (Wrote w ∷ [])) (state (put_at S name key value))
-  put_made name key value w m =
-      let v : Write = record { id = dot_at S name; key = key; value = value; over = ids (shown S key) } in
+module _ (S : List Operation) (p : MapState) (same : Same p (state S)) where
+  standing_same : (place : Place) (dot : Dot) → is_some (p.at place dot) ≡ has (ids (shown S place)) dot
+  standing_same place dot = ap is_some (same.at place dot) ∙ sym (dots_standing S place dot)
+
+  -- the dots of a key, and all, at the state and at the set
+  within_same : (key : List ℕ) (dot : Dot) → IsTrue (has (ids (shown_within S key)) dot) ↔ IsWithin p key dot
+  within_same key dot = (
+    λ h. let stands = (dots_within S key dot).0 h in (stands.0, ap is_some (same.at (place_of key stands.0) dot) ∙ stands.1),
+    λ (field, h). (dots_within S key dot).1 (field, sym (ap is_some (same.at (place_of key field) dot)) ∙ h),
+  )
+
+  anywhere_same : (dot : Dot) → IsTrue (has (ids (shown_anywhere S)) dot) ↔ IsAnywhere p dot
+  anywhere_same dot = (
+    λ h. let stands = (dots_anywhere S dot).0 h in (stands.0, ap is_some (same.at stands.0 dot) ∙ stands.1),
+    λ (place, h). (dots_anywhere S dot).1 (place, sym (ap is_some (same.at place dot)) ∙ h),
+  )
+
+  -- an erasure of just the dots that are as P says, made at the state and at the set
+  erasure_made : (P : Dot → Type 0) (over ds : List Dot) → ((dot : Dot) → IsTrue (has over dot) ↔ P dot) → ((dot : Dot) → IsTrue (has ds dot) ↔ P dot) →
+      Same (state (erasure over)) (state (erasure ds))
+  erasure_made P over ds m n =
+      erasure-same over ds (λ dot. both_ways (has over dot) (has ds dot) (λ h. (n dot).1 ((m dot).0 h)) (λ h. (m dot).1 ((n dot).0 h)))
+
+  -- what a put, a remove of a key, a remove of a field and a clear made at the state stand for
+  pub put_made : (name : ℕ) (place : Place) (value : List ℕ) (w : Write) → IsPutAt p name place value w → Same (state (Wrote w ∷ [])) (state (put_at S name place value))
+  put_made name place value w m =
+      let v : Write = record { id = dot_at S name; place = place; value = value; over = ids (shown S place) } in
       let id : w.id ≡ v.id = IsNext-one name (has (known S)) w.id v.id (IsNext-same name p.has (has (known S)) w.id same.has m.id) (next-IsNext name (known S)) in
-      write-same w v id m.same_key m.same_value (λ dot. m.over dot ∙ ap is_some (same.at key dot) ∙ sym (dots_standing S key dot))
+      write-same w v id m.same_place m.same_value (λ dot. m.over dot ∙ standing_same place dot)
+
+  pub field_remove_made : (place : Place) (over : List Dot) → IsFieldRemoveAt p place over → Same (state (erasure over)) (state (remove_field_at S place))
+  field_remove_made place over m = erasure-same over (ids (shown S place)) (λ dot. m dot ∙ standing_same place dot)
 
   pub remove_made : (key : List ℕ) (over : List Dot) → IsRemoveAt p key over → Same (state (erasure over)) (state (remove_at S key))
-  remove_made key over m = erasure-same over (ids (shown S key)) (λ dot. m dot ∙ ap is_some (same.at key dot) ∙ sym (dots_standing S key dot))
-
-  anywhere_same : (dot : Dot) → StandsAnywhere p dot ↔ StandsAnywhere (state S) dot
-  anywhere_same dot = (λ (key, h). (key, sym (ap is_some (same.at key dot)) ∙ h), λ (key, h). (key, ap is_some (same.at key dot) ∙ h))
+  remove_made key over m = erasure_made (IsWithin p key) over (ids (shown_within S key)) m (within_same key)
 
   pub clear_made : (over : List Dot) → IsClearAt p over → Same (state (erasure over)) (state (clear_at S))
-  clear_made over m =
-      erasure-same over (ids (shown_anywhere S)) (λ dot.
-      both_ways (has over dot) (has (ids (shown_anywhere S)) dot)
-      (λ h. (dots_anywhere S dot).1 ((anywhere_same dot).0 ((m dot).0 h)))
-      (λ h. (m dot).1 ((anywhere_same dot).1 ((dots_anywhere S dot).0 h))))
+  clear_made over m = erasure_made (IsAnywhere p) over (ids (shown_anywhere S)) m anywhere_same
 
   -- and there is one: what is made at the set is made at the state
-  pub put_there : (name : ℕ) (key value : List ℕ) → IsPutAt p name key value (write_at S name key value)
-  put_there name key value = record {
+  pub put_there : (name : ℕ) (place : Place) (value : List ℕ) → IsPutAt p name place value (write_at S name place value)
+  put_there name place value = record {
     id = IsNext-same name (has (known S)) p.has (dot_at S name) (λ dot. sym (same.has dot)) (next-IsNext name (known S));
-    same_key = refl;
+    same_place = refl;
     same_value = refl;
-    over = λ dot. dots_standing S key dot ∙ sym (ap is_some (same.at key dot));
+    over = λ dot. sym (standing_same place dot);
   }
 
-  pub remove_there : (key : List ℕ) → IsRemoveAt p key (ids (shown S key))
-  remove_there key dot = dots_standing S key dot ∙ sym (ap is_some (same.at key dot))
+  pub field_remove_there : (place : Place) → IsFieldRemoveAt p place (ids (shown S place))
+  field_remove_there place dot = sym (standing_same place dot)
+
+  pub remove_there : (key : List ℕ) → IsRemoveAt p key (ids (shown_within S key))
+  remove_there = within_same
 
   pub clear_there : IsClearAt p (ids (shown_anywhere S))
-  clear_there dot = (λ h. (anywhere_same dot).1 ((dots_anywhere S dot).0 h), λ h. (dots_anywhere S dot).1 ((anywhere_same dot).0 h))
+  clear_there = anywhere_same
 
   -- the dot of a put, and the counts
   pub put_dot : (name : ℕ) (dot : Dot) → IsNext name p.has dot → dot ≡ dot_at S name
   put_dot name dot m = IsNext-one name (has (known S)) dot (dot_at S name) (IsNext-same name p.has (has (known S)) dot same.has m) (next-IsNext name (known S))
 
-  pub remove_count : (key : List ℕ) (n : ℕ) → Counts (λ dot. IsSome (p.at key dot)) n → n ≡ removed_at S key
-  remove_count key n c =
-      counted (λ dot. IsSome (p.at key dot)) (ids (shown S key)) n c
-      (λ dot. (λ h. ap is_some (same.at key dot) ∙ sym (dots_standing S key dot) ∙ h, λ h. dots_standing S key dot ∙ sym (ap is_some (same.at key dot)) ∙ h))
+  pub field_remove_count : (place : Place) (n : ℕ) → Counts (λ dot. IsSome (p.at place dot)) n → n ≡ field_removed_at S place
+  field_remove_count place n c =
+      counted (λ dot. IsSome (p.at place dot)) (ids (shown S place)) n c
+      (λ dot. (λ h. standing_same place dot ∙ h, λ h. sym (standing_same place dot) ∙ h))
 
-  pub clear_count : (n : ℕ) → Counts (StandsAnywhere p) n → n ≡ cleared_at S
-  clear_count n c =
-      counted (StandsAnywhere p) (ids (shown_anywhere S)) n c
-      (λ dot. (λ h. (anywhere_same dot).1 ((dots_anywhere S dot).0 h), λ h. (dots_anywhere S dot).1 ((anywhere_same dot).0 h)))
+  pub remove_count : (key : List ℕ) (n : ℕ) → Counts (IsWithin p key) n → n ≡ removed_at S key
+  remove_count key n c = counted (IsWithin p key) (ids (shown_within S key)) n c (within_same key)
+
+  pub clear_count : (n : ℕ) → Counts (IsAnywhere p) n → n ≡ cleared_at S
+  clear_count n c = counted (IsAnywhere p) (ids (shown_anywhere S)) n c anywhere_same

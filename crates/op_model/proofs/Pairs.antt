@@ -5,16 +5,16 @@ use Rattle.std.proofs.lemmas.List.{get_or_append_left, get_or_push}
 use Rattle.std.specs.Prelude.{◌==◌}
 use Rattle.std.proofs.lemmas.Bool.{ne_eqb}
 use Rattle.std.proofs.lemmas.List.Elements.{Contains-append_right}
-use Rattle.op_model.specs.State.{State, join, Same}
+use Rattle.op_model.specs.State.{join, Same}
 use Rattle.op_model.specs.Operation.{Operation, NoReuse, IsPartOf}
-use Rattle.op_model.specs.Meaning.{greater, state}
+use Rattle.op_model.specs.Meaning.{MapState, greater, state}
 use Rattle.op_model.specs.World.{World, IsSound, Means, message, grown, emptied, sent, makes, learns}
 use Rattle.op_model.proofs.Joins.{join-same, same-chain}
 use Rattle.op_model.proofs.Union.{join-states}
 use Rattle.op_model.proofs.Fresh.{IsNew, sound-makes, NoReuse-part, part_both, part_left}
 
 -- two pairs that mean two sets of one whole: their join means the union
-pub joins : (S T whole : List Operation) (p q : State (List ℕ) (List ℕ)) → NoReuse whole → IsPartOf S whole → IsPartOf T whole → Same p (state S) → Same q (state T) →
+pub joins : (S T whole : List Operation) (p q : MapState) → NoReuse whole → IsPartOf S whole → IsPartOf T whole → Same p (state S) → Same q (state T) →
     Same (join greater p q) (state (S ++ T))
 joins S T whole p q r here there left right =
     same-chain (join greater p q) (join greater (state S) (state T)) (state (S ++ T))
@@ -34,7 +34,7 @@ emptied-here name S = ap (λ b. emptied b S) (eq-eqb name name refl)
 pub emptied-there : (n name : ℕ) (S : List Operation) → n ≢ name → emptied (n == name) S ≡ S
 emptied-there n name S apart = ap (λ b. emptied b S) (ne_eqb n name apart)
 
-means : (p : State (List ℕ) (List ℕ)) (S T : List Operation) → S ≡ T → Same p (state T) → Same p (state S)
+means : (p : MapState) (S T : List Operation) → S ≡ T → Same p (state T) → Same p (state S)
 means p S T e h = let P : List Operation → Type 0 = λ U. Same p (state U) in subst P (sym e) h
 
 -- the live pair and the group of a replica that makes operations, from its own and a delta that means these
@@ -48,18 +48,18 @@ module _ (w : World) (sound : IsSound w) (name : ℕ) (more : List Operation) (n
   part_more : IsPartOf more (w.made ++ more)
   part_more = λ o h. Contains-append_right w.made more o h
 
-  pub makes_live : (p d : State (List ℕ) (List ℕ)) → Same p (state (w.seen name)) → Same d (state more) → Same (join greater p d) (state ((makes name more w).seen name))
+  pub makes_live : (p d : MapState) → Same p (state (w.seen name)) → Same d (state more) → Same (join greater p d) (state ((makes name more w).seen name))
   makes_live p d live delta =
       means (join greater p d) ((makes name more w).seen name) (w.seen name ++ more) (grown-here name (w.seen name) more)
       (joins (w.seen name) more (w.made ++ more) p d (sound-makes w name more sound new).no_reuse part_seen part_more live delta)
 
-  pub makes_group : (g d : State (List ℕ) (List ℕ)) → Same g (state (w.outgoing name)) → Same d (state more) → Same (join greater g d) (state ((makes name more w).outgoing name))
+  pub makes_group : (g d : MapState) → Same g (state (w.outgoing name)) → Same d (state more) → Same (join greater g d) (state ((makes name more w).outgoing name))
   makes_group g d group delta =
       means (join greater g d) ((makes name more w).outgoing name) (w.outgoing name ++ more) (grown-here name (w.outgoing name) more)
       (joins (w.outgoing name) more (w.made ++ more) g d (sound-makes w name more sound new).no_reuse part_outgoing part_more group delta)
 
 -- the live pair of a replica that learns a part of what was made
-pub learns_live : (w : World) → IsSound w → (name : ℕ) (more : List Operation) → IsPartOf more w.made → (p d : State (List ℕ) (List ℕ)) →
+pub learns_live : (w : World) → IsSound w → (name : ℕ) (more : List Operation) → IsPartOf more w.made → (p d : MapState) →
     Same p (state (w.seen name)) → Same d (state more) → Same (join greater p d) (state ((learns name more w).seen name))
 learns_live w sound name more part p d live delta =
     means (join greater p d) ((learns name more w).seen name) (w.seen name ++ more) (grown-here name (w.seen name) more)
@@ -78,7 +78,7 @@ sent-some [] h = absurd (h refl)
 sent-some (o ∷ S) h = refl
 
 -- pairs that are the same mean the same
-pub means-same : (p q g h : State (List ℕ) (List ℕ)) (w : World) (name : ℕ) → Same q p → Same h g → Means p g w name → Means q h w name
+pub means-same : (p q g h : MapState) (w : World) (name : ℕ) → Same q p → Same h g → Means p g w name → Means q h w name
 means-same p q g h w name live group means = record {
   seen = same-chain q p (state (w.seen name)) live means.seen;
   outgoing = same-chain h g (state (w.outgoing name)) group means.outgoing;

@@ -139,6 +139,6 @@ shown_same S T same test w h =
 
 pub state-same : (S T : List Operation) → IsSameSet S T → Same (state S) (state T)
 state-same S T same = record {
-  at = λ key dot. value_under-same dot (shown S key) (shown T key) (shown_same S T same (is_on key)) (shown_same T S (record { there = same.back; back = same.there }) (is_on key));
+  at = λ place dot. value_under-same dot (shown S place) (shown T place) (shown_same S T same (is_on place)) (shown_same T S (record { there = same.back; back = same.there }) (is_on place));
   has = λ dot. both_ways (has (known S) dot) (has (known T) dot) (known_part S T same.there dot) (known_part T S same.back dot);
 }

@@ -9,7 +9,9 @@ use Rattle.dots.specs.Dot.{same_dot}
 use Rattle.op_model.specs.State.{joined, join, Same}
 use Rattle.op_model.specs.Operation.{Write, Operation, Wrote, Erased, writes, observed, ids, has, NoReuse}
 use Rattle.std.specs.Ordering.{is_lt}
-use Rattle.op_model.specs.Shown.{is_on, bytes_cmp}
+use Rattle.dots.specs.Bytes.{bytes_cmp}
+use Rattle.op_model.specs.Place.{Place}
+use Rattle.op_model.specs.Shown.{is_on}
 use Rattle.op_model.specs.Meaning.{greater, greater_if, value_under, state}
 use Rattle.op_model.proofs.Greater.{greater-assoc}
 use Rattle.op_model.proofs.Dots.{same_dot-true, same_dot-self, has-append, from_has}
@@ -77,9 +79,9 @@ hidden ds test dot (w ∷ ws) =
     (λ same. ap (has ds) (same_dot-true w.id dot same)) (hidden ds test dot ws)
     ∙ sym (ap (cond (has ds dot) None) (under_cond dot (test w) w (filter test ws)))
 
--- what stands at a key and dot
-pub at-state : (S : List Operation) (key : List ℕ) (dot : Dot) → (state S).at key dot ≡ cond (has (observed S) dot) None (value_under dot (filter (is_on key) (writes S)))
-at-state S key dot = hidden (observed S) (is_on key) dot (writes S)
+-- what stands at a place and dot
+pub at-state : (S : List Operation) (place : Place) (dot : Dot) → (state S).at place dot ≡ cond (has (observed S) dot) None (value_under dot (filter (is_on place) (writes S)))
+at-state S place dot = hidden (observed S) (is_on place) dot (writes S)
 
 pub has-state : (S : List Operation) (dot : Dot) → (state S).has dot ≡ (has (ids (writes S)) dot || has (observed S) dot)
 has-state S dot = has-append (ids (writes S)) (observed S) dot
@@ -119,7 +121,7 @@ stands_under dot (v ∷ ws) w h same none =
       | inr t ↦ stands_under dot ws w t same parts.1
     ]
 
--- the union at one key and dot: i and j say whether the sides wrote the dot, r and s whether they had observed it
+-- the union at one place and dot: i and j say whether the sides wrote the dot, r and s whether they had observed it
 union_at : (a b : Option (List ℕ)) (i j r s : Bool) →
     ((x : List ℕ) → a ≡ Some x → j ≡ true → b ≡ None → ⊥) → ((y : List ℕ) → b ≡ Some y → i ≡ true → a ≡ None → ⊥) →
     joined greater (cond r None a) (i || r) (cond s None b) (j || s) ≡ cond (r || s) None (best a b)
@@ -152,27 +154,27 @@ ids_either S T dot = ap (λ ws. has (ids ws) dot) (writes-append S T) ∙ ap (λ
 observed_either : (S T : List Operation) (dot : Dot) → has (observed (S ++ T)) dot ≡ (has (observed S) dot || has (observed T) dot)
 observed_either S T dot = ap (λ ds. has ds dot) (observed-append S T) ∙ has-append (observed S) (observed T) dot
 
--- what the union wrote on the key, and observed
-union_written : (S T : List Operation) (key : List ℕ) (dot : Dot) →
-    cond (has (observed (S ++ T)) dot) None (value_under dot (filter (is_on key) (writes (S ++ T))))
-    ≡ cond (has (observed S) dot || has (observed T) dot) None (best (value_under dot (filter (is_on key) (writes S))) (value_under dot (filter (is_on key) (writes T))))
-union_written S T key dot =
-    let both : value_under dot (filter (is_on key) (writes (S ++ T))) ≡ best (value_under dot (filter (is_on key) (writes S))) (value_under dot (filter (is_on key) (writes T))) =
-    ap (λ ws. value_under dot (filter (is_on key) ws)) (writes-append S T)
-    ∙ ap (value_under dot) (filter-append (is_on key) (writes S) (writes T))
-    ∙ value_under-append dot (filter (is_on key) (writes S)) (filter (is_on key) (writes T)) in
+-- what the union wrote at the place, and observed
+union_written : (S T : List Operation) (place : Place) (dot : Dot) →
+    cond (has (observed (S ++ T)) dot) None (value_under dot (filter (is_on place) (writes (S ++ T))))
+    ≡ cond (has (observed S) dot || has (observed T) dot) None (best (value_under dot (filter (is_on place) (writes S))) (value_under dot (filter (is_on place) (writes T))))
+union_written S T place dot =
+    let both : value_under dot (filter (is_on place) (writes (S ++ T))) ≡ best (value_under dot (filter (is_on place) (writes S))) (value_under dot (filter (is_on place) (writes T))) =
+    ap (λ ws. value_under dot (filter (is_on place) ws)) (writes-append S T)
+    ∙ ap (value_under dot) (filter-append (is_on place) (writes S) (writes T))
+    ∙ value_under-append dot (filter (is_on place) (writes S)) (filter (is_on place) (writes T)) in
     λ k. cond (observed_either S T dot k) None (both k)
 
--- a write on the key that the first set has, under a dot that the second wrote: it is the second's too
-shared : (S T : List Operation) (key : List ℕ) (dot : Dot) (x : List ℕ) → ((v w : Write) → Contains (writes S) v → Contains (writes T) w → v.id ≡ w.id → v ≡ w) →
-    value_under dot (filter (is_on key) (writes S)) ≡ Some x → has (ids (writes T)) dot ≡ true → value_under dot (filter (is_on key) (writes T)) ≡ None → ⊥
-shared S T key dot x agree e known_there none =
-    let found = found_under dot (filter (is_on key) (writes S)) x e in
-    let here = from_filter (is_on key) (writes S) found.0 found.1 in
+-- a write at the place that the first set has, under a dot that the second wrote: it is the second's too
+shared : (S T : List Operation) (place : Place) (dot : Dot) (x : List ℕ) → ((v w : Write) → Contains (writes S) v → Contains (writes T) w → v.id ≡ w.id → v ≡ w) →
+    value_under dot (filter (is_on place) (writes S)) ≡ Some x → has (ids (writes T)) dot ≡ true → value_under dot (filter (is_on place) (writes T)) ≡ None → ⊥
+shared S T place dot x agree e known_there none =
+    let found = found_under dot (filter (is_on place) (writes S)) x e in
+    let here = from_filter (is_on place) (writes S) found.0 found.1 in
     let there = from_map (λ w. w.id) (writes T) dot (from_has (ids (writes T)) dot known_there) in
     let same : found.0 ≡ there.0 = agree found.0 there.0 here.0 there.1 (found.2 ∙ sym there.2) in
-    stands_under dot (filter (is_on key) (writes T)) there.0
-    (in_filter (is_on key) (writes T) there.0 there.1 (sym (ap (is_on key) same) ∙ here.1)) there.2 none
+    stands_under dot (filter (is_on place) (writes T)) there.0
+    (in_filter (is_on place) (writes T) there.0 there.1 (sym (ap (is_on place) same) ∙ here.1)) there.2 none
 
 regroup : (i j r s : Bool) → ((i || r) || (j || s)) ≡ ((i || j) || (r || s))
 regroup true j r s = refl
@@ -182,14 +184,14 @@ regroup false false r s = refl
 
 pub join-states : (S T : List Operation) → NoReuse (S ++ T) → Same (join greater (state S) (state T)) (state (S ++ T))
 join-states S T r = record {
-  at = λ key dot.
-      (λ k. joined greater (at-state S key dot k) (has-state S dot k) (at-state T key dot k) (has-state T dot k))
-      ∙ union_at (value_under dot (filter (is_on key) (writes S))) (value_under dot (filter (is_on key) (writes T)))
+  at = λ place dot.
+      (λ k. joined greater (at-state S place dot k) (has-state S dot k) (at-state T place dot k) (has-state T dot k))
+      ∙ union_at (value_under dot (filter (is_on place) (writes S))) (value_under dot (filter (is_on place) (writes T)))
       (has (ids (writes S)) dot) (has (ids (writes T)) dot) (has (observed S) dot) (has (observed T) dot)
-      (λ x e k n. shared S T key dot x (λ v w h g. r.one_write v w (in_writes_left S T v h) (in_writes_right S T w g)) e k n)
-      (λ x e k n. shared T S key dot x (λ v w h g. r.one_write v w (in_writes_right S T v h) (in_writes_left S T w g)) e k n)
-      ∙ sym (union_written S T key dot)
-      ∙ sym (at-state (S ++ T) key dot);
+      (λ x e k n. shared S T place dot x (λ v w h g. r.one_write v w (in_writes_left S T v h) (in_writes_right S T w g)) e k n)
+      (λ x e k n. shared T S place dot x (λ v w h g. r.one_write v w (in_writes_right S T v h) (in_writes_left S T w g)) e k n)
+      ∙ sym (union_written S T place dot)
+      ∙ sym (at-state (S ++ T) place dot);
   has = λ dot.
       (λ k. has-state S dot k || has-state T dot k)
       ∙ regroup (has (ids (writes S)) dot) (has (ids (writes T)) dot) (has (observed S) dot) (has (observed T) dot)

@@ -1,6 +1,7 @@
 pub mod State
 pub mod Life
-pub mod Places
+pub mod Place
+pub mod Reading
 pub mod Operation
 pub mod Shown
 pub mod Meaning

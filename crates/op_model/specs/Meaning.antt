@@ -1,5 +1,5 @@
 -- The state that stands for a set of operations, after Almeida, Shoker and Baquero, "Delta State Replicated Data
--- Types" (2018): a dot store in which each key holds its shown writes' values by their dots, with all
+-- Types" (2018): a dot store in which each place holds its shown writes' values by their dots, with all
 -- known dots as its context.
 -- Example: {1:1 puts x on a}, {an erasure that observed 1:1} has the state in which nothing stands, and 1:1 is
 -- known.
@@ -9,7 +9,9 @@ use Rattle.dots.specs.declared.dot.Dot.{Dot}
 use Rattle.dots.specs.Dot.{same_dot}
 use Rattle.op_model.specs.State.{State}
 use Rattle.op_model.specs.Operation.{Write, Operation, known, has}
-use Rattle.op_model.specs.Shown.{shown, bytes_cmp}
+use Rattle.dots.specs.Bytes.{bytes_cmp}
+use Rattle.op_model.specs.Place.{Place, place_of}
+use Rattle.op_model.specs.Shown.{shown}
 
 -- the greater of two values by bytes
 abbrev pub greater : List ℕ → List ℕ → List ℕ
@@ -26,14 +28,26 @@ abbrev pub value_under : Dot → List Write → Option (List ℕ)
 value_under dot [] = None
 value_under dot (w ∷ ws) = greater_if (same_dot w.id dot) w.value (value_under dot ws)
 
+-- the states of the map: what stands at each key and field, by dots
+abbrev pub MapState : Type 0
+MapState = State Place (List ℕ)
+
 -- the state that stands for a set of operations
-abbrev pub state : List Operation → State (List ℕ) (List ℕ)
-state S = record { at = λ key dot. value_under dot (shown S key); has = has (known S) }
+abbrev pub state : List Operation → MapState
+state S = record { at = λ place dot. value_under dot (shown S place); has = has (known S) }
 
--- the value stands at the key, under some dot
-abbrev pub Stands : State (List ℕ) (List ℕ) → List ℕ → List ℕ → Type 0
-Stands p key value = (dot : Dot) × (p.at key dot ≡ Some value)
+-- the value stands at the place, under some dot
+abbrev pub Stands : MapState → Place → List ℕ → Type 0
+Stands p place value = (dot : Dot) × (p.at place dot ≡ Some value)
 
--- something stands at the key
-abbrev pub HoldsKey : State (List ℕ) (List ℕ) → List ℕ → Type 0
-HoldsKey p key = (dot : Dot) × IsSome (p.at key dot)
+-- the value stands at some field of the key
+abbrev pub StandsWithin : MapState → List ℕ → List ℕ → Type 0
+StandsWithin p key value = (field : List ℕ) × Stands p (place_of key field) value
+
+-- something stands at the field of the key
+abbrev pub HoldsField : MapState → List ℕ → List ℕ → Type 0
+HoldsField p key field = (dot : Dot) × IsSome (p.at (place_of key field) dot)
+
+-- something stands at some field of the key
+abbrev pub HoldsKey : MapState → List ℕ → Type 0
+HoldsKey p key = (field : List ℕ) × HoldsField p key field

@@ -4,15 +4,16 @@
 --
 -- A set of operations is a list of them; two lists with the same members are the same set.
 -- Example: replica 1 puts x on a under the dot 1:1, and replica 2, which has seen that, puts y there under 2:1:
---   Wrote {1:1, a, x, observed nothing} and Wrote {2:1, a, y, observed 1:1}.
+--   Wrote {1:1, a, x, observed nothing} and Wrote {2:1, a, y, observed 1:1}, a being the place of key a and the empty field.
 use Rattle.std.specs.Prelude.{◌≡◌, ℕ, List, [], ◌∷◌, ◌++◌, map, Bool, false, ◌||◌, ◌⊎◌, IsTrue, Contains}
 use Rattle.dots.specs.declared.dot.Dot.{Dot}
 use Rattle.dots.specs.Dot.{same_dot}
+use Rattle.op_model.specs.Place.{Place}
 
--- a value put on a key under a new dot, with the dots that it observed
+-- a value put at a place under a new dot, with the dots that it observed
 pub record Write : Type 0 where
   pub id : Dot
-  pub key : List ℕ
+  pub place : Place
   pub value : List ℕ
   pub over : List Dot
 

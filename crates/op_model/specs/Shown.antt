@@ -6,19 +6,17 @@
 use Rattle.std.specs.Prelude.{◌≡◌, ℕ, List, [], ◌∷◌, map, filter, length, AllPairs, Contains, IsFalse, Bool, true, not, ◌&&◌}
 use Rattle.std.specs.declared.cmp.Ordering.{Ordering}
 use Rattle.std.specs.declared.cmp.Ordering.TheVariants.{Less, Equal, Greater}
-use Rattle.std.specs.Ordering.{nat_cmp, eq_by_cmp}
-use Rattle.std.specs.Cmp.Lexicographic.{slice_cmp}
+use Rattle.dots.specs.Bytes.{bytes_cmp}
+use Rattle.op_model.specs.Place.{Place, same_bytes, same_place}
 use Rattle.op_model.specs.Operation.{Write, Operation, Wrote, writes, observed, over_of, has}
 
--- the order of keys and values, by bytes
-abbrev pub bytes_cmp : List ℕ → List ℕ → Ordering
-bytes_cmp = slice_cmp nat_cmp
+-- whether the write is one at this place, at any field of this key, and anywhere
+abbrev pub is_on : Place → Write → Bool
+is_on place w = same_place w.place place
 
--- whether the write is one on this key
-abbrev pub is_on : List ℕ → Write → Bool
-is_on key w = eq_by_cmp bytes_cmp w.key key
+abbrev pub is_within : List ℕ → Write → Bool
+is_within key w = same_bytes w.place.key key
 
--- whether the write is on any key
 abbrev pub is_anywhere : Write → Bool
 is_anywhere w = true
 
@@ -26,18 +24,22 @@ is_anywhere w = true
 abbrev pub shown_where : List Operation → (Write → Bool) → List Write
 shown_where S test = filter (λ w. test w && not (has (observed S) w.id)) (writes S)
 
--- the writes shown on a key
-abbrev pub shown : List Operation → List ℕ → List Write
-shown S key = shown_where S (is_on key)
+-- the writes shown at a place
+abbrev pub shown : List Operation → Place → List Write
+shown S place = shown_where S (is_on place)
 
--- the writes shown on any key
+-- the writes shown at any field of a key
+abbrev pub shown_within : List Operation → List ℕ → List Write
+shown_within S key = shown_where S (is_within key)
+
+-- the writes shown anywhere
 abbrev pub shown_anywhere : List Operation → List Write
 shown_anywhere S = shown_where S is_anywhere
 
--- The same in words: the write is one of the set, is on the key, and no operation of the set had observed it.
-pub record IsShown (S : List Operation) (key : List ℕ) (w : Write) : Type 0 where
+-- The same in words: the write is one of the set, is at the place, and no operation of the set had observed it.
+pub record IsShown (S : List Operation) (place : Place) (w : Write) : Type 0 where
   pub written : Contains S (Wrote w)
-  pub there : w.key ≡ key
+  pub there : w.place ≡ place
   pub unobserved : (o : Operation) → Contains S o → IsFalse (has (over_of o) w.id)
 
 -- the list of these, ascending by bytes and each once, with x at its place: x stands to y as the order says
@@ -60,13 +62,21 @@ ascending (x ∷ xs) = with_one x (ascending xs)
 abbrev pub IsAscending : List (List ℕ) → Type 0
 IsAscending xs = AllPairs (λ x y. bytes_cmp x y ≡ Less) xs
 
--- the values that a key shows
-abbrev pub values : List Operation → List ℕ → List (List ℕ)
-values S key = ascending (map (λ w. w.value) (shown S key))
+-- the values that a place shows
+abbrev pub values : List Operation → Place → List (List ℕ)
+values S place = ascending (map (λ w. w.value) (shown S place))
 
--- the keys that show a value
+-- the values that a key shows, over all its fields
+abbrev pub values_of_key : List Operation → List ℕ → List (List ℕ)
+values_of_key S key = ascending (map (λ w. w.value) (shown_within S key))
+
+-- the fields of a key that show a value
+abbrev pub fields : List Operation → List ℕ → List (List ℕ)
+fields S key = ascending (map (λ w. w.place.field) (shown_within S key))
+
+-- the keys that show a value, at some field
 abbrev pub keys : List Operation → List (List ℕ)
-keys S = ascending (map (λ w. w.key) (shown_anywhere S))
+keys S = ascending (map (λ w. w.place.key) (shown_anywhere S))
 
 -- the number of keys that show a value
 abbrev pub size : List Operation → ℕ

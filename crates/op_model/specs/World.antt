@@ -7,9 +7,10 @@
 -- message 1 carries it.
 use Rattle.std.specs.Prelude.{ℕ, zero, suc, ◌==◌, ◌||◌, List, [], ◌∷◌, ◌++◌, length, fold, slice_index_or, nat_le, ◌≡◌, ◌&&◌, Bool, true, false, Contains}
 use Rattle.op_model.specs.Operation.{Write, Operation, Erased, writes, NoReuse, IsPartOf}
-use Rattle.op_model.specs.State.{State, Same}
-use Rattle.op_model.specs.Meaning.{state}
-use Rattle.op_model.specs.Made.{put_at, remove_at, clear_at}
+use Rattle.op_model.specs.Place.{Place}
+use Rattle.op_model.specs.State.{Same}
+use Rattle.op_model.specs.Meaning.{MapState, state}
+use Rattle.op_model.specs.Made.{put_at, remove_at, remove_field_at, clear_at}
 
 pub record World : Type 0 where
   pub nodes : List ℕ  -- the names of the replicas that are there
@@ -81,8 +82,9 @@ learns name more w = record w { seen = λ n. grown (n == name) (w.seen n) more }
 -- the events of a world
 pub data Event : Type 0 where
   Node : ℕ → Event  -- a replica of this name
-  Put : ℕ → List ℕ → List ℕ → Event  -- at a name, a key and a value
-  Remove : ℕ → List ℕ → Event  -- at a name, a key
+  Put : ℕ → Place → List ℕ → Event  -- at a name, a place and a value; a put that names no field is one at the empty field
+  Remove : ℕ → List ℕ → Event  -- at a name, a key with all its fields
+  RemoveField : ℕ → Place → Event  -- at a name, a place
   Clear : ℕ → Event  -- at a name
   Flush : ℕ → Event  -- at a name: send what is to be sent
   Deliver : ℕ → ℕ → Event  -- of a message, at a name
@@ -90,8 +92,9 @@ pub data Event : Type 0 where
 -- the world after an event
 abbrev pub happens : World → Event → World
 happens w (Node name) = record w { nodes = w.nodes ++ name ∷ [] }
-happens w (Put name key value) = makes name (put_at (w.seen name) name key value) w
+happens w (Put name place value) = makes name (put_at (w.seen name) name place value) w
 happens w (Remove name key) = makes name (remove_at (w.seen name) key) w
+happens w (RemoveField name place) = makes name (remove_field_at (w.seen name) place) w
 happens w (Clear name) = makes name (clear_at (w.seen name)) w
 happens w (Flush name) = sends name w
 happens w (Deliver number name) = learns name (message w.messages number) w
@@ -111,15 +114,16 @@ pub record IsSound (w : World) : Type 0 where
   pub no_reuse : NoReuse w.made
 
 -- a live pair and a group mean what the replica of this name has seen, and what it is to send
-pub record Means (live group : State (List ℕ) (List ℕ)) (w : World) (name : ℕ) : Type 0 where
+pub record Means (live group : MapState) (w : World) (name : ℕ) : Type 0 where
   pub seen : Same live (state (w.seen name))
   pub outgoing : Same group (state (w.outgoing name))
 
 -- the name of the replica at which an event happens
 abbrev pub replica_of : Event → ℕ
 replica_of (Node name) = name
-replica_of (Put name key value) = name
+replica_of (Put name place value) = name
 replica_of (Remove name key) = name
+replica_of (RemoveField name place) = name
 replica_of (Clear name) = name
 replica_of (Flush name) = name
 replica_of (Deliver number name) = name

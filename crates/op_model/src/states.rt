@@ -5,8 +5,8 @@ ghost use Rattle.dots.specs.declared.dot.Dot.{Dot};
 ghost use Rattle.op_model.specs.State.{State, join, Same};
 ghost use Rattle.op_model.specs.Life.{life, later};
 ghost use Rattle.op_model.specs.Meaning.{greater};
-ghost use Rattle.op_model.specs.Places.{read_at};
-ghost use Rattle.op_model.specs.Shown.{bytes_cmp};
+ghost use Rattle.op_model.specs.Reading.{read_at};
+ghost use Rattle.dots.specs.Bytes.{bytes_cmp};
 ghost use Rattle.std.specs.Ordering.{eq_by_cmp, ord_max};
 
 use dots::{Key, Value};

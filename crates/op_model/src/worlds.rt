@@ -2,12 +2,13 @@
 
 ghost use Rattle.std.specs.Prelude.{◌≡◌, ◌≢◌, ◌↔◌, ◌++◌, ◌∷◌, [], ◌+◌, ◌≤◌, ◌==◌, ◌||◌, ℕ, List, false, length, Contains};
 ghost use Rattle.dots.specs.declared.dot.Dot.{Dot};
-ghost use Rattle.op_model.specs.State.{State, join, Same};
+ghost use Rattle.op_model.specs.Place.{Place};
+ghost use Rattle.op_model.specs.State.{join, Same};
 ghost use Rattle.op_model.specs.Operation.{Write, Operation, Wrote, NoReuse, IsPartOf, has, known};
-ghost use Rattle.op_model.specs.Shown.{values, keys, IsAscending};
-ghost use Rattle.op_model.specs.Meaning.{greater, state, Stands, HoldsKey};
-ghost use Rattle.op_model.specs.Made.{put_at, erasure, remove_at, clear_at, IsPutAt, IsRemoveAt, IsClearAt};
-ghost use Rattle.op_model.specs.World.{Event, Node, Put, Remove, Clear, Flush, Deliver, World, is_node, message, happens, after};
+ghost use Rattle.op_model.specs.Shown.{values, values_of_key, fields, keys, IsAscending};
+ghost use Rattle.op_model.specs.Meaning.{MapState, greater, state, Stands, StandsWithin, HoldsField, HoldsKey};
+ghost use Rattle.op_model.specs.Made.{put_at, erasure, remove_at, remove_field_at, clear_at, IsPutAt, IsRemoveAt, IsFieldRemoveAt, IsClearAt};
+ghost use Rattle.op_model.specs.World.{Event, Node, Put, Remove, RemoveField, Clear, Flush, Deliver, World, is_node, message, happens, after};
 ghost use Rattle.op_model.specs.World.{makes, sends, shows, learns};
 ghost use Rattle.op_model.specs.World.{IsSound, Means, IsUntouched, replica_of};
 
@@ -22,37 +23,47 @@ pub fn ids_are_fresh()
 /// A live pair and a group that mean what a replica has seen and is to send mean it again after a put, where both were
 /// joined with the delta of the operation made, at the set or at the live pair.
 pub fn puts()
-    ensures at_set { (events : List Event) (name : ℕ) (p g d : State (List ℕ) (List ℕ)) (key value : List ℕ) →
-        Means p g (after events) name → Same d (state (put_at ((after events).seen name) name key value)) →
-        Means (join greater p d) (join greater g d) (after (events ++ Put name key value ∷ [])) name }
-    ensures at_pair { (events : List Event) (name : ℕ) (p g d : State (List ℕ) (List ℕ)) (key value : List ℕ) (w : Write) →
-        Means p g (after events) name → IsPutAt p name key value w → Same d (state (Wrote w ∷ [])) →
-        Means (join greater p d) (join greater g d) (after (events ++ Put name key value ∷ [])) name }
+    ensures at_set { (events : List Event) (name : ℕ) (p g d : MapState) (place : Place) (value : List ℕ) →
+        Means p g (after events) name → Same d (state (put_at ((after events).seen name) name place value)) →
+        Means (join greater p d) (join greater g d) (after (events ++ Put name place value ∷ [])) name }
+    ensures at_pair { (events : List Event) (name : ℕ) (p g d : MapState) (place : Place) (value : List ℕ) (w : Write) →
+        Means p g (after events) name → IsPutAt p name place value w → Same d (state (Wrote w ∷ [])) →
+        Means (join greater p d) (join greater g d) (after (events ++ Put name place value ∷ [])) name }
 {}
 
-/// The same after a remove.
+/// The same after a remove of a key.
 pub fn removes()
-    ensures at_set { (events : List Event) (name : ℕ) (p g d : State (List ℕ) (List ℕ)) (key : List ℕ) →
+    ensures at_set { (events : List Event) (name : ℕ) (p g d : MapState) (key : List ℕ) →
         Means p g (after events) name → Same d (state (remove_at ((after events).seen name) key)) →
         Means (join greater p d) (join greater g d) (after (events ++ Remove name key ∷ [])) name }
-    ensures at_pair { (events : List Event) (name : ℕ) (p g d : State (List ℕ) (List ℕ)) (key : List ℕ) (over : List Dot) →
+    ensures at_pair { (events : List Event) (name : ℕ) (p g d : MapState) (key : List ℕ) (over : List Dot) →
         Means p g (after events) name → IsRemoveAt p key over → Same d (state (erasure over)) →
         Means (join greater p d) (join greater g d) (after (events ++ Remove name key ∷ [])) name }
 {}
 
+/// The same after a remove of a field.
+pub fn field_removes()
+    ensures at_set { (events : List Event) (name : ℕ) (p g d : MapState) (place : Place) →
+        Means p g (after events) name → Same d (state (remove_field_at ((after events).seen name) place)) →
+        Means (join greater p d) (join greater g d) (after (events ++ RemoveField name place ∷ [])) name }
+    ensures at_pair { (events : List Event) (name : ℕ) (p g d : MapState) (place : Place) (over : List Dot) →
+        Means p g (after events) name → IsFieldRemoveAt p place over → Same d (state (erasure over)) →
+        Means (join greater p d) (join greater g d) (after (events ++ RemoveField name place ∷ [])) name }
+{}
+
 /// The same after a clear.
 pub fn clears()
-    ensures at_set { (events : List Event) (name : ℕ) (p g d : State (List ℕ) (List ℕ)) →
+    ensures at_set { (events : List Event) (name : ℕ) (p g d : MapState) →
         Means p g (after events) name → Same d (state (clear_at ((after events).seen name))) →
         Means (join greater p d) (join greater g d) (after (events ++ Clear name ∷ [])) name }
-    ensures at_pair { (events : List Event) (name : ℕ) (p g d : State (List ℕ) (List ℕ)) (over : List Dot) →
+    ensures at_pair { (events : List Event) (name : ℕ) (p g d : MapState) (over : List Dot) →
         Means p g (after events) name → IsClearAt p over → Same d (state (erasure over)) →
         Means (join greater p d) (join greater g d) (after (events ++ Clear name ∷ [])) name }
 {}
 
 /// The same after a delivery, where the live pair alone was joined with a pair that means what the message carries.
 pub fn delivers()
-    ensures { (events : List Event) (name number : ℕ) (p g d : State (List ℕ) (List ℕ)) →
+    ensures { (events : List Event) (name number : ℕ) (p g d : MapState) →
         Means p g (after events) name → Same d (state (message (after events).messages number)) →
         Means (join greater p d) g (after (events ++ Deliver number name ∷ [])) name }
 {}
@@ -60,9 +71,9 @@ pub fn delivers()
 /// After a flush the live pair means the same, and an empty one means the group. A message was made exactly where
 /// the group knew some dot, and carries what the group meant.
 pub fn flushes()
-    ensures pairs { (events : List Event) (name : ℕ) (p g e : State (List ℕ) (List ℕ)) →
+    ensures pairs { (events : List Event) (name : ℕ) (p g e : MapState) →
         Means p g (after events) name → Same e (state []) → Means p e (after (events ++ Flush name ∷ [])) name }
-    ensures empty { (events : List Event) (name : ℕ) (p g : State (List ℕ) (List ℕ)) → Means p g (after events) name →
+    ensures empty { (events : List Event) (name : ℕ) (p g : MapState) → Means p g (after events) name →
         ((dot : Dot) → g.has dot ≡ false) ↔ ((after events).outgoing name ≡ []) }
     ensures message { (events : List Event) (name : ℕ) → (after events).outgoing name ≢ [] →
         (after (events ++ Flush name ∷ [])).messages ≡ (after events).messages ++ (after events).outgoing name ∷ [] }
@@ -75,26 +86,33 @@ pub fn flushes()
 pub fn nodes()
     ensures there { (events : List Event) (name n : ℕ) →
         is_node (after (events ++ Node name ∷ [])) n ≡ (is_node (after events) n || name == n) }
-    ensures pairs { (events : List Event) (name n : ℕ) (p g : State (List ℕ) (List ℕ)) →
+    ensures pairs { (events : List Event) (name n : ℕ) (p g : MapState) →
         Means p g (after events) n → Means p g (after (events ++ Node name ∷ [])) n }
 {}
 
-/// What a replica shows: of a live pair that means what it has seen, an ascending list of just the values that stand at
-/// a key is `values` of what it has seen, and one of just the keys at which something stands is its `keys`.
+/// What a replica shows, of a live pair that means what it has seen: an ascending list of just the values that stand at a
+/// place is `values` of what it has seen, one of just those that stand at any field of a key its `values_of_key`, one of
+/// just the fields of a key at which something stands its `fields`, and one of just such keys its `keys`.
 pub fn replicas_show()
-    ensures values { (events : List Event) (name : ℕ) (p g : State (List ℕ) (List ℕ)) (key : List ℕ) (found : List (List ℕ)) →
+    ensures values { (events : List Event) (name : ℕ) (p g : MapState) (place : Place) (found : List (List ℕ)) →
         Means p g (after events) name → IsAscending found →
-        ((value : List ℕ) → Contains found value ↔ Stands p key value) → found ≡ values ((after events).seen name) key }
-    ensures keys { (events : List Event) (name : ℕ) (p g : State (List ℕ) (List ℕ)) (found : List (List ℕ)) →
+        ((value : List ℕ) → Contains found value ↔ Stands p place value) → found ≡ values ((after events).seen name) place }
+    ensures values_of_key { (events : List Event) (name : ℕ) (p g : MapState) (key : List ℕ) (found : List (List ℕ)) →
+        Means p g (after events) name → IsAscending found →
+        ((value : List ℕ) → Contains found value ↔ StandsWithin p key value) → found ≡ values_of_key ((after events).seen name) key }
+    ensures fields { (events : List Event) (name : ℕ) (p g : MapState) (key : List ℕ) (found : List (List ℕ)) →
+        Means p g (after events) name → IsAscending found →
+        ((field : List ℕ) → Contains found field ↔ HoldsField p key field) → found ≡ fields ((after events).seen name) key }
+    ensures keys { (events : List Event) (name : ℕ) (p g : MapState) (found : List (List ℕ)) →
         Means p g (after events) name → IsAscending found →
         ((key : List ℕ) → Contains found key ↔ HoldsKey p key) → found ≡ keys ((after events).seen name) }
-    ensures known { (events : List Event) (name : ℕ) (p g : State (List ℕ) (List ℕ)) (dot : Dot) →
+    ensures known { (events : List Event) (name : ℕ) (p g : MapState) (dot : Dot) →
         Means p g (after events) name → p.has dot ≡ has (known ((after events).seen name)) dot }
 {}
 
 /// Pairs that are the same as others mean the same: the pairs of a program are known by what stands in them.
 pub fn same_pairs_mean_the_same()
-    ensures { (w : World) (name : ℕ) (p q g h : State (List ℕ) (List ℕ)) →
+    ensures { (w : World) (name : ℕ) (p q g h : MapState) →
         Same q p → Same h g → Means p g w name → Means q h w name }
 {}
 
@@ -103,7 +121,7 @@ pub fn events_elsewhere()
     ensures step { (events : List Event) (e : Event) → after (events ++ e ∷ []) ≡ happens (after events) e }
     ensures untouched { (events : List Event) (e : Event) (name : ℕ) → name ≢ replica_of e →
         IsUntouched (after events) (after (events ++ e ∷ [])) name }
-    ensures pairs { (events : List Event) (e : Event) (name : ℕ) (p g : State (List ℕ) (List ℕ)) → name ≢ replica_of e →
+    ensures pairs { (events : List Event) (e : Event) (name : ℕ) (p g : MapState) → name ≢ replica_of e →
         Means p g (after events) name → Means p g (after (events ++ e ∷ [])) name }
 {}
 
@@ -117,8 +135,8 @@ pub fn messages_stay()
 
 /// The four moves of which events are made keep any world sound, so that other events may be made of them.
 pub fn moves_are_sound()
-    ensures makes_a_write { (w : World) (name : ℕ) (key value : List ℕ) → IsSound w →
-        IsSound (makes name (put_at (w.seen name) name key value) w) }
+    ensures makes_a_write { (w : World) (name : ℕ) (place : Place) (value : List ℕ) → IsSound w →
+        IsSound (makes name (put_at (w.seen name) name place value) w) }
     ensures makes_an_erasure { (w : World) (name : ℕ) (over : List Dot) → IsSound w → IsSound (makes name (erasure over) w) }
     ensures sends { (w : World) (name : ℕ) → IsSound w → IsSound (sends name w) }
     ensures shows { (w : World) (name : ℕ) → IsSound w → IsSound (shows name w) }
@@ -128,7 +146,7 @@ pub fn moves_are_sound()
 /// A replica that learns a set that is part of what was made, from a pair that means it: the joined pair means what it
 /// has seen then. So for a delivery, and so for the end of a synchronisation.
 pub fn learns_a_set()
-    ensures { (w : World) (name : ℕ) (more : List Operation) (p g d : State (List ℕ) (List ℕ)) →
+    ensures { (w : World) (name : ℕ) (more : List Operation) (p g d : MapState) →
         IsSound w → IsPartOf more w.made → Means p g w name → Same d (state more) →
         Means (join greater p d) g (learns name more w) name }
 {}
