@@ -10,7 +10,7 @@ use Rattle.std.proofs.lemmas.List.Elements.{All-take, All-tail}
 use Rattle.std.proofs.lemmas.List.Sums.{fold_push}
 use Rattle.dots.specs.declared.refusal.Refusal.{Refusal}
 use Rattle.dots.specs.declared.refusal.Refusal.TheVariants.{ReadOnly}
-use Rattle.hash_path.specs.Word.{order}
+use Rattle.dots.specs.Bytes.{bytes_cmp}
 use Rattle.ctrie_api.specs.Trie.{Trie}
 use Rattle.ctrie_api.specs.Run.{changed_at, written, as_list, read_only, takes_no_write, acted, acted_all, is_refused, IsWriteAt}
 use Rattle.ctrie_api.specs.declared.act.Act.{Act}
@@ -60,10 +60,10 @@ module _ {X : Type 0} where
   get_append (x ∷ xs) ys (suc i) within = get_append xs ys i (omega (arith, within))
 
 module _ {H V : Type 0} where
-  written_marked : (change : finite.FinMap order V → finite.FinMap order V) (trie : Trie H V) → IsTrue trie.read_only → written change trie ≡ trie
+  written_marked : (change : finite.FinMap bytes_cmp V → finite.FinMap bytes_cmp V) (trie : Trie H V) → IsTrue trie.read_only → written change trie ≡ trie
   written_marked change trie marked = cond_on trie.read_only trie (record trie { map = change trie.map }) marked
 
-  stays_refused : (change : finite.FinMap order V → finite.FinMap order V) (found : Option (Trie H V)) → IsTrue (takes_no_write found) → IfSome found (λ trie. written change trie ≡ trie)
+  stays_refused : (change : finite.FinMap bytes_cmp V → finite.FinMap bytes_cmp V) (found : Option (Trie H V)) → IsTrue (takes_no_write found) → IfSome found (λ trie. written change trie ≡ trie)
   stays_refused change None marked = tt
   stays_refused change (Some trie) marked = written_marked change trie marked
 

@@ -6,7 +6,7 @@ use Rattle.std.proofs.lemmas.Option.{slice_get-get_or}
 use Rattle.std.proofs.lemmas.Bool.{false≢true}
 use Rattle.dots.specs.declared.refusal.Refusal.{Refusal}
 use Rattle.dots.specs.declared.refusal.Refusal.TheVariants.{OutOfMemory, ReadOnly}
-use Rattle.hash_path.specs.Word.{order}
+use Rattle.dots.specs.Bytes.{bytes_cmp}
 use Rattle.ctrie_api.specs.Trie.{Trie}
 use Rattle.ctrie_api.specs.Run.{changed_at, written, takes_no_write}
 
@@ -28,7 +28,7 @@ module _ {X : Type 0} where
 
 module _ {H V : Type 0} (tries : List (Trie H V)) (i : ℕ) (d : Trie H V) (within : i < length tries) where
   -- a trie that takes writes was written, and is put back
-  pub write_done : (change : finite.FinMap order V → finite.FinMap order V) (new : Trie H V)
+  pub write_done : (change : finite.FinMap bytes_cmp V → finite.FinMap bytes_cmp V) (new : Trie H V)
       → ¬ (IsTrue (slice_index_or tries i d).read_only)
       → new ≡ record (slice_index_or tries i d) { map = change (slice_index_or tries i d).map }
       → slice_set tries i new ≡ changed_at i (written change) tries

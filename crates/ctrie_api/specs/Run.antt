@@ -4,7 +4,7 @@
 use Rattle.std.specs.Prelude.{◌≡◌, ℕ, zero, suc, Bool, true, false, cond, List, [], ◌∷◌, ◌++◌, Option, Some, None, fold, slice_get}
 use Rattle.std.specs.Option.{option_map}
 use Rattle.std.specs.FinMap as finite
-use Rattle.hash_path.specs.Word.{order}
+use Rattle.dots.specs.Bytes.{bytes_cmp}
 use Rattle.ctrie_api.specs.Trie.{Trie}
 use Rattle.ctrie_api.specs.declared.act.Act.{Act}
 use Rattle.ctrie_api.specs.declared.act.Act.TheVariants.{Insert, Remove, Clear, Snapshot, ReadOnlySnapshot}
@@ -22,7 +22,7 @@ as_list (Some x) = x ∷ []
 
 module _ {H V : Type 0} where
   -- a trie after its map was written: one that is read-only stays
-  abbrev pub written : (finite.FinMap order V → finite.FinMap order V) → Trie H V → Trie H V
+  abbrev pub written : (finite.FinMap bytes_cmp V → finite.FinMap bytes_cmp V) → Trie H V → Trie H V
   written change trie = cond trie.read_only trie (record trie { map = change trie.map })
 
   -- the same map, read-only

@@ -6,7 +6,8 @@ use Rattle.std.specs.declared.sync.Arc.{Arc}
 use Rattle.std.proofs.lemmas.List.{append_assoc}
 use Rattle.std.proofs.lemmas.List.Elements.{All-head, All-tail}
 use Rattle.std.specs.FinMap as finite
-use Rattle.hash_path.specs.Word.{key_in, order}
+use Rattle.dots.specs.Bytes.{bytes_cmp}
+use Rattle.hash_path.specs.Word.{key_in}
 use Rattle.hash_path.specs.Fan.{under, fan}
 use Rattle.hash_path.specs.Map.{as_map, walk}
 use Rattle.hash_path.proofs.Walks.{walk_is}
@@ -146,7 +147,7 @@ module _ {V A : Type 0} (f : List ℕ → ℕ) (root : Option (Slot V A)) (count
   iter_is : all ≡ walk f (as_map (root_entries root))
   iter_is = is ∙ sym (walk_is f (root_entries root) trie.hashed (let r = trie.root_is in r.sorted))
 
-module _ {V A H : Type 0} (hash_of : H → List ℕ → ℕ) (hash : H) (root : Option (Slot V A)) (count : ℕ) (seen : H × finite.FinMap order V) (all : List (List ℕ × V)) where
+module _ {V A H : Type 0} (hash_of : H → List ℕ → ℕ) (hash : H) (root : Option (Slot V A)) (count : ℕ) (seen : H × finite.FinMap bytes_cmp V) (all : List (List ℕ × V)) where
   -- as the map is seen
   pub iter_shown : IsTrie (hash_of hash) root count → (hash, as_map (root_entries root)) ≡ seen → all ≡ by_key 7 (root_entries root) → all ≡ walk (hash_of seen.0) seen.1
   iter_shown trie shown is = iter_is (hash_of hash) root count trie all is ∙ ap (λ x. walk (hash_of x.0) x.1) shown

@@ -18,7 +18,7 @@ use Rattle.std.specs.Prelude.{OnOk, OnErr, IfOk}
 use Rattle.std.proofs.Common.{Ok, Err, add-one}
 use Rattle.std.specs.declared.result.Result.{Result}
 use Rattle.std.specs.Ordering.{eq_by_cmp, is_gt}
-use Rattle.hash_path.specs.Word.{order}
+use Rattle.dots.specs.Bytes.{bytes_cmp}
 use Rattle.hash_path.specs.Rank.{rank}
 use Rattle.hash_path.proofs.Ranks.{put_set, put_insert, rank_le, rank_more, rank_none}
 use Rattle.hash_path.proofs.Words.{IsWord-word, AllWords-put, tied_same, tied-word, put_tied, two_apart, length_put_ge}
@@ -150,12 +150,12 @@ single_is {V} below height index e new ss h low is less empty items =
 
 module _ {V A : Type 0} where
   pub list_set : (n : ℕ) (e : Arc (Entry V A) A) (es : List (Arc (Entry V A) A)) → n ≡ rank (e.value.hash ∷ e.value.key) (listed es) → n < length es
-      → ((d : List ℕ × V) → true ≡ eq_by_cmp order (e.value.hash ∷ e.value.key) (get_or (listed es) n d).0)
+      → ((d : List ℕ × V) → true ≡ eq_by_cmp bytes_cmp (e.value.hash ∷ e.value.key) (get_or (listed es) n d).0)
       → listed (set es n e) ≡ with_entry 0 e.value (listed es)
   list_set n e es p h t =
       let w = e.value.hash ∷ e.value.key in
       let d = entry_at 0 e.value in
-      let tie : eq_by_cmp order w (get_or (listed es) (rank w (listed es)) d).0 ≡ true = subst (λ k. eq_by_cmp order w (get_or (listed es) k d).0 ≡ true) p (sym (t d)) in
+      let tie : eq_by_cmp bytes_cmp w (get_or (listed es) (rank w (listed es)) d).0 ≡ true = subst (λ k. eq_by_cmp bytes_cmp w (get_or (listed es) k d).0 ≡ true) p (sym (t d)) in
       let within : rank w (listed es) < length (listed es) = subst (λ k. k < length (listed es)) p (subst (λ k. n < k) (sym (length-map es (λ (x : Arc (Entry V A) A). entry_at 0 x.value))) h) in
       map-set (λ (x : Arc (Entry V A) A). entry_at 0 x.value) es n e ∙ ap (λ k. set (listed es) k d) p ∙ sym (put_set w e.value.value.value d (listed es) tie within)
 
@@ -164,19 +164,19 @@ module _ {V A : Type 0} where
       subst (λ k. k ≤ length es) (sym p) (subst (λ k. rank (e.hash ∷ e.key) (listed es) ≤ k) (length-map es (λ (x : Arc (Entry V A) A). entry_at 0 x.value)) (rank_le (e.hash ∷ e.key) e.value.value (listed es)))
 
   pub list_insert : (n : ℕ) (e : Arc (Entry V A) A) (es ts : List (Arc (Entry V A) A)) → n ≡ rank (e.value.hash ∷ e.value.key) (listed es)
-      → (n < length es → (d : List ℕ × V) → false ≡ eq_by_cmp order (e.value.hash ∷ e.value.key) (get_or (listed es) n d).0)
+      → (n < length es → (d : List ℕ × V) → false ≡ eq_by_cmp bytes_cmp (e.value.hash ∷ e.value.key) (get_or (listed es) n d).0)
       → ts ≡ insert es n e → listed ts ≡ with_entry 0 e.value (listed es)
   list_insert n e es ts p t is =
       let w = e.value.hash ∷ e.value.key in
       let d = entry_at 0 e.value in
       let f = λ (x : Arc (Entry V A) A). entry_at 0 x.value in
-      let apart : rank w (listed es) < length (listed es) → eq_by_cmp order w (get_or (listed es) (rank w (listed es)) d).0 ≡ false =
-      λ h. sym (subst (λ k. false ≡ eq_by_cmp order w (get_or (listed es) k d).0) p (t (subst (λ k. k < length es) (sym p) (subst (λ k. rank w (listed es) < k) (length-map es f) h)) d)) in
+      let apart : rank w (listed es) < length (listed es) → eq_by_cmp bytes_cmp w (get_or (listed es) (rank w (listed es)) d).0 ≡ false =
+      λ h. sym (subst (λ k. false ≡ eq_by_cmp bytes_cmp w (get_or (listed es) k d).0) p (t (subst (λ k. k < length es) (sym p) (subst (λ k. rank w (listed es) < k) (length-map es f) h)) d)) in
       ap listed is ∙ map-append f (take n es) (e ∷ drop n es) ∙ (λ i. sym (take-map f n es) i ++ f e ∷ sym (drop-map f n es) i) ∙ ap (λ k. insert (listed es) k d) p
       ∙ sym (put_insert w e.value.value.value d (listed es) apart)
 
   pub rank_step : (k : ℕ) (e : Entry V A) (x : Arc (Entry V A) A) (es : List (Arc (Entry V A) A)) → k < length es → x ≡ get_or es k x
-      → true ≡ is_gt (order (e.hash ∷ e.key) (x.value.hash ∷ x.value.key))
+      → true ≡ is_gt (bytes_cmp (e.hash ∷ e.key) (x.value.hash ∷ x.value.key))
       → rank (e.hash ∷ e.key) (listed (drop k es)) ≡ suc (rank (e.hash ∷ e.key) (listed (drop (k + 1) es)))
   rank_step k e x es h is t =
       let split : drop k es ≡ x ∷ drop (suc k) es = drop-cons es k x h ∙ (λ i. sym is i ∷ drop (suc k) es) in
@@ -184,21 +184,21 @@ module _ {V A : Type 0} where
       ∙ ap (λ m. suc (rank (e.hash ∷ e.key) (listed (drop m es)))) (sym (add-one k))
 
   pub rank_stop : (k : ℕ) (e : Entry V A) (x : Arc (Entry V A) A) (es : List (Arc (Entry V A) A)) → k < length es → x ≡ get_or es k x
-      → false ≡ is_gt (order (e.hash ∷ e.key) (x.value.hash ∷ x.value.key)) → rank (e.hash ∷ e.key) (listed (drop k es)) ≡ 0
+      → false ≡ is_gt (bytes_cmp (e.hash ∷ e.key) (x.value.hash ∷ x.value.key)) → rank (e.hash ∷ e.key) (listed (drop k es)) ≡ 0
   rank_stop k e x es h is t =
       let split : drop k es ≡ x ∷ drop (suc k) es = drop-cons es k x h ∙ (λ i. sym is i ∷ drop (suc k) es) in
       ap (λ l. rank (e.hash ∷ e.key) (listed l)) split ∙ rank_none (e.hash ∷ e.key) e.value.value (entry_at 0 x.value) (listed (drop (suc k) es)) (sym t)
 
   pub key_at : (n : ℕ) (e : Entry V A) (x : Arc (Entry V A) A) (r : Bool) (es : List (Arc (Entry V A) A)) (d : List ℕ × V) → n < length es → x ≡ get_or es n x
-      → r ≡ eq_by_cmp order (e.hash ∷ e.key) (x.value.hash ∷ x.value.key) → r ≡ eq_by_cmp order (e.hash ∷ e.key) (get_or (listed es) n d).0
+      → r ≡ eq_by_cmp bytes_cmp (e.hash ∷ e.key) (x.value.hash ∷ x.value.key) → r ≡ eq_by_cmp bytes_cmp (e.hash ∷ e.key) (get_or (listed es) n d).0
   key_at n e x r es d h is t =
       let at_n : get_or (listed es) n d ≡ entry_at 0 x.value = get_or-map_at (λ (y : Arc (Entry V A) A). entry_at 0 y.value) es n x d h ∙ ap (λ (y : Arc (Entry V A) A). entry_at 0 y.value) (sym is) in
-      t ∙ ap (λ y. eq_by_cmp order (e.hash ∷ e.key) y.0) (sym at_n)
+      t ∙ ap (λ y. eq_by_cmp bytes_cmp (e.hash ∷ e.key) y.0) (sym at_n)
 
   -- ---- a slot
 
   pub replaced : (below i : ℕ) (e : Arc (Entry V A) A) (leaf : Arc (Entry V A) A) (s : Slot V A) → s ≡ One i e
-      → true ≡ eq_by_cmp order (leaf.value.hash ∷ leaf.value.key) (e.value.hash ∷ e.value.key)
+      → true ≡ eq_by_cmp bytes_cmp (leaf.value.hash ∷ leaf.value.key) (e.value.hash ∷ e.value.key)
       → child below (One i leaf) ≡ ((child below s).0, with_entry below leaf.value (child below s).1)
   replaced below i e leaf s is t =
       let same = tied_same (leaf.value.hash ∷ leaf.value.key) (e.value.hash ∷ e.value.key) (sym t) in
@@ -208,7 +208,7 @@ module _ {V A : Type 0} where
       (λ k. (i, (words k, leaf.value.value.value) ∷ [])) ∙ (λ k. (i, sym one k)) ∙ (λ k. ((child below (sym is k)).0, with_entry below leaf.value (child below (sym is k)).1))
 
   pub two_keys : (below height : ℕ) (e leaf : Entry V A) (n : ℕ × List (List ℕ × V)) → n ≡ (below, with_entry below leaf (entry_at below e ∷ []))
-      → false ≡ eq_by_cmp order (leaf.hash ∷ leaf.key) (e.hash ∷ e.key) → (n.0 ≡ below) × (2 ≤ length n.1)
+      → false ≡ eq_by_cmp bytes_cmp (leaf.hash ∷ leaf.key) (e.hash ∷ e.key) → (n.0 ≡ below) × (2 ≤ length n.1)
   two_keys below height e leaf n is t =
       let apart = tied-word below leaf.hash e.hash leaf.key e.key ∙ sym t in
       (ap (λ x. x.0) is, subst (λ x. 2 ≤ length x.1) (sym is) (two_apart (word below leaf.hash leaf.key) (word below e.hash e.key) leaf.value.value e.value.value apart))

@@ -11,7 +11,8 @@ use Rattle.std.specs.FinMap.Entries.{find, is_sorted}
 use Rattle.std.proofs.lemmas.List.{map-append, map-set, length-map}
 use Rattle.std.proofs.lemmas.List.Elements.{All-set, All-append, All-take, All-drop}
 use Rattle.std.proofs.lemmas.Nat.{one_shl}
-use Rattle.hash_path.specs.Word.{order, digit, word, AllWords}
+use Rattle.dots.specs.Bytes.{bytes_cmp}
+use Rattle.hash_path.specs.Word.{digit, word, AllWords}
 use Rattle.hash_path.specs.Cut.{cut, without, spot}
 use Rattle.hash_path.specs.Fan.{fan, at, there, put_child, bits_of, Rise}
 use Rattle.hash_path.proofs.Finding.{find-fan}
@@ -25,17 +26,17 @@ use Rattle.gen_trie.specs.Shapes.{children, child, entry_at, listed, StandsBelow
 
 -- ---- of two entries the other
 
-pub other_first : {V A : Type 0} (h hash : ℕ) (key : List ℕ) (a b x : Entry V A) → x ≡ a → true ≡ eq_by_cmp order (hash ∷ key) (x.hash ∷ x.key)
-    → T (is_sorted order (entry_at h a ∷ entry_at h b ∷ [])) → cut (word h hash key) (entry_at h a ∷ entry_at h b ∷ []) ≡ entry_at h b ∷ []
+pub other_first : {V A : Type 0} (h hash : ℕ) (key : List ℕ) (a b x : Entry V A) → x ≡ a → true ≡ eq_by_cmp bytes_cmp (hash ∷ key) (x.hash ∷ x.key)
+    → T (is_sorted bytes_cmp (entry_at h a ∷ entry_at h b ∷ [])) → cut (word h hash key) (entry_at h a ∷ entry_at h b ∷ []) ≡ entry_at h b ∷ []
 other_first h hash key a b x q t s =
     cut_first (word h hash key) (entry_at h a) (entry_at h b) s
-    (tied-word h hash a.hash key a.key ∙ sym (subst (λ y. true ≡ eq_by_cmp order (hash ∷ key) (y.hash ∷ y.key)) q t))
+    (tied-word h hash a.hash key a.key ∙ sym (subst (λ y. true ≡ eq_by_cmp bytes_cmp (hash ∷ key) (y.hash ∷ y.key)) q t))
 
-pub other_second : {V A : Type 0} (h hash : ℕ) (key : List ℕ) (a b x : Entry V A) → x ≡ a → false ≡ eq_by_cmp order (hash ∷ key) (x.hash ∷ x.key)
-    → is_some (find order (word h hash key) (entry_at h a ∷ entry_at h b ∷ [])) ≡ true → cut (word h hash key) (entry_at h a ∷ entry_at h b ∷ []) ≡ entry_at h a ∷ []
+pub other_second : {V A : Type 0} (h hash : ℕ) (key : List ℕ) (a b x : Entry V A) → x ≡ a → false ≡ eq_by_cmp bytes_cmp (hash ∷ key) (x.hash ∷ x.key)
+    → is_some (find bytes_cmp (word h hash key) (entry_at h a ∷ entry_at h b ∷ [])) ≡ true → cut (word h hash key) (entry_at h a ∷ entry_at h b ∷ []) ≡ entry_at h a ∷ []
 other_second h hash key a b x q t f =
     cut_second (word h hash key) (entry_at h a) (entry_at h b)
-    (tied-word h hash a.hash key a.key ∙ sym (subst (λ y. false ≡ eq_by_cmp order (hash ∷ key) (y.hash ∷ y.key)) q t)) f
+    (tied-word h hash a.hash key a.key ∙ sym (subst (λ y. false ≡ eq_by_cmp bytes_cmp (hash ∷ key) (y.hash ∷ y.key)) q t)) f
 
 -- ---- the seat of a key that is there
 
@@ -43,12 +44,12 @@ pub left_none : {X : Type 0} {P : Type 0} (Q : X → Type 0) (r : Option X) → 
 left_none Q None e h = h
 left_none Q (Some x) e h = cc
 
-no_entry : {V : Type 0} (w : List ℕ) (es : List (List ℕ × V)) → es ≡ [] → is_some (find order w es) ≡ true → (X : Type 0) → X
-no_entry w es e f X = let none = ap (λ l. is_some (find order w l)) (sym e) ∙ f in cc
+no_entry : {V : Type 0} (w : List ℕ) (es : List (List ℕ × V)) → es ≡ [] → is_some (find bytes_cmp w es) ≡ true → (X : Type 0) → X
+no_entry w es e f X = let none = ap (λ l. is_some (find bytes_cmp w l)) (sym e) ∙ f in cc
 
 module _ {V : Type 0} (below : ℕ) (hash : ℕ) (key : List ℕ) where
-  pub cut_only : (e : List ℕ × V) → is_some (find order (word below hash key) (e ∷ [])) ≡ true → ◌≡◌ {A = List (List ℕ × V)} (cut (word below hash key) (e ∷ [])) []
-  cut_only e f = by (eq_by_cmp order (word below hash key) e.0) f
+  pub cut_only : (e : List ℕ × V) → is_some (find bytes_cmp (word below hash key) (e ∷ [])) ≡ true → ◌≡◌ {A = List (List ℕ × V)} (cut (word below hash key) (e ∷ [])) []
+  cut_only e f = by (eq_by_cmp bytes_cmp (word below hash key) e.0) f
     where
       by : (t : Bool) → is_some {T = V} (cond t (Some e.1) None) ≡ true → ◌≡◌ {A = List (List ℕ × V)} (cond (not t) (e ∷ []) []) []
       by true g = refl
@@ -56,30 +57,30 @@ module _ {V : Type 0} (below : ℕ) (hash : ℕ) (key : List ℕ) where
 
   -- two keys or more are left of a node of three or more
   pub two_left : {E : Type 0} (r : Result (Unit {0}) E) (n m : ℕ × List (List ℕ × V)) → OnOk r (n ≡ (m.0, cut (word m.0 hash key) m.1)) → OnErr r (n ≡ m)
-      → (m.0 ≡ below) × (2 ≤ length m.1) → length m.1 ≢ 2 → T (is_sorted order m.1) → is_some (find order (word m.0 hash key) m.1) ≡ true → (n.0 ≡ below) × (2 ≤ length n.1)
+      → (m.0 ≡ below) × (2 ≤ length m.1) → length m.1 ≢ 2 → T (is_sorted bytes_cmp m.1) → is_some (find bytes_cmp (word m.0 hash key) m.1) ≡ true → (n.0 ≡ below) × (2 ≤ length n.1)
   two_left (Ok x) n m ok err h two sorted f =
       (ap (λ y. y.0) ok ∙ h.0, let fewer = length-cut (word m.0 hash key) m.1 sorted f in let same = ap (λ y. length y.1) ok in let many = h.1 in omega arith)
   two_left (Err x) n m ok err h two sorted f = (ap (λ y. y.0) err ∙ h.0, subst (λ y. 2 ≤ length y.1) (sym err) h.1)
 
 module _ {V A : Type 0} (below : ℕ) (hash : ℕ) (key : List ℕ) where
-  pub found_at : (m : ℕ) (ss : List (Slot V A)) → IsBranch below m ss → is_some (find order (word (suc below) hash key) (fan (children below ss))) ≡ true
-      → is_some (find order (word below hash key) (at (digit below hash) (children below ss))) ≡ true
+  pub found_at : (m : ℕ) (ss : List (Slot V A)) → IsBranch below m ss → is_some (find bytes_cmp (word (suc below) hash key) (fan (children below ss))) ≡ true
+      → is_some (find bytes_cmp (word below hash key) (at (digit below hash) (children below ss))) ≡ true
   found_at m ss b f = ap is_some (sym (find-fan 0 (digit below hash) (word below hash key) (children below ss) b.rise)) ∙ f
 
   pub taken_there : (m count j n : ℕ) (t : Bool) (ss : List (Slot V A)) → IsBranch below m ss → IsSeat (digit below hash) (children below ss) count j n t
-      → is_some (find order (word (suc below) hash key) (fan (children below ss))) ≡ true → t ≡ true
+      → is_some (find bytes_cmp (word (suc below) hash key) (fan (children below ss))) ≡ true → t ≡ true
   taken_there m count j n t ss b seat f = by (there (digit below hash) (children below ss)) refl
     where
       by : (r : Bool) → there (digit below hash) (children below ss) ≡ r → t ≡ true
       by true e = seat.taken_is ∙ e
       by false e = no_entry (word below hash key) (at (digit below hash) (children below ss)) (at_absent (digit below hash) (children below ss) e) (found_at m ss b f) _
 
-  pub cut_one : (m : ℕ) (ss : List (Slot V A)) (s : Slot V A) (e : Entry V A) → IsBranch below m ss → is_some (find order (word (suc below) hash key) (fan (children below ss))) ≡ true
+  pub cut_one : (m : ℕ) (ss : List (Slot V A)) (s : Slot V A) (e : Entry V A) → IsBranch below m ss → is_some (find bytes_cmp (word (suc below) hash key) (fan (children below ss))) ≡ true
       → child below s ≡ (digit below hash, at (digit below hash) (children below ss)) → (child below s).1 ≡ entry_at below e ∷ []
       → cut (word below hash key) (at (digit below hash) (children below ss)) ≡ []
   cut_one m ss s e b f here one =
       let is : at (digit below hash) (children below ss) ≡ entry_at below e ∷ [] = sym (ap (λ c. c.1) here) ∙ one in
-      ap (cut (word below hash key)) is ∙ cut_only below hash key (entry_at below e) (subst (λ l. is_some (find order (word below hash key) l) ≡ true) is (found_at m ss b f))
+      ap (cut (word below hash key)) is ∙ cut_only below hash key (entry_at below e) (subst (λ l. is_some (find bytes_cmp (word below hash key) l) ≡ true) is (found_at m ss b f))
 
   -- ---- a child that goes
 
@@ -149,21 +150,21 @@ module _ {V A : Type 0} (below : ℕ) (hash : ℕ) (key : List ℕ) where
       )
 
   -- what the child at the index gives to be taken from
-  pub child_gives : {X : Type 0} (m : ℕ) (ss : List (Slot V A)) (s : Slot V A) (r : Option X) (e : X → Entry V A) → IsBranch below m ss → T (is_sorted order (fan (children below ss)))
-      → is_some (find order (word (suc below) hash key) (fan (children below ss))) ≡ true
+  pub child_gives : {X : Type 0} (m : ℕ) (ss : List (Slot V A)) (s : Slot V A) (r : Option X) (e : X → Entry V A) → IsBranch below m ss → T (is_sorted bytes_cmp (fan (children below ss)))
+      → is_some (find bytes_cmp (word (suc below) hash key) (fan (children below ss))) ≡ true
       → (child below s ≡ (digit below hash, at (digit below hash) (children below ss))) × StandsBelow below s
       → MatchOption r (StandsBelow below s → 2 ≤ length (child below s).1) (λ x. (child below s).1 ≡ entry_at below (e x) ∷ []) → is_some r ≡ false
-      → (2 ≤ length (child below s).1) × T (is_sorted order (child below s).1) × (is_some (find order (word below hash key) (child below s).1) ≡ true)
+      → (2 ≤ length (child below s).1) × T (is_sorted bytes_cmp (child below s).1) × (is_some (find bytes_cmp (word below hash key) (child below s).1) ≡ true)
   child_gives m ss s None e b sorted f here h t =
       let is = ap (λ c. c.1) here.0 in (
         h here.1,
-        subst (λ l. T (is_sorted order l)) (sym is) (sorted-at (digit below hash) (children below ss) sorted),
-        subst (λ l. is_some (find order (word below hash key) l) ≡ true) (sym is) (found_at m ss b f),
+        subst (λ l. T (is_sorted bytes_cmp l)) (sym is) (sorted-at (digit below hash) (children below ss) sorted),
+        subst (λ l. is_some (find bytes_cmp (word below hash key) l) ≡ true) (sym is) (found_at m ss b f),
       )
   child_gives m ss s (Some x) e b sorted f here h t = cc
 
   pub one_gives : {X : Type 0} (m : ℕ) (ss : List (Slot V A)) (s : Slot V A) (r : Option X) (e : X → Entry V A) → IsBranch below m ss
-      → is_some (find order (word (suc below) hash key) (fan (children below ss))) ≡ true
+      → is_some (find bytes_cmp (word (suc below) hash key) (fan (children below ss))) ≡ true
       → child below s ≡ (digit below hash, at (digit below hash) (children below ss))
       → MatchOption r (StandsBelow below s → 2 ≤ length (child below s).1) (λ x. (child below s).1 ≡ entry_at below (e x) ∷ []) → is_some r ≡ true
       → cut (word below hash key) (at (digit below hash) (children below ss)) ≡ []
@@ -173,7 +174,7 @@ module _ {V A : Type 0} (below : ℕ) (hash : ℕ) (key : List ℕ) where
 -- ---- a list
 
 module _ {V A : Type 0} where
-  pub list_cut : (n : ℕ) (w : List ℕ) (es ts : List (Arc (Entry V A) A)) → T (is_sorted order (listed es)) → n ≡ spot w (listed es) → n < length es → ts ≡ remove es n
+  pub list_cut : (n : ℕ) (w : List ℕ) (es ts : List (Arc (Entry V A) A)) → T (is_sorted bytes_cmp (listed es)) → n ≡ spot w (listed es) → n < length es → ts ≡ remove es n
       → listed ts ≡ cut w (listed es)
   list_cut n w es ts s p h is =
       let f = λ (x : Arc (Entry V A) A). entry_at 0 x.value in

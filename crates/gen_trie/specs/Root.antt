@@ -4,7 +4,7 @@ use Rattle.std.specs.Prelude.{T}
 use Rattle.std.specs.declared.option.Option.{Option}
 use Rattle.std.specs.declared.option.Option.TheVariants.{None, Some}
 use Rattle.std.specs.FinMap.Entries.{is_sorted}
-use Rattle.hash_path.specs.Word.{order}
+use Rattle.dots.specs.Bytes.{bytes_cmp}
 use Rattle.hash_path.specs.Map.{HashedBy}
 use Rattle.gen_trie.specs.declared.node.Slot.{Slot}
 use Rattle.gen_trie.specs.Shapes.{child, StandsBelow}
@@ -22,7 +22,7 @@ module _ {V A : Type 0} where
   -- the root has its form, its entries ascend by path, and there are so many
   pub record IsRoot (root : Option (Slot V A)) (count : ℕ) : Type 0 where
     pub stands : RootStands root
-    pub sorted : T (is_sorted order (root_entries root))
+    pub sorted : T (is_sorted bytes_cmp (root_entries root))
     pub counted : count ≡ length (root_entries root)
 
   -- and each stands at the path of its key

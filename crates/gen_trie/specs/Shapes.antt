@@ -5,7 +5,8 @@ use Rattle.std.specs.Prelude.{◌≡◌, ℕ, suc, ◌<◌, ◌≤◌, Bool, tru
 use Rattle.std.specs.List.{All}
 use Rattle.std.specs.FinMap.Entries.{put}
 use Rattle.std.specs.declared.sync.Arc.{Arc}
-use Rattle.hash_path.specs.Word.{order, word, AllWords}
+use Rattle.dots.specs.Bytes.{bytes_cmp}
+use Rattle.hash_path.specs.Word.{word, AllWords}
 use Rattle.hash_path.specs.Fan.{fan, bits_of, Rise, place, there}
 use Rattle.gen_trie.specs.declared.entry.Entry.{Entry}
 use Rattle.gen_trie.specs.declared.node.Shape.{Shape}
@@ -30,7 +31,7 @@ module _ {V A : Type 0} where
 
   -- the entries of a node of this height after an entry was put: an entry of its key is replaced
   abbrev pub with_entry : ℕ → Entry V A → List (List ℕ × V) → List (List ℕ × V)
-  with_entry height e = put order (word height e.hash e.key) e.value.value
+  with_entry height e = put bytes_cmp (word height e.hash e.key) e.value.value
 
   -- a child of a branch that has so many levels of branches below
   abbrev pub child : ℕ → Slot V A → ℕ × List (List ℕ × V)

@@ -2,7 +2,7 @@ ghost use Rattle.std.specs.Prelude.{◌≡◌, [], ◌∷◌};
 ghost use Rattle.std.specs.Option.{option_map};
 ghost use Rattle.std.specs.FinMap.Entries.{find};
 ghost use Rattle.std.specs.Ordering.{eq_by_cmp, is_gt};
-ghost use Rattle.hash_path.specs.Word.{order};
+ghost use Rattle.dots.specs.Bytes.{bytes_cmp};
 
 use dots::Key;
 use std::alloc::Allocator;
@@ -33,14 +33,14 @@ impl<V, A: Allocator> Entry<V, A> {
 
     // Whether it is the entry of this hash and these bytes.
     pub(crate) fn is_at(&self, hash: u32, key: &[u8]) -> bool
-        ensures { result ≡ eq_by_cmp order (hash ∷ key.now) (self.now.hash ∷ self.now.key) }
+        ensures { result ≡ eq_by_cmp bytes_cmp (hash ∷ key.now) (self.now.hash ∷ self.now.key) }
     {
         self.hash == hash && self.key.bytes() == key
     }
 
     // The value, where it is the entry of this hash and these bytes.
     pub(crate) fn value_at<'a>(&'a self, hash: u32, key: &[u8]) -> Option<&'a Arc<V, A>>
-        ensures { option_map (λ value. value.now.value) result ≡ find order (hash ∷ key.now) ((self.now.hash ∷ self.now.key, self.now.value.value) ∷ []) }
+        ensures { option_map (λ value. value.now.value) result ≡ find bytes_cmp (hash ∷ key.now) ((self.now.hash ∷ self.now.key, self.now.value.value) ∷ []) }
     {
         if self.is_at(hash, key) {
             Some(&self.value)
@@ -51,7 +51,7 @@ impl<V, A: Allocator> Entry<V, A> {
 
     // Whether its hash and bytes come before these.
     pub(crate) fn is_before(&self, hash: u32, key: &[u8]) -> bool
-        ensures { result ≡ is_gt (order (hash ∷ key.now) (self.now.hash ∷ self.now.key)) }
+        ensures { result ≡ is_gt (bytes_cmp (hash ∷ key.now) (self.now.hash ∷ self.now.key)) }
     {
         hash.cmp(&self.hash)
             .then(key.cmp(&self.key.bytes()))
@@ -64,7 +64,7 @@ pub(crate) fn same_key<V, A: Allocator>(
     entry: &Arc<Entry<V, A>, A>,
     other: &Arc<Entry<V, A>, A>,
 ) -> bool
-    ensures { result ≡ eq_by_cmp order (other.now.value.hash ∷ other.now.value.key) (entry.now.value.hash ∷ entry.now.value.key) }
+    ensures { result ≡ eq_by_cmp bytes_cmp (other.now.value.hash ∷ other.now.value.key) (entry.now.value.hash ∷ entry.now.value.key) }
 {
     entry.is_at(other.hash, other.key.bytes())
 }
@@ -74,7 +74,7 @@ pub(crate) fn comes_before<V, A: Allocator>(
     entry: &Arc<Entry<V, A>, A>,
     other: &Arc<Entry<V, A>, A>,
 ) -> bool
-    ensures { result ≡ is_gt (order (other.now.value.hash ∷ other.now.value.key) (entry.now.value.hash ∷ entry.now.value.key)) }
+    ensures { result ≡ is_gt (bytes_cmp (other.now.value.hash ∷ other.now.value.key) (entry.now.value.hash ∷ entry.now.value.key)) }
 {
     entry.is_before(other.hash, other.key.bytes())
 }

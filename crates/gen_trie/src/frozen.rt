@@ -36,9 +36,9 @@ impl<V, M: Summary<V>, H: PathHash, A: Allocator> Model for Frozen<V, M, H, A> {
     ghost use Rattle.std.specs.Prelude.{ℕ};
     ghost use Rattle.std.specs.Coded.{coded×, coded_list, coded_ℕ};
     ghost use Rattle.std.specs.FinMap as map;
-    ghost use Rattle.hash_path.specs.Word.{order};
+    ghost use Rattle.dots.specs.Bytes.{bytes_cmp};
 
-    ghost Value = { H × map.FinMap order V };
+    ghost Value = { H × map.FinMap bytes_cmp V };
 
     ghost coded = { coded× H.code (map.code (coded_list coded_ℕ) V.code) };
 

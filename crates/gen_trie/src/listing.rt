@@ -2,7 +2,7 @@
 ghost use Rattle.std.specs.Prelude.{◌≡◌, ℕ, ◌<◌, List, ◌∷◌, length, slice_index_or, T, IsTrue, OnOk, OnErr, IsOkUnless};
 ghost use Rattle.std.specs.Ordering.{eq_by_cmp};
 ghost use Rattle.std.specs.FinMap.Entries.{is_sorted};
-ghost use Rattle.hash_path.specs.Word.{order};
+ghost use Rattle.dots.specs.Bytes.{bytes_cmp};
 ghost use Rattle.dots.specs.declared.refusal.Refusal.TheVariants.{OutOfMemory};
 ghost use Rattle.hash_path.specs.Cut.{cut, spot};
 ghost use Rattle.hash_path.specs.Rank.{rank};
@@ -34,7 +34,7 @@ fn has_key_at<V, A: Allocator>(
     leaf: &Arc<Entry<V, A>, A>,
 ) -> bool
     ensures within { IsTrue result → at < length entries.now }
-    ensures same { at < length entries.now → (d : List ℕ × V) → result ≡ eq_by_cmp order (leaf.now.value.hash ∷ leaf.now.value.key) (slice_index_or (listed entries.now) at d).0 }
+    ensures same { at < length entries.now → (d : List ℕ × V) → result ≡ eq_by_cmp bytes_cmp (leaf.now.value.hash ∷ leaf.now.value.key) (slice_index_or (listed entries.now) at d).0 }
 {
     match entries.get(at) {
         Some(entry) => same_key(entry, leaf),
@@ -80,7 +80,7 @@ pub(crate) fn take_from_list<V: Drop, A: Allocator + Copy>(
     hash: u32,
     key: &[u8],
 )
-    requires { T (is_sorted order (listed entries.old.items)) }
+    requires { T (is_sorted bytes_cmp (listed entries.old.items)) }
     ensures { listed entries.new.items ≡ cut (hash ∷ key.now) (listed entries.old.items) }
 {
     let at = place_of(entries, hash, key);

@@ -1,7 +1,8 @@
 ghost use Rattle.std.specs.Prelude.{◌≡◌, ℕ, ◌<◌, ◌≤◌, [], ◌^◌, ◌%◌, count_ones, MatchOption, vec_len};
 ghost use Rattle.std.specs.Option.{option_map};
 ghost use Rattle.std.specs.FinMap.Entries.{find};
-ghost use Rattle.hash_path.specs.Word.{order, word, digit};
+ghost use Rattle.dots.specs.Bytes.{bytes_cmp};
+ghost use Rattle.hash_path.specs.Word.{word, digit};
 ghost use Rattle.hash_path.specs.Fan.{at, place, there};
 ghost use Rattle.gen_trie.specs.Shapes.{children, child, StandsBelow, IsBranch, IsSeat, listed};
 
@@ -167,7 +168,7 @@ fn in_list<'a, V, A: Allocator>(
     hash: u32,
     key: &[u8],
 ) -> Option<&'a Arc<V, A>>
-    ensures { option_map (λ value. value.now.value) result ≡ find order (word 0 hash key.now) (listed entries.now) }
+    ensures { option_map (λ value. value.now.value) result ≡ find bytes_cmp (word 0 hash key.now) (listed entries.now) }
 {
     for entry in entries {
         if let Some(value) = entry.value_at(hash, key) {
@@ -185,7 +186,7 @@ impl<V, A: Allocator> Node<V, A> {
 
     // The value of the key of this hash and these bytes.
     pub fn lookup<'a>(&'a self, hash: u32, key: &[u8]) -> Option<&'a Arc<V, A>>
-        ensures { option_map (λ value. value.now.value) result ≡ find order (word self.now.0 hash key.now) self.now.1 }
+        ensures { option_map (λ value. value.now.value) result ≡ find bytes_cmp (word self.now.0 hash key.now) self.now.1 }
     {
         match &self.shape {
             Shape::Branch(below, bitmap, slots) => match slot_at(slots, *below, *bitmap, hash) {

@@ -3,7 +3,8 @@ ghost use Rattle.std.specs.Prelude.{◌≡◌, ℕ, true, T, is_some, None, OnOk
 ghost use Rattle.std.specs.Option.{option_map};
 ghost use Rattle.std.specs.FinMap.Entries.{find, put, is_sorted};
 ghost use Rattle.dots.specs.declared.refusal.Refusal.TheVariants.{OutOfMemory};
-ghost use Rattle.hash_path.specs.Word.{order, word};
+ghost use Rattle.dots.specs.Bytes.{bytes_cmp};
+ghost use Rattle.hash_path.specs.Word.{word};
 ghost use Rattle.hash_path.specs.Cut.{cut};
 ghost use Rattle.gen_trie.specs.Shapes.{with_entry};
 ghost use Rattle.gen_trie.specs.Root.{root_entries, RootStands, IsRoot};
@@ -24,7 +25,7 @@ pub(crate) fn look_root<'a, V, A: Allocator>(
     key: &[u8],
 ) -> Option<&'a Arc<V, A>>
     requires { RootStands root.now }
-    ensures { option_map (λ value. value.now.value) result ≡ find order (word 7 hash key.now) (root_entries root.now) }
+    ensures { option_map (λ value. value.now.value) result ≡ find bytes_cmp (word 7 hash key.now) (root_entries root.now) }
 {
     match root {
         None => None,
@@ -94,7 +95,7 @@ pub(crate) fn insert_at<V: Drop, A: Allocator + Copy>(
     value: V,
 ) -> Result<(), Refusal>
     requires { IsRoot root.old count.old }
-    ensures ok { OnOk result (root_entries root.new ≡ put order (word 7 hash key) value (root_entries root.old)) }
+    ensures ok { OnOk result (root_entries root.new ≡ put bytes_cmp (word 7 hash key) value (root_entries root.old)) }
     ensures is_root { IsRoot root.new count.new }
     ensures same { OnErr result (root_entries root.new ≡ root_entries root.old) }
     ensures err { IsOkUnless result OutOfMemory }
@@ -120,8 +121,8 @@ fn take_root<V: Drop, A: Allocator + Copy>(
     key: &[u8],
 ) -> Result<(), Refusal>
     requires stands { RootStands root.old }
-    requires sorted { T (is_sorted order (root_entries root.old)) }
-    requires found { is_some (find order (word 7 hash key.now) (root_entries root.old)) ≡ true }
+    requires sorted { T (is_sorted bytes_cmp (root_entries root.old)) }
+    requires found { is_some (find bytes_cmp (word 7 hash key.now) (root_entries root.old)) ≡ true }
     ensures ok { OnOk result (root_entries root.new ≡ cut (word 7 hash key.now) (root_entries root.old)) }
     ensures stands { RootStands root.new }
     ensures same { OnErr result (root_entries root.new ≡ root_entries root.old) }
@@ -149,7 +150,7 @@ pub(crate) fn remove_at<V: Drop, A: Allocator + Copy>(
     key: &[u8],
 ) -> Result<Option<Arc<V, A>>, Refusal>
     requires { IsRoot root.old count.old }
-    ensures value { IfOk result (λ taken. option_map (λ value. value.value) taken ≡ find order (word 7 hash key.now) (root_entries root.old)) }
+    ensures value { IfOk result (λ taken. option_map (λ value. value.value) taken ≡ find bytes_cmp (word 7 hash key.now) (root_entries root.old)) }
     ensures ok { OnOk result (root_entries root.new ≡ cut (word 7 hash key.now) (root_entries root.old)) }
     ensures is_root { IsRoot root.new count.new }
     ensures same { OnErr result (root_entries root.new ≡ root_entries root.old) }

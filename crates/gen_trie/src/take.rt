@@ -3,7 +3,8 @@
 ghost use Rattle.std.specs.Prelude.{◌≡◌, ◌≢◌, ◌+◌, ◌≤◌, ℕ, suc, [], ◌∷◌, length, true, vec_len, T, is_some, MatchOption, OnOk, OnErr, IfOk, IsOkUnless};
 ghost use Rattle.std.specs.FinMap.Entries.{find, is_sorted};
 ghost use Rattle.dots.specs.declared.refusal.Refusal.TheVariants.{OutOfMemory};
-ghost use Rattle.hash_path.specs.Word.{order, word, digit};
+ghost use Rattle.dots.specs.Bytes.{bytes_cmp};
+ghost use Rattle.hash_path.specs.Word.{word, digit};
 ghost use Rattle.hash_path.specs.Cut.{cut};
 ghost use Rattle.hash_path.specs.Fan.{fan, at};
 ghost use Rattle.gen_trie.specs.Shapes.{children, child, entry_at, StandsBelow, IsBranch, IsSeat};
@@ -72,8 +73,8 @@ fn other_of<'a, V, A: Allocator>(
     hash: u32,
     key: &[u8],
 ) -> &'a Arc<Entry<V, A>, A>
-    ensures { (height : ℕ) → T (is_sorted order (entry_at height a.now.value ∷ entry_at height b.now.value ∷ []))
-        → is_some (find order (word height hash key.now) (entry_at height a.now.value ∷ entry_at height b.now.value ∷ [])) ≡ true
+    ensures { (height : ℕ) → T (is_sorted bytes_cmp (entry_at height a.now.value ∷ entry_at height b.now.value ∷ []))
+        → is_some (find bytes_cmp (word height hash key.now) (entry_at height a.now.value ∷ entry_at height b.now.value ∷ [])) ≡ true
         → cut (word height hash key.now) (entry_at height a.now.value ∷ entry_at height b.now.value ∷ []) ≡ entry_at height result.now.value ∷ [] }
 {
     if a.is_at(hash, key) { b } else { a }
@@ -85,8 +86,8 @@ fn lone_after<V: Drop, A: Allocator + Copy>(
     hash: u32,
     key: &[u8],
 ) -> Result<Option<Arc<Entry<V, A>, A>>, Refusal>
-    requires sorted { T (is_sorted order node.now.1) }
-    requires found { is_some (find order (word node.now.0 hash key.now) node.now.1) ≡ true }
+    requires sorted { T (is_sorted bytes_cmp node.now.1) }
+    requires found { is_some (find bytes_cmp (word node.now.0 hash key.now) node.now.1) ≡ true }
     ensures ok { IfOk result (λ left. MatchOption left (length node.now.1 ≢ 2) (λ entry. cut (word node.now.0 hash key.now) node.now.1 ≡ entry_at node.now.0 entry.value ∷ [])) }
     ensures err { IsOkUnless result OutOfMemory }
 {
@@ -105,8 +106,8 @@ fn take<V: Drop, A: Allocator + Copy>(
     hash: u32,
     key: &[u8],
 ) -> Result<(), Refusal>
-    requires sorted { T (is_sorted order node.old.1) }
-    requires found { is_some (find order (word node.old.0 hash key.now) node.old.1) ≡ true }
+    requires sorted { T (is_sorted bytes_cmp node.old.1) }
+    requires found { is_some (find bytes_cmp (word node.old.0 hash key.now) node.old.1) ≡ true }
     ensures ok { OnOk result (node.new ≡ (node.old.0, cut (word node.old.0 hash key.now) node.old.1)) }
     ensures same { OnErr result (node.new ≡ node.old) }
     ensures err { IsOkUnless result OutOfMemory }
@@ -133,8 +134,8 @@ fn take_branch<V: Drop, A: Allocator + Copy>(
     key: &[u8],
 ) -> Result<(), Refusal>
     requires branch { IsBranch below bitmap.old slots.old.items }
-    requires sorted { T (is_sorted order (fan (children below slots.old.items))) }
-    requires found { is_some (find order (word (suc below) hash key.now) (fan (children below slots.old.items))) ≡ true }
+    requires sorted { T (is_sorted bytes_cmp (fan (children below slots.old.items))) }
+    requires found { is_some (find bytes_cmp (word (suc below) hash key.now) (fan (children below slots.old.items))) ≡ true }
     ensures ok { OnOk result (fan (children below slots.new.items) ≡ cut (word (suc below) hash key.now) (fan (children below slots.old.items))) }
     ensures branch { IsBranch below bitmap.new slots.new.items }
     ensures same { OnErr result (fan (children below slots.new.items) ≡ fan (children below slots.old.items)) }
@@ -179,8 +180,8 @@ pub(crate) fn take_below<V: Drop, A: Allocator + Copy>(
 ) -> Result<(), Refusal>
     requires fits { StandsBelow below slot.old }
     requires many { 2 ≤ length (child below slot.old).1 }
-    requires sorted { T (is_sorted order (child below slot.old).1) }
-    requires found { is_some (find order (word below hash key.now) (child below slot.old).1) ≡ true }
+    requires sorted { T (is_sorted bytes_cmp (child below slot.old).1) }
+    requires found { is_some (find bytes_cmp (word below hash key.now) (child below slot.old).1) ≡ true }
     ensures ok { OnOk result (child below slot.new ≡ ((child below slot.old).0, cut (word below hash key.now) (child below slot.old).1)) }
     ensures fits { StandsBelow below slot.new }
     ensures same { OnErr result (child below slot.new ≡ child below slot.old) }
@@ -208,8 +209,8 @@ fn take_shared<V: Drop, A: Allocator + Copy>(
     hash: u32,
     key: &[u8],
 ) -> Result<(), Refusal>
-    requires sorted { T (is_sorted order node.old.value.1) }
-    requires found { is_some (find order (word node.old.value.0 hash key.now) node.old.value.1) ≡ true }
+    requires sorted { T (is_sorted bytes_cmp node.old.value.1) }
+    requires found { is_some (find bytes_cmp (word node.old.value.0 hash key.now) node.old.value.1) ≡ true }
     ensures ok { OnOk result (node.new.value ≡ (node.old.value.0, cut (word node.old.value.0 hash key.now) node.old.value.1)) }
     ensures same { OnErr result (node.new.value ≡ node.old.value) }
     ensures err { IsOkUnless result OutOfMemory }

@@ -9,7 +9,8 @@ use Rattle.std.specs.Cmp.{tied_itself, nat_cmp_total}
 use Rattle.std.specs.Cmp.Lexicographic.{nat_list_cmp_total}
 use Rattle.std.specs.FinMap.Entries.{by_order, find, is_sorted, below_all, length_without}
 use Rattle.std.proofs.lemmas.List.Elements.{filter-append}
-use Rattle.hash_path.specs.Word.{order, AllWords}
+use Rattle.dots.specs.Bytes.{bytes_cmp}
+use Rattle.hash_path.specs.Word.{AllWords}
 use Rattle.hash_path.specs.Cut.{cut, without, spot}
 use Rattle.hash_path.specs.Fan.{under, fan, Rise, at, there, place, put_child, bits_of}
 use Rattle.hash_path.proofs.Orders.{same, is_less}
@@ -42,15 +43,15 @@ module _ {V : Type 0} (i : ℕ) (w : List ℕ) where
   cut-under j [] Equal p = refl
   cut-under j [] Greater p = refl
   cut-under j (e ∷ es) Less p =
-      ap (λ r. cond (not (is_eq (ordering_then r (order w e.0)))) ((j ∷ e.0, e.1) ∷ cut (i ∷ w) (under j es)) (cut (i ∷ w) (under j es))) p ∙ ap (λ l. (j ∷ e.0, e.1) ∷ l) (cut-under j es Less p)
+      ap (λ r. cond (not (is_eq (ordering_then r (bytes_cmp w e.0)))) ((j ∷ e.0, e.1) ∷ cut (i ∷ w) (under j es)) (cut (i ∷ w) (under j es))) p ∙ ap (λ l. (j ∷ e.0, e.1) ∷ l) (cut-under j es Less p)
   cut-under j (e ∷ es) Equal p =
-      ap (λ r. cond (not (is_eq (ordering_then r (order w e.0)))) ((j ∷ e.0, e.1) ∷ cut (i ∷ w) (under j es)) (cut (i ∷ w) (under j es))) p
-      ∙ kept j (not (is_eq (order w e.0))) e es (cut (i ∷ w) (under j es)) (cut-under j es Equal p)
+      ap (λ r. cond (not (is_eq (ordering_then r (bytes_cmp w e.0)))) ((j ∷ e.0, e.1) ∷ cut (i ∷ w) (under j es)) (cut (i ∷ w) (under j es))) p
+      ∙ kept j (not (is_eq (bytes_cmp w e.0))) e es (cut (i ∷ w) (under j es)) (cut-under j es Equal p)
   cut-under j (e ∷ es) Greater p =
-      ap (λ r. cond (not (is_eq (ordering_then r (order w e.0)))) ((j ∷ e.0, e.1) ∷ cut (i ∷ w) (under j es)) (cut (i ∷ w) (under j es))) p ∙ ap (λ l. (j ∷ e.0, e.1) ∷ l) (cut-under j es Greater p)
+      ap (λ r. cond (not (is_eq (ordering_then r (bytes_cmp w e.0)))) ((j ∷ e.0, e.1) ∷ cut (i ∷ w) (under j es)) (cut (i ∷ w) (under j es))) p ∙ ap (λ l. (j ∷ e.0, e.1) ∷ l) (cut-under j es Greater p)
 
   cut-append : (xs ys : List (List ℕ × V)) → cut (i ∷ w) (xs ++ ys) ≡ cut (i ∷ w) xs ++ cut (i ∷ w) ys
-  cut-append xs ys = filter-append (λ e. not (eq_by_cmp order (i ∷ w) e.0)) xs ys
+  cut-append xs ys = filter-append (λ e. not (eq_by_cmp bytes_cmp (i ∷ w) e.0)) xs ys
 
   cut_absent : (low : ℕ) (cs : List (ℕ × List (List ℕ × V))) → Rise low cs → i < low → cut (i ∷ w) (fan cs) ≡ fan cs
   cut_absent low [] r h = refl
@@ -128,50 +129,50 @@ module _ {V : Type 0} (i : ℕ) where
 module _ {V : Type 0} where
   pub AllWords-cut : (height : ℕ) (w : List ℕ) (es : List (List ℕ × V)) → AllWords height es → AllWords height (cut w es)
   AllWords-cut height w [] a = tt
-  AllWords-cut height w (e ∷ es) a = step (not (eq_by_cmp order w e.0)) (AllWords-cut height w es a.1)
+  AllWords-cut height w (e ∷ es) a = step (not (eq_by_cmp bytes_cmp w e.0)) (AllWords-cut height w es a.1)
     where
       step : (b : Bool) → AllWords height (cut w es) → AllWords height (cond b (e ∷ cut w es) (cut w es))
       step true rest = (a.0, rest)
       step false rest = rest
 
-  pub length-cut : (w : List ℕ) (es : List (List ℕ × V)) → T (is_sorted order es) → is_some (find order w es) ≡ true → suc (length (cut w es)) ≡ length es
+  pub length-cut : (w : List ℕ) (es : List (List ℕ × V)) → T (is_sorted bytes_cmp es) → is_some (find bytes_cmp w es) ≡ true → suc (length (cut w es)) ≡ length es
   length-cut w es s f =
-      let all = subst (λ b. cond b 1 0 + length (cut w es) ≡ length es) f (length_without order nat_list_cmp_total w es s) in
+      let all = subst (λ b. cond b 1 0 + length (cut w es) ≡ length es) f (length_without bytes_cmp nat_list_cmp_total w es s) in
       omega arith
 
   -- ---- order
 
-  below_right : (x : List ℕ) (xs ys : List (List ℕ × V)) → T (below_all order x (xs ++ ys)) → T (below_all order x xs)
+  below_right : (x : List ℕ) (xs ys : List (List ℕ × V)) → T (below_all bytes_cmp x (xs ++ ys)) → T (below_all bytes_cmp x xs)
   below_right x [] ys t = tt
   below_right x (e ∷ xs) ys t =
-      both _ _ (first (is_lt (order x e.0)) (below_all order x (xs ++ ys)) t) (below_right x xs ys (second (is_lt (order x e.0)) (below_all order x (xs ++ ys)) t))
+      both _ _ (first (is_lt (bytes_cmp x e.0)) (below_all bytes_cmp x (xs ++ ys)) t) (below_right x xs ys (second (is_lt (bytes_cmp x e.0)) (below_all bytes_cmp x (xs ++ ys)) t))
 
-  sorted_left : (xs ys : List (List ℕ × V)) → T (is_sorted order (xs ++ ys)) → T (is_sorted order xs)
+  sorted_left : (xs ys : List (List ℕ × V)) → T (is_sorted bytes_cmp (xs ++ ys)) → T (is_sorted bytes_cmp xs)
   sorted_left [] ys t = tt
   sorted_left (e ∷ xs) ys t =
-      both _ _ (below_right e.0 xs ys (first (below_all order e.0 (xs ++ ys)) (is_sorted order (xs ++ ys)) t)) (sorted_left xs ys (second (below_all order e.0 (xs ++ ys)) (is_sorted order (xs ++ ys)) t))
+      both _ _ (below_right e.0 xs ys (first (below_all bytes_cmp e.0 (xs ++ ys)) (is_sorted bytes_cmp (xs ++ ys)) t)) (sorted_left xs ys (second (below_all bytes_cmp e.0 (xs ++ ys)) (is_sorted bytes_cmp (xs ++ ys)) t))
 
-  sorted_right : (xs ys : List (List ℕ × V)) → T (is_sorted order (xs ++ ys)) → T (is_sorted order ys)
+  sorted_right : (xs ys : List (List ℕ × V)) → T (is_sorted bytes_cmp (xs ++ ys)) → T (is_sorted bytes_cmp ys)
   sorted_right [] ys t = t
-  sorted_right (e ∷ xs) ys t = sorted_right xs ys (second (below_all order e.0 (xs ++ ys)) (is_sorted order (xs ++ ys)) t)
+  sorted_right (e ∷ xs) ys t = sorted_right xs ys (second (below_all bytes_cmp e.0 (xs ++ ys)) (is_sorted bytes_cmp (xs ++ ys)) t)
 
-  below-under : (j : ℕ) (x : List ℕ) (es : List (List ℕ × V)) → T (below_all order (j ∷ x) (under j es)) → T (below_all order x es)
+  below-under : (j : ℕ) (x : List ℕ) (es : List (List ℕ × V)) → T (below_all bytes_cmp (j ∷ x) (under j es)) → T (below_all bytes_cmp x es)
   below-under j x [] t = tt
   below-under j x (e ∷ es) t =
-      both _ _ (subst (λ r. T (is_lt r)) (same_index j (order x e.0)) (first (is_lt (order (j ∷ x) (j ∷ e.0))) (below_all order (j ∷ x) (under j es)) t))
-      (below-under j x es (second (is_lt (order (j ∷ x) (j ∷ e.0))) (below_all order (j ∷ x) (under j es)) t))
+      both _ _ (subst (λ r. T (is_lt r)) (same_index j (bytes_cmp x e.0)) (first (is_lt (bytes_cmp (j ∷ x) (j ∷ e.0))) (below_all bytes_cmp (j ∷ x) (under j es)) t))
+      (below-under j x es (second (is_lt (bytes_cmp (j ∷ x) (j ∷ e.0))) (below_all bytes_cmp (j ∷ x) (under j es)) t))
 
-  sorted-under : (j : ℕ) (es : List (List ℕ × V)) → T (is_sorted order (under j es)) → T (is_sorted order es)
+  sorted-under : (j : ℕ) (es : List (List ℕ × V)) → T (is_sorted bytes_cmp (under j es)) → T (is_sorted bytes_cmp es)
   sorted-under j [] t = tt
   sorted-under j (e ∷ es) t =
-      both _ _ (below-under j e.0 es (first (below_all order (j ∷ e.0) (under j es)) (is_sorted order (under j es)) t)) (sorted-under j es (second (below_all order (j ∷ e.0) (under j es)) (is_sorted order (under j es)) t))
+      both _ _ (below-under j e.0 es (first (below_all bytes_cmp (j ∷ e.0) (under j es)) (is_sorted bytes_cmp (under j es)) t)) (sorted-under j es (second (below_all bytes_cmp (j ∷ e.0) (under j es)) (is_sorted bytes_cmp (under j es)) t))
 
   -- the entries at an index ascend where all do
-  pub sorted-at : (i : ℕ) (cs : List (ℕ × List (List ℕ × V))) → T (is_sorted order (fan cs)) → T (is_sorted order (at i cs))
+  pub sorted-at : (i : ℕ) (cs : List (ℕ × List (List ℕ × V))) → T (is_sorted bytes_cmp (fan cs)) → T (is_sorted bytes_cmp (at i cs))
   sorted-at i [] t = tt
   sorted-at i (c ∷ cs) t = step (nat_cmp i c.0) (sorted-at i cs (sorted_right (under c.0 c.1) (fan cs) t))
     where
-      step : (o : Ordering) → T (is_sorted order (at i cs)) → T (is_sorted order (by_order o [] c.1 (at i cs)))
+      step : (o : Ordering) → T (is_sorted bytes_cmp (at i cs)) → T (is_sorted bytes_cmp (by_order o [] c.1 (at i cs)))
       step Less rest = tt
       step Equal rest = sorted-under c.0 c.1 (sorted_left (under c.0 c.1) (fan cs) t)
       step Greater rest = rest
@@ -184,36 +185,36 @@ not_tied Equal t = absurd t
 not_tied Greater t = absurd t
 
 module _ {V : Type 0} (w : List ℕ) where
-  cut_none : (es : List (List ℕ × V)) → T (below_all order w es) → cut w es ≡ es
+  cut_none : (es : List (List ℕ × V)) → T (below_all bytes_cmp w es) → cut w es ≡ es
   cut_none [] t = refl
   cut_none (e ∷ es) t =
-      let apart : eq_by_cmp order w e.0 ≡ false = not_tied (order w e.0) (first (is_lt (order w e.0)) (below_all order w es) t) in
-      let rest = cut_none es (second (is_lt (order w e.0)) (below_all order w es) t) in
+      let apart : eq_by_cmp bytes_cmp w e.0 ≡ false = not_tied (bytes_cmp w e.0) (first (is_lt (bytes_cmp w e.0)) (below_all bytes_cmp w es) t) in
+      let rest = cut_none es (second (is_lt (bytes_cmp w e.0)) (below_all bytes_cmp w es) t) in
       (λ i. cond (not (apart i)) (e ∷ cut w es) (cut w es)) ∙ ap (λ l. e ∷ l) rest
 
   -- in an ascending list nothing behind the first that ties does
-  pub remove_spot : (es : List (List ℕ × V)) → T (is_sorted order es) → spot w es < length es → remove es (spot w es) ≡ cut w es
+  pub remove_spot : (es : List (List ℕ × V)) → T (is_sorted bytes_cmp es) → spot w es < length es → remove es (spot w es) ≡ cut w es
   remove_spot [] s h = absurd (omega arith)
-  remove_spot (e ∷ es) s h = step (eq_by_cmp order w e.0) refl (remove_spot es (second (below_all order e.0 es) (is_sorted order es) s)) h
+  remove_spot (e ∷ es) s h = step (eq_by_cmp bytes_cmp w e.0) refl (remove_spot es (second (below_all bytes_cmp e.0 es) (is_sorted bytes_cmp es) s)) h
     where
-      step : (b : Bool) → eq_by_cmp order w e.0 ≡ b → (spot w es < length es → remove es (spot w es) ≡ cut w es) → cond b 0 (suc (spot w es)) < suc (length es)
+      step : (b : Bool) → eq_by_cmp bytes_cmp w e.0 ≡ b → (spot w es < length es → remove es (spot w es) ≡ cut w es) → cond b 0 (suc (spot w es)) < suc (length es)
           → remove (e ∷ es) (cond b 0 (suc (spot w es))) ≡ cond (not b) (e ∷ cut w es) (cut w es)
-      step true t rest l = sym (cut_none es (subst (λ x. T (below_all order x es)) (sym (tied_same w e.0 t)) (first (below_all order e.0 es) (is_sorted order es) s)))
+      step true t rest l = sym (cut_none es (subst (λ x. T (below_all bytes_cmp x es)) (sym (tied_same w e.0 t)) (first (below_all bytes_cmp e.0 es) (is_sorted bytes_cmp es) s)))
       step false t rest l = ap (λ r. e ∷ r) (rest (omega arith))
 
   pub cut_past : (es : List (List ℕ × V)) → length es ≤ spot w es → cut w es ≡ es
   cut_past [] h = refl
-  cut_past (e ∷ es) h = step (eq_by_cmp order w e.0) (cut_past es) h
+  cut_past (e ∷ es) h = step (eq_by_cmp bytes_cmp w e.0) (cut_past es) h
     where
       step : (b : Bool) → (length es ≤ spot w es → cut w es ≡ es) → suc (length es) ≤ cond b 0 (suc (spot w es)) → cond (not b) (e ∷ cut w es) (cut w es) ≡ e ∷ es
       step true rest l = absurd (omega arith)
       step false rest l = ap (λ r. e ∷ r) (rest (omega arith))
 
   -- a word that is not there
-  pub cut_missing : (es : List (List ℕ × V)) → find order w es ≡ None → cut w es ≡ es
+  pub cut_missing : (es : List (List ℕ × V)) → find bytes_cmp w es ≡ None → cut w es ≡ es
   cut_missing [] h = refl
-  cut_missing (e ∷ es) h = step (eq_by_cmp order w e.0) (cut_missing es) h
+  cut_missing (e ∷ es) h = step (eq_by_cmp bytes_cmp w e.0) (cut_missing es) h
     where
-      step : (b : Bool) → (find order w es ≡ None → cut w es ≡ es) → cond b (Some e.1) (find order w es) ≡ None → cond (not b) (e ∷ cut w es) (cut w es) ≡ e ∷ es
+      step : (b : Bool) → (find bytes_cmp w es ≡ None → cut w es ≡ es) → cond b (Some e.1) (find bytes_cmp w es) ≡ None → cond (not b) (e ∷ cut w es) (cut w es) ≡ e ∷ es
       step true rest l = cc
       step false rest l = ap (λ r. e ∷ r) (rest l)

@@ -7,7 +7,8 @@ use Rattle.std.specs.Cmp.{tied_itself, both_ways}
 use Rattle.std.specs.Cmp.Lexicographic.{nat_list_cmp_total, pointwise, texts_ties}
 use Rattle.std.specs.FinMap.{nat_cmp-IsAntisymmetric, slice_cmp-IsAntisymmetric}
 use Rattle.std.specs.FinMap.Entries.{by_order, put}
-use Rattle.hash_path.specs.Word.{order, word, hash_in, key_in, IsWord, AllWords}
+use Rattle.dots.specs.Bytes.{bytes_cmp}
+use Rattle.hash_path.specs.Word.{word, hash_in, key_in, IsWord, AllWords}
 
 pub hash_in-word : (height hash : ℕ) (key : List ℕ) → hash_in height (word height hash key) ≡ hash
 hash_in-word zero hash key = refl
@@ -20,11 +21,11 @@ key_in-word (suc below) hash key = key_in-word below hash key
 pub IsWord-word : (height hash : ℕ) (key : List ℕ) → IsWord height (word height hash key)
 IsWord-word height hash key = λ i. word height (sym (hash_in-word height hash key) i) (sym (key_in-word height hash key) i)
 
-pub AllWords-put : {V : Type 0} (height : ℕ) (w : List ℕ) (v : V) (es : List (List ℕ × V)) → AllWords height es → IsWord height w → AllWords height (put order w v es)
+pub AllWords-put : {V : Type 0} (height : ℕ) (w : List ℕ) (v : V) (es : List (List ℕ × V)) → AllWords height es → IsWord height w → AllWords height (put bytes_cmp w v es)
 AllWords-put height w v [] a p = (p, tt)
-AllWords-put height w v (e ∷ es) a p = step (order w e.0) (AllWords-put height w v es a.1 p)
+AllWords-put height w v (e ∷ es) a p = step (bytes_cmp w e.0) (AllWords-put height w v es a.1 p)
   where
-    step : (o : Ordering) → AllWords height (put order w v es) → AllWords height (by_order o ((w, v) ∷ e ∷ es) ((e.0, v) ∷ es) (e ∷ put order w v es))
+    step : (o : Ordering) → AllWords height (put bytes_cmp w v es) → AllWords height (by_order o ((w, v) ∷ e ∷ es) ((e.0, v) ∷ es) (e ∷ put bytes_cmp w v es))
     step Less rest = (p, a)
     step Equal rest = a
     step Greater rest = (a.0, rest)
@@ -36,17 +37,17 @@ equal Less e = cc
 equal Equal e = refl
 equal Greater e = cc
 
-pub tied_same : (x y : List ℕ) → eq_by_cmp order x y ≡ true → x ≡ y
-tied_same x y t = slice_cmp-IsAntisymmetric nat_cmp-IsAntisymmetric x y (equal (order x y) t)
+pub tied_same : (x y : List ℕ) → eq_by_cmp bytes_cmp x y ≡ true → x ≡ y
+tied_same x y t = slice_cmp-IsAntisymmetric nat_cmp-IsAntisymmetric x y (equal (bytes_cmp x y) t)
 
-pub same_tied : (x y : List ℕ) → x ≡ y → eq_by_cmp order x y ≡ true
-same_tied x y e = ap (λ z. is_eq (order x z)) (sym e) ∙ ap is_eq (tied_itself nat_list_cmp_total x)
+pub same_tied : (x y : List ℕ) → x ≡ y → eq_by_cmp bytes_cmp x y ≡ true
+same_tied x y e = ap (λ z. is_eq (bytes_cmp x z)) (sym e) ∙ ap is_eq (tied_itself nat_list_cmp_total x)
 
-pub tied_by : (x y p q : List ℕ) → (x ≡ y → p ≡ q) → (p ≡ q → x ≡ y) → eq_by_cmp order x y ≡ eq_by_cmp order p q
+pub tied_by : (x y p q : List ℕ) → (x ≡ y → p ≡ q) → (p ≡ q → x ≡ y) → eq_by_cmp bytes_cmp x y ≡ eq_by_cmp bytes_cmp p q
 tied_by x y p q f g = both_ways _ _ (λ t. same_tied p q (f (tied_same x y t))) (λ t. same_tied x y (g (tied_same p q t)))
 
 -- two words tie exactly where hash and bytes do
-pub tied-word : (height a b : ℕ) (k l : List ℕ) → eq_by_cmp order (word height a k) (word height b l) ≡ eq_by_cmp order (a ∷ k) (b ∷ l)
+pub tied-word : (height a b : ℕ) (k l : List ℕ) → eq_by_cmp bytes_cmp (word height a k) (word height b l) ≡ eq_by_cmp bytes_cmp (a ∷ k) (b ∷ l)
 tied-word height a b k l =
     tied_by (word height a k) (word height b l) (a ∷ k) (b ∷ l)
     (λ e. let h = sym (hash_in-word height a k) ∙ ap (hash_in height) e ∙ hash_in-word height b l in
@@ -56,17 +57,17 @@ tied-word height a b k l =
 
 -- ---- how many
 
-pub length_put_ge : {V : Type 0} (w : List ℕ) (v : V) (es : List (List ℕ × V)) → length es ≤ length (put order w v es)
+pub length_put_ge : {V : Type 0} (w : List ℕ) (v : V) (es : List (List ℕ × V)) → length es ≤ length (put bytes_cmp w v es)
 length_put_ge w v [] = omega arith
-length_put_ge w v (e ∷ es) = step (order w e.0) (length_put_ge w v es)
+length_put_ge w v (e ∷ es) = step (bytes_cmp w e.0) (length_put_ge w v es)
   where
-    step : (o : Ordering) → length es ≤ length (put order w v es) → suc (length es) ≤ length (by_order o ((w, v) ∷ e ∷ es) ((e.0, v) ∷ es) (e ∷ put order w v es))
+    step : (o : Ordering) → length es ≤ length (put bytes_cmp w v es) → suc (length es) ≤ length (by_order o ((w, v) ∷ e ∷ es) ((e.0, v) ∷ es) (e ∷ put bytes_cmp w v es))
     step Less h = omega arith
     step Equal h = omega arith
     step Greater h = omega arith
 
-pub two_apart : {V : Type 0} (w x : List ℕ) (v u : V) → eq_by_cmp order w x ≡ false → 2 ≤ length {A = List ℕ × V} (put order w v ((x, u) ∷ []))
-two_apart {V} w x v u = step (order w x)
+pub two_apart : {V : Type 0} (w x : List ℕ) (v u : V) → eq_by_cmp bytes_cmp w x ≡ false → 2 ≤ length {A = List ℕ × V} (put bytes_cmp w v ((x, u) ∷ []))
+two_apart {V} w x v u = step (bytes_cmp w x)
   where
     step : (o : Ordering) → is_eq o ≡ false → 2 ≤ length {A = List ℕ × V} (by_order o ((w, v) ∷ (x, u) ∷ []) ((x, v) ∷ []) ((x, u) ∷ (w, v) ∷ []))
     step Less e = omega arith
@@ -74,13 +75,13 @@ two_apart {V} w x v u = step (order w x)
     step Greater e = omega arith
 
 -- in code: hashes are compared as numbers and bytes as slices
-pub tied_bytes : (a b : ℕ) (k l : List ℕ) → b ≡ a → pointwise nat_eq l k ≡ eq_by_cmp order (a ∷ k) (b ∷ l)
+pub tied_bytes : (a b : ℕ) (k l : List ℕ) → b ≡ a → pointwise nat_eq l k ≡ eq_by_cmp bytes_cmp (a ∷ k) (b ∷ l)
 tied_bytes a b k l e =
     texts_ties l k ∙ tied_by l k (a ∷ k) (b ∷ l) (λ p i. sym e i ∷ sym p i) (λ p. sym (ap (drop 1) p))
 
 -- putting at a word that ties with the only one
-pub put_tied : {V : Type 0} (w x : List ℕ) (v u : V) → w ≡ x → ◌≡◌ {A = List (List ℕ × V)} (put order w v ((x, u) ∷ [])) ((x, v) ∷ [])
-put_tied {V} w x v u e = step (order w x) (equal (order w x) (same_tied w x e))
+pub put_tied : {V : Type 0} (w x : List ℕ) (v u : V) → w ≡ x → ◌≡◌ {A = List (List ℕ × V)} (put bytes_cmp w v ((x, u) ∷ [])) ((x, v) ∷ [])
+put_tied {V} w x v u e = step (bytes_cmp w x) (equal (bytes_cmp w x) (same_tied w x e))
   where
     step : (o : Ordering) → o ≡ Equal → ◌≡◌ {A = List (List ℕ × V)} (by_order o ((w, v) ∷ (x, u) ∷ []) ((x, v) ∷ []) ((x, u) ∷ (w, v) ∷ [])) ((x, v) ∷ [])
     step Less q = cc

@@ -2,7 +2,8 @@
 -- keys; the walk of a map is its entries in the order of their paths. Of this project.
 use Rattle.std.specs.Prelude.{◌≡◌, ℕ, List, [], ◌∷◌, map}
 use Rattle.std.specs.FinMap as finite
-use Rattle.hash_path.specs.Word.{order, word, key_in}
+use Rattle.dots.specs.Bytes.{bytes_cmp}
+use Rattle.hash_path.specs.Word.{word, key_in}
 
 -- the word of a key at the root: its seven indices, its hash, its bytes
 abbrev pub path : (List ℕ → ℕ) → List ℕ → List ℕ
@@ -22,7 +23,7 @@ abbrev pub by_key : {V : Type 0} → ℕ → List (List ℕ × V) → List (List
 by_key height = map (λ e. (key_in height e.0, e.1))
 
 -- the map of the entries at the root
-abbrev pub as_map : {V : Type 0} → List (List ℕ × V) → finite.FinMap order V
+abbrev pub as_map : {V : Type 0} → List (List ℕ × V) → finite.FinMap bytes_cmp V
 as_map es = finite.from_entries (by_key 7 es)
 
 -- the entries with the path of each key in the key's place
@@ -31,12 +32,12 @@ with_path hash_of [] = []
 with_path hash_of (e ∷ es) = (path hash_of e.0, e.1) ∷ with_path hash_of es
 
 -- the entries of a map by path, ascending
-abbrev pub by_path : {V : Type 0} → (List ℕ → ℕ) → finite.FinMap order V → List (List ℕ × V)
-by_path hash_of m = finite.entries (finite.from_entries {R = order} (with_path hash_of (finite.entries m)))
+abbrev pub by_path : {V : Type 0} → (List ℕ → ℕ) → finite.FinMap bytes_cmp V → List (List ℕ × V)
+by_path hash_of m = finite.entries (finite.from_entries {R = bytes_cmp} (with_path hash_of (finite.entries m)))
 
 -- The walk of a map: its keys and values as a walk of the whole trie meets them, at each branch the children by
 -- ascending index. So the entries ascend by the sequence of the seven indices of their keys' hashes, the one of the
 -- lowest five bits first, and those of equal hashes by key bytes. It is a function of the map and the hash alone, and
 -- not of the order that the keys were written in.
-abbrev pub walk : {V : Type 0} → (List ℕ → ℕ) → finite.FinMap order V → List (List ℕ × V)
+abbrev pub walk : {V : Type 0} → (List ℕ → ℕ) → finite.FinMap bytes_cmp V → List (List ℕ × V)
 walk hash_of m = by_key 7 (by_path hash_of m)

@@ -1,16 +1,9 @@
 -- Words: what a key is told by below a node of the trie. A word is the indices that are left on the key's path, then
 -- its hash, then its bytes; so two keys of one height have one word exactly when their hashes and their bytes are
--- equal. Words are ordered as texts are, and at the root that is the order of the walk: by index sequence, then by
--- bytes. Of this project.
+-- equal. Words are ordered as texts are, by `bytes_cmp`, and at the root that is the order of the walk: by index
+-- sequence, then by bytes. Of this project.
 use Rattle.std.specs.Prelude.{◌≡◌, ℕ, zero, suc, ◌-◌, List, [], ◌∷◌, get_or, drop}
-use Rattle.std.specs.declared.cmp.Ordering.{Ordering}
-use Rattle.std.specs.Ordering.{nat_cmp}
-use Rattle.std.specs.Cmp.Lexicographic.{slice_cmp}
 use Rattle.hash_path.specs.Path.{index_in}
-
--- the order of texts, by their bytes, and of words
-abbrev pub order : List ℕ → List ℕ → Ordering
-order = slice_cmp nat_cmp
 
 -- the index of a hash where so many levels of branches are below
 abbrev pub digit : ℕ → ℕ → ℕ

@@ -11,7 +11,8 @@ use Rattle.std.specs.FinMap as finite
 use Rattle.dots.specs.Dot.{DotValue}
 use Rattle.sha2.specs.Sha256.{sha256}
 use Rattle.wire_form.specs.Fields.{text, values}
-use Rattle.hash_path.specs.Word.{order, key_in}
+use Rattle.dots.specs.Bytes.{bytes_cmp}
+use Rattle.hash_path.specs.Word.{key_in}
 use Rattle.hash_path.specs.Map.{by_key, by_path}
 use Rattle.hash_path.specs.Summary.{under_index, present}
 
@@ -51,8 +52,8 @@ page_under (i ∷ p) zero es = None
 page_under (i ∷ p) (suc below) es = page_under p below (under_index i es)
 
 -- the page and the digest of a finite map at a prefix
-abbrev pub page_at : (List ℕ → ℕ) → finite.FinMap order Values → List ℕ → Option (List ℕ)
+abbrev pub page_at : (List ℕ → ℕ) → finite.FinMap bytes_cmp Values → List ℕ → Option (List ℕ)
 page_at hash_of m prefix = page_under prefix 7 (by_path hash_of m)
 
-abbrev pub digest_at : (List ℕ → ℕ) → finite.FinMap order Values → List ℕ → Option (List ℕ)
+abbrev pub digest_at : (List ℕ → ℕ) → finite.FinMap bytes_cmp Values → List ℕ → Option (List ℕ)
 digest_at hash_of m prefix = option_map sha256 (page_at hash_of m prefix)

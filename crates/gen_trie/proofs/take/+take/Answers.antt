@@ -1,7 +1,8 @@
 use Rattle.std.proofs.Common.{rules, ◌≡◌, ◌≢◌, ◌≤◌, ◌<◌, suc, length, true, sym, ◌∙◌, ap, subst, refl, arith}
 use Rattle.std.specs.Prelude.{T, is_some}
 use Rattle.std.specs.FinMap.Entries.{find, is_sorted}
-use Rattle.hash_path.specs.Word.{order, word}
+use Rattle.dots.specs.Bytes.{bytes_cmp}
+use Rattle.hash_path.specs.Word.{word}
 use Rattle.hash_path.specs.Cut.{cut}
 use Rattle.gen_trie.specs.Shapes.{child, StandsBelow, height_and_entries}
 use Rattle.gen_trie.proofs.Puts.{put_none_is, ok_so, err_so, either_so}
@@ -28,8 +29,8 @@ take_below-returns-in-None-clause-fits g t c =
     let fits = subst (StandsBelow c.args.below) c.in-Many.is c.requires.fits in
     let two = left_none _ c.in_ok-entry-in-Many.field-0 c.in-None.is c.in_ok-entry-in-Many.ensures.ok in
     two_left c.args.below c.args.hash c.args.key.now c.take_shared.result c.take_shared.new.node.value c.in-Many.node.value c.take_shared.ensures.ok c.take_shared.ensures.same fits (subst (λ n. length n.1 ≢ 2) c.deref.ensures two)
-    (subst (λ s. T (is_sorted order (child c.args.below s).1)) c.in-Many.is c.requires.sorted)
-    (subst (λ h. is_some (find order (word h c.args.hash c.args.key.now) c.in-Many.node.value.1) ≡ true) (sym fits.0) (subst (λ s. is_some (find order (word c.args.below c.args.hash c.args.key.now) (child c.args.below s).1) ≡ true) c.in-Many.is c.requires.found))
+    (subst (λ s. T (is_sorted bytes_cmp (child c.args.below s).1)) c.in-Many.is c.requires.sorted)
+    (subst (λ h. is_some (find bytes_cmp (word h c.args.hash c.args.key.now) c.in-Many.node.value.1) ≡ true) (sym fits.0) (subst (λ s. is_some (find bytes_cmp (word c.args.below c.args.hash c.args.key.now) (child c.args.below s).1) ≡ true) c.in-Many.is c.requires.found))
 
 pub take_branch-index-requires : goal.take_branch-index-requires
 take_branch-index-requires g t c =
@@ -57,7 +58,7 @@ take_branch-take_below-requires g t c =
     let here = found c.args.below c.args.slots.now.items c.args.bitmap.now _ _ _ _ _ c.index_mut.result.now c.requires.branch c.seat_of-seat.ensures c.args.slots.now.ok.0 taken c.index_mut.ensures.value in
     let gives = child_gives c.args.below c.args.hash c.args.key.now c.args.bitmap.now c.args.slots.now.items c.index.result.now c.one_of.result (λ x. x.now.value) c.requires.branch c.requires.sorted c.requires.found read
     (c.one_of.ensures c.args.below) (sym c.is_some.ensures ∙ c.if-is_some.false) in
-    let facts = subst (λ k. (2 ≤ length k.1) × T (is_sorted order k.1) × (is_some (find order (word c.args.below c.args.hash c.args.key.now) k.1) ≡ true)) (read.0 ∙ sym here.0) gives in
+    let facts = subst (λ k. (2 ≤ length k.1) × T (is_sorted bytes_cmp k.1) × (is_some (find bytes_cmp (word c.args.below c.args.hash c.args.key.now) k.1) ≡ true)) (read.0 ∙ sym here.0) gives in
     search (rules, here.1, facts.0, facts.1, facts.2)
 
 pub take_branch-returns-clause-ok : goal.take_branch-returns-clause-ok
