@@ -1,3 +1,5 @@
+pub mod Places
+pub mod Merged
 pub mod Reached
 pub mod Dots
 pub mod Gathered

@@ -1,0 +1,16 @@
+-- Two lists of entries whose keys ascend, gone through together.
+use Rattle.std.specs.Prelude.{◌≡◌, ℕ, ◌+◌, ◌<◌, Bool, cond, ◌||◌, Option, None, List, length, IsTrue, is_some}
+use Rattle.std.specs.declared.cmp.Ordering.{Ordering}
+use Rattle.std.specs.Ordering.{is_eq}
+use Rattle.std.specs.Map.{lookup}
+use Rattle.std.specs.BTreeMap.{is_at}
+
+-- One turn, at a key of either list or of both: what each list has there, and what is left of them, which is
+-- what they have at the other keys.
+pub record IsTurn {K V : Type 0} (cmp : K → K → Ordering) (mine yours my_rest your_rest : List (K × V)) (key : K) (x y : Option V) : Type 0 where
+  pub mine_at : lookup (is_at (cmp key)) mine ≡ x
+  pub yours_at : lookup (is_at (cmp key)) yours ≡ y
+  pub somewhere : IsTrue (is_some x || is_some y)
+  pub mine_past : (q : K) → lookup (is_at (cmp q)) my_rest ≡ cond (is_eq (cmp key q)) None (lookup (is_at (cmp q)) mine)
+  pub yours_past : (q : K) → lookup (is_at (cmp q)) your_rest ≡ cond (is_eq (cmp key q)) None (lookup (is_at (cmp q)) yours)
+  pub fewer : length my_rest + length your_rest < length mine + length yours
