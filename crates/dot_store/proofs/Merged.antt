@@ -7,6 +7,7 @@ use Rattle.std.specs.Cmp.{IsTotalOrder, eq_by_cmp_equiv}
 use Rattle.std.specs.Map.{lookup, keys_of}
 use Rattle.std.specs.BTreeMap.{is_at}
 use Rattle.std.proofs.lemmas.Cmp.{tied_itself}
+use Rattle.dot_store.specs.Places.{value_at}
 use Rattle.dot_store.specs.Merged.{IsTurn}
 use Rattle.dot_store.proofs.Places.{Ascends, IsBelow, ascends_head, below_all, not_found_below}
 

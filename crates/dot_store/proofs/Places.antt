@@ -1,19 +1,21 @@
 -- A list of entries whose keys ascend: places and gaps, and what an edit at one of them leaves.
-use Rattle.std.proofs.Common.{◌≡◌, ℕ, zero, suc, ◌+◌, ◌<◌, ◌≤◌, Bool, true, false, cond, List, [], ◌∷◌, ◌++◌, length, get_or, set, map, Option, Some, None, Result, Ok, Err, refl, sym, ap, ◌∙◌, arith, add-one}
+use Rattle.std.proofs.Common.{◌≡◌, ℕ, zero, suc, ◌+◌, ◌<◌, ◌≤◌, Bool, true, false, cond, List, [], ◌∷◌, ◌++◌, length, get_or, set, map, take, Option, Some, None, Result, Ok, Err, refl, sym, ap, ◌∙◌, arith, subst, below_more}
 use Rattle.std.specs.Prelude.{IfOk, IfErr}
 use Rattle.std.specs.declared.cmp.Ordering.{Ordering}
 use Rattle.std.specs.declared.cmp.Ordering.TheVariants.{Less, Equal, Greater}
 use Rattle.std.specs.Ordering.{is_eq, is_lt, ordering_reverse, ordering_index, match_ordering}
 use Rattle.std.specs.Cmp.{IsTotalOrder, eq_by_cmp_equiv, alike_right}
-use Rattle.std.specs.List.{insert, remove, slice_get, AllByRecursion, AllWithin, HoldsAt, IsAllAdjacentAnswer}
+use Rattle.std.specs.List.{insert, remove, All, AllByRecursion, AllWithin, HoldsAt, IsAllAdjacentAnswer}
 use Rattle.std.specs.List.Sorted.{IsStrictlySortedBy, IsSortedBy, IsBinarySearchResult, IsSearchInRange}
 use Rattle.std.specs.Map.{lookup, keys_of, remove_entry}
 use Rattle.std.specs.BTreeMap.{is_at, insert_entry}
-use Rattle.std.proofs.lemmas.List.{get_or-map}
+use Rattle.std.proofs.lemmas.List.{get_or-map, get_or_default}
 use Rattle.std.proofs.lemmas.List.Sorted.{searchable_from_sorted}
-use Rattle.std.proofs.lemmas.Map.Entries.{length-keys_of}
-use Rattle.std.proofs.lemmas.Map.Keys.{Less-from_sorted, sorted_from_all_adjacent}
-use Rattle.dot_store.specs.Places.{IsPlaceOf, IsGapFor}
+use Rattle.std.proofs.lemmas.Map.{lookup-remove_entry}
+use Rattle.std.proofs.lemmas.Map.Entries.{length-keys_of, lookup_from_place, place_from_lookup}
+use Rattle.std.proofs.lemmas.Map.Keys.{Less-from_sorted, sorted_from_all_adjacent, IsDistinct-from_sorted}
+use Rattle.std.proofs.lemmas.Option.{slice_get_read, slice_get_within, get_or_from_slice_get}
+use Rattle.dot_store.specs.Places.{value_at, IsPlaceOf, IsGapFor}
 
 pub reversed_less : (o : Ordering) → ordering_reverse o ≡ Greater → o ≡ Less
 reversed_less Less h = refl
@@ -203,9 +205,10 @@ module _ {K V : Type 0} where
     gap_from_search : (key : K) (es : List (K × V)) (i : ℕ) → i ≤ length es → AllWithin (λ e. cmp e.0 key ≡ Less) es 0 i → AllWithin (λ e. cmp e.0 key ≡ Greater) es i (length es) → IsGapFor cmp key es i
     gap_from_search key [] i h before after = omega arith
     gap_from_search key (e ∷ es) zero h before after = less_from_greater cmp total e.0 key (after 0 e (omega arith) (omega arith))
-    gap_from_search key (e ∷ es) (suc i) h before after =
-        (greater_from_less cmp total e.0 key (before 0 e (omega arith) (omega arith)),
-        gap_from_search key es i (omega arith) (λ j d low high. before (suc j) d (omega arith) (omega arith)) (λ j d low high. after (suc j) d (omega arith) (omega arith)))
+    gap_from_search key (e ∷ es) (suc i) h before after = (
+      greater_from_less cmp total e.0 key (before 0 e (omega arith) (omega arith)),
+      gap_from_search key es i (omega arith) (λ j d low high. before (suc j) d (omega arith) (omega arith)) (λ j d low high. after (suc j) d (omega arith) (omega arith)),
+    )
 
     adjacent : (es : List (K × V)) (i j : ℕ) (d : K × V) → Ascends cmp es → i < j → j < length es → cmp (get_or es i d).0 (get_or es j d).0 ≡ Less
     adjacent es i j d s low high =
@@ -255,3 +258,37 @@ module _ {K V : Type 0} where
         let less = adjacent (e ∷ es) h.0 (h.0 + 1) e s (omega arith) h.1 in
         let test = h.2 e in
         absurd (cc (test, ap is_lt less))
+
+    -- ---- what an edit leaves at each key
+    pub updated_insert : (old new : List (K × V)) (k : K) (v : V) → new ≡ insert_entry cmp old k v → (q : K) → value_at cmp new q ≡ cond (is_eq (cmp k q)) (Some v) (value_at cmp old q)
+    updated_insert old new k v is q = rw is (lookup-insert_entry old k q v)
+
+    pub updated_remove : (old new : List (K × V)) (k : K) → Ascends cmp old → new ≡ remove_entry (is_at (cmp k)) old → (q : K) → value_at cmp new q ≡ cond (is_eq (cmp k q)) None (value_at cmp old q)
+    updated_remove old new k s is q =
+        rw is (lookup-remove_entry (eq_by_cmp_equiv total) (is_at (cmp k)) ((eq_by_cmp_equiv total).congr k) q old (IsDistinct-from_sorted cmp (keys_of old) s))
+
+    -- the first entries with the next one are these with its value put at its key
+    pub take_insert : (es : List (K × V)) (i : ℕ) (e : K × V) → Ascends cmp es → i < length es → e ≡ get_or es i e → take (i + 1) es ≡ insert_entry cmp (take i es) e.0 e.1
+    take_insert [] i e s h is = absurd (omega arith)
+    take_insert (x ∷ es) zero e s h is = ap (λ y. y ∷ []) (sym is)
+    take_insert (x ∷ es) (suc i) e s h is =
+        let more : i < length es = omega arith in
+        let below : cmp x.0 e.0 ≡ Less = ap (λ y. cmp x.0 y.0) is ∙ below_at cmp x.0 es i e (ascends_head cmp x es s) more in
+        let up : suc i + 1 ≡ suc (i + 1) = omega arith in
+        rw (up, greater_from_less cmp total x.0 e.0 below) (ap (λ l. x ∷ l) (take_insert es i e (ascends_tail cmp x es s) more is))
+
+    -- an entry is what a look-up of its key finds
+    pub item_found : (es : List (K × V)) (i : ℕ) (e : K × V) → Ascends cmp es → i < length es → e ≡ get_or es i e → value_at cmp es e.0 ≡ Some e.1
+    item_found es i e s h is = lookup_from_place (eq_by_cmp_equiv total) es i e.0 e.1 (IsDistinct-from_sorted cmp (keys_of es) s) (slice_get_read es (length es) i e refl h is)
+
+-- what holds of each entry holds of the one that a look-up finds
+pub entry_found : {K V : Type 0} (P : K × V → Type 0) (test : K → Bool) (es : List (K × V)) (v : V) → All P es → lookup test es ≡ Some v → (k : K) × (test k ≡ true) × P (k, v)
+entry_found P test es v all h =
+    let place = place_from_lookup test es v h in
+    let here : P (get_or es place.0 (place.1, v)) = all place.0 (place.1, v) (slice_get_within es place.0 (place.1, v) place.2) in
+    (place.1, place.3, subst P (get_or_from_slice_get es place.0 (place.1, v) (place.1, v) place.2) here)
+
+-- what holds of the first items holds of these and the next
+pub items_more : {X : Type 0} (P : X → Type 0) (xs : List X) (i : ℕ) (x : X) → i < length xs → x ≡ get_or xs i x → ((k : ℕ) (d : X) → k < i → P (get_or xs k d)) → P x → (k : ℕ) (d : X) → k < i + 1 → P (get_or xs k d)
+items_more P xs i x h is before here k d below =
+    below_more (λ j. P (get_or xs j d)) i (λ j. before j d) (subst P (is ∙ get_or_default xs i x d h) here) k below

@@ -1,10 +1,11 @@
-ghost use Rattle.std.specs.Prelude.{◌≡◌, ◌↔◌, ◌≤◌, vec_len, [], IsTrue, IsSome, IfSome, IfOk, IfErr, OnOk, OnErr, IsOkUnless};
+ghost use Rattle.std.specs.Prelude.{◌≡◌, ◌↔◌, ◌≤◌, vec_len, cond, Some, None, [], IsTrue, IsSome, IfSome, IfOk, IfErr, OnOk, OnErr, IsOkUnless};
 ghost use Rattle.std.specs.Option.{option_copied};
+ghost use Rattle.std.specs.Ordering.{is_eq};
 ghost use Rattle.std.specs.List.{insert};
 ghost use Rattle.std.specs.List.Sorted.{IsStrictlySortedBy};
-ghost use Rattle.std.specs.Map.{keys_of, lookup, remove_entry};
+ghost use Rattle.std.specs.Map.{keys_of, remove_entry};
 ghost use Rattle.std.specs.BTreeMap.{is_at, insert_entry};
-ghost use Rattle.dot_store.specs.Places.{IsPlaceOf, IsGapFor};
+ghost use Rattle.dot_store.specs.Places.{value_at, IsPlaceOf, IsGapFor};
 
 use dots::Refusal;
 use std::alloc::{Allocator, Global};
@@ -74,7 +75,7 @@ impl<K: Ord + Drop, V: Drop, A: Allocator + Copy> OrderedList<K, V, A> {
 
     // The value at the key.
     pub(crate) fn get(&self, key: &K) -> Option<&V>
-        ensures { option_copied result ≡ lookup (is_at (K.cmp key.now)) self.now }
+        ensures { option_copied result ≡ value_at K.cmp self.now key.now }
     {
         match place_of(&self.items, key) {
             Ok(place) => Some(&self.items[place].1),
@@ -85,6 +86,8 @@ impl<K: Ord + Drop, V: Drop, A: Allocator + Copy> OrderedList<K, V, A> {
     // Puts the value at the key, in place of what was there. A refused call leaves the list as it was.
     pub(crate) fn insert(&mut self, key: K, value: V) -> Result<(), Refusal>
         ensures ok { OnOk result (self.new ≡ insert_entry K.cmp self.old key value) }
+        ensures updates { OnOk result ((q : K)
+            → value_at K.cmp self.new q ≡ cond (is_eq (K.cmp key q)) (Some value) (value_at K.cmp self.old q)) }
         ensures unchanged { OnErr result (self.new ≡ self.old) }
         ensures err { IsOkUnless result Refusal.OutOfMemory }
     {
@@ -99,7 +102,9 @@ impl<K: Ord + Drop, V: Drop, A: Allocator + Copy> OrderedList<K, V, A> {
 
     // Takes the entry of the key out, if there is one.
     pub(crate) fn remove(&mut self, key: &K)
-        ensures { self.new ≡ remove_entry (is_at (K.cmp key.now)) self.old }
+        ensures entries { self.new ≡ remove_entry (is_at (K.cmp key.now)) self.old }
+        ensures updates { (q : K)
+            → value_at K.cmp self.new q ≡ cond (is_eq (K.cmp key.now q)) None (value_at K.cmp self.old q) }
     {
         if let Ok(place) = place_of(&self.items, key) {
             self.items.remove(place);

@@ -25,9 +25,10 @@ invariant_of-self-in-Less g c =
     (ascends_tail g.K.Ord.cmp c.in-Some-Some.x.now c.in-Some-Some.mine.now (subst (Ascends g.K.Ord.cmp) parts s), c.self.invariant.1)
 
 pub invariant_of-self-in-Equal : goal.invariant_of-self-in-Equal
-invariant_of-self-in-Equal g c =
-    (ascends_tail g.K.Ord.cmp c.in-Some-Some.x.now c.in-Some-Some.mine.now (subst (Ascends g.K.Ord.cmp) c.in-Some-Some.ensures.cases.0 c.self.invariant.0),
-    ascends_tail g.K.Ord.cmp c.in-Some-Some.y.now c.in-Some-Some.yours.now (subst (Ascends g.K.Ord.cmp) c.in-Some-Some.ensures'.cases.0 c.self.invariant.1))
+invariant_of-self-in-Equal g c = (
+  ascends_tail g.K.Ord.cmp c.in-Some-Some.x.now c.in-Some-Some.mine.now (subst (Ascends g.K.Ord.cmp) c.in-Some-Some.ensures.cases.0 c.self.invariant.0),
+  ascends_tail g.K.Ord.cmp c.in-Some-Some.y.now c.in-Some-Some.yours.now (subst (Ascends g.K.Ord.cmp) c.in-Some-Some.ensures'.cases.0 c.self.invariant.1),
+)
 
 pub invariant_of-self-in-Greater : goal.invariant_of-self-in-Greater
 invariant_of-self-in-Greater g c =

@@ -2,7 +2,8 @@ use Rattle.std.proofs.Common.{◌≡◌, set, sym, ap, ◌∙◌, subst, arith}
 use Rattle.std.specs.Prelude.{Result, Ok, Err, OnOk, OnErr, List}
 use Rattle.std.specs.List.{insert}
 use Rattle.std.specs.BTreeMap.{insert_entry}
-use Rattle.dot_store.proofs.Places.{Ascends, place_within, gap_within, set_there, insert_there, ascends_insert}
+use Rattle.std.proofs.lemmas.Result.{on_ok_weaker}
+use Rattle.dot_store.proofs.Places.{Ascends, place_within, gap_within, set_there, insert_there, ascends_insert, updated_insert}
 use Rattle.dot_store.proofs.ordered_list.OrderedList.insert.Goals as goal
 
 pub index_mut-requires : goal.index_mut-requires
@@ -43,3 +44,10 @@ pub returns-in-Err-clause-ok : goal.returns-in-Err-clause-ok
 returns-in-Err-clause-ok g c =
     let there = insert_there g.K.Ord.cmp c.args.key c.self.inside.items.items c.in-Err.place c.args.value (rw c.deref.ensures.value at c.in-Err.ensures.absent) in
     rw (← c.self.view_is, ← there) c.insert_at.ensures.ok
+
+pub returns-in-Ok-clause-updates : goal.returns-in-Ok-clause-updates
+returns-in-Ok-clause-updates g c = updated_insert g.K.Ord.cmp g.met.K.Ord.total c.args.self.now _ c.args.key c.args.value (returns-in-Ok-clause-ok g c)
+
+pub returns-in-Err-clause-updates : goal.returns-in-Err-clause-updates
+returns-in-Err-clause-updates g c =
+    on_ok_weaker c.insert_at.result (updated_insert g.K.Ord.cmp g.met.K.Ord.total c.args.self.now c.insert_at.new.items.items c.args.key c.args.value) (returns-in-Err-clause-ok g c)
