@@ -288,6 +288,12 @@ entry_found P test es v all h =
     let here : P (get_or es place.0 (place.1, v)) = all place.0 (place.1, v) (slice_get_within es place.0 (place.1, v) place.2) in
     (place.1, place.3, subst P (get_or_from_slice_get es place.0 (place.1, v) (place.1, v) place.2) here)
 
+pub take_all : {X : Type 0} (xs : List X) (i : ℕ) → length xs ≤ i → take i xs ≡ xs
+take_all [] zero h = refl
+take_all [] (suc i) h = refl
+take_all (x ∷ xs) zero h = absurd (omega arith)
+take_all (x ∷ xs) (suc i) h = ap (λ l. x ∷ l) (take_all xs i (omega arith))
+
 -- what holds of the first items holds of these and the next
 pub items_more : {X : Type 0} (P : X → Type 0) (xs : List X) (i : ℕ) (x : X) → i < length xs → x ≡ get_or xs i x → ((k : ℕ) (d : X) → k < i → P (get_or xs k d)) → P x → (k : ℕ) (d : X) → k < i + 1 → P (get_or xs k d)
 items_more P xs i x h is before here k d below =

@@ -1,6 +1,6 @@
 -- What a map from keys to stores holds, over its list of entries.
 use Rattle.std.proofs.Common.{◌≡◌, ℕ, ◌<◌, Bool, true, false, cond, List, [], ◌∷◌, length, get_or, Option, Some, None, refl, sym, ap, ◌∙◌, arith}
-use Rattle.std.specs.Prelude.{IsTrue, IsSome, IfSome, MatchOption, Result, Ok, Err, OnOk, OnErr}
+use Rattle.std.specs.Prelude.{IsSome, IfSome, is_some, MatchOption, Result, Ok, Err, OnOk, OnErr}
 use Rattle.std.specs.Borrow.{Bor}
 use Rattle.std.specs.Option.{option_copied}
 use Rattle.std.specs.declared.cmp.Ordering.{Ordering}
@@ -16,7 +16,7 @@ use Rattle.std.proofs.lemmas.Cmp.{tied_itself}
 use Rattle.std.proofs.lemmas.Map.Lookups.{CmpEqualImpliesEq}
 use Rattle.std.proofs.lemmas.Map.Views.{All-values-insert_entry, All-map-remove_entry, IfSome-lookup_from_All}
 use Rattle.dots.specs.Dot.{DotValue}
-use Rattle.dot_store.specs.Store.{HasNothing, HoldsSame}
+use Rattle.dot_store.specs.Store.{HasNothing, HoldsDot, HoldsSame}
 use Rattle.dot_store.specs.Stores.{at_stores, held_by, joined_store, with_store, NoKeyIsEmpty}
 use Rattle.dot_store.proofs.Places.{Ascends, item_found, entry_found}
 
@@ -83,9 +83,8 @@ module _ {S P H : Type 0} (at : S → P → DotValue → Option H) where
   pub joined_store_along : (greater : H → H → H) (o o' p p' : Option S) (own theirs : DotValue → Bool) → o ≡ o' → p ≡ p' → HoldsSame (joined_store at greater o own p theirs) (joined_store at greater o' own p' theirs)
   joined_store_along greater o o' p p' own theirs e f place d = rw (e, f) refl
 
-  -- a missing store is as an empty one
-  pub same_as_none : (s : S) → HasNothing (at s) → HoldsSame (at s) (held_by at None)
-  same_as_none s h = h
+  pub held_along : (o o' p p' : Option S) → o ≡ o' → p ≡ p' → HoldsSame (held_by at o) (held_by at p) → HoldsSame (held_by at o') (held_by at p')
+  held_along o o' p p' e f h = rw (← e, ← f) h
 
   -- copies that hold the same
   pub copied_by : (b : Bool) (s t : S) (o p : Option S) → HoldsSame (at t) (at s) → HoldsSame (held_by at o) (held_by at p) → HoldsSame (held_by at (cond b (Some t) o)) (held_by at (cond b (Some s) p))
@@ -142,3 +141,17 @@ module _ {S P H : Type 0} (at : S → P → DotValue → Option H) where
     pub held_from_item : (es : List (K × S)) (i : ℕ) (e : K × S) → Ascends cmp es → i < length es → e ≡ get_or es i e → (place : P) (d : DotValue) → at_stores at cmp es (e.0, place) d ≡ at e.1 place d
     unfolding at_stores
     held_from_item es i e s h is place d = held_at_some (lookup (is_at (cmp e.0)) es) e.1 place d (item_found cmp total es i e s h is)
+
+    pub holds_from_item : (es : List (K × S)) (i : ℕ) (e : K × S) → Ascends cmp es → i < length es → e ≡ get_or es i e → (d : DotValue) → HoldsDot (at e.1) d → HoldsDot (at_stores at cmp es) d
+    unfolding at_stores
+    holds_from_item es i e s h is d held = ((e.0, held.0), ap is_some (held_from_item es i e s h is held.0 d) ∙ held.1)
+
+    absent_by : (o : Option S) (place : P) (d : DotValue) → ((s : S) → o ≡ Some s → at s place d ≡ None) → held_by at o place d ≡ None
+    absent_by None place d h = refl
+    absent_by (Some s) place d h = h s refl
+
+    -- what no store holds is not held
+    pub absent_from_items : (es : List (K × S)) (d : DotValue) → All (λ e. (place : P) → at e.1 place d ≡ None) es → (place : K × P) → at_stores at cmp es place d ≡ None
+    unfolding at_stores
+    absent_from_items es d all place =
+        absent_by (lookup (is_at (cmp place.0)) es) place.1 d (λ s e. (entry_found (λ x. (p : P) → at x.1 p d ≡ None) (is_at (cmp place.0)) es s all e).2 place.1)

@@ -22,7 +22,7 @@ loop-dot-preserved g c =
     let new = value_at dot_cmp c.put_some.new.list in
     let wanted = joined_value (ord_max g.V.Ord.cmp) (value_at dot_cmp mine) (has c.args.own.now) (value_at dot_cmp yours) (has c.args.theirs.now) in
     let here = walked_here dot_cmp mine yours (λ (q : DotValue). old q ≡ None) (λ (q : DotValue). old q ≡ wanted q) c.loop-dot.merge.0 c.loop-dot.merge.1 c.next.new.self.0 c.next.new.self.1 key x y
-        c.loop-dot.invariant c.in-Some.ensures.turn in
+    c.loop-dot.invariant c.in-Some.ensures.turn in
     let updates = c.in_ok-put_some.ensures.updates in
     walked_more dot_cmp mine yours dot_exact (λ (q : DotValue). old q ≡ None) (λ (q : DotValue). old q ≡ wanted q) (λ (q : DotValue). new q ≡ None) (λ (q : DotValue). new q ≡ wanted q)
     c.loop-dot.merge.0 c.loop-dot.merge.1 c.next.new.self.0 c.next.new.self.1 key x y c.loop-dot.invariant c.in-Some.ensures.turn
