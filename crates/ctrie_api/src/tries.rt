@@ -72,16 +72,10 @@ impl<V: Drop, H: PathHash, A: Allocator + Copy> Tries<V, H, A> {
                 key,
                 value,
             ),
-            Act::Remove(index, key) => remove_at(self.tries.as_mut_slice(), index, &key),
+            Act::Remove(index, key) => remove_at(self.tries.as_mut_slice(), index, key),
             Act::Clear(index) => clear_at(self.tries.as_mut_slice(), index),
-            Act::Snapshot(index) => {
-                let made = snapshot_at(self.tries.as_mut_slice(), index)?;
-                add(&mut self.tries, made)
-            }
-            Act::ReadOnlySnapshot(index) => {
-                let made = read_only_snapshot_at(self.tries.as_mut_slice(), index)?;
-                add(&mut self.tries, made)
-            }
+            Act::Snapshot(index) => add_snapshot(&mut self.tries, index),
+            Act::ReadOnlySnapshot(index) => add_read_only_snapshot(&mut self.tries, index),
         }
     }
 }
@@ -142,18 +136,18 @@ fn insert_at<V: Drop, H: PathHash, A: Allocator + Copy>(
 fn remove_at<V: Drop, H: PathHash, A: Allocator + Copy>(
     tries: &mut [Ctrie<V, H, A>],
     index: usize,
-    key: &Key<A>,
+    key: Key<A>,
 ) -> Result<bool, Refusal>
     ensures there { IfOk result (λ there. IsTrue there ↔ index < length tries.old) }
     ensures read_only { IsErrOf result Refusal.ReadOnly ↔ IsTrue (takes_no_write (slice_get tries.old index)) }
-    ensures ok { OnOk result (tries.new ≡ changed_at index (written (λ map. finite.remove map key.now)) tries.old) }
+    ensures ok { OnOk result (tries.new ≡ changed_at index (written (λ map. finite.remove map key)) tries.old) }
     ensures same { OnErr result (tries.new ≡ tries.old) }
     ensures err { IfErr result (λ refusal. (refusal ≡ Refusal.ReadOnly) ⊎ (refusal ≡ Refusal.OutOfMemory)) }
 {
     if index >= tries.len() {
         return Ok(false);
     }
-    tries[index].remove(key)?;
+    tries[index].remove(&key)?;
     Ok(true)
 }
 
@@ -173,6 +167,34 @@ fn clear_at<V: Drop, H: PathHash, A: Allocator + Copy>(
     }
     tries[index].clear()?;
     Ok(true)
+}
+
+// Appends a snapshot of the trie of this index, and tells whether that is there.
+fn add_snapshot<V: Drop, H: PathHash, A: Allocator + Copy>(
+    tries: &mut Vec<Ctrie<V, H, A>, A>,
+    index: usize,
+) -> Result<bool, Refusal>
+    ensures there { IfOk result (λ there. IsTrue there ↔ index < length tries.old.items) }
+    ensures ok { OnOk result (tries.new.items ≡ tries.old.items ++ as_list (slice_get tries.old.items index)) }
+    ensures same { OnErr result (tries.new.items ≡ tries.old.items) }
+    ensures err { IsOkUnless result Refusal.OutOfMemory }
+{
+    let made = snapshot_at(tries.as_mut_slice(), index)?;
+    add(tries, made)
+}
+
+// Appends a read-only snapshot of the trie of this index, and tells whether that is there.
+fn add_read_only_snapshot<V: Drop, H: PathHash, A: Allocator + Copy>(
+    tries: &mut Vec<Ctrie<V, H, A>, A>,
+    index: usize,
+) -> Result<bool, Refusal>
+    ensures there { IfOk result (λ there. IsTrue there ↔ index < length tries.old.items) }
+    ensures ok { OnOk result (tries.new.items ≡ tries.old.items ++ as_list (option_map read_only (slice_get tries.old.items index))) }
+    ensures same { OnErr result (tries.new.items ≡ tries.old.items) }
+    ensures err { IsOkUnless result Refusal.OutOfMemory }
+{
+    let made = read_only_snapshot_at(tries.as_mut_slice(), index)?;
+    add(tries, made)
 }
 
 // A snapshot of the trie of this index, if that is there.

@@ -1,22 +1,22 @@
 -- The distinct values of a list, ascending by bytes, gathered one after another: over plain variables.
-use Rattle.std.proofs.Common.{◌≡◌, ℕ, ◌+◌, ◌<◌, List, [], ◌∷◌, ◌++◌, map, take, length, get_or, Contains, None, Some, refl, sym, ◌∙◌, ap, subst, ◌⊎◌, ◌↔◌, inl, inr, append_assoc}
+use Rattle.std.proofs.Common.{◌≡◌, ℕ, ◌+◌, ◌<◌, List, [], ◌∷◌, ◌++◌, map, take, length, get_or, Contains, None, Some, is_some, IsSome, zero, suc, arith, refl, sym, ◌∙◌, ap, subst, ◌⊎◌, ◌↔◌, inl, inr, append_assoc}
 use Rattle.std.specs.declared.cmp.Ordering.{Ordering}
 use Rattle.std.specs.declared.cmp.Ordering.TheVariants.{Less, Equal, Greater}
 use Rattle.std.specs.BTreeSet.{insert_key}
-use Rattle.std.specs.List.{flat_map}
+use Rattle.std.specs.List.{All, flat_map}
 use Rattle.std.specs.Ordering.{match_ordering}
 use Rattle.std.proofs.lemmas.List.{append-nil, map-append}
-use Rattle.std.proofs.lemmas.List.Elements.{Contains-append_left, Contains-append_right, Contains-append_cases}
-use Rattle.causal_join.specs.OrMap.{ValuesValue, FieldsValue, OrMapValue, or_map_state}
+use Rattle.std.proofs.lemmas.List.Elements.{All-append, All-contains, Contains-append_left, Contains-append_right, Contains-append_cases}
+use Rattle.causal_join.specs.OrMap.{ValuesValue, FieldsValue, OrMapValue, fields_at, or_map_at, or_map_state}
 use Rattle.dot_store.specs.Stores.{at_values}
 use Rattle.dots.specs.Bytes.{bytes_cmp}
 use Rattle.dots.specs.Dot.{DotValue}
-use Rattle.op_model.specs.Meaning.{Stands}
+use Rattle.op_model.specs.Meaning.{Stands, StandsWithin}
 use Rattle.op_model.specs.Place.{Place}
 use Rattle.op_model.specs.Shown.{with_one, placed}
-use Rattle.op_model.proofs.Members.{nothing_in, at_head, head_or_tail, at_same, in_map, from_map}
+use Rattle.op_model.proofs.Members.{nothing_in, at_head, in_tail, head_or_tail, at_same, in_map, from_map}
 use Rattle.op_model.proofs.Ascending.{nothing_ascends, from_with_one, in_with_one, with_one-ascends}
-use Rattle.delta_ops.specs.Gathers.{Gathers}
+use Rattle.delta_ops.specs.Gathers.{Gathers, GathersMore, AreEntries}
 use Rattle.delta_ops.proofs.Erasing.{more_taken}
 
 pub Gathers-nothing : Gathers [] []
@@ -52,13 +52,6 @@ Gathers-more found new values value gathered is =
 abbrev pub values_before : {K X : Type 0} → ℕ → List (K × X) → List X
 values_before i entries = map (λ entry. entry.1) (take i entries)
 
--- more values were gathered, whatever was there before
-abbrev pub GathersMore : List (List ℕ) → List (List ℕ) → List (List ℕ) → Type 0
-GathersMore old found more = (values : List (List ℕ)) → Gathers old values → Gathers found (values ++ more)
-
-pub more_none : (old : List (List ℕ)) → GathersMore old old []
-more_none old values gathered = let P : List (List ℕ) → Type 0 = λ vs. Gathers old vs in subst P (sym (append-nil values)) gathered
-
 pub more_value_at : {K : Type 0} (old found new : List (List ℕ)) (entries : List (K × List ℕ)) (i : ℕ) (entry : K × List ℕ) → i < length entries → entry ≡ get_or entries i entry
     → GathersMore old found (values_before i entries) → new ≡ insert_key bytes_cmp found entry.1 → GathersMore old new (values_before (i + 1) entries)
 more_value_at old found new entries i entry within at more is values gathered =
@@ -87,10 +80,6 @@ more_field_at old found new entries i entry within at more one values gathered =
 
 -- ---- what was gathered is what stands
 
--- a dot with a value is an entry of a map from dots to values, and the other way round
-abbrev pub AreEntries : ValuesValue → Type 0
-AreEntries values = (d : DotValue) (v : List ℕ) → (at_values values tt d ≡ Some v) ↔ Contains values (d, v)
-
 -- the values of a field were gathered: those that stand there
 pub gathered_stand : (live : OrMapValue) (place : Place) (standing : ValuesValue) (found : List (List ℕ)) → ((d : DotValue) → (or_map_state live).at place d ≡ at_values standing tt d)
     → AreEntries standing → Gathers found (map (λ entry. entry.1) standing) → (value : List ℕ) → Contains found value ↔ Stands (or_map_state live) place value
@@ -106,3 +95,60 @@ pub gathered_nothing : (live : OrMapValue) (place : Place) (found : List (List �
 gathered_nothing live place found nothing none value =
     let P : List (List ℕ) → Type 0 = λ vs. Contains vs value ↔ Stands (or_map_state live) place value in
     subst P (sym none) (λ in_it. nothing_in value in_it, λ (dot, stands). absurd (let both : None ≡ Some value = sym (nothing dot) ∙ stands in cc))
+
+pub gathered_first : (old found more : List (List ℕ)) → old ≡ [] → GathersMore old found more → Gathers found more
+gathered_first old found more empty gathers = let P : List (List ℕ) → Type 0 = λ vs. Gathers vs [] in gathers [] (subst P (sym empty) Gathers-nothing)
+
+-- ---- over all fields of a key
+
+-- the entries before a place, with the one that stands there
+pub all_more_at : {X : Type 0} (P : X → Type 0) (xs : List X) (i : ℕ) (x : X) → i < length xs → x ≡ get_or xs i x → All P (take i xs) → P x → All P (take (i + 1) xs)
+all_more_at {X} P xs i x within at before here = let Q : List X → Type 0 = All P in subst Q (sym (more_taken xs i x within at)) (All-append P (take i xs) (x ∷ []) before one)
+  where
+    one : All P (x ∷ [])
+    one zero d l = here
+    one (suc k) d l = absurd (omega (arith, l))
+
+in_fields : (entries : FieldsValue) (field : List ℕ) (standing : ValuesValue) (value : List ℕ) → Contains entries (field, standing) → Contains (map (λ e. e.1) standing) value
+    → Contains (values_in entries) value
+in_fields [] field standing value in_it there = nothing_in (field, standing) in_it
+in_fields (entry ∷ entries) field standing value in_it there = elim (head_or_tail entry entries (field, standing) in_it) [
+  | inl same ↦
+      let P : List ℕ × ValuesValue → Type 0 = λ e. Contains (map (λ x. x.1) e.1) value in
+      Contains-append_left (map (λ e. e.1) entry.1) (values_in entries) value (subst P (sym same) there)
+  | inr later ↦ Contains-append_right (map (λ e. e.1) entry.1) (values_in entries) value (in_fields entries field standing value later there)
+]
+
+from_fields : (entries : FieldsValue) (value : List ℕ) → Contains (values_in entries) value → (entry : List ℕ × ValuesValue) × Contains entries entry × Contains (map (λ e. e.1) entry.1) value
+from_fields [] value in_it = nothing_in value in_it
+from_fields (entry ∷ entries) value in_it = elim (Contains-append_cases (map (λ e. e.1) entry.1) (values_in entries) value in_it) [
+  | inl here ↦ (entry, at_head entry entries, here)
+  | inr later ↦ let there = from_fields entries value later in (there.0, in_tail entry entries there.0 there.1, there.2)
+]
+
+-- the values of all fields of a key were gathered: those that stand there
+pub gathered_within : (live : OrMapValue) (key : List ℕ) (fields entries : FieldsValue) (found : List (List ℕ))
+    → ((place : List ℕ × Unit {0}) (d : DotValue) → or_map_at live.0 (key, place) d ≡ fields_at fields place d)
+    → ((field : List ℕ) (standing : ValuesValue) → Contains entries (field, standing) → (place : Unit {0}) (d : DotValue) → fields_at fields (field, place) d ≡ at_values standing place d)
+    → ((field : List ℕ) (place : Unit {0}) (d : DotValue) → IsSome (fields_at fields (field, place) d) → (standing : ValuesValue) × Contains entries (field, standing))
+    → All (λ entry. AreEntries entry.1) entries → Gathers found (values_in entries)
+    → (value : List ℕ) → Contains found value ↔ StandsWithin (or_map_state live) key value
+gathered_within live key fields entries found at held only all gathered value = (
+  λ in_it. let there = from_fields entries value (gathered.back value in_it) in
+      let entry = from_map (λ e. e.1) there.0.1 value there.2 in
+      let are = All-contains (λ entry. AreEntries entry.1) entries there.0 all there.1 in
+      let stands : at_values there.0.1 tt entry.0.0 ≡ Some value = (are entry.0.0 value).1 (at_same there.0.1 entry.0 (entry.0.0, value) (ap (λ v. (entry.0.0, v)) entry.2) entry.1) in
+      (there.0.0, (entry.0.0, at (there.0.0, tt) entry.0.0 ∙ held there.0.0 there.0.1 there.1 tt entry.0.0 ∙ stands)),
+  λ (field, (dot, stands)).
+      let here : fields_at fields (field, tt) dot ≡ Some value = sym (at (field, tt) dot) ∙ stands in
+      let standing = only field tt dot (ap is_some here) in
+      let are = All-contains (λ entry. AreEntries entry.1) entries (field, standing.0) all standing.1 in
+      gathered.there value (in_fields entries field standing.0 value standing.1
+      (in_map (λ e. e.1) standing.0 (dot, value) ((are dot value).0 (sym (held field standing.0 standing.1 tt dot) ∙ here)))),
+)
+
+pub gathered_no_key : (live : OrMapValue) (key : List ℕ) (found : List (List ℕ)) → ((place : List ℕ × Unit {0}) (d : DotValue) → or_map_at live.0 (key, place) d ≡ None) → found ≡ []
+    → (value : List ℕ) → Contains found value ↔ StandsWithin (or_map_state live) key value
+gathered_no_key live key found nothing none value =
+    let P : List (List ℕ) → Type 0 = λ vs. Contains vs value ↔ StandsWithin (or_map_state live) key value in
+    subst P (sym none) (λ in_it. nothing_in value in_it, λ (field, (dot, stands)). absurd (let both : None ≡ Some value = sym (nothing (field, tt) dot) ∙ stands in cc))

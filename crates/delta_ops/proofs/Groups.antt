@@ -36,6 +36,18 @@ module _ {A : Type 0} where
       rw (was, before, becomes, groups_of-push rest both, groups_of-push (rest ++ older ∷ []) newest, groups_of-push rest older)
       (group-joined (groups_of rest) older.group newest.group both.group is)
 
+  -- runs of which the two newest were taken out and put back, the older with the same group
+  pub runs-restored : (old popped rest first new : List (Run A)) (older kept newest : Run A) → old ≡ popped ++ newest ∷ [] → popped ≡ rest ++ older ∷ [] → first ≡ rest ++ kept ∷ []
+      → new ≡ first ++ newest ∷ [] → kept.group ≡ older.group → Same (group_state (groups_of new)) (group_state (groups_of old))
+  runs-restored old popped rest first new older kept newest was before again after same =
+      let both : groups_of new ≡ groups_of old =
+      ap groups_of (after ∙ ap (λ runs. runs ++ newest ∷ []) again)
+      ∙ groups_of-push (rest ++ kept ∷ []) newest
+      ∙ ap (λ groups. groups ++ newest.group ∷ []) (groups_of-push rest kept ∙ ap (λ group. groups_of rest ++ group ∷ []) same ∙ sym (groups_of-push rest older))
+      ∙ sym (groups_of-push (rest ++ older ∷ []) newest)
+      ∙ sym (ap groups_of (was ∙ ap (λ runs. runs ++ newest ∷ []) before)) in
+      rw both (same-itself (group_state (groups_of old)))
+
   -- runs with a delta at the end, after they were joined as far as is due
   pub runs-pushed : (old settled new : List (Run A)) (run : Run A) → Same (group_state (groups_of settled)) (group_state (groups_of old)) → new ≡ settled ++ run ∷ []
       → Same (group_state (groups_of new)) (join greater (group_state (groups_of old)) (or_map_state run.group))

@@ -104,12 +104,15 @@ fn dots_within<A: Allocator + Copy>(
 }
 
 /// The dots that stand at any place.
-fn dots_anywhere<A: Allocator + Copy>(alloc: A, live: &OrMap<A>) -> Result<BTreeSet<Dot, A>, Refusal>
+fn dots_anywhere<A: Allocator + Copy>(
+    alloc: A,
+    live: &OrMap<A>,
+) -> Result<BTreeSet<Dot, A>, Refusal>
     ensures ok { IfOk result (λ dots. IsClearAt (or_map_state live.now) dots.keys) }
     ensures err { IsOkUnless result Refusal.OutOfMemory }
 {
     let mut dots = BTreeSet::new(alloc);
-    for (_, fields) in live.store().iter() {
+    for (_, fields) in live.store().entries() {
         gather_fields(&mut dots, fields)?;
     }
     Ok(dots)
@@ -124,7 +127,7 @@ fn gather_fields<A: Allocator + Copy>(
         ↔ (IsTrue (is_among dots.old.keys d) ⊎ HoldsDot (fields_at fields.now) d)) }
     ensures err { IsOkUnless result Refusal.OutOfMemory }
 {
-    for (_, standing) in fields.iter() {
+    for (_, standing) in fields.entries() {
         gather(dots, standing)?;
     }
     Ok(())
@@ -139,7 +142,7 @@ fn gather<A: Allocator + Copy>(
         ≡ (is_among dots.old.keys d || is_some (at_values standing.now tt d))) }
     ensures err { IsOkUnless result Refusal.OutOfMemory }
 {
-    for (dot, _) in standing.iter() {
+    for (dot, _) in standing.entries() {
         dots.insert(*dot)?;
     }
     Ok(())

@@ -8,8 +8,8 @@ ghost use Rattle.op_model.specs.Meaning.{greater, state};
 ghost use Rattle.op_model.specs.State.{Same, join};
 
 use crate::grouping::group;
-use causal_join::{Causal, OrMap};
 use crate::run::Run;
+use causal_join::{Causal, OrMap};
 use dots::Refusal;
 use std::alloc::{Allocator, Global};
 use std::marker::Model;

@@ -1,15 +1,15 @@
-ghost use Rattle.std.specs.Prelude.{◌≡◌, ◌↔◌, ◌++◌, ℕ, List, Contains, IfOk, OnOk, IsOkUnless};
-ghost use Rattle.std.specs.List.{flat_map};
+ghost use Rattle.std.specs.Prelude.{◌≡◌, ◌↔◌, ℕ, List, Contains, IfOk, OnOk, IsOkUnless};
+ghost use Rattle.std.specs.List.{All, flat_map};
 ghost use Rattle.std.specs.Map.{keys_of, values_of};
 ghost use Rattle.causal_join.specs.OrMap.{or_map_state};
-ghost use Rattle.delta_ops.specs.Gathers.{Gathers};
+ghost use Rattle.delta_ops.specs.Gathers.{GathersMore, AreEntries};
 ghost use Rattle.op_model.specs.Meaning.{Stands, StandsWithin, HoldsField, HoldsKey};
 ghost use Rattle.op_model.specs.Place.{place_of};
 ghost use Rattle.op_model.specs.Shown.{IsAscending};
 
 use crate::standing::values_at;
 use causal_join::OrMap;
-use dot_store::{DotFun, DotMap, Kept};
+use dot_store::{DotFun, Kept};
 use dots::{Field, Key, Refusal, Value};
 use std::alloc::{AllocError, Allocator};
 use std::collections::BTreeSet;
@@ -48,7 +48,7 @@ pub fn values_of_key<A: Allocator + Copy>(
 {
     let mut found = BTreeSet::new(alloc);
     if let Some(fields) = live.store().get(key) {
-        gather_fields(alloc, &mut found, fields)?;
+        gather_fields(alloc, &mut found, fields.entries())?;
     }
     Ok(listed(alloc, found)?)
 }
@@ -86,8 +86,8 @@ fn gather_values<A: Allocator + Copy>(
     found: &mut BTreeSet<Value<A>, A>,
     standing: &DotFun<Value<A>, A>,
 ) -> Result<(), Refusal>
-    ensures ok { OnOk result ((values : List (List ℕ)) → Gathers found.old.keys values
-        → Gathers found.new.keys (values ++ values_of standing.now)) }
+    ensures ok { OnOk result (GathersMore found.old.keys found.new.keys (values_of standing.now)) }
+    ensures entries { OnOk result (AreEntries standing.now) }
     ensures err { IsOkUnless result Refusal.OutOfMemory }
 {
     for (_, value) in standing.entries() {
@@ -100,13 +100,13 @@ fn gather_values<A: Allocator + Copy>(
 fn gather_fields<A: Allocator + Copy>(
     alloc: A,
     found: &mut BTreeSet<Value<A>, A>,
-    fields: &DotMap<Field<A>, DotFun<Value<A>, A>, A>,
+    fields: &[(Field<A>, DotFun<Value<A>, A>)],
 ) -> Result<(), Refusal>
-    ensures ok { OnOk result ((values : List (List ℕ)) → Gathers found.old.keys values
-        → Gathers found.new.keys (values ++ flat_map (λ field. values_of field.1) fields.now)) }
+    ensures ok { OnOk result (GathersMore found.old.keys found.new.keys (flat_map (λ field. values_of field.1) fields.now)) }
+    ensures entries { OnOk result (All (λ field. AreEntries field.1) fields.now) }
     ensures err { IsOkUnless result Refusal.OutOfMemory }
 {
-    for (_, standing) in fields.entries() {
+    for (_, standing) in fields {
         gather_values(alloc, found, standing)?;
     }
     Ok(())

@@ -1,6 +1,6 @@
-use Rattle.std.proofs.Common.{map}
-use Rattle.delta_ops.proofs.Erasing.{GathersAll}
+use Rattle.std.proofs.Common.{take}
+use Rattle.delta_ops.proofs.Erasing.{GathersKeys}
 use Rattle.delta_ops.proofs.erasures.dots_anywhere.Given as goal
 
-abbrev pub invariant-loop-standing : goal.invariant-loop-standing
-invariant-loop-standing g l = GathersAll l.dots.keys (map (λ entry. entry.1.now) l.yielded)
+abbrev pub invariant-loop-fields : goal.invariant-loop-fields
+invariant-loop-fields g l = GathersKeys l.dots.keys (take l.fields-index l.fields-items)
