@@ -72,7 +72,7 @@ impl<V: Drop, H: PathHash, A: Allocator + Copy> Tries<V, H, A> {
                 key,
                 value,
             ),
-            Act::Remove(index, key) => remove_at(self.tries.as_mut_slice(), index, &key),
+            Act::Remove(index, key) => drop_at(self.tries.as_mut_slice(), index, key),
             Act::Clear(index) => clear_at(self.tries.as_mut_slice(), index),
             Act::Snapshot(index) => {
                 let made = snapshot_at(self.tries.as_mut_slice(), index)?;
@@ -155,6 +155,21 @@ fn remove_at<V: Drop, H: PathHash, A: Allocator + Copy>(
     }
     tries[index].remove(key)?;
     Ok(true)
+}
+
+// The same, of a key that is not needed any more.
+fn drop_at<V: Drop, H: PathHash, A: Allocator + Copy>(
+    tries: &mut [Ctrie<V, H, A>],
+    index: usize,
+    key: Key<A>,
+) -> Result<bool, Refusal>
+    ensures there { IfOk result (λ there. IsTrue there ↔ index < length tries.old) }
+    ensures read_only { IsErrOf result Refusal.ReadOnly ↔ IsTrue (takes_no_write (slice_get tries.old index)) }
+    ensures ok { OnOk result (tries.new ≡ changed_at index (written (λ map. finite.remove map key)) tries.old) }
+    ensures same { OnErr result (tries.new ≡ tries.old) }
+    ensures err { IfErr result (λ refusal. (refusal ≡ Refusal.ReadOnly) ⊎ (refusal ≡ Refusal.OutOfMemory)) }
+{
+    remove_at(tries, index, &key)
 }
 
 // Takes all keys out of the trie of this index, and tells whether that is there.

@@ -1,4 +1,4 @@
-ghost use Rattle.std.specs.Prelude.{◌≡◌, ◌<◌, ◌≤◌, ◌↔◌, length, refl, IfOk, IfErr, IsErrOf, IsOkUnless, ◌⊎◌};
+ghost use Rattle.std.specs.Prelude.{◌≡◌, ◌<◌, ◌≤◌, ◌↔◌, [], length, refl, IfOk, IfErr, IsErrOf, IsOkUnless, ◌⊎◌};
 ghost use Rattle.std.specs.Cmp.{eq_by_cmp_equiv, partial_equiv_from_equiv, partial_order_from_total};
 ghost use Rattle.std.specs.Cmp.Lexicographic.{nat_list_cmp_total};
 ghost use Rattle.std.specs.Ordering.{eq_by_cmp, as_partial_cmp};
@@ -61,6 +61,16 @@ impl<K, A: Allocator + Copy> Text<K, A> {
 }
 
 impl<K, A: Allocator> Text<K, A> {
+    /// The text of no bytes. Takes no memory.
+    pub fn empty() -> Text<K, A>
+        ensures { result ≡ [] }
+    {
+        Text {
+            store: Store::Short(0, [0; 22]),
+            kind: PhantomData,
+        }
+    }
+
     /// The bytes that the text was made of, in order.
     pub fn bytes(&self) -> &[u8]
         ensures value { result.now ≡ self.now }

@@ -4,7 +4,7 @@ use Rattle.std.proofs.lemmas.List.{map-append}
 use Rattle.std.proofs.lemmas.Map.Iter.{iter_end}
 use Rattle.dots.specs.Dot.{DotValue}
 use Rattle.wire_form.specs.Spelling.{pair, IsPair}
-use Rattle.wire_form.specs.Fields.{text, IsText, dot, IsDot}
+use Rattle.wire_form.specs.Parts.{text, IsText, dot, IsDot}
 use Rattle.wire_form.specs.Writing.{Appends}
 use Rattle.wire_form.proofs.Writes.{WritesSo, pair_appends, one_written, all_written, values_appended}
 use Rattle.wire_form.proofs.encoding.write_values.Goals as goal

@@ -1,7 +1,7 @@
 use Rattle.std.proofs.Common.{map, length}
 use Rattle.std.specs.Map.Iter.{deref_pair}
 use Rattle.wire_form.specs.Spelling.{pair, IsPair}
-use Rattle.wire_form.specs.Fields.{text, IsText, dot, IsDot}
+use Rattle.wire_form.specs.Parts.{text, IsText, dot, IsDot}
 use Rattle.wire_form.proofs.Writes.{WritesSo}
 use Rattle.wire_form.proofs.encoding.write_values.Given as goal
 
