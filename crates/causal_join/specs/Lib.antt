@@ -1,1 +1,2 @@
 pub mod Causal
+pub mod OrMap

@@ -3,7 +3,7 @@ use Rattle.std.proofs.Common.{◌≡◌, ◌<◌, ◌+◌, length, take, slice_i
 use Rattle.std.proofs.lemmas.List.Sums.{fold-append}
 use Rattle.std.proofs.lemmas.List.{map-append, take_more}
 use Rattle.delta_ops.specs.Group.{group_state}
-use Rattle.delta_ops.specs.Pair.{PairValue, pair_state}
+use Rattle.causal_join.specs.OrMap.{OrMapValue, or_map_state}
 use Rattle.delta_ops.specs.Run.{groups_of}
 use Rattle.delta_ops.specs.declared.run.Run.{Run}
 use Rattle.op_model.specs.Meaning.{greater, state}
@@ -11,17 +11,17 @@ use Rattle.op_model.specs.State.{Same, join}
 use Rattle.op_model.proofs.Greater.{greater-assoc}
 use Rattle.op_model.proofs.Joins.{join-assoc, join-same, same-itself, same-back, same-chain}
 
-pub group-push : (pairs : List PairValue) (pair : PairValue) → group_state (pairs ++ pair ∷ []) ≡ join greater (group_state pairs) (pair_state pair)
-group-push pairs pair = fold-append (λ group pair. join greater group (pair_state pair)) (state []) pairs (pair ∷ [])
+pub group-push : (pairs : List OrMapValue) (pair : OrMapValue) → group_state (pairs ++ pair ∷ []) ≡ join greater (group_state pairs) (or_map_state pair)
+group-push pairs pair = fold-append (λ group pair. join greater group (or_map_state pair)) (state []) pairs (pair ∷ [])
 
 -- the group is the same where its two newest pairs become their join
-pub group-joined : (pairs : List PairValue) (older newest both : PairValue) → Same (pair_state both) (join greater (pair_state older) (pair_state newest))
+pub group-joined : (pairs : List OrMapValue) (older newest both : OrMapValue) → Same (or_map_state both) (join greater (or_map_state older) (or_map_state newest))
     → Same (group_state (pairs ++ both ∷ [])) (group_state ((pairs ++ older ∷ []) ++ newest ∷ []))
 group-joined pairs older newest both is =
     rw (group-push pairs both, group-push (pairs ++ older ∷ []) newest, group-push pairs older)
     (same-chain _ _ _
-    (join-same greater (group_state pairs) (pair_state both) (group_state pairs) (join greater (pair_state older) (pair_state newest)) (same-itself (group_state pairs)) is)
-    (same-back _ _ (join-assoc greater greater-assoc (group_state pairs) (pair_state older) (pair_state newest))))
+    (join-same greater (group_state pairs) (or_map_state both) (group_state pairs) (join greater (or_map_state older) (or_map_state newest)) (same-itself (group_state pairs)) is)
+    (same-back _ _ (join-assoc greater greater-assoc (group_state pairs) (or_map_state older) (or_map_state newest))))
 
 module _ {A : Type 0} where
   -- the runs with one more at the end
@@ -30,7 +30,7 @@ module _ {A : Type 0} where
 
   -- runs of which the two newest became one
   pub runs-joined : (old popped rest new : List (Run A)) (older newest both : Run A) → old ≡ popped ++ newest ∷ [] → popped ≡ rest ++ older ∷ [] → new ≡ rest ++ both ∷ []
-      → Same (pair_state both.group) (join greater (pair_state older.group) (pair_state newest.group))
+      → Same (or_map_state both.group) (join greater (or_map_state older.group) (or_map_state newest.group))
       → Same (group_state (groups_of new)) (group_state (groups_of old))
   runs-joined old popped rest new older newest both was before becomes is =
       rw (was, before, becomes, groups_of-push rest both, groups_of-push (rest ++ older ∷ []) newest, groups_of-push rest older)
@@ -38,20 +38,20 @@ module _ {A : Type 0} where
 
   -- runs with a delta at the end, after they were joined as far as is due
   pub runs-pushed : (old settled new : List (Run A)) (run : Run A) → Same (group_state (groups_of settled)) (group_state (groups_of old)) → new ≡ settled ++ run ∷ []
-      → Same (group_state (groups_of new)) (join greater (group_state (groups_of old)) (pair_state run.group))
+      → Same (group_state (groups_of new)) (join greater (group_state (groups_of old)) (or_map_state run.group))
   runs-pushed old settled new run same becomes =
       rw (becomes, groups_of-push settled run, group-push (groups_of settled) run.group)
-      (join-same greater (group_state (groups_of settled)) (pair_state run.group) (group_state (groups_of old)) (pair_state run.group) same (same-itself (pair_state run.group)))
+      (join-same greater (group_state (groups_of settled)) (or_map_state run.group) (group_state (groups_of old)) (or_map_state run.group) same (same-itself (or_map_state run.group)))
 
   -- one run more is in the whole
-  pub whole-more : (runs : List (Run A)) (run : Run A) (whole more : PairValue) → Same (pair_state whole) (group_state (groups_of runs))
-      → Same (pair_state more) (join greater (pair_state whole) (pair_state run.group)) → Same (pair_state more) (group_state (groups_of (runs ++ run ∷ [])))
+  pub whole-more : (runs : List (Run A)) (run : Run A) (whole more : OrMapValue) → Same (or_map_state whole) (group_state (groups_of runs))
+      → Same (or_map_state more) (join greater (or_map_state whole) (or_map_state run.group)) → Same (or_map_state more) (group_state (groups_of (runs ++ run ∷ [])))
   whole-more runs run whole more same is =
       rw (groups_of-push runs run, group-push (groups_of runs) run.group)
-      (same-chain _ _ _ is (join-same greater (pair_state whole) (pair_state run.group) (group_state (groups_of runs)) (pair_state run.group) same (same-itself (pair_state run.group))))
+      (same-chain _ _ _ is (join-same greater (or_map_state whole) (or_map_state run.group) (group_state (groups_of runs)) (or_map_state run.group) same (same-itself (or_map_state run.group))))
 
   -- the same of a run by its place
-  pub whole-more_at : (runs : List (Run A)) (i : ℕ) (run : Run A) (whole more : PairValue) → i < length runs → run ≡ slice_index_or runs i run → Same (pair_state whole) (group_state (groups_of (take i runs)))
-      → Same (pair_state more) (join greater (pair_state whole) (pair_state run.group)) → Same (pair_state more) (group_state (groups_of (take (i + 1) runs)))
+  pub whole-more_at : (runs : List (Run A)) (i : ℕ) (run : Run A) (whole more : OrMapValue) → i < length runs → run ≡ slice_index_or runs i run → Same (or_map_state whole) (group_state (groups_of (take i runs)))
+      → Same (or_map_state more) (join greater (or_map_state whole) (or_map_state run.group)) → Same (or_map_state more) (group_state (groups_of (take (i + 1) runs)))
   whole-more_at runs i run whole more within at same is =
       rw (take_more runs i run within ∙ ap (λ item. take i runs ++ item ∷ []) (sym at)) (whole-more (take i runs) run whole more same is)

@@ -1,3 +1,2 @@
-pub mod Pair
 pub mod Group
 pub mod Run

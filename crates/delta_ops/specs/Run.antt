@@ -1,8 +1,8 @@
 -- The runs of what a replica is to send: groups of deltas that came one after another. Of this project.
 use Rattle.std.specs.Prelude.{List, map}
-use Rattle.delta_ops.specs.Pair.{PairValue}
+use Rattle.causal_join.specs.OrMap.{OrMapValue}
 use Rattle.delta_ops.specs.declared.run.Run.{Run}
 
 -- the groups of these runs, the oldest first
-abbrev pub groups_of : {A : Type 0} → List (Run A) → List PairValue
+abbrev pub groups_of : {A : Type 0} → List (Run A) → List OrMapValue
 groups_of runs = map (λ run. run.group) runs

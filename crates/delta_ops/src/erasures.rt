@@ -1,79 +1,136 @@
-ghost use Rattle.std.specs.Prelude.{◌≡◌, ◌||◌, ℕ, List, length, is_some, OnOk, IfOk, IsOkUnless};
+ghost use Rattle.std.specs.Prelude.{◌≡◌, ◌||◌, ◌↔◌, ◌⊎◌, ℕ, List, length, is_some, IsTrue, OnOk, IfOk, IsOkUnless};
 ghost use Rattle.std.specs.List.{IsDistinct};
 ghost use Rattle.causal_context.specs.Context.{has};
-ghost use Rattle.delta_ops.specs.Pair.{pair_state};
+ghost use Rattle.causal_join.specs.OrMap.{or_map_state, fields_at};
+ghost use Rattle.dot_store.specs.Store.{HoldsDot};
 ghost use Rattle.dot_store.specs.Stores.{at_values};
 ghost use Rattle.dots.specs.Dot.{DotValue, same_dot};
 ghost use Rattle.op_model.specs.State.{Same};
 ghost use Rattle.op_model.specs.Operation.{has as is_among};
-ghost use Rattle.op_model.specs.Made.{IsRemoveAt, IsClearAt, erasure};
+ghost use Rattle.op_model.specs.Made.{IsRemoveAt, IsFieldRemoveAt, IsClearAt, erasure};
 ghost use Rattle.op_model.specs.Meaning.{state};
+ghost use Rattle.op_model.specs.Place.{place_of};
 
-use crate::pair::Pair;
+use crate::standing::values_at;
 use causal_context::Context;
-use causal_join::Causal;
+use causal_join::{Causal, OrMap};
 use dot_store::{DotFun, DotMap, DotStore};
-use dots::{Dot, Key, Refusal, Value};
+use dots::{Dot, Field, Key, Refusal, Value};
 use std::alloc::Allocator;
 use std::collections::BTreeSet;
 
-/// The delta of a remove of the key, and how many dots it observed, which is how many stand at the key.
+/// The delta of a remove of the key with all its fields, and how many dots it observed, which is how many stand at any
+/// field of the key.
 ///
-/// The delta holds nothing, and knows these dots. Where there are none it is the bottom, as no operation is made.
+/// The delta holds nothing, and knows these dots. Where there are none it is the bottom, as no operation is made. Takes a
+/// look-up, and time and memory in what stands there.
 pub fn remove<A: Allocator + Copy>(
     alloc: A,
-    live: &Pair<A>,
+    live: &OrMap<A>,
     key: &Key<A>,
-) -> Result<(Pair<A>, u64), Refusal>
-    ensures ok { IfOk result (λ made. (over : List DotValue) × IsRemoveAt (pair_state live.now) key.now over ×
-        Same (pair_state made.0) (state (erasure over)) × IsDistinct same_dot over × (made.1 ≡ length over)) }
+) -> Result<(OrMap<A>, u64), Refusal>
+    ensures ok { IfOk result (λ made. (over : List DotValue) × IsRemoveAt (or_map_state live.now) key.now over ×
+        Same (or_map_state made.0) (state (erasure over)) × IsDistinct same_dot over × (made.1 ≡ length over)) }
     ensures err { IsOkUnless result Refusal.OutOfMemory }
 {
-    let dots = dots_at(alloc, live, key)?;
+    let dots = dots_within(alloc, live, key)?;
     erasing(alloc, &dots)
 }
 
-/// The delta of a clear, and how many dots it observed, which is how many stand at any key.
+/// The delta of a remove of the field of the key, and how many dots it observed, which is how many stand there. The
+/// key's other fields stay as they are.
 ///
-/// The delta holds nothing, and knows these dots. Where there are none it is the bottom, as no operation is made.
-pub fn clear<A: Allocator + Copy>(alloc: A, live: &Pair<A>) -> Result<(Pair<A>, u64), Refusal>
-    ensures ok { IfOk result (λ made. (over : List DotValue) × IsClearAt (pair_state live.now) over ×
-        Same (pair_state made.0) (state (erasure over)) × IsDistinct same_dot over × (made.1 ≡ length over)) }
+/// The delta holds nothing, and knows these dots. Where there are none it is the bottom, as no operation is made. Takes
+/// two look-ups, and time and memory in what stands there.
+pub fn remove_field<A: Allocator + Copy>(
+    alloc: A,
+    live: &OrMap<A>,
+    key: &Key<A>,
+    field: &Field<A>,
+) -> Result<(OrMap<A>, u64), Refusal>
+    ensures ok { IfOk result (λ made. (over : List DotValue) ×
+        IsFieldRemoveAt (or_map_state live.now) (place_of key.now field.now) over ×
+        Same (or_map_state made.0) (state (erasure over)) × IsDistinct same_dot over × (made.1 ≡ length over)) }
+    ensures err { IsOkUnless result Refusal.OutOfMemory }
+{
+    let dots = dots_at(alloc, live, key, field)?;
+    erasing(alloc, &dots)
+}
+
+/// The delta of a clear, and how many dots it observed, which is how many stand at any place.
+///
+/// The delta holds nothing, and knows these dots. Where there are none it is the bottom, as no operation is made. Takes
+/// time and memory in the whole map.
+pub fn clear<A: Allocator + Copy>(alloc: A, live: &OrMap<A>) -> Result<(OrMap<A>, u64), Refusal>
+    ensures ok { IfOk result (λ made. (over : List DotValue) × IsClearAt (or_map_state live.now) over ×
+        Same (or_map_state made.0) (state (erasure over)) × IsDistinct same_dot over × (made.1 ≡ length over)) }
     ensures err { IsOkUnless result Refusal.OutOfMemory }
 {
     let dots = dots_anywhere(alloc, live)?;
     erasing(alloc, &dots)
 }
 
-/// The dots that stand at the key.
+/// The dots that stand at the field of the key.
 fn dots_at<A: Allocator + Copy>(
     alloc: A,
-    live: &Pair<A>,
+    live: &OrMap<A>,
+    key: &Key<A>,
+    field: &Field<A>,
+) -> Result<BTreeSet<Dot, A>, Refusal>
+    ensures ok { IfOk result (λ dots. IsFieldRemoveAt (or_map_state live.now) (place_of key.now field.now) dots.keys) }
+    ensures err { IsOkUnless result Refusal.OutOfMemory }
+{
+    let mut dots = BTreeSet::new(alloc);
+    if let Some(standing) = values_at(live, key, field) {
+        gather(&mut dots, standing)?;
+    }
+    Ok(dots)
+}
+
+/// The dots that stand at any field of the key.
+fn dots_within<A: Allocator + Copy>(
+    alloc: A,
+    live: &OrMap<A>,
     key: &Key<A>,
 ) -> Result<BTreeSet<Dot, A>, Refusal>
-    ensures ok { IfOk result (λ dots. IsRemoveAt (pair_state live.now) key.now dots.keys) }
+    ensures ok { IfOk result (λ dots. IsRemoveAt (or_map_state live.now) key.now dots.keys) }
     ensures err { IsOkUnless result Refusal.OutOfMemory }
 {
     let mut dots = BTreeSet::new(alloc);
-    if let Some(standing) = live.store().get(key) {
-        gather(&mut dots, standing)?;
+    if let Some(fields) = live.store().get(key) {
+        gather_fields(&mut dots, fields)?;
     }
     Ok(dots)
 }
 
-/// The dots that stand at any key.
-fn dots_anywhere<A: Allocator + Copy>(alloc: A, live: &Pair<A>) -> Result<BTreeSet<Dot, A>, Refusal>
-    ensures ok { IfOk result (λ dots. IsClearAt (pair_state live.now) dots.keys) }
+/// The dots that stand at any place.
+fn dots_anywhere<A: Allocator + Copy>(alloc: A, live: &OrMap<A>) -> Result<BTreeSet<Dot, A>, Refusal>
+    ensures ok { IfOk result (λ dots. IsClearAt (or_map_state live.now) dots.keys) }
     ensures err { IsOkUnless result Refusal.OutOfMemory }
 {
     let mut dots = BTreeSet::new(alloc);
-    for (_, standing) in live.store().iter() {
-        gather(&mut dots, standing)?;
+    for (_, fields) in live.store().iter() {
+        gather_fields(&mut dots, fields)?;
     }
     Ok(dots)
 }
 
-/// Adds the dots of a key's store.
+/// Adds the dots that stand at any of the fields.
+fn gather_fields<A: Allocator + Copy>(
+    dots: &mut BTreeSet<Dot, A>,
+    fields: &DotMap<Field<A>, DotFun<Value<A>, A>, A>,
+) -> Result<(), Refusal>
+    ensures ok { OnOk result ((d : DotValue) → IsTrue (is_among dots.new.keys d)
+        ↔ (IsTrue (is_among dots.old.keys d) ⊎ HoldsDot (fields_at fields.now) d)) }
+    ensures err { IsOkUnless result Refusal.OutOfMemory }
+{
+    for (_, standing) in fields.iter() {
+        gather(dots, standing)?;
+    }
+    Ok(())
+}
+
+/// Adds the dots of a field's values.
 fn gather<A: Allocator + Copy>(
     dots: &mut BTreeSet<Dot, A>,
     standing: &DotFun<Value<A>, A>,
@@ -92,8 +149,8 @@ fn gather<A: Allocator + Copy>(
 fn erasing<A: Allocator + Copy>(
     alloc: A,
     dots: &BTreeSet<Dot, A>,
-) -> Result<(Pair<A>, u64), Refusal>
-    ensures ok { IfOk result (λ made. Same (pair_state made.0) (state (erasure dots.now.keys)) ×
+) -> Result<(OrMap<A>, u64), Refusal>
+    ensures ok { IfOk result (λ made. Same (or_map_state made.0) (state (erasure dots.now.keys)) ×
         IsDistinct same_dot dots.now.keys × (made.1 ≡ length dots.now.keys)) }
     ensures err { IsOkUnless result Refusal.OutOfMemory }
 {

@@ -1,20 +1,20 @@
 ghost use Rattle.std.specs.Prelude.{◌≡◌, OnOk, OnErr, IsOkUnless};
-ghost use Rattle.delta_ops.specs.Pair.{pair_state};
+ghost use Rattle.causal_join.specs.OrMap.{or_map_state};
 ghost use Rattle.op_model.specs.Meaning.{greater};
 ghost use Rattle.op_model.specs.State.{Same, join};
 
-use crate::pair::Pair;
+use causal_join::OrMap;
 use dots::Refusal;
 use std::alloc::Allocator;
 
 /// Joins the delta into the group. A refused call leaves the group as it was.
 pub fn group<A: Allocator + Copy>(
     alloc: A,
-    group: &mut Pair<A>,
-    delta: &Pair<A>,
+    group: &mut OrMap<A>,
+    delta: &OrMap<A>,
 ) -> Result<(), Refusal>
-    ensures ok { OnOk result (Same (pair_state group.new)
-        (join greater (pair_state group.old) (pair_state delta.now))) }
+    ensures ok { OnOk result (Same (or_map_state group.new)
+        (join greater (or_map_state group.old) (or_map_state delta.now))) }
     ensures unchanged { OnErr result (group.new ≡ group.old) }
     ensures err { IsOkUnless result Refusal.OutOfMemory }
 {

@@ -6,14 +6,14 @@ mod erasures;
 mod grouping;
 mod mutators;
 mod outgoing;
-mod pair;
 mod run;
+mod standing;
 
-pub use erasures::{clear, remove};
+pub use erasures::{clear, remove, remove_field};
 pub use grouping::group;
-pub use mutators::put;
+pub use mutators::{put, put_field};
 pub use outgoing::Outgoing;
-pub use pair::{Pair, Store};
+pub use standing::values_at;
 
 #[cfg(test)]
 mod tests;

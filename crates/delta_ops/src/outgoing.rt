@@ -1,16 +1,15 @@
 ghost use Rattle.std.specs.Prelude.{◌≡◌, ◌<◌, ◌≤◌, ◌∷◌, [], length, false, IsTrue, IfOk, IfSome, IfNone, OnOk, OnErr, IsOkUnless};
 ghost use Rattle.causal_context.specs.Context.{HasNone};
 ghost use Rattle.delta_ops.specs.Group.{group_state};
-ghost use Rattle.delta_ops.specs.Pair.{pair_state};
+ghost use Rattle.causal_join.specs.OrMap.{or_map_state};
 ghost use Rattle.delta_ops.specs.Run.{groups_of};
 ghost use Rattle.dots.specs.Dot.{DotValue};
 ghost use Rattle.op_model.specs.Meaning.{greater, state};
 ghost use Rattle.op_model.specs.State.{Same, join};
 
 use crate::grouping::group;
-use crate::pair::Pair;
+use causal_join::{Causal, OrMap};
 use crate::run::Run;
-use causal_join::Causal;
 use dots::Refusal;
 use std::alloc::{Allocator, Global};
 use std::marker::Model;
@@ -27,10 +26,10 @@ pub struct Outgoing<A: Allocator + Copy = Global> {
 
 impl<A: Allocator + Copy> Model for Outgoing<A> {
     ghost use Rattle.std.specs.Prelude.{List};
-    ghost use Rattle.delta_ops.specs.Pair.{PairValue};
+    ghost use Rattle.causal_join.specs.OrMap.{OrMapValue};
     ghost use Rattle.delta_ops.specs.Run.{groups_of};
 
-    ghost Value = { List PairValue };
+    ghost Value = { List OrMapValue };
 
     ghost view = { λ o. groups_of o.runs.items };
 }
@@ -46,8 +45,8 @@ impl<A: Allocator + Copy> Outgoing<A> {
     }
 
     /// Joins the delta into the group. A refused call leaves the group as it was.
-    pub fn push(&mut self, alloc: A, delta: Pair<A>) -> Result<(), Refusal>
-        ensures ok { OnOk result (Same (group_state self.new) (join greater (group_state self.old) (pair_state delta))) }
+    pub fn push(&mut self, alloc: A, delta: OrMap<A>) -> Result<(), Refusal>
+        ensures ok { OnOk result (Same (group_state self.new) (join greater (group_state self.old) (or_map_state delta))) }
         ensures unchanged { OnErr result (Same (group_state self.new) (group_state self.old)) }
         ensures err { IsOkUnless result Refusal.OutOfMemory }
     {
@@ -55,9 +54,9 @@ impl<A: Allocator + Copy> Outgoing<A> {
     }
 
     /// The whole group, or None where it knows no dot.
-    pub fn whole(&self, alloc: A) -> Result<Option<Pair<A>>, Refusal>
+    pub fn whole(&self, alloc: A) -> Result<Option<OrMap<A>>, Refusal>
         ensures some { IfOk result (λ found. IfSome found (λ whole.
-            Same (pair_state whole) (group_state self.now) × ¬ HasNone whole.1)) }
+            Same (or_map_state whole) (group_state self.now) × ¬ HasNone whole.1)) }
         ensures none { IfOk result (λ found. IfNone found (
             (d : DotValue) → (group_state self.now).has d ≡ false)) }
         ensures err { IsOkUnless result Refusal.OutOfMemory }
@@ -78,8 +77,8 @@ impl<A: Allocator + Copy> Outgoing<A> {
 }
 
 /// The join of all runs.
-fn joined<A: Allocator + Copy>(runs: &Vec<Run<A>, A>, alloc: A) -> Result<Pair<A>, Refusal>
-    ensures ok { IfOk result (λ whole. Same (pair_state whole) (group_state (groups_of runs.now.items))) }
+fn joined<A: Allocator + Copy>(runs: &Vec<Run<A>, A>, alloc: A) -> Result<OrMap<A>, Refusal>
+    ensures ok { IfOk result (λ whole. Same (or_map_state whole) (group_state (groups_of runs.now.items))) }
     ensures err { IsOkUnless result Refusal.OutOfMemory }
 {
     let mut whole = Causal::bottom(alloc);
@@ -93,10 +92,10 @@ fn joined<A: Allocator + Copy>(runs: &Vec<Run<A>, A>, alloc: A) -> Result<Pair<A
 fn push_run<A: Allocator + Copy>(
     runs: &mut Vec<Run<A>, A>,
     alloc: A,
-    delta: Pair<A>,
+    delta: OrMap<A>,
 ) -> Result<(), Refusal>
     ensures ok { OnOk result (Same (group_state (groups_of runs.new.items))
-        (join greater (group_state (groups_of runs.old.items)) (pair_state delta))) }
+        (join greater (group_state (groups_of runs.old.items)) (or_map_state delta))) }
     ensures unchanged { OnErr result (Same (group_state (groups_of runs.new.items))
         (group_state (groups_of runs.old.items))) }
     ensures err { IsOkUnless result Refusal.OutOfMemory }

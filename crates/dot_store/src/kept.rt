@@ -3,7 +3,7 @@ ghost use Rattle.std.specs.declared.cmp.Ordering.TheVariants.{Equal};
 ghost use Rattle.std.proofs.lemmas.Map.Lookups.{exact_bytes};
 ghost use Rattle.causal_context.proofs.Dots.{dot_exact};
 
-use dots::{Dot, Key, Refusal, Value};
+use dots::{Dot, Refusal, Text};
 use std::alloc::Allocator;
 
 /// What can be a key of a `DotMap` or a value of a `DotFun`: it can be copied, a copy is equal, and two that
@@ -17,18 +17,10 @@ pub trait Kept<A: Allocator + Copy>: Ord + Drop {
     ghost exact: { (x y : Self) → Self.cmp x y ≡ Equal → x ≡ y };
 }
 
-impl<A: Allocator + Copy> Kept<A> for Key<A> {
+impl<K, A: Allocator + Copy> Kept<A> for Text<K, A> {
     ghost exact = { exact_bytes };
 
-    fn copy(&self, alloc: A) -> Result<Key<A>, Refusal> {
-        self.copy(alloc)
-    }
-}
-
-impl<A: Allocator + Copy> Kept<A> for Value<A> {
-    ghost exact = { exact_bytes };
-
-    fn copy(&self, alloc: A) -> Result<Value<A>, Refusal> {
+    fn copy(&self, alloc: A) -> Result<Text<K, A>, Refusal> {
         self.copy(alloc)
     }
 }

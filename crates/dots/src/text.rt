@@ -34,6 +34,16 @@ impl<K, A: Allocator> Model for Text<K, A> {
 }
 
 impl<K, A: Allocator + Copy> Text<K, A> {
+    /// The text of no bytes, as the field is that a write has which names none. Takes no memory.
+    pub fn empty() -> Text<K, A>
+        ensures { result ≡ [] }
+    {
+        Text {
+            store: Store::Short(0, [0; 22]),
+            kind: PhantomData,
+        }
+    }
+
     /// The text of these bytes. TooLong exactly past 65,535 bytes, else OutOfMemory or the text. Takes time in
     /// their number, and memory past 22 of them.
     pub fn new(alloc: A, bytes: &[u8]) -> Result<Text<K, A>, Refusal>

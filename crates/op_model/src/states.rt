@@ -9,7 +9,7 @@ ghost use Rattle.op_model.specs.Reading.{read_at};
 ghost use Rattle.dots.specs.Bytes.{bytes_cmp};
 ghost use Rattle.std.specs.Ordering.{eq_by_cmp, ord_max};
 
-use dots::{Key, Value};
+use dots::{Field, Key, Value};
 
 /// The join of two states is the same in either order, where the greater of two held values is.
 pub fn join_is_commutative<P, H>()
@@ -49,9 +49,10 @@ pub fn join_is_read_at_places<P, Q, H>()
     ensures same { (place_of : Q → P) (p q : State P H) → Same p q → Same (read_at place_of p) (read_at place_of q) }
 {}
 
-/// The order of this model is that of keys and values, and so is the greater of two values.
+/// The order of this model is that of keys, fields and values, and so is the greater of two values.
 pub fn bytes_are_in_order()
     ensures keys { (x y : List ℕ) → ⟦<Key as Ord>⟧.cmp x y ≡ bytes_cmp x y }
+    ensures fields { (x y : List ℕ) → ⟦<Field as Ord>⟧.cmp x y ≡ bytes_cmp x y }
     ensures values { (x y : List ℕ) → ⟦<Value as Ord>⟧.cmp x y ≡ bytes_cmp x y }
     ensures same_key { (x y : List ℕ) → ⟦<Key as PartialEq>⟧.eq x y ≡ eq_by_cmp bytes_cmp x y }
     ensures greatest { ord_max ⟦<Value as Ord>⟧.cmp ≡ greater }

@@ -5,8 +5,8 @@ use Rattle.delta_ops.proofs.mutators.observed_at.Goals.{in-Some+in_ok-dots_into,
 
 pub returns-clause-ok : goal.returns-clause-ok
 returns-clause-ok g c d =
-    let held = rw c.store.ensures.value at (c.get.ensures.held tt d) in
-    elim c.match-get.branch [
+    let held = c.values_at.ensures d in
+    elim c.match-values_at.branch [
       | in-Some+in_ok-dots_into w ↦
           (let there = rw w.in-Some.is at held in
           rw w.context-is (test_of _ _ (w.in_ok-dots_into.ensures.added tt d)

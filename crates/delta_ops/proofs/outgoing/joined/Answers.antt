@@ -1,10 +1,11 @@
 use Rattle.std.proofs.Common.{arith}
 use Rattle.std.proofs.lemmas.Bool.Decides.{nat_tests}
+use Rattle.causal_join.specs.OrMap.{path_of}
 use Rattle.delta_ops.proofs.Groups.{whole-more_at}
 use Rattle.delta_ops.proofs.outgoing.joined.Goals as goal
 
 pub loop-run-init : goal.loop-run-init
-loop-run-init g c = record { at = λ key d. c.bottom-whole.ensures.store (key, tt) d; has = c.bottom-whole.ensures.context }
+loop-run-init g c = record { at = λ place d. c.bottom-whole.ensures.store (path_of place) d; has = c.bottom-whole.ensures.context }
 
 pub loop-run-preserved : goal.loop-run-preserved
 loop-run-preserved g c =
