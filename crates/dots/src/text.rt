@@ -71,16 +71,6 @@ impl<K, A: Allocator + Copy> Text<K, A> {
 }
 
 impl<K, A: Allocator> Text<K, A> {
-    /// The text of no bytes. Takes no memory.
-    pub fn empty() -> Text<K, A>
-        ensures { result ≡ [] }
-    {
-        Text {
-            store: Store::Short(0, [0; 22]),
-            kind: PhantomData,
-        }
-    }
-
     /// The bytes that the text was made of, in order.
     pub fn bytes(&self) -> &[u8]
         ensures value { result.now ≡ self.now }
