@@ -1,28 +1,49 @@
--- A loop that adds the dots of a store to a context.
-use Rattle.std.proofs.Common.{◌≡◌, Bool, ◌||◌, List, ◌∷◌, [], ◌++◌, sym, ◌∙◌, subst, inl, inr}
+-- A loop over the entries of a store that adds their dots to a context.
+use Rattle.std.proofs.Common.{◌≡◌, ℕ, ◌+◌, ◌<◌, Bool, true, false, ◌||◌, List, length, get_or, refl, sym, ◌∙◌, subst, inl, inr, ⊎_elim, arith}
 use Rattle.std.specs.Prelude.{IsTrue, ◌⊎◌}
 use Rattle.dots.specs.Dot.{DotValue, same_dot}
-use Rattle.causal_context.specs.Dots.{dot_cmp}
-use Rattle.causal_context.proofs.Dots.{dot_cmp_total, dot_exact, same_dot-refl, same_from_test}
-use Rattle.dot_store.proofs.Reached.{reached, every_more, or_left, or_right, or_cases}
+use Rattle.causal_context.proofs.Dots.{same_dot-refl, same_from_test}
+use Rattle.dot_store.proofs.Places.{items_more}
 
--- the context has what it had and the dots that were reached, and of other dots none but those that are held
-pub record Gathered {A : Type 0} (Held : DotValue → Type 0) (old new : DotValue → Bool) (key : A → DotValue) (xs : List A) : Type 0 where
+-- The context has what it had and the dots of the first items, and of other dots none but those that are held.
+-- `Dots` says which are the dots of an item.
+pub record Gathered {X : Type 0} (Held : DotValue → Type 0) (Dots : X → DotValue → Type 0) (old new : DotValue → Bool) (items : List X) (count : ℕ) : Type 0 where
   pub kept : (d : DotValue) → IsTrue (old d) → IsTrue (new d)
   pub only : (d : DotValue) → IsTrue (new d) → IsTrue (old d) ⊎ Held d
-  pub added : (d : DotValue) → IsTrue (reached dot_cmp key xs d) → IsTrue (new d)
+  pub added : (k : ℕ) (x : X) → k < count → (d : DotValue) → Dots (get_or items k x) d → IsTrue (new d)
 
-pub gathered_none : {A : Type 0} (Held : DotValue → Type 0) (old : DotValue → Bool) (key : A → DotValue) → Gathered Held old old key []
-gathered_none Held old key = record { kept = λ d h. h; only = λ d h. inl h; added = λ d h. absurd (cc h) }
+pub gathered_none : {X : Type 0} (Held : DotValue → Type 0) (Dots : X → DotValue → Type 0) (old : DotValue → Bool) (items : List X) → Gathered Held Dots old old items 0
+gathered_none Held Dots old items = record { kept = λ d h. h; only = λ d h. inl h; added = λ k x h d e. absurd (omega arith) }
 
--- one more dot, which is held
-pub gathered_more : {A : Type 0} (Held : DotValue → Type 0) (old mid new : DotValue → Bool) (key : A → DotValue) (xs : List A) (x : A) → Gathered Held old mid key xs
-    → ((d : DotValue) → new d ≡ (same_dot (key x) d || mid d)) → Held (key x) → Gathered Held old new key (xs ++ x ∷ [])
-gathered_more Held old mid new key xs x before adds held = record {
-  kept = λ d h. adds d ∙ or_right (same_dot (key x) d) (mid d) (before.kept d h);
-  only = λ d h. or_cases (IsTrue (old d) ⊎ Held d) (same_dot (key x) d) (mid d) (sym (adds d) ∙ h)
-      (λ e. inr (subst Held (same_from_test (key x) d e) held)) (before.only d);
-  added = every_more dot_cmp dot_cmp_total dot_exact (λ d. IsTrue (new d)) key xs x
-      (λ d h. adds d ∙ or_right (same_dot (key x) d) (mid d) (before.added d h))
-      (adds (key x) ∙ or_left (same_dot (key x) (key x)) (mid (key x)) (same_dot-refl (key x)));
+-- the dots of one more item, which are held
+pub gathered_more : {X : Type 0} (Held : DotValue → Type 0) (Dots : X → DotValue → Type 0) (old mid new : DotValue → Bool) (items : List X) (i : ℕ) (x : X) → Gathered Held Dots old mid items i
+    → i < length items → x ≡ get_or items i x → ((d : DotValue) → IsTrue (mid d) → IsTrue (new d)) → ((d : DotValue) → IsTrue (new d) → IsTrue (mid d) ⊎ Dots x d) → ((d : DotValue) → Dots x d → IsTrue (new d))
+    → ((d : DotValue) → Dots x d → Held d) → Gathered Held Dots old new items (i + 1)
+gathered_more Held Dots old mid new items i x before h is keeps only adds held = record {
+  kept = λ d e. keeps d (before.kept d e);
+  only = λ d e. ⊎_elim (before.only d) (λ of_x. inr (held d of_x)) (only d e);
+  added = items_more (λ y. (d : DotValue) → Dots y d → IsTrue (new d)) items i x h is (λ k y l d e. keeps d (before.added k y l d e)) adds;
 }
+
+-- ---- what adding one dot does
+or_right : (a b : Bool) → IsTrue b → IsTrue (a || b)
+or_right true b h = refl
+or_right false b h = h
+
+or_left : (a b : Bool) → IsTrue a → IsTrue (a || b)
+or_left true b h = refl
+or_left false b h = absurd (cc h)
+
+or_cases : (a b : Bool) (P : Type 0) → IsTrue (a || b) → (IsTrue a → P) → (IsTrue b → P) → P
+or_cases true b P h left right = left refl
+or_cases false b P h left right = right h
+
+module _ (dot : DotValue) (mid new : DotValue → Bool) (adds : (d : DotValue) → new d ≡ (same_dot dot d || mid d)) where
+  pub add_keeps : (d : DotValue) → IsTrue (mid d) → IsTrue (new d)
+  add_keeps d h = adds d ∙ or_right (same_dot dot d) (mid d) h
+
+  pub add_only : (d : DotValue) → IsTrue (new d) → IsTrue (mid d) ⊎ (dot ≡ d)
+  add_only d h = or_cases (same_dot dot d) (mid d) (IsTrue (mid d) ⊎ (dot ≡ d)) (sym (adds d) ∙ h) (λ e. inr (same_from_test dot d e)) (λ e. inl e)
+
+  pub add_adds : (d : DotValue) → dot ≡ d → IsTrue (new d)
+  add_adds d e = adds d ∙ or_left (same_dot dot d) (mid d) (subst (λ x. IsTrue (same_dot dot x)) e (same_dot-refl dot))

@@ -1,18 +1,24 @@
 -- What a map from keys to stores holds, over its list of entries.
-use Rattle.std.proofs.Common.{◌≡◌, Bool, true, false, cond, List, [], ◌∷◌, length, Option, Some, None, refl, sym, ap, ◌∙◌, inl, inr, ⊎_elim, ◌++◌, arith}
-use Rattle.std.specs.Prelude.{IsTrue, IsSome, IfSome, is_some, ◌⊎◌, MatchOption, Result, Ok, Err, OnOk, OnErr}
+use Rattle.std.proofs.Common.{◌≡◌, ℕ, ◌<◌, Bool, true, false, cond, List, [], ◌∷◌, length, get_or, Option, Some, None, refl, sym, ap, ◌∙◌, arith}
+use Rattle.std.specs.Prelude.{IsSome, IfSome, is_some, MatchOption, Result, Ok, Err, OnOk, OnErr}
+use Rattle.std.specs.Borrow.{Bor}
+use Rattle.std.specs.Option.{option_copied}
 use Rattle.std.specs.declared.cmp.Ordering.{Ordering}
 use Rattle.std.specs.Ordering.{is_eq}
 use Rattle.std.specs.Cmp.{IsTotalOrder}
-use Rattle.std.specs.Map.{lookup, remove_entry}
+use Rattle.std.specs.List.{All}
+use Rattle.std.specs.Map.{lookup, remove_entry, values_of}
+use Rattle.std.proofs.lemmas.List.{get_or-map}
+use Rattle.std.proofs.lemmas.List.Elements.{All-map}
+use Rattle.std.proofs.lemmas.Map.Entries.{length-values_of}
 use Rattle.std.specs.BTreeMap.{is_at, insert_entry}
 use Rattle.std.proofs.lemmas.Cmp.{tied_itself}
 use Rattle.std.proofs.lemmas.Map.Lookups.{CmpEqualImpliesEq}
 use Rattle.std.proofs.lemmas.Map.Views.{All-values-insert_entry, All-map-remove_entry, IfSome-lookup_from_All}
 use Rattle.dots.specs.Dot.{DotValue}
-use Rattle.dot_store.specs.Store.{HasNothing, HoldsSame, HoldsDot}
+use Rattle.dot_store.specs.Store.{HasNothing, HoldsDot, HoldsSame}
 use Rattle.dot_store.specs.Stores.{at_stores, held_by, joined_store, with_store, NoKeyIsEmpty}
-use Rattle.dot_store.proofs.Reached.{reached, every_more}
+use Rattle.dot_store.proofs.Places.{Ascends, item_found, entry_found}
 
 module _ {S P H : Type 0} (at : S → P → DotValue → Option H) where
   -- ---- no key has an empty store
@@ -43,6 +49,10 @@ module _ {S P H : Type 0} (at : S → P → DotValue → Option H) where
   pub filled_at : {K : Type 0} (test : K → Bool) (es : List (K × S)) (s : S) → NoKeyIsEmpty at es → lookup test es ≡ Some s → HasNothing (at s) → ⊥
   filled_at test es s filled e = filled_by (lookup test es) s (IfSome-lookup_from_All (λ t. HasNothing (at t) → ⊥) test es filled) e
 
+  pub filled_found : {K : Type 0} (test : K → Bool) (es : List (K × S)) (r : Option (Bor S)) → NoKeyIsEmpty at es → option_copied r ≡ lookup test es → IfSome r (λ s. HasNothing (at s.now) → ⊥)
+  filled_found test es None filled is = tt
+  filled_found test es (Some s) filled is = filled_at test es s.now filled (sym is)
+
   -- ---- what is held, where it is known what a look-up finds
   pub held_at_some : (o : Option S) (s : S) (place : P) (d : DotValue) → o ≡ Some s → held_by at o place d ≡ at s place d
   held_at_some o s place d e = rw e refl
@@ -54,21 +64,32 @@ module _ {S P H : Type 0} (at : S → P → DotValue → Option H) where
   store_from_held None place d h = absurd (cc h)
   store_from_held (Some s) place d h = (s, refl)
 
-  -- what holds where something is found holds of all that is held
-  pub absent_from_found : (o : Option S) (d : DotValue) → (is_some o ≡ true → (place : P) → held_by at o place d ≡ None) → (place : P) → held_by at o place d ≡ None
-  absent_from_found None d h place = refl
-  absent_from_found (Some s) d h place = h refl place
+  held_some : (o : Option S) (place : P) (d : DotValue) → IsSome (held_by at o place d) → (s : S) × (o ≡ Some s) × IsSome (at s place d)
+  held_some None place d h = absurd (cc h)
+  held_some (Some s) place d h = (s, refl, h)
 
-  pub some_from_held : (o : Option S) (place : P) (d : DotValue) → IsSome (held_by at o place d) → is_some o ≡ true
-  some_from_held None place d h = absurd (cc h)
-  some_from_held (Some s) place d h = refl
+  -- an entry's store is not empty
+  pub filled_item : {K : Type 0} (es : List (K × S)) (i : ℕ) (e : K × S) → NoKeyIsEmpty at es → i < length es → e ≡ get_or es i e → HasNothing (at e.1) → ⊥
+  filled_item es i e filled h is =
+      let len = length-values_of es in
+      let within : i < length (values_of es) = rw len h in
+      let value : e.1 ≡ get_or (values_of es) i e.1 = ap (λ x. x.1) is ∙ sym (get_or-map (λ x. x.1) es i e e.1 h) in
+      rw value (filled i e.1 within)
 
-  pub cond_held : (o : Option S) (place : P) (d : DotValue) → cond (is_some o) (held_by at o place d) None ≡ held_by at o place d
-  cond_held None place d = refl
-  cond_held (Some s) place d = refl
+  pub filled_all : {K : Type 0} (es : List (K × S)) → All (λ e. HasNothing (at e.1) → ⊥) es → NoKeyIsEmpty at es
+  filled_all es all = All-map (λ s. HasNothing (at s) → ⊥) (λ e. e.1) es all
 
-  pub joined_store-none : (greater : H → H → H) (o p : Option S) (own theirs : DotValue → Bool) (place : P) (d : DotValue) → o ≡ None → p ≡ None → joined_store at greater o own p theirs place d ≡ None
-  joined_store-none greater o p own theirs place d e f = rw (e, f) refl
+  -- the join at stores that are what was found
+  pub joined_store_along : (greater : H → H → H) (o o' p p' : Option S) (own theirs : DotValue → Bool) → o ≡ o' → p ≡ p' → HoldsSame (joined_store at greater o own p theirs) (joined_store at greater o' own p' theirs)
+  joined_store_along greater o o' p p' own theirs e f place d = rw (e, f) refl
+
+  pub held_along : (o o' p p' : Option S) → o ≡ o' → p ≡ p' → HoldsSame (held_by at o) (held_by at p) → HoldsSame (held_by at o') (held_by at p')
+  held_along o o' p p' e f h = rw (← e, ← f) h
+
+  -- copies that hold the same
+  pub copied_by : (b : Bool) (s t : S) (o p : Option S) → HoldsSame (at t) (at s) → HoldsSame (held_by at o) (held_by at p) → HoldsSame (held_by at (cond b (Some t) o)) (held_by at (cond b (Some s) p))
+  copied_by true s t o p here before = here
+  copied_by false s t o p here before = before
 
   module _ {K : Type 0} (cmp : K → K → Ordering) (total : IsTotalOrder cmp) where
     pub nothing_from_no_key : (es : List (K × S)) → length es ≡ 0 → HasNothing (at_stores at cmp es)
@@ -108,51 +129,29 @@ module _ {S P H : Type 0} (at : S → P → DotValue → Option H) where
     at_stores-remove old new key store empty h place d =
         ap (λ o. held_by at o place.1 d) (h place.0) ∙ take_by (is_eq (cmp key place.0)) store (lookup (is_at (cmp place.0)) old) place.1 d (empty place.1 d)
 
-    same_by : (o p : Option S) (place : P) (d : DotValue) → ((s : S) → o ≡ Some s → HoldsSame (at s) (held_by at p)) → ((s : S) → p ≡ Some s → HoldsSame (at s) (held_by at o))
-        → held_by at o place d ≡ held_by at p place d
-    same_by (Some s) p place d there back = there s refl place d
-    same_by None (Some s) place d there back = sym (back s refl place d)
-    same_by None None place d there back = refl
-
-    -- two maps each of which holds what the other's stores hold
-    pub same_from_inside : (es fs : List (K × S)) → ((q : K) (s : S) → lookup (is_at (cmp q)) es ≡ Some s → HoldsSame (at s) (held_by at (lookup (is_at (cmp q)) fs)))
-        → ((q : K) (s : S) → lookup (is_at (cmp q)) fs ≡ Some s → HoldsSame (at s) (held_by at (lookup (is_at (cmp q)) es))) → HoldsSame (at_stores at cmp es) (at_stores at cmp fs)
+    -- what holds of each store holds of the one in which something is held
+    pub item_from_held : (Q : K × S → Type 0) (es : List (K × S)) → All Q es → (place : K × P) (d : DotValue) → IsSome (at_stores at cmp es place d) → (e : K × S) × Q e × IsSome (at e.1 place.1 d)
     unfolding at_stores
-    same_from_inside es fs there back place d =
-        same_by (lookup (is_at (cmp place.0)) es) (lookup (is_at (cmp place.0)) fs) place.1 d (there place.0) (back place.0)
+    item_from_held Q es all place d h =
+        let there = held_some (lookup (is_at (cmp place.0)) es) place.1 d h in
+        let found = entry_found Q (is_at (cmp place.0)) es there.0 all there.1 in
+        ((found.0, there.0), found.2, there.2)
 
-    pub inside_from_same : (es fs : List (K × S)) → HoldsSame (at_stores at cmp es) (at_stores at cmp fs)
-        → (q : K) (s : S) → lookup (is_at (cmp q)) es ≡ Some s → HoldsSame (at s) (held_by at (lookup (is_at (cmp q)) fs))
+    -- and what an entry's store holds is held
+    pub held_from_item : (es : List (K × S)) (i : ℕ) (e : K × S) → Ascends cmp es → i < length es → e ≡ get_or es i e → (place : P) (d : DotValue) → at_stores at cmp es (e.0, place) d ≡ at e.1 place d
     unfolding at_stores
-    inside_from_same es fs h q s e place d = sym (held_at_some (lookup (is_at (cmp q)) es) s place d e) ∙ h (q, place) d
+    held_from_item es i e s h is place d = held_at_some (lookup (is_at (cmp e.0)) es) e.1 place d (item_found cmp total es i e s h is)
 
--- ---- a loop that adds the dots of each store to a context
-module _ {K S P H : Type 0} (at : S → P → DotValue → Option H) (cmp : K → K → Ordering) (total : IsTotalOrder cmp) (exact : CmpEqualImpliesEq cmp) (es : List (K × S)) where
-  -- as `Gathered`, where the keys were reached
-  pub record GatheredStores {A : Type 0} (old new : DotValue → Bool) (key : A → K) (xs : List A) : Type 0 where
-    pub kept : (d : DotValue) → IsTrue (old d) → IsTrue (new d)
-    pub only : (d : DotValue) → IsTrue (new d) → IsTrue (old d) ⊎ HoldsDot (at_stores at cmp es) d
-    pub added : (q : K) → IsTrue (reached cmp key xs q) → (place : P) (d : DotValue) → IsSome (at_stores at cmp es (q, place) d) → IsTrue (new d)
+    pub holds_from_item : (es : List (K × S)) (i : ℕ) (e : K × S) → Ascends cmp es → i < length es → e ≡ get_or es i e → (d : DotValue) → HoldsDot (at e.1) d → HoldsDot (at_stores at cmp es) d
+    unfolding at_stores
+    holds_from_item es i e s h is d held = ((e.0, held.0), ap is_some (held_from_item es i e s h is held.0 d) ∙ held.1)
 
-  pub stores_none : {A : Type 0} (old : DotValue → Bool) (key : A → K) → GatheredStores old old key []
-  stores_none old key = record { kept = λ d h. h; only = λ d h. inl h; added = λ q h. absurd (cc h) }
+    absent_by : (o : Option S) (place : P) (d : DotValue) → ((s : S) → o ≡ Some s → at s place d ≡ None) → held_by at o place d ≡ None
+    absent_by None place d h = refl
+    absent_by (Some s) place d h = h s refl
 
-  -- a dot that came with the store of a key is held in the map
-  pub only_more : (old mid new : DotValue → Bool) (x : K) (s : S) → lookup (is_at (cmp x)) es ≡ Some s → ((d : DotValue) → IsTrue (mid d) → IsTrue (old d) ⊎ HoldsDot (at_stores at cmp es) d)
-      → ((d : DotValue) → IsTrue (new d) → IsTrue (mid d) ⊎ HoldsDot (at s) d) → (d : DotValue) → IsTrue (new d) → IsTrue (old d) ⊎ HoldsDot (at_stores at cmp es) d
-  unfolding at_stores
-  only_more old mid new x s e before more d h =
-      ⊎_elim (before d) (λ held. inr ((x, held.0), ap is_some (held_at_some at (lookup (is_at (cmp x)) es) s held.0 d e) ∙ held.1)) (more d h)
-
-  -- the dots of one more store
-  pub stores_more : {A : Type 0} (old mid new : DotValue → Bool) (key : A → K) (xs : List A) (x : A) (s : S) → GatheredStores old mid key xs → lookup (is_at (cmp (key x))) es ≡ Some s
-      → ((d : DotValue) → IsTrue (mid d) → IsTrue (new d)) → ((d : DotValue) → IsTrue (new d) → IsTrue (mid d) ⊎ HoldsDot (at s) d) → ((place : P) (d : DotValue) → IsSome (at s place d) → IsTrue (new d))
-      → GatheredStores old new key (xs ++ x ∷ [])
-  unfolding at_stores
-  stores_more old mid new key xs x s before e keeps only adds = record {
-    kept = λ d h. keeps d (before.kept d h);
-    only = only_more old mid new (key x) s e before.only only;
-    added = every_more cmp total exact (λ q. (place : P) (d : DotValue) → IsSome (at_stores at cmp es (q, place) d) → IsTrue (new d)) key xs x
-        (λ q r place d h. keeps d (before.added q r place d h))
-        (λ place d h. adds place d (sym (ap is_some (held_at_some at (lookup (is_at (cmp (key x))) es) s place d e)) ∙ h));
-  }
+    -- what no store holds is not held
+    pub absent_from_items : (es : List (K × S)) (d : DotValue) → All (λ e. (place : P) → at e.1 place d ≡ None) es → (place : K × P) → at_stores at cmp es place d ≡ None
+    unfolding at_stores
+    absent_from_items es d all place =
+        absent_by (lookup (is_at (cmp place.0)) es) place.1 d (λ s e. (entry_found (λ x. (p : P) → at x.1 p d ≡ None) (is_at (cmp place.0)) es s all e).2 place.1)

@@ -1,3 +1,5 @@
 pub mod Store
 pub mod Stores
 pub mod Greater
+pub mod Places
+pub mod Merged

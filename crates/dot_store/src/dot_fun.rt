@@ -1,31 +1,33 @@
-ghost use Rattle.std.specs.Prelude.{◌≡◌, ◌↔◌, cond, Some, None, is_some, IsSome, IfSome, IsTrue, IfOk, OnOk, OnErr, IsOkUnless, List, Contains};
+ghost use Rattle.std.specs.Prelude.{◌≡◌, ◌↔◌, cond, Some, IsSome, IfSome, IsTrue, IfOk, OnOk, OnErr, IsOkUnless, List, Contains};
 ghost use Rattle.std.specs.Option.{option_copied};
 ghost use Rattle.std.specs.Ordering.{ord_max};
-ghost use Rattle.std.specs.BTreeMap.{get};
 ghost use Rattle.std.specs.List.Sorted.{IsStrictlySortedBy};
 ghost use Rattle.std.specs.Map.{keys_of};
 ghost use Rattle.dots.specs.Dot.{DotValue, same_dot};
 ghost use Rattle.causal_context.specs.Context.{has};
 ghost use Rattle.causal_context.specs.Dots.{dot_cmp};
+ghost use Rattle.op_model.specs.State.{joined};
+ghost use Rattle.dot_store.specs.Places.{value_at};
 ghost use Rattle.dot_store.specs.Stores.{at_values, joined_value};
 ghost use Rattle.dot_store.specs.Greater.{ord_max-comm, ord_max-assoc, ord_max-idem};
 
 use crate::kept::Kept;
-use crate::put::{put, put_some};
+use crate::merge::Merge;
+use crate::ordered_list::OrderedList;
+use crate::put::put_some;
 use crate::store::DotStore;
-use causal_context::{Context, map_in_order};
+use causal_context::Context;
 use dots::{Dot, Refusal};
 use std::alloc::{Allocator, Global};
-use std::collections::BTreeMap;
-use std::collections::btree_map::Iter;
 use std::marker::Model;
 
 /// A map from dots to values.
 ///
-/// What grows keeps to the allocator that `empty` or `copy` was given.
+/// It is kept as the list of its entries, by ascending dot. What grows keeps to the allocator that `empty`
+/// or `copy` was given, or to that of the entries that it was made of.
 #[derive(Drop)]
 pub struct DotFun<V, A: Allocator = Global> {
-    values: BTreeMap<Dot, V, A>,
+    values: OrderedList<Dot, V, A>,
 }
 
 impl<V, A: Allocator> Model for DotFun<V, A> {
@@ -34,24 +36,21 @@ impl<V, A: Allocator> Model for DotFun<V, A> {
 
     ghost Value = { List (DotValue × V) };
 
-    ghost view = { λ f. f.values.entries };
+    ghost view = { λ f. f.values };
 }
 
 impl<V: Drop, A: Allocator + Copy> DotFun<V, A> {
-    /// The map of these values, or None exactly where their dots do not ascend, each dot once. Takes time in
-    /// their number, times its logarithm.
-    pub fn from_entries(alloc: A, values: Vec<(Dot, V), A>) -> Result<Option<DotFun<V, A>>, Refusal>
-        ensures ascend { IfOk result (λ made. IsSome made ↔ IsStrictlySortedBy dot_cmp (keys_of values.items)) }
-        ensures values { IfOk result (λ made. IfSome made (λ map. map ≡ values.items)) }
-        ensures err { IsOkUnless result Refusal.OutOfMemory }
+    /// The map of these values, or None exactly where their dots do not ascend, each dot once. Takes the
+    /// vector over as it is, and no memory.
+    pub fn from_entries(values: Vec<(Dot, V), A>) -> Option<DotFun<V, A>>
+        ensures ascend { IsSome result ↔ IsStrictlySortedBy dot_cmp (keys_of values.items) }
+        ensures values { IfSome result (λ map. map ≡ values.items) }
     {
-        let Some(values) = map_in_order(alloc, values)? else {
-            return Ok(None);
-        };
-        Ok(Some(DotFun { values }))
+        let values = OrderedList::from_entries(values)?;
+        Some(DotFun { values })
     }
 
-    /// The value at the dot.
+    /// The value at the dot. Takes time in the logarithm of their number.
     pub fn get(&self, dot: Dot) -> Option<&V>
         ensures { (place : _) → option_copied result ≡ at_values self.now place dot }
     {
@@ -59,16 +58,17 @@ impl<V: Drop, A: Allocator + Copy> DotFun<V, A> {
     }
 
     /// The dots with their values, in the order of the dots.
-    pub fn iter(&self) -> Iter<'_, Dot, V>
-        ensures rest { result ≡ self.now }
+    pub fn entries(&self) -> &[(Dot, V)]
+        ensures rest { result.now ≡ self.now }
         ensures held { (place : _) (d : DotValue) (v : V)
-            → (at_values self.now place d ≡ Some v) ↔ Contains result (d, v) }
-        ensures ordered { IsStrictlySortedBy dot_cmp (keys_of result) }
+            → (at_values self.now place d ≡ Some v) ↔ Contains result.now (d, v) }
+        ensures ordered { IsStrictlySortedBy dot_cmp (keys_of result.now) }
     {
-        self.values.iter()
+        self.values.entries()
     }
 
     /// Puts the value at the dot, in place of what was there. A refused call leaves the map as it was.
+    /// Takes time in the number of values at greater dots, besides that of a look-up.
     pub fn insert(&mut self, dot: Dot, value: V) -> Result<(), Refusal>
         ensures ok { OnOk result ((place : _) (d : DotValue)
             → at_values self.new place d
@@ -76,24 +76,24 @@ impl<V: Drop, A: Allocator + Copy> DotFun<V, A> {
         ensures unchanged { OnErr result (self.new ≡ self.old) }
         ensures err { IsOkUnless result Refusal.OutOfMemory }
     {
-        put(&mut self.values, dot, value)
+        self.values.insert(dot, value)
     }
 }
 
-// What the join keeps at the dot.
+// What the join keeps at the dot, of what stands there on the two sides.
 fn joined_at<V: Kept<A>, A: Allocator + Copy>(
     alloc: A,
     dot: Dot,
-    mine: &BTreeMap<Dot, V, A>,
+    mine: Option<&V>,
     own: &Context<A>,
-    yours: &BTreeMap<Dot, V, A>,
+    yours: Option<&V>,
     theirs: &Context<A>,
 ) -> Result<Option<V>, Refusal>
-    ensures ok { IfOk result (λ kept. kept ≡ joined_value (ord_max V.cmp)
-        (get dot_cmp mine.now) (has own.now) (get dot_cmp yours.now) (has theirs.now) dot) }
+    ensures ok { IfOk result (λ kept. kept ≡ joined (ord_max V.cmp)
+        (option_copied mine.entry) (has own.now dot) (option_copied yours.entry) (has theirs.now dot)) }
     ensures err { IsOkUnless result Refusal.OutOfMemory }
 {
-    let kept = match (mine.get(&dot), yours.get(&dot)) {
+    let kept = match (mine, yours) {
         (Some(x), Some(y)) => greater_of(x, y),
         (Some(x), None) if !theirs.contains(dot) => x,
         (None, Some(y)) if !own.contains(dot) => y,
@@ -108,53 +108,69 @@ fn greater_of<'a, V: Ord>(x: &'a V, y: &'a V) -> &'a V
     if y.cmp(x).is_lt() { x } else { y }
 }
 
-// The join at my dots, and nothing elsewhere.
-fn join_mine<V: Kept<A>, A: Allocator + Copy>(
+// The join of the two lists, in one pass over both.
+fn join_values<V: Kept<A>, A: Allocator + Copy>(
     alloc: A,
-    mine: &BTreeMap<Dot, V, A>,
+    mine: &OrderedList<Dot, V, A>,
     own: &Context<A>,
-    yours: &BTreeMap<Dot, V, A>,
+    yours: &OrderedList<Dot, V, A>,
     theirs: &Context<A>,
-) -> Result<BTreeMap<Dot, V, A>, Refusal>
-    ensures ok { IfOk result (λ kept. (d : DotValue)
-        → get dot_cmp kept d ≡ cond (is_some (get dot_cmp mine.now d))
-        (joined_value (ord_max V.cmp) (get dot_cmp mine.now) (has own.now)
-        (get dot_cmp yours.now) (has theirs.now) d)
-        None) }
+) -> Result<OrderedList<Dot, V, A>, Refusal>
+    ensures ok { IfOk result (λ kept. (d : DotValue) → value_at dot_cmp kept d
+        ≡ joined_value (ord_max V.cmp) (value_at dot_cmp mine.now) (has own.now)
+        (value_at dot_cmp yours.now) (has theirs.now) d) }
     ensures err { IsOkUnless result Refusal.OutOfMemory }
 {
-    let mut kept = BTreeMap::new(alloc);
-    for dot in mine.keys() {
-        let value = joined_at(alloc, *dot, mine, own, yours, theirs)?;
+    let mut kept = OrderedList::new(alloc);
+    let mut merge = Merge::new(mine.entries(), yours.entries());
+    while let Some((dot, x, y)) = merge.next() {
+        let value = joined_at(alloc, *dot, x, own, y, theirs)?;
         put_some(alloc, &mut kept, dot, value)?;
     }
     Ok(kept)
 }
 
-// With the join at your dots that are none of mine.
-fn join_yours<V: Kept<A>, A: Allocator + Copy>(
+// Whether the two are one value, or no value.
+fn is_same<V: Kept<A>, A: Allocator + Copy>(mine: Option<&V>, yours: Option<&V>) -> bool
+    ensures { IsTrue result ↔ (option_copied mine.entry ≡ option_copied yours.entry) }
+{
+    match (mine, yours) {
+        (Some(x), Some(y)) => x.cmp(y).is_eq(),
+        (None, None) => true,
+        _ => false,
+    }
+}
+
+// Whether the two lists have the same value at each dot, in one pass over both.
+fn are_same<V: Kept<A>, A: Allocator + Copy>(
+    mine: &OrderedList<Dot, V, A>,
+    yours: &OrderedList<Dot, V, A>,
+) -> bool
+    ensures { IsTrue result ↔ ((d : DotValue) → value_at dot_cmp mine.now d ≡ value_at dot_cmp yours.now d) }
+{
+    let mut merge = Merge::new(mine.entries(), yours.entries());
+    while let Some((_, x, y)) = merge.next() {
+        if !is_same::<V, A>(x, y) {
+            return false;
+        }
+    }
+    true
+}
+
+// The list with a copy of each value.
+fn copied<V: Kept<A>, A: Allocator + Copy>(
     alloc: A,
-    kept: &mut BTreeMap<Dot, V, A>,
-    mine: &BTreeMap<Dot, V, A>,
-    own: &Context<A>,
-    yours: &BTreeMap<Dot, V, A>,
-    theirs: &Context<A>,
-) -> Result<(), Refusal>
-    requires { (d : DotValue) → get dot_cmp mine.now d ≡ None → get dot_cmp kept.old d ≡ None }
-    ensures ok { OnOk result ((d : DotValue) → get dot_cmp kept.new d
-        ≡ cond (is_some (get dot_cmp mine.now d)) (get dot_cmp kept.old d)
-        (joined_value (ord_max V.cmp) (get dot_cmp mine.now) (has own.now)
-        (get dot_cmp yours.now) (has theirs.now) d)) }
+    values: &OrderedList<Dot, V, A>,
+) -> Result<OrderedList<Dot, V, A>, Refusal>
+    ensures ok { IfOk result (λ copy. copy ≡ values.now) }
     ensures err { IsOkUnless result Refusal.OutOfMemory }
 {
-    for dot in yours.keys() {
-        if mine.contains_key(dot) {
-            continue;
-        }
-        let value = joined_at(alloc, *dot, mine, own, yours, theirs)?;
-        put_some(alloc, kept, dot, value)?;
+    let entries = values.entries();
+    let mut copies = OrderedList::with_capacity(alloc, entries.len())?;
+    for (dot, value) in entries {
+        copies.insert(*dot, value.copy(alloc)?)?;
     }
-    Ok(())
+    Ok(copies)
 }
 
 impl<V: Kept<A>, A: Allocator + Copy> DotStore<A> for DotFun<V, A> {
@@ -168,20 +184,20 @@ impl<V: Kept<A>, A: Allocator + Copy> DotStore<A> for DotFun<V, A> {
 
     fn empty(alloc: A) -> DotFun<V, A> {
         DotFun {
-            values: BTreeMap::new(alloc),
+            values: OrderedList::new(alloc),
         }
     }
 
     fn is_empty(&self) -> bool {
-        self.values.is_empty()
+        self.values.entries().is_empty()
     }
 
     fn contains(&self, dot: Dot) -> bool {
-        self.values.contains_key(&dot)
+        self.values.get(&dot).is_some()
     }
 
     fn is_inside(&self, context: &Context<A>) -> bool {
-        for dot in self.values.keys() {
+        for (dot, _) in self.values.entries() {
             if !context.contains(*dot) {
                 return false;
             }
@@ -190,7 +206,7 @@ impl<V: Kept<A>, A: Allocator + Copy> DotStore<A> for DotFun<V, A> {
     }
 
     fn add_dots(&self, context: &mut Context<A>) -> Result<(), Refusal> {
-        for dot in self.values.keys() {
+        for (dot, _) in self.values.entries() {
             context.add(*dot)?;
         }
         Ok(())
@@ -203,21 +219,17 @@ impl<V: Kept<A>, A: Allocator + Copy> DotStore<A> for DotFun<V, A> {
         other: &DotFun<V, A>,
         theirs: &Context<A>,
     ) -> Result<DotFun<V, A>, Refusal> {
-        let mut values = join_mine(alloc, &self.values, own, &other.values, theirs)?;
-        join_yours(alloc, &mut values, &self.values, own, &other.values, theirs)?;
+        let values = join_values(alloc, &self.values, own, &other.values, theirs)?;
         Ok(DotFun { values })
     }
 
     fn copy(&self, alloc: A) -> Result<DotFun<V, A>, Refusal> {
-        let mut values = BTreeMap::new(alloc);
-        for (dot, value) in &self.values {
-            put(&mut values, *dot, value.copy(alloc)?)?;
-        }
+        let values = copied(alloc, &self.values)?;
         Ok(DotFun { values })
     }
 
     fn same(&self, other: &DotFun<V, A>) -> bool {
-        values_inside(&self.values, &other.values) && values_inside(&other.values, &self.values)
+        are_same(&self.values, &other.values)
     }
 
     ghost greater_comm = { ord_max-comm V.cmp V.total V.exact };
@@ -225,25 +237,4 @@ impl<V: Kept<A>, A: Allocator + Copy> DotStore<A> for DotFun<V, A> {
     ghost greater_assoc = { ord_max-assoc V.cmp V.total V.exact };
 
     ghost greater_idem = { ord_max-idem V.cmp V.total V.exact };
-}
-
-// Whether your map has each of my dots with the same value.
-fn values_inside<V: Kept<A>, A: Allocator + Copy>(
-    mine: &BTreeMap<Dot, V, A>,
-    yours: &BTreeMap<Dot, V, A>,
-) -> bool
-    ensures { IsTrue result ↔ ((d : DotValue) (v : V)
-        → get dot_cmp mine.now d ≡ Some v → get dot_cmp yours.now d ≡ Some v) }
-{
-    for (dot, value) in mine {
-        match yours.get(dot) {
-            Some(theirs) => {
-                if !value.cmp(theirs).is_eq() {
-                    return false;
-                }
-            }
-            None => return false,
-        }
-    }
-    true
 }

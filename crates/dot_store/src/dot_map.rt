@@ -1,29 +1,30 @@
-ghost use Rattle.std.specs.Prelude.{◌≡◌, ◌↔◌, cond, Some, None, is_some, IsTrue, IsSome, IfSome, IfOk, OnOk, OnErr, IsOkUnless, List, Contains};
+ghost use Rattle.std.specs.Prelude.{◌≡◌, ◌↔◌, IsTrue, IsSome, IfSome, IfOk, OnOk, OnErr, IsOkUnless, List, Contains};
 ghost use Rattle.std.specs.Option.{option_copied};
-ghost use Rattle.std.specs.BTreeMap.{get};
 ghost use Rattle.std.specs.List.Sorted.{IsStrictlySortedBy};
 ghost use Rattle.std.specs.Map.{keys_of};
 ghost use Rattle.dots.specs.Dot.{DotValue};
 ghost use Rattle.causal_context.specs.Context.{has};
+ghost use Rattle.dot_store.specs.Places.{value_at};
 ghost use Rattle.dot_store.specs.Store.{HasNothing, HoldsSame};
 ghost use Rattle.dot_store.specs.Stores.{at_stores, held_by, joined_store, with_store, NoKeyIsEmpty};
 
 use crate::kept::Kept;
-use crate::put::{put, put_some};
+use crate::merge::Merge;
+use crate::ordered_list::OrderedList;
+use crate::put::put_some;
 use crate::store::DotStore;
-use causal_context::{Context, map_in_order};
+use causal_context::Context;
 use dots::{Dot, Refusal};
 use std::alloc::{Allocator, Global};
-use std::collections::BTreeMap;
-use std::collections::btree_map::Iter;
 use std::marker::Model;
 
 /// A map from keys to dot stores, none of which is empty: a key whose store would be empty is not kept.
 ///
-/// What grows keeps to the allocator that `empty` or `copy` was given.
+/// It is kept as the list of its entries, by ascending key. What grows keeps to the allocator that `empty`
+/// or `copy` was given, or to that of the entries that it was made of.
 #[derive(Drop)]
 pub struct DotMap<K: Kept<A>, S: DotStore<A>, A: Allocator + Copy = Global> {
-    stores: BTreeMap<K, S, A>,
+    stores: OrderedList<K, S, A>,
 }
 
 impl<K: Kept<A>, S: DotStore<A>, A: Allocator + Copy> Model for DotMap<K, S, A> {
@@ -32,33 +33,27 @@ impl<K: Kept<A>, S: DotStore<A>, A: Allocator + Copy> Model for DotMap<K, S, A> 
 
     ghost Value = { List (K × S) };
 
-    ghost view = { λ m. m.stores.entries };
+    ghost view = { λ m. m.stores };
 
-    ghost invariant = { λ m. NoKeyIsEmpty S.at m.stores.entries };
+    ghost invariant = { λ m. NoKeyIsEmpty S.at m.stores };
 }
 
 impl<K: Kept<A>, S: DotStore<A>, A: Allocator + Copy> DotMap<K, S, A> {
     /// The map of these stores, or None exactly where their keys do not ascend, each key once, or a store is
-    /// empty. Takes time in their number, times its logarithm.
-    pub fn from_entries(
-        alloc: A,
-        stores: Vec<(K, S), A>,
-    ) -> Result<Option<DotMap<K, S, A>>, Refusal>
-        ensures canonical { IfOk result (λ made. IsSome made
-            ↔ (IsStrictlySortedBy K.cmp (keys_of stores.items) × NoKeyIsEmpty S.at stores.items)) }
-        ensures stores { IfOk result (λ made. IfSome made (λ map. map ≡ stores.items)) }
-        ensures err { IsOkUnless result Refusal.OutOfMemory }
+    /// empty. Takes the vector over as it is, and no memory.
+    pub fn from_entries(stores: Vec<(K, S), A>) -> Option<DotMap<K, S, A>>
+        ensures canonical { IsSome result
+            ↔ (IsStrictlySortedBy K.cmp (keys_of stores.items) × NoKeyIsEmpty S.at stores.items) }
+        ensures stores { IfSome result (λ map. map ≡ stores.items) }
     {
-        let Some(stores) = map_in_order(alloc, stores)? else {
-            return Ok(None);
-        };
-        if !are_filled(&stores) {
-            return Ok(None);
+        if !are_filled::<K, S, A>(&stores) {
+            return None;
         }
-        Ok(Some(DotMap { stores }))
+        let stores = OrderedList::from_entries(stores)?;
+        Some(DotMap { stores })
     }
 
-    /// The store at the key, which is never an empty one.
+    /// The store at the key, which is never an empty one. Takes time in the logarithm of the number of keys.
     pub fn get(&self, key: &K) -> Option<&S>
         ensures held { (place : S.Place) (d : DotValue)
             → at_stores S.at K.cmp self.now (key.now, place) d
@@ -69,22 +64,23 @@ impl<K: Kept<A>, S: DotStore<A>, A: Allocator + Copy> DotMap<K, S, A> {
     }
 
     /// The keys with their stores, in the order of the keys. No store is empty.
-    pub fn iter(&self) -> Iter<'_, K, S>
-        ensures rest { result ≡ self.now }
-        ensures filled { NoKeyIsEmpty S.at result }
-        ensures held { (key : K) (store : S) → Contains result (key, store)
+    pub fn entries(&self) -> &[(K, S)]
+        ensures rest { result.now ≡ self.now }
+        ensures filled { NoKeyIsEmpty S.at result.now }
+        ensures held { (key : K) (store : S) → Contains result.now (key, store)
             → (place : S.Place) (d : DotValue)
             → at_stores S.at K.cmp self.now (key, place) d ≡ S.at store place d }
         ensures only { (key : K) (place : S.Place) (d : DotValue)
             → IsSome (at_stores S.at K.cmp self.now (key, place) d)
-            → (store : S) × Contains result (key, store) }
-        ensures ordered { IsStrictlySortedBy K.cmp (keys_of result) }
+            → (store : S) × Contains result.now (key, store) }
+        ensures ordered { IsStrictlySortedBy K.cmp (keys_of result.now) }
     {
-        self.stores.iter()
+        self.stores.entries()
     }
 
     /// Puts the store at the key, in place of what was there. An empty store takes the key out, which
-    /// takes no memory. A refused call leaves the map as it was.
+    /// takes no memory. A refused call leaves the map as it was. Takes time in the number of greater keys,
+    /// besides that of a look-up.
     pub fn insert(&mut self, key: K, store: S) -> Result<(), Refusal>
         ensures ok { OnOk result (HoldsSame (at_stores S.at K.cmp self.new)
             (with_store S.at K.cmp (at_stores S.at K.cmp self.old) key store)) }
@@ -96,15 +92,15 @@ impl<K: Kept<A>, S: DotStore<A>, A: Allocator + Copy> DotMap<K, S, A> {
             self.stores.remove(&key);
             return Ok(());
         }
-        put(&mut self.stores, key, store)
+        self.stores.insert(key, store)
     }
 }
 
 // Whether no key has an empty store.
-fn are_filled<K: Kept<A>, S: DotStore<A>, A: Allocator + Copy>(stores: &BTreeMap<K, S, A>) -> bool
-    ensures { IsTrue result ↔ NoKeyIsEmpty S.at stores.now.entries }
+fn are_filled<K: Kept<A>, S: DotStore<A>, A: Allocator + Copy>(stores: &[(K, S)]) -> bool
+    ensures { IsTrue result ↔ NoKeyIsEmpty S.at stores.now }
 {
-    for store in stores.values() {
+    for (_, store) in stores {
         if store.is_empty() {
             return false;
         }
@@ -112,27 +108,26 @@ fn are_filled<K: Kept<A>, S: DotStore<A>, A: Allocator + Copy>(stores: &BTreeMap
     true
 }
 
-// What the join keeps at the key: no store where it would be empty.
-fn joined_at<K: Kept<A>, S: DotStore<A>, A: Allocator + Copy>(
+// What the join keeps at a key, of what stands there on the two sides: no store where it would be empty.
+fn joined_at<S: DotStore<A>, A: Allocator + Copy>(
     alloc: A,
-    key: &K,
-    mine: &BTreeMap<K, S, A>,
+    mine: Option<&S>,
     own: &Context<A>,
-    yours: &BTreeMap<K, S, A>,
+    yours: Option<&S>,
     theirs: &Context<A>,
 ) -> Result<Option<S>, Refusal>
     ensures ok { IfOk result (λ kept. HoldsSame (held_by S.at kept)
-        (joined_store S.at S.greater (get K.cmp mine.now key.now) (has own.now)
-        (get K.cmp yours.now key.now) (has theirs.now))) }
+        (joined_store S.at S.greater (option_copied mine.entry) (has own.now)
+        (option_copied yours.entry) (has theirs.now))) }
     ensures filled { IfOk result (λ kept. IfSome kept (λ store. ¬ HasNothing (S.at store))) }
     ensures err { IsOkUnless result Refusal.OutOfMemory }
 {
     let empty = S::empty(alloc);
-    let left = match mine.get(key) {
+    let left = match mine {
         Some(store) => store,
         None => &empty,
     };
-    let right = match yours.get(key) {
+    let right = match yours {
         Some(store) => store,
         None => &empty,
     };
@@ -143,80 +138,75 @@ fn joined_at<K: Kept<A>, S: DotStore<A>, A: Allocator + Copy>(
     Ok(Some(both))
 }
 
-// The join at my keys, and nothing elsewhere.
-fn join_mine<K: Kept<A>, S: DotStore<A>, A: Allocator + Copy>(
+// The join of the two lists, in one pass over both.
+fn join_stores<K: Kept<A>, S: DotStore<A>, A: Allocator + Copy>(
     alloc: A,
-    mine: &BTreeMap<K, S, A>,
+    mine: &OrderedList<K, S, A>,
     own: &Context<A>,
-    yours: &BTreeMap<K, S, A>,
+    yours: &OrderedList<K, S, A>,
     theirs: &Context<A>,
-) -> Result<BTreeMap<K, S, A>, Refusal>
-    ensures ok { IfOk result (λ kept. (q : K) (place : S.Place) (d : DotValue)
-        → held_by S.at (get K.cmp kept q) place d ≡ cond (is_some (get K.cmp mine.now q))
-        (joined_store S.at S.greater (get K.cmp mine.now q) (has own.now)
-        (get K.cmp yours.now q) (has theirs.now) place d)
-        None) }
-    ensures filled { IfOk result (λ kept. NoKeyIsEmpty S.at kept.entries) }
+) -> Result<OrderedList<K, S, A>, Refusal>
+    ensures ok { IfOk result (λ kept. (key : K) → HoldsSame (held_by S.at (value_at K.cmp kept key))
+        (joined_store S.at S.greater (value_at K.cmp mine.now key) (has own.now)
+        (value_at K.cmp yours.now key) (has theirs.now))) }
+    ensures filled { IfOk result (NoKeyIsEmpty S.at) }
     ensures err { IsOkUnless result Refusal.OutOfMemory }
 {
-    let mut kept = BTreeMap::new(alloc);
-    for key in mine.keys() {
-        let store = joined_at(alloc, key, mine, own, yours, theirs)?;
+    let mut kept = OrderedList::new(alloc);
+    let mut merge = Merge::new(mine.entries(), yours.entries());
+    while let Some((key, x, y)) = merge.next() {
+        let store = joined_at(alloc, x, own, y, theirs)?;
         put_some(alloc, &mut kept, key, store)?;
     }
     Ok(kept)
 }
 
-// With the join at your keys that are none of mine.
-fn join_yours<K: Kept<A>, S: DotStore<A>, A: Allocator + Copy>(
-    alloc: A,
-    kept: &mut BTreeMap<K, S, A>,
-    mine: &BTreeMap<K, S, A>,
-    own: &Context<A>,
-    yours: &BTreeMap<K, S, A>,
-    theirs: &Context<A>,
-) -> Result<(), Refusal>
-    requires mine { (q : K) (place : S.Place) (d : DotValue)
-        → get K.cmp mine.now q ≡ None → held_by S.at (get K.cmp kept.old q) place d ≡ None }
-    requires filled { NoKeyIsEmpty S.at kept.old.entries }
-    ensures ok { OnOk result ((q : K) (place : S.Place) (d : DotValue)
-        → held_by S.at (get K.cmp kept.new q) place d ≡ cond (is_some (get K.cmp mine.now q))
-        (held_by S.at (get K.cmp kept.old q) place d)
-        (joined_store S.at S.greater (get K.cmp mine.now q) (has own.now)
-        (get K.cmp yours.now q) (has theirs.now) place d)) }
-    ensures still_filled { OnOk result (NoKeyIsEmpty S.at kept.new.entries) }
-    ensures err { IsOkUnless result Refusal.OutOfMemory }
+// Whether the two hold the same, where a missing store holds nothing.
+fn is_same<S: DotStore<A>, A: Allocator + Copy>(mine: Option<&S>, yours: Option<&S>) -> bool
+    ensures { IsTrue result ↔ HoldsSame (held_by S.at (option_copied mine.entry)) (held_by S.at (option_copied yours.entry)) }
 {
-    for key in yours.keys() {
-        if mine.contains_key(key) {
-            continue;
-        }
-        let store = joined_at(alloc, key, mine, own, yours, theirs)?;
-        put_some(alloc, kept, key, store)?;
+    match (mine, yours) {
+        (Some(x), Some(y)) => x.same(y),
+        (Some(x), None) => x.is_empty(),
+        (None, Some(y)) => y.is_empty(),
+        (None, None) => true,
     }
-    Ok(())
 }
 
-// Whether your map has each of my keys with a store that holds the same.
-fn stores_inside<K: Kept<A>, S: DotStore<A>, A: Allocator + Copy>(
-    mine: &BTreeMap<K, S, A>,
-    yours: &BTreeMap<K, S, A>,
+// Whether the two lists hold the same at each key, in one pass over both.
+fn are_same<K: Kept<A>, S: DotStore<A>, A: Allocator + Copy>(
+    mine: &OrderedList<K, S, A>,
+    yours: &OrderedList<K, S, A>,
 ) -> bool
-    requires { NoKeyIsEmpty S.at mine.now.entries }
-    ensures { IsTrue result ↔ ((q : K) (store : S) → get K.cmp mine.now q ≡ Some store
-        → HoldsSame (S.at store) (held_by S.at (get K.cmp yours.now q))) }
+    ensures { IsTrue result ↔ ((key : K) → HoldsSame (held_by S.at (value_at K.cmp mine.now key))
+        (held_by S.at (value_at K.cmp yours.now key))) }
 {
-    for (key, store) in mine {
-        match yours.get(key) {
-            Some(theirs) => {
-                if !store.same(theirs) {
-                    return false;
-                }
-            }
-            None => return false,
+    let mut merge = Merge::new(mine.entries(), yours.entries());
+    while let Some((_, x, y)) = merge.next() {
+        if !is_same::<S, A>(x, y) {
+            return false;
         }
     }
     true
+}
+
+// The list with a copy of each store.
+fn copied<K: Kept<A>, S: DotStore<A>, A: Allocator + Copy>(
+    alloc: A,
+    stores: &OrderedList<K, S, A>,
+) -> Result<OrderedList<K, S, A>, Refusal>
+    requires { NoKeyIsEmpty S.at stores.now }
+    ensures ok { IfOk result (λ copy. (key : K) → HoldsSame (held_by S.at (value_at K.cmp copy key))
+        (held_by S.at (value_at K.cmp stores.now key))) }
+    ensures filled { IfOk result (NoKeyIsEmpty S.at) }
+    ensures err { IsOkUnless result Refusal.OutOfMemory }
+{
+    let entries = stores.entries();
+    let mut copies = OrderedList::with_capacity(alloc, entries.len())?;
+    for (key, store) in entries {
+        copies.insert(key.copy(alloc)?, store.copy(alloc)?)?;
+    }
+    Ok(copies)
 }
 
 impl<K: Kept<A>, S: DotStore<A>, A: Allocator + Copy> DotStore<A> for DotMap<K, S, A> {
@@ -230,16 +220,16 @@ impl<K: Kept<A>, S: DotStore<A>, A: Allocator + Copy> DotStore<A> for DotMap<K, 
 
     fn empty(alloc: A) -> DotMap<K, S, A> {
         DotMap {
-            stores: BTreeMap::new(alloc),
+            stores: OrderedList::new(alloc),
         }
     }
 
     fn is_empty(&self) -> bool {
-        self.stores.is_empty()
+        self.stores.entries().is_empty()
     }
 
     fn contains(&self, dot: Dot) -> bool {
-        for (_, store) in &self.stores {
+        for (_, store) in self.stores.entries() {
             if store.contains(dot) {
                 return true;
             }
@@ -248,7 +238,7 @@ impl<K: Kept<A>, S: DotStore<A>, A: Allocator + Copy> DotStore<A> for DotMap<K, 
     }
 
     fn is_inside(&self, context: &Context<A>) -> bool {
-        for (_, store) in &self.stores {
+        for (_, store) in self.stores.entries() {
             if !store.is_inside(context) {
                 return false;
             }
@@ -257,7 +247,7 @@ impl<K: Kept<A>, S: DotStore<A>, A: Allocator + Copy> DotStore<A> for DotMap<K, 
     }
 
     fn add_dots(&self, context: &mut Context<A>) -> Result<(), Refusal> {
-        for (_, store) in &self.stores {
+        for (_, store) in self.stores.entries() {
             store.add_dots(context)?;
         }
         Ok(())
@@ -270,21 +260,17 @@ impl<K: Kept<A>, S: DotStore<A>, A: Allocator + Copy> DotStore<A> for DotMap<K, 
         other: &DotMap<K, S, A>,
         theirs: &Context<A>,
     ) -> Result<DotMap<K, S, A>, Refusal> {
-        let mut stores = join_mine(alloc, &self.stores, own, &other.stores, theirs)?;
-        join_yours(alloc, &mut stores, &self.stores, own, &other.stores, theirs)?;
+        let stores = join_stores(alloc, &self.stores, own, &other.stores, theirs)?;
         Ok(DotMap { stores })
     }
 
     fn copy(&self, alloc: A) -> Result<DotMap<K, S, A>, Refusal> {
-        let mut stores = BTreeMap::new(alloc);
-        for (key, store) in &self.stores {
-            put(&mut stores, key.copy(alloc)?, store.copy(alloc)?)?;
-        }
+        let stores = copied(alloc, &self.stores)?;
         Ok(DotMap { stores })
     }
 
     fn same(&self, other: &DotMap<K, S, A>) -> bool {
-        stores_inside(&self.stores, &other.stores) && stores_inside(&other.stores, &self.stores)
+        are_same(&self.stores, &other.stores)
     }
 
     ghost greater_comm = { S.greater_comm };

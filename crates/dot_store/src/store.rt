@@ -40,8 +40,8 @@ pub trait DotStore<A: Allocator + Copy>: Drop {
     fn is_inside(&self, context: &Context<A>) -> bool
         ensures { IsTrue result ↔ IsInside (state_with (at self.now) (has context.now)) };
 
-    /// Adds each dot of the store to the context. A refused call may have added some of them:
-    /// `dots_into` is the call that then adds none.
+    /// Adds each dot of the store to the context. A refused call leaves the context with what it had and
+    /// some of these dots; `dots_into` is the call that then leaves it as it was.
     fn add_dots(&self, context: &mut Context<A>) -> Result<(), Refusal>
         ensures kept { (d : DotValue) → IsTrue (has context.old d) → IsTrue (has context.new d) }
         ensures only { (d : DotValue) → IsTrue (has context.new d)

@@ -79,7 +79,7 @@ fn a_dot_of_both_sides_keeps_the_greater_value(rt: HostRuntime) -> Result<(), Fa
     assert!(rt; both.get(a) == Some(&Value::new(alloc, b"z")?));
     assert!(rt; both.get(b).is_none() && !both.contains(b));
     assert!(rt; both.copy(alloc)?.same(&both) && !both.same(&mine));
-    assert_eq!(rt; mine.iter().count(), 2);
+    assert_eq!(rt; mine.entries().len(), 2);
     Ok(())
 }
 
@@ -91,7 +91,7 @@ fn a_key_without_dots_is_not_kept(rt: HostRuntime) -> Result<(), Fail> {
     let mut mine: DotMap<Key, DotFun<Value>> = DotMap::empty(alloc);
     mine.insert(Key::new(alloc, b"k")?, values_of(alloc, a, b"x")?)?;
     mine.insert(Key::new(alloc, b"l")?, DotFun::empty(alloc))?;
-    assert_eq!(rt; mine.iter().count(), 1);
+    assert_eq!(rt; mine.entries().len(), 1);
     let mut yours: DotMap<Key, DotFun<Value>> = DotMap::empty(alloc);
     yours.insert(Key::new(alloc, b"m")?, values_of(alloc, b, b"y")?)?;
     let both = joined(alloc, &mine, &[], &yours, &[a])?;
@@ -126,7 +126,7 @@ fn values_at(alloc: Global, dots: &[Dot]) -> Result<Option<DotFun<Value>>, Refus
     for dot in dots {
         values.push((*dot, Value::new(alloc, b"x")?))?;
     }
-    DotFun::from_entries(alloc, values)
+    Ok(DotFun::from_entries(values))
 }
 
 // Whether these keys, in this order and each with this store, are those of a map.
@@ -135,7 +135,7 @@ fn are_keys(alloc: Global, keys: &[&[u8]], dots: &[Dot]) -> Result<bool, Refusal
     for key in keys {
         stores.push((Key::new(alloc, key)?, set_of(alloc, dots)?))?;
     }
-    Ok(DotMap::from_entries(alloc, stores)?.is_some())
+    Ok(DotMap::from_entries(stores).is_some())
 }
 
 #[test]
@@ -143,7 +143,7 @@ fn values_by_ascending_dot_are_a_map(rt: HostRuntime) -> Result<(), Fail> {
     let alloc = rt.alloc();
     let (a, b) = (dot(&rt, 1, 2), dot(&rt, 2, 1));
     let made = values_at(alloc, &[a, b])?.ok_or("ascending")?;
-    assert!(rt; made.contains(a) && made.contains(b) && made.iter().len() == 2);
+    assert!(rt; made.contains(a) && made.contains(b) && made.entries().len() == 2);
     assert!(rt; values_at(alloc, &[b, a])?.is_none());
     assert!(rt; values_at(alloc, &[a, a])?.is_none());
     assert!(rt; values_at(alloc, &[])?.is_some());

@@ -8,8 +8,7 @@ use Rattle.dot_store.proofs.dot_fun.DotFun.insert.Goals as goal
 pub returns-clause-ok : goal.returns-clause-ok
 unfolding at_values
 returns-clause-ok g c =
-    on_ok_weaker c.put.result
-    (λ h place d.
-    at_values-insert c.self.inside.values.entries c.put.new.map.entries c.args.dot d c.args.value place (h d)
+    on_ok_weaker c.insert.result
+    (λ h place d. at_values-insert c.self.inside.values c.insert.new.self c.args.dot d c.args.value place (h d)
     ∙ ap (λ es. cond (same_dot c.args.dot d) (Some c.args.value) (at_values es place d)) c.self.view_is)
-    c.put.ensures.updates
+    c.insert.ensures.updates

@@ -1,37 +1,29 @@
-use Rattle.std.proofs.Common.{◌≡◌, List, map, ap, subst, ◌∙◌}
-use Rattle.std.specs.Prelude.{IsSome}
-use Rattle.std.specs.BTreeMap.{get, keys, ContainsKey, is_at}
-use Rattle.std.specs.Map.{keys_of, lookup}
-use Rattle.std.specs.Map.Iter.{deref}
-use Rattle.std.proofs.lemmas.Map.Iter.{iter_end}
-use Rattle.std.proofs.lemmas.Map.Views.{All-turn}
+use Rattle.std.proofs.Common.{◌≡◌, refl, sym, ◌∙◌, subst, arith}
+use Rattle.std.specs.Prelude.{IsTrue, IsSome}
 use Rattle.dots.specs.Dot.{DotValue}
 use Rattle.causal_context.specs.Context.{has}
-use Rattle.causal_context.specs.Dots.{dot_cmp}
 use Rattle.dot_store.specs.Store.{HoldsDot}
 use Rattle.dot_store.specs.Stores.{at_values}
-use Rattle.dot_store.proofs.Reached.{reached_map}
-use Rattle.dot_store.proofs.Gathered.{gathered_more}
-use Rattle.dot_store.proofs.Values.{held_from_entry, entry_from_held}
+use Rattle.dot_store.proofs.Gathered.{gathered_more, add_keeps, add_only, add_adds}
+use Rattle.dot_store.proofs.Values.{held_from_item, item_from_held}
 use Rattle.dot_store.proofs.dot_fun.DotFunDotStore.add_dots.Goals as goal
 
 pub loop-dot-preserved : goal.loop-dot-preserved
 unfolding at_values
 loop-dot-preserved g c =
-    let start : c.into_iter-dot-iterator.result ≡ keys c.self.inside.values = c.into_iter-dot-iterator.ensures.into_iter_gives ∙ c.keys-dot-items.ensures.rest in
-    let x = c.in-Some.dot.now in
-    let here : IsSome (get dot_cmp c.self.inside.values x) =
-    All-turn deref (ContainsKey dot_cmp c.self.inside.values) (keys c.self.inside.values) c.loop-dot.yielded _ _ _ _ _
-    c.keys-dot-items.ensures.found start c.loop-dot.yielded_by c.in-Some.is c.next.ensures.steps in
-    let in_map : List (DotValue × g.row.V.Denot) → Type 0 = λ es. IsSome (lookup (is_at (dot_cmp x)) es) in
-    let held = held_from_entry c.args.self.now tt x (subst in_map c.self.view_is here) in
-    gathered_more (HoldsDot (at_values c.args.self.now)) (has c.args.context.now) (has c.loop-dot.context) (has c.add.new.self) (λ y. y.now) c.loop-dot.yielded c.in-Some.dot
-    c.loop-dot.invariant c.in_ok-add.ensures.ok (tt, held)
+    let es = c.entries-dot-items.result.now in
+    let all : es ≡ c.args.self.now = c.entries-dot-items.ensures.all ∙ c.self.view_is in
+    let e = c.loop-dot-item.result in
+    let mid = has c.loop-dot.context in
+    let new = has c.add.new.self in
+    gathered_more (HoldsDot (at_values c.args.self.now)) (λ x d. x.0 ≡ d) (has c.args.context.now) mid new es c.loop-dot.dot-index e c.loop-dot.invariant c.loop-dot-test.true c.loop-dot-item.is
+    (add_keeps e.0 mid new c.in_ok-add.ensures.ok) (add_only e.0 mid new c.in_ok-add.ensures.ok) (add_adds e.0 mid new c.in_ok-add.ensures.ok)
+    (λ d is. subst (λ l. HoldsDot (at_values l) d) all (held_from_item es c.loop-dot.dot-index e c.entries-dot-items.ensures.ordered c.loop-dot-test.true c.loop-dot-item.is d is))
 
 pub returns-clause-added : goal.returns-clause-added
 unfolding at_values
-returns-clause-added g c =
-    let start : c.into_iter-dot-iterator.result ≡ keys c.self.inside.values = c.into_iter-dot-iterator.ensures.into_iter_gives ∙ c.keys-dot-items.ensures.rest in
-    let all : map deref c.loop-dot.yielded ≡ keys_of c.args.self.now =
-    (iter_end deref (keys c.self.inside.values) c.loop-dot.yielded _ _ _ _ start c.loop-dot.yielded_by c.in-None.is c.next.ensures.steps).0 ∙ ap keys_of c.self.view_is in
-    λ place d h. c.loop-dot.invariant.added d (reached_map dot_cmp deref c.loop-dot.yielded c.args.self.now all d ∙ entry_from_held c.args.self.now place d h)
+returns-clause-added g c = λ place d h.
+    let es = c.entries-dot-items.result.now in
+    let all : es ≡ c.args.self.now = c.entries-dot-items.ensures.all ∙ c.self.view_is in
+    (item_from_held (λ e. (q : DotValue) → e.0 ≡ q → IsTrue (has c.loop-dot.context q)) es (λ k e below. c.loop-dot.invariant.added k e (omega (arith, below, c.loop-dot-test.false))) place d
+    (subst (λ l. IsSome (at_values l place d)) (sym all) h)).1 d refl

@@ -1,9 +1,7 @@
+use Rattle.std.proofs.Common.{ℕ, ◌<◌, get_or}
 use Rattle.std.specs.Prelude.{IsTrue}
-use Rattle.dots.specs.Dot.{DotValue}
 use Rattle.causal_context.specs.Context.{has}
-use Rattle.causal_context.specs.Dots.{dot_cmp}
-use Rattle.dot_store.proofs.Reached.{reached}
 use Rattle.dot_store.proofs.dot_fun.DotFunDotStore.is_inside.Given as goal
 
 abbrev pub invariant-loop-dot : goal.invariant-loop-dot
-invariant-loop-dot g l = (q : DotValue) → IsTrue (reached dot_cmp (λ x. x.now) l.yielded q) → IsTrue (has l.context q)
+invariant-loop-dot g l = (k : ℕ) (e : _) → k < l.dot-index → IsTrue (has l.context (get_or l.dot-items k e).0)

@@ -1,17 +1,17 @@
-use Rattle.std.proofs.Common.{◌≡◌, refl, sym, subst}
-use Rattle.dot_store.specs.Stores.{NoKeyIsEmpty}
+use Rattle.std.proofs.Common.{refl, sym, ◌∙◌, subst}
+use Rattle.dot_store.specs.Stores.{at_stores, NoKeyIsEmpty}
 use Rattle.dot_store.proofs.dot_map.DotMap.from_entries.Goals as goal
 
 pub returns-then-not-are_filled-clause-canonical : goal.returns-then-not-are_filled-clause-canonical
+unfolding at_stores
 returns-then-not-are_filled-clause-canonical g c =
-    let same : c.in-Some.stores.entries ≡ c.args.stores.items = rw c.in-Some.is at c.in_ok-stores.ensures.entries in
-    (λ h. absurd (cc h), λ h. absurd (cc (c.if-not-are_filled.ensures.1 (subst (NoKeyIsEmpty g.S.DotStore.at) (sym same) h.1))))
+    (λ h. absurd (cc h), λ h. absurd (cc (c.if-not-are_filled.ensures.1 (subst (NoKeyIsEmpty g.S.DotStore.at) (sym c.deref.ensures.value) h.1))))
 
 pub invariant_of-result : goal.invariant_of-result
-invariant_of-result g c = c.if-not-are_filled.ensures.0 refl
+unfolding at_stores
+invariant_of-result g c = subst (NoKeyIsEmpty g.S.DotStore.at) (c.deref.ensures.value ∙ sym c.in_ok-stores.ensures.entries) (c.if-not-are_filled.ensures.0 refl)
 
 pub returns-clause-canonical : goal.returns-clause-canonical
+unfolding at_stores
 returns-clause-canonical g c =
-    let same : c.in-Some.stores.entries ≡ c.args.stores.items = rw c.in-Some.is at c.in_ok-stores.ensures.entries in
-    let ascend = rw c.in-Some.is at c.in_ok-stores.ensures.ascend in
-    (λ _. (ascend.0 refl, subst (NoKeyIsEmpty g.S.DotStore.at) same (c.if-not-are_filled.ensures.0 refl)), λ _. refl)
+    (λ _. (c.in_ok-stores.ensures.ascend.0 refl, subst (NoKeyIsEmpty g.S.DotStore.at) c.deref.ensures.value (c.if-not-are_filled.ensures.0 refl)), λ _. refl)

@@ -1,41 +1,45 @@
-use Rattle.dot_store.specs.Stores.{at_stores}
-use Rattle.std.proofs.Common.{◌≡◌, Some, sym, ap, ◌∙◌}
-use Rattle.std.specs.BTreeMap.{get, is_at}
-use Rattle.std.specs.Map.{lookup}
-use Rattle.std.specs.Map.Iter.{deref_pair}
-use Rattle.std.proofs.lemmas.Map.Iter.{iter_end}
-use Rattle.std.proofs.lemmas.Map.Views.{All-turn}
+use Rattle.std.proofs.Common.{◌≡◌, sym, ◌∙◌, subst, arith, ⊎_elim, inr}
+use Rattle.std.specs.Prelude.{IsSome, IsTrue}
+use Rattle.dots.specs.Dot.{DotValue}
 use Rattle.causal_context.specs.Context.{has}
-use Rattle.dot_store.proofs.Reached.{reached_pairs}
-use Rattle.dot_store.proofs.Stores.{some_from_held, only_more, stores_more}
+use Rattle.dot_store.specs.Store.{HoldsDot}
+use Rattle.dot_store.specs.Stores.{at_stores}
+use Rattle.dot_store.proofs.Gathered.{gathered_more}
+use Rattle.dot_store.proofs.Stores.{holds_from_item, item_from_held}
 use Rattle.dot_store.proofs.dot_map.DotMapDotStore.add_dots.Goals as goal
 
 pub loop-store-preserved : goal.loop-store-preserved
 unfolding at_stores
 loop-store-preserved g c =
-    let x = c.in-Some.field-0-0.now in
-    let here : get g.K.Ord.cmp c.self.inside.stores x ≡ Some c.in-Some.store.now =
-    All-turn deref_pair (λ e. get g.K.Ord.cmp c.self.inside.stores e.0 ≡ Some e.1) c.self.inside.stores.entries c.loop-store.yielded _ _ _ _ (c.in-Some.field-0-0, c.in-Some.store)
-    c.into_iter-store-iterator.ensures.into_iter_gives.6 c.into_iter-store-iterator.ensures.into_iter_gives.0 c.loop-store.yielded_by c.in-Some.is c.next.ensures.steps in
-    let found = sym (ap (λ es. lookup (is_at (g.K.Ord.cmp x)) es) c.self.view_is) ∙ here in
-    stores_more g.S.DotStore.at g.K.Ord.cmp g.met.K.Ord.total g.met.K.Kept.exact c.args.self.now (has c.args.context.now) (has c.loop-store.context) (has c.add_dots.new.context) (λ e. e.0.now)
-    c.loop-store.yielded (c.in-Some.field-0-0, c.in-Some.store) c.in-Some.store.now c.loop-store.invariant found c.add_dots.ensures.kept c.add_dots.ensures.only c.in_ok-add_dots.ensures.added
+    let at = g.S.DotStore.at in
+    let cmp = g.K.Ord.cmp in
+    let es = c.entries-store-items.result.now in
+    let all : es ≡ c.args.self.now = c.entries-store-items.ensures.all ∙ c.self.view_is in
+    let e = c.loop-store-item.result in
+    gathered_more (HoldsDot (at_stores at cmp c.args.self.now)) (λ x. HoldsDot (at x.1)) (has c.args.context.now) (has c.loop-store.context) (has c.add_dots.new.context) es c.loop-store.store-index e
+    c.loop-store.invariant c.loop-store-test.true c.loop-store-item.is c.in_ok-add_dots.ensures.kept c.in_ok-add_dots.ensures.only (λ d held. c.in_ok-add_dots.ensures.added held.0 d held.1)
+    (λ d held. subst (λ l. HoldsDot (at_stores at cmp l) d) all
+    (holds_from_item at cmp g.met.K.Ord.total es c.loop-store.store-index e c.entries-store-items.ensures.ordered c.loop-store-test.true c.loop-store-item.is d held))
 
 pub returns-in_err-add_dots-clause-only : goal.returns-in_err-add_dots-clause-only
 unfolding at_stores
-returns-in_err-add_dots-clause-only g c =
-    let x = c.in-Some.field-0-0.now in
-    let here : get g.K.Ord.cmp c.self.inside.stores x ≡ Some c.in-Some.store.now =
-    All-turn deref_pair (λ e. get g.K.Ord.cmp c.self.inside.stores e.0 ≡ Some e.1) c.self.inside.stores.entries c.loop-store.yielded _ _ _ _ (c.in-Some.field-0-0, c.in-Some.store)
-    c.into_iter-store-iterator.ensures.into_iter_gives.6 c.into_iter-store-iterator.ensures.into_iter_gives.0 c.loop-store.yielded_by c.in-Some.is c.next.ensures.steps in
-    let found = sym (ap (λ es. lookup (is_at (g.K.Ord.cmp x)) es) c.self.view_is) ∙ here in
-    only_more g.S.DotStore.at g.K.Ord.cmp g.met.K.Ord.total g.met.K.Kept.exact c.args.self.now (has c.args.context.now) (has c.loop-store.context) (has c.add_dots.new.context) x c.in-Some.store.now found
-    c.loop-store.invariant.only c.add_dots.ensures.only
+returns-in_err-add_dots-clause-only g c = λ d h.
+    let at = g.S.DotStore.at in
+    let cmp = g.K.Ord.cmp in
+    let es = c.entries-store-items.result.now in
+    let all : es ≡ c.args.self.now = c.entries-store-items.ensures.all ∙ c.self.view_is in
+    ⊎_elim (c.loop-store.invariant.only d)
+    (λ held. inr (subst (λ l. HoldsDot (at_stores at cmp l) d) all
+    (holds_from_item at cmp g.met.K.Ord.total es c.loop-store.store-index c.loop-store-item.result c.entries-store-items.ensures.ordered c.loop-store-test.true c.loop-store-item.is d held)))
+    (c.in_err-add_dots.ensures.only d h)
 
 pub returns-clause-added : goal.returns-clause-added
 unfolding at_stores
 returns-clause-added g c = λ place d h.
-    let all = (iter_end deref_pair c.self.inside.stores.entries c.loop-store.yielded _ _ _ _ c.into_iter-store-iterator.ensures.into_iter_gives.0 c.loop-store.yielded_by c.in-None.is c.next.ensures.steps).0 in
-    c.loop-store.invariant.added place.0
-    (reached_pairs g.K.Ord.cmp c.loop-store.yielded c.args.self.now (all ∙ c.self.view_is) place.0
-    ∙ some_from_held g.S.DotStore.at (lookup (is_at (g.K.Ord.cmp place.0)) c.args.self.now) place.1 d h) place.1 d h
+    let at = g.S.DotStore.at in
+    let cmp = g.K.Ord.cmp in
+    let es = c.entries-store-items.result.now in
+    let all : es ≡ c.args.self.now = c.entries-store-items.ensures.all ∙ c.self.view_is in
+    let found = item_from_held at cmp g.met.K.Ord.total (λ e. (q : DotValue) → HoldsDot (at e.1) q → IsTrue (has c.loop-store.context q)) es
+    (λ k e below. c.loop-store.invariant.added k e (omega (arith, below, c.loop-store-test.false))) place d (subst (λ l. IsSome (at_stores at cmp l place d)) (sym all) h) in
+    found.1 d (place.1, found.2)

@@ -1,51 +1,41 @@
-use Rattle.std.proofs.Common.{◌≡◌, Some, refl, sym, ap, ◌∙◌}
-use Rattle.std.specs.Prelude.{IsTrue, IsSome, is_some}
-use Rattle.std.specs.BTreeMap.{get, is_at}
-use Rattle.std.specs.Map.{lookup}
-use Rattle.std.specs.Map.Iter.{deref_pair}
-use Rattle.std.proofs.lemmas.Map.Iter.{iter_end}
-use Rattle.std.proofs.lemmas.Map.Views.{All-turn}
+use Rattle.std.proofs.Common.{◌≡◌, sym, ap, ◌∙◌, subst, refl, arith}
+use Rattle.std.specs.Prelude.{IsSome, IsTrue, is_some}
 use Rattle.dots.specs.Dot.{DotValue}
 use Rattle.causal_context.specs.Context.{has}
 use Rattle.dot_store.specs.Stores.{at_stores}
-use Rattle.dot_store.proofs.Reached.{reached_pairs, every_more}
-use Rattle.dot_store.proofs.Stores.{held_at_some, some_from_held}
+use Rattle.dot_store.proofs.Places.{items_more}
+use Rattle.dot_store.proofs.Stores.{held_from_item, item_from_held}
 use Rattle.dot_store.proofs.dot_map.DotMapDotStore.is_inside.Goals as goal
-
-pub loop-store-preserved : goal.loop-store-preserved
-unfolding at_stores
-loop-store-preserved g c =
-    let x = c.in-Some.field-0-0.now in
-    let here : get g.K.Ord.cmp c.self.inside.stores x ≡ Some c.in-Some.store.now =
-    All-turn deref_pair (λ e. get g.K.Ord.cmp c.self.inside.stores e.0 ≡ Some e.1) c.self.inside.stores.entries c.loop-store.yielded _ _ _ _ (c.in-Some.field-0-0, c.in-Some.store)
-    c.into_iter-store-iterator.ensures.into_iter_gives.6 c.into_iter-store-iterator.ensures.into_iter_gives.0 c.loop-store.yielded_by c.in-Some.is c.next.ensures.steps in
-    let found = sym (ap (λ es. lookup (is_at (g.K.Ord.cmp x)) es) c.self.view_is) ∙ here in
-    every_more g.K.Ord.cmp g.met.K.Ord.total g.met.K.Kept.exact (λ q. (place : _) (d : DotValue) → IsSome (at_stores g.S.DotStore.at g.K.Ord.cmp c.args.self.now (q, place) d) → IsTrue (has c.args.context.now d)) (λ e. e.0.now)
-    c.loop-store.yielded (c.in-Some.field-0-0, c.in-Some.store) c.loop-store.invariant
-    (λ place d h. c.is_inside.ensures.0 c.if-not-is_inside.false place d
-    (sym (ap is_some (held_at_some g.S.DotStore.at (lookup (is_at (g.K.Ord.cmp x)) c.args.self.now) c.in-Some.store.now place d found)) ∙ h))
 
 pub returns-then-not-is_inside : goal.returns-then-not-is_inside
 unfolding at_stores
 returns-then-not-is_inside g c =
-    let x = c.in-Some.field-0-0.now in
-    let here : get g.K.Ord.cmp c.self.inside.stores x ≡ Some c.in-Some.store.now =
-    All-turn deref_pair (λ e. get g.K.Ord.cmp c.self.inside.stores e.0 ≡ Some e.1) c.self.inside.stores.entries c.loop-store.yielded _ _ _ _ (c.in-Some.field-0-0, c.in-Some.store)
-    c.into_iter-store-iterator.ensures.into_iter_gives.6 c.into_iter-store-iterator.ensures.into_iter_gives.0 c.loop-store.yielded_by c.in-Some.is c.next.ensures.steps in
-    let found = sym (ap (λ es. lookup (is_at (g.K.Ord.cmp x)) es) c.self.view_is) ∙ here in (
+    let at = g.S.DotStore.at in
+    let cmp = g.K.Ord.cmp in
+    let es = c.entries-store-items.result.now in
+    let all : es ≡ c.args.self.now = c.entries-store-items.ensures.all ∙ c.self.view_is in
+    let e = c.loop-store-item.result in
+    let held = held_from_item at cmp g.met.K.Ord.total es c.loop-store.store-index e c.entries-store-items.ensures.ordered c.loop-store-test.true c.loop-store-item.is in (
       λ t. absurd (cc t),
-      λ inside.
-          sym c.if-not-is_inside.true
-          ∙ c.is_inside.ensures.1 (λ place d h. inside (x, place) d
-          (ap is_some (held_at_some g.S.DotStore.at (lookup (is_at (g.K.Ord.cmp x)) c.args.self.now) c.in-Some.store.now place d found) ∙ h)),
+      λ inside. c.if-not-is_inside.ensures.1 (λ place d h. inside (e.0, place) d (subst (λ l. IsSome (at_stores at cmp l (e.0, place) d)) all (ap is_some (held place d) ∙ h))),
     )
+
+pub loop-store-preserved : goal.loop-store-preserved
+unfolding at_stores
+loop-store-preserved g c =
+    items_more (λ e. (place : _) (d : DotValue) → IsSome (g.S.DotStore.at e.1 place d) → IsTrue (has c.args.context.now d)) c.entries-store-items.result.now c.loop-store.store-index c.loop-store-item.result
+    c.loop-store-test.true c.loop-store-item.is c.loop-store.invariant (c.if-not-is_inside.ensures.0 refl)
 
 pub returns : goal.returns
 unfolding at_stores
 returns g c =
-    let all = (iter_end deref_pair c.self.inside.stores.entries c.loop-store.yielded _ _ _ _ c.into_iter-store-iterator.ensures.into_iter_gives.0 c.loop-store.yielded_by c.in-None.is c.next.ensures.steps).0 in (
-      λ _ place d h. c.loop-store.invariant place.0
-          (reached_pairs g.K.Ord.cmp c.loop-store.yielded c.args.self.now (all ∙ c.self.view_is) place.0
-          ∙ some_from_held g.S.DotStore.at (lookup (is_at (g.K.Ord.cmp place.0)) c.args.self.now) place.1 d h) place.1 d h,
+    let at = g.S.DotStore.at in
+    let cmp = g.K.Ord.cmp in
+    let es = c.entries-store-items.result.now in
+    let all : es ≡ c.args.self.now = c.entries-store-items.ensures.all ∙ c.self.view_is in (
+      λ _ place d h.
+          let found = item_from_held at cmp g.met.K.Ord.total (λ e. (p : _) (q : DotValue) → IsSome (at e.1 p q) → IsTrue (has c.args.context.now q)) es
+          (λ k e below. c.loop-store.invariant k e (omega (arith, below, c.loop-store-test.false))) place d (subst (λ l. IsSome (at_stores at cmp l place d)) (sym all) h) in
+          found.1 place.1 d found.2,
       λ _. refl,
     )

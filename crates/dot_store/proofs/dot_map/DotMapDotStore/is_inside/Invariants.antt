@@ -1,10 +1,8 @@
+use Rattle.std.proofs.Common.{ℕ, ◌<◌, get_or}
 use Rattle.std.specs.Prelude.{IsTrue, IsSome}
 use Rattle.dots.specs.Dot.{DotValue}
 use Rattle.causal_context.specs.Context.{has}
-use Rattle.dot_store.specs.Stores.{at_stores}
-use Rattle.dot_store.proofs.Reached.{reached}
 use Rattle.dot_store.proofs.dot_map.DotMapDotStore.is_inside.Given as goal
 
 abbrev pub invariant-loop-store : goal.invariant-loop-store
-invariant-loop-store g l =
-    (q : _) → IsTrue (reached g.K.Ord.cmp (λ e. e.0.now) l.yielded q) → (place : _) (d : DotValue) → IsSome (at_stores g.S.DotStore.at g.K.Ord.cmp l.self (q, place) d) → IsTrue (has l.context d)
+invariant-loop-store g l = (k : ℕ) (e : _) → k < l.store-index → (place : _) (d : DotValue) → IsSome (g.S.DotStore.at (get_or l.store-items k e).1 place d) → IsTrue (has l.context d)

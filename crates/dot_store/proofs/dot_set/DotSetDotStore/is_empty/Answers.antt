@@ -1,11 +1,10 @@
-use Rattle.dot_store.specs.Stores.{at_dots}
-use Rattle.std.proofs.Common.{ap, sym, ◌∙◌, length}
-use Rattle.dot_store.proofs.Dots.{nothing_from_empty, empty_from_nothing}
+use Rattle.std.proofs.Common.{◌≡◌, sym, ap, ◌∙◌, ⊎_elim, inl, inr}
+use Rattle.std.specs.Prelude.{is_some}
+use Rattle.dot_store.specs.Stores.{at_dots, at_values}
+use Rattle.dot_store.proofs.Dots.{at_keys, at_dots-at_values}
 use Rattle.dot_store.proofs.dot_set.DotSetDotStore.is_empty.Goals as goal
 
 pub returns : goal.returns
-unfolding at_dots
-returns g c = (
-  λ t. nothing_from_empty c.args.self.now (sym (ap length c.self.view_is) ∙ c.is_empty.ensures.0 t),
-  λ h. c.is_empty.ensures.1 (ap length c.self.view_is ∙ empty_from_nothing c.args.self.now h),
-)
+returns g c =
+    let alike = at_dots-at_values c.self.inside.dots c.args.self.now c.self.view_is in
+    (λ t place d. alike place d ∙ c.is_empty.ensures.0 t place d, λ h. c.is_empty.ensures.1 (λ place d. sym (alike place d) ∙ h place d))
