@@ -1,8 +1,8 @@
 -- What writers leave, from what other writers left.
-use Rattle.std.proofs.Common.{◌≡◌, ℕ, ◌≤◌, Bool, true, false, ◌&&◌, List, [], ◌∷◌, ◌++◌, length, refl, sym, ap, subst, ◌∙◌, append_assoc, arith}
+use Rattle.std.proofs.Common.{◌≡◌, ℕ, ◌≤◌, Bool, true, false, ◌&&◌, List, [], ◌∷◌, ◌++◌, length, take, get_or, ◌<◌, ◌+◌, refl, sym, ap, subst, ◌∙◌, append_assoc, arith}
 use Rattle.std.specs.List.{flat_map, AllByRecursion}
 use Rattle.std.specs.Int.{w16, to_be_bytes}
-use Rattle.std.proofs.lemmas.List.{append-nil}
+use Rattle.std.proofs.lemmas.List.{append-nil, take_more, take_all}
 use Rattle.std.proofs.lemmas.List.Concat.{flat_map-append}
 use Rattle.dots.specs.Bytes.{MAX_LENGTH, bytes_cmp}
 use Rattle.wire_form.specs.Spelling.{number, IsNumber, pair, IsPair, counted, AreCounted}
@@ -62,22 +62,26 @@ module _ {X : Type 0} (item : X → List ℕ) (Item : X → Type 0) where
     parts = p.parts ∙ ap (λ (k : ℕ). old ++ (number k ++ flat_map item xs)) n ∙ ap (λ (ys : List X). old ++ (number (length all) ++ flat_map item ys)) e;
   }
 
+  -- the first of a list, and one more
+  pub next_written : (old now new : List ℕ) (count : ℕ) (xs : List X) (i : ℕ) (x : X) → WritesSo old now count (take i xs) → i < length xs → x ≡ get_or xs i x → Appends item Item now new x
+      → WritesSo old new count (take (i + 1) xs)
+  next_written old now new count xs i x p h is q =
+      let e : take (i + 1) xs ≡ take i xs ++ x ∷ [] = take_more xs i x h ∙ ap (λ (y : X). take i xs ++ y ∷ []) (sym is) in
+      subst (WritesSo old new count) (sym e) (one_written old now new count (take i xs) x p q)
+
+  pub list_written : (old now : List ℕ) (xs : List X) (i : ℕ) → WritesSo old now (length xs) (take i xs) → length xs ≤ i → Appends (counted item) (AreCounted Item) old now xs
+  list_written old now xs i p h = all_written old now (length xs) (take i xs) xs p (take_all i xs h) refl
+
 -- ---- values, fields, stores and contexts
 
-pub values_appended : (old now : List ℕ) (vs made : ValuesValue) → Appends (counted (pair dot text)) (AreCounted (IsPair IsDot IsText)) old now vs → made ≡ vs
+pub values_appended : (old now : List ℕ) (vs made : ValuesValue) → Appends (counted (pair dot text)) (AreCounted (IsPair IsDot IsText)) old now made → made ≡ vs
     → IsStrictlySortedBy dot_cmp (keys_of made) → Appends values AreValues old now vs
-values_appended old now vs made p e s = record { fits = record { each = p.fits; ascend = subst (λ (m : ValuesValue). IsStrictlySortedBy dot_cmp (keys_of m)) e s }; parts = p.parts }
+values_appended old now vs made p e s = subst (λ (m : ValuesValue). Appends values AreValues old now m) e (record { fits = record { each = p.fits; ascend = s }; parts = p.parts })
 
-pub fields_appended : (old now : List ℕ) (fs made : FieldsValue) → Appends (counted (pair text values)) (AreCounted (IsPair IsText AreValues)) old now fs → made ≡ fs
+pub fields_appended : (old now : List ℕ) (fs made : FieldsValue) → Appends (counted (pair text values)) (AreCounted (IsPair IsText AreValues)) old now made → made ≡ fs
     → IsStrictlySortedBy bytes_cmp (keys_of made) → NoKeyIsEmpty at_values made → Appends fields AreFields old now fs
-fields_appended old now fs made p e ascend filled = record {
-  fits = record {
-    each = p.fits;
-    ascend = subst (λ (m : FieldsValue). IsStrictlySortedBy bytes_cmp (keys_of m)) e ascend;
-    filled = subst (λ (m : FieldsValue). NoKeyIsEmpty at_values m) e filled;
-  };
-  parts = p.parts;
-}
+fields_appended old now fs made p e ascend filled =
+    subst (λ (m : FieldsValue). Appends fields AreFields old now m) e (record { fits = record { each = p.fits; ascend = ascend; filled = filled }; parts = p.parts })
 
 -- the values of the empty field, where it is alone
 sole_lawful : (fs : FieldsValue) → fs ≡ alone (first_values fs) → AreValues (first_values fs) → IsStrictlySortedBy bytes_cmp (keys_of fs) → NoKeyIsEmpty at_values fs → AreFields fs
@@ -91,27 +95,16 @@ sole_appended old now fs vs t ascend filled is p =
     let written = subst (λ (ws : ValuesValue). Appends values AreValues old now ws) is p in
     record { fits = record { lawful = sole_lawful fs (sole_is fs t) written.fits ascend filled; form = t }; parts = written.parts }
 
-pub full_store_appended : (old now : List ℕ) (s made : OrMapStoreValue) → Appends (counted (pair text fields)) (AreCounted (IsPair IsText AreFields)) old now s → made ≡ s
+pub full_store_appended : (old now : List ℕ) (s made : OrMapStoreValue) → Appends (counted (pair text fields)) (AreCounted (IsPair IsText AreFields)) old now made → made ≡ s
     → IsStrictlySortedBy bytes_cmp (keys_of made) → NoKeyIsEmpty fields_at made → Appends (store false) IsStore old now s
-full_store_appended old now s made p e ascend filled = record {
-  fits = record {
-    each = p.fits;
-    ascend = subst (λ (m : OrMapStoreValue). IsStrictlySortedBy bytes_cmp (keys_of m)) e ascend;
-    filled = subst (λ (m : OrMapStoreValue). NoKeyIsEmpty fields_at m) e filled;
-  };
-  parts = p.parts;
-}
+full_store_appended old now s made p e ascend filled =
+    subst (λ (m : OrMapStoreValue). Appends (store false) IsStore old now m) e (record { fits = record { each = p.fits; ascend = ascend; filled = filled }; parts = p.parts })
 
-pub plain_store_appended : (old now : List ℕ) (s made : OrMapStoreValue) → Appends (counted (pair text sole)) (AreCounted (IsPair IsText AreSole)) old now s → made ≡ s
+pub plain_store_appended : (old now : List ℕ) (s made : OrMapStoreValue) → Appends (counted (pair text sole)) (AreCounted (IsPair IsText AreSole)) old now made → made ≡ s
     → IsStrictlySortedBy bytes_cmp (keys_of made) → NoKeyIsEmpty fields_at made → Appends (store true) IsStore old now s
-plain_store_appended old now s made p e ascend filled = record {
-  fits = record {
-    each = (p.fits.0, (sole_each s p.fits.1).0);
-    ascend = subst (λ (m : OrMapStoreValue). IsStrictlySortedBy bytes_cmp (keys_of m)) e ascend;
-    filled = subst (λ (m : OrMapStoreValue). NoKeyIsEmpty fields_at m) e filled;
-  };
-  parts = p.parts;
-}
+plain_store_appended old now s made p e ascend filled =
+    let each : AreCounted (IsPair IsText AreFields) made = (p.fits.0, (sole_each made p.fits.1).0) in
+    subst (λ (m : OrMapStoreValue). Appends (store true) IsStore old now m) e (record { fits = record { each = each; ascend = ascend; filled = filled }; parts = p.parts })
 
 pub context_appended : (old mid new : List ℕ) (c : ContextValue) → Appends (counted entry) (AreCounted IsEntry) old mid c.vector → IsCanonical c
     → Appends (counted dot) (AreCounted IsDot) mid new c.cloud → Appends context IsContext old new c

@@ -132,7 +132,7 @@ fn write_plain_store<A: Allocator + Copy>(
     ensures ok { OnOk result (Appends (form.store true) form.IsStore out.old.items out.new.items store.now) }
     ensures err { IsOkUnless result Refusal.OutOfMemory }
 {
-    let entries = store.iter();
+    let entries = store.entries();
     write_number(out, entries.len() as u64)?;
     for (key, fields) in entries {
         write_text(out, key.bytes())?;
@@ -160,7 +160,7 @@ fn write_full_store<A: Allocator + Copy>(
     ensures ok { OnOk result (Appends (form.store false) form.IsStore out.old.items out.new.items store.now) }
     ensures err { IsOkUnless result Refusal.OutOfMemory }
 {
-    let entries = store.iter();
+    let entries = store.entries();
     write_number(out, entries.len() as u64)?;
     for (key, fields) in entries {
         write_text(out, key.bytes())?;
@@ -176,7 +176,7 @@ fn write_fields<A: Allocator + Copy>(
     ensures ok { OnOk result (Appends part.fields part.AreFields out.old.items out.new.items fields.now) }
     ensures err { IsOkUnless result Refusal.OutOfMemory }
 {
-    let entries = fields.iter();
+    let entries = fields.entries();
     write_number(out, entries.len() as u64)?;
     for (field, values) in entries {
         write_text(out, field.bytes())?;
@@ -192,7 +192,7 @@ fn write_values<A: Allocator + Copy>(
     ensures ok { OnOk result (Appends part.values part.AreValues out.old.items out.new.items values.now) }
     ensures err { IsOkUnless result Refusal.OutOfMemory }
 {
-    let entries = values.iter();
+    let entries = values.entries();
     write_number(out, entries.len() as u64)?;
     for (dot, value) in entries {
         write_dot(out, *dot)?;

@@ -18,7 +18,7 @@ impl<A: Allocator + Copy> Spelled<A> for DotMap<Field<A>, DotFun<Value<A>, A>, A
 
     fn read(alloc: A, bytes: &[u8]) -> Result<(Fields<A>, &[u8]), Refusal> {
         let (entries, rest) = read_items::<(Field<A>, DotFun<Value<A>, A>), A>(alloc, bytes)?;
-        match DotMap::from_entries(alloc, entries)? {
+        match DotMap::from_entries(entries) {
             Some(fields) => Ok((fields, rest)),
             None => Err(Refusal::NotAMessage),
         }

@@ -49,7 +49,7 @@ fn at_empty_field<A: Allocator + Copy>(
 {
     let mut entries = Vec::new(alloc);
     entries.push((Field::empty(), values))?;
-    DotMap::from_entries(alloc, entries)
+    Ok(DotMap::from_entries(entries))
 }
 
 impl<A: Allocator + Copy> Spelled<A> for Plain<A> {
@@ -77,9 +77,18 @@ pub(crate) fn values_alone<A: Allocator + Copy>(fields: &Fields<A>) -> Option<&D
     ensures ascend { IsStrictlySortedBy bytes_cmp (keys_of fields.now) }
     ensures filled { NoKeyIsEmpty at_values fields.now }
 {
-    let mut entries = fields.iter();
-    match (entries.next(), entries.next()) {
-        (Some((field, values)), None) if field.bytes().is_empty() => Some(values),
+    let entries = fields.entries();
+    values_in(entries)
+}
+
+fn values_in<A: Allocator + Copy>(
+    entries: &[(Field<A>, DotFun<Value<A>, A>)],
+) -> Option<&DotFun<Value<A>, A>>
+    ensures sole { is_some result ≡ is_sole entries.now }
+    ensures values { IfSome result (λ values. values.now ≡ first_values entries.now) }
+{
+    match entries {
+        [(field, values)] if field.bytes().is_empty() => Some(values),
         _ => None,
     }
 }
@@ -94,7 +103,8 @@ fn is_alone<A: Allocator + Copy>(fields: &Fields<A>) -> bool
 pub(crate) fn is_plain_store<A: Allocator + Copy>(store: &OrMapStore<A>) -> bool
     ensures { result ≡ is_plain store.now }
 {
-    for (_, fields) in store.iter() {
+    let entries = store.entries();
+    for (_, fields) in entries {
         if !is_alone(fields) {
             return false;
         }

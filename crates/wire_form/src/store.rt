@@ -34,7 +34,7 @@ fn read_plain_store<A: Allocator + Copy>(
 {
     let (entries, rest) = read_items::<(Key<A>, Plain<A>), A>(alloc, bytes)?;
     let stores = with_fields(alloc, entries)?;
-    match DotMap::from_entries(alloc, stores)? {
+    match DotMap::from_entries(stores) {
         Some(store) => Ok((store, rest)),
         None => Err(Refusal::NotAMessage),
     }
@@ -63,7 +63,7 @@ fn read_full_store<A: Allocator + Copy>(
     ensures { Reads (λ r. (r.0, r.1.now)) (store false) (IsStoreOf false) bytes.now result }
 {
     let (entries, rest) = read_items::<(Key<A>, Fields<A>), A>(alloc, bytes)?;
-    match DotMap::from_entries(alloc, entries)? {
+    match DotMap::from_entries(entries) {
         Some(store) => {
             if is_plain_store(&store) {
                 return Err(Refusal::NotAMessage);

@@ -15,7 +15,7 @@ impl<A: Allocator + Copy> Spelled<A> for DotFun<Value<A>, A> {
 
     fn read(alloc: A, bytes: &[u8]) -> Result<(DotFun<Value<A>, A>, &[u8]), Refusal> {
         let (entries, rest) = read_items::<(Dot, Value<A>), A>(alloc, bytes)?;
-        match DotFun::from_entries(alloc, entries)? {
+        match DotFun::from_entries(entries) {
             Some(values) => Ok((values, rest)),
             None => Err(Refusal::NotAMessage),
         }

@@ -1,5 +1,4 @@
-use Rattle.std.proofs.Common.{map, length}
-use Rattle.std.specs.Map.Iter.{deref_pair}
+use Rattle.std.proofs.Common.{length, take}
 use Rattle.wire_form.specs.Spelling.{pair, IsPair}
 use Rattle.wire_form.specs.Parts.{text, IsText}
 use Rattle.wire_form.specs.Store.{sole, AreSole}
@@ -7,4 +6,4 @@ use Rattle.wire_form.proofs.Writes.{WritesSo}
 use Rattle.wire_form.proofs.encoding.write_plain_store.Given as goal
 
 abbrev pub invariant-loop-key : goal.invariant-loop-key
-invariant-loop-key g l = WritesSo (pair text sole) (IsPair IsText AreSole) l.fn.out.items l.out.items (length l.store) (map deref_pair l.yielded)
+invariant-loop-key g l = WritesSo (pair text sole) (IsPair IsText AreSole) l.fn.out.items l.out.items (length l.entries) (take l.key-index l.entries)

@@ -16,17 +16,17 @@ returns-in_err-entries g c =
 
 pub returns-then-is_plain_store : goal.returns-then-is_plain_store
 returns-then-is_plain_store g c =
-    let same = rw c.in-Some.is at c.in_ok-store.ensures.stores in
+    let same = c.in-Some.ensures.stores in
     no_fields_of_plain c.args.bytes.now c.in_ok-entries.entries.items c.in-Some.store c.in_ok-entries.rest.now c.in_ok-entries.ensures same (sym c.if-is_plain_store.ensures)
 
 pub returns-else-is_plain_store : goal.returns-else-is_plain_store
 returns-else-is_plain_store g c =
-    let canonical = rw c.in-Some.is at c.in_ok-store.ensures.canonical in
-    let same = rw c.in-Some.is at c.in_ok-store.ensures.stores in
+    let canonical = c.in-Some.ensures.canonical in
+    let same = c.in-Some.ensures.stores in
     let both = canonical.0 refl in
     full_store_begins c.args.bytes.now c.in_ok-entries.entries.items c.in-Some.store c.in_ok-entries.rest.now c.in_ok-entries.ensures both.0 both.1 same (sym c.if-is_plain_store.ensures)
 
 pub returns-in-None : goal.returns-in-None
 returns-in-None g c =
-    let canonical = rw c.in-None.is at c.in_ok-store.ensures.canonical in
+    let canonical = c.in-None.ensures.canonical in
     no_full_store c.args.bytes.now c.in_ok-entries.entries.items c.in_ok-entries.rest.now c.in_ok-entries.ensures canonical.1

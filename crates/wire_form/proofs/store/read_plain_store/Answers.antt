@@ -16,12 +16,12 @@ returns-in_err-entries g c =
 
 pub returns-in-Some : goal.returns-in-Some
 returns-in-Some g c =
-    let canonical = rw c.in-Some.is at c.in_ok-store.ensures.canonical in
-    let same = rw c.in-Some.is at c.in_ok-store.ensures.stores in
+    let canonical = c.in-Some.ensures.canonical in
+    let same = c.in-Some.ensures.stores in
     let both = rw c.in_ok-stores.ensures.ok at (canonical.0 refl) in
     plain_store_begins c.args.bytes.now c.in_ok-entries.entries.items c.in-Some.store c.in_ok-entries.rest.now c.in_ok-entries.ensures both.0 both.1 (same ∙ c.in_ok-stores.ensures.ok)
 
 pub returns-in-None : goal.returns-in-None
 returns-in-None g c =
-    let canonical = rw (c.in-None.is, c.in_ok-stores.ensures.ok) at c.in_ok-store.ensures.canonical in
+    let canonical = rw c.in_ok-stores.ensures.ok at c.in-None.ensures.canonical in
     no_plain_store c.args.bytes.now c.in_ok-entries.entries.items c.in_ok-entries.rest.now c.in_ok-entries.ensures canonical.1

@@ -4,11 +4,11 @@ use Rattle.wire_form.proofs.values.DotFunValueSpelled.read.Goals as goal
 
 pub returns-in-Some : goal.returns-in-Some
 returns-in-Some g c =
-    let ascend = rw c.in-Some.is at c.in_ok-values.ensures.ascend in
-    let same = rw c.in-Some.is at c.in_ok-values.ensures.values in
+    let ascend = c.in-Some.ensures.ascend in
+    let same = c.in-Some.ensures.values in
     values_begin c.args.bytes.now c.in_ok-entries.entries.items c.in-Some.values c.in_ok-entries.rest.now c.in_ok-entries.ensures (ascend.0 refl) same
 
 pub returns-in-None : goal.returns-in-None
 returns-in-None g c =
-    let ascend = rw c.in-None.is at c.in_ok-values.ensures.ascend in
+    let ascend = c.in-None.ensures.ascend in
     no_values c.args.bytes.now c.in_ok-entries.entries.items c.in_ok-entries.rest.now c.in_ok-entries.ensures ascend.1
