@@ -1,4 +1,6 @@
 pub mod Stores
 pub mod Puts
 pub mod Erasing
+pub mod Gathering
+pub mod Listing
 mod Groups

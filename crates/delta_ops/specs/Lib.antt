@@ -1,2 +1,3 @@
 pub mod Group
 pub mod Run
+pub mod Gathers

@@ -6,6 +6,7 @@ mod erasures;
 mod grouping;
 mod mutators;
 mod outgoing;
+mod reading;
 mod run;
 mod standing;
 
@@ -13,6 +14,7 @@ pub use erasures::{clear, remove, remove_field};
 pub use grouping::group;
 pub use mutators::{put, put_field};
 pub use outgoing::Outgoing;
+pub use reading::{fields, keys, values, values_of_key};
 pub use standing::values_at;
 
 #[cfg(test)]

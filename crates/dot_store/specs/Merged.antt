@@ -1,5 +1,5 @@
 -- Two lists of entries whose keys ascend, gone through together.
-use Rattle.std.specs.Prelude.{◌≡◌, ℕ, ◌+◌, ◌<◌, Bool, cond, ◌||◌, Option, None, List, length, IsTrue, is_some}
+use Rattle.std.specs.Prelude.{◌≡◌, ◌+◌, ◌<◌, cond, ◌||◌, Option, None, List, length, IsTrue, is_some}
 use Rattle.std.specs.declared.cmp.Ordering.{Ordering}
 use Rattle.std.specs.Ordering.{is_eq}
 use Rattle.dot_store.specs.Places.{value_at}

@@ -160,3 +160,33 @@ fn stores_by_ascending_key_are_a_map_where_none_is_empty(rt: HostRuntime) -> Res
     assert!(rt; !are_keys(alloc, &[b"k".as_slice()], &[])?);
     Ok(())
 }
+
+// The dots of name 1 whose numbers are above the one and at most the other.
+fn row(rt: &impl Abort, alloc: Global, above: u64, last: u64) -> Result<Vec<Dot>, Refusal> {
+    let mut dots = Vec::new(alloc);
+    for number in above..last {
+        dots.push(dot(rt, 1, number + 1))?;
+    }
+    Ok(dots)
+}
+
+#[test]
+fn lists_of_different_lengths_are_joined_to_their_ends(rt: HostRuntime) -> Result<(), Fail> {
+    let alloc = rt.alloc();
+    // from the last to the first, so that each is put before the others
+    let mut forty = DotSet::empty(alloc);
+    for dot in row(&rt, alloc, 0, 40)?.iter().rev() {
+        forty.insert(*dot)?;
+    }
+    let three = set_of(alloc, &[dot(&rt, 1, 7), dot(&rt, 1, 40), dot(&rt, 2, 1)])?;
+    // of the forty the other side knows the first 30, and holds two
+    let known = row(&rt, alloc, 0, 30)?;
+    let both = joined(alloc, &forty, &[], &three, &known)?;
+    let other_way = joined(alloc, &three, &known, &forty, &[])?;
+    let mut kept = set_of(alloc, &row(&rt, alloc, 30, 40)?)?;
+    kept.insert(dot(&rt, 2, 1))?;
+    kept.insert(dot(&rt, 1, 7))?;
+    assert!(rt; both.same(&kept) && other_way.same(&kept));
+    assert!(rt; !both.same(&forty) && !forty.same(&three));
+    Ok(())
+}

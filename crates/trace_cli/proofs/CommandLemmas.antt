@@ -7,10 +7,11 @@ too_few_words [] now h = refl
 too_few_words (a ∷ []) now h = refl
 too_few_words (a ∷ b ∷ words) now h = absurd (omega arith)
 
-pub too_many_words : {W : Type 0} (words : List W) (now : W → List ℕ) → 5 ≤ length words → None ≡ command_of_words (map now words)
+pub too_many_words : {W : Type 0} (words : List W) (now : W → List ℕ) → 6 ≤ length words → None ≡ command_of_words (map now words)
 too_many_words [] now h = refl
 too_many_words (a ∷ []) now h = refl
 too_many_words (a ∷ b ∷ []) now h = absurd (omega arith)
 too_many_words (a ∷ b ∷ c ∷ []) now h = absurd (omega arith)
 too_many_words (a ∷ b ∷ c ∷ d ∷ []) now h = absurd (omega arith)
-too_many_words (a ∷ b ∷ c ∷ d ∷ e ∷ words) now h = refl
+too_many_words (a ∷ b ∷ c ∷ d ∷ e ∷ []) now h = absurd (omega arith)
+too_many_words (a ∷ b ∷ c ∷ d ∷ e ∷ f ∷ words) now h = refl

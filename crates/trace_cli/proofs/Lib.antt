@@ -4,10 +4,10 @@ pub mod RunLemmas
 pub mod WordLemmas
 pub mod CommandLemmas
 pub mod MachineLemmas
-pub mod Gathering
 pub mod PairLemmas
 pub mod ReplicaMaps
 pub mod Keeping
+pub mod Own
 pub mod WorldLemmas
 mod Compressing
 pub mod Pinning

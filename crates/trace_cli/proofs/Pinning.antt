@@ -10,13 +10,14 @@ use Rattle.std.proofs.lemmas.Bool.{false≢true, cases_Bool, cond-true, cond-fal
 use Rattle.std.proofs.lemmas.Cmp.{nat_list_cmp_total}
 use Rattle.std.proofs.lemmas.List.Elements.{Contains-append_left, Contains-append_right, Contains-append_cases}
 use Rattle.std.specs.declared.vec.Vec.{Vec}
-use Rattle.hash_path.specs.Word.{order}
+use Rattle.dots.specs.Bytes.{bytes_cmp}
 use Rattle.hash_path.proofs.Words.{tied_same, same_tied}
 use Rattle.op_model.specs.Operation.{Operation}
-use Rattle.op_model.specs.Shown.{values, keys, bytes_cmp}
+use Rattle.op_model.specs.Place.{plain}
+use Rattle.op_model.specs.Shown.{values, keys}
 use Rattle.op_model.specs.World.{Event, after}
 use Rattle.op_model.proofs.Members.{at_head, head_or_tail, nothing_in, at_same}
-use Rattle.op_model.proofs.Words.{values-IsShown, keys-IsShown}
+use Rattle.op_model.proofs.Words.{values-IsShown, fields-IsShown, keys-IsShown}
 use Rattle.op_model.specs.World.{World}
 use Rattle.ctrie_api.specs.Trie.{Trie}
 use Rattle.dots.specs.Bytes.{MAX_LENGTH}
@@ -28,7 +29,7 @@ use Rattle.trace_cli.specs.declared.command.Command.TheVariants as parsed_comman
 use Rattle.std.proofs.lemmas.Bool.Decides.{nat_tests}
 use Rattle.std.proofs.lemmas.List.{take_more, take_all, map-append}
 use Rattle.std.proofs.lemmas.List.Elements.{All-tail, All-append}
-use Rattle.trace_cli.specs.Command.{CommandValue, Node, Put, Get, Flush, Deliver, Remove, Clear, Show, Size, Context, Look}
+use Rattle.trace_cli.specs.Command.{CommandValue, Node, Put, Get, Flush, Deliver, Remove, RemoveField, Clear, Fields, Show, Size, Context, Look}
 use Rattle.trace_cli.specs.Command as command
 use Rattle.trace_cli.specs.Does.{Does, Brings}
 use Rattle.trace_cli.specs.Machine.{Past, Told, answer_by, past_by}
@@ -42,33 +43,33 @@ module _ {A : Type 0} where
   values_if false found x = refl
 
   -- a map after the values of one key were put
-  pub found_insert : (m n : finite.FinMap order (Vec (List ℕ) A)) (key : List ℕ) (found : Vec (List ℕ) A) (vs : List (List ℕ)) → n ≡ finite.insert m key found → found.items ≡ vs
+  pub found_insert : (m n : finite.FinMap bytes_cmp (Vec (List ℕ) A)) (key : List ℕ) (found : Vec (List ℕ) A) (vs : List (List ℕ)) → n ≡ finite.insert m key found → found.items ≡ vs
       → (q : List ℕ) → found_values n q ≡ cond (eq_by_cmp bytes_cmp q key) vs (found_values m q)
   found_insert m n key found vs is items q =
       ap (λ x. found_values x q) is
       ∙ ap values_in (finite.get-insert nat_list_cmp_total m key found q)
-      ∙ values_if (eq_by_cmp order q key) found (finite.get m q)
-      ∙ ap (λ v. cond (eq_by_cmp order q key) v (found_values m q)) items
+      ∙ values_if (eq_by_cmp bytes_cmp q key) found (finite.get m q)
+      ∙ ap (λ v. cond (eq_by_cmp bytes_cmp q key) v (found_values m q)) items
 
-  pub shows_none : (seen : List Operation) → ShowsKeys (finite.empty {X = Vec (List ℕ) A} {R = order}) seen []
+  pub shows_none : (seen : List Operation) → ShowsKeys (finite.empty {X = Vec (List ℕ) A} {R = bytes_cmp}) seen []
   shows_none seen = record {
     there = λ key h. nothing_in key h;
-    nowhere_else = λ key h. ap values_in (finite.get-empty order key);
+    nowhere_else = λ key h. ap values_in (finite.get-empty bytes_cmp key);
   }
 
-  pub shows_more : (m n : finite.FinMap order (Vec (List ℕ) A)) (seen : List Operation) (ks : List (List ℕ)) (key : List ℕ) → ShowsKeys m seen ks
-      → ((q : List ℕ) → found_values n q ≡ cond (eq_by_cmp bytes_cmp q key) (values seen key) (found_values m q)) → ShowsKeys n seen (ks ++ key ∷ [])
+  pub shows_more : (m n : finite.FinMap bytes_cmp (Vec (List ℕ) A)) (seen : List Operation) (ks : List (List ℕ)) (key : List ℕ) → ShowsKeys m seen ks
+      → ((q : List ℕ) → found_values n q ≡ cond (eq_by_cmp bytes_cmp q key) (values seen (plain key)) (found_values m q)) → ShowsKeys n seen (ks ++ key ∷ [])
   shows_more m n seen ks key before step = record {
-    there = λ q h. elim (cases_Bool (eq_by_cmp order q key)) [
-      | inr f ↦ step q ∙ cond-false (eq_by_cmp order q key) (values seen key) (found_values m q) f ∙ before.there q (old q f h)
-      | inl t ↦ step q ∙ cond-true (eq_by_cmp order q key) (values seen key) (found_values m q) t ∙ ap (values seen) (sym (tied_same q key t))
+    there = λ q h. elim (cases_Bool (eq_by_cmp bytes_cmp q key)) [
+      | inr f ↦ step q ∙ cond-false (eq_by_cmp bytes_cmp q key) (values seen (plain key)) (found_values m q) f ∙ before.there q (old q f h)
+      | inl t ↦ step q ∙ cond-true (eq_by_cmp bytes_cmp q key) (values seen (plain key)) (found_values m q) t ∙ ap (λ k. values seen (plain k)) (sym (tied_same q key t))
     ];
-    nowhere_else = λ q h. elim (cases_Bool (eq_by_cmp order q key)) [
-      | inr f ↦ step q ∙ cond-false (eq_by_cmp order q key) (values seen key) (found_values m q) f ∙ before.nowhere_else q (λ k. h (Contains-append_left ks (key ∷ []) q k))
+    nowhere_else = λ q h. elim (cases_Bool (eq_by_cmp bytes_cmp q key)) [
+      | inr f ↦ step q ∙ cond-false (eq_by_cmp bytes_cmp q key) (values seen (plain key)) (found_values m q) f ∙ before.nowhere_else q (λ k. h (Contains-append_left ks (key ∷ []) q k))
       | inl t ↦ absurd (h (Contains-append_right ks (key ∷ []) q (at_same (key ∷ []) key q (sym (tied_same q key t)) (at_head key []))))
     ];
   } where
-    old : (q : List ℕ) → eq_by_cmp order q key ≡ false → Contains (ks ++ key ∷ []) q → Contains ks q
+    old : (q : List ℕ) → eq_by_cmp bytes_cmp q key ≡ false → Contains (ks ++ key ∷ []) q → Contains ks q
     old q f h = elim (Contains-append_cases ks (key ∷ []) q h) [
       | inl k ↦ k
       | inr last ↦ elim (head_or_tail key [] q last) [
@@ -78,24 +79,24 @@ module _ {A : Type 0} where
     ]
 
 -- a key that shows nothing has no values
-no_values : (seen : List Operation) (key : List ℕ) (found : List (List ℕ)) → found ≡ values seen key → ¬ (Contains (keys seen) key) → values seen key ≡ []
+no_values : (seen : List Operation) (key : List ℕ) (found : List (List ℕ)) → found ≡ values seen (plain key) → ¬ (Contains (keys seen) key) → values seen (plain key) ≡ []
 no_values seen key [] is absent = sym is
 no_values seen key (v ∷ vs) is absent =
     let P : List (List ℕ) → Type 0 = λ xs. Contains xs v in
-    let shown_so = (values-IsShown seen key v).0 (subst P is (at_head v vs)) in
-    absurd (absent ((keys-IsShown seen key).1 (shown_so.0, shown_so.1)))
+    let shown_so = (values-IsShown seen (plain key) v).0 (subst P is (at_head v vs)) in
+    absurd (absent ((keys-IsShown seen key).1 ([], (fields-IsShown seen key []).1 (shown_so.0, shown_so.1))))
 
 module _ {A : Type 0} where
-  pub shows_all : (m : finite.FinMap order (Vec (List ℕ) A)) (seen : List Operation) → ShowsKeys m seen (keys seen) → ((key : List ℕ) → Contains (keys seen) key ⊎ ¬ (Contains (keys seen) key)) → Shows m seen
+  pub shows_all : (m : finite.FinMap bytes_cmp (Vec (List ℕ) A)) (seen : List Operation) → ShowsKeys m seen (keys seen) → ((key : List ℕ) → Contains (keys seen) key ⊎ ¬ (Contains (keys seen) key)) → Shows m seen
   shows_all m seen part decide key = elim (decide key) [
     | inl k ↦ part.there key k
-    | inr absent ↦ part.nowhere_else key absent ∙ sym (no_values seen key (values seen key) refl absent)
+    | inr absent ↦ part.nowhere_else key absent ∙ sym (no_values seen key (values seen (plain key)) refl absent)
   ]
 
 -- whether a key is among some keys
 pub is_there_or_not : (ks : List (List ℕ)) (key : List ℕ) → Contains ks key ⊎ ¬ (Contains ks key)
 is_there_or_not [] key = inr (λ h. nothing_in key h)
-is_there_or_not (k ∷ ks) key = elim (cases_Bool (eq_by_cmp order k key)) [
+is_there_or_not (k ∷ ks) key = elim (cases_Bool (eq_by_cmp bytes_cmp k key)) [
   | inr f ↦ elim (is_there_or_not ks key) [
     | inl h ↦ inl (Contains-append_right (k ∷ []) ks key h)
     | inr absent ↦ inr (λ h. elim (head_or_tail k ks key h) [
@@ -111,12 +112,12 @@ module _ {A : Type 0} where
   pub shows_start : {H : Type 0} (h : H) (t : Trie H (Vec (List ℕ) A)) (seen : List Operation) → t ≡ record { read_only = false; hash = h; map = finite.empty } → ShowsKeys t.map seen [] × (t.read_only ≡ false)
   shows_start h t seen is = (subst (λ m. ShowsKeys m seen []) (sym (ap (λ x. x.map) is)) (shows_none seen), ap (λ x. x.read_only) is)
 
-  pub shows_step : (m n : finite.FinMap order (Vec (List ℕ) A)) (seen : List Operation) (ks : List (List ℕ)) (i : ℕ) (key : List ℕ) → i < length ks → key ≡ slice_index_or ks i key → ShowsKeys m seen (take i ks)
-      → ((q : List ℕ) → found_values n q ≡ cond (eq_by_cmp bytes_cmp q key) (values seen key) (found_values m q)) → ShowsKeys n seen (take (i + 1) ks)
+  pub shows_step : (m n : finite.FinMap bytes_cmp (Vec (List ℕ) A)) (seen : List Operation) (ks : List (List ℕ)) (i : ℕ) (key : List ℕ) → i < length ks → key ≡ slice_index_or ks i key → ShowsKeys m seen (take i ks)
+      → ((q : List ℕ) → found_values n q ≡ cond (eq_by_cmp bytes_cmp q key) (values seen (plain key)) (found_values m q)) → ShowsKeys n seen (take (i + 1) ks)
   shows_step m n seen ks i key within is before step =
       subst (ShowsKeys n seen) (sym (take_more ks i key within ∙ ap (λ k. take i ks ++ k ∷ []) (sym is))) (shows_more m n seen (take i ks) key before step)
 
-  pub shows_it : (m n : finite.FinMap order (Vec (List ℕ) A)) (seen : List Operation) (ks : List (List ℕ)) → ks ≡ keys seen → n ≡ m → ShowsKeys m seen ks → Shows n seen
+  pub shows_it : (m n : finite.FinMap bytes_cmp (Vec (List ℕ) A)) (seen : List Operation) (ks : List (List ℕ)) → ks ≡ keys seen → n ≡ m → ShowsKeys m seen ks → Shows n seen
   shows_it m n seen ks all same part =
       subst (λ x. Shows x seen) (sym same) (shows_all m seen (subst (ShowsKeys m seen) all part) (is_there_or_not (keys seen)))
 
@@ -134,12 +135,14 @@ grows_by old new more is = record { more = more; is = is }
 
 world_only : (w : World) (pins : List (List Operation)) (command : CommandValue) → is_at_world command ≡ true → outcome_of w [] command ≡ outcome_of w pins command
 world_only w pins (Node name) h = refl
-world_only w pins (Put name key value) h = refl
-world_only w pins (Get name key) h = refl
+world_only w pins (Put name key field value) h = refl
+world_only w pins (Get name key field) h = refl
 world_only w pins (Flush name) h = refl
 world_only w pins (Deliver number name) h = refl
 world_only w pins (Remove name key) h = refl
+world_only w pins (RemoveField name key field) h = refl
 world_only w pins (Clear name) h = refl
+world_only w pins (Fields name key) h = refl
 world_only w pins (Show name) h = refl
 world_only w pins (Size name) h = refl
 world_only w pins (Context name) h = refl
@@ -178,7 +181,7 @@ module _ {A : Type 0} where
   one_later : (events more : List Event) (pin : Pin A) → IsPinned events pin → IsPinned (events ++ more) pin
   one_later events more pin is = record {
     was = let sum = length-append events more in let was = is.was in omega (arith, sum, was);
-    shows = λ key. is.shows key ∙ ap (λ seen. values seen key) (sym (pinned_later events more pin is.was));
+    shows = λ key. is.shows key ∙ ap (λ seen. values seen (plain key)) (sym (pinned_later events more pin is.was));
   }
 
   pub all_later : (old new : List Event) (pins : List (Pin A)) → AllPinned old pins → Grows old new → AllPinned new pins
@@ -214,7 +217,7 @@ module _ {A : Type 0} where
   -- one more pin
   pub all_more : (events : List Event) (pins : List (Pin A)) (pin : Pin A) → AllPinned events pins → pin.age ≡ length events → Shows pin.shown.map ((after events).seen pin.name) → AllPinned events (pins ++ pin ∷ [])
   all_more events pins pin all age shows = All-append (IsPinned events) pins (pin ∷ []) all
-      (All-one (record { was = omega (arith, age); shows = λ key. shows key ∙ ap (λ seen. values seen key) (sym (pinned_now events pin age)) }))
+      (All-one (record { was = omega (arith, age); shows = λ key. shows key ∙ ap (λ seen. values seen (plain key)) (sym (pinned_now events pin age)) }))
     where
       All-one : IsPinned events pin → All (IsPinned events) (pin ∷ [])
       All-one h zero d l = h
@@ -241,28 +244,30 @@ module _ {A : Type 0} where
       subst (λ p. Shows p.shown.map (pinned events p)) (get_or_from_slice_get pins n pin pin there) (all n pin within).shows
 
   pub look_at : (found : Option (List Operation)) (seen : List Operation) (key : List ℕ) (old : Past) (r : Result (Vec ℕ A) Refusal) → found ≡ Some seen
-      → Brings (with_bytes key (Done (values_text (values seen key)) [])) old old r → Brings (look_outcome found key) old old r
+      → Brings (with_bytes key (Done (values_text (values seen (plain key))) [])) old old r → Brings (look_outcome found key) old old r
   look_at found seen key old r is done = subst (λ f. Brings (look_outcome f key) old old r) (sym is) done
 
   -- a command that is no pin and no look
   pub at_world_command : (given : parsed.Command A) → ((name : ℕ) → given ≡ parsed_command.Pin name → ⊥) → ((pin : ℕ) (key : Vec ℕ A) → given ≡ parsed_command.Look pin key → ⊥) → is_at_world (command_value given) ≡ true
   at_world_command (parsed_command.Node name) no_pin_is no_look = refl
-  at_world_command (parsed_command.Put name key value) no_pin_is no_look = refl
-  at_world_command (parsed_command.Get name key) no_pin_is no_look = refl
+  at_world_command (parsed_command.Put name key field value) no_pin_is no_look = refl
+  at_world_command (parsed_command.Get name key field) no_pin_is no_look = refl
   at_world_command (parsed_command.Flush name) no_pin_is no_look = refl
   at_world_command (parsed_command.Deliver number name) no_pin_is no_look = refl
   at_world_command (parsed_command.Remove name key) no_pin_is no_look = refl
+  at_world_command (parsed_command.RemoveField name key field) no_pin_is no_look = refl
   at_world_command (parsed_command.Clear name) no_pin_is no_look = refl
+  at_world_command (parsed_command.Fields name key) no_pin_is no_look = refl
   at_world_command (parsed_command.Show name) no_pin_is no_look = refl
   at_world_command (parsed_command.Size name) no_pin_is no_look = refl
   at_world_command (parsed_command.Context name) no_pin_is no_look = refl
   at_world_command (parsed_command.Pin name) no_pin_is no_look = absurd (no_pin_is name refl)
   at_world_command (parsed_command.Look pin key) no_pin_is no_look = absurd (no_look pin key refl)
 
-  pub look_done : (seen : List Operation) (key : List ℕ) (vs : List (List ℕ)) (old : Past) (r : Result (Vec ℕ A) Refusal) → nat_le (length key) MAX_LENGTH ≡ true → vs ≡ values seen key
-      → IfOk r (λ text. text.items ≡ values_text vs) → IsOkUnless r OutOfMemory → Brings (with_bytes key (Done (values_text (values seen key)) [])) old old r
+  pub look_done : (seen : List Operation) (key : List ℕ) (vs : List (List ℕ)) (old : Past) (r : Result (Vec ℕ A) Refusal) → nat_le (length key) MAX_LENGTH ≡ true → vs ≡ values seen (plain key)
+      → IfOk r (λ text. text.items ≡ values_text vs) → IsOkUnless r OutOfMemory → Brings (with_bytes key (Done (values_text (values seen (plain key))) [])) old old r
   look_done seen key vs old (Ok text) short same ok err =
-      let done = Done (values_text (values seen key)) [] in
+      let done = Done (values_text (values seen (plain key))) [] in
       let is : with_bytes key done ≡ done = cond-true (nat_le (length key) MAX_LENGTH) done (Refused TooLong) short in (
         ap answer_by is ∙ ap (λ ws. Told (values_text ws)) (sym same) ∙ ap Told (sym ok),
         ap (λ es. record old { events = es }) (sym (append-nil old.events)) ∙ ap (past_by old) (sym is),

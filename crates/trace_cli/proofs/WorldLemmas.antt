@@ -5,25 +5,20 @@ use Rattle.std.proofs.lemmas.Option.{slice_get_within, slice_get_cases}
 use Rattle.std.specs.BTreeMap.{BTreeMap, get}
 use Rattle.std.specs.List.{slice_get}
 use Rattle.std.specs.Ordering.{nat_cmp}
-use Rattle.causal_context.specs.Context.{IsGreatest, has}
+use Rattle.causal_context.specs.Context.{has}
 use Rattle.delta_ops.specs.Group.{group_state}
-use Rattle.dots.specs.Dot.{same_dot}
-use Rattle.dots.specs.declared.dot.Dot.{Dot}
-use Rattle.std.specs.List.{IsDistinct}
 use Rattle.trace_cli.specs.Replaces.{CanSend, HasNothingToSend}
-use Rattle.delta_ops.specs.Pair.{PairValue, pair_state}
-use Rattle.delta_ops.proofs.Puts.{next_is}
-use Rattle.op_model.specs.Made.{IsPutAt, IsRemoveAt, IsClearAt, dot_at, removed_at, cleared_at}
-use Rattle.op_model.specs.Meaning.{Stands, HoldsKey, state}
-use Rattle.op_model.specs.Operation.{Operation, Write, known}
+use Rattle.causal_join.specs.OrMap.{OrMapValue, or_map_state}
+use Rattle.op_model.specs.Meaning.{Stands, StandsWithin, HoldsField, HoldsKey, state}
+use Rattle.op_model.specs.Operation.{Operation, known}
+use Rattle.op_model.specs.Place.{Place}
 use Rattle.op_model.specs.Operation.{has as is_among}
 use Rattle.dots.specs.Dot.{DotValue}
-use Rattle.op_model.specs.Shown.{IsAscending, values, keys}
+use Rattle.op_model.specs.Shown.{IsAscending, values, values_of_key, fields, keys}
 use Rattle.op_model.specs.World.{Event, after, is_node, is_message, message}
 use Rattle.op_model.proofs.Events.{group_empty}
 use Rattle.op_model.proofs.Fresh.{seen-NoReuse}
-use Rattle.op_model.proofs.Making.{put_dot, remove_count, clear_count}
-use Rattle.op_model.proofs.Showing.{values_standing, keys_standing}
+use Rattle.op_model.proofs.Showing.{values_standing, values_of_key_standing, fields_standing, keys_standing}
 use Rattle.std.specs.declared.vec.Vec.{Vec}
 use Rattle.wire_form.specs.Message.{MessageValue, Delta, Spells}
 use Rattle.op_model.specs.State.{Same}
@@ -41,28 +36,24 @@ module _ {A : Type 0} (replicas : BTreeMap ℕ (Replica A)) (messages : List (Ve
   pub found_node : (name : ℕ) (replica : Replica A) → Some replica ≡ get nat_cmp replicas name → is_node (after past) name ≡ true
   found_node name replica found = sym (ap is_some found ∙ keeps.there name)
 
-  -- where no number is left, the next is past the limit
-  pub spent : (name : ℕ) (replica : Replica A) → Some replica ≡ get nat_cmp replicas name → IsGreatest name (has replica.live.1) (2 ^ 64 - 1)
-      → 2 ^ 64 ≤ (dot_at ((after past).seen name) name).number
-  spent name replica found greatest =
-      let means = means_at replicas messages past name replica keeps (sym found) in
-      let is = put_dot ((after past).seen name) (pair_state replica.live) means.seen name (record { name = name; number = 2 ^ 64 })
-      (next_is name (has replica.live.1) (record { name = name; number = 2 ^ 64 }) (record { name = refl; greatest = 2 ^ 64 - 1; is_greatest = greatest; number = refl })) in
-      omega (arith, ap (λ dot. dot.number) is)
-
-  -- the dot of a put
-  pub dot_of_put : (name : ℕ) (key value : List ℕ) (replica : Replica A) (w : Write) → get nat_cmp replicas name ≡ Some replica → IsPutAt (pair_state replica.live) name key value w
-      → w.id ≡ dot_at ((after past).seen name) name
-  dot_of_put name key value replica w found made =
-      let means = means_at replicas messages past name replica keeps found in
-      put_dot ((after past).seen name) (pair_state replica.live) means.seen name w.id made.id
-
-  -- the values of a key
-  pub values_of_key : (name : ℕ) (key : List ℕ) (replica : Replica A) (found : List (List ℕ)) → Some replica ≡ get nat_cmp replicas name → IsAscending found
-      → ((value : List ℕ) → Contains found value ↔ Stands (pair_state replica.live) key value) → found ≡ values ((after past).seen name) key
-  values_of_key name key replica found is ascending standing =
+  -- the values at a place and of a key, and the fields of a key
+  pub values_at_place : (name : ℕ) (place : Place) (replica : Replica A) (found : List (List ℕ)) → Some replica ≡ get nat_cmp replicas name → IsAscending found
+      → ((value : List ℕ) → Contains found value ↔ Stands (or_map_state replica.live) place value) → found ≡ values ((after past).seen name) place
+  values_at_place name place replica found is ascending standing =
       let means = means_at replicas messages past name replica keeps (sym is) in
-      values_standing ((after past).seen name) key (pair_state replica.live) found (seen-NoReuse past name) means.seen ascending standing
+      values_standing ((after past).seen name) place (or_map_state replica.live) found (seen-NoReuse past name) means.seen ascending standing
+
+  pub values_over_fields : (name : ℕ) (key : List ℕ) (replica : Replica A) (found : List (List ℕ)) → Some replica ≡ get nat_cmp replicas name → IsAscending found
+      → ((value : List ℕ) → Contains found value ↔ StandsWithin (or_map_state replica.live) key value) → found ≡ values_of_key ((after past).seen name) key
+  values_over_fields name key replica found is ascending standing =
+      let means = means_at replicas messages past name replica keeps (sym is) in
+      values_of_key_standing ((after past).seen name) key (or_map_state replica.live) found (seen-NoReuse past name) means.seen ascending standing
+
+  pub fields_of_key : (name : ℕ) (key : List ℕ) (replica : Replica A) (found : List (List ℕ)) → Some replica ≡ get nat_cmp replicas name → IsAscending found
+      → ((field : List ℕ) → Contains found field ↔ HoldsField (or_map_state replica.live) key field) → found ≡ fields ((after past).seen name) key
+  fields_of_key name key replica found is ascending standing =
+      let means = means_at replicas messages past name replica keeps (sym is) in
+      fields_standing ((after past).seen name) key (or_map_state replica.live) found means.seen ascending standing
 
   -- a message that was found is one, and carries what it should
   pub found_message : (number : ℕ) (bytes : Vec ℕ A) → Some bytes ≡ cond (nat_lt 0 number) (slice_get messages (number - 1)) None
@@ -106,21 +97,7 @@ module _ {A : Type 0} (replicas : BTreeMap ℕ (Replica A)) (messages : List (Ve
 
   pub outgoing_none : (name : ℕ) (replica : Replica A) → get nat_cmp replicas name ≡ Some replica → HasNothingToSend replica → (after past).outgoing name ≡ []
   outgoing_none name replica found unknown =
-      (group_empty past name (pair_state replica.live) (group_state replica.group) (means_at replicas messages past name replica keeps found)).0 unknown
-
-  -- the counts of a remove and a clear
-  pub removed_of_key : (name : ℕ) (key : List ℕ) (replica : Replica A) (over : List Dot) (number : ℕ) → Some replica ≡ get nat_cmp replicas name → IsRemoveAt (pair_state replica.live) key over
-      → IsDistinct same_dot over → number ≡ length over → number ≡ removed_at ((after past).seen name) key
-  removed_of_key name key replica over number found made apart is =
-      let means = means_at replicas messages past name replica keeps (sym found) in
-      remove_count ((after past).seen name) (pair_state replica.live) means.seen key number
-      (record { dots = over; apart = apart; just = λ dot. (λ h. sym (made dot) ∙ h, λ h. made dot ∙ h); number = is })
-
-  pub cleared_of_all : (name : ℕ) (replica : Replica A) (over : List Dot) (number : ℕ) → Some replica ≡ get nat_cmp replicas name → IsClearAt (pair_state replica.live) over
-      → IsDistinct same_dot over → number ≡ length over → number ≡ cleared_at ((after past).seen name)
-  cleared_of_all name replica over number found made apart is =
-      let means = means_at replicas messages past name replica keeps (sym found) in
-      clear_count ((after past).seen name) (pair_state replica.live) means.seen number (record { dots = over; apart = apart; just = made; number = is })
+      (group_empty past name (or_map_state replica.live) (group_state replica.group) (means_at replicas messages past name replica keeps found)).0 unknown
 
   -- the known dots
   pub known_of : (name : ℕ) (replica : Replica A) → Some replica ≡ get nat_cmp replicas name → (d : DotValue) → has replica.live.1 d ≡ is_among (known ((after past).seen name)) d
@@ -128,16 +105,16 @@ module _ {A : Type 0} (replicas : BTreeMap ℕ (Replica A)) (messages : List (Ve
 
   -- the keys
   pub keys_of_all : (name : ℕ) (replica : Replica A) (found : List (List ℕ)) → Some replica ≡ get nat_cmp replicas name → IsAscending found
-      → ((key : List ℕ) → Contains found key ↔ HoldsKey (pair_state replica.live) key) → found ≡ keys ((after past).seen name)
+      → ((key : List ℕ) → Contains found key ↔ HoldsKey (or_map_state replica.live) key) → found ≡ keys ((after past).seen name)
   keys_of_all name replica found is ascending standing =
       let means = means_at replicas messages past name replica keeps (sym is) in
-      keys_standing ((after past).seen name) (pair_state replica.live) found means.seen ascending standing
+      keys_standing ((after past).seen name) (or_map_state replica.live) found means.seen ascending standing
 
 -- the delta that the bytes spell means what they carry
-pub delta_means : (bytes : List ℕ) (delta : PairValue) (S : List Operation) → Carries bytes S → ((m : MessageValue) → Spells bytes m → Delta delta ≡ m) → Same (pair_state delta) (state S)
+pub delta_means : (bytes : List ℕ) (delta : OrMapValue) (S : List Operation) → Carries bytes S → ((m : MessageValue) → Spells bytes m → Delta delta ≡ m) → Same (or_map_state delta) (state S)
 delta_means bytes delta S carried only = rw (delta_is delta carried.delta (only (Delta carried.delta) carried.spells)) carried.means
   where
-    delta_is : (d e : PairValue) → Delta d ≡ Delta e → d ≡ e
+    delta_is : (d e : OrMapValue) → Delta d ≡ Delta e → d ≡ e
     delta_is d e same = cc
 
 -- a replica that was found twice is one

@@ -3,8 +3,9 @@ use Rattle.std.specs.Prelude.{◌≡◌, ◌≤◌, ℕ, List, [], map, take, le
 use Rattle.std.specs.List.{All}
 use Rattle.std.specs.FinMap as finite
 use Rattle.std.specs.declared.vec.Vec.{Vec}
-use Rattle.hash_path.specs.Word.{order}
+use Rattle.dots.specs.Bytes.{bytes_cmp}
 use Rattle.op_model.specs.Operation.{Operation}
+use Rattle.op_model.specs.Place.{plain}
 use Rattle.op_model.specs.Shown.{values}
 use Rattle.op_model.specs.World.{Event, after}
 use Rattle.trace_cli.specs.declared.pin.Pin.{Pin}
@@ -14,12 +15,12 @@ abbrev pub values_in : {A : Type 0} → Option (Vec (List ℕ) A) → List (List
 values_in None = []
 values_in (Some found) = found.items
 
-abbrev pub found_values : {A : Type 0} → finite.FinMap order (Vec (List ℕ) A) → List ℕ → List (List ℕ)
+abbrev pub found_values : {A : Type 0} → finite.FinMap bytes_cmp (Vec (List ℕ) A) → List ℕ → List (List ℕ)
 found_values m key = values_in (finite.get m key)
 
--- the map shows at each key what the set does
-abbrev pub Shows : {A : Type 0} → finite.FinMap order (Vec (List ℕ) A) → List Operation → Type 0
-Shows m seen = (key : List ℕ) → found_values m key ≡ values seen key
+-- the map shows at each key what the set does, at the empty field
+abbrev pub Shows : {A : Type 0} → finite.FinMap bytes_cmp (Vec (List ℕ) A) → List Operation → Type 0
+Shows m seen = (key : List ℕ) → found_values m key ≡ values seen (plain key)
 
 -- what the replica of a pin had seen
 abbrev pub pinned : {A : Type 0} → List Event → Pin A → List Operation
@@ -37,8 +38,8 @@ abbrev pub AllPinned : {A : Type 0} → List Event → List (Pin A) → Type 0
 AllPinned events pins = All (IsPinned events) pins
 
 -- the map shows at these keys what the set does, and nothing at others
-pub record ShowsKeys {A : Type 0} (m : finite.FinMap order (Vec (List ℕ) A)) (seen : List Operation) (keys : List (List ℕ)) : Type 0 where
-  pub there : (key : List ℕ) → Contains keys key → found_values m key ≡ values seen key
+pub record ShowsKeys {A : Type 0} (m : finite.FinMap bytes_cmp (Vec (List ℕ) A)) (seen : List Operation) (keys : List (List ℕ)) : Type 0 where
+  pub there : (key : List ℕ) → Contains keys key → found_values m key ≡ values seen (plain key)
   pub nowhere_else : (key : List ℕ) → ¬ (Contains keys key) → found_values m key ≡ []
 
 -- the events grew: those that were there are the first

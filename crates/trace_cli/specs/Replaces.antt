@@ -5,9 +5,9 @@ use Rattle.std.specs.Ordering.{nat_cmp}
 use Rattle.causal_context.specs.Context.{HasNone}
 use Rattle.dots.specs.Dot.{DotValue}
 use Rattle.delta_ops.specs.Group.{group_state}
-use Rattle.delta_ops.specs.Pair.{PairValue, pair_state}
-use Rattle.op_model.specs.Meaning.{greater}
-use Rattle.op_model.specs.State.{State, Same, join}
+use Rattle.causal_join.specs.OrMap.{OrMapValue, or_map_state}
+use Rattle.op_model.specs.Meaning.{MapState, greater}
+use Rattle.op_model.specs.State.{Same, join}
 use Rattle.wire_form.specs.Message.{SpellsDelta}
 use Rattle.trace_cli.specs.declared.replica.Replica.{Replica}
 
@@ -18,15 +18,15 @@ pub record Replaces {A : Type 0} (old new : BTreeMap ℕ (Replica A)) (name : �
   pub others : (other : ℕ) → other ≢ name → get nat_cmp new other ≡ get nat_cmp old other
 
 -- the replica took this in, into what it holds and into what it is to send
-pub record Takes {A : Type 0} (before after : Replica A) (delta : State (List ℕ) (List ℕ)) : Type 0 where
-  pub live : Same (pair_state after.live) (join greater (pair_state before.live) delta)
+pub record Takes {A : Type 0} (before after : Replica A) (delta : MapState) : Type 0 where
+  pub live : Same (or_map_state after.live) (join greater (or_map_state before.live) delta)
   pub group : Same (group_state after.group) (join greater (group_state before.group) delta)
 
 -- these bytes spell what the replica has to send, which is something
 pub record CanSend {A : Type 0} (replica : Replica A) (bytes : List ℕ) : Type 0 where
-  pub delta : PairValue
+  pub delta : OrMapValue
   pub spells : SpellsDelta bytes delta
-  pub means : Same (pair_state delta) (group_state replica.group)
+  pub means : Same (or_map_state delta) (group_state replica.group)
   pub some : ¬ HasNone delta.1
 
 -- the replica has nothing more to send

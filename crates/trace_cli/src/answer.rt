@@ -16,7 +16,7 @@ ghost use Rattle.trace_cli.specs.Reply.{answer_of, TellsFaults};
 use crate::reply::Reply;
 use crate::word::push_text;
 use causal_context::Context;
-use dots::{Dot, Key, Name, Refusal, Value};
+use dots::{Dot, Name, Refusal, Value};
 use std::alloc::Allocator;
 use std::collections::{btree_map, btree_set};
 
@@ -90,20 +90,20 @@ pub(crate) fn map_answer<A: Allocator + Copy>(alloc: A, number: u64) -> Result<S
     Ok(format!(in alloc; "map {number}")?)
 }
 
-/// Appends a key with the number of its values and the values. A refusal may leave a part of it there.
+/// Appends a key or a field with the number of its values and the values. A refusal may leave a part of it there.
 pub(crate) fn push_entry<A: Allocator + Copy>(
     alloc: A,
     out: &mut Vec<u8, A>,
-    key: &Key<A>,
+    label: &[u8],
     found: &[Value<A>],
 ) -> Result<(), Refusal>
-    ensures ok { OnOk result (out.new.items ≡ out.old.items ++ entry_text key.now found.now) }
+    ensures ok { OnOk result (out.new.items ≡ out.old.items ++ entry_text label.now found.now) }
     ensures err { IsOkUnless result Refusal.OutOfMemory }
 {
     let number = found.len() as u64;
     let digits: String<A> = format!(in alloc; "{number}")?;
     out.push(b' ')?;
-    push_text(alloc, out, key.bytes())?;
+    push_text(alloc, out, label)?;
     out.push(b' ')?;
     out.extend_from_slice(digits.as_bytes())?;
     push_values(alloc, out, found)
@@ -201,6 +201,17 @@ pub(crate) fn flush_answer<A: Allocator + Copy>(
         Some(number) => Ok(format!(in alloc; "sent {number}:delta")?),
         None => Ok(String::from_str(alloc, "empty")?),
     }
+}
+
+/// The beginning of the answer to a look at the fields of a key: `fields <number of fields>`.
+pub(crate) fn fields_answer<A: Allocator + Copy>(
+    alloc: A,
+    number: u64,
+) -> Result<String<A>, Refusal>
+    ensures ok { IfOk result (λ text. string_bytes text ≡ codes "fields " ++ decimal number) }
+    ensures err { IsOkUnless result Refusal.OutOfMemory }
+{
+    Ok(format!(in alloc; "fields {number}")?)
 }
 
 /// What the refusal of a command is answered: a fault, or a text.

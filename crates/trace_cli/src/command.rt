@@ -1,6 +1,7 @@
-ghost use Rattle.std.specs.Prelude.{◌≡◌, IfOk, IsOkUnless};
+ghost use Rattle.std.specs.Prelude.{◌≡◌, [], IfOk, IsOkUnless};
 ghost use Rattle.std.specs.Option.{option_map};
-ghost use Rattle.trace_cli.specs.Command.{command_of, one_word_command, two_word_command, three_word_command, with_text, with_texts, with_numbers, Get, Put, Deliver, Remove, Look};
+ghost use Rattle.trace_cli.specs.Command.{command_of, one_word_command, two_word_command, three_word_command, four_word_command};
+ghost use Rattle.trace_cli.specs.Command.{with_text, with_texts, with_three_texts, with_numbers, Get, Put, Deliver, Remove, RemoveField, Fields, Look};
 ghost use Rattle.trace_cli.specs.Parsed.{command_value};
 
 use crate::word::{name, number, text, words};
@@ -12,16 +13,18 @@ use std::alloc::{Allocator, Global};
 pub(crate) enum Command<A: Allocator = Global> {
     /// A new replica.
     Node(Name),
-    /// A value put on a key, both in bytes of any length.
+    /// A value put at a field of a key, all three in bytes of any length.
     Put {
         name: Name,
         key: Vec<u8, A>,
+        field: Vec<u8, A>,
         value: Vec<u8, A>,
     },
-    /// The values of a key.
+    /// The values at a field of a key.
     Get {
         name: Name,
         key: Vec<u8, A>,
+        field: Vec<u8, A>,
     },
     /// What the replica made since it last sent, as a message.
     Flush(Name),
@@ -30,13 +33,24 @@ pub(crate) enum Command<A: Allocator = Global> {
         message: u64,
         name: Name,
     },
-    /// What a key shows, removed.
+    /// What a key shows at any of its fields, removed.
     Remove {
         name: Name,
         key: Vec<u8, A>,
     },
+    /// What a field of a key shows, removed.
+    RemoveField {
+        name: Name,
+        key: Vec<u8, A>,
+        field: Vec<u8, A>,
+    },
     /// All that is shown, removed.
     Clear(Name),
+    /// The fields of a key with their values.
+    Fields {
+        name: Name,
+        key: Vec<u8, A>,
+    },
     /// All keys with their values.
     Show(Name),
     /// The number of keys.
@@ -65,6 +79,9 @@ pub(crate) fn parse<A: Allocator + Copy>(
         [verb, first] => Ok(with_one_word(verb, first)),
         [verb, first, second] => with_two_words(alloc, verb, first, second),
         [verb, first, second, third] => with_three_words(alloc, verb, first, second, third),
+        [verb, first, second, third, fourth] => {
+            with_four_words(alloc, verb, first, second, third, fourth)
+        }
         _ => Ok(None),
     }
 }
@@ -106,7 +123,7 @@ fn with_two_words<A: Allocator + Copy>(
     ensures err { IsOkUnless result Refusal.OutOfMemory }
 {
     if verb == b"get".as_slice() {
-        return Ok(get(name(first), text(alloc, second)?));
+        return Ok(get_plain(alloc, name(first), text(alloc, second)?));
     }
     if verb == b"remove".as_slice() {
         return Ok(remove(name(first), text(alloc, second)?));
@@ -116,6 +133,9 @@ fn with_two_words<A: Allocator + Copy>(
     }
     if verb == b"look".as_slice() {
         return Ok(look(number(first), text(alloc, second)?));
+    }
+    if verb == b"fields".as_slice() {
+        return Ok(fields(name(first), text(alloc, second)?));
     }
     Ok(None)
 }
@@ -131,17 +151,85 @@ fn with_three_words<A: Allocator + Copy>(
     ensures err { IsOkUnless result Refusal.OutOfMemory }
 {
     if verb == b"put".as_slice() {
-        return Ok(put(name(first), text(alloc, second)?, text(alloc, third)?));
+        let (key, value) = (text(alloc, second)?, text(alloc, third)?);
+        return Ok(put_plain(alloc, name(first), key, value));
+    }
+    if verb == b"getf".as_slice() {
+        return Ok(get(name(first), text(alloc, second)?, text(alloc, third)?));
+    }
+    if verb == b"removef".as_slice() {
+        let (key, field) = (text(alloc, second)?, text(alloc, third)?);
+        return Ok(remove_field(name(first), key, field));
     }
     Ok(None)
 }
 
-fn get<A: Allocator>(name: Option<Name>, key: Option<Vec<u8, A>>) -> Option<Command<A>>
-    ensures { option_map command_value result ≡ with_text Get name (option_map (λ bytes. bytes.items) key) }
+fn with_four_words<A: Allocator + Copy>(
+    alloc: A,
+    verb: &[u8],
+    first: &[u8],
+    second: &[u8],
+    third: &[u8],
+    fourth: &[u8],
+) -> Result<Option<Command<A>>, Refusal>
+    ensures ok { IfOk result (λ found. option_map command_value found ≡
+        four_word_command verb.now first.now second.now third.now fourth.now) }
+    ensures err { IsOkUnless result Refusal.OutOfMemory }
+{
+    if verb == b"putf".as_slice() {
+        let (key, field) = (text(alloc, second)?, text(alloc, third)?);
+        return Ok(put(name(first), key, field, text(alloc, fourth)?));
+    }
+    Ok(None)
+}
+
+fn get_plain<A: Allocator>(alloc: A, name: Option<Name>, key: Option<Vec<u8, A>>) -> Option<Command<A>>
+    ensures { option_map command_value result ≡
+        with_text (λ name key. Get name key []) name (option_map (λ bytes. bytes.items) key) }
 {
     Some(Command::Get {
         name: name?,
         key: key?,
+        field: Vec::new(alloc),
+    })
+}
+
+fn get<A: Allocator>(
+    name: Option<Name>,
+    key: Option<Vec<u8, A>>,
+    field: Option<Vec<u8, A>>,
+) -> Option<Command<A>>
+    ensures { option_map command_value result ≡
+        with_texts Get name (option_map (λ bytes. bytes.items) key) (option_map (λ bytes. bytes.items) field) }
+{
+    Some(Command::Get {
+        name: name?,
+        key: key?,
+        field: field?,
+    })
+}
+
+fn fields<A: Allocator>(name: Option<Name>, key: Option<Vec<u8, A>>) -> Option<Command<A>>
+    ensures { option_map command_value result ≡ with_text Fields name (option_map (λ bytes. bytes.items) key) }
+{
+    Some(Command::Fields {
+        name: name?,
+        key: key?,
+    })
+}
+
+fn remove_field<A: Allocator>(
+    name: Option<Name>,
+    key: Option<Vec<u8, A>>,
+    field: Option<Vec<u8, A>>,
+) -> Option<Command<A>>
+    ensures { option_map command_value result ≡
+        with_texts RemoveField name (option_map (λ bytes. bytes.items) key) (option_map (λ bytes. bytes.items) field) }
+{
+    Some(Command::RemoveField {
+        name: name?,
+        key: key?,
+        field: field?,
     })
 }
 
@@ -172,17 +260,36 @@ fn look<A: Allocator>(pin: Option<u64>, key: Option<Vec<u8, A>>) -> Option<Comma
     })
 }
 
-fn put<A: Allocator>(
+fn put_plain<A: Allocator>(
+    alloc: A,
     name: Option<Name>,
     key: Option<Vec<u8, A>>,
     value: Option<Vec<u8, A>>,
 ) -> Option<Command<A>>
-    ensures { option_map command_value result ≡
-        with_texts Put name (option_map (λ bytes. bytes.items) key) (option_map (λ bytes. bytes.items) value) }
+    ensures { option_map command_value result ≡ with_texts (λ name key value. Put name key [] value) name
+        (option_map (λ bytes. bytes.items) key) (option_map (λ bytes. bytes.items) value) }
 {
     Some(Command::Put {
         name: name?,
         key: key?,
+        field: Vec::new(alloc),
+        value: value?,
+    })
+}
+
+fn put<A: Allocator>(
+    name: Option<Name>,
+    key: Option<Vec<u8, A>>,
+    field: Option<Vec<u8, A>>,
+    value: Option<Vec<u8, A>>,
+) -> Option<Command<A>>
+    ensures { option_map command_value result ≡ with_three_texts Put name (option_map (λ bytes. bytes.items) key)
+        (option_map (λ bytes. bytes.items) field) (option_map (λ bytes. bytes.items) value) }
+{
+    Some(Command::Put {
+        name: name?,
+        key: key?,
+        field: field?,
         value: value?,
     })
 }

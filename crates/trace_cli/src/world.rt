@@ -4,14 +4,15 @@ ghost use Rattle.std.specs.Option.{option_copied};
 ghost use Rattle.std.specs.BTreeMap.{get};
 ghost use Rattle.std.specs.Ordering.{nat_cmp};
 ghost use Rattle.causal_context.specs.Context.{has, HasNone, IsGreatest};
-ghost use Rattle.delta_ops.specs.Pair.{pair_state};
+ghost use Rattle.causal_join.specs.OrMap.{or_map_state};
 ghost use Rattle.dots.specs.Dot.{DotValue};
 ghost use Rattle.op_model.specs.Meaning.{greater, state};
 ghost use Rattle.op_model.specs.State.{Same, join};
 ghost use Rattle.trace_cli.specs.Replaces.{Replaces, SameReplicas, Takes, IsSent};
-ghost use Rattle.op_model.specs.World.{Node, Put, Flush, Deliver, Remove, Clear, after, is_node, is_message};
-ghost use Rattle.op_model.specs.Made.{dot_at, removed_at, cleared_at};
-ghost use Rattle.op_model.specs.Shown.{values, keys};
+ghost use Rattle.op_model.specs.Place.{place_of};
+ghost use Rattle.op_model.specs.World.{Node, Put, Flush, Deliver, Remove, RemoveField, Clear, after, is_node, is_message};
+ghost use Rattle.op_model.specs.Made.{dot_at, removed_at, field_removed_at, cleared_at};
+ghost use Rattle.op_model.specs.Shown.{values, values_of_key, fields, keys};
 ghost use Rattle.op_model.specs.Operation.{Operation, known, has as is_among};
 ghost use Rattle.trace_cli.specs.Keeps.{Carries};
 ghost use Rattle.wire_form.specs.Message.{DeltaValue, message_of, Delta};
@@ -20,8 +21,11 @@ ghost use Rattle.trace_cli.specs.Outcome.{sent_number};
 use crate::event::Event;
 use crate::replica::Replica;
 use causal_context::Context;
-use delta_ops::{Pair, clear, put, remove};
-use dots::{Dot, Key, Name, Refusal, Value};
+use causal_join::OrMap;
+use delta_ops::{
+    clear, fields, keys, put_field, remove, remove_field, values, values_of_key,
+};
+use dots::{Dot, Field, Key, Name, Refusal, Value};
 use std::alloc::{Allocator, Global};
 use std::collections::BTreeMap;
 use std::marker::Model;
@@ -49,6 +53,8 @@ impl<A: Allocator + Copy> Model for World<A> {
 }
 
 impl<A: Allocator + Copy> World<A> {
+    ghost use Rattle.trace_cli.specs.Keeps.{event_value, IsOwn};
+
     /// A world with no replica and no message. Takes no memory.
     pub fn new(alloc: A) -> World<A>
         ensures { result ≡ [] }
@@ -91,12 +97,18 @@ impl<A: Allocator + Copy> World<A> {
         Ok(())
     }
 
-    /// A put at a replica, and its dot. UnknownReplica exactly where no replica has the name, NumbersSpent exactly
-    /// where no number is left for the dot; a refused call changes nothing.
-    pub fn put(&mut self, name: Name, key: Key<A>, value: Value<A>) -> Result<Dot, Refusal>
+    /// A put at a field of a key at a replica, and its dot. UnknownReplica exactly where no replica has the name,
+    /// NumbersSpent exactly where no number is left for the dot; a refused call changes nothing.
+    pub fn put(
+        &mut self,
+        name: Name,
+        key: Key<A>,
+        field: Field<A>,
+        value: Value<A>,
+    ) -> Result<Dot, Refusal>
         ensures ok { IfOk result (λ dot. (is_node (after self.old) name ≡ true) ×
             (dot ≡ dot_at ((after self.old).seen name) name) ×
-            (self.new ≡ self.old ++ Put name key value ∷ [])) }
+            (self.new ≡ self.old ++ Put name (place_of key field) value ∷ [])) }
         ensures refused { IfErr result (λ refusal. (refusal ≡ Refusal.OutOfMemory) ⊎
             ((refusal ≡ Refusal.UnknownReplica) × (is_node (after self.old) name ≡ false)) ⊎
             ((refusal ≡ Refusal.NumbersSpent) × (is_node (after self.old) name ≡ true) ×
@@ -106,15 +118,19 @@ impl<A: Allocator + Copy> World<A> {
         let Some(replica) = self.replicas.get(&name) else {
             return Err(Refusal::UnknownReplica);
         };
-        let (delta, dot) = put(self.alloc, name, &replica.live, &key, &value)?;
-        self.past.reserve(1)?;
-        make_at(&mut self.replicas, self.alloc, name, delta)?;
-        self.past.push(Event::Put { name, key, value }).unwrap();
+        let (delta, dot) = put_field(self.alloc, name, &replica.live, &key, &field, &value)?;
+        let event = Event::Put {
+            name,
+            key,
+            field,
+            value,
+        };
+        self.make(name, delta, event)?;
         Ok(dot)
     }
 
-    /// A remove at a replica, and how many writes it observed. UnknownReplica exactly where no replica has the name;
-    /// a refused call changes nothing.
+    /// A remove of a key with all its fields at a replica, and how many writes it observed. UnknownReplica exactly where
+    /// no replica has the name; a refused call changes nothing.
     pub fn remove(&mut self, name: Name, key: Key<A>) -> Result<u64, Refusal>
         ensures ok { IfOk result (λ number. (is_node (after self.old) name ≡ true) ×
             (number ≡ removed_at ((after self.old).seen name) key) ×
@@ -127,9 +143,25 @@ impl<A: Allocator + Copy> World<A> {
             return Err(Refusal::UnknownReplica);
         };
         let (delta, number) = remove(self.alloc, &replica.live, &key)?;
-        self.past.reserve(1)?;
-        make_at(&mut self.replicas, self.alloc, name, delta)?;
-        self.past.push(Event::Remove { name, key }).unwrap();
+        self.make(name, delta, Event::Remove { name, key })?;
+        Ok(number)
+    }
+
+    /// A remove of a field of a key at a replica, and how many writes it observed. UnknownReplica exactly where no
+    /// replica has the name; a refused call changes nothing.
+    pub fn remove_field(&mut self, name: Name, key: Key<A>, field: Field<A>) -> Result<u64, Refusal>
+        ensures ok { IfOk result (λ number. (is_node (after self.old) name ≡ true) ×
+            (number ≡ field_removed_at ((after self.old).seen name) (place_of key field)) ×
+            (self.new ≡ self.old ++ RemoveField name (place_of key field) ∷ [])) }
+        ensures refused { IfErr result (λ refusal. (refusal ≡ Refusal.OutOfMemory) ⊎
+            ((refusal ≡ Refusal.UnknownReplica) × (is_node (after self.old) name ≡ false))) }
+        ensures err { OnErr result (self.new ≡ self.old) }
+    {
+        let Some(replica) = self.replicas.get(&name) else {
+            return Err(Refusal::UnknownReplica);
+        };
+        let (delta, number) = remove_field(self.alloc, &replica.live, &key, &field)?;
+        self.make(name, delta, Event::RemoveField { name, key, field })?;
         Ok(number)
     }
 
@@ -147,22 +179,67 @@ impl<A: Allocator + Copy> World<A> {
             return Err(Refusal::UnknownReplica);
         };
         let (delta, number) = clear(self.alloc, &replica.live)?;
-        self.past.reserve(1)?;
-        make_at(&mut self.replicas, self.alloc, name, delta)?;
-        self.past.push(Event::Clear(name)).unwrap();
+        self.make(name, delta, Event::Clear(name))?;
         Ok(number)
     }
 
-    /// The distinct values of a key at a replica, ascending by bytes. UnknownReplica exactly where no replica has
-    /// the name.
-    pub fn get(&self, name: Name, key: &Key<A>) -> Result<Vec<Value<A>, A>, Refusal>
+    /// Takes in an own operation of the replica of this name: joins its delta in, and keeps the event. A refused call
+    /// changes nothing.
+    fn make(&mut self, name: Name, delta: OrMap<A>, event: Event<A>) -> Result<(), Refusal>
+        requires { IsOwn self.old name (event_value event) (or_map_state delta) }
+        ensures ok { OnOk result (self.new ≡ self.old ++ event_value event ∷ []) }
+        ensures refused { IsOkUnless result Refusal.OutOfMemory }
+        ensures err { OnErr result (self.new ≡ self.old) }
+    {
+        self.past.reserve(1)?;
+        make_at(&mut self.replicas, self.alloc, name, delta)?;
+        self.past.push(event).unwrap();
+        Ok(())
+    }
+
+    /// The distinct values at a field of a key at a replica, ascending by bytes. UnknownReplica exactly where no replica
+    /// has the name.
+    pub fn get(
+        &self,
+        name: Name,
+        key: &Key<A>,
+        field: &Field<A>,
+    ) -> Result<Vec<Value<A>, A>, Refusal>
         ensures ok { IfOk result (λ found. (is_node (after self.now) name ≡ true) ×
-            (found.items ≡ values ((after self.now).seen name) key.now)) }
+            (found.items ≡ values ((after self.now).seen name) (place_of key.now field.now))) }
         ensures refused { IfErr result (λ refusal. (refusal ≡ Refusal.OutOfMemory) ⊎
             ((refusal ≡ Refusal.UnknownReplica) × (is_node (after self.now) name ≡ false))) }
     {
         match self.replicas.get(&name) {
-            Some(replica) => replica.values(self.alloc, key),
+            Some(replica) => values(self.alloc, &replica.live, key, field),
+            None => Err(Refusal::UnknownReplica),
+        }
+    }
+
+    /// The distinct values of a key over all its fields at a replica, ascending by bytes. UnknownReplica exactly where no
+    /// replica has the name.
+    pub fn values_of_key(&self, name: Name, key: &Key<A>) -> Result<Vec<Value<A>, A>, Refusal>
+        ensures ok { IfOk result (λ found. (is_node (after self.now) name ≡ true) ×
+            (found.items ≡ values_of_key ((after self.now).seen name) key.now)) }
+        ensures refused { IfErr result (λ refusal. (refusal ≡ Refusal.OutOfMemory) ⊎
+            ((refusal ≡ Refusal.UnknownReplica) × (is_node (after self.now) name ≡ false))) }
+    {
+        match self.replicas.get(&name) {
+            Some(replica) => values_of_key(self.alloc, &replica.live, key),
+            None => Err(Refusal::UnknownReplica),
+        }
+    }
+
+    /// The fields of a key that show a value at a replica, ascending by bytes. UnknownReplica exactly where no replica has
+    /// the name.
+    pub fn fields(&self, name: Name, key: &Key<A>) -> Result<Vec<Field<A>, A>, Refusal>
+        ensures ok { IfOk result (λ found. (is_node (after self.now) name ≡ true) ×
+            (found.items ≡ fields ((after self.now).seen name) key.now)) }
+        ensures refused { IfErr result (λ refusal. (refusal ≡ Refusal.OutOfMemory) ⊎
+            ((refusal ≡ Refusal.UnknownReplica) × (is_node (after self.now) name ≡ false))) }
+    {
+        match self.replicas.get(&name) {
+            Some(replica) => fields(self.alloc, &replica.live, key),
             None => Err(Refusal::UnknownReplica),
         }
     }
@@ -176,7 +253,7 @@ impl<A: Allocator + Copy> World<A> {
             ((refusal ≡ Refusal.UnknownReplica) × (is_node (after self.now) name ≡ false))) }
     {
         match self.replicas.get(&name) {
-            Some(replica) => replica.keys(self.alloc),
+            Some(replica) => keys(self.alloc, &replica.live),
             None => Err(Refusal::UnknownReplica),
         }
     }
@@ -258,9 +335,9 @@ fn message_of<A: Allocator + Copy>(
 }
 
 /// The delta that a message carries.
-fn delta_of<A: Allocator + Copy>(alloc: A, message: &[u8]) -> Result<Pair<A>, Refusal>
+fn delta_of<A: Allocator + Copy>(alloc: A, message: &[u8]) -> Result<OrMap<A>, Refusal>
     ensures { (S : List Operation) → Carries message.now S →
-        MatchResult result (λ delta. Same (pair_state delta) (state S)) (λ refusal. refusal ≡ Refusal.OutOfMemory) }
+        MatchResult result (λ delta. Same (or_map_state delta) (state S)) (λ refusal. refusal ≡ Refusal.OutOfMemory) }
 {
     let message = decode(alloc, message)?;
     match carried_by(message) {
@@ -270,13 +347,13 @@ fn delta_of<A: Allocator + Copy>(alloc: A, message: &[u8]) -> Result<Pair<A>, Re
 }
 
 /// The delta of the message, or None for a message of another kind.
-fn carried_by<A: Allocator + Copy>(message: Message<A>) -> Option<Pair<A>>
+fn carried_by<A: Allocator + Copy>(message: Message<A>) -> Option<OrMap<A>>
     ensures delta { IfSome result (λ delta. message_of message ≡ Delta delta) }
     ensures other { IfNone result ((delta : DeltaValue) → message_of message ≢ Delta delta) }
 {
     match message {
         Message::Delta(delta) => Some(delta),
-        Message::State(..) | Message::Hello(_) => None,
+        Message::Hello(..) => None,
     }
 }
 
@@ -285,11 +362,11 @@ fn make_at<A: Allocator + Copy>(
     replicas: &mut BTreeMap<Name, Replica<A>, A>,
     alloc: A,
     name: Name,
-    delta: Pair<A>,
+    delta: OrMap<A>,
 ) -> Result<(), Refusal>
     requires { IsSome (get nat_cmp replicas.old name) }
     ensures ok { OnOk result ((before : _) × (after : _) ×
-        Replaces replicas.old replicas.new name before after × Takes before after (pair_state delta)) }
+        Replaces replicas.old replicas.new name before after × Takes before after (or_map_state delta)) }
     ensures refusal { IsOkUnless result Refusal.OutOfMemory }
     ensures err { OnErr result (SameReplicas replicas.old replicas.new) }
 {
@@ -315,11 +392,11 @@ fn deliver_at<A: Allocator + Copy>(
     replicas: &mut BTreeMap<Name, Replica<A>, A>,
     alloc: A,
     name: Name,
-    message: &Pair<A>,
+    message: &OrMap<A>,
 ) -> Result<(), Refusal>
     requires { IsSome (get nat_cmp replicas.old name) }
     ensures ok { OnOk result ((before : _) × (after : _) × Replaces replicas.old replicas.new name before after ×
-        Same (pair_state after.live) (join greater (pair_state before.live) (pair_state message.now)) × (after.group ≡ before.group)) }
+        Same (or_map_state after.live) (join greater (or_map_state before.live) (or_map_state message.now)) × (after.group ≡ before.group)) }
     ensures refusal { IsOkUnless result Refusal.OutOfMemory }
     ensures err { OnErr result (SameReplicas replicas.old replicas.new) }
 {

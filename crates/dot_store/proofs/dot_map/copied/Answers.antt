@@ -1,4 +1,4 @@
-use Rattle.std.proofs.Common.{◌≡◌, cond, Some, take, sym, ap, ◌∙◌, subst, arith}
+use Rattle.std.proofs.Common.{cond, Some, take, sym, ap, ◌∙◌, subst}
 use Rattle.std.specs.Ordering.{is_eq}
 use Rattle.dot_store.specs.Places.{value_at}
 use Rattle.dot_store.specs.Stores.{at_stores, held_by, NoKeyIsEmpty}

@@ -1,4 +1,3 @@
-use Rattle.std.proofs.Common.{ap, ◌∙◌}
 use Rattle.dot_store.specs.Stores.{at_values}
 use Rattle.dot_store.proofs.Values.{nothing_from_test, test_from_nothing}
 use Rattle.dot_store.proofs.dot_fun.DotFunDotStore.is_empty.Goals as goal

@@ -1,5 +1,4 @@
 use Rattle.std.proofs.Common.{◌≡◌, None, sym, ap, ◌∙◌, subst, refl, arith}
-use Rattle.std.specs.Prelude.{IsSome, is_some}
 use Rattle.dot_store.specs.Store.{HoldsDot}
 use Rattle.dot_store.specs.Stores.{at_stores}
 use Rattle.dot_store.proofs.Places.{items_more}

@@ -1,4 +1,4 @@
-use Rattle.std.proofs.Common.{sym, ap, ◌∙◌, length, subst, eq-eqb, eqb-true}
+use Rattle.std.proofs.Common.{sym, ◌∙◌, length, subst, eq-eqb, eqb-true}
 use Rattle.dot_store.specs.Stores.{at_stores, NoKeyIsEmpty}
 use Rattle.dot_store.proofs.Stores.{nothing_from_no_key, no_key_from_nothing}
 use Rattle.dot_store.proofs.dot_map.DotMapDotStore.is_empty.Goals as goal

@@ -1,4 +1,4 @@
-use Rattle.std.proofs.Common.{cond, Some, sym, ap, ◌∙◌, refl}
+use Rattle.std.proofs.Common.{cond, Some, sym, ap, ◌∙◌}
 use Rattle.dots.specs.Dot.{same_dot}
 use Rattle.std.proofs.lemmas.Result.{on_ok_weaker}
 use Rattle.dot_store.specs.Stores.{at_dots, at_values}

@@ -1,7 +1,4 @@
-use Rattle.std.proofs.Common.{◌≡◌, List, [], ◌∷◌, Some, None, Option, sym, ap, ◌∙◌, subst, arith}
-use Rattle.std.specs.Ordering.{ordering_reverse}
-use Rattle.std.specs.declared.cmp.Ordering.TheVariants.{Less, Equal, Greater}
-use Rattle.dot_store.specs.Merged.{IsTurn}
+use Rattle.std.proofs.Common.{[], ◌∷◌, sym, ◌∙◌, subst}
 use Rattle.dot_store.proofs.Places.{Ascends, ascends_tail, less_from_greater}
 use Rattle.dot_store.proofs.Merged.{turn_mine, turn_yours, turn_both, below_other, nil_from_length}
 use Rattle.dot_store.proofs.merge.Merge.next.Goals as goal

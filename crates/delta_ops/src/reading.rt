@@ -1,0 +1,138 @@
+ghost use Rattle.std.specs.Prelude.{◌≡◌, ◌↔◌, ◌++◌, ℕ, List, Contains, IfOk, OnOk, IsOkUnless};
+ghost use Rattle.std.specs.List.{flat_map};
+ghost use Rattle.std.specs.Map.{keys_of, values_of};
+ghost use Rattle.causal_join.specs.OrMap.{or_map_state};
+ghost use Rattle.delta_ops.specs.Gathers.{Gathers};
+ghost use Rattle.op_model.specs.Meaning.{Stands, StandsWithin, HoldsField, HoldsKey};
+ghost use Rattle.op_model.specs.Place.{place_of};
+ghost use Rattle.op_model.specs.Shown.{IsAscending};
+
+use crate::standing::values_at;
+use causal_join::OrMap;
+use dot_store::{DotFun, DotMap, Kept};
+use dots::{Field, Key, Refusal, Value};
+use std::alloc::{AllocError, Allocator};
+use std::collections::BTreeSet;
+
+/// The distinct values at the field of the key, ascending by bytes. Takes two look-ups, and time and memory in the
+/// values that stand there.
+pub fn values<A: Allocator + Copy>(
+    alloc: A,
+    live: &OrMap<A>,
+    key: &Key<A>,
+    field: &Field<A>,
+) -> Result<Vec<Value<A>, A>, Refusal>
+    ensures ascending { IfOk result (λ found. IsAscending found.items) }
+    ensures held { IfOk result (λ found. (value : List ℕ) →
+        Contains found.items value ↔ Stands (or_map_state live.now) (place_of key.now field.now) value) }
+    ensures err { IsOkUnless result Refusal.OutOfMemory }
+{
+    let mut found = BTreeSet::new(alloc);
+    if let Some(standing) = values_at(live, key, field) {
+        gather_values(alloc, &mut found, standing)?;
+    }
+    Ok(listed(alloc, found)?)
+}
+
+/// The distinct values of the key over all its fields, ascending by bytes. Takes a look-up, and time and memory in what
+/// stands at the key.
+pub fn values_of_key<A: Allocator + Copy>(
+    alloc: A,
+    live: &OrMap<A>,
+    key: &Key<A>,
+) -> Result<Vec<Value<A>, A>, Refusal>
+    ensures ascending { IfOk result (λ found. IsAscending found.items) }
+    ensures held { IfOk result (λ found. (value : List ℕ) →
+        Contains found.items value ↔ StandsWithin (or_map_state live.now) key.now value) }
+    ensures err { IsOkUnless result Refusal.OutOfMemory }
+{
+    let mut found = BTreeSet::new(alloc);
+    if let Some(fields) = live.store().get(key) {
+        gather_fields(alloc, &mut found, fields)?;
+    }
+    Ok(listed(alloc, found)?)
+}
+
+/// The fields of the key that hold a value, ascending by bytes. Takes a look-up, and time and memory in their number.
+pub fn fields<A: Allocator + Copy>(
+    alloc: A,
+    live: &OrMap<A>,
+    key: &Key<A>,
+) -> Result<Vec<Field<A>, A>, Refusal>
+    ensures ascending { IfOk result (λ found. IsAscending found.items) }
+    ensures held { IfOk result (λ found. (field : List ℕ) →
+        Contains found.items field ↔ HoldsField (or_map_state live.now) key.now field) }
+    ensures err { IsOkUnless result Refusal.OutOfMemory }
+{
+    match live.store().get(key) {
+        Some(fields) => copied_keys(alloc, fields.entries()),
+        None => Ok(Vec::new(alloc)),
+    }
+}
+
+/// The keys that hold a value at some field, ascending by bytes. Takes time and memory in their number.
+pub fn keys<A: Allocator + Copy>(alloc: A, live: &OrMap<A>) -> Result<Vec<Key<A>, A>, Refusal>
+    ensures ascending { IfOk result (λ found. IsAscending found.items) }
+    ensures held { IfOk result (λ found. (key : List ℕ) →
+        Contains found.items key ↔ HoldsKey (or_map_state live.now) key) }
+    ensures err { IsOkUnless result Refusal.OutOfMemory }
+{
+    copied_keys(alloc, live.store().entries())
+}
+
+/// Adds the values of a field.
+fn gather_values<A: Allocator + Copy>(
+    alloc: A,
+    found: &mut BTreeSet<Value<A>, A>,
+    standing: &DotFun<Value<A>, A>,
+) -> Result<(), Refusal>
+    ensures ok { OnOk result ((values : List (List ℕ)) → Gathers found.old.keys values
+        → Gathers found.new.keys (values ++ values_of standing.now)) }
+    ensures err { IsOkUnless result Refusal.OutOfMemory }
+{
+    for (_, value) in standing.entries() {
+        found.insert(value.copy(alloc)?)?;
+    }
+    Ok(())
+}
+
+/// Adds the values of all these fields.
+fn gather_fields<A: Allocator + Copy>(
+    alloc: A,
+    found: &mut BTreeSet<Value<A>, A>,
+    fields: &DotMap<Field<A>, DotFun<Value<A>, A>, A>,
+) -> Result<(), Refusal>
+    ensures ok { OnOk result ((values : List (List ℕ)) → Gathers found.old.keys values
+        → Gathers found.new.keys (values ++ flat_map (λ field. values_of field.1) fields.now)) }
+    ensures err { IsOkUnless result Refusal.OutOfMemory }
+{
+    for (_, standing) in fields.entries() {
+        gather_values(alloc, found, standing)?;
+    }
+    Ok(())
+}
+
+/// What is in a set, in order.
+fn listed<T: Ord + Drop, A: Allocator + Copy>(
+    alloc: A,
+    found: BTreeSet<T, A>,
+) -> Result<Vec<T, A>, AllocError>
+    ensures { IfOk result (λ list. list.items ≡ found.keys) }
+{
+    found.into_iter().collect(alloc)
+}
+
+/// The keys of these entries, in their order.
+fn copied_keys<K: Kept<A>, S, A: Allocator + Copy>(
+    alloc: A,
+    entries: &[(K, S)],
+) -> Result<Vec<K, A>, Refusal>
+    ensures ok { IfOk result (λ keys. keys.items ≡ keys_of entries.now) }
+    ensures err { IsOkUnless result Refusal.OutOfMemory }
+{
+    let mut keys = Vec::new(alloc);
+    for (key, _) in entries {
+        keys.push(key.copy(alloc)?)?;
+    }
+    Ok(keys)
+}
