@@ -10,7 +10,7 @@ use Rattle.std.specs.List.{flat_map}
 use Rattle.std.specs.FinMap as finite
 use Rattle.dots.specs.Dot.{DotValue}
 use Rattle.sha2.specs.Sha256.{sha256}
-use Rattle.wire_form.specs.Fields.{text, values}
+use Rattle.wire_form.specs.Parts.{text, values}
 use Rattle.dots.specs.Bytes.{bytes_cmp}
 use Rattle.hash_path.specs.Word.{key_in}
 use Rattle.hash_path.specs.Map.{by_key, by_path}

@@ -1,6 +1,6 @@
 // The parts of pages, fed to a hasher piece by piece.
 ghost use Rattle.wire_form.specs.Spelling.{number};
-ghost use Rattle.wire_form.specs.Fields as field;
+ghost use Rattle.wire_form.specs.Parts as part;
 ghost use Rattle.prefix_digest.specs.Page.{entry_bytes};
 ghost use Rattle.prefix_digest.specs.Taking.{Takes};
 
@@ -16,23 +16,23 @@ fn feed_number(hasher: &mut Sha256, value: u64)
 }
 
 fn feed_text(hasher: &mut Sha256, bytes: &[u8])
-    ensures { Takes hasher.old hasher.new (field.text bytes.now) }
+    ensures { Takes hasher.old hasher.new (part.text bytes.now) }
 {
     hasher.update(((bytes.len() % 0x1_0000) as u16).to_be_bytes());
     hasher.update(bytes);
 }
 
 fn feed_dot(hasher: &mut Sha256, dot: Dot)
-    ensures { Takes hasher.old hasher.new (field.dot dot) }
+    ensures { Takes hasher.old hasher.new (part.dot dot) }
 {
     feed_number(hasher, dot.name().number());
     feed_number(hasher, dot.number());
 }
 
 fn feed_values<A: Allocator + Copy>(hasher: &mut Sha256, values: &DotFun<Value<A>, A>)
-    ensures { Takes hasher.old hasher.new (field.values values.now) }
+    ensures { Takes hasher.old hasher.new (part.values values.now) }
 {
-    let entries = values.iter();
+    let entries = values.entries();
     feed_number(hasher, entries.len() as u64);
     for (dot, value) in entries {
         feed_dot(hasher, *dot);

@@ -1,53 +1,64 @@
--- Values, stores and contexts at the front of bytes: counted lists that are in order.
-use Rattle.std.proofs.Common.{◌≡◌, ℕ, List, true, false, sym, ap, subst, ◌∙◌}
-use Rattle.std.specs.Ordering.{nat_cmp}
-use Rattle.std.specs.Cmp.Lexicographic.{slice_cmp}
+-- Values, fields and contexts at the front of bytes: counted lists that are in order.
+use Rattle.std.proofs.Common.{◌≡◌, ℕ, List, [], ◌∷◌, true, false, refl, arith, sym, ap, subst, ◌∙◌}
 use Rattle.std.specs.List.Sorted.{IsStrictlySortedBy}
 use Rattle.std.specs.Map.{keys_of}
+use Rattle.dots.specs.Bytes.{bytes_cmp}
 use Rattle.dots.specs.Dot.{DotValue}
 use Rattle.causal_context.specs.Context.{ContextValue}
 use Rattle.causal_context.specs.Canonical.{IsCanonical}
 use Rattle.causal_context.specs.Dots.{dot_cmp}
 use Rattle.dot_store.specs.Stores.{at_values, NoKeyIsEmpty}
+use Rattle.causal_join.specs.OrMap.{ValuesValue, FieldsValue}
 use Rattle.wire_form.specs.Spelling.{number, IsNumber, pair, IsPair, counted, AreCounted, Begins, HasNone}
-use Rattle.wire_form.specs.Fields.{IsText, text, IsDot, dot, IsEntry, entry, values, AreValues, store, IsStore, context, IsContext, IsName}
-use Rattle.wire_form.specs.Unique.{IsUnique, pair_unique, dot_unique, text_unique, counted_unique, number_unique, name_unique, values_unique}
+use Rattle.wire_form.specs.Parts.{IsText, text, IsDot, dot, IsEntry, entry, values, AreValues, fields, AreFields, context, IsContext, IsName}
+use Rattle.wire_form.specs.Store.{alone, first_values, sole, AreSole}
+use Rattle.wire_form.specs.Unique.{IsUnique, pair_unique, dot_unique, text_unique, counted_unique, number_unique, name_unique, values_unique, sole_is, first_lawful}
 use Rattle.wire_form.proofs.Reading.{none_lawful}
 use Rattle.wire_form.proofs.Pairs.{pair_begins, none_first, none_second}
 
 -- ---- values
 
-pub values_begin : (bytes : List ℕ) (vs made : List (DotValue × List ℕ)) (rest : List ℕ) → Begins (counted (pair dot text)) (AreCounted (IsPair IsDot IsText)) bytes vs rest
+pub values_begin : (bytes : List ℕ) (vs made : ValuesValue) (rest : List ℕ) → Begins (counted (pair dot text)) (AreCounted (IsPair IsDot IsText)) bytes vs rest
     → IsStrictlySortedBy dot_cmp (keys_of vs) → made ≡ vs → Begins values AreValues bytes made rest
 values_begin bytes vs made rest read ascend is =
-    subst (λ (m : List (DotValue × List ℕ)). Begins values AreValues bytes m rest) (sym is) (record { fits = record { each = read.fits; ascend = ascend }; parts = read.parts })
+    subst (λ (m : ValuesValue). Begins values AreValues bytes m rest) (sym is) (record { fits = record { each = read.fits; ascend = ascend }; parts = read.parts })
 
-pub no_values : (bytes : List ℕ) (vs : List (DotValue × List ℕ)) (rest : List ℕ) → Begins (counted (pair dot text)) (AreCounted (IsPair IsDot IsText)) bytes vs rest
+pub no_values : (bytes : List ℕ) (vs : ValuesValue) (rest : List ℕ) → Begins (counted (pair dot text)) (AreCounted (IsPair IsDot IsText)) bytes vs rest
     → (IsStrictlySortedBy dot_cmp (keys_of vs) → false ≡ true) → HasNone values AreValues bytes
 no_values bytes vs rest read bad =
     none_lawful (counted (pair dot text)) (AreCounted (IsPair IsDot IsText)) AreValues (counted_unique (pair dot text) (IsPair IsDot IsText) (pair_unique dot IsDot text IsText dot_unique text_unique)) (λ v h. h.each) bytes vs rest read
     (λ h. absurd (cc (bad h.ascend)))
 
--- ---- stores
+-- ---- fields
 
--- what a contract sees of a store
-abbrev StoreValue : Type 0
-StoreValue = List (List ℕ × List (DotValue × List ℕ))
+pub fields_begin : (bytes : List ℕ) (fs made : FieldsValue) (rest : List ℕ) → Begins (counted (pair text values)) (AreCounted (IsPair IsText AreValues)) bytes fs rest
+    → IsStrictlySortedBy bytes_cmp (keys_of fs) → NoKeyIsEmpty at_values fs → made ≡ fs → Begins fields AreFields bytes made rest
+fields_begin bytes fs made rest read ascend filled is =
+    subst (λ (m : FieldsValue). Begins fields AreFields bytes m rest) (sym is) (record { fits = record { each = read.fits; ascend = ascend; filled = filled }; parts = read.parts })
 
-pub store_begins : (bytes : List ℕ) (s made : StoreValue) (rest : List ℕ) → Begins (counted (pair text values)) (AreCounted (IsPair IsText AreValues)) bytes s rest
-    → IsStrictlySortedBy (slice_cmp nat_cmp) (keys_of s) → NoKeyIsEmpty at_values s → made ≡ s → Begins store IsStore bytes made rest
-store_begins bytes s made rest read ascend filled is =
-    subst (λ (m : StoreValue). Begins store IsStore bytes m rest) (sym is) (record { fits = record { each = read.fits; ascend = ascend; filled = filled }; parts = read.parts })
-
-pub no_store : (bytes : List ℕ) (s : StoreValue) (rest : List ℕ) → Begins (counted (pair text values)) (AreCounted (IsPair IsText AreValues)) bytes s rest
-    → (IsStrictlySortedBy (slice_cmp nat_cmp) (keys_of s) × NoKeyIsEmpty at_values s → false ≡ true) → HasNone store IsStore bytes
-no_store bytes s rest read bad =
-    none_lawful (counted (pair text values)) (AreCounted (IsPair IsText AreValues)) IsStore (counted_unique (pair text values) (IsPair IsText AreValues) (pair_unique text IsText values AreValues text_unique values_unique)) (λ v h. h.each) bytes s rest read
+pub no_fields : (bytes : List ℕ) (fs : FieldsValue) (rest : List ℕ) → Begins (counted (pair text values)) (AreCounted (IsPair IsText AreValues)) bytes fs rest
+    → (IsStrictlySortedBy bytes_cmp (keys_of fs) × NoKeyIsEmpty at_values fs → false ≡ true) → HasNone fields AreFields bytes
+no_fields bytes fs rest read bad =
+    none_lawful (counted (pair text values)) (AreCounted (IsPair IsText AreValues)) AreFields (counted_unique (pair text values) (IsPair IsText AreValues) (pair_unique text IsText values AreValues text_unique values_unique)) (λ v h. h.each) bytes fs rest read
     (λ h. absurd (cc (bad (h.ascend, h.filled))))
 
-pub store_unique : IsUnique store IsStore
-store_unique v w a b p q e =
-    counted_unique (pair text values) (IsPair IsText AreValues) (pair_unique text IsText values AreValues text_unique values_unique) v w a b p.each q.each e
+-- ---- the empty field alone
+
+pub sole_begins : (bytes : List ℕ) (vs : ValuesValue) (made : FieldsValue) (rest : List ℕ) → Begins values AreValues bytes vs rest
+    → IsStrictlySortedBy bytes_cmp (keys_of (alone vs)) → NoKeyIsEmpty at_values (alone vs) → made ≡ alone vs → Begins sole AreSole bytes made rest
+sole_begins bytes vs made rest read ascend filled is =
+    subst (λ (m : FieldsValue). Begins sole AreSole bytes m rest) (sym is)
+    (record { fits = record { lawful = record { each = (omega arith, ((omega arith, read.fits), tt)); ascend = ascend; filled = filled }; form = refl }; parts = read.parts })
+
+pub no_values_alone : (bytes : List ℕ) → HasNone values AreValues bytes → HasNone sole AreSole bytes
+no_values_alone bytes none fs end h = none (first_values fs) end (record { fits = first_lawful fs h.fits; parts = h.parts })
+
+pub no_sole : (bytes : List ℕ) (vs : ValuesValue) (rest : List ℕ) → Begins values AreValues bytes vs rest
+    → (IsStrictlySortedBy bytes_cmp (keys_of (alone vs)) × NoKeyIsEmpty at_values (alone vs) → false ≡ true) → HasNone sole AreSole bytes
+no_sole bytes vs rest read bad fs end h =
+    let same = values_unique vs (first_values fs) rest end read.fits (first_lawful fs h.fits) (sym read.parts ∙ h.parts) in
+    let is : fs ≡ alone vs = sole_is fs h.fits.form ∙ ap alone (sym same.0) in
+    absurd (cc (bad (subst (λ (gs : FieldsValue). IsStrictlySortedBy bytes_cmp (keys_of gs)) is h.fits.lawful.ascend, subst (λ (gs : FieldsValue). NoKeyIsEmpty at_values gs) is h.fits.lawful.filled)))
 
 -- ---- contexts
 

@@ -3,7 +3,9 @@ pub mod Pairs
 pub mod Numbers
 pub mod Texts
 pub mod Counting
+pub mod Plains
 pub mod Bodies
+pub mod Stores
 pub mod Sessions
 pub mod Deltas
 pub mod Messages

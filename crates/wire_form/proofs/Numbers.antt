@@ -5,7 +5,7 @@ use Rattle.std.proofs.lemmas.Bool.{cases_lt}
 use Rattle.std.proofs.lemmas.List.{take-append-drop, length-take, get_or-take, get_or_past}
 use Rattle.std.proofs.lemmas.Nat.{be_bytes_8}
 use Rattle.wire_form.specs.Spelling.{number, IsNumber, pair, IsPair, Begins, HasNone}
-use Rattle.wire_form.specs.Fields.{IsName, dot, IsDot}
+use Rattle.wire_form.specs.Parts.{IsName, dot, IsDot}
 use Rattle.wire_form.specs.Unique.{length-number, number_unique, pair_unique}
 use Rattle.wire_form.proofs.Pairs.{pair_begins, none_second}
 use Rattle.wire_form.proofs.Reading.{none_lawful}

@@ -1,7 +1,7 @@
 -- Sessions at the front of bytes, and behind what was written.
 use Rattle.std.proofs.Common.{◌≡◌, ℕ, ◌≤◌, true, false, List, ◌++◌, sym, ap, subst, ◌∙◌, append_assoc}
 use Rattle.wire_form.specs.Spelling.{number, IsNumber, pair, IsPair, Begins, HasNone}
-use Rattle.wire_form.specs.Fields.{IsName}
+use Rattle.wire_form.specs.Parts.{IsName}
 use Rattle.wire_form.specs.Session.{SessionValue, session, IsSession}
 use Rattle.wire_form.specs.Unique.{IsUnique, pair_unique, number_unique}
 use Rattle.wire_form.specs.Writing.{Appends}

@@ -8,7 +8,7 @@ use Rattle.dots.specs.Bytes.{MAX_LENGTH}
 use Rattle.dots.specs.declared.refusal.Refusal.{Refusal}
 use Rattle.dots.specs.declared.refusal.Refusal.TheVariants.{OutOfMemory, TooLong}
 use Rattle.wire_form.specs.Spelling.{Begins, HasNone}
-use Rattle.wire_form.specs.Fields.{text, IsText}
+use Rattle.wire_form.specs.Parts.{text, IsText}
 use Rattle.wire_form.specs.Reading.{Refuses}
 use Rattle.wire_form.specs.Unique.{same_front, length_again}
 use Rattle.wire_form.proofs.Numbers.{AreBytes, AreBytes-take}

@@ -1,13 +1,11 @@
 -- What writers leave, from what other writers left.
-use Rattle.std.proofs.Common.{◌≡◌, ℕ, ◌≤◌, List, [], ◌∷◌, ◌++◌, length, sym, ap, subst, ◌∙◌, append_assoc}
+use Rattle.std.proofs.Common.{◌≡◌, ℕ, ◌≤◌, Bool, true, false, ◌&&◌, List, [], ◌∷◌, ◌++◌, length, take, get_or, ◌<◌, ◌+◌, refl, sym, ap, subst, ◌∙◌, append_assoc, arith}
 use Rattle.std.specs.List.{flat_map, AllByRecursion}
 use Rattle.std.specs.Int.{w16, to_be_bytes}
-use Rattle.std.proofs.lemmas.List.{append-nil}
+use Rattle.std.proofs.lemmas.List.{append-nil, take_more, take_all}
 use Rattle.std.proofs.lemmas.List.Concat.{flat_map-append}
-use Rattle.dots.specs.Bytes.{MAX_LENGTH}
+use Rattle.dots.specs.Bytes.{MAX_LENGTH, bytes_cmp}
 use Rattle.wire_form.specs.Spelling.{number, IsNumber, pair, IsPair, counted, AreCounted}
-use Rattle.std.specs.Ordering.{nat_cmp}
-use Rattle.std.specs.Cmp.Lexicographic.{slice_cmp}
 use Rattle.std.specs.List.Sorted.{IsStrictlySortedBy}
 use Rattle.std.specs.Map.{keys_of}
 use Rattle.dots.specs.Dot.{DotValue}
@@ -15,8 +13,12 @@ use Rattle.causal_context.specs.Context.{ContextValue}
 use Rattle.causal_context.specs.Canonical.{IsCanonical}
 use Rattle.causal_context.specs.Dots.{dot_cmp}
 use Rattle.dot_store.specs.Stores.{at_values, NoKeyIsEmpty}
-use Rattle.wire_form.specs.Fields.{text, IsText, dot, IsDot, entry, IsEntry, values, AreValues, store, IsStore, context, IsContext}
+use Rattle.causal_join.specs.OrMap.{ValuesValue, FieldsValue, OrMapStoreValue, fields_at}
+use Rattle.wire_form.specs.Parts.{text, IsText, dot, IsDot, entry, IsEntry, values, AreValues, fields, AreFields, context, IsContext}
+use Rattle.wire_form.specs.Store.{is_sole, alone, first_values, sole, AreSole, store, IsStore}
+use Rattle.wire_form.specs.Unique.{sole_is}
 use Rattle.wire_form.specs.Writing.{Appends}
+use Rattle.wire_form.proofs.Stores.{sole_each}
 
 pub pair_appends : {X Y : Type 0} (first : X → List ℕ) (First : X → Type 0) (second : Y → List ℕ) (Second : Y → Type 0) (old mid new : List ℕ) (x : X) (y : Y)
     → Appends first First old mid x → Appends second Second mid new y → Appends (pair first second) (IsPair First Second) old new (x, y)
@@ -60,25 +62,49 @@ module _ {X : Type 0} (item : X → List ℕ) (Item : X → Type 0) where
     parts = p.parts ∙ ap (λ (k : ℕ). old ++ (number k ++ flat_map item xs)) n ∙ ap (λ (ys : List X). old ++ (number (length all) ++ flat_map item ys)) e;
   }
 
--- ---- values, stores and contexts
+  -- the first of a list, and one more
+  pub next_written : (old now new : List ℕ) (count : ℕ) (xs : List X) (i : ℕ) (x : X) → WritesSo old now count (take i xs) → i < length xs → x ≡ get_or xs i x → Appends item Item now new x
+      → WritesSo old new count (take (i + 1) xs)
+  next_written old now new count xs i x p h is q =
+      let e : take (i + 1) xs ≡ take i xs ++ x ∷ [] = take_more xs i x h ∙ ap (λ (y : X). take i xs ++ y ∷ []) (sym is) in
+      subst (WritesSo old new count) (sym e) (one_written old now new count (take i xs) x p q)
 
-pub values_appended : (old now : List ℕ) (vs made : List (DotValue × List ℕ)) → Appends (counted (pair dot text)) (AreCounted (IsPair IsDot IsText)) old now vs → made ≡ vs
+  pub list_written : (old now : List ℕ) (xs : List X) (i : ℕ) → WritesSo old now (length xs) (take i xs) → length xs ≤ i → Appends (counted item) (AreCounted Item) old now xs
+  list_written old now xs i p h = all_written old now (length xs) (take i xs) xs p (take_all i xs h) refl
+
+-- ---- values, fields, stores and contexts
+
+pub values_appended : (old now : List ℕ) (vs made : ValuesValue) → Appends (counted (pair dot text)) (AreCounted (IsPair IsDot IsText)) old now made → made ≡ vs
     → IsStrictlySortedBy dot_cmp (keys_of made) → Appends values AreValues old now vs
-values_appended old now vs made p e s = record { fits = record { each = p.fits; ascend = subst (λ (m : List (DotValue × List ℕ)). IsStrictlySortedBy dot_cmp (keys_of m)) e s }; parts = p.parts }
+values_appended old now vs made p e s = subst (λ (m : ValuesValue). Appends values AreValues old now m) e (record { fits = record { each = p.fits; ascend = s }; parts = p.parts })
 
-abbrev StoreValue : Type 0
-StoreValue = List (List ℕ × List (DotValue × List ℕ))
+pub fields_appended : (old now : List ℕ) (fs made : FieldsValue) → Appends (counted (pair text values)) (AreCounted (IsPair IsText AreValues)) old now made → made ≡ fs
+    → IsStrictlySortedBy bytes_cmp (keys_of made) → NoKeyIsEmpty at_values made → Appends fields AreFields old now fs
+fields_appended old now fs made p e ascend filled =
+    subst (λ (m : FieldsValue). Appends fields AreFields old now m) e (record { fits = record { each = p.fits; ascend = ascend; filled = filled }; parts = p.parts })
 
-pub store_appended : (old now : List ℕ) (s made : StoreValue) → Appends (counted (pair text values)) (AreCounted (IsPair IsText AreValues)) old now s → made ≡ s
-    → IsStrictlySortedBy (slice_cmp nat_cmp) (keys_of made) → NoKeyIsEmpty at_values made → Appends store IsStore old now s
-store_appended old now s made p e ascend filled = record {
-  fits = record {
-    each = p.fits;
-    ascend = subst (λ (m : StoreValue). IsStrictlySortedBy (slice_cmp nat_cmp) (keys_of m)) e ascend;
-    filled = subst (λ (m : StoreValue). NoKeyIsEmpty at_values m) e filled;
-  };
-  parts = p.parts;
-}
+-- the values of the empty field, where it is alone
+sole_lawful : (fs : FieldsValue) → fs ≡ alone (first_values fs) → AreValues (first_values fs) → IsStrictlySortedBy bytes_cmp (keys_of fs) → NoKeyIsEmpty at_values fs → AreFields fs
+sole_lawful fs is lawful ascend filled =
+    let each = subst (AreCounted (IsPair IsText AreValues)) (sym is) (omega arith, ((omega arith, lawful), tt)) in
+    record { each = each; ascend = ascend; filled = filled }
+
+pub sole_appended : (old now : List ℕ) (fs : FieldsValue) (vs : ValuesValue) → is_sole fs ≡ true → IsStrictlySortedBy bytes_cmp (keys_of fs) → NoKeyIsEmpty at_values fs → vs ≡ first_values fs
+    → Appends values AreValues old now vs → Appends sole AreSole old now fs
+sole_appended old now fs vs t ascend filled is p =
+    let written = subst (λ (ws : ValuesValue). Appends values AreValues old now ws) is p in
+    record { fits = record { lawful = sole_lawful fs (sole_is fs t) written.fits ascend filled; form = t }; parts = written.parts }
+
+pub full_store_appended : (old now : List ℕ) (s made : OrMapStoreValue) → Appends (counted (pair text fields)) (AreCounted (IsPair IsText AreFields)) old now made → made ≡ s
+    → IsStrictlySortedBy bytes_cmp (keys_of made) → NoKeyIsEmpty fields_at made → Appends (store false) IsStore old now s
+full_store_appended old now s made p e ascend filled =
+    subst (λ (m : OrMapStoreValue). Appends (store false) IsStore old now m) e (record { fits = record { each = p.fits; ascend = ascend; filled = filled }; parts = p.parts })
+
+pub plain_store_appended : (old now : List ℕ) (s made : OrMapStoreValue) → Appends (counted (pair text sole)) (AreCounted (IsPair IsText AreSole)) old now made → made ≡ s
+    → IsStrictlySortedBy bytes_cmp (keys_of made) → NoKeyIsEmpty fields_at made → Appends (store true) IsStore old now s
+plain_store_appended old now s made p e ascend filled =
+    let each : AreCounted (IsPair IsText AreFields) made = (p.fits.0, (sole_each made p.fits.1).0) in
+    subst (λ (m : OrMapStoreValue). Appends (store true) IsStore old now m) e (record { fits = record { each = each; ascend = ascend; filled = filled }; parts = p.parts })
 
 pub context_appended : (old mid new : List ℕ) (c : ContextValue) → Appends (counted entry) (AreCounted IsEntry) old mid c.vector → IsCanonical c
     → Appends (counted dot) (AreCounted IsDot) mid new c.cloud → Appends context IsContext old new c

@@ -1,5 +1,6 @@
 pub mod Spelling
-pub mod Fields
+pub mod Parts
+pub mod Store
 pub mod Session
 pub mod Message
 pub mod Unique

@@ -4,7 +4,7 @@
 -- and 00 00 00 00 00 00 00 03.
 use Rattle.std.specs.Prelude.{ℕ, List, ◌++◌}
 use Rattle.wire_form.specs.Spelling.{number}
-use Rattle.wire_form.specs.Fields.{IsName}
+use Rattle.wire_form.specs.Parts.{IsName}
 
 -- what a contract sees of a `Session`: the name of the replica that asks, that of the replica that answers, and the
 -- number of the session at the asker

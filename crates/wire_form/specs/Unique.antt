@@ -1,14 +1,17 @@
 -- That no spelling is empty, and that no two spellings stand at the front of the same bytes: so a field has one spelling,
 -- and bytes spell one value of it at most, whatever follows. Of this project.
-use Rattle.std.proofs.Common.{◌≡◌, ℕ, ◌<◌, ◌≤◌, List, [], ◌∷◌, ◌++◌, length, take, drop, refl, sym, ap, ◌∙◌, append_assoc, arith, length-append}
+use Rattle.std.proofs.Common.{◌≡◌, ℕ, ◌<◌, ◌≤◌, true, eqb, List, [], ◌∷◌, ◌++◌, length, take, drop, refl, sym, ap, ◌∙◌, append_assoc, arith, length-append}
 use Rattle.std.specs.Int.{w16, w64, to_be_bytes, from_be_bytes}
 use Rattle.std.specs.List.{flat_map, AllByRecursion}
+use Rattle.std.proofs.lemmas.Bool.{eqb-true}
 use Rattle.std.proofs.lemmas.List.{take_at, drop_at}
 use Rattle.std.proofs.lemmas.Nat.{from_be_bytes-to_be_bytes_2, from_be_bytes-to_be_bytes_8}
 use Rattle.dots.specs.Bytes.{MAX_LENGTH}
 use Rattle.dots.specs.Dot.{DotValue}
 use Rattle.wire_form.specs.Spelling.{number, IsNumber, pair, IsPair, counted, AreCounted}
-use Rattle.wire_form.specs.Fields.{IsName, text, IsText, dot, IsDot, values, AreValues}
+use Rattle.causal_join.specs.OrMap.{FieldsValue}
+use Rattle.wire_form.specs.Parts.{IsName, text, IsText, dot, IsDot, values, AreValues, fields, AreFields}
+use Rattle.wire_form.specs.Store.{is_sole, alone, first_values, sole, AreSole}
 
 -- no two spellings stand at the front of the same bytes
 abbrev pub IsUnique : {V : Type 0} → (V → List ℕ) → (V → Type 0) → Type 0
@@ -109,7 +112,7 @@ module _ {X : Type 0} (item : X → List ℕ) (Item : X → Type 0) where
   pub counted_starts : (xs : List X) → AreCounted Item xs → 0 < length (counted item xs)
   counted_starts xs p = omega (arith, number_starts (length xs) p.0, length-append (number (length xs)) (flat_map item xs))
 
--- ---- the values of a key
+-- ---- the values of a field, and the fields of a key
 
 pub values_unique : IsUnique values AreValues
 values_unique vs ws a b p q e =
@@ -117,3 +120,33 @@ values_unique vs ws a b p q e =
 
 pub values_starts : HasBytes values AreValues
 values_starts vs p = counted_starts (pair dot text) (IsPair IsDot IsText) vs p.each
+
+pub fields_unique : IsUnique fields AreFields
+fields_unique fs gs a b p q e =
+    counted_unique (pair text values) (IsPair IsText AreValues) (pair_unique text IsText values AreValues text_unique values_unique) fs gs a b p.each q.each e
+
+pub fields_starts : HasBytes fields AreFields
+fields_starts fs p = counted_starts (pair text values) (IsPair IsText AreValues) fs p.each
+
+-- ---- the empty field alone
+
+no_bytes : (xs : List ℕ) → eqb (length xs) 0 ≡ true → xs ≡ []
+no_bytes [] t = refl
+no_bytes (x ∷ xs) t = absurd (omega (arith, eqb-true (length (x ∷ xs)) 0 t))
+
+pub sole_is : (fs : FieldsValue) → is_sole fs ≡ true → fs ≡ alone (first_values fs)
+sole_is [] t = absurd (cc t)
+sole_is (f ∷ []) t = let made : List ℕ → FieldsValue = λ k. (k, f.1) ∷ [] in ap made (no_bytes f.0 t)
+sole_is (f ∷ g ∷ fs) t = absurd (cc t)
+
+pub first_lawful : (fs : FieldsValue) → AreSole fs → AreValues (first_values fs)
+first_lawful [] p = absurd (cc p.form)
+first_lawful (f ∷ fs) p = p.lawful.each.1.0.1
+
+pub sole_unique : IsUnique sole AreSole
+sole_unique fs gs a b p q e =
+    let both = values_unique (first_values fs) (first_values gs) a b (first_lawful fs p) (first_lawful gs q) e in
+    (sole_is fs p.form ∙ ap alone both.0 ∙ sym (sole_is gs q.form), both.1)
+
+pub sole_starts : HasBytes sole AreSole
+sole_starts fs p = values_starts (first_values fs) (first_lawful fs p)

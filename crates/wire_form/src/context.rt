@@ -1,5 +1,5 @@
 // The context of a message.
-ghost use Rattle.wire_form.specs.Fields.{context, IsContext};
+ghost use Rattle.wire_form.specs.Parts.{context, IsContext};
 ghost use Rattle.wire_form.specs.Reading.{Reads};
 
 use crate::items::read_items;

@@ -1,13 +1,13 @@
 ghost use Rattle.std.specs.Prelude.{◌≡◌, ◌⊎◌, ◌∷◌, IfOk, IfErr, IsErrOf, MatchResult};
-ghost use Rattle.wire_form.specs.Message.{MessageValue, message_of, Spells, SpellsNone, SpellsBody, VERSION, STATE, HELLO};
+ghost use Rattle.wire_form.specs.Message.{MessageValue, message_of, Spells, SpellsNone, SpellsBody, SpellsContext, VERSION, HELLO};
 ghost use Rattle.wire_form.specs.Reading.{ReadsAll};
 
 use crate::context::read_context;
 use crate::message::Message;
-use crate::pair::Pair;
 use crate::session::read_session;
 use crate::store::read_store;
-use causal_join::Causal;
+use causal_context::Context;
+use causal_join::{Causal, OrMap};
 use dots::Refusal;
 use std::alloc::Allocator;
 
@@ -32,19 +32,19 @@ fn read_message<A: Allocator + Copy>(alloc: A, bytes: &[u8]) -> Result<Message<A
     ensures { ReadsAll message_of (Spells bytes.now) result }
 {
     match bytes {
-        [1, 1, body @ ..] => Ok(Message::Delta(read_delta(alloc, body)?)),
-        [1, 2, body @ ..] => read_state(alloc, body),
-        [1, 3, body @ ..] => read_hello(alloc, body),
+        [1, 1, body @ ..] => Ok(Message::Delta(read_delta(alloc, true, body)?)),
+        [3, 1, body @ ..] => Ok(Message::Delta(read_delta(alloc, false, body)?)),
+        [3, 3, body @ ..] => read_hello(alloc, body),
         _ => Err(Refusal::NotAMessage),
     }
 }
 
-// The delta whose body is all the bytes.
-fn read_delta<A: Allocator + Copy>(alloc: A, bytes: &[u8]) -> Result<Pair<A>, Refusal>
-    ensures { ReadsAll (λ delta. delta) (SpellsBody bytes.now) result }
+// The delta whose body is all the bytes, and whose store is plain or not.
+fn read_delta<A: Allocator + Copy>(alloc: A, plain: bool, bytes: &[u8]) -> Result<OrMap<A>, Refusal>
+    ensures { ReadsAll (λ delta. delta) (SpellsBody plain bytes.now) result }
 {
     let (context, rest) = read_context(alloc, bytes)?;
-    let (store, rest) = read_store(alloc, rest)?;
+    let (store, rest) = read_store(alloc, plain, rest)?;
     if !rest.is_empty() {
         return Err(Refusal::NotAMessage);
     }
@@ -54,23 +54,23 @@ fn read_delta<A: Allocator + Copy>(alloc: A, bytes: &[u8]) -> Result<Pair<A>, Re
     }
 }
 
-// The state whose body is all the bytes. Its front is the session, with the bytes behind it.
-fn read_state<A: Allocator + Copy>(alloc: A, bytes: &[u8]) -> Result<Message<A>, Refusal>
-    ensures { ReadsAll message_of (Spells (VERSION ∷ STATE ∷ bytes.now)) result }
-{
-    match read_session(alloc, bytes) {
-        Ok(front) => Ok(Message::State(front.0, read_delta(alloc, front.1)?)),
-        Err(refusal) => Err(refusal),
-    }
-}
-
 // The hello whose body is all the bytes. Its front is the session, with the bytes behind it.
 fn read_hello<A: Allocator + Copy>(alloc: A, bytes: &[u8]) -> Result<Message<A>, Refusal>
     ensures { ReadsAll message_of (Spells (VERSION ∷ HELLO ∷ bytes.now)) result }
 {
     match read_session(alloc, bytes) {
-        Ok(front) if front.1.is_empty() => Ok(Message::Hello(front.0)),
-        Ok(_) => Err(Refusal::NotAMessage),
+        Ok(front) => Ok(Message::Hello(front.0, read_known(alloc, front.1)?)),
         Err(refusal) => Err(refusal),
     }
+}
+
+// The context that all the bytes spell.
+fn read_known<A: Allocator + Copy>(alloc: A, bytes: &[u8]) -> Result<Context<A>, Refusal>
+    ensures { ReadsAll (λ context. context) (SpellsContext bytes.now) result }
+{
+    let (context, rest) = read_context(alloc, bytes)?;
+    if !rest.is_empty() {
+        return Err(Refusal::NotAMessage);
+    }
+    Ok(context)
 }

@@ -1,16 +1,19 @@
-ghost use Rattle.std.specs.Prelude.{◌≡◌, ◌≤◌, length, IfOk, OnOk, IsOkUnless};
+ghost use Rattle.std.specs.Prelude.{◌≡◌, ◌≤◌, true, false, length, IfOk, OnOk, IsOkUnless};
 ghost use Rattle.dots.specs.Bytes.{MAX_LENGTH};
 ghost use Rattle.causal_context.specs.Canonical.{IsCanonical};
 ghost use Rattle.wire_form.specs.Spelling.{number, IsNumber, counted, AreCounted};
-ghost use Rattle.wire_form.specs.Fields as field;
-ghost use Rattle.wire_form.specs.Message.{message_of, Spells, SpellsDelta, SpellsState, SpellsHello};
-ghost use Rattle.wire_form.specs.Session as field_session;
+ghost use Rattle.wire_form.specs.Parts as part;
+ghost use Rattle.wire_form.specs.Store as form;
+ghost use Rattle.wire_form.specs.Message.{message_of, Spells, SpellsDelta, SpellsHello};
+ghost use Rattle.wire_form.specs.Session as part_session;
 ghost use Rattle.wire_form.specs.Writing.{Appends};
 
+use crate::fields::Fields;
 use crate::message::Message;
-use crate::pair::{Pair, Store};
+use crate::plain::{is_plain_store, values_alone};
 use crate::session::Session;
 use causal_context::Context;
+use causal_join::{OrMap, OrMapStore};
 use dot_store::DotFun;
 use dots::{Dot, Name, Refusal, Value};
 use std::alloc::Allocator;
@@ -22,47 +25,38 @@ pub fn encode<A: Allocator + Copy>(alloc: A, message: &Message<A>) -> Result<Vec
 {
     match message {
         Message::Delta(delta) => write_delta(alloc, delta),
-        Message::State(session, pair) => write_state(alloc, *session, pair),
-        Message::Hello(session) => write_hello(alloc, *session),
+        Message::Hello(session, context) => write_hello(alloc, *session, context),
     }
 }
 
-fn write_delta<A: Allocator + Copy>(alloc: A, delta: &Pair<A>) -> Result<Vec<u8, A>, Refusal>
+fn write_delta<A: Allocator + Copy>(alloc: A, delta: &OrMap<A>) -> Result<Vec<u8, A>, Refusal>
     ensures ok { IfOk result (λ bytes. SpellsDelta bytes.items delta.now) }
     ensures err { IsOkUnless result Refusal.OutOfMemory }
 {
-    let mut out = Vec::from_slice(alloc, &[1, 1])?;
+    let plain = is_plain_store(delta.store());
+    let version = if plain { 1 } else { 3 };
+    let mut out = Vec::from_slice(alloc, &[version, 1])?;
     write_context(&mut out, delta.context())?;
-    write_store(&mut out, delta.store())?;
+    write_store(&mut out, plain, delta.store())?;
     Ok(out)
 }
 
-fn write_state<A: Allocator + Copy>(
+fn write_hello<A: Allocator + Copy>(
     alloc: A,
     session: Session,
-    pair: &Pair<A>,
+    context: &Context<A>,
 ) -> Result<Vec<u8, A>, Refusal>
-    ensures ok { IfOk result (λ bytes. SpellsState bytes.items session pair.now) }
+    ensures ok { IfOk result (λ bytes. SpellsHello bytes.items session context.now) }
     ensures err { IsOkUnless result Refusal.OutOfMemory }
 {
-    let mut out = Vec::from_slice(alloc, &[1, 2])?;
+    let mut out = Vec::from_slice(alloc, &[3, 3])?;
     write_session(&mut out, session)?;
-    write_context(&mut out, pair.context())?;
-    write_store(&mut out, pair.store())?;
-    Ok(out)
-}
-
-fn write_hello<A: Allocator + Copy>(alloc: A, session: Session) -> Result<Vec<u8, A>, Refusal>
-    ensures ok { IfOk result (λ bytes. SpellsHello bytes.items session) }
-    ensures err { IsOkUnless result Refusal.OutOfMemory }
-{
-    let mut out = Vec::from_slice(alloc, &[1, 3])?;
-    write_session(&mut out, session)?;
+    write_context(&mut out, context)?;
     Ok(out)
 }
 
 fn write_session<A: Allocator + Copy>(out: &mut Vec<u8, A>, session: Session) -> Result<(), Refusal>
-    ensures ok { OnOk result (Appends field_session.session field_session.IsSession out.old.items out.new.items session) }
+    ensures ok { OnOk result (Appends part_session.session part_session.IsSession out.old.items out.new.items session) }
     ensures err { IsOkUnless result Refusal.OutOfMemory }
 {
     write_name(out, session.asker())?;
@@ -74,7 +68,7 @@ fn write_context<A: Allocator + Copy>(
     out: &mut Vec<u8, A>,
     context: &Context<A>,
 ) -> Result<(), Refusal>
-    ensures ok { OnOk result (Appends field.context field.IsContext out.old.items out.new.items context.now) }
+    ensures ok { OnOk result (Appends part.context part.IsContext out.old.items out.new.items context.now) }
     ensures err { IsOkUnless result Refusal.OutOfMemory }
 {
     write_vector(out, context)?;
@@ -85,7 +79,7 @@ fn write_vector<A: Allocator + Copy>(
     out: &mut Vec<u8, A>,
     context: &Context<A>,
 ) -> Result<(), Refusal>
-    ensures ok { OnOk result (Appends (counted field.entry) (AreCounted field.IsEntry) out.old.items out.new.items context.now.vector) }
+    ensures ok { OnOk result (Appends (counted part.entry) (AreCounted part.IsEntry) out.old.items out.new.items context.now.vector) }
     ensures canonical { IsCanonical context.now }
     ensures err { IsOkUnless result Refusal.OutOfMemory }
 {
@@ -102,7 +96,7 @@ fn write_cloud<A: Allocator + Copy>(
     out: &mut Vec<u8, A>,
     context: &Context<A>,
 ) -> Result<(), Refusal>
-    ensures ok { OnOk result (Appends (counted field.dot) (AreCounted field.IsDot) out.old.items out.new.items context.now.cloud) }
+    ensures ok { OnOk result (Appends (counted part.dot) (AreCounted part.IsDot) out.old.items out.new.items context.now.cloud) }
     ensures err { IsOkUnless result Refusal.OutOfMemory }
 {
     let dots = context.cloud();
@@ -113,14 +107,79 @@ fn write_cloud<A: Allocator + Copy>(
     Ok(())
 }
 
-fn write_store<A: Allocator + Copy>(out: &mut Vec<u8, A>, store: &Store<A>) -> Result<(), Refusal>
-    ensures ok { OnOk result (Appends field.store field.IsStore out.old.items out.new.items store.now) }
+// The store in the form that it is told to have.
+fn write_store<A: Allocator + Copy>(
+    out: &mut Vec<u8, A>,
+    plain: bool,
+    store: &OrMapStore<A>,
+) -> Result<(), Refusal>
+    requires { form.is_plain store.now ≡ plain }
+    ensures ok { OnOk result (Appends (form.store plain) form.IsStore out.old.items out.new.items store.now) }
     ensures err { IsOkUnless result Refusal.OutOfMemory }
 {
-    let entries = store.iter();
+    if plain {
+        write_plain_store(out, store)
+    } else {
+        write_full_store(out, store)
+    }
+}
+
+fn write_plain_store<A: Allocator + Copy>(
+    out: &mut Vec<u8, A>,
+    store: &OrMapStore<A>,
+) -> Result<(), Refusal>
+    requires { form.is_plain store.now ≡ true }
+    ensures ok { OnOk result (Appends (form.store true) form.IsStore out.old.items out.new.items store.now) }
+    ensures err { IsOkUnless result Refusal.OutOfMemory }
+{
+    let entries = store.entries();
     write_number(out, entries.len() as u64)?;
-    for (key, values) in entries {
+    for (key, fields) in entries {
         write_text(out, key.bytes())?;
+        write_alone(out, fields)?;
+    }
+    Ok(())
+}
+
+// The values of the empty field, which is there alone.
+fn write_alone<A: Allocator + Copy>(out: &mut Vec<u8, A>, fields: &Fields<A>) -> Result<(), Refusal>
+    requires { form.is_sole fields.now ≡ true }
+    ensures ok { OnOk result (Appends form.sole form.AreSole out.old.items out.new.items fields.now) }
+    ensures err { IsOkUnless result Refusal.OutOfMemory }
+{
+    match values_alone(fields) {
+        Some(values) => write_values(out, values),
+        None => Ok(()),
+    }
+}
+
+fn write_full_store<A: Allocator + Copy>(
+    out: &mut Vec<u8, A>,
+    store: &OrMapStore<A>,
+) -> Result<(), Refusal>
+    ensures ok { OnOk result (Appends (form.store false) form.IsStore out.old.items out.new.items store.now) }
+    ensures err { IsOkUnless result Refusal.OutOfMemory }
+{
+    let entries = store.entries();
+    write_number(out, entries.len() as u64)?;
+    for (key, fields) in entries {
+        write_text(out, key.bytes())?;
+        write_fields(out, fields)?;
+    }
+    Ok(())
+}
+
+fn write_fields<A: Allocator + Copy>(
+    out: &mut Vec<u8, A>,
+    fields: &Fields<A>,
+) -> Result<(), Refusal>
+    ensures ok { OnOk result (Appends part.fields part.AreFields out.old.items out.new.items fields.now) }
+    ensures err { IsOkUnless result Refusal.OutOfMemory }
+{
+    let entries = fields.entries();
+    write_number(out, entries.len() as u64)?;
+    for (field, values) in entries {
+        write_text(out, field.bytes())?;
         write_values(out, values)?;
     }
     Ok(())
@@ -130,10 +189,10 @@ fn write_values<A: Allocator + Copy>(
     out: &mut Vec<u8, A>,
     values: &DotFun<Value<A>, A>,
 ) -> Result<(), Refusal>
-    ensures ok { OnOk result (Appends field.values field.AreValues out.old.items out.new.items values.now) }
+    ensures ok { OnOk result (Appends part.values part.AreValues out.old.items out.new.items values.now) }
     ensures err { IsOkUnless result Refusal.OutOfMemory }
 {
-    let entries = values.iter();
+    let entries = values.entries();
     write_number(out, entries.len() as u64)?;
     for (dot, value) in entries {
         write_dot(out, *dot)?;
@@ -144,7 +203,7 @@ fn write_values<A: Allocator + Copy>(
 
 fn write_text<A: Allocator + Copy>(out: &mut Vec<u8, A>, bytes: &[u8]) -> Result<(), Refusal>
     requires { length bytes.now ≤ MAX_LENGTH }
-    ensures ok { OnOk result (Appends field.text field.IsText out.old.items out.new.items bytes.now) }
+    ensures ok { OnOk result (Appends part.text part.IsText out.old.items out.new.items bytes.now) }
     ensures err { IsOkUnless result Refusal.OutOfMemory }
 {
     out.extend_from_slice(&(bytes.len() as u16).to_be_bytes())?;
@@ -153,7 +212,7 @@ fn write_text<A: Allocator + Copy>(out: &mut Vec<u8, A>, bytes: &[u8]) -> Result
 }
 
 fn write_dot<A: Allocator + Copy>(out: &mut Vec<u8, A>, dot: Dot) -> Result<(), Refusal>
-    ensures ok { OnOk result (Appends field.dot field.IsDot out.old.items out.new.items dot) }
+    ensures ok { OnOk result (Appends part.dot part.IsDot out.old.items out.new.items dot) }
     ensures err { IsOkUnless result Refusal.OutOfMemory }
 {
     write_name(out, dot.name())?;
@@ -161,7 +220,7 @@ fn write_dot<A: Allocator + Copy>(out: &mut Vec<u8, A>, dot: Dot) -> Result<(), 
 }
 
 fn write_name<A: Allocator + Copy>(out: &mut Vec<u8, A>, name: Name) -> Result<(), Refusal>
-    ensures ok { OnOk result (Appends number field.IsName out.old.items out.new.items name) }
+    ensures ok { OnOk result (Appends number part.IsName out.old.items out.new.items name) }
     ensures err { IsOkUnless result Refusal.OutOfMemory }
 {
     write_number(out, name.number())

@@ -1,16 +1,16 @@
-// Counted fields: how many, and then each.
+// Counted parts: how many, and then each.
 ghost use Rattle.std.specs.Prelude.{◌≡◌, List, length};
 ghost use Rattle.std.specs.List.{flat_map, AllByRecursion};
 ghost use Rattle.wire_form.specs.Spelling.{counted, AreCounted};
 ghost use Rattle.wire_form.specs.Reading.{Reads};
 
-use crate::field::Field;
+use crate::spelled::Spelled;
 use dots::Refusal;
 use std::alloc::Allocator;
 
 // The counted items at the front of the bytes, and the rest of them. The count is compared with the bytes that are left
 // before anything grows, as no item is without bytes.
-pub(crate) fn read_items<T: Field<A>, A: Allocator + Copy>(
+pub(crate) fn read_items<T: Spelled<A>, A: Allocator + Copy>(
     alloc: A,
     bytes: &[u8],
 ) -> Result<(Vec<T, A>, &[u8]), Refusal>
@@ -24,7 +24,7 @@ pub(crate) fn read_items<T: Field<A>, A: Allocator + Copy>(
 }
 
 // So many items, one after another.
-fn read_each<T: Field<A>, A: Allocator + Copy>(
+fn read_each<T: Spelled<A>, A: Allocator + Copy>(
     alloc: A,
     count: u64,
     bytes: &[u8],

@@ -5,13 +5,14 @@
 mod context;
 mod decoding;
 mod encoding;
-mod field;
+mod fields;
 mod items;
 mod laws;
 mod message;
 mod number;
-mod pair;
+mod plain;
 mod session;
+mod spelled;
 mod store;
 mod text;
 mod values;

@@ -1,14 +1,14 @@
-// Numbers, names and dots as fields.
+// Numbers, names and dots as parts.
 ghost use Rattle.std.specs.Prelude.{◌≡◌, ◌≤◌, ◌↔◌, IsSome, IfSome};
 ghost use Rattle.wire_form.specs.Spelling.{number, IsNumber};
-ghost use Rattle.wire_form.specs.Fields.{IsName, dot, IsDot};
+ghost use Rattle.wire_form.specs.Parts.{IsName, dot, IsDot};
 ghost use Rattle.wire_form.specs.Unique.{number_starts, number_unique, name_starts, name_unique, dot_starts, dot_unique};
 
-use crate::field::Field;
+use crate::spelled::Spelled;
 use dots::{Dot, Name, Refusal};
 use std::alloc::Allocator;
 
-impl<A: Allocator + Copy> Field<A> for u64 {
+impl<A: Allocator + Copy> Spelled<A> for u64 {
     ghost spell = { number };
 
     ghost fits = { IsNumber };
@@ -29,7 +29,7 @@ impl<A: Allocator + Copy> Field<A> for u64 {
     ghost unique = { number_unique };
 }
 
-impl<A: Allocator + Copy> Field<A> for Name {
+impl<A: Allocator + Copy> Spelled<A> for Name {
     ghost spell = { number };
 
     ghost fits = { IsName };
@@ -55,7 +55,7 @@ fn dot_of(name: u64, number: u64) -> Option<Dot>
     Dot::new(Name::new(name)?, number)
 }
 
-impl<A: Allocator + Copy> Field<A> for Dot {
+impl<A: Allocator + Copy> Spelled<A> for Dot {
     ghost spell = { dot };
 
     ghost fits = { IsDot };

@@ -2,7 +2,7 @@ ghost use Rattle.std.specs.Prelude.{◌≡◌, ◌≢◌, ◌≤◌, ◌↔◌, 
 ghost use Rattle.wire_form.specs.Session.{session, IsSession};
 ghost use Rattle.wire_form.specs.Reading.{Reads};
 
-use crate::field::Field;
+use crate::spelled::Spelled;
 use dots::{Name, Refusal};
 use std::alloc::Allocator;
 use std::marker::Model;

@@ -1,11 +1,11 @@
 // Worked vectors, byte for byte.
-ghost use Rattle.std.specs.Prelude.{◌<◌, ◌≤◌};
+ghost use Rattle.std.specs.Prelude.{◌<◌, ◌≤◌, length};
 
 use super::*;
-use crate::pair::Store;
 use causal_context::Context;
+use causal_join::OrMapStore;
 use dot_store::{DotFun, DotMap, DotStore};
-use dots::{Dot, Key, Name, Refusal, Value};
+use dots::{Dot, Field, Key, Name, Refusal, Value};
 use std::alloc::Global;
 use std::process::Abort;
 use std::test::Fail;
@@ -17,15 +17,46 @@ const ONE_VALUE: [u8; 72] = [
     0, 0, 0, 0, 0, 1, 0, 1, 0x78,
 ];
 
+// The delta of the first write of replica 1, which put x on the field f of the key a.
+const ONE_FIELD: [u8; 83] = [
+    3, 1, 0, 0, 0, 0, 0, 0, 0, 1, 0, 0, 0, 0, 0, 0, 0, 1, 0, 0, 0, 0, 0, 0, 0, 1, 0, 0, 0, 0, 0, 0,
+    0, 0, 0, 0, 0, 0, 0, 0, 0, 1, 0, 1, 0x61, 0, 0, 0, 0, 0, 0, 0, 1, 0, 1, 0x66, 0, 0, 0, 0, 0, 0,
+    0, 1, 0, 0, 0, 0, 0, 0, 0, 1, 0, 0, 0, 0, 0, 0, 0, 1, 0, 1, 0x78,
+];
+
+// A delta that knows a dot and holds nothing, as a removal.
+const REMOVED: [u8; 42] = [
+    1, 1, 0, 0, 0, 0, 0, 0, 0, 1, 0, 0, 0, 0, 0, 0, 0, 1, 0, 0, 0, 0, 0, 0, 0, 1, 0, 0, 0, 0, 0, 0,
+    0, 0, 0, 0, 0, 0, 0, 0, 0, 0,
+];
+
 // The delta that knows the last dot of replica 1 and holds nothing.
 const LAST_DOT: [u8; 42] = [
     1, 1, 0, 0, 0, 0, 0, 0, 0, 0, 0, 0, 0, 0, 0, 0, 0, 1, 0, 0, 0, 0, 0, 0, 0, 1, 255, 255, 255,
     255, 255, 255, 255, 255, 0, 0, 0, 0, 0, 0, 0, 0,
 ];
 
+// The hello of asker 1, answerer 2 and number 1, where the asker knows the dot 1:1.
+const HELLO: [u8; 58] = [
+    3, 3, 0, 0, 0, 0, 0, 0, 0, 1, 0, 0, 0, 0, 0, 0, 0, 2, 0, 0, 0, 0, 0, 0, 0, 1, 0, 0, 0, 0, 0, 0,
+    0, 1, 0, 0, 0, 0, 0, 0, 0, 1, 0, 0, 0, 0, 0, 0, 0, 1, 0, 0, 0, 0, 0, 0, 0, 0,
+];
+
+// The hello of the same session, where the asker knows no dot.
+const FIRST_HELLO: [u8; 42] = [
+    3, 3, 0, 0, 0, 0, 0, 0, 0, 1, 0, 0, 0, 0, 0, 0, 0, 2, 0, 0, 0, 0, 0, 0, 0, 1, 0, 0, 0, 0, 0, 0,
+    0, 0, 0, 0, 0, 0, 0, 0, 0, 0,
+];
+
 fn dot(rt: &impl Abort, of: u64, number: u64) -> Dot {
     let name = Name::new(of).expect(rt, "a name");
     Dot::new(name, number).expect(rt, "a number")
+}
+
+fn session(rt: &impl Abort, asker: u64, answerer: u64, number: u64) -> Session {
+    let asker = Name::new(asker).expect(rt, "a name");
+    let answerer = Name::new(answerer).expect(rt, "a name");
+    Session::new(asker, answerer, number).expect(rt, "a number")
 }
 
 fn is_message(alloc: Global, bytes: &[u8]) -> Result<bool, Refusal> {
@@ -36,90 +67,225 @@ fn is_message(alloc: Global, bytes: &[u8]) -> Result<bool, Refusal> {
     }
 }
 
-// The bytes of the message that the bytes spell.
-fn again(alloc: Global, bytes: &[u8]) -> Result<Vec<u8>, Refusal> {
+// Whether the bytes are decoded, and the message that they spell is encoded as these bytes.
+fn is_encoded_again(alloc: Global, bytes: &[u8]) -> Result<bool, Refusal> {
     let message = decode(alloc, bytes)?;
-    encode(alloc, &message)
+    let again = encode(alloc, &message)?;
+    Ok(again.as_slice() == bytes)
 }
 
-// The delta of one value with another byte at this place.
-fn changed(alloc: Global, at: usize, byte: u8) -> Result<Vec<u8>, Refusal>
-    requires { at < 72 }
+// Whether each beginning of the bytes is no message, and they are none with a byte behind them.
+fn is_whole_alone(alloc: Global, bytes: &[u8]) -> Result<bool, Refusal> {
+    for length in 0..bytes.len() {
+        if is_message(alloc, &bytes[..length])? {
+            return Ok(false);
+        }
+    }
+    let mut longer = Vec::from_slice(alloc, bytes)?;
+    longer.push(0)?;
+    Ok(!is_message(alloc, &longer)?)
+}
+
+// The bytes with another one at this place.
+fn changed(alloc: Global, bytes: &[u8], at: usize, byte: u8) -> Result<Vec<u8>, Refusal>
+    requires { at < length bytes.now }
 {
-    let mut bytes = Vec::from_slice(alloc, &ONE_VALUE[..at])?;
-    bytes.push(byte)?;
-    bytes.extend_from_slice(&ONE_VALUE[at + 1..])?;
-    Ok(bytes)
+    let mut changed = Vec::from_slice(alloc, &bytes[..at])?;
+    changed.push(byte)?;
+    changed.extend_from_slice(&bytes[at + 1..])?;
+    Ok(changed)
 }
 
-// The store with x on the key a under the first dot of replica 1.
-fn one_value(rt: &impl Abort, alloc: Global) -> Result<Store, Refusal> {
+// The store with x at this field of the key a, under the first dot of replica 1.
+fn one_value(rt: &impl Abort, alloc: Global, field: &[u8]) -> Result<OrMapStore, Refusal> {
     let mut values = DotFun::empty(alloc);
     values.insert(dot(rt, 1, 1), Value::new(alloc, b"x")?)?;
+    let mut fields = DotMap::empty(alloc);
+    fields.insert(Field::new(alloc, field)?, values)?;
     let mut store = DotMap::empty(alloc);
-    store.insert(Key::new(alloc, b"a")?, values)?;
+    store.insert(Key::new(alloc, b"a")?, fields)?;
     Ok(store)
+}
+
+fn first_dot(rt: &impl Abort, alloc: Global) -> Result<Context, Refusal> {
+    let mut context = Context::new(alloc);
+    context.add(dot(rt, 1, 1))?;
+    Ok(context)
 }
 
 #[test]
 fn the_delta_of_one_value_has_these_bytes(rt: HostRuntime) -> Result<(), Fail> {
     let alloc = rt.alloc();
-    let mut context = Context::new(alloc);
-    context.add(dot(&rt, 1, 1))?;
-    let message = Message::delta(one_value(&rt, alloc)?, context).ok_or("inside")?;
+    let store = one_value(&rt, alloc, b"")?;
+    let message = Message::delta(store, first_dot(&rt, alloc)?).ok_or("inside")?;
     assert_eq!(rt; encode(alloc, &message)?.as_slice(), ONE_VALUE.as_slice());
-    assert_eq!(rt; again(alloc, &ONE_VALUE)?.as_slice(), ONE_VALUE.as_slice());
     Ok(())
 }
 
 #[test]
-fn a_value_outside_the_context_makes_no_message(rt: HostRuntime) -> Result<(), Fail> {
+fn the_delta_of_one_field_has_these_bytes(rt: HostRuntime) -> Result<(), Fail> {
     let alloc = rt.alloc();
-    let store = one_value(&rt, alloc)?;
-    assert!(rt; Message::delta(store, Context::new(alloc)).is_none());
+    let store = one_value(&rt, alloc, b"f")?;
+    let message = Message::delta(store, first_dot(&rt, alloc)?).ok_or("inside")?;
+    assert!(rt; message.session().is_none());
+    assert_eq!(rt; encode(alloc, &message)?.as_slice(), ONE_FIELD.as_slice());
     Ok(())
 }
 
 #[test]
-fn a_part_of_a_message_is_no_message(rt: HostRuntime) -> Result<(), Fail> {
-    for length in 0..72 {
+fn the_hello_of_a_session_has_these_bytes(rt: HostRuntime) -> Result<(), Fail> {
+    let alloc = rt.alloc();
+    let asked = session(&rt, 1, 2, 1);
+    let message = Message::hello(asked, first_dot(&rt, alloc)?);
+    assert!(rt; message.session() == Some(asked));
+    assert_eq!(rt; encode(alloc, &message)?.as_slice(), HELLO.as_slice());
+    Ok(())
+}
+
+#[test]
+fn what_is_decoded_is_encoded_again(rt: HostRuntime) -> Result<(), Fail> {
+    let alloc = rt.alloc();
+    assert!(rt; is_encoded_again(alloc, &ONE_VALUE)?);
+    assert!(rt; is_encoded_again(alloc, &ONE_FIELD)?);
+    assert!(rt; is_encoded_again(alloc, &REMOVED)?);
+    assert!(rt; is_encoded_again(alloc, &LAST_DOT)?);
+    assert!(rt; is_encoded_again(alloc, &HELLO)?);
+    assert!(rt; is_encoded_again(alloc, &FIRST_HELLO)?);
+    Ok(())
+}
+
+#[test]
+fn a_part_of_a_message_or_a_longer_one_is_none(rt: HostRuntime) -> Result<(), Fail> {
+    let alloc = rt.alloc();
+    assert!(rt; is_whole_alone(alloc, &ONE_VALUE)?);
+    assert!(rt; is_whole_alone(alloc, &ONE_FIELD)?);
+    assert!(rt; is_whole_alone(alloc, &HELLO)?);
+    Ok(())
+}
+
+#[test]
+fn a_dot_outside_the_context_makes_no_message(rt: HostRuntime) -> Result<(), Fail> {
+    let alloc = rt.alloc();
+    let store = one_value(&rt, alloc, b"")?;
+    assert!(rt; Message::delta(store, Context::new(alloc)).is_none());
+    assert!(rt; !is_message(alloc, &changed(alloc, &ONE_VALUE, 68, 2)?)?);
+    assert!(rt; is_message(alloc, &changed(alloc, &ONE_VALUE, 71, 2)?)?);
+    Ok(())
+}
+
+// Whether these bytes behind this version and this kind are a message.
+fn is_of(alloc: Global, version: u8, kind: u8, body: &[u8]) -> Result<bool, Refusal> {
+    let mut bytes = Vec::from_slice(alloc, &[version, kind])?;
+    bytes.extend_from_slice(body)?;
+    is_message(alloc, &bytes)
+}
+
+#[test]
+fn no_other_version_is_a_message(rt: HostRuntime) -> Result<(), Fail> {
+    let alloc = rt.alloc();
+    for version in [0, 2, 4, 255] {
         assert!(rt;
-            !is_message(rt.alloc(), &ONE_VALUE[..length])?,
-            "at {length}"
+            !is_of(alloc, version, 1, &ONE_VALUE[2..])?,
+            "version {version}"
+        );
+        assert!(rt;
+            !is_of(alloc, version, 1, &ONE_FIELD[2..])?,
+            "version {version}"
+        );
+        assert!(rt;
+            !is_of(alloc, version, 3, &HELLO[2..])?,
+            "version {version}"
         );
     }
-    assert!(rt; is_message(rt.alloc(), &ONE_VALUE)?);
     Ok(())
 }
 
 #[test]
-fn a_message_with_a_byte_behind_it_is_none(rt: HostRuntime) -> Result<(), Fail> {
+fn no_other_kind_is_a_message(rt: HostRuntime) -> Result<(), Fail> {
     let alloc = rt.alloc();
-    let mut longer = Vec::from_slice(alloc, &ONE_VALUE)?;
-    longer.push(0)?;
-    assert!(rt; !is_message(alloc, &longer)?);
+    for kind in [0, 2, 4, 5, 6, 7, 255] {
+        assert!(rt; !is_of(alloc, 1, kind, &ONE_VALUE[2..])?, "kind {kind}");
+        assert!(rt; !is_of(alloc, 3, kind, &HELLO[2..])?, "kind {kind}");
+        assert!(rt; !is_of(alloc, 3, kind, &[])?, "kind {kind}");
+    }
     Ok(())
 }
 
 #[test]
-fn another_version_or_a_dot_outside_is_no_message(rt: HostRuntime) -> Result<(), Fail> {
+fn a_hello_without_a_context_is_no_message(rt: HostRuntime) -> Result<(), Fail> {
     let alloc = rt.alloc();
-    assert!(rt; !is_message(alloc, &changed(alloc, 0, 2)?)?);
-    assert!(rt; !is_message(alloc, &changed(alloc, 68, 2)?)?);
-    assert!(rt; is_message(alloc, &changed(alloc, 71, 2)?)?);
+    assert!(rt; !is_of(alloc, 1, 3, &HELLO[2..26])?);
+    assert!(rt; !is_of(alloc, 3, 3, &HELLO[2..26])?);
+    assert!(rt; !is_of(alloc, 1, 3, &HELLO[2..])?);
+    Ok(())
+}
+
+// The empty field in the place of f.
+fn with_empty_field(alloc: Global, version: u8) -> Result<bool, Refusal> {
+    let mut body = Vec::from_slice(alloc, &ONE_FIELD[2..53])?;
+    body.extend_from_slice(&[0, 0])?;
+    body.extend_from_slice(&ONE_FIELD[56..])?;
+    is_of(alloc, version, 1, &body)
+}
+
+#[test]
+fn a_delta_is_spelled_in_one_version(rt: HostRuntime) -> Result<(), Fail> {
+    let alloc = rt.alloc();
+    assert!(rt; !is_of(alloc, 1, 1, &ONE_FIELD[2..])?);
+    assert!(rt; !is_of(alloc, 3, 1, &ONE_VALUE[2..])?);
+    assert!(rt; !is_of(alloc, 3, 1, &REMOVED[2..])?);
+    assert!(rt; !with_empty_field(alloc, 3)?);
+    assert!(rt; !with_empty_field(alloc, 1)?);
+    Ok(())
+}
+
+// Whether the delta of one field is a message with these two fields at the key, each with the same dot and value.
+fn has_fields(alloc: Global, first: u8, second: u8) -> Result<bool, Refusal> {
+    let mut bytes = Vec::from_slice(alloc, &ONE_FIELD[..52])?;
+    bytes.extend_from_slice(&[2, 0, 1, first])?;
+    bytes.extend_from_slice(&ONE_FIELD[56..])?;
+    bytes.extend_from_slice(&[0, 1, second])?;
+    bytes.extend_from_slice(&ONE_FIELD[56..])?;
+    is_message(alloc, &bytes)
+}
+
+#[test]
+fn fields_ascend_and_each_is_there_once(rt: HostRuntime) -> Result<(), Fail> {
+    let alloc = rt.alloc();
+    assert!(rt; has_fields(alloc, 0x66, 0x67)?);
+    assert!(rt; !has_fields(alloc, 0x67, 0x66)?);
+    assert!(rt; !has_fields(alloc, 0x66, 0x66)?);
+    Ok(())
+}
+
+// The delta of one field with these eight bytes in the place of those from here on, and nothing behind.
+fn is_cut_with(alloc: Global, at: usize, count: [u8; 8]) -> Result<bool, Refusal>
+    requires { at ≤ 83 }
+{
+    let mut bytes = Vec::from_slice(alloc, &ONE_FIELD[..at])?;
+    bytes.extend_from_slice(&count)?;
+    is_message(alloc, &bytes)
+}
+
+#[test]
+fn a_key_without_a_field_and_a_field_without_a_value_make_no_message(
+    rt: HostRuntime,
+) -> Result<(), Fail> {
+    let alloc = rt.alloc();
+    assert!(rt; !is_cut_with(alloc, 45, [0; 8])?);
+    assert!(rt; !is_cut_with(alloc, 56, [0; 8])?);
     Ok(())
 }
 
 #[test]
-fn the_last_dot_of_a_name_stands_in_the_cloud(rt: HostRuntime) -> Result<(), Fail> {
+fn a_count_of_more_than_there_is_makes_no_message(rt: HostRuntime) -> Result<(), Fail> {
     let alloc = rt.alloc();
-    let Message::Delta(delta) = decode(alloc, &LAST_DOT)? else {
-        return Err("a delta".into());
-    };
-    assert!(rt; delta.store().is_empty());
-    assert_eq!(rt; delta.context().vector().len(), 0);
-    assert_eq!(rt; delta.context().cloud().len(), 1);
-    assert!(rt; delta.context().contains(dot(&rt, 1, u64::MAX)));
+    for at in [2, 26, 34, 45, 56] {
+        assert!(rt; !is_cut_with(alloc, at, [255; 8])?, "at {at}");
+    }
+    bytes_spell_one_message();
+    a_message_has_one_spelling();
+    bytes_spell_one_delta();
     Ok(())
 }
 
@@ -127,12 +293,8 @@ fn the_last_dot_of_a_name_stands_in_the_cloud(rt: HostRuntime) -> Result<(), Fai
 fn differs(alloc: Global, at: usize, byte: u8) -> Result<bool, Refusal>
     requires { at < 72 }
 {
-    let bytes = changed(alloc, at, byte)?;
-    if !is_message(alloc, &bytes)? {
-        return Ok(true);
-    }
-    let same = again(alloc, &bytes)?;
-    Ok(same.as_slice() == bytes.as_slice() && same.as_slice() != ONE_VALUE.as_slice())
+    let bytes = changed(alloc, &ONE_VALUE, at, byte)?;
+    Ok(!is_message(alloc, &bytes)? || is_encoded_again(alloc, &bytes)?)
 }
 
 #[test]
@@ -146,35 +308,16 @@ fn a_change_of_one_bit_makes_another_message_or_none(rt: HostRuntime) -> Result<
     Ok(())
 }
 
-// The delta of one value with the greatest number in the place of the eight bytes from here on, and nothing behind.
-fn counts_too_many(alloc: Global, at: usize) -> Result<bool, Refusal>
-    requires { at ≤ 72 }
-{
-    let mut bytes = Vec::from_slice(alloc, &ONE_VALUE[..at])?;
-    bytes.extend_from_slice(&[255; 8])?;
-    Ok(!is_message(alloc, &bytes)?)
-}
-
 #[test]
-fn a_count_of_more_than_there_is_makes_no_message(rt: HostRuntime) -> Result<(), Fail> {
+fn the_last_dot_of_a_name_stands_in_the_cloud(rt: HostRuntime) -> Result<(), Fail> {
     let alloc = rt.alloc();
-    assert!(rt; counts_too_many(alloc, 2)? && counts_too_many(alloc, 26)?);
-    assert!(rt; counts_too_many(alloc, 34)? && counts_too_many(alloc, 45)?);
-    bytes_spell_one_message();
-    a_message_has_one_spelling();
-    bytes_spell_one_delta();
+    let Message::Delta(delta) = decode(alloc, &LAST_DOT)? else {
+        return Err("a delta".into());
+    };
+    assert!(rt; delta.store().is_empty());
+    assert_eq!(rt; delta.context().vector().len(), 0);
+    assert_eq!(rt; delta.context().cloud().len(), 1);
     Ok(())
-}
-
-// The hello of asker 1, answerer 2 and number 1.
-const HELLO: [u8; 26] = [
-    1, 3, 0, 0, 0, 0, 0, 0, 0, 1, 0, 0, 0, 0, 0, 0, 0, 2, 0, 0, 0, 0, 0, 0, 0, 1,
-];
-
-fn session(rt: &impl Abort, asker: u64, answerer: u64, number: u64) -> Session {
-    let asker = Name::new(asker).expect(rt, "a name");
-    let answerer = Name::new(answerer).expect(rt, "a name");
-    Session::new(asker, answerer, number).expect(rt, "a number")
 }
 
 #[test]
@@ -197,118 +340,11 @@ fn sessions_are_ordered_by_asker_then_answerer_then_number(rt: HostRuntime) -> R
 }
 
 #[test]
-fn the_hello_of_a_session_has_these_bytes(rt: HostRuntime) -> Result<(), Fail> {
-    let alloc = rt.alloc();
-    let asked = session(&rt, 1, 2, 1);
-    let message: Message = Message::hello(asked);
-    assert!(rt; message.session() == Some(asked));
-    assert_eq!(rt; encode(alloc, &message)?.as_slice(), HELLO.as_slice());
-    assert_eq!(rt; again(alloc, &HELLO)?.as_slice(), HELLO.as_slice());
-    assert!(rt; decode(alloc, &HELLO)?.session() == Some(asked));
-    Ok(())
-}
-
-#[test]
-fn a_part_of_a_hello_or_a_longer_one_is_no_message(rt: HostRuntime) -> Result<(), Fail> {
-    let alloc = rt.alloc();
-    for length in 0..26 {
-        assert!(rt; !is_message(alloc, &HELLO[..length])?, "at {length}");
-    }
-    let mut longer = Vec::from_slice(alloc, &HELLO)?;
-    longer.push(0)?;
-    assert!(rt; !is_message(alloc, &longer)?);
-    Ok(())
-}
-
-// Whether the hello with a 0 in the place of this byte is a message.
-fn is_hello_without(alloc: Global, at: usize) -> Result<bool, Refusal>
-    requires { at < 26 }
-{
-    let mut bytes = Vec::from_slice(alloc, &HELLO[..at])?;
-    bytes.push(0)?;
-    bytes.extend_from_slice(&HELLO[at + 1..])?;
-    is_message(alloc, &bytes)
-}
-
-#[test]
 fn a_hello_with_a_number_zero_is_no_message(rt: HostRuntime) -> Result<(), Fail> {
     let alloc = rt.alloc();
-    assert!(rt; !is_hello_without(alloc, 9)?);
-    assert!(rt; !is_hello_without(alloc, 17)?);
-    assert!(rt; !is_hello_without(alloc, 25)?);
-    assert!(rt; is_hello_without(alloc, 24)?);
-    Ok(())
-}
-
-// The delta of one value behind the session of asker 1, answerer 2 and number 1, with another byte at this place of the
-// delta: a state.
-fn state_changed(alloc: Global, at: usize, byte: u8) -> Result<Vec<u8>, Refusal>
-    requires { (2 ≤ at) × (at < 72) }
-{
-    let mut bytes = Vec::from_slice(alloc, &[1, 2])?;
-    bytes.extend_from_slice(&HELLO[2..])?;
-    bytes.extend_from_slice(&ONE_VALUE[2..at])?;
-    bytes.push(byte)?;
-    bytes.extend_from_slice(&ONE_VALUE[at + 1..])?;
-    Ok(bytes)
-}
-
-#[test]
-fn the_state_of_one_value_is_a_session_and_the_body_of_its_delta(
-    rt: HostRuntime,
-) -> Result<(), Fail> {
-    let alloc = rt.alloc();
-    let expected = state_changed(alloc, 71, 0x78)?;
-    assert_eq!(rt; expected.len(), 96);
-    let mut context = Context::new(alloc);
-    context.add(dot(&rt, 1, 1))?;
-    let asked = session(&rt, 1, 2, 1);
-    let message = Message::state(asked, one_value(&rt, alloc)?, context).ok_or("inside")?;
-    assert!(rt; message.session() == Some(asked));
-    assert_eq!(rt; encode(alloc, &message)?.as_slice(), expected.as_slice());
-    assert_eq!(rt; again(alloc, &expected)?.as_slice(), expected.as_slice());
-    Ok(())
-}
-
-#[test]
-fn a_state_with_a_dot_outside_its_context_is_no_message(rt: HostRuntime) -> Result<(), Fail> {
-    let alloc = rt.alloc();
-    assert!(rt; !is_message(alloc, &state_changed(alloc, 68, 2)?)?);
-    assert!(rt; is_message(alloc, &state_changed(alloc, 71, 2)?)?);
-    let store = one_value(&rt, alloc)?;
-    let asked = session(&rt, 1, 2, 1);
-    assert!(rt; Message::state(asked, store, Context::new(alloc)).is_none());
-    Ok(())
-}
-
-#[test]
-fn a_part_of_a_state_or_a_longer_one_is_no_message(rt: HostRuntime) -> Result<(), Fail> {
-    let alloc = rt.alloc();
-    let mut state = state_changed(alloc, 71, 0x78)?;
-    for length in 0..state.len() {
-        assert!(rt; !is_message(alloc, &state[..length])?, "at {length}");
-    }
-    state.push(0)?;
-    assert!(rt; !is_message(alloc, &state)?);
-    Ok(())
-}
-
-// Whether these bytes behind the version and this kind are a message.
-fn is_of_kind(alloc: Global, kind: u8, body: &[u8]) -> Result<bool, Refusal> {
-    let mut bytes = Vec::from_slice(alloc, &[1, kind])?;
-    bytes.extend_from_slice(body)?;
-    is_message(alloc, &bytes)
-}
-
-#[test]
-fn no_other_kind_is_a_message(rt: HostRuntime) -> Result<(), Fail> {
-    let alloc = rt.alloc();
-    for kind in [0, 4, 5, 6, 7, 255] {
-        assert!(rt; !is_of_kind(alloc, kind, &HELLO[2..])?, "kind {kind}");
-        assert!(rt; !is_of_kind(alloc, kind, &ONE_VALUE[2..])?, "kind {kind}");
-        assert!(rt; !is_of_kind(alloc, kind, &[])?, "kind {kind}");
-    }
-    assert!(rt; is_of_kind(alloc, 3, &HELLO[2..])? && is_of_kind(alloc, 1, &ONE_VALUE[2..])?);
-    assert!(rt; !is_of_kind(alloc, 1, &HELLO[2..])?);
+    assert!(rt; !is_message(alloc, &changed(alloc, &HELLO, 9, 0)?)?);
+    assert!(rt; !is_message(alloc, &changed(alloc, &HELLO, 17, 0)?)?);
+    assert!(rt; !is_message(alloc, &changed(alloc, &HELLO, 25, 0)?)?);
+    assert!(rt; is_message(alloc, &changed(alloc, &HELLO, 24, 0)?)?);
     Ok(())
 }

@@ -1,11 +1,11 @@
-// Keys and values as fields: texts.
+// Keys, fields and values as parts of messages: texts.
 ghost use Rattle.std.specs.Prelude.{◌≡◌, ◌≤◌, length};
-ghost use Rattle.wire_form.specs.Fields.{text, IsText};
+ghost use Rattle.wire_form.specs.Parts.{text, IsText};
 ghost use Rattle.wire_form.specs.Reading.{Reads};
 ghost use Rattle.wire_form.specs.Unique.{text_starts, text_unique};
 
-use crate::field::Field;
-use dots::{Key, Refusal, Value};
+use crate::spelled::Spelled;
+use dots::{Refusal, Text};
 use std::alloc::Allocator;
 
 // The text at the front of the bytes, and the rest of them.
@@ -24,31 +24,15 @@ fn text_at(bytes: &[u8]) -> Result<(&[u8], &[u8]), Refusal>
     Ok((text, end))
 }
 
-impl<A: Allocator + Copy> Field<A> for Key<A> {
+impl<K, A: Allocator + Copy> Spelled<A> for Text<K, A> {
     ghost spell = { text };
 
     ghost fits = { IsText };
 
-    fn read(alloc: A, bytes: &[u8]) -> Result<(Key<A>, &[u8]), Refusal> {
+    fn read(alloc: A, bytes: &[u8]) -> Result<(Text<K, A>, &[u8]), Refusal> {
         let (text, rest) = text_at(bytes)?;
-        let key = Key::new(alloc, text)?;
-        Ok((key, rest))
-    }
-
-    ghost starts = { text_starts };
-
-    ghost unique = { text_unique };
-}
-
-impl<A: Allocator + Copy> Field<A> for Value<A> {
-    ghost spell = { text };
-
-    ghost fits = { IsText };
-
-    fn read(alloc: A, bytes: &[u8]) -> Result<(Value<A>, &[u8]), Refusal> {
-        let (text, rest) = text_at(bytes)?;
-        let value = Value::new(alloc, text)?;
-        Ok((value, rest))
+        let text = Text::new(alloc, text)?;
+        Ok((text, rest))
     }
 
     ghost starts = { text_starts };

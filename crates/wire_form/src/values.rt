@@ -1,21 +1,21 @@
-// The values of a key as a field.
-ghost use Rattle.wire_form.specs.Fields.{values, AreValues};
+// The values of a field as a part of a message.
+ghost use Rattle.wire_form.specs.Parts.{values, AreValues};
 ghost use Rattle.wire_form.specs.Unique.{values_starts, values_unique};
 
-use crate::field::Field;
 use crate::items::read_items;
+use crate::spelled::Spelled;
 use dot_store::DotFun;
 use dots::{Dot, Refusal, Value};
 use std::alloc::Allocator;
 
-impl<A: Allocator + Copy> Field<A> for DotFun<Value<A>, A> {
+impl<A: Allocator + Copy> Spelled<A> for DotFun<Value<A>, A> {
     ghost spell = { values };
 
     ghost fits = { AreValues };
 
     fn read(alloc: A, bytes: &[u8]) -> Result<(DotFun<Value<A>, A>, &[u8]), Refusal> {
         let (entries, rest) = read_items::<(Dot, Value<A>), A>(alloc, bytes)?;
-        match DotFun::from_entries(alloc, entries)? {
+        match DotFun::from_entries(entries) {
             Some(values) => Ok((values, rest)),
             None => Err(Refusal::NotAMessage),
         }

@@ -1,5 +1,5 @@
 use Rattle.std.proofs.Common.{◌++◌, length, ap, ◌∙◌}
-use Rattle.wire_form.specs.Fields.{text}
+use Rattle.wire_form.specs.Parts.{text}
 use Rattle.prefix_digest.proofs.Taken.{takes_both, takes_same, two_bytes}
 use Rattle.prefix_digest.proofs.feeding.feed_text.Goals as goal
 

@@ -1,10 +1,9 @@
-use Rattle.std.proofs.Common.{◌++◌, length, map}
+use Rattle.std.proofs.Common.{◌++◌, length, take}
 use Rattle.std.specs.List.{flat_map}
-use Rattle.std.specs.Map.Iter.{deref_pair}
 use Rattle.wire_form.specs.Spelling.{number, pair}
-use Rattle.wire_form.specs.Fields.{dot, text}
+use Rattle.wire_form.specs.Parts.{dot, text}
 use Rattle.prefix_digest.specs.Taking.{Takes}
 use Rattle.prefix_digest.proofs.feeding.feed_values.Given as goal
 
 abbrev pub invariant-loop-dot : goal.invariant-loop-dot
-invariant-loop-dot g l = Takes l.fn.hasher l.hasher (number (length l.values) ++ flat_map (pair dot text) (map deref_pair l.yielded))
+invariant-loop-dot g l = Takes l.fn.hasher l.hasher (number (length l.entries) ++ flat_map (pair dot text) (take l.dot-index l.entries))

@@ -1,7 +1,7 @@
 use Rattle.std.proofs.Common.{refl}
 use Rattle.std.proofs.lemmas.Result.{err_from_is_err_and}
 use Rattle.wire_form.specs.Spelling.{counted, AreCounted, HasNone}
-use Rattle.wire_form.specs.Fields.{dot, IsDot, context, IsContext}
+use Rattle.wire_form.specs.Parts.{dot, IsDot, context, IsContext}
 use Rattle.wire_form.proofs.Reading.{refuses_weaker}
 use Rattle.wire_form.proofs.Bodies.{no_cloud, context_begins, no_context}
 use Rattle.wire_form.proofs.context.read_context.Goals as goal

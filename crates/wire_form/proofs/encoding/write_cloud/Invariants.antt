@@ -1,6 +1,6 @@
 use Rattle.std.proofs.Common.{map, length}
 use Rattle.std.specs.Map.Iter.{deref}
-use Rattle.wire_form.specs.Fields.{dot, IsDot}
+use Rattle.wire_form.specs.Parts.{dot, IsDot}
 use Rattle.wire_form.proofs.Writes.{WritesSo}
 use Rattle.wire_form.proofs.encoding.write_cloud.Given as goal
 

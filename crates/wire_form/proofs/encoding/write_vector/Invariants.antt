@@ -1,6 +1,6 @@
 use Rattle.std.proofs.Common.{map, length}
 use Rattle.std.specs.Map.Iter.{deref_pair}
-use Rattle.wire_form.specs.Fields.{entry, IsEntry}
+use Rattle.wire_form.specs.Parts.{entry, IsEntry}
 use Rattle.wire_form.proofs.Writes.{WritesSo}
 use Rattle.wire_form.proofs.encoding.write_vector.Given as goal
 

@@ -6,12 +6,12 @@ use Rattle.wire_form.proofs.items.read_items.Goals as goal
 
 pub returns-then-count-rest : goal.returns-then-count-rest
 returns-then-count-rest g c =
-    too_many g.T.Field.spell g.T.Field.fits g.met.T.Field.starts c.args.bytes.now c.in_ok-count.count c.in_ok-count.rest.now c.in_ok-count.ensures c.if-count-rest.true
+    too_many g.T.Spelled.spell g.T.Spelled.fits g.met.T.Spelled.starts c.args.bytes.now c.in_ok-count.count c.in_ok-count.rest.now c.in_ok-count.ensures c.if-count-rest.true
 
 pub returns : goal.returns
 returns g c =
-    let spell = g.T.Field.spell in
-    let fits = g.T.Field.fits in
+    let spell = g.T.Spelled.spell in
+    let fits = g.T.Spelled.fits in
     let bytes = c.args.bytes.now in
     let count = c.in_ok-count.count in
     let rest = c.in_ok-count.rest.now in

@@ -1,4 +1,0 @@
-pub mod Sound
-pub mod Sessions
-pub mod Deltas
-pub mod Steps

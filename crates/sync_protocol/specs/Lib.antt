@@ -1,4 +1,0 @@
-pub mod Pair
-pub mod Asker
-pub mod Answerer
-pub mod Laws

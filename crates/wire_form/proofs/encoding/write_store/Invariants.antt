@@ -1,9 +1,0 @@
-use Rattle.std.proofs.Common.{map, length}
-use Rattle.std.specs.Map.Iter.{deref_pair}
-use Rattle.wire_form.specs.Spelling.{pair, IsPair}
-use Rattle.wire_form.specs.Fields.{text, IsText, values, AreValues}
-use Rattle.wire_form.proofs.Writes.{WritesSo}
-use Rattle.wire_form.proofs.encoding.write_store.Given as goal
-
-abbrev pub invariant-loop-key : goal.invariant-loop-key
-invariant-loop-key g l = WritesSo (pair text values) (IsPair IsText AreValues) l.fn.out.items l.out.items (length l.store) (map deref_pair l.yielded)

@@ -1,0 +1,30 @@
+// The fields of a key as a part of a message.
+ghost use Rattle.wire_form.specs.Parts.{fields, AreFields};
+ghost use Rattle.wire_form.specs.Unique.{fields_starts, fields_unique};
+
+use crate::items::read_items;
+use crate::spelled::Spelled;
+use dot_store::{DotFun, DotMap};
+use dots::{Field, Refusal, Value};
+use std::alloc::{Allocator, Global};
+
+// The fields of a key, each with the values that stand there.
+pub(crate) type Fields<A = Global> = DotMap<Field<A>, DotFun<Value<A>, A>, A>;
+
+impl<A: Allocator + Copy> Spelled<A> for DotMap<Field<A>, DotFun<Value<A>, A>, A> {
+    ghost spell = { fields };
+
+    ghost fits = { AreFields };
+
+    fn read(alloc: A, bytes: &[u8]) -> Result<(Fields<A>, &[u8]), Refusal> {
+        let (entries, rest) = read_items::<(Field<A>, DotFun<Value<A>, A>), A>(alloc, bytes)?;
+        match DotMap::from_entries(entries) {
+            Some(fields) => Ok((fields, rest)),
+            None => Err(Refusal::NotAMessage),
+        }
+    }
+
+    ghost starts = { fields_starts };
+
+    ghost unique = { fields_unique };
+}
