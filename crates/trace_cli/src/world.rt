@@ -15,7 +15,8 @@ ghost use Rattle.op_model.specs.Made.{dot_at, removed_at, field_removed_at, clea
 ghost use Rattle.op_model.specs.Shown.{values, values_of_key, fields, keys};
 ghost use Rattle.op_model.specs.Operation.{Operation, known, has as is_among};
 ghost use Rattle.trace_cli.specs.Keeps.{Carries};
-ghost use Rattle.wire_form.specs.Message.{DeltaValue, message_of, Delta};
+ghost use Rattle.causal_join.specs.OrMap.{OrMapValue};
+ghost use Rattle.wire_form.specs.Message.{message_of, Delta};
 ghost use Rattle.trace_cli.specs.Outcome.{sent_number};
 
 use crate::event::Event;
@@ -349,7 +350,7 @@ fn delta_of<A: Allocator + Copy>(alloc: A, message: &[u8]) -> Result<OrMap<A>, R
 /// The delta of the message, or None for a message of another kind.
 fn carried_by<A: Allocator + Copy>(message: Message<A>) -> Option<OrMap<A>>
     ensures delta { IfSome result (λ delta. message_of message ≡ Delta delta) }
-    ensures other { IfNone result ((delta : DeltaValue) → message_of message ≢ Delta delta) }
+    ensures other { IfNone result ((delta : OrMapValue) → message_of message ≢ Delta delta) }
 {
     match message {
         Message::Delta(delta) => Some(delta),
