@@ -4,6 +4,7 @@ pub mod RunLemmas
 pub mod WordLemmas
 pub mod CommandLemmas
 pub mod MachineLemmas
+pub mod Answering
 pub mod PairLemmas
 pub mod ReplicaMaps
 pub mod Keeping

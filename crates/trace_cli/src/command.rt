@@ -183,7 +183,11 @@ fn with_four_words<A: Allocator + Copy>(
     Ok(None)
 }
 
-fn get_plain<A: Allocator>(alloc: A, name: Option<Name>, key: Option<Vec<u8, A>>) -> Option<Command<A>>
+fn get_plain<A: Allocator>(
+    alloc: A,
+    name: Option<Name>,
+    key: Option<Vec<u8, A>>,
+) -> Option<Command<A>>
     ensures { option_map command_value result ≡
         with_text (λ name key. Get name key []) name (option_map (λ bytes. bytes.items) key) }
 {

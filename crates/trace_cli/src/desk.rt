@@ -202,12 +202,7 @@ impl<A: Allocator + Copy> Desk<A> {
     }
 
     #[tactic(auto, using(crate::proofs::Pinning::grows_same, crate::proofs::Pinning::grows_by))]
-    fn remove_field(
-        &mut self,
-        name: Name,
-        key: &[u8],
-        field: &[u8],
-    ) -> Result<Vec<u8, A>, Refusal>
+    fn remove_field(&mut self, name: Name, key: &[u8], field: &[u8]) -> Result<Vec<u8, A>, Refusal>
         ensures does { Does (remove_field_outcome (after self.old) name key.now field.now) self.old self.new result }
         ensures grows { Grows self.old self.new }
     {

@@ -20,6 +20,3 @@ mod writing;
 pub use answer::is_fault;
 pub use running::{run, run_bytes};
 pub use watched::Watched;
-
-#[cfg(test)]
-mod tests;

@@ -23,9 +23,7 @@ use crate::event::Event;
 use crate::replica::Replica;
 use causal_context::Context;
 use causal_join::OrMap;
-use delta_ops::{
-    clear, fields, keys, put_field, remove, remove_field, values, values_of_key,
-};
+use delta_ops::{clear, fields, keys, put_field, remove, remove_field, values, values_of_key};
 use dots::{Dot, Field, Key, Name, Refusal, Value};
 use std::alloc::{Allocator, Global};
 use std::collections::BTreeMap;

@@ -27,3 +27,6 @@ returns-clause-ok g c =
     let pushed = past_push event_value c.self.inside.past.items c.reserve.new.self.items c.push.new.self.items _ c.push.result c.unwrap.result
     c.reserve.ensures.items c.push.ensures.items c.unwrap.ensures in
     rw (← c.self.view_is) pushed
+
+pub make_at-requires : goal.make_at-requires
+make_at-requires g c = c.self.invariant.there c.args.name ∙ rw c.self.view_is c.requires.there

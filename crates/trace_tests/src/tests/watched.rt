@@ -1,6 +1,6 @@
-use crate::Watched;
 use std::io;
 use std::io::{Read, Write};
+use trace_cli::Watched;
 
 /// A reader or a writer each of whose calls fails, or takes nothing.
 #[derive(Drop)]

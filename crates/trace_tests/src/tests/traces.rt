@@ -1,8 +1,8 @@
-use crate::{Watched, run, run_bytes};
 use dots::Refusal;
 use std::alloc::Global;
 use std::process::Abort;
 use std::test::Fail;
+use trace_cli::{Watched, run, run_bytes};
 
 /// Runs the trace as one text and as a stream, which gives the same text, and the outcome of the stream.
 fn gives(rt: &impl Abort, alloc: Global, trace: &str, text: &str) -> Result<(), Refusal> {

@@ -1,7 +1,9 @@
 //! What no clause says: the worked traces with their exact text, the order of reads and writes, and failures in mid-stream.
 
+mod answering;
 mod contexts;
 mod faults;
+mod fields;
 mod pins;
 mod removing;
 mod traces;

@@ -1,12 +1,5 @@
-use crate::run_bytes;
-use std::alloc::Global;
+use crate::tests::answering::answers;
 use std::process::Abort;
-
-/// Runs the trace as one text.
-fn answers(rt: &impl Abort, alloc: Global, trace: &str, text: &str) {
-    let whole = run_bytes(alloc, trace.as_bytes()).expect(rt, "memory");
-    assert_eq!(rt; whole.as_slice(), text.as_bytes());
-}
 
 #[test]
 fn what_was_put_beside_a_clear_stays(rt: HostRuntime) {
