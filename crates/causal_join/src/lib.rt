@@ -9,6 +9,3 @@ mod or_map;
 pub use causal::Causal;
 pub use laws::{join_is_associative, join_is_commutative, join_is_idempotent};
 pub use or_map::{OrMap, OrMapStore};
-
-#[cfg(test)]
-mod tests;

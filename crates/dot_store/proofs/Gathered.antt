@@ -12,9 +12,6 @@ pub record Gathered {X : Type 0} (Held : DotValue → Type 0) (Dots : X → DotV
   pub only : (d : DotValue) → IsTrue (new d) → IsTrue (old d) ⊎ Held d
   pub added : (k : ℕ) (x : X) → k < count → (d : DotValue) → Dots (get_or items k x) d → IsTrue (new d)
 
-pub gathered_none : {X : Type 0} (Held : DotValue → Type 0) (Dots : X → DotValue → Type 0) (old : DotValue → Bool) (items : List X) → Gathered Held Dots old old items 0
-gathered_none Held Dots old items = record { kept = λ d h. h; only = λ d h. inl h; added = λ k x h d e. absurd (omega arith) }
-
 -- the dots of one more item, which are held
 pub gathered_more : {X : Type 0} (Held : DotValue → Type 0) (Dots : X → DotValue → Type 0) (old mid new : DotValue → Bool) (items : List X) (i : ℕ) (x : X) → Gathered Held Dots old mid items i
     → i < length items → x ≡ get_or items i x → ((d : DotValue) → IsTrue (mid d) → IsTrue (new d)) → ((d : DotValue) → IsTrue (new d) → IsTrue (mid d) ⊎ Dots x d) → ((d : DotValue) → Dots x d → IsTrue (new d))

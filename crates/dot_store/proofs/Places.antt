@@ -17,11 +17,6 @@ use Rattle.std.proofs.lemmas.Map.Keys.{Less-from_sorted, sorted_from_all_adjacen
 use Rattle.std.proofs.lemmas.Option.{slice_get_read, slice_get_within, get_or_from_slice_get}
 use Rattle.dot_store.specs.Places.{value_at, IsPlaceOf, IsGapFor}
 
-pub reversed_less : (o : Ordering) → ordering_reverse o ≡ Greater → o ≡ Less
-reversed_less Less h = refl
-reversed_less Equal h = absurd (cc h)
-reversed_less Greater h = absurd (cc h)
-
 pub less_from_test : (o : Ordering) → is_lt o ≡ true → o ≡ Less
 less_from_test Less h = refl
 less_from_test Equal h = absurd (cc h)

@@ -21,9 +21,6 @@ use Rattle.dot_store.proofs.Places.{Ascends, item_found, entry_found}
 
 module _ {S P H : Type 0} (at : S → P → DotValue → Option H) where
   -- ---- no key has an empty store
-  pub filled_none : {K : Type 0} (es : List (K × S)) → es ≡ [] → NoKeyIsEmpty at es
-  filled_none es e = rw e (λ k d h. absurd (omega arith))
-
   pub filled_insert : {K : Type 0} (cmp : K → K → Ordering) (es : List (K × S)) (key : K) (store : S) → NoKeyIsEmpty at es → (HasNothing (at store) → ⊥) → NoKeyIsEmpty at (insert_entry cmp es key store)
   filled_insert cmp es key store filled here = All-values-insert_entry cmp key store (λ s. HasNothing (at s) → ⊥) es filled here
 
@@ -55,9 +52,6 @@ module _ {S P H : Type 0} (at : S → P → DotValue → Option H) where
   -- ---- what is held, where it is known what a look-up finds
   pub held_at_some : (o : Option S) (s : S) (place : P) (d : DotValue) → o ≡ Some s → held_by at o place d ≡ at s place d
   held_at_some o s place d e = rw e refl
-
-  pub held_at_none : (o : Option S) (place : P) (d : DotValue) → o ≡ None → held_by at o place d ≡ None
-  held_at_none o place d e = rw e refl
 
   pub store_from_held : (o : Option S) (place : P) (d : DotValue) → IsSome (held_by at o place d) → (s : S) × (o ≡ Some s)
   store_from_held None place d h = absurd (cc h)
@@ -105,28 +99,6 @@ module _ {S P H : Type 0} (at : S → P → DotValue → Option H) where
     no_key_from_nothing (x ∷ es) filled h =
         absurd (filled_at (is_at (cmp x.0)) (x ∷ es) x.1 filled (first_is_found x es)
         (λ place d. sym (held_at_some (lookup (is_at (cmp x.0)) (x ∷ es)) x.1 place d (first_is_found x es)) ∙ h (x.0, place) d))
-
-    put_by : (b : Bool) (s : S) (o : Option S) (place : P) (d : DotValue) → held_by at (cond b (Some s) o) place d ≡ cond b (at s place d) (held_by at o place d)
-    put_by true s o place d = refl
-    put_by false s o place d = refl
-
-    -- a map after an insert
-    pub at_stores-insert : (old new : List (K × S)) (key : K) (store : S) → ((q : K) → lookup (is_at (cmp q)) new ≡ cond (is_eq (cmp key q)) (Some store) (lookup (is_at (cmp q)) old))
-        → HoldsSame (at_stores at cmp new) (with_store at cmp (at_stores at cmp old) key store)
-    unfolding at_stores
-    at_stores-insert old new key store h place d =
-        ap (λ o. held_by at o place.1 d) (h place.0) ∙ put_by (is_eq (cmp key place.0)) store (lookup (is_at (cmp place.0)) old) place.1 d
-
-    take_by : (b : Bool) (s : S) (o : Option S) (place : P) (d : DotValue) → at s place d ≡ None → held_by at (cond b None o) place d ≡ cond b (at s place d) (held_by at o place d)
-    take_by true s o place d e = sym e
-    take_by false s o place d e = refl
-
-    -- a map after a removal, for a store that holds nothing
-    pub at_stores-remove : (old new : List (K × S)) (key : K) (store : S) → HasNothing (at store) → ((q : K) → lookup (is_at (cmp q)) new ≡ cond (is_eq (cmp key q)) None (lookup (is_at (cmp q)) old))
-        → HoldsSame (at_stores at cmp new) (with_store at cmp (at_stores at cmp old) key store)
-    unfolding at_stores
-    at_stores-remove old new key store empty h place d =
-        ap (λ o. held_by at o place.1 d) (h place.0) ∙ take_by (is_eq (cmp key place.0)) store (lookup (is_at (cmp place.0)) old) place.1 d (empty place.1 d)
 
     -- what holds of each store holds of the one in which something is held
     pub item_from_held : (Q : K × S → Type 0) (es : List (K × S)) → All Q es → (place : K × P) (d : DotValue) → IsSome (at_stores at cmp es place d) → (e : K × S) × Q e × IsSome (at e.1 place.1 d)

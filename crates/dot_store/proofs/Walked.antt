@@ -27,9 +27,6 @@ module _ {K V : Type 0} (cmp : K → K → Ordering) (mine yours : List (K × V)
       (q : K) → ((value_at cmp my_rest q ≡ value_at cmp mine q) × (value_at cmp your_rest q ≡ value_at cmp yours q) × Todo q)
       ⊎ ((value_at cmp my_rest q ≡ None) × (value_at cmp your_rest q ≡ None) × Done q)
 
-  pub walked_none : (Todo Done : K → Type 0) → ((q : K) → Todo q) → Walked Todo Done mine yours
-  walked_none Todo Done todo q = inl (refl, refl, todo q)
-
   nowhere : (x y : Option V) → x ≡ None → y ≡ None → IsTrue (is_some x || is_some y) → ⊥
   nowhere x y e f h = let bad : false ≡ true = rw (e, f) at h in absurd (cc bad)
 

@@ -17,6 +17,3 @@ pub use dot_map::DotMap;
 pub use dot_set::DotSet;
 pub use kept::Kept;
 pub use store::DotStore;
-
-#[cfg(test)]
-mod tests;

@@ -1,41 +1,10 @@
-use super::*;
+use crate::made::{context_of, dot, nested, set_of};
 use causal_context::Context;
+use causal_join::Causal;
 use dot_store::{DotMap, DotSet, DotStore};
-use dots::{Dot, Key, Name, Refusal};
+use dots::{Dot, Refusal};
 use std::alloc::Global;
-use std::process::Abort;
 use std::test::Fail;
-
-// The dot of this name and number, neither of them 0.
-fn dot(rt: &impl Abort, name: u64, number: u64) -> Dot {
-    let name = Name::new(name).expect(rt, "a name");
-    Dot::new(name, number).expect(rt, "a number")
-}
-
-fn set_of(alloc: Global, dots: &[Dot]) -> Result<DotSet, Refusal> {
-    let mut set = DotSet::empty(alloc);
-    for dot in dots {
-        set.insert(*dot)?;
-    }
-    Ok(set)
-}
-
-fn context_of(alloc: Global, dots: &[Dot]) -> Result<Context, Refusal> {
-    let mut context = Context::new(alloc);
-    for dot in dots {
-        context.add(*dot)?;
-    }
-    Ok(context)
-}
-
-// The set under the field f of the key a.
-fn nested(alloc: Global, set: DotSet) -> Result<DotMap<Key, DotMap<Key, DotSet>>, Refusal> {
-    let mut fields = DotMap::empty(alloc);
-    fields.insert(Key::new(alloc, b"f")?, set)?;
-    let mut store = DotMap::empty(alloc);
-    store.insert(Key::new(alloc, b"a")?, fields)?;
-    Ok(store)
-}
 
 // Whether the pairs have the same store and the same context.
 fn are_same<S: DotStore<Global>>(one: &Causal<S>, other: &Causal<S>) -> bool {
@@ -58,16 +27,18 @@ fn joins_to<S: DotStore<Global>>(
     Ok(is_below && are_same(&joined, both) && are_same(&copy, both))
 }
 
+// The pair of the store and the context of these dots.
+fn pair<S: DotStore<Global>>(alloc: Global, store: S, known: &[Dot]) -> Result<Causal<S>, Fail> {
+    let pair = Causal::from_parts(store, context_of(alloc, known)?);
+    Ok(pair.ok_or("outside")?)
+}
+
 #[test]
 fn a_removed_dot_stays_removed_in_the_join(rt: HostRuntime) -> Result<(), Fail> {
     let alloc = rt.alloc();
     let (a, b, c) = (dot(&rt, 1, 1), dot(&rt, 1, 2), dot(&rt, 2, 1));
-    let mine = Causal::from_parts(set_of(alloc, &[a, b])?, context_of(alloc, &[a, b])?).ok_or(
-        "outside",
-    )?;
-    let theirs = Causal::from_parts(set_of(alloc, &[b, c])?, context_of(alloc, &[a, b, c])?).ok_or(
-        "outside",
-    )?;
+    let mine = pair(alloc, set_of(alloc, &[a, b])?, &[a, b])?;
+    let theirs = pair(alloc, set_of(alloc, &[b, c])?, &[a, b, c])?;
     assert!(rt; joins_to(alloc, &mine, &theirs, &theirs)?);
     Ok(())
 }
@@ -76,11 +47,8 @@ fn a_removed_dot_stays_removed_in_the_join(rt: HostRuntime) -> Result<(), Fail> 
 fn a_dot_removed_under_two_keys_leaves_no_key(rt: HostRuntime) -> Result<(), Fail> {
     let alloc = rt.alloc();
     let d = dot(&rt, 1, 1);
-    let store = nested(alloc, set_of(alloc, &[d])?)?;
-    let mine = Causal::from_parts(store, context_of(alloc, &[d])?).ok_or("outside")?;
-    let theirs = Causal::from_parts(DotMap::empty(alloc), context_of(alloc, &[d])?).ok_or(
-        "outside",
-    )?;
+    let mine = pair(alloc, nested(alloc, &[d])?, &[d])?;
+    let theirs = pair(alloc, DotMap::empty(alloc), &[d])?;
     assert!(rt; joins_to(alloc, &mine, &theirs, &theirs)?);
     Ok(())
 }

@@ -1,0 +1,53 @@
+use causal_context::Context;
+use dot_store::{DotFun, DotMap, DotSet, DotStore};
+use dots::{Dot, Key, Name, Refusal, Value};
+use std::alloc::Global;
+use std::process::Abort;
+
+// The dot of this name and number, neither of them 0.
+pub fn dot(rt: &impl Abort, name: u64, number: u64) -> Dot {
+    let name = Name::new(name).expect(rt, "a name");
+    Dot::new(name, number).expect(rt, "a number")
+}
+
+pub fn context_of(alloc: Global, dots: &[Dot]) -> Result<Context, Refusal> {
+    let mut context = Context::new(alloc);
+    for dot in dots {
+        context.add(*dot)?;
+    }
+    Ok(context)
+}
+
+pub fn set_of(alloc: Global, dots: &[Dot]) -> Result<DotSet, Refusal> {
+    let mut set = DotSet::empty(alloc);
+    for dot in dots {
+        set.insert(*dot)?;
+    }
+    Ok(set)
+}
+
+// The values of these dots.
+pub fn values_of(alloc: Global, values: &[(Dot, &[u8])]) -> Result<DotFun<Value>, Refusal> {
+    let mut held = DotFun::empty(alloc);
+    for (dot, bytes) in values {
+        held.insert(*dot, Value::new(alloc, bytes)?)?;
+    }
+    Ok(held)
+}
+
+// The store under the key.
+pub fn under<S: DotStore<Global>>(
+    alloc: Global,
+    key: &[u8],
+    store: S,
+) -> Result<DotMap<Key, S>, Refusal> {
+    let mut map = DotMap::empty(alloc);
+    map.insert(Key::new(alloc, key)?, store)?;
+    Ok(map)
+}
+
+// The set under the field f of the key k.
+pub fn nested(alloc: Global, dots: &[Dot]) -> Result<DotMap<Key, DotMap<Key, DotSet>>, Refusal> {
+    let fields = under(alloc, b"f", set_of(alloc, dots)?)?;
+    under(alloc, b"k", fields)
+}

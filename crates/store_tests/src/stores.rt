@@ -1,0 +1,165 @@
+use crate::made::{context_of, dot, nested, set_of, under, values_of};
+use causal_context::Context;
+use dot_store::{DotFun, DotMap, DotSet, DotStore};
+use dots::{Dot, Key, Refusal, Value};
+use std::alloc::Global;
+use std::process::Abort;
+use std::test::Fail;
+
+// The join where each side knows its own dots and the others that are named.
+fn joined<S: DotStore<Global>>(
+    alloc: Global,
+    mine: &S,
+    seen: &[Dot],
+    yours: &S,
+    known: &[Dot],
+) -> Result<S, Refusal> {
+    let mut own = context_of(alloc, seen)?;
+    mine.dots_into(&mut own)?;
+    let mut theirs = context_of(alloc, known)?;
+    yours.add_dots(&mut theirs)?;
+    mine.join(alloc, &own, yours, &theirs)
+}
+
+// Whether the store and its copy are the same as the one that is wanted.
+fn is_wanted<S: DotStore<Global>>(alloc: Global, store: &S, wanted: &S) -> Result<bool, Refusal> {
+    Ok(store.same(wanted) && wanted.copy(alloc)?.same(store))
+}
+
+// Whether the join of the two sets is the set of the wanted dots.
+fn joins_to(
+    alloc: Global,
+    mine: &[Dot],
+    seen: &[Dot],
+    yours: &[Dot],
+    known: &[Dot],
+    wanted: &[Dot],
+) -> Result<bool, Refusal> {
+    let mine = set_of(alloc, mine)?;
+    let yours = set_of(alloc, yours)?;
+    let both = joined(alloc, &mine, seen, &yours, known)?;
+    is_wanted(alloc, &both, &set_of(alloc, wanted)?)
+}
+
+#[test]
+fn a_set_keeps_what_neither_side_removed(rt: HostRuntime) -> Result<(), Fail> {
+    let alloc = rt.alloc();
+    let (a, b, c) = (dot(&rt, 1, 1), dot(&rt, 1, 2), dot(&rt, 2, 1));
+    assert!(rt; joins_to(alloc, &[a, b], &[], &[b, c], &[a], &[c, b])?);
+    Ok(())
+}
+
+#[test]
+fn a_set_is_inside_the_contexts_that_have_its_dots(rt: HostRuntime) -> Result<(), Fail> {
+    let alloc = rt.alloc();
+    let (a, b) = (dot(&rt, 1, 1), dot(&rt, 1, 2));
+    let set = set_of(alloc, &[a, b])?;
+    assert!(rt; set.is_inside(&context_of(alloc, &[b, a])?));
+    assert!(rt; !set.is_inside(&context_of(alloc, &[b])?));
+    Ok(())
+}
+
+#[test]
+fn a_dot_of_both_sides_keeps_the_greater_value(rt: HostRuntime) -> Result<(), Fail> {
+    let alloc = rt.alloc();
+    let (a, b) = (dot(&rt, 1, 1), dot(&rt, 2, 1));
+    let mine = values_of(alloc, &[(a, b"x".as_slice()), (b, b"y".as_slice())])?;
+    let yours = values_of(alloc, &[(a, b"z".as_slice())])?;
+    let both = joined(alloc, &mine, &[], &yours, &[b])?;
+    assert!(rt; is_wanted(alloc, &both, &yours)?);
+    assert!(rt; both.get(a).is_some() && both.get(b).is_none());
+    Ok(())
+}
+
+#[test]
+fn a_key_whose_dots_were_all_removed_is_gone(rt: HostRuntime) -> Result<(), Fail> {
+    let alloc = rt.alloc();
+    let (a, b) = (dot(&rt, 1, 1), dot(&rt, 2, 1));
+    let mine = under(alloc, b"k", set_of(alloc, &[a])?)?;
+    let yours = under(alloc, b"m", set_of(alloc, &[b])?)?;
+    let both = joined(alloc, &mine, &[], &yours, &[a])?;
+    assert!(rt; is_wanted(alloc, &both, &yours)?);
+    assert!(rt; both.get(&Key::new(alloc, b"k")?).is_none());
+    Ok(())
+}
+
+#[test]
+fn an_empty_store_takes_its_key_along(rt: HostRuntime) -> Result<(), Fail> {
+    let alloc = rt.alloc();
+    let mut map = under(alloc, b"k", set_of(alloc, &[dot(&rt, 1, 1)])?)?;
+    assert_eq!(rt; map.entries().len(), 1);
+    map.insert(Key::new(alloc, b"k")?, DotSet::empty(alloc))?;
+    assert!(rt; map.is_empty() && map.is_inside(&Context::new(alloc)));
+    Ok(())
+}
+
+#[test]
+fn a_map_of_maps_goes_through_the_same_join(rt: HostRuntime) -> Result<(), Fail> {
+    let alloc = rt.alloc();
+    let (a, b) = (dot(&rt, 1, 1), dot(&rt, 2, 1));
+    let mine = nested(alloc, &[a, b])?;
+    let both = joined(alloc, &mine, &[], &DotMap::empty(alloc), &[a])?;
+    assert!(rt; is_wanted(alloc, &both, &nested(alloc, &[b])?)?);
+    Ok(())
+}
+
+// The values at these dots, in this order.
+fn values_at(alloc: Global, dots: &[Dot]) -> Result<Option<DotFun<Value>>, Refusal> {
+    let mut values = Vec::new(alloc);
+    for dot in dots {
+        values.push((*dot, Value::new(alloc, b"x")?))?;
+    }
+    Ok(DotFun::from_entries(values))
+}
+
+// Whether these keys, in this order and each with these dots, are those of a map.
+fn are_keys(alloc: Global, keys: &[&[u8]], dots: &[Dot]) -> Result<bool, Refusal> {
+    let mut stores: Vec<(Key, DotSet)> = Vec::new(alloc);
+    for key in keys {
+        stores.push((Key::new(alloc, key)?, set_of(alloc, dots)?))?;
+    }
+    Ok(DotMap::from_entries(stores).is_some())
+}
+
+#[test]
+fn values_by_ascending_dot_are_a_map(rt: HostRuntime) -> Result<(), Fail> {
+    let alloc = rt.alloc();
+    let (a, b) = (dot(&rt, 1, 2), dot(&rt, 2, 1));
+    assert!(rt; values_at(alloc, &[a, b])?.is_some());
+    assert!(rt; values_at(alloc, &[b, a])?.is_none());
+    assert!(rt; values_at(alloc, &[a, a])?.is_none());
+    Ok(())
+}
+
+#[test]
+fn stores_by_ascending_key_are_a_map_where_none_is_empty(rt: HostRuntime) -> Result<(), Fail> {
+    let alloc = rt.alloc();
+    let a = dot(&rt, 1, 1);
+    assert!(rt; are_keys(alloc, &[b"k".as_slice(), b"l".as_slice()], &[a])?);
+    assert!(rt; !are_keys(alloc, &[b"l".as_slice(), b"k".as_slice()], &[a])?);
+    assert!(rt; !are_keys(alloc, &[b"k".as_slice()], &[])?);
+    Ok(())
+}
+
+// The dots of name 1 whose numbers are above the one and at most the other.
+fn row(rt: &impl Abort, alloc: Global, above: u64, last: u64) -> Result<Vec<Dot>, Refusal> {
+    let mut dots = Vec::new(alloc);
+    for number in above..last {
+        dots.push(dot(rt, 1, number + 1))?;
+    }
+    Ok(dots)
+}
+
+#[test]
+fn lists_of_different_lengths_are_joined_to_their_ends(rt: HostRuntime) -> Result<(), Fail> {
+    let alloc = rt.alloc();
+    // of the forty the other side knows the first 30, and holds one of those and one of the others
+    let forty = row(&rt, alloc, 0, 40)?;
+    let known = row(&rt, alloc, 0, 30)?;
+    let two = [dot(&rt, 1, 40), dot(&rt, 1, 7)];
+    let mut kept = row(&rt, alloc, 30, 40)?;
+    kept.push(dot(&rt, 1, 7))?;
+    assert!(rt; joins_to(alloc, &forty, &[], &two, &known, &kept)?);
+    assert!(rt; joins_to(alloc, &two, &known, &forty, &[], &kept)?);
+    Ok(())
+}
