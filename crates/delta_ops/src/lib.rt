@@ -16,6 +16,3 @@ pub use mutators::{put, put_field};
 pub use outgoing::Outgoing;
 pub use reading::{fields, keys, values, values_of_key};
 pub use standing::values_at;
-
-#[cfg(test)]
-mod tests;

@@ -22,6 +22,3 @@ pub use encoding::encode;
 pub use laws::{a_message_has_one_spelling, bytes_spell_one_delta, bytes_spell_one_message};
 pub use message::Message;
 pub use session::Session;
-
-#[cfg(test)]
-mod tests;

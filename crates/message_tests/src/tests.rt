@@ -1,7 +1,6 @@
 // Worked vectors, byte for byte.
 ghost use Rattle.std.specs.Prelude.{◌<◌, ◌≤◌, length};
 
-use super::*;
 use causal_context::Context;
 use causal_join::OrMapStore;
 use dot_store::{DotFun, DotMap, DotStore};
@@ -9,6 +8,10 @@ use dots::{Dot, Field, Key, Name, Refusal, Value};
 use std::alloc::Global;
 use std::process::Abort;
 use std::test::Fail;
+use wire_form::{
+    Message, Session, a_message_has_one_spelling, bytes_spell_one_delta, bytes_spell_one_message,
+    decode, encode,
+};
 
 // The delta of the first write of replica 1, which put x on the key a.
 const ONE_VALUE: [u8; 72] = [
@@ -22,6 +25,14 @@ const ONE_FIELD: [u8; 83] = [
     3, 1, 0, 0, 0, 0, 0, 0, 0, 1, 0, 0, 0, 0, 0, 0, 0, 1, 0, 0, 0, 0, 0, 0, 0, 1, 0, 0, 0, 0, 0, 0,
     0, 0, 0, 0, 0, 0, 0, 0, 0, 1, 0, 1, 0x61, 0, 0, 0, 0, 0, 0, 0, 1, 0, 1, 0x66, 0, 0, 0, 0, 0, 0,
     0, 1, 0, 0, 0, 0, 0, 0, 0, 1, 0, 0, 0, 0, 0, 0, 0, 1, 0, 1, 0x78,
+];
+
+// The delta of the second write of replica 2, which put z on the field f of the key a, where x of the dot 1:1 stood.
+const OVERWRITTEN_FIELD: [u8; 99] = [
+    3, 1, 0, 0, 0, 0, 0, 0, 0, 1, 0, 0, 0, 0, 0, 0, 0, 1, 0, 0, 0, 0, 0, 0, 0, 1, 0, 0, 0, 0, 0, 0,
+    0, 1, 0, 0, 0, 0, 0, 0, 0, 2, 0, 0, 0, 0, 0, 0, 0, 2, 0, 0, 0, 0, 0, 0, 0, 1, 0, 1, 0x61, 0, 0,
+    0, 0, 0, 0, 0, 1, 0, 1, 0x66, 0, 0, 0, 0, 0, 0, 0, 1, 0, 0, 0, 0, 0, 0, 0, 2, 0, 0, 0, 0, 0, 0,
+    0, 2, 0, 1, 0x7a,
 ];
 
 // A delta that knows a dot and holds nothing, as a removal.
@@ -96,15 +107,20 @@ fn changed(alloc: Global, bytes: &[u8], at: usize, byte: u8) -> Result<Vec<u8>, 
     Ok(changed)
 }
 
-// The store with x at this field of the key a, under the first dot of replica 1.
-fn one_value(rt: &impl Abort, alloc: Global, field: &[u8]) -> Result<OrMapStore, Refusal> {
+// The store with this value at this field of the key a, under this dot.
+fn holding(alloc: Global, field: &[u8], dot: Dot, value: &[u8]) -> Result<OrMapStore, Refusal> {
     let mut values = DotFun::empty(alloc);
-    values.insert(dot(rt, 1, 1), Value::new(alloc, b"x")?)?;
+    values.insert(dot, Value::new(alloc, value)?)?;
     let mut fields = DotMap::empty(alloc);
     fields.insert(Field::new(alloc, field)?, values)?;
     let mut store = DotMap::empty(alloc);
     store.insert(Key::new(alloc, b"a")?, fields)?;
     Ok(store)
+}
+
+// The store with x at this field of the key a, under the first dot of replica 1.
+fn one_value(rt: &impl Abort, alloc: Global, field: &[u8]) -> Result<OrMapStore, Refusal> {
+    holding(alloc, field, dot(rt, 1, 1), b"x")
 }
 
 fn first_dot(rt: &impl Abort, alloc: Global) -> Result<Context, Refusal> {
@@ -129,6 +145,21 @@ fn the_delta_of_one_field_has_these_bytes(rt: HostRuntime) -> Result<(), Fail> {
     let message = Message::delta(store, first_dot(&rt, alloc)?).ok_or("inside")?;
     assert!(rt; message.session().is_none());
     assert_eq!(rt; encode(alloc, &message)?.as_slice(), ONE_FIELD.as_slice());
+    Ok(())
+}
+
+#[test]
+fn the_delta_of_an_overwritten_field_has_these_bytes(rt: HostRuntime) -> Result<(), Fail> {
+    let alloc = rt.alloc();
+    let store = holding(alloc, b"f", dot(&rt, 2, 2), b"z")?;
+    let mut context = first_dot(&rt, alloc)?;
+    context.add(dot(&rt, 2, 2))?;
+    let message = Message::delta(store, context).ok_or("inside")?;
+    assert_eq!(rt;
+        encode(alloc, &message)?.as_slice(),
+        OVERWRITTEN_FIELD.as_slice()
+    );
+    assert!(rt; is_encoded_again(alloc, &OVERWRITTEN_FIELD)?);
     Ok(())
 }
 

@@ -1,6 +1,9 @@
-use super::*;
-use causal_join::Causal;
-use dots::{Dot, Key, Name, Refusal, Value};
+use causal_join::{Causal, OrMap};
+use delta_ops::{
+    Outgoing, clear, fields, group, keys, put, put_field, remove, remove_field, values,
+    values_of_key,
+};
+use dots::{Field, Key, Name, Refusal, Text, Value};
 use std::alloc::Global;
 use std::process::Abort;
 use std::test::Fail;
@@ -9,27 +12,59 @@ fn named(rt: &impl Abort, name: u64) -> Name {
     Name::new(name).expect(rt, "a name")
 }
 
-// Puts the value on the key at the pair, which takes the delta in, and gives the delta.
+// Puts the value on the key, and takes the delta in and gives it.
 fn put_at(
     alloc: Global,
     name: Name,
-    live: &mut Pair,
+    live: &mut OrMap,
     key: &Key,
     value: &[u8],
-) -> Result<Pair, Refusal> {
+) -> Result<OrMap, Refusal> {
     let value = Value::new(alloc, value)?;
     let (delta, _) = put(alloc, name, live, key, &value)?;
     group(alloc, live, &delta)?;
     Ok(delta)
 }
 
+// Puts the value at the field of the key, and takes the delta in.
+fn put_at_field(
+    alloc: Global,
+    name: Name,
+    live: &mut OrMap,
+    key: &Key,
+    field: &[u8],
+    value: &[u8],
+) -> Result<(), Refusal> {
+    let field = Field::new(alloc, field)?;
+    let value = Value::new(alloc, value)?;
+    let (delta, _) = put_field(alloc, name, live, key, &field, &value)?;
+    group(alloc, live, &delta)
+}
+
+// The map where y was put at the field f of the key, and then x on the key.
+fn field_then_key(alloc: Global, name: Name, key: &Key) -> Result<OrMap, Refusal> {
+    let mut live = Causal::bottom(alloc);
+    put_at_field(alloc, name, &mut live, key, b"f", b"y")?;
+    put_at(alloc, name, &mut live, key, b"x")?;
+    Ok(live)
+}
+
+// Whether these texts are the ones that are wanted, in order.
+fn are_texts<K>(found: &[Text<K>], wanted: &[&[u8]]) -> bool {
+    found.len() == wanted.len()
+        && found
+            .iter()
+            .zip(wanted)
+            .all(|(text, bytes)| text.bytes() == *bytes)
+}
+
 // Whether the two pairs are one.
-fn are_same(alloc: Global, one: &Pair, other: &Pair) -> Result<bool, Refusal> {
+fn are_same(alloc: Global, one: &OrMap, other: &OrMap) -> Result<bool, Refusal> {
     Ok(one.is_below(alloc, other)? && other.is_below(alloc, one)?)
 }
 
 // The group of these two deltas, the first taken in first.
-fn group_of(alloc: Global, first: &Pair, second: &Pair) -> Result<Pair, Refusal> {
+fn group_of(alloc: Global, first: &OrMap, second: &OrMap) -> Result<OrMap, Refusal> {
     let mut both = first.copy(alloc)?;
     group(alloc, &mut both, second)?;
     Ok(both)
@@ -54,6 +89,80 @@ fn a_remove_counts_the_dots_of_its_key(rt: HostRuntime) -> Result<(), Fail> {
     put_at(alloc, named(&rt, 1), &mut live, &key, b"x")?;
     let (delta, number) = remove(alloc, &live, &key)?;
     assert!(rt; number == 1 && !delta.context().is_empty());
+    Ok(())
+}
+
+// Whether these are the values at the field of the key.
+fn stand_at(
+    alloc: Global,
+    live: &OrMap,
+    key: &Key,
+    field: &[u8],
+    wanted: &[&[u8]],
+) -> Result<bool, Refusal> {
+    let found = values(alloc, live, key, &Field::new(alloc, field)?)?;
+    Ok(are_texts(&found, wanted))
+}
+
+#[test]
+fn a_put_on_a_key_leaves_its_fields(rt: HostRuntime) -> Result<(), Fail> {
+    let alloc = rt.alloc();
+    let key = Key::new(alloc, b"a")?;
+    let live = field_then_key(alloc, named(&rt, 1), &key)?;
+    assert!(rt; stand_at(alloc, &live, &key, b"", &[b"x"])?);
+    assert!(rt; stand_at(alloc, &live, &key, b"f", &[b"y"])?);
+    assert!(rt; stand_at(alloc, &live, &key, b"g", &[])?);
+    Ok(())
+}
+
+#[test]
+fn a_key_tells_its_fields_and_all_its_values(rt: HostRuntime) -> Result<(), Fail> {
+    let alloc = rt.alloc();
+    let key = Key::new(alloc, b"a")?;
+    let live = field_then_key(alloc, named(&rt, 1), &key)?;
+    assert!(rt; are_texts(&fields(alloc, &live, &key)?, &[b"", b"f"]));
+    assert!(rt; are_texts(&values_of_key(alloc, &live, &key)?, &[b"x", b"y"]));
+    Ok(())
+}
+
+#[test]
+fn a_remove_counts_the_dots_of_all_fields(rt: HostRuntime) -> Result<(), Fail> {
+    let alloc = rt.alloc();
+    let key = Key::new(alloc, b"a")?;
+    let mut live = field_then_key(alloc, named(&rt, 1), &key)?;
+    let (delta, number) = remove(alloc, &live, &key)?;
+    group(alloc, &mut live, &delta)?;
+    assert_eq!(rt; number, 2);
+    assert!(rt; keys(alloc, &live)?.is_empty());
+    Ok(())
+}
+
+#[test]
+fn a_remove_of_a_field_leaves_the_other(rt: HostRuntime) -> Result<(), Fail> {
+    let alloc = rt.alloc();
+    let key = Key::new(alloc, b"a")?;
+    let mut live = field_then_key(alloc, named(&rt, 1), &key)?;
+    let (delta, number) = remove_field(alloc, &live, &key, &Field::new(alloc, b"f")?)?;
+    group(alloc, &mut live, &delta)?;
+    assert_eq!(rt; number, 1);
+    assert!(rt; are_texts(&fields(alloc, &live, &key)?, &[b""]));
+    Ok(())
+}
+
+#[test]
+fn each_of_forty_keys_is_listed(rt: HostRuntime) -> Result<(), Fail> {
+    let alloc = rt.alloc();
+    let mut live = Causal::bottom(alloc);
+    for byte in 0..40u8 {
+        put_at(
+            alloc,
+            named(&rt, 1),
+            &mut live,
+            &Key::new(alloc, &[byte])?,
+            b"x",
+        )?;
+    }
+    assert_eq!(rt; keys(alloc, &live)?.len(), 40);
     Ok(())
 }
 
@@ -90,7 +199,7 @@ fn a_clear_counts_the_dots_of_all_keys(rt: HostRuntime) -> Result<(), Fail> {
 }
 
 // A put, and a clear that had observed it.
-fn put_and_clear(alloc: Global, name: Name) -> Result<(Pair, Pair), Refusal> {
+fn put_and_clear(alloc: Global, name: Name) -> Result<(OrMap, OrMap), Refusal> {
     let mut live = Causal::bottom(alloc);
     let key = Key::new(alloc, b"a")?;
     let put = put_at(alloc, name, &mut live, &key, b"x")?;
@@ -112,10 +221,10 @@ fn deltas_are_grouped_in_either_order(rt: HostRuntime) -> Result<(), Fail> {
 fn write_and_remove(
     alloc: Global,
     name: Name,
-    live: &mut Pair,
-    other: &mut Pair,
+    live: &mut OrMap,
+    other: &mut OrMap,
     key: &Key,
-) -> Result<(Pair, Pair), Refusal> {
+) -> Result<(OrMap, OrMap), Refusal> {
     let write = put_at(alloc, name, live, key, b"x")?;
     group(alloc, other, &write)?;
     let (erasure, _) = remove(alloc, live, key)?;
@@ -127,10 +236,10 @@ fn write_and_remove(
 fn write_and_clear(
     alloc: Global,
     name: Name,
-    live: &Pair,
-    other: &mut Pair,
+    live: &OrMap,
+    other: &mut OrMap,
     key: &Key,
-) -> Result<(Pair, Pair), Refusal> {
+) -> Result<(OrMap, OrMap), Refusal> {
     let write = put_at(alloc, name, other, key, b"y")?;
     let seen = group_of(alloc, live, &write)?;
     let (erasure, _) = clear(alloc, &seen)?;
@@ -142,7 +251,7 @@ fn four_deltas(
     alloc: Global,
     one: Name,
     two: Name,
-) -> Result<((Pair, Pair), (Pair, Pair)), Refusal> {
+) -> Result<((OrMap, OrMap), (OrMap, OrMap)), Refusal> {
     let key = Key::new(alloc, b"a")?;
     let mut live = Causal::bottom(alloc);
     let mut other = Causal::bottom(alloc);
@@ -152,7 +261,7 @@ fn four_deltas(
 }
 
 // The group of these deltas, taken in one after the other.
-fn group_of_all(alloc: Global, deltas: [&Pair; 4]) -> Result<Pair, Refusal> {
+fn group_of_all(alloc: Global, deltas: [&OrMap; 4]) -> Result<OrMap, Refusal> {
     let mut all = Causal::bottom(alloc);
     for delta in deltas {
         group(alloc, &mut all, delta)?;
@@ -174,9 +283,9 @@ fn four_deltas_are_grouped_in_either_order(rt: HostRuntime) -> Result<(), Fail> 
 fn grouped(
     alloc: Global,
     name: Name,
-    live: &mut Pair,
+    live: &mut OrMap,
     keys: &[&[u8]],
-) -> Result<Option<Pair>, Refusal> {
+) -> Result<Option<OrMap>, Refusal> {
     let mut outgoing = Outgoing::new(alloc);
     for key in keys {
         let delta = put_at(alloc, name, live, &Key::new(alloc, key)?, b"x")?;

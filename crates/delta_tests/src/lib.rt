@@ -1,0 +1,5 @@
+// The tests of `delta_ops`, apart from it, so that they are proved without proving it again.
+#![tactic(auto)]
+
+#[cfg(test)]
+mod tests;
