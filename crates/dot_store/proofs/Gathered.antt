@@ -1,5 +1,5 @@
 -- A loop over the entries of a store that adds their dots to a context.
-use Rattle.std.proofs.Common.{◌≡◌, ℕ, ◌+◌, ◌<◌, Bool, true, false, ◌||◌, List, length, get_or, refl, sym, ◌∙◌, subst, inl, inr, ⊎_elim, arith}
+use Rattle.std.proofs.Common.{◌≡◌, ℕ, ◌+◌, ◌<◌, Bool, true, false, ◌||◌, List, length, get_or, refl, sym, ◌∙◌, subst, inl, inr, ⊎_elim}
 use Rattle.std.specs.Prelude.{IsTrue, ◌⊎◌}
 use Rattle.dots.specs.Dot.{DotValue, same_dot}
 use Rattle.causal_context.proofs.Dots.{same_dot-refl, same_from_test}

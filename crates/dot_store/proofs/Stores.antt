@@ -1,10 +1,9 @@
 -- What a map from keys to stores holds, over its list of entries.
-use Rattle.std.proofs.Common.{◌≡◌, ℕ, ◌<◌, Bool, true, false, cond, List, [], ◌∷◌, length, get_or, Option, Some, None, refl, sym, ap, ◌∙◌, arith}
+use Rattle.std.proofs.Common.{◌≡◌, ℕ, ◌<◌, Bool, true, false, cond, List, [], ◌∷◌, length, get_or, Option, Some, None, refl, sym, ap, ◌∙◌}
 use Rattle.std.specs.Prelude.{IsSome, IfSome, is_some, MatchOption, Result, Ok, Err, OnOk, OnErr}
 use Rattle.std.specs.Borrow.{Bor}
 use Rattle.std.specs.Option.{option_copied}
 use Rattle.std.specs.declared.cmp.Ordering.{Ordering}
-use Rattle.std.specs.Ordering.{is_eq}
 use Rattle.std.specs.Cmp.{IsTotalOrder}
 use Rattle.std.specs.List.{All}
 use Rattle.std.specs.Map.{lookup, remove_entry, values_of}
@@ -16,7 +15,7 @@ use Rattle.std.proofs.lemmas.Cmp.{tied_itself}
 use Rattle.std.proofs.lemmas.Map.Views.{All-values-insert_entry, All-map-remove_entry, IfSome-lookup_from_All}
 use Rattle.dots.specs.Dot.{DotValue}
 use Rattle.dot_store.specs.Store.{HasNothing, HoldsDot, HoldsSame}
-use Rattle.dot_store.specs.Stores.{at_stores, held_by, joined_store, with_store, NoKeyIsEmpty}
+use Rattle.dot_store.specs.Stores.{at_stores, held_by, joined_store, NoKeyIsEmpty}
 use Rattle.dot_store.proofs.Places.{Ascends, item_found, entry_found}
 
 module _ {S P H : Type 0} (at : S → P → DotValue → Option H) where
