@@ -63,13 +63,6 @@ fn are_same(alloc: Global, one: &OrMap, other: &OrMap) -> Result<bool, Refusal> 
     Ok(one.is_below(alloc, other)? && other.is_below(alloc, one)?)
 }
 
-// The group of these two deltas, the first taken in first.
-fn group_of(alloc: Global, first: &OrMap, second: &OrMap) -> Result<OrMap, Refusal> {
-    let mut both = first.copy(alloc)?;
-    group(alloc, &mut both, second)?;
-    Ok(both)
-}
-
 #[test]
 fn a_put_takes_the_next_dot(rt: HostRuntime) -> Result<(), Fail> {
     let alloc = rt.alloc();
@@ -195,87 +188,6 @@ fn a_clear_counts_the_dots_of_all_keys(rt: HostRuntime) -> Result<(), Fail> {
     )?;
     let (_, number) = clear(alloc, &live)?;
     assert_eq!(rt; number, 2);
-    Ok(())
-}
-
-// A put, and a clear that had observed it.
-fn put_and_clear(alloc: Global, name: Name) -> Result<(OrMap, OrMap), Refusal> {
-    let mut live = Causal::bottom(alloc);
-    let key = Key::new(alloc, b"a")?;
-    let put = put_at(alloc, name, &mut live, &key, b"x")?;
-    let (clear, _) = clear(alloc, &live)?;
-    Ok((put, clear))
-}
-
-#[test]
-fn deltas_are_grouped_in_either_order(rt: HostRuntime) -> Result<(), Fail> {
-    let alloc = rt.alloc();
-    let (put, clear) = put_and_clear(alloc, named(&rt, 1))?;
-    let one = group_of(alloc, &put, &clear)?;
-    let other = group_of(alloc, &clear, &put)?;
-    assert!(rt; are_same(alloc, &one, &other)?);
-    Ok(())
-}
-
-// The first replica writes the key, the other sees it, and the first removes it.
-fn write_and_remove(
-    alloc: Global,
-    name: Name,
-    live: &mut OrMap,
-    other: &mut OrMap,
-    key: &Key,
-) -> Result<(OrMap, OrMap), Refusal> {
-    let write = put_at(alloc, name, live, key, b"x")?;
-    group(alloc, other, &write)?;
-    let (erasure, _) = remove(alloc, live, key)?;
-    group(alloc, live, &erasure)?;
-    Ok((write, erasure))
-}
-
-// The other replica writes the key, the first sees it, and clears.
-fn write_and_clear(
-    alloc: Global,
-    name: Name,
-    live: &OrMap,
-    other: &mut OrMap,
-    key: &Key,
-) -> Result<(OrMap, OrMap), Refusal> {
-    let write = put_at(alloc, name, other, key, b"y")?;
-    let seen = group_of(alloc, live, &write)?;
-    let (erasure, _) = clear(alloc, &seen)?;
-    Ok((write, erasure))
-}
-
-// The four deltas of two replicas that write one key, remove it and clear.
-fn four_deltas(
-    alloc: Global,
-    one: Name,
-    two: Name,
-) -> Result<((OrMap, OrMap), (OrMap, OrMap)), Refusal> {
-    let key = Key::new(alloc, b"a")?;
-    let mut live = Causal::bottom(alloc);
-    let mut other = Causal::bottom(alloc);
-    let first = write_and_remove(alloc, one, &mut live, &mut other, &key)?;
-    let last = write_and_clear(alloc, two, &live, &mut other, &key)?;
-    Ok((first, last))
-}
-
-// The group of these deltas, taken in one after the other.
-fn group_of_all(alloc: Global, deltas: [&OrMap; 4]) -> Result<OrMap, Refusal> {
-    let mut all = Causal::bottom(alloc);
-    for delta in deltas {
-        group(alloc, &mut all, delta)?;
-    }
-    Ok(all)
-}
-
-#[test]
-fn four_deltas_are_grouped_in_either_order(rt: HostRuntime) -> Result<(), Fail> {
-    let alloc = rt.alloc();
-    let ((a, b), (c, d)) = four_deltas(alloc, named(&rt, 1), named(&rt, 2))?;
-    let forth = group_of_all(alloc, [&a, &b, &c, &d])?;
-    let back = group_of_all(alloc, [&d, &c, &b, &a])?;
-    assert!(rt; are_same(alloc, &forth, &back)?);
     Ok(())
 }
 

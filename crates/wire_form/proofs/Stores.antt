@@ -5,10 +5,10 @@ use Rattle.std.specs.List.Sorted.{IsStrictlySortedBy}
 use Rattle.std.specs.Map.{keys_of}
 use Rattle.dots.specs.Bytes.{bytes_cmp}
 use Rattle.dot_store.specs.Stores.{NoKeyIsEmpty}
-use Rattle.causal_join.specs.OrMap.{FieldsValue, OrMapStoreValue, fields_at}
+use Rattle.causal_join.specs.OrMap.{OrMapStoreValue, fields_at}
 use Rattle.wire_form.specs.Spelling.{pair, IsPair, counted, AreCounted, Begins, HasNone}
 use Rattle.wire_form.specs.Parts.{text, IsText, fields, AreFields}
-use Rattle.wire_form.specs.Store.{is_sole, is_plain, sole, AreSole, store, IsStore, IsStoreOf}
+use Rattle.wire_form.specs.Store.{is_sole, is_plain, sole, AreSole, store, IsStoreOf}
 use Rattle.wire_form.specs.Unique.{IsUnique, pair_unique, text_unique, counted_unique, fields_unique, sole_unique}
 use Rattle.wire_form.proofs.Plains.{both_true}
 use Rattle.wire_form.proofs.Reading.{none_lawful}

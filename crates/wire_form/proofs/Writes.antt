@@ -1,5 +1,5 @@
 -- What writers leave, from what other writers left.
-use Rattle.std.proofs.Common.{◌≡◌, ℕ, ◌≤◌, Bool, true, false, ◌&&◌, List, [], ◌∷◌, ◌++◌, length, take, get_or, ◌<◌, ◌+◌, refl, sym, ap, subst, ◌∙◌, append_assoc, arith}
+use Rattle.std.proofs.Common.{◌≡◌, ℕ, ◌≤◌, true, false, List, [], ◌∷◌, ◌++◌, length, take, get_or, ◌<◌, ◌+◌, refl, sym, ap, subst, ◌∙◌, append_assoc, arith}
 use Rattle.std.specs.List.{flat_map, AllByRecursion}
 use Rattle.std.specs.Int.{w16, to_be_bytes}
 use Rattle.std.proofs.lemmas.List.{append-nil, take_more, take_all}
@@ -8,7 +8,6 @@ use Rattle.dots.specs.Bytes.{MAX_LENGTH, bytes_cmp}
 use Rattle.wire_form.specs.Spelling.{number, IsNumber, pair, IsPair, counted, AreCounted}
 use Rattle.std.specs.List.Sorted.{IsStrictlySortedBy}
 use Rattle.std.specs.Map.{keys_of}
-use Rattle.dots.specs.Dot.{DotValue}
 use Rattle.causal_context.specs.Context.{ContextValue}
 use Rattle.causal_context.specs.Canonical.{IsCanonical}
 use Rattle.causal_context.specs.Dots.{dot_cmp}

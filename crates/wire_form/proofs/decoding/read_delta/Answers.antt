@@ -5,7 +5,7 @@ use Rattle.wire_form.specs.Spelling.{HasNone}
 use Rattle.wire_form.specs.Store.{store, IsStoreOf}
 use Rattle.wire_form.specs.Message.{SpellsBody}
 use Rattle.wire_form.proofs.Reading.{refuses_weaker}
-use Rattle.wire_form.proofs.Deltas.{no_body_context, no_body_store, no_body_end, no_body_inside, body_spelled}
+use Rattle.wire_form.proofs.Deltas.{no_body_store, no_body_end, no_body_inside, body_spelled}
 use Rattle.wire_form.proofs.decoding.read_delta.Goals as goal
 
 pub returns-in_err-store : goal.returns-in_err-store

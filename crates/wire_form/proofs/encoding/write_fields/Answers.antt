@@ -1,4 +1,4 @@
-use Rattle.std.proofs.Common.{length, subst, sym, ap, ◌∙◌}
+use Rattle.std.proofs.Common.{length, subst}
 use Rattle.wire_form.specs.Spelling.{pair, IsPair}
 use Rattle.wire_form.specs.Parts.{text, IsText, values, AreValues}
 use Rattle.wire_form.specs.Writing.{Appends}

@@ -1,4 +1,4 @@
-use Rattle.std.proofs.Common.{length, subst, sym, ap, ◌∙◌}
+use Rattle.std.proofs.Common.{length, subst, ap, ◌∙◌}
 use Rattle.wire_form.specs.Spelling.{pair, IsPair}
 use Rattle.wire_form.specs.Parts.{text, IsText}
 use Rattle.wire_form.specs.Store.{is_plain, sole, AreSole}

@@ -1,4 +1,4 @@
-use Rattle.std.proofs.Common.{false, refl, sym, ap, ◌∙◌}
+use Rattle.std.proofs.Common.{false, refl, sym}
 use Rattle.std.proofs.lemmas.Result.{err_from_is_err_and}
 use Rattle.wire_form.specs.Spelling.{pair, IsPair, counted, AreCounted, HasNone}
 use Rattle.wire_form.specs.Parts.{text, IsText, fields, AreFields}

@@ -1,4 +1,4 @@
-use Rattle.std.proofs.Common.{true, refl, sym, ap, ◌∙◌}
+use Rattle.std.proofs.Common.{true, refl, ◌∙◌}
 use Rattle.std.proofs.lemmas.Result.{err_from_is_err_and}
 use Rattle.wire_form.specs.Spelling.{pair, IsPair, counted, AreCounted, HasNone}
 use Rattle.wire_form.specs.Parts.{text, IsText}
