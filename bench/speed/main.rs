@@ -1,4 +1,7 @@
-//! Times the trie beside std's maps, and messages beside a copy of their bytes. bench/README.md says how to run it.
+//! Times the trie beside std's maps, and messages beside a copy of their bytes, and counts and times small stores beside std's
+//! maps. bench/README.md says how to run it.
+mod counting;
+
 use std::collections::{BTreeMap, HashMap};
 use std::hint::black_box;
 
@@ -6,6 +9,7 @@ unsafe extern "C" {
     fn measure_trie(keys: *const u64, count: usize, step: u32, times: u32) -> u64;
     fn measure_decode(bytes: *const u8, length: usize, times: u32) -> u64;
     fn measure_encode(bytes: *const u8, length: usize, times: u32) -> u64;
+    fn measure_stores(keys: *const u64, count: usize, step: u32, times: u32) -> u64;
     fn clock_gettime(clock: i32, time: *mut Time) -> i32;
 }
 
@@ -224,7 +228,63 @@ fn messages(count: u64, times: u32) {
     );
 }
 
+type PlainFields = BTreeMap<Vec<u8>, BTreeMap<(u64, u64), Vec<u8>>>;
+
+/// Keys with one value at one field of each, as maps of std.
+fn plain_stores(name: u64, keys: &[u64]) -> BTreeMap<Vec<u8>, PlainFields> {
+    keys.iter()
+        .map(|key| {
+            let values = BTreeMap::from([((name, *key), vec![118; 16])]);
+            (
+                key.to_be_bytes().to_vec(),
+                PlainFields::from([(vec![], values)]),
+            )
+        })
+        .collect()
+}
+
+/// All that stands in one or the other, in a new map.
+fn plain_join(keys: &[u64], times: u32) {
+    let (mine, yours) = (plain_stores(1, keys), plain_stores(2, keys));
+    for _ in 0..times {
+        let mut both = mine.clone();
+        for (key, fields) in &yours {
+            let own = both.entry(key.clone()).or_default();
+            for (field, values) in fields {
+                let held = own.entry(field.clone()).or_default();
+                held.extend(values.iter().map(|(dot, value)| (*dot, value.clone())));
+            }
+        }
+        assert_eq!(black_box(&both).len(), keys.len());
+    }
+}
+
+/// The numbers 1 to `count`, which are keys, and the numbers of their dots, in order.
+fn stores(count: u64, times: u32) {
+    let keys: Vec<u64> = (1..=count).collect();
+    let ours = |step, times| {
+        let number = unsafe { measure_stores(keys.as_ptr(), keys.len(), step, times) };
+        assert_eq!(number, count * u64::from(times.max(1)), "want of memory");
+    };
+    let each = |run: &dyn Fn()| counting::most_live(run) as f64 / count as f64;
+    println!(
+        "{count} keys of 8 bytes, a value of 16 at the empty field of each: bytes a key at the most"
+    );
+    println!("  dots to values, of one dot {:8.1}", each(&|| ours(0, 1)));
+    println!("  the whole entry of a key   {:8.1}", each(&|| ours(1, 1)));
+    println!(
+        "  maps of std                {:8.1}",
+        each(&|| drop(black_box(plain_stores(1, &keys))))
+    );
+    let all = f64::from(times) / 1e3;
+    let join = (seconds(|| ours(2, times)) - 2.0 * seconds(|| ours(1, 1))) / all;
+    let plain = seconds(|| plain_join(&keys, times)) - seconds(|| plain_join(&keys, 0));
+    println!("  a join of two of them      {join:8.3} milliseconds");
+    println!("  the same with maps of std  {:8.3}", plain / all);
+}
+
 fn main() {
+    stores(10_000, 100);
     tries(100_000, Repeats { times: 5, runs: 2 });
     tries(1_000_000, Repeats { times: 5, runs: 3 });
     messages(10_000, 100);

@@ -2,5 +2,6 @@
 // depends on the work, or 2^64 - 1 where memory ran out or the bytes are no message.
 #![tactic(auto)]
 
+mod stores;
 mod tries;
 mod wire;

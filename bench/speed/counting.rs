@@ -1,0 +1,57 @@
+//! An allocator that counts: the linker puts these in the places of malloc, realloc and free (--wrap).
+use std::ffi::c_void;
+use std::sync::atomic::{AtomicUsize, Ordering::Relaxed};
+
+static LIVE: AtomicUsize = AtomicUsize::new(0);
+static MOST: AtomicUsize = AtomicUsize::new(0);
+
+unsafe extern "C" {
+    fn __real_malloc(size: usize) -> *mut c_void;
+    fn __real_realloc(old: *mut c_void, size: usize) -> *mut c_void;
+    fn __real_free(old: *mut c_void);
+    fn malloc_usable_size(block: *mut c_void) -> usize;
+}
+
+/// A block costs the bytes that it may hold, and eight that glibc keeps before it.
+fn cost(block: *mut c_void) -> usize {
+    if block.is_null() {
+        return 0;
+    }
+    unsafe { malloc_usable_size(block) + 8 }
+}
+
+fn add(block: *mut c_void) -> *mut c_void {
+    let added = cost(block);
+    let live = LIVE.fetch_add(added, Relaxed).wrapping_add(added);
+    MOST.fetch_max(live, Relaxed);
+    block
+}
+
+fn take(block: *mut c_void) {
+    LIVE.fetch_sub(cost(block), Relaxed);
+}
+
+#[unsafe(no_mangle)]
+unsafe extern "C" fn __wrap_malloc(size: usize) -> *mut c_void {
+    add(unsafe { __real_malloc(size) })
+}
+
+#[unsafe(no_mangle)]
+unsafe extern "C" fn __wrap_realloc(old: *mut c_void, size: usize) -> *mut c_void {
+    take(old);
+    add(unsafe { __real_realloc(old, size) })
+}
+
+#[unsafe(no_mangle)]
+unsafe extern "C" fn __wrap_free(old: *mut c_void) {
+    take(old);
+    unsafe { __real_free(old) }
+}
+
+/// The most bytes that were live at once in the run, above those at its start.
+pub fn most_live(run: impl Fn()) -> usize {
+    let before = LIVE.load(Relaxed);
+    MOST.store(before, Relaxed);
+    run();
+    MOST.load(Relaxed) - before
+}
