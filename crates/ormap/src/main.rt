@@ -6,7 +6,8 @@ ghost use Rattle.ormap.specs.Status.{status_of};
 
 use dots::Refusal;
 use std::process::ExitCode;
-use trace_cli::{Watched, run};
+use trace_cli::run;
+use watched_io::Watched;
 
 /// The program's status: 0 where the whole trace ran, 1 at a fault in it, 2 where reading or writing failed, and 3
 /// where memory ran out.

@@ -3,13 +3,13 @@ use Rattle.std.proofs.Common.{◌≡◌, ℕ, ◌+◌, Bool, true, false, ◌==�
 use Rattle.std.proofs.lemmas.List.{append-nil, take_more, take-append-drop}
 use Rattle.std.proofs.lemmas.Bool.Decides.{nat_tests}
 use Rattle.dots.specs.declared.refusal.Refusal.{Refusal}
-use Rattle.trace_cli.specs.Machine.{Answer, Silent, Told, Faulted, answer_to, past_after}
+use Rattle.trace_words.specs.Machine.{Answer, Silent, Told, Faulted, answer_to, past_after}
 use Rattle.trace_cli.specs.Lines.{lines_of, has_newline, ends_line, ends_line_after}
 use Rattle.trace_cli.specs.Output.{Given, prepend, give, given_from, answer_text, fault_line}
-use Rattle.trace_cli.specs.Reply.{GoesOn}
+use Rattle.trace_words.specs.Reply.{GoesOn}
 use Rattle.trace_cli.specs.Session.{Point, given_at, Leads, Stops, Begins}
-use Rattle.trace_cli.specs.Streams.{IsFront, Written}
-use Rattle.trace_cli.proofs.StreamLemmas.{Appends-trans}
+use Rattle.watched_io.specs.Streams.{IsFront, Written}
+use Rattle.watched_io.proofs.StreamLemmas.{Appends-trans}
 
 -- a test is passed by a number other than this, or the alternative is
 or_false_left : (a b : Bool) → (a || b) ≡ false → a ≡ false

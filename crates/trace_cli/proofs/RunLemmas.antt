@@ -1,17 +1,17 @@
 -- What was read and written from the start of a run, over plain variables: ro and rn are what the reader had and has
 -- left, wo and wn what the writer held and holds.
-use Rattle.std.proofs.Common.{◌≡◌, ℕ, false, List, [], ◌++◌, Option, Some, None, IfSome, refl, ap, sym, ◌∙◌, subst}
+use Rattle.std.proofs.Common.{◌≡◌, ℕ, ◌+◌, ◌≤◌, length, length-append, arith, false, List, [], ◌++◌, Option, Some, None, IfSome, refl, ap, sym, ◌∙◌, subst}
 use Rattle.std.proofs.lemmas.List.{append-nil}
 use Rattle.std.specs.Io.KnownBytes.{Appends, Consumes, Keeps, IsAtEnd}
 use Rattle.dots.specs.declared.refusal.Refusal.{Refusal}
 use Rattle.trace_cli.specs.Lines.{lines_of, has_newline, IsWholeLinesOf}
-use Rattle.trace_cli.specs.Machine.{start}
+use Rattle.trace_words.specs.Machine.{start}
 use Rattle.trace_cli.specs.Output.{Given, prepend, given_of, given_from}
 use Rattle.trace_cli.specs.declared.session.Session.{Session}
 use Rattle.trace_cli.specs.Session.{Point, start_point, point_of, given_at, Leads, Stops, Begins}
-use Rattle.trace_cli.specs.Streams.{Taken, Written, IsFront}
+use Rattle.watched_io.specs.Streams.{Taken, Written, IsFront}
 use Rattle.trace_cli.proofs.LineLemmas.{given_at-Leads, Leads-nothing, Leads-trans, Stops-after, Begins-after, front-prepend}
-use Rattle.trace_cli.proofs.StreamLemmas.{Appends-nothing, Appends-trans, Consumes-nothing, Consumes-trans, Consumes-kept}
+use Rattle.watched_io.proofs.StreamLemmas.{Appends-nothing, Appends-trans, Consumes-nothing, Consumes-trans, Consumes-kept}
 
 -- from the start of a run, what was read led to this point by writing what was written
 abbrev pub Ran : Option (List ℕ) → Option (List ℕ) → Option (List ℕ) → Option (List ℕ) → Point → Type 0
@@ -46,6 +46,11 @@ Ran-answered ro rm rn wo wn point ran no_end kept =
         given-fault text (given_of led.whole) None is,
       ),
     )
+
+-- at most n bytes were read, and then a piece
+pub Pieces-more : (ro rm rn : Option (List ℕ)) (piece : List ℕ) (n m : ℕ) → Taken ro rm (λ read. length read ≤ n) → Consumes rm rn piece → n + length piece ≤ m
+    → Taken ro rn (λ read. length read ≤ m)
+Pieces-more ro rm rn piece n m taken took within = (taken.0 ++ piece, Consumes-trans ro rm rn taken.0 piece taken.1 took, omega (arith, length-append taken.0 piece, taken.2))
 
 -- one more piece
 pub Ran-more : (ro rm rn wo wm wn : Option (List ℕ)) (mid new : Point) (piece : List ℕ) → Ran ro rm wo wm mid → Consumes rm rn piece

@@ -6,7 +6,7 @@ use Rattle.std.specs.Fmt.{decimal}
 use Rattle.dots.specs.Refusal.{word_of}
 use Rattle.dots.specs.declared.refusal.Refusal.{Refusal}
 use Rattle.trace_cli.specs.Lines.{lines_of}
-use Rattle.trace_cli.specs.Machine.{Past, start, Answer, Silent, Told, Faulted, answer_to, past_after}
+use Rattle.trace_words.specs.Machine.{Past, start, Answer, Silent, Told, Faulted, answer_to, past_after}
 
 -- what is written, and the fault that ended the trace, if one did
 pub record Given : Type 0 where

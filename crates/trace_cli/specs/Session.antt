@@ -2,9 +2,9 @@
 use Rattle.std.specs.Prelude.{◌≡◌, ℕ, true, List, [], ◌++◌, Some}
 use Rattle.dots.specs.declared.refusal.Refusal.{Refusal}
 use Rattle.trace_cli.specs.Lines.{lines_of, ends_line}
-use Rattle.trace_cli.specs.Machine.{Past, start}
+use Rattle.trace_words.specs.Machine.{Past, start}
 use Rattle.trace_cli.specs.Output.{Given, given_from, prepend}
-use Rattle.trace_cli.specs.Streams.{IsFront}
+use Rattle.watched_io.specs.Streams.{IsFront}
 use Rattle.trace_cli.specs.declared.session.Session.{Session}
 
 -- after these events: the number of the next line, and what of it was read

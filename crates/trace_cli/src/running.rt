@@ -1,14 +1,14 @@
-ghost use Rattle.std.specs.Prelude.{◌≡◌, ◌≤◌, ◌++◌, ◌⊎◌, ℕ, List, true, Some, None, OnOk, OnErr, IfOk, IfErr, IfSome, IsErrOf, IsOkUnless};
+ghost use Rattle.std.specs.Prelude.{◌≡◌, ◌≤◌, ◌*◌, ◌++◌, ◌⊎◌, ℕ, List, length, true, false, Some, None, OnOk, OnErr, IfOk, IfErr, IfSome, IsErrOf, IsOkUnless};
 ghost use Rattle.std.specs.Io.KnownBytes.{Appends, IsAtEnd};
 ghost use Rattle.trace_cli.specs.Lines.{IsWholeLinesOf};
-ghost use Rattle.trace_cli.specs.Fault.{is_fault, ends_run};
+ghost use Rattle.trace_words.specs.Fault.{is_fault, ends_run};
 ghost use Rattle.trace_cli.specs.Output.{given_of};
-ghost use Rattle.trace_cli.specs.Streams.{Taken, Written, IsFront};
-ghost use Rattle.trace_cli.specs.Watched.{inner_of, calls_of, has_failed, IsNew};
+ghost use Rattle.watched_io.specs.Streams.{Taken, Written, IsFront};
+ghost use Rattle.watched_io.specs.Watched.{inner_of, calls_of, has_failed, has_gone_on, is_flushed, IsNew, IsSound};
 
-use crate::answer::is_fault;
+use trace_words::is_fault;
 use crate::session::Session;
-use crate::watched::Watched;
+use watched_io::Watched;
 use dots::Refusal;
 use std::alloc::Allocator;
 use std::io::{Read, Write};
@@ -18,9 +18,9 @@ const READ_CALLS: u64 = 1_000_000_000;
 
 /// Runs the trace that the reader gives, and writes its answers.
 ///
-/// Reads at most 4,096 bytes a call, and at most 1,000,000,000 times. The answer of each line is written, and
-/// flushed, before the next line is carried out. The first failure of the reader (Input) or the writer (Output) ends
-/// the run, as does a fault (BadLine, UnknownReplica, UnknownMessage, NameTaken), whose line is written first, and
+/// Both streams are new. Reads at most 4,096 bytes a call, and at most 1,000,000,000 times. The answer of each line is
+/// written, and flushed, before the next line is carried out. The first failure of the reader (Input) or the writer
+/// (Output) ends the run, as does a fault (BadLine, UnknownReplica, UnknownMessage, NameTaken), whose line is written first, and
 /// want of memory (OutOfMemory).
 pub fn run<R: Read, W: Write, A: Allocator + Copy>(
     alloc: A,
@@ -28,6 +28,7 @@ pub fn run<R: Read, W: Write, A: Allocator + Copy>(
     writer: &mut Watched<W>,
 ) -> Result<(), Refusal>
     requires reader_is_new { IsNew reader.old }
+    requires writer_is_new { IsNew writer.old }
 
     // The whole input was read, and what it is given was written, and nothing else.
     ensures ok { OnOk result (Taken (R.remaining (inner_of reader.old)) (R.remaining (inner_of reader.new)) (λ input.
@@ -54,7 +55,15 @@ pub fn run<R: Read, W: Write, A: Allocator + Copy>(
     ensures refusal { IfErr result (λ refusal. ends_run refusal ≡ true) }
     ensures input { IsErrOf result Refusal.Input → (has_failed reader.new ≡ true) ⊎ (calls_of reader.new ≡ READ_CALLS) }
     ensures output { IsErrOf result Refusal.Output → has_failed writer.new ≡ true }
+    // A failure of either stream ends the run: nothing more is asked of that stream.
+    ensures reader_failed { has_failed reader.new ≡ true → IsErrOf result Refusal.Input }
+    ensures writer_failed { has_failed writer.new ≡ true → IsErrOf result Refusal.Output }
+    ensures ended { (has_gone_on reader.new ≡ false) × (has_gone_on writer.new ≡ false) }
+    // All that was written was flushed.
+    ensures flushed { has_failed writer.new ≡ false → is_flushed writer.new ≡ true }
     ensures calls { calls_of reader.new ≤ READ_CALLS }
+    ensures pieces { Taken (R.remaining (inner_of reader.old)) (R.remaining (inner_of reader.new)) (λ read.
+        length read ≤ 4096 * calls_of reader.new) }
 {
     let mut session = Session::new(alloc);
     'calls: for _ in 0..READ_CALLS {
@@ -76,6 +85,7 @@ fn run_all<W: Write, A: Allocator + Copy>(
     input: &[u8],
     writer: &mut Watched<W>,
 ) -> Result<(), Refusal>
+    requires sound { IsSound writer.old }
     ensures ok { OnOk result (Appends (W.contents (inner_of writer.old)) (W.contents (inner_of writer.new)) (given_of input.now).text) }
     ensures fault { IfErr result (λ refusal. is_fault refusal ≡ true →
         Appends (W.contents (inner_of writer.old)) (W.contents (inner_of writer.new)) (given_of input.now).text) }

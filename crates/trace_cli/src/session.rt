@@ -1,12 +1,12 @@
 ghost use Rattle.std.specs.Prelude.{◌≡◌, ◌≢◌, ◌+◌, ◌<◌, ◌≤◌, ◌^◌, ◌++◌, ◌∷◌, [], length, true, false, Some, None, OnOk, OnErr, IfErr, IfOk, IsErrOf};
 ghost use Rattle.std.specs.Fmt.{decimal};
 ghost use Rattle.trace_cli.specs.Lines.{has_newline};
-ghost use Rattle.trace_cli.specs.Fault.{is_fault, ends_run};
-ghost use Rattle.trace_cli.specs.Streams.{Written, IsFront};
+ghost use Rattle.trace_words.specs.Fault.{is_fault, ends_run};
+ghost use Rattle.watched_io.specs.Streams.{Written, IsFront};
 ghost use Rattle.std.specs.Io.KnownBytes.{Appends};
 
-use crate::machine::Machine;
-use crate::watched::Watched;
+use trace_world::Machine;
+use watched_io::Watched;
 use crate::writing::write_reply;
 use dots::Refusal;
 use std::alloc::{Allocator, Global};
@@ -23,7 +23,8 @@ pub(crate) struct Session<A: Allocator + Copy = Global> {
 
 impl<A: Allocator + Copy> Session<A> {
     ghost use Rattle.trace_cli.specs.Session.{point_of, start_point, given_at, Leads, Stops, Begins};
-    ghost use Rattle.trace_cli.specs.Watched.{inner_of, has_failed};
+    ghost use Rattle.watched_io.specs.Watched.{inner_of, IsSound};
+    ghost use Rattle.trace_cli.specs.Ends.{Leaves};
 
     /// The start of a trace.
     pub fn new(alloc: A) -> Session<A>
@@ -39,6 +40,7 @@ impl<A: Allocator + Copy> Session<A> {
 
     /// Carries out the line that was read, and writes its answer.
     fn end_line<W: Write>(&mut self, writer: &mut Watched<W>) -> Result<(), Refusal>
+        requires sound { IsSound writer.old }
         requires room { self.old.number + 1 < 2 ^ 64 }
         requires one_line { has_newline self.old.line.items ≡ false }
         ensures ok { OnOk result (Written (W.contents (inner_of writer.old)) (W.contents (inner_of writer.new)) (λ text.
@@ -52,7 +54,7 @@ impl<A: Allocator + Copy> Session<A> {
             Begins (point_of self.old) (10 ∷ []) text)) }
         ensures refusal { IfErr result (λ refusal. ends_run refusal ≡ true) }
         ensures input { IfErr result (λ refusal. refusal ≢ Refusal.Input) }
-        ensures output { IsErrOf result Refusal.Output → has_failed writer.new ≡ true }
+        ensures writer { Leaves result writer.new }
     {
         let reply = self.machine.carry_out(self.line.as_slice())?;
         write_reply(self.alloc, writer, self.number, reply)?;
@@ -63,6 +65,7 @@ impl<A: Allocator + Copy> Session<A> {
 
     /// Takes the next byte of the trace.
     fn take<W: Write>(&mut self, writer: &mut Watched<W>, byte: u8) -> Result<(), Refusal>
+        requires sound { IsSound writer.old }
         requires room { self.old.number + 1 < 2 ^ 64 }
         requires one_line { has_newline self.old.line.items ≡ false }
         ensures ok { OnOk result (Written (W.contents (inner_of writer.old)) (W.contents (inner_of writer.new)) (λ text.
@@ -76,7 +79,7 @@ impl<A: Allocator + Copy> Session<A> {
             Begins (point_of self.old) (byte ∷ []) text)) }
         ensures refusal { IfErr result (λ refusal. ends_run refusal ≡ true) }
         ensures input { IfErr result (λ refusal. refusal ≢ Refusal.Input) }
-        ensures output { IsErrOf result Refusal.Output → has_failed writer.new ≡ true }
+        ensures writer { Leaves result writer.new }
     {
         if byte == b'\n' {
             return self.end_line(writer);
@@ -87,6 +90,7 @@ impl<A: Allocator + Copy> Session<A> {
 
     /// Takes the next piece of the trace, of any length.
     pub fn feed<W: Write>(&mut self, writer: &mut Watched<W>, piece: &[u8]) -> Result<(), Refusal>
+        requires sound { IsSound writer.old }
         requires room { self.old.number + length piece.now < 2 ^ 64 }
         requires one_line { has_newline self.old.line.items ≡ false }
         ensures ok { OnOk result (Written (W.contents (inner_of writer.old)) (W.contents (inner_of writer.new)) (λ text.
@@ -100,7 +104,7 @@ impl<A: Allocator + Copy> Session<A> {
             Begins (point_of self.old) piece.now text)) }
         ensures refusal { IfErr result (λ refusal. ends_run refusal ≡ true) }
         ensures input { IfErr result (λ refusal. refusal ≢ Refusal.Input) }
-        ensures output { IsErrOf result Refusal.Output → has_failed writer.new ≡ true }
+        ensures writer { Leaves result writer.new }
     {
         for byte in piece {
             self.take(writer, *byte)?;
@@ -110,6 +114,7 @@ impl<A: Allocator + Copy> Session<A> {
 
     /// Ends the trace: a last line without its end is carried out where it has a byte.
     pub fn finish<W: Write>(&mut self, writer: &mut Watched<W>) -> Result<(), Refusal>
+        requires sound { IsSound writer.old }
         requires room { self.old.number + 1 < 2 ^ 64 }
         requires one_line { has_newline self.old.line.items ≡ false }
         ensures ok { OnOk result (Written (W.contents (inner_of writer.old)) (W.contents (inner_of writer.new)) (λ text.
@@ -121,7 +126,7 @@ impl<A: Allocator + Copy> Session<A> {
             IsFront text (given_at (point_of self.old) []).text)) }
         ensures refusal { IfErr result (λ refusal. ends_run refusal ≡ true) }
         ensures input { IfErr result (λ refusal. refusal ≢ Refusal.Input) }
-        ensures output { IsErrOf result Refusal.Output → has_failed writer.new ≡ true }
+        ensures writer { Leaves result writer.new }
     {
         if self.line.is_empty() {
             return Ok(());

@@ -1,52 +1,30 @@
 ghost use Rattle.std.specs.Prelude.{◌≡◌, ◌≢◌, ◌+◌, ◌<◌, ◌≤◌, ◌++◌, ◌∷◌, [], length, true, OnOk, OnErr, IfErr, IsErrOf, IfOk, IsOkUnless, string_bytes, ◌⊎◌};
 ghost use Rattle.std.specs.Io.KnownBytes.{Appends};
-ghost use Rattle.trace_cli.specs.Machine.{Faulted};
-ghost use Rattle.trace_cli.specs.Fault.{is_fault, ends_run};
+ghost use Rattle.trace_words.specs.Machine.{Faulted};
+ghost use Rattle.trace_words.specs.Fault.{is_fault, ends_run};
 ghost use Rattle.trace_cli.specs.Output.{fault_line, answer_text};
-ghost use Rattle.trace_cli.specs.Reply.{answer_of, TellsFaults, GoesOn};
-ghost use Rattle.trace_cli.specs.Streams.{Written, IsFront};
-ghost use Rattle.trace_cli.specs.Watched.{inner_of, has_failed};
+ghost use Rattle.trace_words.specs.Reply.{answer_of, TellsFaults, GoesOn};
+ghost use Rattle.watched_io.specs.Streams.{Written, IsFront};
+ghost use Rattle.watched_io.specs.Watched.{inner_of, IsSound};
+ghost use Rattle.trace_cli.specs.Ends.{Leaves};
 
-use crate::reply::Reply;
-use crate::watched::Watched;
+use trace_words::Reply;
+use watched_io::{Watched, write_out};
 use dots::Refusal;
 use std::alloc::Allocator;
 use std::io::Write;
-
-/// Writes the whole text and flushes it, or answers Output at the first failure.
-fn write_out<W: Write>(writer: &mut Watched<W>, text: &[u8]) -> Result<(), Refusal>
-    ensures ok { OnOk result (Appends (W.contents (inner_of writer.old)) (W.contents (inner_of writer.new)) text.now) }
-    ensures front { OnErr result (Written (W.contents (inner_of writer.old)) (W.contents (inner_of writer.new)) (λ part.
-        IsFront part text.now)) }
-    ensures refusal { IfErr result (λ refusal. refusal ≡ Refusal.Output) }
-    ensures output { OnErr result (has_failed writer.new ≡ true) }
-{
-    let mut rest = text;
-    while !rest.is_empty() {
-        let Ok(count) = writer.write(rest) else {
-            return Err(Refusal::Output);
-        };
-        if count == 0 {
-            return Err(Refusal::Output);
-        }
-        rest = &rest[count..];
-    }
-    if writer.flush().is_err() {
-        return Err(Refusal::Output);
-    }
-    Ok(())
-}
 
 /// Writes the text and the end of its line.
 fn write_line<W: Write, A: Allocator + Copy>(
     writer: &mut Watched<W>,
     mut text: Vec<u8, A>,
 ) -> Result<(), Refusal>
+    requires sound { IsSound writer.old }
     ensures ok { OnOk result (Appends (W.contents (inner_of writer.old)) (W.contents (inner_of writer.new)) (text.items ++ 10 ∷ [])) }
     ensures front { OnErr result (Written (W.contents (inner_of writer.old)) (W.contents (inner_of writer.new)) (λ part.
         IsFront part (text.items ++ 10 ∷ []))) }
     ensures refusal { IfErr result (λ refusal. (refusal ≡ Refusal.Output) ⊎ (refusal ≡ Refusal.OutOfMemory)) }
-    ensures output { IsErrOf result Refusal.Output → has_failed writer.new ≡ true }
+    ensures writer { Leaves result writer.new }
 {
     text.push(b'\n')?;
     write_out(writer, text.as_slice())
@@ -74,11 +52,12 @@ fn write_fault<W: Write, A: Allocator + Copy>(
     number: u64,
     refusal: Refusal,
 ) -> Result<(), Refusal>
+    requires sound { IsSound writer.old }
     ensures ok { OnOk result (Appends (W.contents (inner_of writer.old)) (W.contents (inner_of writer.new)) (fault_line number refusal)) }
     ensures front { OnErr result (Written (W.contents (inner_of writer.old)) (W.contents (inner_of writer.new)) (λ part.
         IsFront part (fault_line number refusal))) }
     ensures refusal { IfErr result (λ refusal. (refusal ≡ Refusal.Output) ⊎ (refusal ≡ Refusal.OutOfMemory)) }
-    ensures output { IsErrOf result Refusal.Output → has_failed writer.new ≡ true }
+    ensures writer { Leaves result writer.new }
 {
     let text = fault_text(alloc, number, refusal)?;
     write_out(writer, text.as_bytes())
@@ -92,7 +71,8 @@ pub(crate) fn write_reply<W: Write, A: Allocator + Copy>(
     number: u64,
     reply: Reply<A>,
 ) -> Result<(), Refusal>
-    requires { TellsFaults reply }
+    requires tells { TellsFaults reply }
+    requires sound { IsSound writer.old }
     ensures ok { OnOk result (Appends (W.contents (inner_of writer.old)) (W.contents (inner_of writer.new))
         (answer_text (answer_of reply) number)) }
     ensures goes_on { OnOk result (GoesOn (answer_of reply)) }
@@ -102,7 +82,7 @@ pub(crate) fn write_reply<W: Write, A: Allocator + Copy>(
         IsFront part (answer_text (answer_of reply) number))) }
     ensures refusal { IfErr result (λ refusal. ends_run refusal ≡ true) }
     ensures input { IfErr result (λ refusal. refusal ≢ Refusal.Input) }
-    ensures output { IsErrOf result Refusal.Output → has_failed writer.new ≡ true }
+    ensures writer { Leaves result writer.new }
 {
     match reply {
         Reply::Silent => Ok(()),

@@ -4,6 +4,7 @@ mod answering;
 mod contexts;
 mod faults;
 mod fields;
+mod flushes;
 mod pins;
 mod removing;
 mod traces;

@@ -4,7 +4,8 @@ use std::io;
 use std::io::{Read, Write};
 use std::process::Abort;
 use std::test::Fail;
-use trace_cli::{Watched, run};
+use trace_cli::run;
+use watched_io::Watched;
 
 const TRACE: &str =
     "node 1\nnode 2\nput 1 a x\nput 2 a y\nflush 1\nflush 2\ndeliver 1 2\ndeliver 2 1\nget 1 a\nget 2 a\nput 1 a z\nflush 1\ndeliver 3 2\nget 1 a\nget 2 a\nflush 2\n";

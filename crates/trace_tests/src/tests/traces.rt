@@ -2,7 +2,8 @@ use dots::Refusal;
 use std::alloc::Global;
 use std::process::Abort;
 use std::test::Fail;
-use trace_cli::{Watched, run, run_bytes};
+use trace_cli::{run, run_bytes};
+use watched_io::Watched;
 
 /// Runs the trace as one text and as a stream, which gives the same text, and the outcome of the stream.
 fn gives(rt: &impl Abort, alloc: Global, trace: &str, text: &str) -> Result<(), Refusal> {

@@ -1,6 +1,6 @@
 use std::io;
 use std::io::{Read, Write};
-use trace_cli::Watched;
+use watched_io::Watched;
 
 /// A reader or a writer each of whose calls fails, or takes nothing.
 #[derive(Drop)]

@@ -1,7 +1,7 @@
-use Rattle.std.proofs.Common.{ap, arith, length, ◌<◌, length-take, refl}
+use Rattle.std.proofs.Common.{[], ap, arith, length, ◌<◌, length-take, refl}
 use Rattle.std.proofs.lemmas.Result.{err_from_is_err_and, on_ok_weaker, on_err_weaker, IfErr-weaker}
-use Rattle.trace_cli.proofs.RunLemmas.{Ran-start, Ran-kept, Ran-answered, Ran-more, Ran-stops, Ran-begins, Ran-finishes, Ran-ends, at_end}
-use Rattle.trace_cli.proofs.StreamLemmas.{Keeps-itself}
+use Rattle.trace_cli.proofs.RunLemmas.{Ran-start, Ran-kept, Ran-answered, Ran-more, Ran-stops, Ran-begins, Ran-finishes, Ran-ends, Pieces-more, at_end}
+use Rattle.watched_io.proofs.StreamLemmas.{Keeps-itself, Consumes-nothing, Consumes-kept}
 use Rattle.trace_cli.specs.Lines.{has_newline}
 use Rattle.trace_cli.specs.Session.{Point}
 use Rattle.trace_cli.proofs.running.run.Goals as goal
@@ -54,6 +54,9 @@ calls-preserved g c = record {
   number = omega (arith, c.in_ok-feed.ensures.number, length-take c.in-Ok.count c.read.new.buf);
   calls = omega (arith, c.in-Ok.ensures.calls);
   failed = rw (c.in-Ok.ensures.failed, c.calls.invariant.failed) refl;
+  not_gone_on = rw (c.in-Ok.ensures.went_on, c.calls.invariant.not_gone_on, c.calls.invariant.failed) refl;
+  sound = c.in_ok-feed.ensures.writer;
+  pieces = Pieces-more _ _ _ _ _ _ c.calls.invariant.pieces c.in-Ok.ensures.bytes.0 (omega (arith, length-take c.in-Ok.count c.read.new.buf));
 }
 
 pub calls-init : goal.calls-init
@@ -65,6 +68,9 @@ calls-init g c =
       number = (let first = ap (λ (point : Point). point.number) at_start in omega (arith, first));
       calls = c.requires.reader_is_new.no_calls;
       failed = c.requires.reader_is_new.no_failure;
+      not_gone_on = c.requires.reader_is_new.not_gone_on;
+      sound = record { no_failure = c.requires.writer_is_new.no_failure; not_gone_on = c.requires.writer_is_new.not_gone_on; flushed = c.requires.writer_is_new.flushed };
+      pieces = ([], Consumes-nothing _, omega arith);
     }
 
 pub returns-in_default-clause-front : goal.returns-in_default-clause-front
@@ -72,3 +78,16 @@ returns-in_default-clause-front g c = Ran-kept _ _ _ _ _ _ c.calls.invariant.led
 
 pub returns-clause-front : goal.returns-clause-front
 returns-clause-front g c = Ran-kept _ _ _ _ _ _ c.calls.invariant.led (Keeps-itself _)
+
+pub returns-in_default-clause-pieces : goal.returns-in_default-clause-pieces
+returns-in_default-clause-pieces g c =
+    Pieces-more _ _ _ [] _ _ c.calls.invariant.pieces (Consumes-kept _ _ c.in_default.ensures.bytes) (omega (arith, c.in_default.ensures.calls, c.calls.invariant.calls))
+
+pub returns-then-count-eq0-clause-pieces : goal.returns-then-count-eq0-clause-pieces
+returns-then-count-eq0-clause-pieces g c =
+    let nothing = rw c.if-count-eq0.true at c.in-Ok.ensures.bytes.0 in
+    Pieces-more _ _ _ [] _ _ c.calls.invariant.pieces nothing (omega (arith, c.in-Ok.ensures.calls, c.calls.invariant.calls))
+
+pub returns-in_err-feed-clause-pieces : goal.returns-in_err-feed-clause-pieces
+returns-in_err-feed-clause-pieces g c =
+    Pieces-more _ _ _ _ _ _ c.calls.invariant.pieces c.in-Ok.ensures.bytes.0 (omega (arith, length-take c.in-Ok.count c.read.new.buf, c.in-Ok.ensures.calls, c.calls.invariant.calls))

@@ -1,8 +1,8 @@
-use Rattle.std.proofs.Common.{◌≡◌, ◌+◌, ◌*◌, ◌≤◌, false}
+use Rattle.std.proofs.Common.{◌≡◌, ◌+◌, ◌*◌, ◌≤◌, length, false}
 use Rattle.trace_cli.specs.Lines.{has_newline}
 use Rattle.trace_cli.specs.Session.{point_of, start_point, Leads}
-use Rattle.trace_cli.specs.Streams.{Taken, Written}
-use Rattle.trace_cli.specs.Watched.{inner_of, calls_of, has_failed}
+use Rattle.watched_io.specs.Streams.{Taken, Written}
+use Rattle.watched_io.specs.Watched.{inner_of, calls_of, has_failed, has_gone_on, IsSound}
 use Rattle.trace_cli.proofs.running.run.Given as goal
 
 abbrev pub invariant-calls : goal.invariant-calls
@@ -14,4 +14,7 @@ invariant-calls g l = record {
   number : l.session.number ≤ 4096 * l.counter + 1;
   calls : calls_of l.reader ≡ l.counter;
   failed : has_failed l.reader ≡ false;
+  not_gone_on : has_gone_on l.reader ≡ false;
+  sound : IsSound l.writer;
+  pieces : Taken (g.R.Read.remaining (inner_of l.initial.reader)) (g.R.Read.remaining (inner_of l.reader)) (λ read. length read ≤ 4096 * l.counter);
 }

@@ -1,6 +1,6 @@
 use Rattle.std.proofs.lemmas.Result.{err_from_is_err_and}
 use Rattle.trace_cli.proofs.LineLemmas.{Leads-answer, Stops-told, Begins-answer}
-use Rattle.trace_cli.specs.Reply.{answer_of}
+use Rattle.trace_words.specs.Reply.{answer_of}
 use Rattle.trace_cli.specs.Session.{point_of}
 use Rattle.trace_cli.specs.Output.{answer_text}
 use Rattle.trace_cli.proofs.session.Session.end_line.Goals as goal

@@ -18,4 +18,5 @@ loop-byte-preserved g c = record {
   led = Leads-next _ _ _ _ _ _ c.args.piece.now c.loop-byte.byte-index c.loop-byte-test.true c.loop-byte.invariant.led c.in_ok-take.ensures.ok;
   one_line = c.in_ok-take.ensures.one_line;
   number = omega (arith, c.in_ok-take.ensures.number);
+  sound = c.in_ok-take.ensures.writer;
 }

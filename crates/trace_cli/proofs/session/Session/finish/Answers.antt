@@ -1,6 +1,6 @@
 use Rattle.std.proofs.Common.{◌≡◌, length}
 use Rattle.std.proofs.lemmas.Result.{IfErr-weaker, on_err_weaker}
-use Rattle.trace_cli.proofs.StreamLemmas.{OnOk-both}
+use Rattle.trace_words.proofs.Answering.{OnOk-both}
 use Rattle.trace_cli.proofs.LineLemmas.{Leads-last, Stops-last, Begins-last, nonzero}
 use Rattle.trace_cli.specs.Session.{point_of}
 use Rattle.trace_cli.proofs.session.Session.finish.Goals as goal

@@ -1,8 +1,0 @@
-use Rattle.std.proofs.Common.{◌≡◌, ◌++◌, map, codes}
-use Rattle.std.specs.List.{flat_map}
-use Rattle.std.specs.Map.Iter.{deref}
-use Rattle.trace_cli.specs.Outcome.{dot_text}
-use Rattle.trace_cli.proofs.answer.push_cloud.Given as goal
-
-abbrev pub invariant-loop-dot : goal.invariant-loop-dot
-invariant-loop-dot g l = l.out.items ≡ l.fn.out.items ++ flat_map (λ dot. codes " +" ++ dot_text dot.name dot.number) (map deref l.yielded)

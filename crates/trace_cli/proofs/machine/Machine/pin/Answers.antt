@@ -1,6 +1,0 @@
-use Rattle.trace_cli.proofs.Pinning.{all_more}
-use Rattle.trace_cli.proofs.machine.Machine.pin.Goals as goal
-
-pub invariant_of-self-2 : goal.invariant_of-self-2
-invariant_of-self-2 g c =
-    rw c.in_ok-push.ensures.items (all_more c.self.inside.desk c.self.inside.pins.items _ c.self.invariant c.age-age.ensures c.in_ok-shown.ensures.ok.1)

@@ -1,0 +1,9 @@
+pub mod Word
+pub mod Command
+pub mod Parsed
+pub mod Compressed
+pub mod Outcome
+pub mod Fault
+pub mod Machine
+pub mod Does
+pub mod Reply

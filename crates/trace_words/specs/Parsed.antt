@@ -1,0 +1,20 @@
+-- What a command that was parsed says.
+use Rattle.trace_words.specs.Command.{CommandValue, Node, Put, Get, Flush, Deliver, Remove, RemoveField, Clear, Fields, Show, Size, Context, Pin, Look}
+use Rattle.trace_words.specs.declared.command.Command.{Command}
+use Rattle.trace_words.specs.declared.command.Command.TheVariants as command
+
+abbrev pub command_value : {A : Type 0} → Command A → CommandValue
+command_value (command.Node name) = Node name
+command_value (command.Put name key field value) = Put name key.items field.items value.items
+command_value (command.Get name key field) = Get name key.items field.items
+command_value (command.Flush name) = Flush name
+command_value (command.Deliver message name) = Deliver message name
+command_value (command.Remove name key) = Remove name key.items
+command_value (command.RemoveField name key field) = RemoveField name key.items field.items
+command_value (command.Clear name) = Clear name
+command_value (command.Fields name key) = Fields name key.items
+command_value (command.Show name) = Show name
+command_value (command.Size name) = Size name
+command_value (command.Context name) = Context name
+command_value (command.Pin name) = Pin name
+command_value (command.Look pin key) = Look pin key.items

@@ -1,0 +1,15 @@
+// The words of the trace language: the command that a line is, and the text of each answer. Offered to the crates that
+// carry the commands out.
+#![tactic(auto)]
+
+mod answer;
+mod command;
+mod reply;
+mod word;
+
+pub use answer::{
+    erased_answer, fields_answer, flush_answer, get_answer, is_fault, map_answer, pin_answer,
+    push_entry, put_answer, reply_of, size_answer,
+};
+pub use command::{Command, parse};
+pub use reply::Reply;

@@ -1,0 +1,18 @@
+use Rattle.std.proofs.Common.{◌∙◌}
+use Rattle.op_model.specs.Place.{place_of}
+use Rattle.trace_world.proofs.Own.{found_node, own_remove, removed_of_key}
+use Rattle.trace_world.proofs.world.World.remove.Goals as goal
+
+pub make-requires : goal.make-requires
+make-requires g c =
+    let made = c.in_ok-delta.ensures.ok in
+    rw (← c.self.view_is) (own_remove _ _ _ c.self.invariant c.args.name c.in-Some.replica.now c.in-Some.ensures.value c.args.key made.0 _ made.1 made.2)
+
+pub returns-clause-ok : goal.returns-clause-ok
+returns-clause-ok g c =
+    let made = c.in_ok-delta.ensures.ok in
+    rw (← c.self.view_is) (
+      found_node _ _ _ c.self.invariant c.args.name c.in-Some.replica.now c.in-Some.ensures.value,
+      removed_of_key _ _ _ c.self.invariant c.args.name c.in-Some.replica.now c.in-Some.ensures.value c.args.key made.0 c.in_ok-delta.number made.1 made.3 made.4,
+      rw c.self.view_is c.in_ok-make.ensures.ok,
+    )
