@@ -1,9 +1,15 @@
 -- What was read and written from the start of a run, over plain variables: ro and rn are what the reader had and has
 -- left, wo and wn what the writer held and holds.
-use Rattle.std.proofs.Common.{◌≡◌, ℕ, ◌+◌, ◌≤◌, length, length-append, arith, false, List, [], ◌++◌, Option, Some, None, IfSome, refl, ap, sym, ◌∙◌, subst}
+use Rattle.std.proofs.Common.{◌≡◌, ◌≢◌, ◌⊎◌, inl, inr, ℕ, ◌+◌, ◌<◌, ◌≤◌, length, length-append, arith, true, false, Result, Ok, Err, IsErrOf, List, [], ◌++◌, Option, Some, None, IfSome, refl, ap, sym, ◌∙◌, subst}
 use Rattle.std.proofs.lemmas.List.{append-nil}
 use Rattle.std.specs.Io.KnownBytes.{Appends, Consumes, Keeps, IsAtEnd}
+use Rattle.std.proofs.lemmas.Bool.{true≢false}
+use Rattle.dots.specs.Refusal.{number_of}
 use Rattle.dots.specs.declared.refusal.Refusal.{Refusal}
+use Rattle.dots.specs.declared.refusal.Refusal.TheVariants.{OutOfMemory, TooLong, ReadOnly, NumbersSpent, SessionsFull, NotAMessage, NoPlace, NameTaken, UnknownReplica, UnknownMessage, BadLine, Input, Output}
+use Rattle.watched_io.specs.declared.watched.Watched.{Watched}
+use Rattle.watched_io.specs.Watched.{has_failed, has_gone_on, is_flushed}
+use Rattle.trace_cli.specs.Ends.{Leaves}
 use Rattle.trace_cli.specs.Lines.{lines_of, has_newline, IsWholeLinesOf}
 use Rattle.trace_words.specs.Machine.{start}
 use Rattle.trace_cli.specs.Output.{Given, prepend, given_of, given_from}
@@ -157,3 +163,47 @@ Stops-written wo wn session input refusal at_start then =
     let stop : Stops start_point input then.0 refusal = subst P at_start then.2 in
     given-written wo wn then.0 (given_of input) (Some refusal)
     (ap (λ bytes. given_from start 1 (lines_of bytes)) (sym (append-nil input)) ∙ stop.stops []) then.1
+
+-- a refusal is Output or it is not
+apart : (refusal : Refusal) → number_of refusal < 13 → refusal ≢ Output
+apart refusal below is = let e : number_of refusal ≡ 13 = ap number_of is in omega (arith, e, below)
+
+by_output : (refusal : Refusal) → (refusal ≡ Output) ⊎ (refusal ≢ Output)
+by_output Output = inl refl
+by_output Input = let below : 12 < 13 = omega arith in inr (apart Input below)
+by_output BadLine = let below : 11 < 13 = omega arith in inr (apart BadLine below)
+by_output UnknownMessage = let below : 10 < 13 = omega arith in inr (apart UnknownMessage below)
+by_output UnknownReplica = let below : 9 < 13 = omega arith in inr (apart UnknownReplica below)
+by_output NameTaken = let below : 8 < 13 = omega arith in inr (apart NameTaken below)
+by_output NoPlace = let below : 7 < 13 = omega arith in inr (apart NoPlace below)
+by_output NotAMessage = let below : 6 < 13 = omega arith in inr (apart NotAMessage below)
+by_output SessionsFull = let below : 5 < 13 = omega arith in inr (apart SessionsFull below)
+by_output NumbersSpent = let below : 4 < 13 = omega arith in inr (apart NumbersSpent below)
+by_output ReadOnly = let below : 3 < 13 = omega arith in inr (apart ReadOnly below)
+by_output TooLong = let below : 2 < 13 = omega arith in inr (apart TooLong below)
+by_output OutOfMemory = let below : 1 < 13 = omega arith in inr (apart OutOfMemory below)
+
+-- what an outcome tells of the writer that it leaves
+pub writer_failed : {W T : Type 0} (result : Result T Refusal) (writer : Watched W) → Leaves result writer → has_failed writer ≡ true → IsErrOf result Output
+writer_failed (Ok value) writer left failed = absurd (true≢false (sym failed ∙ left.no_failure))
+writer_failed {T = T} (Err refusal) writer left failed = by (by_output refusal)
+  where
+    by : (refusal ≡ Output) ⊎ (refusal ≢ Output) → IsErrOf {T = T} (Err refusal) Output
+    by (inl is) = ap Err is
+    by (inr other) = absurd (true≢false (sym failed ∙ (left.sound other).no_failure))
+
+pub never_gone_on : {W T : Type 0} (result : Result T Refusal) (writer : Watched W) → Leaves result writer → has_gone_on writer ≡ false
+never_gone_on (Ok value) writer left = left.not_gone_on
+never_gone_on (Err refusal) writer left = by (by_output refusal)
+  where
+    by : (refusal ≡ Output) ⊎ (refusal ≢ Output) → has_gone_on writer ≡ false
+    by (inl is) = (left.broken is).not_gone_on
+    by (inr other) = (left.sound other).not_gone_on
+
+pub all_flushed : {W T : Type 0} (result : Result T Refusal) (writer : Watched W) → Leaves result writer → has_failed writer ≡ false → is_flushed writer ≡ true
+all_flushed (Ok value) writer left sound = left.flushed
+all_flushed (Err refusal) writer left sound = by (by_output refusal)
+  where
+    by : (refusal ≡ Output) ⊎ (refusal ≢ Output) → is_flushed writer ≡ true
+    by (inl is) = absurd (true≢false (sym (left.broken is).failure ∙ sound))
+    by (inr other) = (left.sound other).flushed

@@ -6,12 +6,12 @@ ghost use Rattle.trace_cli.specs.Output.{given_of};
 ghost use Rattle.watched_io.specs.Streams.{Taken, Written, IsFront};
 ghost use Rattle.watched_io.specs.Watched.{inner_of, calls_of, has_failed, has_gone_on, is_flushed, IsNew, IsSound};
 
-use trace_words::is_fault;
 use crate::session::Session;
-use watched_io::Watched;
 use dots::Refusal;
 use std::alloc::Allocator;
 use std::io::{Read, Write};
+use trace_words::is_fault;
+use watched_io::Watched;
 
 /// At most so many reads are made of one trace.
 const READ_CALLS: u64 = 1_000_000_000;

@@ -5,12 +5,12 @@ ghost use Rattle.trace_words.specs.Fault.{is_fault, ends_run};
 ghost use Rattle.watched_io.specs.Streams.{Written, IsFront};
 ghost use Rattle.std.specs.Io.KnownBytes.{Appends};
 
-use trace_world::Machine;
-use watched_io::Watched;
 use crate::writing::write_reply;
 use dots::Refusal;
 use std::alloc::{Allocator, Global};
 use std::io::Write;
+use trace_world::Machine;
+use watched_io::Watched;
 
 /// A trace that is being read: the machine, what was read of the current line, and that line's number.
 #[derive(Drop)]

@@ -8,11 +8,11 @@ ghost use Rattle.watched_io.specs.Streams.{Written, IsFront};
 ghost use Rattle.watched_io.specs.Watched.{inner_of, IsSound};
 ghost use Rattle.trace_cli.specs.Ends.{Leaves};
 
-use trace_words::Reply;
-use watched_io::{Watched, write_out};
 use dots::Refusal;
 use std::alloc::Allocator;
 use std::io::Write;
+use trace_words::Reply;
+use watched_io::{Watched, write_out};
 
 /// Writes the text and the end of its line.
 fn write_line<W: Write, A: Allocator + Copy>(

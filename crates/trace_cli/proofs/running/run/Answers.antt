@@ -1,6 +1,6 @@
-use Rattle.std.proofs.Common.{[], ap, arith, length, ◌<◌, length-take, refl}
+use Rattle.std.proofs.Common.{Err, [], ap, arith, length, ◌<◌, length-take, refl}
 use Rattle.std.proofs.lemmas.Result.{err_from_is_err_and, on_ok_weaker, on_err_weaker, IfErr-weaker}
-use Rattle.trace_cli.proofs.RunLemmas.{Ran-start, Ran-kept, Ran-answered, Ran-more, Ran-stops, Ran-begins, Ran-finishes, Ran-ends, Pieces-more, at_end}
+use Rattle.trace_cli.proofs.RunLemmas.{Ran-start, Ran-kept, Ran-answered, Ran-more, Ran-stops, Ran-begins, Ran-finishes, Ran-ends, Pieces-more, at_end, writer_failed, never_gone_on, all_flushed}
 use Rattle.watched_io.proofs.StreamLemmas.{Keeps-itself, Consumes-nothing, Consumes-kept}
 use Rattle.trace_cli.specs.Lines.{has_newline}
 use Rattle.trace_cli.specs.Session.{Point}
@@ -91,3 +91,28 @@ returns-then-count-eq0-clause-pieces g c =
 pub returns-in_err-feed-clause-pieces : goal.returns-in_err-feed-clause-pieces
 returns-in_err-feed-clause-pieces g c =
     Pieces-more _ _ _ _ _ _ c.calls.invariant.pieces c.in-Ok.ensures.bytes.0 (omega (arith, length-take c.in-Ok.count c.read.new.buf, c.in-Ok.ensures.calls, c.calls.invariant.calls))
+
+pub returns-clause-pieces : goal.returns-clause-pieces
+returns-clause-pieces g c = Pieces-more _ _ _ [] _ _ c.calls.invariant.pieces (Consumes-nothing _) (omega (arith, c.calls.invariant.calls))
+
+pub returns-then-count-eq0-clause-writer_failed : goal.returns-then-count-eq0-clause-writer_failed
+returns-then-count-eq0-clause-writer_failed g c = writer_failed c.finish.result _ c.finish.ensures.writer
+
+pub returns-then-count-eq0-clause-ended : goal.returns-then-count-eq0-clause-ended
+returns-then-count-eq0-clause-ended g c =
+    (rw (c.in-Ok.ensures.went_on, c.calls.invariant.not_gone_on, c.calls.invariant.failed) refl, never_gone_on c.finish.result _ c.finish.ensures.writer)
+
+pub returns-then-count-eq0-clause-flushed : goal.returns-then-count-eq0-clause-flushed
+returns-then-count-eq0-clause-flushed g c = all_flushed c.finish.result _ c.finish.ensures.writer
+
+pub returns-in_err-feed-clause-writer_failed : goal.returns-in_err-feed-clause-writer_failed
+returns-in_err-feed-clause-writer_failed g c =
+    let p = err_from_is_err_and c.from_residual.result c.from_residual.ensures.1 in
+    rw (p.1, p.2) (writer_failed {T = Unit {0}} (Err c.in_err-feed.field-0.0) _ c.in_err-feed.ensures.writer)
+
+pub returns-in_err-feed-clause-ended : goal.returns-in_err-feed-clause-ended
+returns-in_err-feed-clause-ended g c =
+    (rw (c.in-Ok.ensures.went_on, c.calls.invariant.not_gone_on, c.calls.invariant.failed) refl, never_gone_on {T = Unit {0}} (Err c.in_err-feed.field-0.0) _ c.in_err-feed.ensures.writer)
+
+pub returns-in_err-feed-clause-flushed : goal.returns-in_err-feed-clause-flushed
+returns-in_err-feed-clause-flushed g c = all_flushed {T = Unit {0}} (Err c.in_err-feed.field-0.0) _ c.in_err-feed.ensures.writer

@@ -11,8 +11,8 @@ returns-then-is_empty-clause-after g c = past_after-empty _ c.args.line.now c.if
 
 pub returns-clause-answer : goal.returns-clause-answer
 returns-clause-answer g c =
-    IfOk-weaker c.reply.result _ _ (λ reply answered. answered _ _ _ c.attempt-done.ensures ∙ sym (answer_to-command c.args.self.now c.args.line.now c.if-is_empty.ensures)) c.reply.ensures.answer
+    IfOk-weaker c.reply_of.result _ _ (λ reply answered. answered _ _ _ c.attempt-done.ensures ∙ sym (answer_to-command c.args.self.now c.args.line.now c.if-is_empty.ensures)) c.reply_of.ensures.answer
 
 pub returns-clause-after : goal.returns-clause-after
 returns-clause-after g c =
-    IfOk-weaker c.reply.result _ _ (λ reply answered. answered _ _ _ c.attempt-done.ensures ∙ sym (past_after-command c.args.self.now c.args.line.now c.if-is_empty.ensures)) c.reply.ensures.after
+    IfOk-weaker c.reply_of.result _ _ (λ reply answered. answered _ _ _ c.attempt-done.ensures ∙ sym (past_after-command c.args.self.now c.args.line.now c.if-is_empty.ensures)) c.reply_of.ensures.after
