@@ -23,7 +23,7 @@ impl Write for Flushing {
     }
 }
 
-fn flushing(alloc: Global) -> Watched<Flushing> {
+fn new_writer(alloc: Global) -> Watched<Flushing> {
     Watched::new(Flushing {
         text: Vec::new(alloc),
         lengths: Vec::new(alloc),
@@ -33,7 +33,7 @@ fn flushing(alloc: Global) -> Watched<Flushing> {
 #[test]
 fn each_answer_is_flushed_by_itself(rt: HostRuntime) {
     let mut reader = Watched::new(b"node 1\n\nput 1 a x\nget 1 a\n".as_slice());
-    let mut writer = flushing(rt.alloc());
+    let mut writer = new_writer(rt.alloc());
     assert_eq!(rt; run(rt.alloc(), &mut reader, &mut writer), Ok(()));
     assert!(rt; writer.flushed() && !writer.went_on());
     let written = writer.into_inner();
@@ -44,7 +44,7 @@ fn each_answer_is_flushed_by_itself(rt: HostRuntime) {
 #[test]
 fn the_line_of_a_fault_is_flushed(rt: HostRuntime) {
     let mut reader = Watched::new(b"node 1\nnode 1\n".as_slice());
-    let mut writer = flushing(rt.alloc());
+    let mut writer = new_writer(rt.alloc());
     assert!(rt; run(rt.alloc(), &mut reader, &mut writer).is_err());
     let written = writer.into_inner();
     assert_eq!(rt; written.lengths.as_slice(), [3, 27].as_slice());

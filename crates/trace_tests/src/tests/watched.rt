@@ -45,7 +45,8 @@ fn calls_are_passed_on_and_counted(rt: HostRuntime) {
     assert_eq!(rt; reader.calls(), 1);
     let mut writer = Watched::new(Vec::new(rt.alloc()));
     assert_eq!(rt; writer.write(b"abc").ok(), Some(3));
-    assert!(rt; writer.flush().is_ok());
+    assert!(rt; !writer.flushed());
+    assert!(rt; writer.flush().is_ok() && writer.flushed());
     assert_eq!(rt; writer.calls(), 1);
     assert!(rt; !writer.failed() && !reader.failed());
     let written = writer.into_inner();
@@ -65,7 +66,9 @@ fn each_failure_is_remembered(rt: HostRuntime) {
     assert_eq!(rt; full.write(b"").ok(), Some(0));
     assert!(rt; !full.failed());
     assert_eq!(rt; full.write(b"a").ok(), Some(0));
-    assert!(rt; full.failed());
+    assert!(rt; full.failed() && !full.went_on());
+    assert_eq!(rt; full.write(b"a").ok(), Some(0));
+    assert!(rt; full.went_on());
     let mut ended = Watched::new(Broken { fails: false });
     assert_eq!(rt; ended.read(&mut buf).ok(), Some(0));
     assert!(rt; !ended.failed());
