@@ -1,6 +1,6 @@
 use Rattle.std.proofs.Common.{◌+◌, length, ◌<◌, ◌^◌, arith, inl}
 use Rattle.hash_path.proofs.Rising.{rise_short}
-use Rattle.gen_trie.proofs.tests.summaries.MarkSummaryU64.branch.Goals as goal
+use Rattle.trie_tests.proofs.summaries.MarkSummaryU64.branch.Goals as goal
 
 -- a branch has 32 children at most
 

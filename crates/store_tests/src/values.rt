@@ -1,4 +1,6 @@
-use super::*;
+// The plain values.
+use crate::made::dot;
+use dots::{Dot, Field, FieldKind, Key, KeyKind, Name, Refusal, Text, ValueKind};
 use std::alloc::Global;
 use std::mem::size_of;
 use std::process::Abort;
@@ -43,30 +45,39 @@ fn a_text_comes_before_those_that_it_begins(rt: HostRuntime) -> Result<(), Fail>
     Ok(())
 }
 
+// Whether a text of this many bytes is refused as too long.
+fn is_too_long<K>(alloc: Global, count: usize) -> Result<bool, Refusal> {
+    let bytes = zeros(alloc, count)?;
+    let text: Result<Text<K>, Refusal> = Text::new(alloc, &bytes);
+    Ok(text.err() == Some(Refusal::TooLong))
+}
+
 #[test]
 fn texts_end_at_65535_bytes(rt: HostRuntime) -> Result<(), Fail> {
     let alloc = rt.alloc();
-    let longest = zeros(alloc, 65535)?;
-    let too_long = zeros(alloc, 65536)?;
-    assert_eq!(rt; Field::new(alloc, &longest)?.bytes().len(), 65535);
-    assert_eq!(rt; Field::new(alloc, &too_long).err(), Some(Refusal::TooLong));
-    assert_eq!(rt; Key::new(alloc, &too_long).err(), Some(Refusal::TooLong));
-    assert_eq!(rt; Value::new(alloc, &too_long).err(), Some(Refusal::TooLong));
+    let longest = Field::new(alloc, &zeros(alloc, 65535)?)?;
+    assert_eq!(rt; longest.bytes().len(), 65535);
+    assert!(rt; is_too_long::<FieldKind>(alloc, 65536)?);
+    assert!(rt; is_too_long::<KeyKind>(alloc, 65536)?);
+    assert!(rt; is_too_long::<ValueKind>(alloc, 65536)?);
     Ok(())
 }
 
 #[test]
 fn names_and_numbers_begin_at_one(rt: HostRuntime) -> Result<(), Fail> {
-    let first = Name::new(1).expect(&rt, "a name");
-    let last = Name::new(u64::MAX).expect(&rt, "a name");
+    let first = Name::new(1).ok_or("a name")?;
     assert_eq!(rt; Name::new(0), None);
     assert_eq!(rt; Dot::new(first, 0), None);
-    let early = Dot::new(first, 9).expect(&rt, "a dot");
-    let late = Dot::new(last, 1).expect(&rt, "a dot");
-    assert_eq!(rt; (early.name(), early.number()), (first, 9));
+    Ok(())
+}
+
+#[test]
+fn dots_go_by_name_and_then_by_number(rt: HostRuntime) {
+    let early = dot(&rt, 1, 9);
+    let late = dot(&rt, u64::MAX, 1);
+    assert_eq!(rt; (early.name().number(), early.number()), (1, 9));
     assert_eq!(rt; late.name().number(), u64::MAX);
     assert!(rt; early < late);
-    Ok(())
 }
 
 #[test]

@@ -1,11 +1,12 @@
-use super::*;
+// Workiva's calls: a map with snapshots.
+use ctrie_api::Ctrie;
 use dots::{Key, Refusal};
 use gen_trie::Iter;
 use hash_path::Fnv1a;
 use std::alloc::Global;
 use std::test::Fail;
 
-type Map = Ctrie<u64, Fnv1a>;
+pub(crate) type Map = Ctrie<u64, Fnv1a>;
 
 fn put(alloc: Global, trie: &mut Map, key: &[u8], value: u64) -> Result<(), Refusal> {
     trie.insert(Key::new(alloc, key)?, value)
@@ -25,18 +26,24 @@ fn taken(alloc: Global, trie: &mut Map, key: &[u8]) -> Result<Option<u64>, Refus
 }
 
 // A trie with the value 1 at the key a.
-fn one(alloc: Global) -> Result<Map, Refusal> {
+pub(crate) fn one(alloc: Global) -> Result<Map, Refusal> {
     let mut trie = Ctrie::new(alloc, Fnv1a);
     put(alloc, &mut trie, b"a", 1)?;
+    Ok(trie)
+}
+
+// The same with 2 and 3 at b and c.
+fn three(alloc: Global) -> Result<Map, Refusal> {
+    let mut trie = one(alloc)?;
+    put(alloc, &mut trie, b"b", 2)?;
+    put(alloc, &mut trie, b"c", 3)?;
     Ok(trie)
 }
 
 #[test]
 fn a_trie_is_a_map(rt: HostRuntime) -> Result<(), Fail> {
     let alloc = rt.alloc();
-    let mut trie = one(alloc)?;
-    put(alloc, &mut trie, b"b", 2)?;
-    put(alloc, &mut trie, b"c", 3)?;
+    let mut trie = three(alloc)?;
     assert_eq!(rt; trie.size(), 3);
     assert_eq!(rt; at(alloc, &trie, b"b")?, Some(2));
     assert!(rt; !trie.is_read_only());
@@ -69,9 +76,7 @@ fn digits<'a>(walk: Iter<'a, u64>) -> u64 {
 #[test]
 fn a_trie_is_walked_by_the_lowest_bits_of_the_hash(rt: HostRuntime) -> Result<(), Fail> {
     let alloc = rt.alloc();
-    let mut trie = one(alloc)?;
-    put(alloc, &mut trie, b"b", 2)?;
-    put(alloc, &mut trie, b"c", 3)?;
+    let mut trie = three(alloc)?;
     assert_eq!(rt; digits(trie.iter()), 213);
     let snapshot = trie.read_only_snapshot()?;
     put(alloc, &mut trie, b"b", 9)?;
@@ -140,49 +145,5 @@ fn an_empty_read_only_trie_refuses_a_clear(rt: HostRuntime) -> Result<(), Fail> 
     let mut read_only = trie.read_only_snapshot()?;
     assert!(rt; refuses_writes(alloc, &mut read_only));
     assert!(rt; refuses_writes(alloc, &mut read_only.read_only_snapshot()?));
-    Ok(())
-}
-
-// ---- several tries
-
-// Of a trie with a at 1: insert b 2, a snapshot, remove a, a read-only snapshot of the snapshot, clear that, clear the
-// first.
-fn acts(alloc: Global) -> Result<Vec<Act<u64>>, Refusal> {
-    let mut acts = Vec::new(alloc);
-    acts.push(Act::Insert(0, Key::new(alloc, b"b")?, 2))?;
-    acts.push(Act::Snapshot(0))?;
-    acts.push(Act::Remove(0, Key::new(alloc, b"a")?))?;
-    acts.push(Act::ReadOnlySnapshot(1))?;
-    acts.push(Act::Clear(2))?;
-    acts.push(Act::Clear(0))?;
-    Ok(acts)
-}
-
-fn size_at(tries: &Tries<u64, Fnv1a>, index: usize) -> Option<u64> {
-    Some(tries.trie(index)?.size())
-}
-
-#[test]
-fn a_run_writes_each_trie_alone(rt: HostRuntime) -> Result<(), Fail> {
-    let alloc = rt.alloc();
-    let mut tries = Tries::new(alloc, one(alloc)?)?;
-    assert_eq!(rt; tries.run(acts(alloc)?), Ok(()));
-    assert_eq!(rt; tries.len(), 3);
-    assert_eq!(rt;
-        (size_at(&tries, 0), size_at(&tries, 1)),
-        (Some(0), Some(2))
-    );
-    assert_eq!(rt; (size_at(&tries, 2), size_at(&tries, 3)), (Some(2), None));
-    Ok(())
-}
-
-#[test]
-fn an_act_tells_whether_its_trie_is_there(rt: HostRuntime) -> Result<(), Fail> {
-    let alloc = rt.alloc();
-    let mut tries = Tries::new(alloc, one(alloc)?)?;
-    assert_eq!(rt; tries.act(Act::ReadOnlySnapshot(0)), Ok(true));
-    assert_eq!(rt; tries.act(Act::Clear(2)), Ok(false));
-    assert_eq!(rt; tries.act(Act::Clear(1)), Err(Refusal::ReadOnly));
-    assert_eq!(rt; tries.act(Act::Clear(0)), Ok(true));
     Ok(())
 }

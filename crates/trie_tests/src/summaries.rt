@@ -2,10 +2,13 @@
 ghost use Rattle.std.specs.Prelude.{◌≡◌, length};
 ghost use Rattle.hash_path.specs.Fan.{Rise};
 
-use super::*;
-use hash_path::Prefix;
-use std::alloc::Allocator;
+use crate::made::{at, prefix_of, three, three_with};
+use dots::Refusal;
+use gen_trie::{Children, Entry, Frozen, NoSummary, Summary};
+use hash_path::{Fnv1a, PathHash, Prefix, SameHash};
+use std::alloc::{Allocator, Global};
 use std::sync::Arc;
+use std::test::Fail;
 
 #[derive(Clone, Copy, Debug, PartialEq)]
 enum Mark {
@@ -18,7 +21,7 @@ enum Mark {
 }
 
 impl Summary<u64> for Mark {
-    ghost use Rattle.gen_trie.specs.declared.tests.summaries.Mark.TheVariants.{Leaf, List, Branch};
+    ghost use Rattle.trie_tests.specs.declared.summaries.Mark.TheVariants.{Leaf, List, Branch};
 
     ghost calls = { record { leaf = λ key value. Leaf value; list = λ entries. List (length entries); branch = λ children. Branch (length children) } };
 
@@ -43,13 +46,12 @@ fn frozen_three<H: PathHash>(alloc: Global, hash: H) -> Result<Frozen<u64, Mark,
     three_with(alloc, hash)?.freeze()
 }
 
-// The prefix of these indices, or the root where they are no prefix.
-fn prefix_of(indices: &[u32]) -> Prefix {
-    let mut prefix = Prefix::root();
-    for index in indices {
-        prefix = prefix.child(*index).unwrap_or(Prefix::root());
-    }
-    prefix
+// The summary at these indices, which are a prefix.
+fn at_prefix<M: Summary<u64>, H: PathHash>(
+    frozen: &Frozen<u64, M, H>,
+    path: &[u32],
+) -> Result<Option<M>, Fail> {
+    Ok(frozen.summary(prefix_of(path).ok_or("a prefix")?))
 }
 
 #[test]
@@ -62,9 +64,9 @@ fn a_branch_counts_its_children(rt: HostRuntime) -> Result<(), Fail> {
 #[test]
 fn a_key_alone_is_a_leaf_at_each_prefix_of_its_path(rt: HostRuntime) -> Result<(), Fail> {
     let frozen = frozen_three(rt.alloc(), Fnv1a)?;
-    assert_eq!(rt; frozen.summary(prefix_of(&[12])), Some(Mark::Leaf(1)));
-    assert_eq!(rt; frozen.summary(prefix_of(&[12, 9])), Some(Mark::Leaf(1)));
-    assert_eq!(rt; frozen.summary(prefix_of(&[12, 8])), None);
+    assert_eq!(rt; at_prefix(&frozen, &[12])?, Some(Mark::Leaf(1)));
+    assert_eq!(rt; at_prefix(&frozen, &[12, 9])?, Some(Mark::Leaf(1)));
+    assert_eq!(rt; at_prefix(&frozen, &[12, 8])?, None);
     Ok(())
 }
 
@@ -72,10 +74,7 @@ fn a_key_alone_is_a_leaf_at_each_prefix_of_its_path(rt: HostRuntime) -> Result<(
 fn keys_of_equal_hashes_are_a_list(rt: HostRuntime) -> Result<(), Fail> {
     let frozen = frozen_three(rt.alloc(), SameHash(0))?;
     assert_eq!(rt; frozen.summary(Prefix::root()), Some(Mark::Branch(1)));
-    assert_eq!(rt;
-        frozen.summary(prefix_of(&[0, 0, 0, 0, 0, 0, 0])),
-        Some(Mark::List(3))
-    );
+    assert_eq!(rt; at_prefix(&frozen, &[0; 7])?, Some(Mark::List(3)));
     Ok(())
 }
 
@@ -99,7 +98,7 @@ fn a_seal_leaves_the_map(rt: HostRuntime) -> Result<(), Fail> {
 fn no_summary_tells_that_there_are_keys(rt: HostRuntime) -> Result<(), Fail> {
     let mut trie = three(rt.alloc(), Fnv1a)?;
     let frozen = trie.freeze()?;
-    assert_eq!(rt; frozen.summary(prefix_of(&[5])), Some(NoSummary));
-    assert_eq!(rt; frozen.summary(prefix_of(&[6])), None);
+    assert_eq!(rt; at_prefix(&frozen, &[5])?, Some(NoSummary));
+    assert_eq!(rt; at_prefix(&frozen, &[6])?, None);
     Ok(())
 }

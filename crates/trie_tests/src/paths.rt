@@ -1,5 +1,6 @@
 // Hashes and indices from outside: FNV-1a's published values, and the indices worked out by hand from their bits.
-use super::*;
+use crate::made::prefix_of;
+use hash_path::{Fnv1a, PathHash, Prefix, SameHash, index_at};
 use std::process::Abort;
 use std::test::Fail;
 
@@ -47,23 +48,12 @@ fn equal_keys_hash_alike(rt: HostRuntime) {
 #[test]
 fn a_prefix_covers_the_hashes_that_begin_with_it(rt: HostRuntime) -> Result<(), Fail> {
     let root = Prefix::root();
-    assert_eq!(rt; root.depth(), 0);
-    assert!(rt; root.covers(0xe40c_292c));
-    let first = root.child(12).ok_or("twelve")?;
-    let second = first.child(9).ok_or("nine")?;
+    assert!(rt; root.depth() == 0 && root.covers(0xe40c_292c));
+    let second = prefix_of(&[12, 9]).ok_or("two indices")?;
     assert_eq!(rt; second.depth(), 2);
     assert!(rt; second.covers(0xe40c_292c));
     assert!(rt; !second.covers(0xe70c_2de5));
     Ok(())
-}
-
-// The prefix of these indices.
-fn prefix_of(path: &[u32]) -> Option<Prefix> {
-    let mut prefix = Prefix::root();
-    for index in path {
-        prefix = prefix.child(*index)?;
-    }
-    Some(prefix)
 }
 
 #[test]
@@ -73,8 +63,22 @@ fn a_prefix_ends_at_the_seventh_index(rt: HostRuntime) -> Result<(), Fail> {
     assert!(rt; whole.covers(0xe40c_292c));
     assert!(rt; !whole.covers(0xe40c_292d));
     assert!(rt; whole.child(0).is_none());
+    Ok(())
+}
+
+#[test]
+fn an_index_past_the_greatest_makes_no_prefix(rt: HostRuntime) {
     assert!(rt; prefix_of(&[12, 9, 10, 24, 0, 18, 4]).is_none());
     assert!(rt; prefix_of(&[32]).is_none());
     assert!(rt; prefix_of(&[31]).is_some());
+}
+
+#[test]
+fn a_prefix_gives_its_first_index_and_the_others(rt: HostRuntime) -> Result<(), Fail> {
+    let second = prefix_of(&[12, 9]).ok_or("two indices")?;
+    let (first, rest) = second.split_first().ok_or("twelve")?;
+    assert_eq!(rt; (first, rest.depth()), (12, 1));
+    assert!(rt; rest.covers(9) && !rest.covers(12));
+    assert!(rt; Prefix::root().split_first().is_none());
     Ok(())
 }

@@ -1,5 +1,9 @@
-use super::*;
-use hash_path::index_at;
+// Walks over a trie and its frozen maps.
+use crate::made::{taken, three};
+use dots::Key;
+use gen_trie::{Frozen, Iter, NoSummary};
+use hash_path::{Fnv1a, SameHash};
+use std::test::Fail;
 
 // Whether a walk gives these keys and values, and then nothing.
 fn is_walk(mut walk: Iter<'_, u64>, expected: &[(&[u8], u64)]) -> bool {
@@ -61,49 +65,4 @@ fn a_frozen_map_walks_as_it_was(rt: HostRuntime) -> Result<(), Fail> {
     assert!(rt; is_walk(frozen.iter(), &[(b"b", 2), (b"a", 1), (b"c", 3)]));
     assert!(rt; is_walk(trie.iter(), &[(b"b", 9), (b"c", 3)]));
     Ok(())
-}
-
-// ---- many keys
-
-// Whether the first of two keys comes before the other, by the indices of their hashes and then by bytes.
-fn comes_before<H: PathHash>(hash: H, first: &Key, second: &Key) -> bool {
-    let a = hash.hash(first.bytes());
-    let b = hash.hash(second.bytes());
-    for depth in 0..7 {
-        if index_at(a, depth) != index_at(b, depth) {
-            return index_at(a, depth) < index_at(b, depth);
-        }
-    }
-    first.bytes() < second.bytes()
-}
-
-// Whether a plain map has the value at the number that these bytes spell.
-fn has(plain: &Plain, key: &Key, value: u64) -> bool {
-    match key.bytes().first_chunk::<8>() {
-        None => false,
-        Some(bytes) => plain.get(&u64::from_be_bytes(*bytes)) == Some(&value),
-    }
-}
-
-// Whether a frozen map walks through just what the plain map has, in order.
-pub(super) fn agree<H: PathHash>(
-    hash: H,
-    frozen: &Frozen<u64, NoSummary, H>,
-    plain: &Plain,
-) -> bool {
-    let mut left = plain.len();
-    let mut last: Option<&Key> = None;
-    for (key, value) in frozen {
-        if left == 0 || !has(plain, key, *value) {
-            return false;
-        }
-        if let Some(before) = last
-            && !comes_before(hash, before, key)
-        {
-            return false;
-        }
-        left -= 1;
-        last = Some(key);
-    }
-    left == 0
 }

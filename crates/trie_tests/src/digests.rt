@@ -1,9 +1,10 @@
 // The digests of worked maps. What is expected was computed by python3's hashlib of the pages, put together by hand.
-use super::*;
+use crate::made::prefix_of;
 use dot_store::{DotFun, DotStore};
 use dots::{Dot, Key, Name, Refusal, Value};
 use gen_trie::{Frozen, GenTrie};
 use hash_path::{Fnv1a, PathHash, Prefix, SameHash};
+use prefix_digest::{ShaSummary, check, digest};
 use std::alloc::Global;
 use std::test::Fail;
 
@@ -78,13 +79,12 @@ fn take<H: PathHash>(alloc: Global, trie: &mut Trie<H>, key: &[u8]) -> Result<()
     Ok(())
 }
 
-// The prefix of these indices, or the root where they are no prefix.
-fn prefix_of(indices: &[u32]) -> Prefix {
-    let mut prefix = Prefix::root();
-    for index in indices {
-        prefix = prefix.child(*index).unwrap_or(Prefix::root());
-    }
-    prefix
+// The digest at these indices, which are a prefix.
+fn at<H: PathHash>(
+    frozen: &Frozen<DotFun<Value>, ShaSummary, H>,
+    path: &[u32],
+) -> Result<Option<[u8; 32]>, Fail> {
+    Ok(digest(frozen, prefix_of(path).ok_or("a prefix")?))
 }
 
 // The keys a, b and c with a value each.
@@ -102,8 +102,8 @@ fn one_key_has_one_digest_at_each_prefix_of_its_path(rt: HostRuntime) -> Result<
     put(rt.alloc(), &mut trie, b"a", dot(1, 1)?, b"x")?;
     let frozen = trie.freeze()?;
     assert_eq!(rt; digest(&frozen, Prefix::root()), Some(OF_A));
-    assert_eq!(rt; digest(&frozen, prefix_of(&[12, 9])), Some(OF_A));
-    assert_eq!(rt; digest(&frozen, prefix_of(&[12, 8])), None);
+    assert_eq!(rt; at(&frozen, &[12, 9])?, Some(OF_A));
+    assert_eq!(rt; at(&frozen, &[12, 8])?, None);
     Ok(())
 }
 
@@ -127,8 +127,8 @@ fn two_keys_share_their_first_index(rt: HostRuntime) -> Result<(), Fail> {
     put(rt.alloc(), &mut trie, b"", dot(2, 1)?, b"v")?;
     let frozen = trie.freeze()?;
     assert_eq!(rt; digest(&frozen, Prefix::root()), Some(AT_ROOT));
-    assert_eq!(rt; digest(&frozen, prefix_of(&[5])), Some(AT_FIVE));
-    assert_eq!(rt; digest(&frozen, prefix_of(&[5, 15])), Some(OF_B));
+    assert_eq!(rt; at(&frozen, &[5])?, Some(AT_FIVE));
+    assert_eq!(rt; at(&frozen, &[5, 15])?, Some(OF_B));
     Ok(())
 }
 
@@ -136,7 +136,7 @@ fn two_keys_share_their_first_index(rt: HostRuntime) -> Result<(), Fail> {
 fn keys_of_one_hash_are_told_past_the_last_index(rt: HostRuntime) -> Result<(), Fail> {
     let frozen = three(rt.alloc(), SameHash(0))?.freeze()?;
     assert_eq!(rt; digest(&frozen, Prefix::root()), Some(OF_ONE_HASH));
-    assert_eq!(rt; digest(&frozen, prefix_of(&[0; 7])), Some(OF_LIST));
+    assert_eq!(rt; at(&frozen, &[0; 7])?, Some(OF_LIST));
     Ok(())
 }
 
