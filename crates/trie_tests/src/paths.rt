@@ -8,8 +8,9 @@ use std::test::Fail;
 fn has_path(rt: &impl Abort, key: &[u8], hash: u32, path: [u32; 7]) {
     assert_eq!(rt; Fnv1a.hash(key), hash);
     for depth in 0u32..7 {
-        assert_eq!(rt; index_at(hash, depth), path[depth as usize]);
+        assert_eq!(rt; index_at(hash, depth), Some(path[depth as usize]));
     }
+    assert_eq!(rt; index_at(hash, 7), None);
 }
 
 #[test]
@@ -23,7 +24,7 @@ fn fnv1a_gives_its_published_values(rt: HostRuntime) {
 #[test]
 fn a_longer_key_has_its_published_value(rt: HostRuntime) {
     assert_eq!(rt; Fnv1a.hash(b"foobar"), 0xbf9c_f968);
-    assert_eq!(rt; index_at(0xbf9c_f968, 0), 8);
+    assert_eq!(rt; index_at(0xbf9c_f968, 0), Some(8));
 }
 
 #[test]
