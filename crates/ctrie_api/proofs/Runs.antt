@@ -8,9 +8,9 @@ use Rattle.std.proofs.lemmas.Option.{slice_get_within}
 use Rattle.std.proofs.lemmas.Bool.{false≢true}
 use Rattle.std.proofs.lemmas.List.Elements.{All-take, All-tail}
 use Rattle.std.proofs.lemmas.List.Sums.{fold_push, fold-append}
-use Rattle.std.proofs.lemmas.List.{take-append-drop}
+use Rattle.std.proofs.lemmas.List.{take-append-drop, append-nil}
 use Rattle.std.proofs.lemmas.Iterator.Adapters.{option_map_id}
-use Rattle.std.proofs.Math.Dec.{eqb-suc-zero, eqb-zero-suc}
+use Rattle.std.proofs.Math.Dec.{eqb-suc-zero, eqb-zero-suc, eqb-suc-suc}
 use Rattle.dots.specs.declared.refusal.Refusal.{Refusal}
 use Rattle.dots.specs.declared.refusal.Refusal.TheVariants.{ReadOnly}
 use Rattle.dots.specs.Bytes.{bytes_cmp}
@@ -56,7 +56,7 @@ module _ {X : Type 0} where
   get_changed zero zero f (x ∷ xs) = refl
   get_changed (suc i) zero f (x ∷ xs) = sym (option_map_id (slice_get xs i)) ∙ ap (λ b. option_map (λ x. cond b (f x) x) (slice_get xs i)) (sym (eqb-zero-suc i))
   get_changed zero (suc j) f (x ∷ xs) = ap (λ b. Some (cond b (f x) x)) (sym (eqb-suc-zero j))
-  get_changed (suc i) (suc j) f (x ∷ xs) = get_changed i j f xs
+  get_changed (suc i) (suc j) f (x ∷ xs) = get_changed i j f xs ∙ ap (λ b. option_map (λ y. cond b (f y) y) (slice_get xs i)) (sym (eqb-suc-suc j i))
 
   cond_on : (b : Bool) (x y : X) → IsTrue b → cond b x y ≡ x
   cond_on true x y on = refl
@@ -179,6 +179,17 @@ module _ {H V A : Type 0} where
         omega (arith, sum, whole, some, count),
         same ∙ is ∙ ap (acted_all tries) (sym (ap (λ n. take n all) count ∙ (ap (take (length acts)) (sym parts) ∙ take_front acts more))),
       )
+
+  -- each trie after the acts that were carried out before one for which memory was refused
+  pub stopped_each : (acts : List (Act V A)) (act : Act V A) (rest more all : List (Act V A)) (tries now new : List (Trie H V)) (done : ℕ)
+      → acts ++ more ≡ all → more ≡ act ∷ rest → now ≡ acted_all tries acts → done ≡ length acts → new ≡ now → EachIsWritten tries new (take done all)
+  stopped_each acts act rest more all tries now new done parts next is count same =
+      each_written (take done all) tries new (stopped acts act rest more all tries now new done parts next is count same).1
+
+  -- and after all of them
+  pub ended_each : (acts more all : List (Act V A)) (tries new : List (Trie H V)) → acts ++ more ≡ all → more ≡ [] → new ≡ acted_all tries acts → EachIsWritten tries new all
+  ended_each acts more all tries new parts none is =
+      each_written all tries new (is ∙ ap (acted_all tries) (sym (append-nil acts) ∙ ap (λ m. acts ++ m) (sym none) ∙ parts))
 
   -- one more act was carried out
   pub goes_on : (acts : List (Act V A)) (act : Act V A) (rest more all : List (Act V A)) (tries now new : List (Trie H V)) (done : ℕ)
