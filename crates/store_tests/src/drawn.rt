@@ -132,10 +132,16 @@ fn drawn(
     Ok((context, plain))
 }
 
-// Compares two contexts and their union with the plain sets.
-fn compare(rt: &impl Abort, alloc: Global, draws: &mut Draws, round: u64) -> Result<(), Refusal> {
-    let (mut mine, mut my_plain) = drawn(rt, alloc, draws, 3 * round)?;
-    let (yours, your_plain) = drawn(rt, alloc, draws, 2 * round)?;
+// Compares two contexts, each of so many draws, and their union with the plain sets.
+fn compare(
+    rt: &impl Abort,
+    alloc: Global,
+    draws: &mut Draws,
+    my_count: u64,
+    your_count: u64,
+) -> Result<(), Refusal> {
+    let (mut mine, mut my_plain) = drawn(rt, alloc, draws, my_count)?;
+    let (yours, your_plain) = drawn(rt, alloc, draws, your_count)?;
     assert_eq!(rt; mine.includes(&yours), your_plain.is_subset(&my_plain));
     assert_eq!(rt; mine == yours, my_plain == your_plain);
     mine.union(&yours)?;
@@ -149,7 +155,7 @@ fn compare(rt: &impl Abort, alloc: Global, draws: &mut Draws, round: u64) -> Res
 fn random_dots_are_kept_as_an_ordered_set_keeps_them(rt: HostRuntime) -> Result<(), Fail> {
     let mut draws = Draws { state: 1 };
     for round in 0..12 {
-        compare(&rt, rt.alloc(), &mut draws, round)?;
+        compare(&rt, rt.alloc(), &mut draws, 3 * round, 2 * round)?;
     }
     Ok(())
 }
