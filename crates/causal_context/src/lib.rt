@@ -12,6 +12,3 @@ mod vector;
 pub use context::Context;
 pub use in_order::map_in_order;
 pub use laws::{equal_sets_are_one, equality_is_that_of_sets};
-
-#[cfg(test)]
-mod tests;

@@ -1,5 +1,5 @@
 -- What whole runs keep: the tries that are not written to, and those that are read-only.
-use Rattle.std.specs.Prelude.{◌≡◌, ◌<◌, ◌≤◌, ◌+◌, ◌↔◌, ℕ, zero, suc, Bool, true, false, IsTrue, List, [], ◌∷◌, ◌++◌, length, refl, take, Option, Some, None, Result, Err, IfSome, cond, slice_get}
+use Rattle.std.specs.Prelude.{◌≡◌, ◌<◌, ◌≤◌, ◌+◌, ◌↔◌, ℕ, zero, suc, Bool, true, false, IsTrue, List, [], ◌∷◌, ◌++◌, length, refl, take, drop, fold, Option, Some, None, Result, Err, IfSome, cond, slice_get, ◌==◌}
 use Rattle.std.specs.List.{All}
 use Rattle.std.specs.Option.{option_map}
 use Rattle.std.proofs.Common.{arith, ap, sym, ◌∙◌, subst, length-append, append_assoc}
@@ -7,12 +7,15 @@ use Rattle.std.specs.FinMap as finite
 use Rattle.std.proofs.lemmas.Option.{slice_get_within}
 use Rattle.std.proofs.lemmas.Bool.{false≢true}
 use Rattle.std.proofs.lemmas.List.Elements.{All-take, All-tail}
-use Rattle.std.proofs.lemmas.List.Sums.{fold_push}
+use Rattle.std.proofs.lemmas.List.Sums.{fold_push, fold-append}
+use Rattle.std.proofs.lemmas.List.{take-append-drop, append-nil}
+use Rattle.std.proofs.lemmas.Iterator.Adapters.{option_map_id}
+use Rattle.std.proofs.Math.Dec.{eqb-suc-zero, eqb-zero-suc, eqb-suc-suc}
 use Rattle.dots.specs.declared.refusal.Refusal.{Refusal}
 use Rattle.dots.specs.declared.refusal.Refusal.TheVariants.{ReadOnly}
 use Rattle.dots.specs.Bytes.{bytes_cmp}
 use Rattle.ctrie_api.specs.Trie.{Trie}
-use Rattle.ctrie_api.specs.Run.{changed_at, written, as_list, read_only, takes_no_write, acted, acted_all, is_refused, IsWriteAt}
+use Rattle.ctrie_api.specs.Run.{changed_at, written, as_list, read_only, takes_no_write, acted, acted_all, after_act, EachIsWritten, is_refused, IsWriteAt}
 use Rattle.ctrie_api.specs.declared.act.Act.{Act}
 use Rattle.ctrie_api.specs.declared.act.Act.TheVariants.{Insert, Remove, Clear, Snapshot, ReadOnlySnapshot}
 
@@ -42,6 +45,18 @@ module _ {X : Type 0} where
   changed_fixed i f [] fixed = refl
   changed_fixed zero f (x ∷ xs) fixed = ap (λ y. y ∷ xs) fixed
   changed_fixed (suc i) f (x ∷ xs) fixed = ap (λ ys. x ∷ ys) (changed_fixed i f xs fixed)
+
+  option_map_twice : (f g : X → X) (found : Option X) → option_map g (option_map f found) ≡ option_map (λ x. g (f x)) found
+  option_map_twice f g None = refl
+  option_map_twice f g (Some x) = refl
+
+  -- what stands at a place after a change at another place, or at this one
+  get_changed : (i j : ℕ) (f : X → X) (xs : List X) → slice_get (changed_at j f xs) i ≡ option_map (λ x. cond (j == i) (f x) x) (slice_get xs i)
+  get_changed i j f [] = refl
+  get_changed zero zero f (x ∷ xs) = refl
+  get_changed (suc i) zero f (x ∷ xs) = sym (option_map_id (slice_get xs i)) ∙ ap (λ b. option_map (λ x. cond b (f x) x) (slice_get xs i)) (sym (eqb-zero-suc i))
+  get_changed zero (suc j) f (x ∷ xs) = ap (λ b. Some (cond b (f x) x)) (sym (eqb-suc-zero j))
+  get_changed (suc i) (suc j) f (x ∷ xs) = get_changed i j f xs ∙ ap (λ b. option_map (λ y. cond b (f y) y) (slice_get xs i)) (sym (eqb-suc-suc j i))
 
   cond_on : (b : Bool) (x y : X) → IsTrue b → cond b x y ≡ x
   cond_on true x y on = refl
@@ -95,6 +110,13 @@ module _ {H V A : Type 0} where
   act_other tries (Snapshot j) i within other = get_append tries (as_list (slice_get tries j)) i within
   act_other tries (ReadOnlySnapshot j) i within other = get_append tries (as_list (option_map read_only (slice_get tries j))) i within
 
+  act_each : (tries : List (Trie H V)) (act : Act V A) (i : ℕ) → i < length tries → slice_get (acted tries act) i ≡ option_map (λ trie. after_act i trie act) (slice_get tries i)
+  act_each tries (Insert j key value) i within = get_changed i j (written (λ map. finite.insert map key value)) tries
+  act_each tries (Remove j key) i within = get_changed i j (written (λ map. finite.remove map key)) tries
+  act_each tries (Clear j) i within = get_changed i j (written (λ map. finite.empty)) tries
+  act_each tries (Snapshot j) i within = get_append tries (as_list (slice_get tries j)) i within ∙ sym (option_map_id (slice_get tries i))
+  act_each tries (ReadOnlySnapshot j) i within = get_append tries (as_list (option_map read_only (slice_get tries j))) i within ∙ sym (option_map_id (slice_get tries i))
+
   act_marked : (tries : List (Trie H V)) (act : Act V A) (i : ℕ) (trie : Trie H V) → slice_get tries i ≡ Some trie → IsTrue trie.read_only → slice_get (acted tries act) i ≡ Some trie
   act_marked tries (Insert j key value) i trie there marked = get_fixed i j (written (λ map. finite.insert map key value)) tries trie there (written_marked (λ map. finite.insert map key value) trie marked)
   act_marked tries (Remove j key) i trie there marked = get_fixed i j (written (λ map. finite.remove map key)) tries trie there (written_marked (λ map. finite.remove map key) trie marked)
@@ -108,6 +130,20 @@ module _ {H V A : Type 0} where
       let grows = act_grows tries act in
       all_other acts (acted tries act) i (omega (arith, grows, within)) (All-tail (λ act. ¬ (IsWriteAt i act)) act acts others)
       ∙ act_other tries act i within (others 0 act (omega arith))
+
+  all_each : (acts : List (Act V A)) (tries : List (Trie H V)) (i : ℕ) → i < length tries → slice_get (acted_all tries acts) i ≡ option_map (λ trie. fold (after_act i) trie acts) (slice_get tries i)
+  all_each [] tries i within = sym (option_map_id (slice_get tries i))
+  all_each (act ∷ acts) tries i within =
+      let grows = act_grows tries act in
+      all_each acts (acted tries act) i (omega (arith, grows, within))
+      ∙ ap (option_map (λ trie. fold (after_act i) trie acts)) (act_each tries act i within)
+      ∙ option_map_twice (λ trie. after_act i trie act) (λ trie. fold (after_act i) trie acts) (slice_get tries i)
+
+  -- after a run each trie is what the writes at its index made of it since it was there
+  pub each_written : (acts : List (Act V A)) (old new : List (Trie H V)) → new ≡ acted_all old acts → EachIsWritten old new acts
+  each_written acts old new is first i within =
+      ap (λ ts. slice_get ts i) (is ∙ ap (acted_all old) (sym (take-append-drop first acts)) ∙ fold-append acted old (take first acts) (drop first acts))
+      ∙ all_each (drop first acts) (acted_all old (take first acts)) i within
 
   all_marked : (acts : List (Act V A)) (tries : List (Trie H V)) (i : ℕ) (trie : Trie H V) → slice_get tries i ≡ Some trie → IsTrue trie.read_only → slice_get (acted_all tries acts) i ≡ Some trie
   all_marked [] tries i trie there marked = there
@@ -143,6 +179,17 @@ module _ {H V A : Type 0} where
         omega (arith, sum, whole, some, count),
         same ∙ is ∙ ap (acted_all tries) (sym (ap (λ n. take n all) count ∙ (ap (take (length acts)) (sym parts) ∙ take_front acts more))),
       )
+
+  -- each trie after the acts that were carried out before one for which memory was refused
+  pub stopped_each : (acts : List (Act V A)) (act : Act V A) (rest more all : List (Act V A)) (tries now new : List (Trie H V)) (done : ℕ)
+      → acts ++ more ≡ all → more ≡ act ∷ rest → now ≡ acted_all tries acts → done ≡ length acts → new ≡ now → EachIsWritten tries new (take done all)
+  stopped_each acts act rest more all tries now new done parts next is count same =
+      each_written (take done all) tries new (stopped acts act rest more all tries now new done parts next is count same).1
+
+  -- and after all of them
+  pub ended_each : (acts more all : List (Act V A)) (tries new : List (Trie H V)) → acts ++ more ≡ all → more ≡ [] → new ≡ acted_all tries acts → EachIsWritten tries new all
+  ended_each acts more all tries new parts none is =
+      each_written all tries new (is ∙ ap (acted_all tries) (sym (append-nil acts) ∙ ap (λ m. acts ++ m) (sym none) ∙ parts))
 
   -- one more act was carried out
   pub goes_on : (acts : List (Act V A)) (act : Act V A) (rest more all : List (Act V A)) (tries now new : List (Trie H V)) (done : ℕ)

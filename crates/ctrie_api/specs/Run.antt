@@ -1,7 +1,7 @@
 -- Runs of tries, of this project. The tries are a list, in the order in which they were made. A write changes its own map
 -- alone, and a snapshot appends a copy.
 -- Example: of one empty trie, insert a 1 at 0, snapshot 0, clear 0 lead to two tries: an empty one, and one with a at 1.
-use Rattle.std.specs.Prelude.{◌≡◌, ℕ, zero, suc, Bool, true, false, cond, List, [], ◌∷◌, ◌++◌, Option, Some, None, fold, slice_get}
+use Rattle.std.specs.Prelude.{◌≡◌, ◌==◌, ◌<◌, ℕ, zero, suc, Bool, true, false, cond, List, [], ◌∷◌, ◌++◌, length, take, drop, Option, Some, None, Result, Ok, Err, fold, slice_get}
 use Rattle.std.specs.Option.{option_map}
 use Rattle.std.specs.FinMap as finite
 use Rattle.dots.specs.Bytes.{bytes_cmp}
@@ -47,6 +47,19 @@ module _ {H V : Type 0} where
     abbrev pub acted_all : List (Trie H V) → List (Act V A) → List (Trie H V)
     acted_all tries acts = fold acted tries acts
 
+    -- the trie of an index after an act: one that is a write at this index writes to it
+    abbrev pub after_act : ℕ → Trie H V → Act V A → Trie H V
+    after_act place trie (Insert index key value) = cond (index == place) (written (λ map. finite.insert map key value) trie) trie
+    after_act place trie (Remove index key) = cond (index == place) (written (λ map. finite.remove map key) trie) trie
+    after_act place trie (Clear index) = cond (index == place) (written (λ map. finite.empty) trie) trie
+    after_act place trie (Snapshot index) = trie
+    after_act place trie (ReadOnlySnapshot index) = trie
+
+    -- each trie that is there after some first acts is in the end what the writes of the other acts at its index make of it
+    abbrev pub EachIsWritten : List (Trie H V) → List (Trie H V) → List (Act V A) → Type 0
+    EachIsWritten old new acts = (first place : ℕ) → place < length (acted_all old (take first acts))
+        → slice_get new place ≡ option_map (λ trie. fold (after_act place) trie (drop first acts)) (slice_get (acted_all old (take first acts)) place)
+
     -- whether an act is a write at a trie that is read-only
     abbrev pub is_refused : List (Trie H V) → Act V A → Bool
     is_refused tries (Insert index key value) = takes_no_write (slice_get tries index)
@@ -54,6 +67,11 @@ module _ {H V : Type 0} where
     is_refused tries (Clear index) = takes_no_write (slice_get tries index)
     is_refused tries (Snapshot index) = false
     is_refused tries (ReadOnlySnapshot index) = false
+
+-- the acts that a run carried out, which answers with an error how many of them there are
+abbrev pub carried_out : {X Y : Type 0} → Result X ℕ → List Y → List Y
+carried_out (Ok _) acts = acts
+carried_out (Err done) acts = take done acts
 
 module _ {V A : Type 0} where
   -- the index of the trie that an act is at

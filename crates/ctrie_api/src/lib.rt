@@ -9,6 +9,3 @@ mod tries;
 pub use act::Act;
 pub use ctrie::Ctrie;
 pub use tries::Tries;
-
-#[cfg(test)]
-mod tests;

@@ -2,7 +2,7 @@ ghost use Rattle.std.specs.Prelude.{◌≡◌, ◌↔◌, ◌⊎◌, ◌<◌, �
 ghost use Rattle.std.specs.List.{All};
 ghost use Rattle.std.specs.Option.{option_map};
 ghost use Rattle.std.specs.FinMap as finite;
-ghost use Rattle.ctrie_api.specs.Run.{acted, acted_all, index_of, is_refused, IsWriteAt, changed_at, written, read_only, takes_no_write, as_list};
+ghost use Rattle.ctrie_api.specs.Run.{acted, acted_all, index_of, is_refused, IsWriteAt, EachIsWritten, carried_out, changed_at, written, read_only, takes_no_write, as_list};
 
 use crate::act::Act;
 use crate::ctrie::Ctrie;
@@ -86,6 +86,7 @@ impl<V: Drop, H: PathHash, A: Allocator + Copy> Tries<V, H, A> {
     pub fn run(&mut self, acts: Vec<Act<V, A>, A>) -> Result<(), usize>
         ensures ok { OnOk result (self.new ≡ acted_all self.old acts.items) }
         ensures err { IfErr result (λ done. (done < length acts.items) × (self.new ≡ acted_all self.old (take done acts.items))) }
+        ensures each { EachIsWritten self.old self.new (carried_out result acts.items) }
         ensures others { (i : ℕ) → i < length self.old → All (λ act. ¬ (IsWriteAt i act)) acts.items → slice_get self.new i ≡ slice_get self.old i }
         ensures read_only { (i : ℕ) → IfSome (slice_get self.old i) (λ trie. IsTrue trie.read_only → slice_get self.new i ≡ Some trie) }
     {

@@ -14,6 +14,3 @@ pub use kind::{Field, FieldKind, Key, KeyKind, Value, ValueKind};
 pub use name::Name;
 pub use refusal::Refusal;
 pub use text::Text;
-
-#[cfg(test)]
-mod tests;

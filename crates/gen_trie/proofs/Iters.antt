@@ -14,6 +14,7 @@ use Rattle.hash_path.proofs.Walks.{walk_is}
 use Rattle.hash_path.proofs.Words.{key_in-word}
 use Rattle.std.specs.declared.option.Option.{Option}
 use Rattle.gen_trie.specs.Root.{root_entries, IsTrie}
+use Rattle.gen_trie.specs.Shown.{Shown, shown_of}
 use Rattle.gen_trie.specs.declared.entry.Entry.{Entry}
 use Rattle.gen_trie.specs.declared.node.Node.{Node}
 use Rattle.gen_trie.specs.declared.node.Shape.{Shape}
@@ -147,7 +148,7 @@ module _ {V A : Type 0} (f : List ℕ → ℕ) (root : Option (Slot V A)) (count
   iter_is : all ≡ walk f (as_map (root_entries root))
   iter_is = is ∙ sym (walk_is f (root_entries root) trie.hashed (let r = trie.root_is in r.sorted))
 
-module _ {V A H : Type 0} (hash_of : H → List ℕ → ℕ) (hash : H) (root : Option (Slot V A)) (count : ℕ) (seen : H × finite.FinMap bytes_cmp V) (all : List (List ℕ × V)) where
+module _ {V A H : Type 0} (hash_of : H → List ℕ → ℕ) (hash : H) (root : Option (Slot V A)) (count generation : ℕ) (seen : Shown H V) (all : List (List ℕ × V)) where
   -- as the map is seen
-  pub iter_shown : IsTrie (hash_of hash) root count → (hash, as_map (root_entries root)) ≡ seen → all ≡ by_key 7 (root_entries root) → all ≡ walk (hash_of seen.0) seen.1
-  iter_shown trie shown is = iter_is (hash_of hash) root count trie all is ∙ ap (λ x. walk (hash_of x.0) x.1) shown
+  pub iter_shown : IsTrie (hash_of hash) root count → shown_of hash root generation ≡ seen → all ≡ by_key 7 (root_entries root) → all ≡ walk (hash_of seen.hash) seen.map
+  iter_shown trie shown is = iter_is (hash_of hash) root count trie all is ∙ ap (λ x. walk (hash_of x.hash) x.map) shown

@@ -3,3 +3,4 @@ pub mod Shapes
 pub mod Falls
 pub mod Root
 pub mod Left
+pub mod Shown

@@ -2,10 +2,11 @@ ghost use Rattle.std.specs.Prelude.{◌≡◌, ◌↔◌, ℕ, List, length, IfO
 ghost use Rattle.std.specs.declared.option.Option.TheVariants.{None};
 ghost use Rattle.std.specs.Option.{option_map};
 ghost use Rattle.std.specs.FinMap as finite;
-ghost use Rattle.hash_path.specs.Map.{as_map, by_path, walk};
+ghost use Rattle.hash_path.specs.Map.{by_path, walk};
 ghost use Rattle.hash_path.specs.Path.{indices};
 ghost use Rattle.hash_path.specs.Summary.{summary_at};
-ghost use Rattle.gen_trie.specs.Root.{root_entries, IsTrie};
+ghost use Rattle.gen_trie.specs.Root.{IsTrie};
+ghost use Rattle.gen_trie.specs.Shown.{shown, shown_of, generation_after};
 ghost use Rattle.dots.specs.declared.refusal.Refusal.TheVariants.{OutOfMemory};
 
 use crate::iter::Iter;
@@ -33,19 +34,16 @@ pub struct Frozen<V, M: Summary<V>, H: PathHash, A: Allocator = Global> {
 }
 
 impl<V, M: Summary<V>, H: PathHash, A: Allocator> Model for Frozen<V, M, H, A> {
-    ghost use Rattle.std.specs.Prelude.{ℕ};
-    ghost use Rattle.std.specs.Coded.{coded×, coded_list, coded_ℕ};
-    ghost use Rattle.std.specs.FinMap as map;
-    ghost use Rattle.dots.specs.Bytes.{bytes_cmp};
+    ghost use Rattle.gen_trie.specs.Shown.{Shown, shown_code};
 
-    ghost Value = { H × map.FinMap bytes_cmp V };
+    ghost Value = { Shown H V };
 
-    ghost coded = { coded× H.code (map.code (coded_list coded_ℕ) V.code) };
+    ghost coded = { shown_code H.code V.code };
 
-    ghost use Rattle.hash_path.specs.Map.{as_map};
-    ghost use Rattle.gen_trie.specs.Root.{root_entries, IsTrie};
+    ghost use Rattle.gen_trie.specs.Shown.{shown_of};
+    ghost use Rattle.gen_trie.specs.Root.{IsTrie};
 
-    ghost view = { λ a. (a.hash, as_map (root_entries a.root)) };
+    ghost view = { λ a. shown_of a.hash a.root a.generation };
 
     ghost invariant = { λ a. IsTrie (H.hash_of a.hash) a.root a.count };
 }
@@ -53,7 +51,7 @@ impl<V, M: Summary<V>, H: PathHash, A: Allocator> Model for Frozen<V, M, H, A> {
 impl<V, M: Summary<V>, H: PathHash, A: Allocator + Copy> Frozen<V, M, H, A> {
     /// The map with no keys, whose paths are by this hash. Takes no memory.
     pub fn new(alloc: A, hash: H) -> Frozen<V, M, H, A>
-        ensures { result ≡ (hash, finite.empty) }
+        ensures { result ≡ shown hash finite.empty 0 }
     {
         Frozen {
             alloc,
@@ -67,7 +65,7 @@ impl<V, M: Summary<V>, H: PathHash, A: Allocator + Copy> Frozen<V, M, H, A> {
 
     /// The value of the key. Touches eight nodes at most, and takes no memory.
     pub fn lookup(&self, key: &Key<A>) -> Option<&V>
-        ensures { option_map (λ value. value.now) result ≡ finite.get self.now.1 key.now }
+        ensures { option_map (λ value. value.now) result ≡ finite.get self.now.map key.now }
     {
         let hash = self.hash.hash(key.bytes());
         match look_root(&self.root, hash, key.bytes()) {
@@ -78,7 +76,7 @@ impl<V, M: Summary<V>, H: PathHash, A: Allocator + Copy> Frozen<V, M, H, A> {
 
     /// The number of keys.
     pub fn size(&self) -> u64
-        ensures { result ≡ finite.len self.now.1 }
+        ensures { result ≡ finite.len self.now.map }
     {
         self.count
     }
@@ -86,7 +84,7 @@ impl<V, M: Summary<V>, H: PathHash, A: Allocator + Copy> Frozen<V, M, H, A> {
     /// The keys with their values, by ascending index sequence of the key's hash, and those of equal hashes by key bytes.
     /// Takes no memory.
     pub fn iter(&self) -> Iter<'_, V, A>
-        ensures { result ≡ walk (H.hash_of self.now.0) self.now.1 }
+        ensures { result ≡ walk (H.hash_of self.now.hash) self.now.map }
     {
         Iter::new(&self.root)
     }
@@ -100,7 +98,7 @@ impl<V, M: Summary<V>, H: PathHash, A: Allocator + Copy> Frozen<V, M, H, A> {
         root: Option<Slot<V, A>>,
     ) -> Frozen<V, M, H, A>
         requires { IsTrie (H.hash_of hash) root count }
-        ensures { result ≡ (hash, as_map (root_entries root)) }
+        ensures { result ≡ shown_of hash root generation }
     {
         Frozen {
             alloc,
@@ -133,7 +131,7 @@ impl<V: Drop, M: Summary<V>, H: PathHash, A: Allocator + Copy> Frozen<V, M, H, A
     /// A trie of the same map that can be written, in a generation after those of all nodes that it shares; at the last,
     /// 2^64 - 1, it stays. Copies no node.
     pub fn thaw(&self) -> Result<GenTrie<V, M, H, A>, Refusal>
-        ensures ok { IfOk result (λ trie. trie ≡ self.now) }
+        ensures ok { IfOk result (λ trie. trie ≡ record self.now { generation = generation_after self.now.generation }) }
         ensures err { IsOkUnless result OutOfMemory }
     {
         let root = share_root(&self.root)?;
@@ -146,8 +144,8 @@ impl<V, M: Summary<V>, H: PathHash, A: Allocator + Copy> Frozen<V, M, H, A> {
     /// The summary of the keys whose paths begin with a prefix, by recursion over their entries. None exactly where there
     /// are no such keys. Nodes keep no summaries yet, so it visits all nodes under the prefix. Takes no memory.
     pub fn summary(&self, prefix: Prefix) -> Option<M>
-        ensures summary { result ≡ summary_at M.calls prefix 7 (by_path (H.hash_of self.now.0) self.now.1) }
-        ensures none { (result ≡ None) ↔ ((key : List ℕ) → indices (length prefix) (H.hash_of self.now.0 key) ≡ prefix → finite.get self.now.1 key ≡ None) }
+        ensures summary { result ≡ summary_at M.calls prefix 7 (by_path (H.hash_of self.now.hash) self.now.map) }
+        ensures none { (result ≡ None) ↔ ((key : List ℕ) → indices (length prefix) (H.hash_of self.now.hash key) ≡ prefix → finite.get self.now.map key ≡ None) }
     {
         match &self.root {
             None => None,
@@ -162,7 +160,7 @@ impl<'a, V, M: Summary<V>, H: PathHash, A: Allocator + Copy> IntoIterator
 
     type IntoIter = Iter<'a, V, A>;
 
-    ghost into_iter_gives = { λ map it. it ≡ walk (H.hash_of map.now.0) map.now.1 };
+    ghost into_iter_gives = { λ frozen it. it ≡ walk (H.hash_of frozen.now.hash) frozen.now.map };
 
     fn into_iter(self) -> Iter<'a, V, A> {
         self.iter()

@@ -24,6 +24,3 @@ pub use iter::Iter;
 pub use no_summary::NoSummary;
 pub use summary::Summary;
 pub use trie::GenTrie;
-
-#[cfg(test)]
-mod tests;

@@ -74,7 +74,10 @@ pub(crate) fn digit_of(below: u32, hash: u32) -> u32
     ensures value { result ≡ digit below hash }
     ensures bound { result < 32 }
 {
-    index_at(hash, 6 - below)
+    match index_at(hash, 6 - below) {
+        None => unreachable!(),
+        Some(index) => index,
+    }
 }
 
 // How many indices below this one the bitmap has.

@@ -1,8 +1,9 @@
 ghost use Rattle.std.specs.Prelude.{◌≡◌, OnOk, OnErr, IfOk, IsOkUnless};
 ghost use Rattle.std.specs.Option.{option_map};
 ghost use Rattle.std.specs.FinMap as finite;
-ghost use Rattle.hash_path.specs.Map.{as_map, walk};
-ghost use Rattle.gen_trie.specs.Root.{root_entries, IsTrie};
+ghost use Rattle.hash_path.specs.Map.{walk};
+ghost use Rattle.gen_trie.specs.Root.{IsTrie};
+ghost use Rattle.gen_trie.specs.Shown.{shown, shown_of, generation_after};
 ghost use Rattle.dots.specs.declared.refusal.Refusal.TheVariants.{OutOfMemory};
 
 use crate::frozen::Frozen;
@@ -32,19 +33,16 @@ pub struct GenTrie<V, M: Summary<V>, H: PathHash, A: Allocator = Global> {
 }
 
 impl<V, M: Summary<V>, H: PathHash, A: Allocator> Model for GenTrie<V, M, H, A> {
-    ghost use Rattle.std.specs.Prelude.{ℕ};
-    ghost use Rattle.std.specs.Coded.{coded×, coded_list, coded_ℕ};
-    ghost use Rattle.std.specs.FinMap as map;
-    ghost use Rattle.dots.specs.Bytes.{bytes_cmp};
+    ghost use Rattle.gen_trie.specs.Shown.{Shown, shown_code};
 
-    ghost Value = { H × map.FinMap bytes_cmp V };
+    ghost Value = { Shown H V };
 
-    ghost coded = { coded× H.code (map.code (coded_list coded_ℕ) V.code) };
+    ghost coded = { shown_code H.code V.code };
 
-    ghost use Rattle.hash_path.specs.Map.{as_map};
-    ghost use Rattle.gen_trie.specs.Root.{root_entries, IsTrie};
+    ghost use Rattle.gen_trie.specs.Shown.{shown_of};
+    ghost use Rattle.gen_trie.specs.Root.{IsTrie};
 
-    ghost view = { λ a. (a.hash, as_map (root_entries a.root)) };
+    ghost view = { λ a. shown_of a.hash a.root a.generation };
 
     ghost invariant = { λ a. IsTrie (H.hash_of a.hash) a.root a.count };
 }
@@ -52,7 +50,7 @@ impl<V, M: Summary<V>, H: PathHash, A: Allocator> Model for GenTrie<V, M, H, A> 
 impl<V, M: Summary<V>, H: PathHash, A: Allocator + Copy> GenTrie<V, M, H, A> {
     /// The map with no keys, whose paths are by this hash. Takes no memory.
     pub fn new(alloc: A, hash: H) -> GenTrie<V, M, H, A>
-        ensures { result ≡ (hash, finite.empty) }
+        ensures { result ≡ shown hash finite.empty 0 }
     {
         GenTrie {
             alloc,
@@ -66,7 +64,7 @@ impl<V, M: Summary<V>, H: PathHash, A: Allocator + Copy> GenTrie<V, M, H, A> {
 
     /// The value of the key. Touches eight nodes at most, and takes no memory.
     pub fn lookup(&self, key: &Key<A>) -> Option<&V>
-        ensures { option_map (λ value. value.now) result ≡ finite.get self.now.1 key.now }
+        ensures { option_map (λ value. value.now) result ≡ finite.get self.now.map key.now }
     {
         let hash = self.hash.hash(key.bytes());
         match look_root(&self.root, hash, key.bytes()) {
@@ -84,7 +82,7 @@ impl<V, M: Summary<V>, H: PathHash, A: Allocator + Copy> GenTrie<V, M, H, A> {
         root: Option<Slot<V, A>>,
     ) -> GenTrie<V, M, H, A>
         requires { IsTrie (H.hash_of hash) root count }
-        ensures { result ≡ (hash, as_map (root_entries root)) }
+        ensures { result ≡ shown_of hash root generation }
     {
         GenTrie {
             alloc,
@@ -98,7 +96,7 @@ impl<V, M: Summary<V>, H: PathHash, A: Allocator + Copy> GenTrie<V, M, H, A> {
 
     /// The number of keys.
     pub fn size(&self) -> u64
-        ensures { result ≡ finite.len self.now.1 }
+        ensures { result ≡ finite.len self.now.map }
     {
         self.count
     }
@@ -106,7 +104,7 @@ impl<V, M: Summary<V>, H: PathHash, A: Allocator + Copy> GenTrie<V, M, H, A> {
     /// The keys with their values, by ascending index sequence of the key's hash, and those of equal hashes by key bytes.
     /// Takes no memory.
     pub fn iter(&self) -> Iter<'_, V, A>
-        ensures { result ≡ walk (H.hash_of self.now.0) self.now.1 }
+        ensures { result ≡ walk (H.hash_of self.now.hash) self.now.map }
     {
         Iter::new(&self.root)
     }
@@ -117,7 +115,7 @@ impl<V: Drop, M: Summary<V>, H: PathHash, A: Allocator + Copy> GenTrie<V, M, H, 
     /// the value. A map of 2^64 - 1 keys refuses a new one as for want of memory. Touches eight nodes at most, and
     /// copies those that a frozen map shares.
     pub fn insert(&mut self, key: Key<A>, value: V) -> Result<(), Refusal>
-        ensures ok { OnOk result (self.new ≡ (self.old.0, finite.insert self.old.1 key value)) }
+        ensures ok { OnOk result (self.new ≡ record self.old { map = finite.insert self.old.map key value }) }
         ensures same { OnErr result (self.new ≡ self.old) }
         ensures err { IsOkUnless result OutOfMemory }
     {
@@ -136,8 +134,8 @@ impl<V: Drop, M: Summary<V>, H: PathHash, A: Allocator + Copy> GenTrie<V, M, H, 
     /// Takes the key out, and gives the value that was there. A refused call leaves the map as it was. A key that is not
     /// there takes no memory. Touches eight nodes at most, and copies those that a frozen map shares.
     pub fn remove(&mut self, key: &Key<A>) -> Result<Option<Arc<V, A>>, Refusal>
-        ensures value { IfOk result (λ taken. option_map (λ value. value.value) taken ≡ finite.get self.old.1 key.now) }
-        ensures ok { OnOk result (self.new ≡ (self.old.0, finite.remove self.old.1 key.now)) }
+        ensures value { IfOk result (λ taken. option_map (λ value. value.value) taken ≡ finite.get self.old.map key.now) }
+        ensures ok { OnOk result (self.new ≡ record self.old { map = finite.remove self.old.map key.now }) }
         ensures same { OnErr result (self.new ≡ self.old) }
         ensures err { IsOkUnless result OutOfMemory }
     {
@@ -154,7 +152,7 @@ impl<V: Drop, M: Summary<V>, H: PathHash, A: Allocator + Copy> GenTrie<V, M, H, 
 
     /// Takes all keys out.
     pub fn clear(&mut self)
-        ensures { self.new ≡ (self.old.0, finite.empty) }
+        ensures { self.new ≡ record self.old { map = finite.empty } }
     {
         self.root = None;
         self.count = 0;
@@ -174,14 +172,13 @@ impl<V: Drop, M: Summary<V>, H: PathHash, A: Allocator + Copy> GenTrie<V, M, H, 
     /// last, 2^64 - 1, it stays. Copies no node: it takes a reference count, and is refused only where that is full.
     pub fn freeze(&mut self) -> Result<Frozen<V, M, H, A>, Refusal>
         ensures ok { IfOk result (λ frozen. frozen ≡ self.old) }
-        ensures same { self.new ≡ self.old }
+        ensures next { OnOk result (self.new ≡ record self.old { generation = generation_after self.old.generation }) }
+        ensures same { OnErr result (self.new ≡ self.old) }
         ensures err { IsOkUnless result OutOfMemory }
     {
         let root = share_root(&self.root)?;
         let frozen = Frozen::of(self.alloc, self.hash, self.generation, self.count, root);
-        if self.generation < u64::MAX {
-            self.generation += 1;
-        }
+        self.generation = self.generation.saturating_add(1);
         Ok(frozen)
     }
 }
@@ -192,7 +189,7 @@ impl<'a, V, M: Summary<V>, H: PathHash, A: Allocator + Copy> IntoIterator
 
     type IntoIter = Iter<'a, V, A>;
 
-    ghost into_iter_gives = { λ map it. it ≡ walk (H.hash_of map.now.0) map.now.1 };
+    ghost into_iter_gives = { λ trie it. it ≡ walk (H.hash_of trie.now.hash) trie.now.map };
 
     fn into_iter(self) -> Iter<'a, V, A> {
         self.iter()

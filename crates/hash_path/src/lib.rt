@@ -12,6 +12,3 @@ pub use fnv1a::Fnv1a;
 pub use path_hash::PathHash;
 pub use prefix::{Prefix, index_at};
 pub use same_hash::SameHash;
-
-#[cfg(test)]
-mod tests;

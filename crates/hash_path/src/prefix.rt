@@ -7,12 +7,14 @@ use std::marker::Model;
 const DEPTHS: u32 = 7;
 
 /// The index of a hash at a depth from 0 to 6: five of its bits, from the lowest on, so 0 to 31, and 0 to 3 at the
-/// depth 6, where two bits are left.
-pub fn index_at(hash: u32, depth: u32) -> u32
-    requires { depth ≤ 6 }
-    ensures { result ≡ index_in hash depth }
+/// depth 6, where two bits are left. None past it.
+pub fn index_at(hash: u32, depth: u32) -> Option<u32>
+    ensures { MatchOption result (6 < depth) (λ index. index ≡ index_in hash depth) }
 {
-    (hash >> (5 * depth)) & 31
+    if depth >= DEPTHS {
+        return None;
+    }
+    Some((hash >> (5 * depth)) & 31)
 }
 
 // The greatest index that a child at this depth can have.

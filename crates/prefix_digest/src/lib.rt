@@ -8,6 +8,3 @@ mod sha_summary;
 
 pub use pages::{check, digest};
 pub use sha_summary::ShaSummary;
-
-#[cfg(test)]
-mod tests;

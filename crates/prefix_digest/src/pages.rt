@@ -18,9 +18,9 @@ pub fn digest<H: PathHash, A: Allocator + Copy>(
     frozen: &Frozen<DotFun<Value<A>, A>, ShaSummary, H, A>,
     prefix: Prefix,
 ) -> Option<[u8; 32]>
-    ensures value { result ≡ digest_at (H.hash_of frozen.now.0) frozen.now.1 prefix }
-    ensures none { (result ≡ None) ↔ ((key : List ℕ) → indices (length prefix) (H.hash_of frozen.now.0 key) ≡ prefix →
-        finite.get frozen.now.1 key ≡ None) }
+    ensures value { result ≡ digest_at (H.hash_of frozen.now.hash) frozen.now.map prefix }
+    ensures none { (result ≡ None) ↔ ((key : List ℕ) → indices (length prefix) (H.hash_of frozen.now.hash key) ≡ prefix →
+        finite.get frozen.now.map key ≡ None) }
 {
     let summary = frozen.summary(prefix)?;
     Some(summary.digest())

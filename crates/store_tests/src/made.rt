@@ -4,10 +4,14 @@ use dots::{Dot, Key, Name, Refusal, Value};
 use std::alloc::Global;
 use std::process::Abort;
 
+// The name of this number, which is not 0.
+pub fn name(rt: &impl Abort, number: u64) -> Name {
+    Name::new(number).expect(rt, "a name")
+}
+
 // The dot of this name and number, neither of them 0.
-pub fn dot(rt: &impl Abort, name: u64, number: u64) -> Dot {
-    let name = Name::new(name).expect(rt, "a name");
-    Dot::new(name, number).expect(rt, "a number")
+pub fn dot(rt: &impl Abort, of: u64, number: u64) -> Dot {
+    Dot::new(name(rt, of), number).expect(rt, "a number")
 }
 
 pub fn context_of(alloc: Global, dots: &[Dot]) -> Result<Context, Refusal> {

@@ -1,5 +1,6 @@
 use Rattle.std.proofs.Common.{◌∙◌, ap}
 use Rattle.std.specs.FinMap as finite
+use Rattle.gen_trie.specs.Shown.{shown}
 use Rattle.gen_trie.proofs.Puts.{ok_so, either_so}
 use Rattle.gen_trie.proofs.Roots.{IsTrie-put, IsTrie-same, insert_is}
 use Rattle.gen_trie.proofs.trie.GenTrie.insert.Goals as goal
@@ -18,6 +19,6 @@ returns-clause-ok g c =
     let f = g.H.PathHash.hash_of c.self.inside.hash in
     let hashed = c.hash-hash.ensures ∙ ap f c.bytes.ensures.value in
     ok_so c.insert_at.result
-    (λ is. ap (λ m. (c.self.inside.hash, m)) (insert_is f c.self.inside.root c.insert_at.new.root c.self.inside.count c.hash-hash.result c.args.key c.args.value c.self.invariant hashed is)
-    ∙ ap (λ x. (x.0, finite.insert x.1 c.args.key c.args.value)) c.self.view_is)
+    (λ is. ap (λ m. shown c.self.inside.hash m c.self.inside.generation) (insert_is f c.self.inside.root c.insert_at.new.root c.self.inside.count c.hash-hash.result c.args.key c.args.value c.self.invariant hashed is)
+    ∙ ap (λ x. shown x.hash (finite.insert x.map c.args.key c.args.value) x.generation) c.self.view_is)
     c.insert_at.ensures.ok

@@ -1,0 +1,155 @@
+// Contexts, by their version vectors and clouds.
+use crate::forms::{dots_of, has_form, numbered};
+use crate::made::{context_of, dot, name};
+use causal_context::{Context, equal_sets_are_one, equality_is_that_of_sets};
+use dots::Refusal;
+use std::alloc::Global;
+use std::process::Abort;
+use std::test::Fail;
+
+#[test]
+fn a_dot_that_closes_a_gap_folds_the_cloud_into_the_vector(rt: HostRuntime) -> Result<(), Fail> {
+    let alloc = rt.alloc();
+    let mut context = numbered(&rt, alloc, &[(1, 3), (1, 1)])?;
+    assert!(rt; has_form(alloc, &context, &[(1, 1)], &[(1, 3)])?);
+    context.add(dot(&rt, 1, 2))?;
+    assert!(rt; has_form(alloc, &context, &[(1, 3)], &[])?);
+    assert_eq!(rt; context.next(name(&rt, 1)), Some(dot(&rt, 1, 4)));
+    Ok(())
+}
+
+#[test]
+fn the_greatest_number_alone_is_one_dot_of_the_cloud(rt: HostRuntime) -> Result<(), Fail> {
+    let alloc = rt.alloc();
+    let context = numbered(&rt, alloc, &[(1, u64::MAX)])?;
+    assert!(rt; has_form(alloc, &context, &[], &[(1, u64::MAX)])?);
+    assert_eq!(rt; context.next(name(&rt, 1)), None);
+    assert_eq!(rt; context.next(name(&rt, 2)), Some(dot(&rt, 2, 1)));
+    Ok(())
+}
+
+#[test]
+fn a_union_of_what_fills_each_others_gaps_is_one_entry(rt: HostRuntime) -> Result<(), Fail> {
+    let alloc = rt.alloc();
+    let mut odd = numbered(&rt, alloc, &[(7, 1), (7, 3), (7, 5)])?;
+    let even = numbered(&rt, alloc, &[(7, 2), (7, 4), (7, 6)])?;
+    odd.union(&even)?;
+    assert!(rt; has_form(alloc, &odd, &[(7, 6)], &[])?);
+    assert!(rt; !even.includes(&odd));
+    Ok(())
+}
+
+#[test]
+fn the_laws_of_the_form_can_be_called(_rt: HostRuntime) {
+    equal_sets_are_one();
+    equality_is_that_of_sets();
+}
+
+#[test]
+fn the_next_dot_follows_the_greatest_of_its_name(rt: HostRuntime) -> Result<(), Fail> {
+    let context = numbered(&rt, rt.alloc(), &[(1, 3), (1, 1), (2, 7)])?;
+    assert_eq!(rt; context.next(name(&rt, 1)), Some(dot(&rt, 1, 4)));
+    assert_eq!(rt; context.next(name(&rt, 2)), Some(dot(&rt, 2, 8)));
+    assert_eq!(rt; context.next(name(&rt, 3)), Some(dot(&rt, 3, 1)));
+    Ok(())
+}
+
+#[test]
+fn a_union_has_the_dots_of_both_and_leaves_the_other(rt: HostRuntime) -> Result<(), Fail> {
+    let alloc = rt.alloc();
+    let mine = numbered(&rt, alloc, &[(1, 1)])?;
+    let yours = numbered(&rt, alloc, &[(1, 1), (2, 1)])?;
+    let mut both = mine.copy(alloc)?;
+    both.union(&yours)?;
+    assert!(rt; has_form(alloc, &both, &[(1, 1), (2, 1)], &[])?);
+    assert!(rt; both == yours && both != mine);
+    assert!(rt; both.includes(&mine) && !mine.includes(&both));
+    Ok(())
+}
+
+// The context of the first so many writes of a name.
+fn row(rt: &impl Abort, alloc: Global, of: u64, last: u64) -> Result<Context, Refusal> {
+    let mut context = Context::new(alloc);
+    for number in 0..last {
+        context.add(dot(rt, of, number + 1))?;
+    }
+    Ok(context)
+}
+
+#[test]
+fn a_million_writes_of_one_name_are_one_entry(rt: HostRuntime) -> Result<(), Fail> {
+    let alloc = rt.alloc();
+    let million = row(&rt, alloc, 5, 1_000_000)?;
+    assert!(rt; has_form(alloc, &million, &[(5, 1_000_000)], &[])?);
+    let mut other = numbered(&rt, alloc, &[(5, 1_000_002)])?;
+    other.union(&million)?;
+    assert!(rt; has_form(alloc, &other, &[(5, 1_000_000)], &[(5, 1_000_002)])?);
+    assert!(rt; other.includes(&million) && !million.includes(&other));
+    Ok(())
+}
+
+// The context of these lists, given by numbers, if they are the vector and the cloud of one.
+fn of_parts(
+    rt: &impl Abort,
+    alloc: Global,
+    vector: &[(u64, u64)],
+    cloud: &[(u64, u64)],
+) -> Result<Option<Context>, Refusal> {
+    let mut entries = Vec::new(alloc);
+    for (of, number) in vector {
+        entries.push((name(rt, *of), *number))?;
+    }
+    Context::from_parts(alloc, entries, dots_of(rt, alloc, cloud)?)
+}
+
+// Whether there is a context of these lists.
+fn are_parts(
+    rt: &impl Abort,
+    alloc: Global,
+    vector: &[(u64, u64)],
+    cloud: &[(u64, u64)],
+) -> Result<bool, Refusal> {
+    Ok(of_parts(rt, alloc, vector, cloud)?.is_some())
+}
+
+#[test]
+fn a_context_is_made_from_its_own_vector_and_cloud(rt: HostRuntime) -> Result<(), Fail> {
+    let alloc = rt.alloc();
+    let made = of_parts(&rt, alloc, &[(1, 3), (4, u64::MAX)], &[(1, 5), (2, 2)])?;
+    let mut made = made.ok_or("canonical")?;
+    assert!(rt; has_form(alloc, &made, &[(1, 3), (4, u64::MAX)], &[(1, 5), (2, 2)])?);
+    assert!(rt; made.contains(dot(&rt, 1, 3)) && !made.contains(dot(&rt, 1, 4)));
+    made.add(dot(&rt, 1, 4))?;
+    assert!(rt; has_form(alloc, &made, &[(1, 5), (4, u64::MAX)], &[(2, 2)])?);
+    Ok(())
+}
+
+#[test]
+fn other_lists_make_no_context(rt: HostRuntime) -> Result<(), Fail> {
+    let alloc = rt.alloc();
+    assert!(rt; are_parts(&rt, alloc, &[], &[])?);
+    assert!(rt; are_parts(&rt, alloc, &[(1, 2)], &[(1, 4)])?);
+    assert!(rt; !are_parts(&rt, alloc, &[(2, 1), (1, 1)], &[])?);
+    assert!(rt; !are_parts(&rt, alloc, &[(1, 1), (1, 2)], &[])?);
+    assert!(rt; !are_parts(&rt, alloc, &[(1, 0)], &[])?);
+    Ok(())
+}
+
+#[test]
+fn a_cloud_that_touches_its_vector_makes_no_context(rt: HostRuntime) -> Result<(), Fail> {
+    let alloc = rt.alloc();
+    assert!(rt; !are_parts(&rt, alloc, &[(1, 2)], &[(1, 3)])?);
+    assert!(rt; !are_parts(&rt, alloc, &[(1, 2)], &[(1, 2)])?);
+    assert!(rt; !are_parts(&rt, alloc, &[], &[(1, 1)])?);
+    assert!(rt; !are_parts(&rt, alloc, &[], &[(1, 4), (1, 3)])?);
+    assert!(rt; !are_parts(&rt, alloc, &[], &[(1, 3), (1, 3)])?);
+    Ok(())
+}
+
+#[test]
+fn a_context_of_no_dots_is_empty(rt: HostRuntime) -> Result<(), Fail> {
+    let alloc = rt.alloc();
+    assert!(rt; context_of(alloc, &[])?.is_empty());
+    assert!(rt; !numbered(&rt, alloc, &[(1, 2)])?.is_empty());
+    Ok(())
+}

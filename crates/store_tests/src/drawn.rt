@@ -1,0 +1,161 @@
+// Contexts of dots that look random, beside an ordered set of dots as the plain program.
+ghost use Rattle.std.specs.Prelude.{◌<◌};
+
+use crate::forms::has_form;
+use crate::made::{dot, name};
+use causal_context::Context;
+use dots::{Dot, Name, Refusal};
+use std::alloc::Global;
+use std::collections::BTreeSet;
+use std::process::Abort;
+use std::test::Fail;
+
+type Plain = BTreeSet<Dot, Global>;
+
+// The dot after the greatest of this name.
+fn plain_next(dots: &Plain, name: Name) -> Option<Dot> {
+    let mut greatest = 0;
+    for dot in dots {
+        if dot.name() == name {
+            greatest = greatest.max(dot.number());
+        }
+    }
+    Dot::new(name, greatest.checked_add(1)?)
+}
+
+// The number up to which all dots of this name are there.
+fn plain_known(dots: &Plain, name: Name) -> u64 {
+    let mut known = 0;
+    for dot in dots {
+        if dot.name() == name && dot.number() - 1 == known {
+            known = dot.number();
+        }
+    }
+    known
+}
+
+// The names 1 to 3 that have a dot of number 1, with the number up to which all dots are there.
+fn plain_vector(rt: &impl Abort, alloc: Global, dots: &Plain) -> Result<Vec<(u64, u64)>, Refusal> {
+    let mut entries = Vec::new(alloc);
+    for of in 1..4 {
+        let known = plain_known(dots, name(rt, of));
+        if known > 0 {
+            entries.push((of, known))?;
+        }
+    }
+    Ok(entries)
+}
+
+// The other dots.
+fn plain_cloud(alloc: Global, dots: &Plain) -> Result<Vec<(u64, u64)>, Refusal> {
+    let mut apart = Vec::new(alloc);
+    for dot in dots {
+        if dot.number() > plain_known(dots, dot.name()) {
+            apart.push((dot.name().number(), dot.number()))?;
+        }
+    }
+    Ok(apart)
+}
+
+// Whether both say the same of the first dots of this name, and of what is next.
+fn agree_at(rt: &impl Abort, context: &Context, plain: &Plain, of: u64) -> bool {
+    let mut same = context.next(name(rt, of)) == plain_next(plain, name(rt, of));
+    for number in 1..14 {
+        let one = dot(rt, of, number);
+        same = same && context.contains(one) == plain.contains(&one);
+    }
+    same
+}
+
+// Whether both have the same dots, in the form that the plain set tells.
+fn agree(
+    rt: &impl Abort,
+    alloc: Global,
+    context: &Context,
+    plain: &Plain,
+) -> Result<bool, Refusal> {
+    let vector = plain_vector(rt, alloc, plain)?;
+    let cloud = plain_cloud(alloc, plain)?;
+    let mut same = context.is_empty() == plain.is_empty();
+    for of in 1..4 {
+        same = same && agree_at(rt, context, plain, of);
+    }
+    Ok(same && has_form(alloc, context, &vector, &cloud)?)
+}
+
+// A source of numbers that look random: a linear congruential generator.
+#[derive(Drop)]
+struct Draws {
+    state: u64,
+}
+
+impl Draws {
+    // A number below the bound.
+    fn below(&mut self, bound: u64) -> u64
+        requires { 0 < bound }
+        ensures { result < bound }
+    {
+        self.state = self
+            .state
+            .wrapping_mul(6364136223846793005)
+            .wrapping_add(1442695040888963407);
+        (self.state >> 33) % bound
+    }
+
+    // A dot of one of three names, of a small number or of one of the greatest.
+    fn dot(&mut self, rt: &impl Abort) -> Dot {
+        let of = self.below(3) + 1;
+        let number = self.below(12) + 1;
+        if self.below(40) == 0 {
+            dot(rt, of, u64::MAX - (number - 1))
+        } else {
+            dot(rt, of, number)
+        }
+    }
+}
+
+// A context and the plain set, each with this many dots of the draws.
+fn drawn(
+    rt: &impl Abort,
+    alloc: Global,
+    draws: &mut Draws,
+    count: u64,
+) -> Result<(Context, Plain), Refusal> {
+    let mut context = Context::new(alloc);
+    let mut plain = BTreeSet::new(alloc);
+    for _ in 0..count {
+        let dot = draws.dot(rt);
+        context.add(dot)?;
+        plain.insert(dot)?;
+        assert!(rt; agree(rt, alloc, &context, &plain)?);
+    }
+    Ok((context, plain))
+}
+
+// Compares two contexts, each of so many draws, and their union with the plain sets.
+fn compare(
+    rt: &impl Abort,
+    alloc: Global,
+    draws: &mut Draws,
+    my_count: u64,
+    your_count: u64,
+) -> Result<(), Refusal> {
+    let (mut mine, mut my_plain) = drawn(rt, alloc, draws, my_count)?;
+    let (yours, your_plain) = drawn(rt, alloc, draws, your_count)?;
+    assert_eq!(rt; mine.includes(&yours), your_plain.is_subset(&my_plain));
+    assert_eq!(rt; mine == yours, my_plain == your_plain);
+    mine.union(&yours)?;
+    my_plain.extend(&your_plain)?;
+    assert!(rt; agree(rt, alloc, &mine, &my_plain)?);
+    assert!(rt; mine.copy(alloc)? == mine);
+    Ok(())
+}
+
+#[test]
+fn random_dots_are_kept_as_an_ordered_set_keeps_them(rt: HostRuntime) -> Result<(), Fail> {
+    let mut draws = Draws { state: 1 };
+    for round in 0..12 {
+        compare(&rt, rt.alloc(), &mut draws, 3 * round, 2 * round)?;
+    }
+    Ok(())
+}

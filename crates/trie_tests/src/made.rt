@@ -1,0 +1,62 @@
+use dots::{Key, Refusal};
+use gen_trie::{Frozen, GenTrie, NoSummary, Summary};
+use hash_path::{PathHash, Prefix};
+use std::alloc::Global;
+
+// The prefix of these indices.
+pub fn prefix_of(path: &[u32]) -> Option<Prefix> {
+    let mut prefix = Prefix::root();
+    for index in path {
+        prefix = prefix.child(*index)?;
+    }
+    Some(prefix)
+}
+
+// A trie with the values 1, 2 and 3 at the keys a, b and c.
+pub fn three<H: PathHash>(alloc: Global, hash: H) -> Result<GenTrie<u64, NoSummary, H>, Refusal> {
+    three_with(alloc, hash)
+}
+
+// The same with any summary.
+pub fn three_with<M: Summary<u64>, H: PathHash>(
+    alloc: Global,
+    hash: H,
+) -> Result<GenTrie<u64, M, H>, Refusal> {
+    let mut trie = GenTrie::new(alloc, hash);
+    for value in 1..4u8 {
+        trie.insert(Key::new(alloc, &[96 + value])?, u64::from(value))?;
+    }
+    Ok(trie)
+}
+
+// The value at the key of these bytes.
+pub fn at<H: PathHash>(
+    alloc: Global,
+    trie: &GenTrie<u64, NoSummary, H>,
+    key: &[u8],
+) -> Result<Option<u64>, Refusal> {
+    let key = Key::new(alloc, key)?;
+    Ok(trie.lookup(&key).copied())
+}
+
+pub fn frozen_at<H: PathHash>(
+    alloc: Global,
+    frozen: &Frozen<u64, NoSummary, H>,
+    key: &[u8],
+) -> Result<Option<u64>, Refusal> {
+    let key = Key::new(alloc, key)?;
+    Ok(frozen.lookup(&key).copied())
+}
+
+// Takes the key of these bytes out.
+pub fn taken<H: PathHash>(
+    alloc: Global,
+    trie: &mut GenTrie<u64, NoSummary, H>,
+    key: &[u8],
+) -> Result<Option<u64>, Refusal> {
+    let key = Key::new(alloc, key)?;
+    match trie.remove(&key)? {
+        None => Ok(None),
+        Some(value) => Ok(Some(*value)),
+    }
+}
