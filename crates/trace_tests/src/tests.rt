@@ -2,8 +2,10 @@
 
 mod answering;
 mod contexts;
+mod examples;
 mod faults;
 mod fields;
+mod generated;
 mod pins;
 mod removing;
 mod traces;
