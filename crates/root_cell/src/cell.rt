@@ -1,4 +1,4 @@
-ghost use Rattle.std.specs.Prelude.{◌≡◌, ◌≤◌, [], replicate, IfOk, IfErr, OnOk};
+ghost use Rattle.std.specs.Prelude.{◌≡◌, ◌≤◌, [], replicate, drop, IfOk, IfErr, OnOk};
 ghost use Rattle.dots.specs.declared.refusal.Refusal.TheVariants.{OutOfMemory};
 ghost use Rattle.root_cell.specs.Rule.{StandsIn};
 
@@ -34,7 +34,7 @@ impl<R: Drop, E, J: Brand<R, E>, A: Allocator + Copy> Cell<R, E, J, A> {
         root: R,
     ) -> Result<(Writer<R, E, J, A>, Vec<View<R, E, J, A>, A>), Refusal>
         requires places { (1 ≤ places) × (places ≤ 64) }
-        requires book { opened ≡ J.book }
+        requires book { opened.0 ≡ J.book }
         requires stands { J.stands root [] }
         ensures writer { IfOk result (λ r. r.0 ≡ []) }
         ensures views { IfOk result (λ r. r.1.items ≡ replicate places []) }
@@ -72,6 +72,7 @@ fn furnish<R: Drop, E, J: Brand<R, E>, A: Allocator + Copy, W: Wait>(
     requires shown { desk.desk.shown.value ≡ first.now }
     requires front { front.now ≡ [] }
     ensures desk { OnOk result.1 (result.0.desk.shown.value ≡ first.now) }
+    ensures settled { OnOk result.1 (drop result.0.behind result.0.log.items ≡ []) }
     ensures views { IfOk result.1 (λ v. v.items ≡ replicate places []) }
     ensures err { IfErr result.1 (λ e. e ≡ OutOfMemory) }
 {

@@ -4,7 +4,7 @@ ghost use Rattle.std.specs.Prelude.{◌≡◌, ℕ, List, [], sum};
 mod beside;
 mod refused;
 
-use super::*;
+use root_cell::{About, Brand, Cell, Itself, Opened, View};
 use std::alloc::{Allocator, Global};
 use std::marker;
 use std::process::Abort;
@@ -40,7 +40,7 @@ fn publish_twice<J: Brand<u64, u64>, R: Wait + Abort>(
     alloc: Global,
     opened: Opened<u64>,
 ) -> Result<(), Fail>
-    requires book { opened ≡ J.book }
+    requires book { opened.0 ≡ J.book }
     requires law { (root : ℕ) (events : List ℕ) → root ≡ sum events → J.stands root events }
 {
     let (writer, mut views) = Cell::<u64, u64, J>::new(rt, alloc, opened, 2, 0)?;
@@ -57,7 +57,7 @@ fn publish_twice<J: Brand<u64, u64>, R: Wait + Abort>(
     assert_eq!(rt; (root, events), (12, 2));
     let (_second, root, events) = look(rt, second);
     assert_eq!(rt; (root, events), (12, 2));
-    writer.end(rt);
+    assert_eq!(rt; *writer.end(rt), 12);
     Ok(())
 }
 
@@ -73,7 +73,7 @@ fn learn_and_end<J: Brand<u64, u64>, R: Wait + Abort>(
     alloc: Global,
     opened: Opened<u64>,
 ) -> Result<(), Fail>
-    requires book { opened ≡ J.book }
+    requires book { opened.0 ≡ J.book }
     requires law { (root : ℕ) (events : List ℕ) → root ≡ sum events → J.stands root events }
 {
     let (writer, mut views) = Cell::<u64, u64, J>::new(rt, alloc, opened, 1, 0)?;
@@ -96,6 +96,40 @@ fn learn_and_end<J: Brand<u64, u64>, R: Wait + Abort>(
 }
 
 #[test]
+fn fronts_are_compared(rt: HostRuntime) -> Result<(), Fail> {
+    compare::<marker::Brand, _>(&rt, rt.alloc(), Opened::new())
+}
+
+fn compare<J: Brand<u64, u64>, R: Wait + Abort>(
+    rt: &R,
+    alloc: Global,
+    opened: Opened<u64>,
+) -> Result<(), Fail>
+    requires book { opened.0 ≡ J.book }
+    requires law { (root : ℕ) (events : List ℕ) → root ≡ sum events → J.stands root events }
+{
+    let (writer, mut views) = Cell::<u64, u64, J>::new(rt, alloc, opened, 2, 0)?;
+    let (mut second, first) = (views.pop().expect(rt, "two"), views.pop().expect(rt, "two"));
+    assert!(rt;
+        !first.is_behind(&second) && !second.is_behind(&first) && !writer.is_ahead_of(&first)
+    );
+    let early = writer.tell();
+    let (writer, answer) = writer.publish::<u64, Itself, R>(rt, 5, &5);
+    assert!(rt; answer.is_ok());
+    let (first, _, _) = look(rt, first);
+    assert!(rt; second.is_behind(&first) && !first.is_behind(&second));
+    assert!(rt; writer.is_ahead_of(&second) && !writer.is_ahead_of(&first));
+    let late = writer.tell();
+    assert!(rt;
+        late.is_ahead_of(&second) && !early.is_ahead_of(&second) && !late.is_ahead_of(&first)
+    );
+    second.learn(late);
+    assert!(rt; !second.is_behind(&first) && !writer.is_ahead_of(&second));
+    assert_eq!(rt; *writer.end(rt), 5);
+    Ok(())
+}
+
+#[test]
 fn a_cell_has_as_many_views_as_places(rt: HostRuntime) -> Result<(), Fail> {
     many_places::<marker::Brand, _>(&rt, rt.alloc(), Opened::new())
 }
@@ -105,7 +139,7 @@ fn many_places<J: Brand<u64, u64>, R: Wait + Abort>(
     alloc: Global,
     opened: Opened<u64>,
 ) -> Result<(), Fail>
-    requires book { opened ≡ J.book }
+    requires book { opened.0 ≡ J.book }
     requires law { (root : ℕ) (events : List ℕ) → root ≡ sum events → J.stands root events }
 {
     let (writer, views) = Cell::<u64, u64, J>::new(rt, alloc, opened, 64, 0)?;

@@ -2,9 +2,9 @@
 ghost use Rattle.std.specs.Prelude.{◌≡◌, ℕ, List, [], sum};
 
 use super::look;
-use crate::{Brand, Cell, Itself, Opened};
 use dots::Refusal;
 use linked_list_allocator::LocalHeap;
+use root_cell::{Brand, Cell, Itself, Opened};
 use std::alloc::Global;
 use std::marker;
 use std::process::Abort;
@@ -37,7 +37,7 @@ fn publish_in<'a, J: Brand<u64, u64>, R: Wait + Abort>(
     heap: &'a LocalHeap,
     opened: Opened<u64>,
 ) -> Result<(), Fail>
-    requires book { opened ≡ J.book }
+    requires book { opened.0 ≡ J.book }
     requires law { (root : ℕ) (events : List ℕ) → root ≡ sum events → J.stands root events }
 {
     let (writer, mut views) = Cell::<u64, u64, J, &'a LocalHeap>::new(rt, heap, opened, 1, 0)?;
@@ -78,7 +78,7 @@ fn make_in<'a, J: Brand<u64, u64>, R: Wait + Abort>(
     heap: &'a LocalHeap,
     opened: Opened<u64>,
 ) -> bool
-    requires book { opened ≡ J.book }
+    requires book { opened.0 ≡ J.book }
     requires law { (root : ℕ) (events : List ℕ) → root ≡ sum events → J.stands root events }
 {
     match Cell::<u64, u64, J, &'a LocalHeap>::new(rt, heap, opened, 1, 0) {

@@ -2,7 +2,7 @@
 ghost use Rattle.std.specs.Prelude.{◌≡◌, ◌+◌, ◌<◌, ℕ, List, [], ◌∷◌, ◌++◌, sum, length};
 
 use super::look;
-use crate::{Brand, Cell, Itself, Note, Opened, View, Writer};
+use root_cell::{Brand, Cell, Itself, Note, Opened, View, Writer};
 use std::alloc::Global;
 use std::process::Abort;
 use std::sync::atomic::AtomicU64;
@@ -49,7 +49,7 @@ fn held<J: Brand<u64, u64> + Send + Sync, R: Threads + Wait + Abort + Sync>(
     alloc: Global,
     opened: Opened<u64>,
 ) -> Result<(), Fail>
-    requires book { opened ≡ J.book }
+    requires book { opened.0 ≡ J.book }
     requires law { (root : ℕ) (events : List ℕ) → root ≡ sum events → J.stands root events }
 {
     let (writer, mut views) = Cell::<u64, u64, J>::new(rt, alloc, opened, 1, 0)?;
@@ -133,7 +133,7 @@ fn race<J: Brand<u64, u64> + Send + Sync, R: Threads + Wait + Abort + Sync>(
     alloc: Global,
     opened: Opened<u64>,
 ) -> Result<(), Fail>
-    requires book { opened ≡ J.book }
+    requires book { opened.0 ≡ J.book }
     requires law { (root : ℕ) (events : List ℕ) → root ≡ sum events → J.stands root events }
 {
     let (writer, mut views) = Cell::<u64, u64, J>::new(rt, alloc, opened, 1, 0)?;

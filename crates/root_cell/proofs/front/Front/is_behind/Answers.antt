@@ -1,7 +1,7 @@
 use Rattle.std.proofs.Common.{ap, subst, List}
 use mathlib.Core.List.{IsPrefix}
 use Rattle.root_cell.proofs.Prefixes.{prefix_tested}
-use Rattle.root_cell.proofs.front.Front.begins.Goals as goal
+use Rattle.root_cell.proofs.front.Front.is_behind.Goals as goal
 
 pub returns : goal.returns
 returns g c =
