@@ -26,6 +26,7 @@ pub struct Cell<R, E, J: Brand<R, E>, A: Allocator = Global> {
 impl<R: Drop, E, J: Brand<R, E>, A: Allocator + Copy> Cell<R, E, J, A> {
     /// Makes a cell of an opened book: its Writer and one View for each place. All of them have the empty front, for which the root
     /// has to stand. It may wait, for a Writer that it has to end where it is refused.
+    /// Its only refusal is OutOfMemory.
     pub fn new<W: Wait>(
         rt: &W,
         alloc: A,
