@@ -55,6 +55,7 @@ impl<A: Allocator + Copy> Context<A> {
     /// set of dots: the vector by ascending name, each name once and no entry 0, and the cloud by ascending
     /// dot, each once, no dot at or below the entry of its name or just above it, an absent entry counting
     /// as 0. Takes time in the number of names and dots, times their logarithms.
+    /// Its only refusal is OutOfMemory.
     pub fn from_parts(
         alloc: A,
         vector: Vec<(Name, u64), A>,
@@ -167,6 +168,7 @@ impl<A: Allocator + Copy> Context<A> {
 
     /// The same set of dots, on this allocator. Takes memory in the number of names and of the dots in the
     /// cloud, and time in these, times their logarithms.
+    /// Its only refusal is OutOfMemory.
     pub fn copy(&self, alloc: A) -> Result<Context<A>, Refusal>
         ensures ok { IfOk result (HasSame self.now) }
         ensures equal { IfOk result (λ copy. copy ≡ self.now) }
@@ -184,6 +186,7 @@ impl<A: Allocator + Copy> Context<A> {
 
     /// Adds the dot. A refused call leaves the context as it was. Takes time as `contains` does, and the
     /// same again for each dot of the cloud that goes to the vector, where the dot closes the gap below.
+    /// Its only refusal is OutOfMemory.
     pub fn add(&mut self, dot: Dot) -> Result<(), Refusal>
         ensures ok { OnOk result ((d : DotValue) → has self.new d ≡ (same_dot dot d || has self.old d)) }
         ensures unchanged { OnErr result (HasSame self.new self.old) }
@@ -199,6 +202,7 @@ impl<A: Allocator + Copy> Context<A> {
     /// Adds each dot of the other. A refused call leaves the context as it was, so the union is made
     /// anew: it takes memory in the number of names and of the dots in the clouds of both, and time in
     /// these, times their logarithms.
+    /// Its only refusal is OutOfMemory.
     pub fn union(&mut self, other: &Context<A>) -> Result<(), Refusal>
         ensures ok { OnOk result ((d : DotValue) → has self.new d ≡ (has self.old d || has other.now d)) }
         ensures unchanged { OnErr result (HasSame self.new self.old) }

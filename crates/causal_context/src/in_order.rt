@@ -11,6 +11,7 @@ use std::collections::{BTreeMap, BTreeSet};
 
 /// The map of these entries, or None exactly where their keys do not ascend, each key once. Takes time in
 /// the number of entries, times its logarithm.
+/// Its only refusal is OutOfMemory.
 pub fn map_in_order<K: Ord + Drop, V: Drop, A: Allocator + Copy>(
     alloc: A,
     mut entries: Vec<(K, V), A>,

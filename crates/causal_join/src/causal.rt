@@ -70,6 +70,7 @@ impl<S: DotStore<A>, A: Allocator + Copy> Causal<S, A> {
     }
 
     /// The same state, on this allocator.
+    /// Its only refusal is OutOfMemory.
     pub fn copy(&self, alloc: A) -> Result<Causal<S, A>, Refusal>
         ensures ok { IfOk result (λ copy. Same (state_of S.at copy) (state_of S.at self.now)) }
         ensures err { IsOkUnless result Refusal.OutOfMemory }
@@ -80,6 +81,7 @@ impl<S: DotStore<A>, A: Allocator + Copy> Causal<S, A> {
     }
 
     /// The causal join of the two states.
+    /// Its only refusal is OutOfMemory.
     pub fn join(&self, alloc: A, other: &Causal<S, A>) -> Result<Causal<S, A>, Refusal>
         ensures ok { IfOk result (λ both. Same (state_of S.at both)
             (join S.greater (state_of S.at self.now) (state_of S.at other.now))) }
@@ -94,6 +96,7 @@ impl<S: DotStore<A>, A: Allocator + Copy> Causal<S, A> {
     }
 
     /// Joins the other state into this one. A refused call leaves this one as it was.
+    /// Its only refusal is OutOfMemory.
     pub fn join_into(&mut self, alloc: A, other: &Causal<S, A>) -> Result<(), Refusal>
         ensures ok { OnOk result (Same (state_of S.at self.new)
             (join S.greater (state_of S.at self.old) (state_of S.at other.now))) }
@@ -105,6 +108,7 @@ impl<S: DotStore<A>, A: Allocator + Copy> Causal<S, A> {
     }
 
     /// Whether this state is below the other: whether joining it into the other gives the other.
+    /// Its only refusal is OutOfMemory.
     pub fn is_below(&self, alloc: A, other: &Causal<S, A>) -> Result<bool, Refusal>
         ensures ok { IfOk result (λ below. IsTrue below
             ↔ Same (join S.greater (state_of S.at other.now) (state_of S.at self.now))

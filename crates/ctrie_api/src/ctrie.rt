@@ -49,6 +49,7 @@ impl<V, H: PathHash, A: Allocator + Copy> Ctrie<V, H, A> {
     }
 
     /// The value of the key. Touches eight nodes at most, and takes no memory.
+    /// None exactly where the key is not there.
     pub fn lookup(&self, key: &Key<A>) -> Option<&V>
         ensures { option_map (λ value. value.now) result ≡ finite.get self.now.map key.now }
     {
@@ -105,6 +106,7 @@ impl<'a, V, H: PathHash, A: Allocator + Copy> IntoIterator for &'a Ctrie<V, H, A
 impl<V: Drop, H: PathHash, A: Allocator + Copy> Ctrie<V, H, A> {
     /// Puts the value at the key, in the place of one that is there. A refused call leaves the map as it was, and drops
     /// the value. Touches eight nodes at most, and copies those that a snapshot shares.
+    /// ReadOnly exactly where this trie is read-only; its only other refusal is OutOfMemory.
     pub fn insert(&mut self, key: Key<A>, value: V) -> Result<(), Refusal>
         ensures read_only { IsErrOf result Refusal.ReadOnly ↔ IsTrue self.old.read_only }
         ensures ok { OnOk result (self.new ≡ record self.old { map = finite.insert self.old.map key value }) }
@@ -119,6 +121,7 @@ impl<V: Drop, H: PathHash, A: Allocator + Copy> Ctrie<V, H, A> {
 
     /// Takes the key out, and gives the value that was there. A refused call leaves the map as it was. A key that is not
     /// there takes no memory. Touches eight nodes at most, and copies those that a snapshot shares.
+    /// ReadOnly exactly where this trie is read-only; its only other refusal is OutOfMemory.
     pub fn remove(&mut self, key: &Key<A>) -> Result<Option<Arc<V, A>>, Refusal>
         ensures read_only { IsErrOf result Refusal.ReadOnly ↔ IsTrue self.old.read_only }
         ensures value { IfOk result (λ taken. option_map (λ value. value.value) taken ≡ finite.get self.old.map key.now) }
@@ -133,6 +136,7 @@ impl<V: Drop, H: PathHash, A: Allocator + Copy> Ctrie<V, H, A> {
     }
 
     /// Takes all keys out. Takes no memory.
+    /// ReadOnly exactly where this trie is read-only, and no other refusal. A refused call leaves the map as it was.
     pub fn clear(&mut self) -> Result<(), Refusal>
         ensures read_only { IsErrOf result Refusal.ReadOnly ↔ IsTrue self.old.read_only }
         ensures ok { OnOk result (self.new ≡ record self.old { map = finite.empty }) }
@@ -150,6 +154,7 @@ impl<V: Drop, H: PathHash, A: Allocator + Copy> Ctrie<V, H, A> {
 
     /// A trie of the same map, which is read-only where this one is. What is written to either is not seen in the
     /// other. Copies no node: it takes a few reference counts, and is refused only where one is full.
+    /// Its only refusal is OutOfMemory.
     pub fn snapshot(&mut self) -> Result<Ctrie<V, H, A>, Refusal>
         ensures ok { IfOk result (λ snapshot. snapshot ≡ self.old) }
         ensures same { self.new ≡ self.old }
@@ -164,6 +169,7 @@ impl<V: Drop, H: PathHash, A: Allocator + Copy> Ctrie<V, H, A> {
 
     /// A read-only trie of the same map. What is written to this trie is not seen in it. Copies no node: it takes a
     /// reference count, and is refused only where that is full.
+    /// Its only refusal is OutOfMemory.
     pub fn read_only_snapshot(&mut self) -> Result<Ctrie<V, H, A>, Refusal>
         ensures ok { IfOk result (λ snapshot. snapshot ≡ record self.old { read_only = true }) }
         ensures same { self.new ≡ self.old }

@@ -33,6 +33,7 @@ impl<V, H: PathHash, A: Allocator> Model for Tries<V, H, A> {
 
 impl<V: Drop, H: PathHash, A: Allocator + Copy> Tries<V, H, A> {
     /// This trie alone.
+    /// Its only refusal is OutOfMemory.
     pub fn new(alloc: A, first: Ctrie<V, H, A>) -> Result<Tries<V, H, A>, Refusal>
         ensures ok { IfOk result (λ tries. tries ≡ first ∷ []) }
         ensures err { IsOkUnless result Refusal.OutOfMemory }
@@ -50,6 +51,7 @@ impl<V: Drop, H: PathHash, A: Allocator + Copy> Tries<V, H, A> {
     }
 
     /// The trie of this index.
+    /// None exactly where none has it.
     pub fn trie(&self, index: usize) -> Option<&Ctrie<V, H, A>>
         ensures { option_map (λ trie. trie.now) result ≡ slice_get self.now index }
     {
@@ -58,6 +60,7 @@ impl<V: Drop, H: PathHash, A: Allocator + Copy> Tries<V, H, A> {
 
     /// Carries an act out, and tells whether its trie is there: where it is not, nothing changes. A write on a read-only
     /// trie is refused. A refused act changes nothing.
+    /// ReadOnly exactly where the act is a write at a trie that is there and read-only; its only other refusal is OutOfMemory.
     pub fn act(&mut self, act: Act<V, A>) -> Result<bool, Refusal>
         ensures there { IfOk result (λ there. IsTrue there ↔ index_of act < length self.old) }
         ensures read_only { IsErrOf result Refusal.ReadOnly ↔ IsTrue (is_refused self.old act) }

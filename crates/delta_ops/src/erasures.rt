@@ -24,6 +24,7 @@ use std::collections::BTreeSet;
 ///
 /// The delta holds nothing, and knows these dots. Where there are none it is the bottom, as no operation is made. Takes a
 /// look-up, and time and memory in what stands there.
+/// Its only refusal is OutOfMemory.
 pub fn remove<A: Allocator + Copy>(
     alloc: A,
     live: &OrMap<A>,
@@ -42,6 +43,7 @@ pub fn remove<A: Allocator + Copy>(
 ///
 /// The delta holds nothing, and knows these dots. Where there are none it is the bottom, as no operation is made. Takes
 /// two look-ups, and time and memory in what stands there.
+/// Its only refusal is OutOfMemory.
 pub fn remove_field<A: Allocator + Copy>(
     alloc: A,
     live: &OrMap<A>,
@@ -61,6 +63,7 @@ pub fn remove_field<A: Allocator + Copy>(
 ///
 /// The delta holds nothing, and knows these dots. Where there are none it is the bottom, as no operation is made. Takes
 /// time and memory in the whole map.
+/// Its only refusal is OutOfMemory.
 pub fn clear<A: Allocator + Copy>(alloc: A, live: &OrMap<A>) -> Result<(OrMap<A>, u64), Refusal>
     ensures ok { IfOk result (λ made. (over : List DotValue) × IsClearAt (or_map_state live.now) over ×
         Same (or_map_state made.0) (state (erasure over)) × IsDistinct same_dot over × (made.1 ≡ length over)) }

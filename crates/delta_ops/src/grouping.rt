@@ -8,6 +8,7 @@ use dots::Refusal;
 use std::alloc::Allocator;
 
 /// Joins the delta into the group. A refused call leaves the group as it was.
+/// Its only refusal is OutOfMemory.
 pub fn group<A: Allocator + Copy>(
     alloc: A,
     group: &mut OrMap<A>,

@@ -45,6 +45,7 @@ impl<A: Allocator + Copy> Outgoing<A> {
     }
 
     /// Joins the delta into the group. A refused call leaves the group as it was.
+    /// Its only refusal is OutOfMemory.
     pub fn push(&mut self, alloc: A, delta: OrMap<A>) -> Result<(), Refusal>
         ensures ok { OnOk result (Same (group_state self.new) (join greater (group_state self.old) (or_map_state delta))) }
         ensures unchanged { OnErr result (Same (group_state self.new) (group_state self.old)) }
@@ -54,6 +55,7 @@ impl<A: Allocator + Copy> Outgoing<A> {
     }
 
     /// The whole group, or None where it knows no dot.
+    /// Its only refusal is OutOfMemory.
     pub fn whole(&self, alloc: A) -> Result<Option<OrMap<A>>, Refusal>
         ensures some { IfOk result (λ found. IfSome found (λ whole.
             Same (or_map_state whole) (group_state self.now) × ¬ HasNone whole.1)) }

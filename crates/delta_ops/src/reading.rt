@@ -16,6 +16,7 @@ use std::collections::BTreeSet;
 
 /// The distinct values at the field of the key, ascending by bytes. Takes two look-ups, and time and memory in the
 /// values that stand there.
+/// Its only refusal is OutOfMemory.
 pub fn values<A: Allocator + Copy>(
     alloc: A,
     live: &OrMap<A>,
@@ -36,6 +37,7 @@ pub fn values<A: Allocator + Copy>(
 
 /// The distinct values of the key over all its fields, ascending by bytes. Takes a look-up, and time and memory in what
 /// stands at the key.
+/// Its only refusal is OutOfMemory.
 pub fn values_of_key<A: Allocator + Copy>(
     alloc: A,
     live: &OrMap<A>,
@@ -54,6 +56,7 @@ pub fn values_of_key<A: Allocator + Copy>(
 }
 
 /// The fields of the key that hold a value, ascending by bytes. Takes a look-up, and time and memory in their number.
+/// Its only refusal is OutOfMemory.
 pub fn fields<A: Allocator + Copy>(
     alloc: A,
     live: &OrMap<A>,
@@ -71,6 +74,7 @@ pub fn fields<A: Allocator + Copy>(
 }
 
 /// The keys that hold a value at some field, ascending by bytes. Takes time and memory in their number.
+/// Its only refusal is OutOfMemory.
 pub fn keys<A: Allocator + Copy>(alloc: A, live: &OrMap<A>) -> Result<Vec<Key<A>, A>, Refusal>
     ensures ascending { IfOk result (λ found. IsAscending found.items) }
     ensures held { IfOk result (λ found. (key : List ℕ) →

@@ -51,6 +51,7 @@ impl<V: Drop, A: Allocator + Copy> DotFun<V, A> {
     }
 
     /// The value at the dot. Takes time in the logarithm of their number.
+    /// None exactly where it holds none.
     pub fn get(&self, dot: Dot) -> Option<&V>
         ensures { (place : _) → option_copied result ≡ at_values self.now place dot }
     {
@@ -69,6 +70,7 @@ impl<V: Drop, A: Allocator + Copy> DotFun<V, A> {
 
     /// Puts the value at the dot, in place of what was there. A refused call leaves the map as it was.
     /// Takes time in the number of values at greater dots, besides that of a look-up.
+    /// Its only refusal is OutOfMemory.
     pub fn insert(&mut self, dot: Dot, value: V) -> Result<(), Refusal>
         ensures ok { OnOk result ((place : _) (d : DotValue)
             → at_values self.new place d

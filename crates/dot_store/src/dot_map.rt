@@ -54,6 +54,7 @@ impl<K: Kept<A>, S: DotStore<A>, A: Allocator + Copy> DotMap<K, S, A> {
     }
 
     /// The store at the key, which is never an empty one. Takes time in the logarithm of the number of keys.
+    /// None exactly where nothing stands at the key.
     pub fn get(&self, key: &K) -> Option<&S>
         ensures held { (place : S.Place) (d : DotValue)
             → at_stores S.at K.cmp self.now (key.now, place) d
@@ -81,6 +82,7 @@ impl<K: Kept<A>, S: DotStore<A>, A: Allocator + Copy> DotMap<K, S, A> {
     /// Puts the store at the key, in place of what was there. An empty store takes the key out, which
     /// takes no memory. A refused call leaves the map as it was. Takes time in the number of greater keys,
     /// besides that of a look-up.
+    /// Its only refusal is OutOfMemory.
     pub fn insert(&mut self, key: K, store: S) -> Result<(), Refusal>
         ensures ok { OnOk result (HoldsSame (at_stores S.at K.cmp self.new)
             (with_store S.at K.cmp (at_stores S.at K.cmp self.old) key store)) }

@@ -33,6 +33,7 @@ impl<A: Allocator> Model for DotSet<A> {
 impl<A: Allocator + Copy> DotSet<A> {
     /// Adds the dot. A refused call leaves the set as it was. Takes time in the number of greater dots,
     /// besides that of a look-up.
+    /// Its only refusal is OutOfMemory.
     pub fn insert(&mut self, dot: Dot) -> Result<(), Refusal>
         ensures ok { OnOk result ((place : _) (d : DotValue)
             → at_dots self.new place d ≡ cond (same_dot dot d) (Some tt) (at_dots self.old place d)) }

@@ -42,6 +42,7 @@ pub trait DotStore<A: Allocator + Copy>: Drop {
 
     /// Adds each dot of the store to the context. A refused call leaves the context with what it had and
     /// some of these dots; `dots_into` is the call that then leaves it as it was.
+    /// Its only refusal is OutOfMemory.
     fn add_dots(&self, context: &mut Context<A>) -> Result<(), Refusal>
         ensures kept { (d : DotValue) → IsTrue (has context.old d) → IsTrue (has context.new d) }
         ensures only { (d : DotValue) → IsTrue (has context.new d)
@@ -52,6 +53,7 @@ pub trait DotStore<A: Allocator + Copy>: Drop {
 
     /// Adds each dot of the store to the context. A refused call leaves the context as it was, so the
     /// new one is made in a copy.
+    /// Its only refusal is OutOfMemory.
     fn dots_into(&self, context: &mut Context<A>) -> Result<(), Refusal>
         ensures kept { (d : DotValue) → IsTrue (has context.old d) → IsTrue (has context.new d) }
         ensures only { (d : DotValue) → IsTrue (has context.new d)
@@ -69,6 +71,7 @@ pub trait DotStore<A: Allocator + Copy>: Drop {
 
     /// The causal join of this store under its context and the other under its context: at each place and
     /// dot, of two things held the greater, and what one side alone holds where the other does not know it.
+    /// Its only refusal is OutOfMemory.
     fn join(
         &self,
         alloc: A,
@@ -82,6 +85,7 @@ pub trait DotStore<A: Allocator + Copy>: Drop {
         ensures err { IsOkUnless result Refusal.OutOfMemory };
 
     /// A store that holds the same, on this allocator.
+    /// Its only refusal is OutOfMemory.
     fn copy(&self, alloc: A) -> Result<Self, Refusal>
         ensures ok { IfOk result (λ copy. HoldsSame (at copy) (at self.now)) }
         ensures err { IsOkUnless result Refusal.OutOfMemory };

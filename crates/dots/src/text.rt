@@ -62,6 +62,7 @@ impl<K, A: Allocator + Copy> Text<K, A> {
     }
 
     /// The same text, on this allocator. Takes time in its length, and memory past 22 bytes.
+    /// Its only refusal is OutOfMemory.
     pub fn copy(&self, alloc: A) -> Result<Text<K, A>, Refusal>
         ensures ok { IfOk result (λ copy. copy ≡ self.now) }
         ensures err { IsOkUnless result Refusal.OutOfMemory }

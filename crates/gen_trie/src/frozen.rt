@@ -64,6 +64,7 @@ impl<V, M: Summary<V>, H: PathHash, A: Allocator + Copy> Frozen<V, M, H, A> {
     }
 
     /// The value of the key. Touches eight nodes at most, and takes no memory.
+    /// None exactly where the key is not there.
     pub fn lookup(&self, key: &Key<A>) -> Option<&V>
         ensures { option_map (λ value. value.now) result ≡ finite.get self.now.map key.now }
     {
@@ -113,6 +114,7 @@ impl<V, M: Summary<V>, H: PathHash, A: Allocator + Copy> Frozen<V, M, H, A> {
 
 impl<V: Drop, M: Summary<V>, H: PathHash, A: Allocator + Copy> Frozen<V, M, H, A> {
     /// The same map. Copies no node: it takes a reference count, and is refused only where that is full.
+    /// Its only refusal is OutOfMemory.
     pub fn copy(&self) -> Result<Frozen<V, M, H, A>, Refusal>
         ensures ok { IfOk result (λ copy. copy ≡ self.now) }
         ensures err { IsOkUnless result OutOfMemory }
@@ -130,6 +132,7 @@ impl<V: Drop, M: Summary<V>, H: PathHash, A: Allocator + Copy> Frozen<V, M, H, A
 
     /// A trie of the same map that can be written, in a generation after those of all nodes that it shares; at the last,
     /// 2^64 - 1, it stays. Copies no node.
+    /// Its only refusal is OutOfMemory.
     pub fn thaw(&self) -> Result<GenTrie<V, M, H, A>, Refusal>
         ensures ok { IfOk result (λ trie. trie ≡ record self.now { generation = generation_after self.now.generation }) }
         ensures err { IsOkUnless result OutOfMemory }

@@ -63,6 +63,7 @@ impl<V, M: Summary<V>, H: PathHash, A: Allocator + Copy> GenTrie<V, M, H, A> {
     }
 
     /// The value of the key. Touches eight nodes at most, and takes no memory.
+    /// None exactly where the key is not there.
     pub fn lookup(&self, key: &Key<A>) -> Option<&V>
         ensures { option_map (λ value. value.now) result ≡ finite.get self.now.map key.now }
     {
@@ -133,6 +134,7 @@ impl<V: Drop, M: Summary<V>, H: PathHash, A: Allocator + Copy> GenTrie<V, M, H, 
 
     /// Takes the key out, and gives the value that was there. A refused call leaves the map as it was. A key that is not
     /// there takes no memory. Touches eight nodes at most, and copies those that a frozen map shares.
+    /// Its only refusal is OutOfMemory.
     pub fn remove(&mut self, key: &Key<A>) -> Result<Option<Arc<V, A>>, Refusal>
         ensures value { IfOk result (λ taken. option_map (λ value. value.value) taken ≡ finite.get self.old.map key.now) }
         ensures ok { OnOk result (self.new ≡ record self.old { map = finite.remove self.old.map key.now }) }
@@ -160,6 +162,7 @@ impl<V: Drop, M: Summary<V>, H: PathHash, A: Allocator + Copy> GenTrie<V, M, H, 
 
     /// Renews the summaries of the nodes that were written in the current generation, and leaves the map. Nodes keep no
     /// summaries yet, so there is nothing to renew, and nothing is refused.
+    /// The only refusal that its contract leaves open is OutOfMemory.
     pub fn seal(&mut self) -> Result<(), Refusal>
         ensures same { self.new ≡ self.old }
         ensures err { IsOkUnless result OutOfMemory }
@@ -170,6 +173,7 @@ impl<V: Drop, M: Summary<V>, H: PathHash, A: Allocator + Copy> GenTrie<V, M, H, 
 
     /// The map as it is, which stays so whatever is written afterwards. The next generation starts on both sides; at the
     /// last, 2^64 - 1, it stays. Copies no node: it takes a reference count, and is refused only where that is full.
+    /// Its only refusal is OutOfMemory.
     pub fn freeze(&mut self) -> Result<Frozen<V, M, H, A>, Refusal>
         ensures ok { IfOk result (λ frozen. frozen ≡ self.old) }
         ensures next { OnOk result (self.new ≡ record self.old { generation = generation_after self.old.generation }) }

@@ -1,7 +1,8 @@
 -- Beginnings of one list.
-use Rattle.std.proofs.Common.{◌≡◌, ℕ, ◌<◌, ◌≤◌, Bool, true, false, leb, MatchBool, List, [], ◌∷◌, ◌++◌, length, refl, ap, sym, ◌∙◌, arith, append_assoc}
+use Rattle.std.proofs.Common.{◌≡◌, ℕ, ◌<◌, ◌≤◌, Bool, true, false, ltb, MatchBool, List, [], ◌∷◌, ◌++◌, length, refl, ap, sym, ◌∙◌, arith, append_assoc}
 use Rattle.std.proofs.lemmas.Bool.Decides.{nat_tests}
 use mathlib.Core.List.{IsPrefix}
+use Rattle.root_cell.specs.Rule.{IsLonger}
 
 -- each list begins with itself
 pub prefix_self : {A : Type 0} (xs : List A) → IsPrefix xs xs
@@ -31,9 +32,9 @@ prefix_whole (x ∷ xs) (y ∷ ys) p le =
 
 -- two beginnings of one list, compared by their lengths
 pub prefix_tested : {A : Type 0} (xs ys zs : List A) (m n : ℕ) → m ≡ length xs → n ≡ length ys → IsPrefix xs zs → IsPrefix ys zs
-    → MatchBool (leb m n) (IsPrefix xs ys) (IsPrefix ys xs)
-prefix_tested xs ys zs m n is_m is_n p q = go (leb m n) refl
+    → MatchBool (ltb m n) (IsLonger xs ys) (IsPrefix ys xs)
+prefix_tested xs ys zs m n is_m is_n p q = go (ltb m n) refl
   where
-    go : (b : Bool) → leb m n ≡ b → MatchBool b (IsPrefix xs ys) (IsPrefix ys xs)
-    go true t = let le : m ≤ n = grind (arith, nat_tests) in prefix_shorter xs ys zs p q (omega arith)
-    go false f = let le : n < m = grind (arith, nat_tests) in prefix_shorter ys xs zs q p (omega arith)
+    go : (b : Bool) → ltb m n ≡ b → MatchBool b (IsLonger xs ys) (IsPrefix ys xs)
+    go true t = let less : m < n = grind (arith, nat_tests) in (prefix_shorter xs ys zs p q (omega arith), omega arith)
+    go false f = let le : n ≤ m = grind (arith, nat_tests) in prefix_shorter ys xs zs q p (omega arith)

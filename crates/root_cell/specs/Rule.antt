@@ -1,5 +1,5 @@
 -- The rule of a cell: what is published in it, and what its seats have seen. Of this project.
-use Rattle.std.specs.Prelude.{◌≡◌, ℕ, List}
+use Rattle.std.specs.Prelude.{◌≡◌, ◌<◌, ℕ, List, length}
 use Rattle.std.specs.List.{fold}
 use mathlib.Core.Option.{some}
 use mathlib.Core.List.{IsPrefix}
@@ -9,6 +9,11 @@ use Rattle.logbook.specs.Pages.{Book}
 -- The root stands for the front that it goes out for, which is of this book. `p` has the root, the front and the front's book.
 abbrev pub StandsIn : {R E : Type 0} → Book → (R → List E → Type 0) → R × List E × Book → Type 0
 StandsIn book stands p = stands p.0 p.1 × (p.2 ≡ book)
+
+-- The second front goes on where the first ends. A front of two events goes on where one of its first event ends, and no front does
+-- where it ends itself.
+abbrev pub IsLonger : {E : Type 0} → List E → List E → Type 0
+IsLonger seen front = IsPrefix seen front × (length seen < length front)
 
 -- The front begins with what each seat has seen. With a front of two events a seat has seen the first, both, or none.
 abbrev pub BeginsWithAll : {E : Type 0} → List E → List (List E) → Type 0

@@ -1,4 +1,4 @@
-ghost use Rattle.std.specs.Prelude.{◌≡◌, ◌≤◌, [], replicate, IfOk, IfErr, OnOk};
+ghost use Rattle.std.specs.Prelude.{◌≡◌, ◌≤◌, [], replicate, drop, IfOk, IfErr, OnOk};
 ghost use Rattle.dots.specs.declared.refusal.Refusal.TheVariants.{OutOfMemory};
 ghost use Rattle.root_cell.specs.Rule.{StandsIn};
 
@@ -26,6 +26,7 @@ pub struct Cell<R, E, J: Brand<R, E>, A: Allocator = Global> {
 impl<R: Drop, E, J: Brand<R, E>, A: Allocator + Copy> Cell<R, E, J, A> {
     /// Makes a cell of an opened book: its Writer and one View for each place. All of them have the empty front, for which the root
     /// has to stand. It may wait, for a Writer that it has to end where it is refused.
+    /// Its only refusal is OutOfMemory.
     pub fn new<W: Wait>(
         rt: &W,
         alloc: A,
@@ -34,7 +35,7 @@ impl<R: Drop, E, J: Brand<R, E>, A: Allocator + Copy> Cell<R, E, J, A> {
         root: R,
     ) -> Result<(Writer<R, E, J, A>, Vec<View<R, E, J, A>, A>), Refusal>
         requires places { (1 ≤ places) × (places ≤ 64) }
-        requires book { opened ≡ J.book }
+        requires book { opened.0 ≡ J.book }
         requires stands { J.stands root [] }
         ensures writer { IfOk result (λ r. r.0 ≡ []) }
         ensures views { IfOk result (λ r. r.1.items ≡ replicate places []) }
@@ -72,6 +73,7 @@ fn furnish<R: Drop, E, J: Brand<R, E>, A: Allocator + Copy, W: Wait>(
     requires shown { desk.desk.shown.value ≡ first.now }
     requires front { front.now ≡ [] }
     ensures desk { OnOk result.1 (result.0.desk.shown.value ≡ first.now) }
+    ensures settled { OnOk result.1 (drop result.0.behind result.0.log.items ≡ []) }
     ensures views { IfOk result.1 (λ v. v.items ≡ replicate places []) }
     ensures err { IfErr result.1 (λ e. e ≡ OutOfMemory) }
 {

@@ -55,7 +55,8 @@ pub fn put_out<R: Drop, E, J: Brand<R, E>, A: Allocator, W: Wait>(
 ) -> Desk<R, E, J, A>
     requires stands { StandsIn J.book J.stands published }
     requires longer { IsPrefix desk.desk.shown.value.1 published.1 }
-    ensures { result.desk.shown.value ≡ published }
+    ensures shown { result.desk.shown.value ≡ published }
+    ensures settled { drop result.behind result.log.items ≡ [] }
 {
     show(rt, lay(rt, desk, published))
 }
@@ -103,7 +104,8 @@ fn show<R: Drop, E, J: Brand<R, E>, A: Allocator, W: Wait>(
 ) -> Desk<R, E, J, A>
     requires stands { StandsIn J.book J.stands (due desk.desk.shown.value (drop desk.behind desk.log.items)) }
     requires longer { IsPrefix desk.desk.shown.value.1 (due desk.desk.shown.value (drop desk.behind desk.log.items)).1 }
-    ensures { result.desk.shown.value ≡ due desk.desk.shown.value (drop desk.behind desk.log.items) }
+    ensures shown { result.desk.shown.value ≡ due desk.desk.shown.value (drop desk.behind desk.log.items) }
+    ensures settled { drop result.behind result.log.items ≡ [] }
 {
     let mut desk = desk;
     for _ in rt.forever() {
@@ -125,6 +127,7 @@ fn show_once<R: Drop, E, J: Brand<R, E>, A: Allocator, W: Wait>(
     requires stands { StandsIn J.book J.stands (due desk.desk.shown.value (drop desk.behind desk.log.items)) }
     requires longer { IsPrefix desk.desk.shown.value.1 (due desk.desk.shown.value (drop desk.behind desk.log.items)).1 }
     ensures ok { OnOk result.1 (result.0.desk.shown.value ≡ due desk.desk.shown.value (drop desk.behind desk.log.items)) }
+    ensures settled { OnOk result.1 (drop result.0.behind result.0.log.items ≡ []) }
     ensures shown { OnErr result.1 (result.0.desk.shown.value ≡ desk.desk.shown.value) }
     ensures due { OnErr result.1 (due result.0.desk.shown.value (drop result.0.behind result.0.log.items) ≡ due desk.desk.shown.value (drop desk.behind desk.log.items)) }
 {
@@ -139,7 +142,8 @@ pub fn make_room<R: Drop, E, J: Brand<R, E>, A: Allocator, W: Wait>(
 ) -> (Desk<R, E, J, A>, Result<(), AllocError>)
     requires stands { StandsIn J.book J.stands first.now }
     requires shown { desk.desk.shown.value ≡ first.now }
-    ensures { OnOk result.1 (result.0.desk.shown.value ≡ first.now) }
+    ensures shown { OnOk result.1 (result.0.desk.shown.value ≡ first.now) }
+    ensures settled { OnOk result.1 (drop result.0.behind result.0.log.items ≡ []) }
 {
     let Ok(again) = first.again() else {
         return (desk, Err(AllocError));

@@ -1,6 +1,7 @@
 ghost use Rattle.std.specs.Prelude.{◌≡◌, ◌-◌, ◌<◌, ◌^◌, ◌++◌, ◌∷◌, [], length, MatchBool};
 ghost use mathlib.Core.List.{IsPrefix};
 ghost use Rattle.root_cell.specs.Book.{head_of};
+ghost use Rattle.root_cell.specs.Rule.{IsLonger};
 
 use crate::about::About;
 use crate::book::{Adding, Counted, Nothing};
@@ -66,13 +67,13 @@ impl<R, E, J: Brand<R, E>> Front<R, E, J> {
         }
     }
 
-    /// Whether the other front begins with this one. If not, this one goes on where the other ends.
-    pub fn begins(&self, other: &Front<R, E, J>) -> bool
-        ensures { MatchBool result (IsPrefix self.now other.now) (IsPrefix other.now self.now) }
+    /// Whether the other front goes on where this one ends. If not, this one begins with the other.
+    pub fn is_behind(&self, other: &Front<R, E, J>) -> bool
+        ensures { MatchBool result (IsLonger self.now other.now) (IsPrefix other.now self.now) }
     {
         let mut both = self.seen.again();
         both.learn(&other.seen);
-        self.events <= other.events
+        self.events < other.events
     }
 
     /// Adds the event that a value is about to the cell's list, and says whether it did: it did not where the list is longer than

@@ -25,6 +25,3 @@ pub use note::Note;
 pub use opened::Opened;
 pub use view::View;
 pub use writer::Writer;
-
-#[cfg(test)]
-mod tests;

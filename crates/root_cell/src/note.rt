@@ -1,5 +1,11 @@
+ghost use Rattle.std.specs.Prelude.{◌≡◌, MatchBool};
+ghost use mathlib.Core.List.{IsPrefix};
+ghost use Rattle.root_cell.specs.Rule.{IsLonger};
+
 use crate::brand::Brand;
 use crate::front::Front;
+use crate::view::View;
+use std::alloc::Allocator;
 use std::marker::Model;
 
 /// What the Writer told: a front of the cell's list of events, which a View of the same cell can learn. Contracts see the list.
@@ -14,4 +20,15 @@ impl<R, E, J: Brand<R, E>> Model for Note<R, E, J> {
     ghost Value = { List E };
 
     ghost view = { λ n. n.front };
+}
+
+impl<R, E, J: Brand<R, E>> Note<R, E, J> {
+    /// Whether the View would learn something. If not, it saw or learnt all that the Note tells.
+    pub fn is_ahead_of<A: Allocator>(&self, view: &View<R, E, J, A>) -> bool
+    where
+        R: Drop,
+        ensures { MatchBool result (IsLonger view.now self.now) (IsPrefix self.now view.now) }
+    {
+        view.front().is_behind(&self.front)
+    }
 }

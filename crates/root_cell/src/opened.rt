@@ -1,8 +1,10 @@
+ghost use Rattle.std.specs.Prelude.{◌≡◌, []};
+
 use crate::book::Counted;
 use logbook::{Seen, Start, Word};
 use std::marker::Model;
 
-/// The book of a cell that is still to be made: no events, and no Brand yet. Contracts see which book it is.
+/// The book of a cell that is still to be made, which has no Brand yet. Contracts see which book it is, and its list of events.
 #[derive(Drop)]
 pub struct Opened<E> {
     pub(crate) head: Word<E, u64, Counted>,
@@ -10,22 +12,22 @@ pub struct Opened<E> {
 }
 
 impl<E> Model for Opened<E> {
-    ghost use Rattle.std.specs.Prelude.{◌≡◌, []};
-    ghost use Rattle.logbook.specs.Pages.{Book, book_coded};
+    ghost use Rattle.std.specs.Prelude.{◌≡◌, [], List};
+    ghost use Rattle.logbook.specs.Pages.{Book};
     ghost use Rattle.root_cell.specs.Book.{head_of};
 
-    ghost Value = { Book };
+    ghost Value = { Book × List E };
 
-    ghost coded = { book_coded };
-
-    ghost view = { λ o. o.seen.book };
+    ghost view = { λ o. (o.seen.book, o.seen.log) };
 
     ghost invariant = { λ o. (o.seen.log ≡ []) × (o.head ≡ head_of o.seen.book) };
 }
 
 impl<E> Opened<E> {
     /// A new book. It takes no memory, and whoever makes a cell of it picks the Brand by it.
-    pub fn new() -> Opened<E> {
+    pub fn new() -> Opened<E>
+        ensures { result.1 ≡ [] }
+    {
         let (seen, mut first, _second) = Seen::open(Start::alone(), 0, 0);
         Opened {
             head: Word::tracked(0, &mut first),

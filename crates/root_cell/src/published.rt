@@ -43,6 +43,18 @@ impl<R: Drop, E, A: Allocator> Published<R, E, A> {
         &self.root
     }
 
+    /// The root, for good.
+    pub fn into_root(self) -> Arc<R, A>
+        ensures { result.value ≡ self.0 }
+    {
+        let Published {
+            root,
+            events: _,
+            seen: _,
+        } = self;
+        root
+    }
+
     /// The front's number of events.
     pub fn events(&self) -> u64
         ensures { result ≡ length self.now.1 }

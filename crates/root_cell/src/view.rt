@@ -1,5 +1,6 @@
-ghost use Rattle.std.specs.Prelude.{◌≡◌, ◌⊎◌, [], IfOk, IfErr};
+ghost use Rattle.std.specs.Prelude.{◌≡◌, ◌⊎◌, [], IfOk, IfErr, MatchBool};
 ghost use mathlib.Core.List.{IsPrefix};
+ghost use Rattle.root_cell.specs.Rule.{IsLonger};
 
 use crate::brand::Brand;
 use crate::entered::Entered;
@@ -38,6 +39,13 @@ impl<R: Drop, E, J: Brand<R, E>, A: Allocator> View<R, E, J, A> {
         View { reader, front }
     }
 
+    /// The front, as the token that shows it.
+    pub(crate) fn front(&self) -> &Front<R, E, J>
+        ensures { result.now ≡ self.now }
+    {
+        &self.front
+    }
+
     /// Enters what is published. It waits for nobody and takes no memory. The View comes back where the Writer has ended; so it
     /// would where less is published than this View saw or learnt, which a cell with its one Writer does not come to.
     pub fn enter(self) -> Result<Entered<R, E, J, A>, View<R, E, J, A>>
@@ -50,11 +58,11 @@ impl<R: Drop, E, J: Brand<R, E>, A: Allocator> View<R, E, J, A> {
             Err(reader) => Err(View { reader, front }),
             Ok(reading) => {
                 let entered = Entered::new(reading);
-                if front.begins(entered.front()) {
-                    return Ok(entered);
+                if entered.front().is_behind(&front) {
+                    let View { reader, front: _ } = entered.leave();
+                    return Err(View { reader, front });
                 }
-                let View { reader, front: _ } = entered.leave();
-                Err(View { reader, front })
+                Ok(entered)
             }
         }
     }
@@ -66,8 +74,16 @@ impl<R: Drop, E, J: Brand<R, E>, A: Allocator> View<R, E, J, A> {
         ensures told { IsPrefix note self.new }
     {
         let Note { front } = note;
-        if self.front.begins(&front) {
+        if self.front.is_behind(&front) {
             self.front = front;
         }
+    }
+
+    /// Whether the other View of the cell saw or learnt more. If not, this one saw or learnt all that the other did: the fronts of
+    /// any two Views are beginnings of one list.
+    pub fn is_behind(&self, other: &View<R, E, J, A>) -> bool
+        ensures { MatchBool result (IsLonger self.now other.now) (IsPrefix other.now self.now) }
+    {
+        self.front.is_behind(&other.front)
     }
 }

@@ -1,6 +1,8 @@
-ghost use Rattle.std.specs.Prelude.{◌≡◌, ◌-◌, ◌<◌, ◌^◌, ◌++◌, ◌∷◌, [], length, IfErr, MatchResult};
+ghost use Rattle.std.specs.Prelude.{◌≡◌, ◌-◌, ◌<◌, ◌^◌, ◌++◌, ◌∷◌, [], length, drop, IfErr, MatchBool, MatchResult};
+ghost use mathlib.Core.List.{IsPrefix};
 ghost use Rattle.dots.specs.declared.refusal.Refusal.TheVariants.{OutOfMemory};
 ghost use Rattle.root_cell.specs.Book.{head_of};
+ghost use Rattle.root_cell.specs.Rule.{IsLonger, StandsIn};
 
 use crate::about::About;
 use crate::book::Counted;
@@ -9,6 +11,7 @@ use crate::desk::{Desk, add, put_out};
 use crate::front::Front;
 use crate::note::Note;
 use crate::published::Published;
+use crate::view::View;
 use dots::Refusal;
 use left_right::Absorb;
 use logbook::Word;
@@ -32,14 +35,17 @@ impl<R: Drop, E, J: Brand<R, E>, A: Allocator> Model for Writer<R, E, J, A>
 where
     Published<R, E, A>: Absorb<Published<R, E, A>, State = Published<R, E, A>>,
 {
-    ghost use Rattle.std.specs.Prelude.{◌≡◌, List};
+    ghost use Rattle.std.specs.Prelude.{◌≡◌, List, [], drop};
     ghost use Rattle.root_cell.specs.Book.{head_of};
+    ghost use Rattle.root_cell.specs.Rule.{StandsIn};
 
     ghost Value = { List E };
 
     ghost view = { λ w. w.front };
 
-    ghost invariant = { λ w. (w.desk.desk.shown.value.1 ≡ w.front) × (w.head ≡ head_of J.book) };
+    // The published root stands for the front, and nothing pends: not after a publish, and not after one that was refused.
+    ghost invariant = { λ w. StandsIn J.book J.stands w.desk.desk.shown.value × (w.desk.desk.shown.value.1 ≡ w.front)
+        × (drop w.desk.behind w.desk.log.items ≡ []) × (w.head ≡ head_of J.book) };
 }
 
 impl<R: Drop, E, J: Brand<R, E>, A: Allocator + Copy> Writer<R, E, J, A> {
@@ -50,7 +56,9 @@ impl<R: Drop, E, J: Brand<R, E>, A: Allocator + Copy> Writer<R, E, J, A> {
         head: Word<E, u64, Counted>,
         front: Front<R, E, J>,
     ) -> Writer<R, E, J, A>
+        requires stands { StandsIn J.book J.stands desk.desk.shown.value }
         requires shown { desk.desk.shown.value.1 ≡ front }
+        requires settled { drop desk.behind desk.log.items ≡ [] }
         requires head { head ≡ head_of J.book }
         ensures { result ≡ front }
     {
@@ -63,7 +71,7 @@ impl<R: Drop, E, J: Brand<R, E>, A: Allocator + Copy> Writer<R, E, J, A> {
     }
 
     /// Publishes a root in place of the one that is there, and adds the event that `about` tells to the cell's list. It may wait
-    /// for Views to leave. OutOfMemory comes only where no place for the root was found; the cell is then as it was.
+    /// for Views to leave. OutOfMemory comes only where no place for the root was found; the cell is then as it was, and nothing pends.
     pub fn publish<X, M: About<X, E>, W: Wait>(
         self,
         rt: &W,
@@ -104,6 +112,13 @@ impl<R: Drop, E, J: Brand<R, E>, A: Allocator + Copy> Writer<R, E, J, A> {
         (writer, Ok(()))
     }
 
+    /// Whether something is published that the View neither saw nor learnt. If not, it saw or learnt all that is published.
+    pub fn is_ahead_of(&self, view: &View<R, E, J, A>) -> bool
+        ensures { MatchBool result (IsLonger view.now self.now) (IsPrefix self.now view.now) }
+    {
+        view.front().is_behind(&self.front)
+    }
+
     /// A Note of all that is published, for a View of this cell to learn. It takes no memory.
     pub fn tell(&self) -> Note<R, E, J>
         ensures { result ≡ self.now }
@@ -113,14 +128,16 @@ impl<R: Drop, E, J: Brand<R, E>, A: Allocator + Copy> Writer<R, E, J, A> {
         }
     }
 
-    /// Ends the cell: no View enters any more. It waits for those that are inside.
-    pub fn end<W: Wait>(self, rt: &W) {
+    /// Ends the cell, and answers the root that was published last: no View enters any more. It waits for those that are inside.
+    pub fn end<W: Wait>(self, rt: &W) -> Arc<R, A>
+        ensures { J.stands result.value self }
+    {
         let Writer {
             alloc: _,
             desk,
             head: _,
             front: _,
         } = self;
-        drop(desk.take(rt));
+        Box::into_inner(desk.take(rt)).into_root()
     }
 }

@@ -2,9 +2,11 @@
 
 mod answering;
 mod contexts;
+mod examples;
 mod faults;
 mod fields;
 mod flushes;
+mod generated;
 mod pins;
 mod removing;
 mod traces;

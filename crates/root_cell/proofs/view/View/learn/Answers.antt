@@ -1,5 +1,5 @@
 use Rattle.root_cell.proofs.Prefixes.{prefix_self}
 use Rattle.root_cell.proofs.view.View.learn.Goals as goal
 
-pub returns-then-begins-clause-told : goal.returns-then-begins-clause-told
-returns-then-begins-clause-told g c = rw c.note.view_is (prefix_self _)
+pub returns-then-is_behind-clause-told : goal.returns-then-is_behind-clause-told
+returns-then-is_behind-clause-told g c = rw c.note.view_is (prefix_self _)

@@ -1,0 +1,94 @@
+// A cell in a small heap, which refuses what does not fit.
+ghost use Rattle.std.specs.Prelude.{◌≡◌, ℕ, List, [], sum};
+
+use super::look;
+use dots::Refusal;
+use linked_list_allocator::LocalHeap;
+use root_cell::{Brand, Cell, Itself, Opened};
+use std::alloc::Global;
+use std::marker;
+use std::process::Abort;
+use std::sync::Wait;
+use std::test::Fail;
+
+// Takes what is left of the heap, in pieces of 8 bytes.
+fn fill<'a>(alloc: Global, heap: &'a LocalHeap) -> Vec<Vec<u8, &'a LocalHeap>> {
+    let mut pieces = Vec::new(alloc);
+    for _ in 0..100_000 {
+        let Ok(piece) = Vec::from_slice(heap, b"8 bytes.") else {
+            break;
+        };
+        if pieces.push(piece).is_err() {
+            break;
+        }
+    }
+    pieces
+}
+
+#[test]
+fn a_publish_without_memory_leaves_the_cell_and_is_made_again(rt: HostRuntime) -> Result<(), Fail> {
+    let heap = LocalHeap::new(rt.alloc(), 20_000)?;
+    publish_in::<marker::Brand, _>(&rt, rt.alloc(), &heap, Opened::new())
+}
+
+fn publish_in<'a, J: Brand<u64, u64>, R: Wait + Abort>(
+    rt: &R,
+    alloc: Global,
+    heap: &'a LocalHeap,
+    opened: Opened<u64>,
+) -> Result<(), Fail>
+    requires book { opened.0 ≡ J.book }
+    requires law { (root : ℕ) (events : List ℕ) → root ≡ sum events → J.stands root events }
+{
+    let (writer, mut views) = Cell::<u64, u64, J, &'a LocalHeap>::new(rt, heap, opened, 1, 0)?;
+    let view = views.pop().expect(rt, "one");
+    let mut pieces = fill(alloc, heap);
+    let (writer, answer) = writer.publish::<u64, Itself, R>(rt, 4, &4);
+    assert_eq!(rt; answer, Err(Refusal::OutOfMemory));
+    let (view, root, events) = look(rt, view);
+    assert_eq!(rt; (root, events), (0, 0));
+    // Room for the one root is all that the publish takes.
+    pieces.pop();
+    pieces.pop();
+    let (writer, answer) = writer.publish::<u64, Itself, R>(rt, 4, &4);
+    assert!(rt; answer.is_ok());
+    let (_view, root, events) = look(rt, view);
+    assert_eq!(rt; (root, events), (4, 1));
+    writer.end(rt);
+    Ok(())
+}
+
+#[test]
+fn a_cell_without_memory_is_refused_and_leaves_none_behind(rt: HostRuntime) -> Result<(), Fail> {
+    for size in 0..200 {
+        let heap = LocalHeap::new(rt.alloc(), 16 * size)?;
+        let made = make_in::<marker::Brand, _>(&rt, &heap, Opened::new());
+        assert_eq!(rt; heap.used(), 0);
+        if made {
+            assert!(rt; size > 20);
+            return Ok(());
+        }
+    }
+    panic!(rt; "a cell is small")
+}
+
+// Whether a cell with one View was made, and ended.
+fn make_in<'a, J: Brand<u64, u64>, R: Wait + Abort>(
+    rt: &R,
+    heap: &'a LocalHeap,
+    opened: Opened<u64>,
+) -> bool
+    requires book { opened.0 ≡ J.book }
+    requires law { (root : ℕ) (events : List ℕ) → root ≡ sum events → J.stands root events }
+{
+    match Cell::<u64, u64, J, &'a LocalHeap>::new(rt, heap, opened, 1, 0) {
+        Ok((writer, _views)) => {
+            writer.end(rt);
+            true
+        }
+        Err(refusal) => {
+            assert_eq!(rt; refusal, Refusal::OutOfMemory);
+            false
+        }
+    }
+}

@@ -1,0 +1,112 @@
+"""Writes src/tests/generated.rt and src/tests/examples.rt, the same each time: `python3 make_tests.py`, in this folder."""
+import pathlib
+from random import Random
+
+from text_of_trace import text_of
+
+HERE = pathlib.Path(__file__).parent
+TESTS = HERE.parent / "src" / "tests"
+EXAMPLES = HERE.parent.parent.parent / "examples"
+
+REPLICAS = range(1, 7)
+# The empty key, one that is no word, and 38 whose order by bytes is not that of their numbers.
+KEYS = ["#", "#00ff"] + [f"k{number}" for number in range(1, 39)]
+FIELDS = ["#", "f", "g", "port"]
+LOST = (3, 8)  # the messages that no line delivers
+HEAD = """// Made by `reference/make_tests.py`, which has the texts from `reference/text_of_trace.py`: from the definitions, not from our program.
+use crate::tests::answering::answers;
+use std::process::Abort;
+"""
+
+
+class Maker:
+    """A trace in the making. All chance comes from `random` of a fixed seed, which gives the same in each version of Python."""
+
+    def __init__(self):
+        self.lines, self.messages, self.chance = [f"node {name}" for name in REPLICAS], 0, Random(20180607)
+
+    def one_of(self, things):
+        return things[int(self.chance.random() * len(things))]
+
+    def add(self, *words):
+        self.lines.append(" ".join(str(word) for word in words))
+
+    def key(self):
+        """A key, mostly one of the first nine, so that these come to have several fields and several values."""
+        return self.one_of(KEYS[:9] if self.chance.random() < 0.8 else KEYS)
+
+    def flush(self, name):
+        self.add("flush", name)
+        last = text_of("\n".join(self.lines).encode()).split("\n")[-2]
+        self.messages += last.startswith("sent")
+
+    def write(self, name):
+        key, value = self.key(), f"v{self.one_of(range(90))}"
+        if self.chance.random() < 0.4:
+            self.add("putf", name, key, self.one_of(FIELDS), value)
+        else:
+            self.add("put", name, key, value)
+
+    def erase(self, name):
+        if self.chance.random() < 0.5:
+            self.add("remove", name, self.key())
+        else:
+            self.add("removef", name, self.key(), self.one_of(FIELDS))
+
+    def read(self, name):
+        key = self.key()
+        forms = [["get", name, key], ["getf", name, key, self.one_of(FIELDS)], ["fields", name, key], ["size", name], ["context", name]]
+        self.add(*self.one_of(forms))
+
+    def deliver(self, name):
+        number = 1 + self.one_of(range(self.messages))
+        if number not in LOST:
+            self.add("deliver", number, name)
+
+    def looks(self, pins):
+        for pin in pins:
+            for key in ["absent", "k2", "k6", "k20", self.key()]:
+                self.add("look", pin, key)
+
+
+def generated():
+    maker = Maker()
+    maker.add("pin", 4)
+    for place, key in enumerate(KEYS):
+        maker.add("put", 1 + place % 6, key, f"w{place}")
+        if place % 6 == 5 and place < 36:
+            maker.flush(REPLICAS[place // 6])
+    maker.looks([1])
+    for turn in range(120):
+        name = maker.one_of(REPLICAS)
+        maker.one_of([maker.write] * 4 + [maker.deliver] * 4 + [maker.erase, maker.read])(name)
+        if turn % 8 == 0:
+            maker.flush(maker.one_of(REPLICAS))
+        if turn in (50, 90):
+            maker.add("pin", name)
+            maker.add("show", name)
+        if turn == 70:
+            maker.add("clear", 3)
+    for name in REPLICAS:
+        maker.flush(name)
+    for number in range(maker.messages, 0, -1):
+        for name in REPLICAS[:2] if number not in LOST else []:
+            maker.add("deliver", number, name)
+    maker.looks([1, 2, 3])
+    for name in REPLICAS:
+        for words in [["context", name], ["show", name], ["get", name, "absent"], ["fields", name, KEYS[name]]]:
+            maker.add(*words)
+    return "\n".join(maker.lines) + "\n"
+
+
+def test_of(name, trace):
+    assert '"' not in trace and "\\" not in trace
+    const = name.upper()
+    test = f"#[test]\nfn {name}_has_its_text(rt: HostRuntime) {{\n    answers(&rt, rt.alloc(), {const}, {const}_TEXT);\n}}\n"
+    return f'\nconst {const}: &str = "{trace}";\n\nconst {const}_TEXT: &str = "{text_of(trace.encode())}";\n\n{test}'
+
+
+if __name__ == "__main__":
+    (TESTS / "generated.rt").write_text(HEAD + test_of("forty_keys", generated()))
+    examples = [test_of(path.stem, path.read_text()) for path in sorted(EXAMPLES.glob("*.trace"))]
+    (TESTS / "examples.rt").write_text(HEAD + "".join(examples))

@@ -1,0 +1,149 @@
+"""Writes the text of the trace on standard input, from the definitions alone: no stores, no deltas, no joins.
+A replica is the set of operations that it has seen. An operation is a write or an erasure, with the dots of the writes that
+it observed. Shown are the values of the writes seen that no operation seen had observed."""
+import re
+import sys
+from collections import namedtuple
+
+# A dot is a pair of a name and a number. An erasure has no dot, key, field or value.
+Operation = namedtuple("Operation", "dot key field value observed")
+# The operations that it has seen, and those of its own that it has not sent yet.
+Replica = namedtuple("Replica", "seen unsent")
+
+# The form of each command's words: n is a number, t a text.
+FORMS = {
+    "node": "n", "put": "ntt", "putf": "nttt", "get": "nt", "getf": "ntt", "fields": "nt", "remove": "nt", "removef": "ntt",
+    "clear": "n", "show": "n", "size": "n", "context": "n", "pin": "n", "look": "nt", "flush": "n", "deliver": "nn",
+}
+ITSELF = rb"[!-\"$-~][!-~]*"  # a word that stands for its own bytes
+
+
+class Fault(Exception):
+    """What ends a trace."""
+
+
+def parsed(form, word):
+    if form == "n" and re.fullmatch(rb"[1-9][0-9]*", word) and int(word) < 2**64:
+        return int(word)
+    if form == "t" and re.fullmatch(ITSELF, word):
+        return word
+    if form == "t" and re.fullmatch(rb"#([0-9a-fA-F]{2})*", word):
+        return bytes.fromhex(word[1:].decode())
+    raise Fault("BadLine")
+
+
+def printed(text):
+    return text.decode() if re.fullmatch(ITSELF, text) else "#" + text.hex()
+
+
+def shown(seen, key=None, field=None):
+    """The writes shown: all of them, those at any field of a key, or those at one field of it."""
+    gone = {dot for operation in seen for dot in operation.observed}
+    return [o for o in seen if o.dot and o.dot not in gone and key in (None, o.key) and field in (None, o.field)]
+
+
+def told(word, writes):
+    """The word, and the different values of the writes."""
+    return " ".join([word, *(printed(value) for value in sorted({write.value for write in writes}))])
+
+
+def listed(word, writes, part):
+    """The word, the number of keys or fields, and each with the number of its values and the values."""
+    names = sorted({getattr(write, part) for write in writes})
+    text = f"{word} {len(names)}"
+    for name in names:
+        here = [write for write in writes if getattr(write, part) == name]
+        text += told(f" {printed(name)} {len({write.value for write in here})}", here)
+    return text
+
+
+def known(seen):
+    """The dots that the operations tell of, written or observed."""
+    return sorted({o.dot for o in seen if o.dot} | {dot for o in seen for dot in o.observed})
+
+
+def context(seen):
+    reached = {}
+    for name, number in known(seen):
+        if number == reached.get(name, 0) + 1:
+            reached[name] = number
+    vector = [f"{name}:{number}" for name, number in sorted(reached.items())]
+    cloud = [f"+{name}:{number}" for name, number in known(seen) if number > reached.get(name, 0)]
+    return " ".join(["context", *vector, *cloud])
+
+
+class World:
+    def __init__(self):
+        self.replicas, self.messages, self.pins = {}, [], []
+
+    def make(self, name, *operation):
+        for group in self.replicas[name]:
+            group.add(Operation(*operation))
+
+    def put(self, name, key, field, value):
+        seen = self.replicas[name].seen
+        if max(len(key), len(field), len(value)) > 65535:
+            return "refused TooLong"
+        number = 1 + max((number for other, number in known(seen) if other == name), default=0)
+        self.make(name, (name, number), key, field, value, frozenset(o.dot for o in shown(seen, key, field)))
+        return f"ok {name}:{number}"
+
+    def erase(self, name, writes):
+        if writes:
+            self.make(name, None, None, None, None, frozenset(write.dot for write in writes))
+        return f"ok {len(writes)}"
+
+    def answer(self, command, name, key=None, field=None, value=None):
+        """The answer to a command at the replica of this name."""
+        seen, unsent = self.replicas[name]
+        if command in ("put", "putf"):
+            return self.put(name, key, *((b"", field) if command == "put" else (field, value)))
+        if command in ("remove", "removef", "clear"):
+            return self.erase(name, shown(seen, key, field))
+        if command in ("get", "getf"):
+            return told("=", shown(seen, key, b"" if command == "get" else field))
+        if command in ("fields", "show"):
+            return listed("fields", shown(seen, key), "field") if key is not None else listed("map", shown(seen), "key")
+        if command in ("size", "context"):
+            return context(seen) if command == "context" else f"size {len({write.key for write in shown(seen)})}"
+        if command == "flush" and not unsent:
+            return "empty"
+        kept = self.pins if command == "pin" else self.messages
+        kept.append(frozenset(seen if command == "pin" else unsent))
+        if command == "flush":
+            unsent.clear()
+        return f"pin {len(kept)}" if command == "pin" else f"sent {len(kept)}:delta"
+
+    def carry_out(self, line):
+        command, *words = line.decode("latin-1").split(" ")
+        if not words or len(words) != len(FORMS.get(command, "")):
+            raise Fault("BadLine")
+        words = [parsed(form, word.encode("latin-1")) for form, word in zip(FORMS[command], words)]
+        if command == "look" and words[0] > len(self.pins):
+            raise Fault("BadLine")
+        if command == "look":
+            return told("=", shown(self.pins[words[0] - 1], words[1], b""))
+        name = words[1] if command == "deliver" else words[0]
+        if (command == "node") == (name in self.replicas):
+            raise Fault("NameTaken" if command == "node" else "UnknownReplica")
+        if command == "deliver" and words[0] > len(self.messages):
+            raise Fault("UnknownMessage")
+        if command not in ("node", "deliver"):
+            return self.answer(command, *words)
+        replica = self.replicas.setdefault(name, Replica(set(), set()))
+        replica.seen.update(self.messages[words[0] - 1] if command == "deliver" else [])
+        return "joined" if command == "deliver" else "ok"
+
+
+def text_of(trace):
+    world, text = World(), ""
+    for number, line in enumerate(trace.split(b"\n"), 1):
+        try:
+            text += world.carry_out(line) + "\n" if line else ""
+        except Fault as fault:
+            return text + f"error line {number}: {fault}\n"
+    return text
+
+
+if __name__ == "__main__":
+    sys.stdout.write(text_of(sys.stdin.buffer.read()))

@@ -1,0 +1,274 @@
+// Made by `reference/make_tests.py`, which has the texts from `reference/text_of_trace.py`: from the definitions, not from our program.
+use crate::tests::answering::answers;
+use std::process::Abort;
+
+const BASKET: &str = "node 1
+node 2
+put 1 milk 1
+put 1 bread 2
+flush 1
+deliver 1 2
+put 1 milk 2
+put 2 milk 3
+flush 1
+flush 2
+deliver 2 2
+deliver 3 1
+get 1 milk
+get 2 milk
+put 2 milk 3
+flush 2
+deliver 4 1
+deliver 4 1
+get 1 milk
+get 1 bread
+";
+
+const BASKET_TEXT: &str = "ok
+ok
+ok 1:1
+ok 1:2
+sent 1:delta
+joined
+ok 1:3
+ok 2:1
+sent 2:delta
+sent 3:delta
+joined
+joined
+= 2 3
+= 2 3
+ok 2:2
+sent 4:delta
+joined
+joined
+= 3
+= 2
+";
+
+#[test]
+fn basket_has_its_text(rt: HostRuntime) {
+    answers(&rt, rt.alloc(), BASKET, BASKET_TEXT);
+}
+
+const REGISTRY: &str = "node 1
+node 2
+node 3
+put 1 mail 10.0.0.5:25
+put 1 web 10.0.0.7:80
+put 1 web/admin 10.0.0.7:81
+flush 1
+deliver 1 2
+deliver 1 3
+remove 1 mail
+put 2 mail 10.0.0.6:25
+flush 1
+flush 2
+deliver 2 2
+deliver 3 1
+get 1 mail
+get 2 mail
+show 1
+clear 3
+size 3
+flush 3
+deliver 4 1
+show 1
+deliver 3 3
+show 3
+remove 3 ftp
+flush 3
+";
+
+const REGISTRY_TEXT: &str = "ok
+ok
+ok
+ok 1:1
+ok 1:2
+ok 1:3
+sent 1:delta
+joined
+joined
+ok 1
+ok 2:1
+sent 2:delta
+sent 3:delta
+joined
+joined
+= 10.0.0.6:25
+= 10.0.0.6:25
+map 3 mail 1 10.0.0.6:25 web 1 10.0.0.7:80 web/admin 1 10.0.0.7:81
+ok 3
+size 0
+sent 4:delta
+joined
+map 1 mail 1 10.0.0.6:25
+joined
+map 1 mail 1 10.0.0.6:25
+ok 0
+empty
+";
+
+#[test]
+fn registry_has_its_text(rt: HostRuntime) {
+    answers(&rt, rt.alloc(), REGISTRY, REGISTRY_TEXT);
+}
+
+const RELEASE: &str = "node 1
+node 2
+put 1 timeout 30
+put 1 banner hello
+flush 1
+deliver 1 2
+pin 2
+put 1 timeout 5
+remove 1 banner
+put 1 retries 3
+flush 1
+deliver 2 2
+pin 2
+get 2 timeout
+look 1 timeout
+look 2 timeout
+look 1 banner
+look 2 banner
+look 1 retries
+put 2 timeout 30
+get 2 timeout
+look 2 timeout
+";
+
+const RELEASE_TEXT: &str = "ok
+ok
+ok 1:1
+ok 1:2
+sent 1:delta
+joined
+pin 1
+ok 1:3
+ok 1
+ok 1:4
+sent 2:delta
+joined
+pin 2
+= 5
+= 30
+= 5
+= hello
+=
+=
+ok 2:1
+= 30
+= 5
+";
+
+#[test]
+fn release_has_its_text(rt: HostRuntime) {
+    answers(&rt, rt.alloc(), RELEASE, RELEASE_TEXT);
+}
+
+const SERVICES: &str = "node 1
+node 2
+putf 1 billing host 10.0.0.5
+putf 1 billing port 8080
+putf 1 billing version 3
+flush 1
+deliver 1 2
+fields 2 billing
+putf 1 billing version 4
+putf 2 billing port 8443
+flush 1
+flush 2
+deliver 2 2
+deliver 3 1
+fields 1 billing
+fields 2 billing
+removef 1 billing port
+putf 2 billing port 9000
+flush 1
+flush 2
+deliver 4 2
+deliver 5 1
+getf 1 billing port
+remove 2 billing
+show 2
+show 1
+";
+
+const SERVICES_TEXT: &str = "ok
+ok
+ok 1:1
+ok 1:2
+ok 1:3
+sent 1:delta
+joined
+fields 3 host 1 10.0.0.5 port 1 8080 version 1 3
+ok 1:4
+ok 2:1
+sent 2:delta
+sent 3:delta
+joined
+joined
+fields 3 host 1 10.0.0.5 port 1 8443 version 1 4
+fields 3 host 1 10.0.0.5 port 1 8443 version 1 4
+ok 1
+ok 2:2
+sent 4:delta
+sent 5:delta
+joined
+joined
+= 9000
+ok 3
+map 0
+map 1 billing 3 10.0.0.5 4 9000
+";
+
+#[test]
+fn services_has_its_text(rt: HostRuntime) {
+    answers(&rt, rt.alloc(), SERVICES, SERVICES_TEXT);
+}
+
+const SETTINGS: &str = "node 1
+node 2
+node 3
+put 1 theme dark
+put 1 greeting #68656c6c6f20776f726c64
+put 1 motto #
+flush 1
+deliver 1 3
+put 3 theme light
+flush 3
+deliver 2 2
+get 2 theme
+deliver 1 2
+get 2 theme
+get 2 greeting
+get 2 motto
+get 2 absent
+flush 2
+";
+
+const SETTINGS_TEXT: &str = "ok
+ok
+ok
+ok 1:1
+ok 1:2
+ok 1:3
+sent 1:delta
+joined
+ok 3:1
+sent 2:delta
+joined
+= light
+joined
+= light
+= #68656c6c6f20776f726c64
+= #
+=
+empty
+";
+
+#[test]
+fn settings_has_its_text(rt: HostRuntime) {
+    answers(&rt, rt.alloc(), SETTINGS, SETTINGS_TEXT);
+}
