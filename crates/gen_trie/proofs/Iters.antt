@@ -5,8 +5,6 @@ use Rattle.std.specs.List.{All}
 use Rattle.std.specs.declared.sync.Arc.{Arc}
 use Rattle.std.proofs.lemmas.List.{append_assoc}
 use Rattle.std.proofs.lemmas.List.Elements.{All-head, All-tail}
-use Rattle.std.specs.FinMap as finite
-use Rattle.dots.specs.Bytes.{bytes_cmp}
 use Rattle.hash_path.specs.Word.{key_in}
 use Rattle.hash_path.specs.Fan.{under, fan}
 use Rattle.hash_path.specs.Map.{as_map, walk}

@@ -182,11 +182,6 @@ fn in_list<'a, V, A: Allocator>(
 }
 
 impl<V, A: Allocator> Node<V, A> {
-    // The generation that wrote it.
-    pub fn stamp(&self) -> u64 {
-        self.stamp
-    }
-
     // The value of the key of this hash and these bytes.
     pub fn lookup<'a>(&'a self, hash: u32, key: &[u8]) -> Option<&'a Arc<V, A>>
         ensures { option_map (λ value. value.now.value) result ≡ find bytes_cmp (word self.now.0 hash key.now) self.now.1 }

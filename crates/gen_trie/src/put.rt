@@ -136,7 +136,7 @@ fn put_shared<V: Drop, A: Allocator + Copy>(
     ensures same { OnErr result (node.new.value ≡ node.old.value) }
     ensures err { IsOkUnless result OutOfMemory }
 {
-    if node.stamp() == generation && generation != u64::MAX {
+    if node.stamp == generation && generation != u64::MAX {
         if let Some(own) = Arc::get_mut(node) {
             return put(own, alloc, generation, leaf);
         }

@@ -215,7 +215,7 @@ fn take_shared<V: Drop, A: Allocator + Copy>(
     ensures same { OnErr result (node.new.value ≡ node.old.value) }
     ensures err { IsOkUnless result OutOfMemory }
 {
-    if node.stamp() == generation && generation != u64::MAX {
+    if node.stamp == generation && generation != u64::MAX {
         if let Some(own) = Arc::get_mut(node) {
             return take(own, alloc, generation, hash, key);
         }
