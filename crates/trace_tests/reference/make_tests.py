@@ -1,7 +1,9 @@
-"""Writes src/tests/generated.rt and src/tests/examples.rt, the same each time: `python3 make_tests.py`, in this folder."""
+"""Writes src/tests/generated.rt and src/tests/examples.rt, the same each time."""
 import pathlib
+import sys
 from random import Random
 
+sys.dont_write_bytecode = True
 from text_of_trace import text_of
 
 HERE = pathlib.Path(__file__).parent
@@ -13,7 +15,8 @@ REPLICAS = range(1, 7)
 KEYS = ["#", "#00ff"] + [f"k{number}" for number in range(1, 39)]
 FIELDS = ["#", "f", "g", "port"]
 LOST = (3, 8)  # the messages that no line delivers
-HEAD = """// Made by `reference/make_tests.py`, which has the texts from `reference/text_of_trace.py`: from the definitions, not from our program.
+HEAD = """// Made by `python3 crates/trace_tests/reference/make_tests.py`, which has the texts from `text_of_trace.py` beside it, that is from
+// the definitions and not from our program.
 use crate::tests::answering::answers;
 use std::process::Abort;
 """

@@ -1,4 +1,5 @@
-// Made by `reference/make_tests.py`, which has the texts from `reference/text_of_trace.py`: from the definitions, not from our program.
+// Made by `python3 crates/trace_tests/reference/make_tests.py`, which has the texts from `text_of_trace.py` beside it, that is from
+// the definitions and not from our program.
 use crate::tests::answering::answers;
 use std::process::Abort;
 
