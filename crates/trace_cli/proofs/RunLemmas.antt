@@ -183,6 +183,14 @@ by_output ReadOnly = let below : 3 < 13 = omega arith in inr (apart ReadOnly bel
 by_output TooLong = let below : 2 < 13 = omega arith in inr (apart TooLong below)
 by_output OutOfMemory = let below : 1 < 13 = omega arith in inr (apart OutOfMemory below)
 
+-- an outcome that is Input is not Output
+pub input_is_other : {T : Type 0} → IsErrOf {T = T} {E = Refusal} (Err Input) Output → ⊥
+input_is_other {T = T} is = let e : 12 ≡ 13 = ap number is in omega (arith, e)
+  where
+    number : Result T Refusal → ℕ
+    number (Ok value) = 0
+    number (Err refusal) = number_of refusal
+
 -- what an outcome tells of the writer that it leaves
 pub writer_failed : {W T : Type 0} (result : Result T Refusal) (writer : Watched W) → Leaves result writer → has_failed writer ≡ true → IsErrOf result Output
 writer_failed (Ok value) writer left failed = absurd (true≢false (sym failed ∙ left.no_failure))

@@ -1,6 +1,6 @@
 use Rattle.std.proofs.Common.{Err, [], ap, arith, length, ◌<◌, length-take, refl}
 use Rattle.std.proofs.lemmas.Result.{err_from_is_err_and, on_ok_weaker, on_err_weaker, IfErr-weaker}
-use Rattle.trace_cli.proofs.RunLemmas.{Ran-start, Ran-kept, Ran-answered, Ran-more, Ran-stops, Ran-begins, Ran-finishes, Ran-ends, Pieces-more, at_end, writer_failed, never_gone_on, all_flushed}
+use Rattle.trace_cli.proofs.RunLemmas.{Ran-start, Ran-kept, Ran-answered, Ran-more, Ran-stops, Ran-begins, Ran-finishes, Ran-ends, Pieces-more, at_end, writer_failed, never_gone_on, all_flushed, input_is_other}
 use Rattle.watched_io.proofs.StreamLemmas.{Keeps-itself, Consumes-nothing, Consumes-kept}
 use Rattle.trace_cli.specs.Lines.{has_newline}
 use Rattle.trace_cli.specs.Session.{Point}
@@ -116,3 +116,9 @@ returns-in_err-feed-clause-ended g c =
 
 pub returns-in_err-feed-clause-flushed : goal.returns-in_err-feed-clause-flushed
 returns-in_err-feed-clause-flushed g c = all_flushed {T = Unit {0}} (Err c.in_err-feed.field-0.0) _ c.in_err-feed.ensures.writer
+
+pub returns-in_default-clause-output : goal.returns-in_default-clause-output
+returns-in_default-clause-output g c is = absurd (input_is_other {T = Unit {0}} is)
+
+pub returns-in_default-clause-reader_failed : goal.returns-in_default-clause-reader_failed
+returns-in_default-clause-reader_failed g c _ = refl

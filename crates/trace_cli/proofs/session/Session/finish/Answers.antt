@@ -25,3 +25,6 @@ returns-clause-front g c =
     on_err_weaker c.end_line.result
     (λ part. (part.0, part.1, Begins-last (point_of c.args.self.now) part.0 c.requires.one_line some part.2))
     c.end_line.ensures.front
+
+pub returns-then-is_empty-clause-input : goal.returns-then-is_empty-clause-input
+returns-then-is_empty-clause-input g c = tt
