@@ -83,11 +83,6 @@ impl<A: Allocator + Copy> Context<A> {
         }))
     }
 
-    /// The allocator that the context grows by.
-    pub fn allocator(&self) -> A {
-        self.alloc
-    }
-
     /// Whether no dot is in the context. Takes no memory.
     pub fn is_empty(&self) -> bool
         ensures { IsTrue result ↔ HasNone self.now }

@@ -73,11 +73,10 @@ fn observed_at<A: Allocator + Copy>(
         has context d ≡ is_some ((or_map_state live.now).at (place_of key.now field.now) d)) }
     ensures err { IsOkUnless result Refusal.OutOfMemory }
 {
-    let mut context = Context::new(alloc);
-    if let Some(standing) = values_at(live, key, field) {
-        standing.dots_into(&mut context)?;
-    }
-    Ok(context)
+    let Some(standing) = values_at(live, key, field) else {
+        return Ok(Context::new(alloc));
+    };
+    standing.dots(alloc)
 }
 
 /// The store that holds the value alone, at the field of the key and the dot.

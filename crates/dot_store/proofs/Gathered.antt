@@ -22,6 +22,11 @@ gathered_more Held Dots old mid new items i x before h is keeps only adds held =
   added = items_more (λ y. (d : DotValue) → Dots y d → IsTrue (new d)) items i x h is (λ k y l d e. keeps d (before.added k y l d e)) adds;
 }
 
+-- where nothing was there before, it has only dots that are held
+pub gathered_only : {X : Type 0} (Held : DotValue → Type 0) (Dots : X → DotValue → Type 0) (old new : DotValue → Bool) (items : List X) (count : ℕ) → ((d : DotValue) → old d ≡ false)
+    → Gathered Held Dots old new items count → (d : DotValue) → IsTrue (new d) → Held d
+gathered_only Held Dots old new items count none all d h = ⊎_elim (λ was. absurd (cc (none d, was))) (λ held. held) (all.only d h)
+
 -- ---- what adding one dot does
 or_right : (a b : Bool) → IsTrue b → IsTrue (a || b)
 or_right true b h = refl
@@ -44,3 +49,14 @@ module _ (dot : DotValue) (mid new : DotValue → Bool) (adds : (d : DotValue) �
 
   pub add_adds : (d : DotValue) → dot ≡ d → IsTrue (new d)
   add_adds d e = adds d ∙ or_left (same_dot dot d) (mid d) (subst (λ x. IsTrue (same_dot dot x)) e (same_dot-refl dot))
+
+-- ---- what adding the dots of another set does
+module _ (mid more new : DotValue → Bool) (both : (d : DotValue) → new d ≡ (mid d || more d)) where
+  pub union_keeps : (d : DotValue) → IsTrue (mid d) → IsTrue (new d)
+  union_keeps d h = both d ∙ or_left (mid d) (more d) h
+
+  pub union_only : {Held : DotValue → Type 0} → ((d : DotValue) → IsTrue (more d) → Held d) → (d : DotValue) → IsTrue (new d) → IsTrue (mid d) ⊎ Held d
+  union_only {Held = Held} only d h = or_cases (mid d) (more d) (IsTrue (mid d) ⊎ Held d) (sym (both d) ∙ h) (λ was. inl was) (λ came. inr (only d came))
+
+  pub union_adds : {Held : DotValue → Type 0} → ((d : DotValue) → Held d → IsTrue (more d)) → (d : DotValue) → Held d → IsTrue (new d)
+  union_adds adds d held = both d ∙ or_right (mid d) (more d) (adds d held)

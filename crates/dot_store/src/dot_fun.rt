@@ -207,11 +207,12 @@ impl<V: Kept<A>, A: Allocator + Copy> DotStore<A> for DotFun<V, A> {
         true
     }
 
-    fn add_dots(&self, context: &mut Context<A>) -> Result<(), Refusal> {
+    fn dots(&self, alloc: A) -> Result<Context<A>, Refusal> {
+        let mut dots = Context::new(alloc);
         for (dot, _) in self.values.entries() {
-            context.add(*dot)?;
+            dots.add(*dot)?;
         }
-        Ok(())
+        Ok(dots)
     }
 
     fn join(

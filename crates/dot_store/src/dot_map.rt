@@ -248,11 +248,13 @@ impl<K: Kept<A>, S: DotStore<A>, A: Allocator + Copy> DotStore<A> for DotMap<K, 
         true
     }
 
-    fn add_dots(&self, context: &mut Context<A>) -> Result<(), Refusal> {
+    fn dots(&self, alloc: A) -> Result<Context<A>, Refusal> {
+        let mut dots = Context::new(alloc);
         for (_, store) in self.stores.entries() {
-            store.add_dots(context)?;
+            let more = store.dots(alloc)?;
+            dots.union(&more)?;
         }
-        Ok(())
+        Ok(dots)
     }
 
     fn join(

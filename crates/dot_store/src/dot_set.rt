@@ -80,8 +80,8 @@ impl<A: Allocator + Copy> DotStore<A> for DotSet<A> {
         self.dots.is_inside(context)
     }
 
-    fn add_dots(&self, context: &mut Context<A>) -> Result<(), Refusal> {
-        self.dots.add_dots(context)
+    fn dots(&self, alloc: A) -> Result<Context<A>, Refusal> {
+        self.dots.dots(alloc)
     }
 
     fn join(

@@ -40,34 +40,13 @@ pub trait DotStore<A: Allocator + Copy>: Drop {
     fn is_inside(&self, context: &Context<A>) -> bool
         ensures { IsTrue result ↔ IsInside (state_with (at self.now) (has context.now)) };
 
-    /// Adds each dot of the store to the context. A refused call leaves the context with what it had and
-    /// some of these dots; `dots_into` is the call that then leaves it as it was.
+    /// The context of the dots that stand in the store.
     /// Its only refusal is OutOfMemory.
-    fn add_dots(&self, context: &mut Context<A>) -> Result<(), Refusal>
-        ensures kept { (d : DotValue) → IsTrue (has context.old d) → IsTrue (has context.new d) }
-        ensures only { (d : DotValue) → IsTrue (has context.new d)
-            → IsTrue (has context.old d) ⊎ HoldsDot (at self.now) d }
-        ensures added { OnOk result ((place : Self.Place) (d : DotValue)
-            → IsSome (at self.now place d) → IsTrue (has context.new d)) }
+    fn dots(&self, alloc: A) -> Result<Context<A>, Refusal>
+        ensures only { IfOk result (λ dots. (d : DotValue) → IsTrue (has dots d) → HoldsDot (at self.now) d) }
+        ensures all { IfOk result (λ dots. (place : Self.Place) (d : DotValue)
+            → IsSome (at self.now place d) → IsTrue (has dots d)) }
         ensures err { IsOkUnless result Refusal.OutOfMemory };
-
-    /// Adds each dot of the store to the context. A refused call leaves the context as it was, so the
-    /// new one is made in a copy.
-    /// Its only refusal is OutOfMemory.
-    fn dots_into(&self, context: &mut Context<A>) -> Result<(), Refusal>
-        ensures kept { (d : DotValue) → IsTrue (has context.old d) → IsTrue (has context.new d) }
-        ensures only { (d : DotValue) → IsTrue (has context.new d)
-            → IsTrue (has context.old d) ⊎ HoldsDot (at self.now) d }
-        ensures added { OnOk result ((place : Self.Place) (d : DotValue)
-            → IsSome (at self.now place d) → IsTrue (has context.new d)) }
-        ensures unchanged { OnErr result (HasSame context.new context.old) }
-        ensures err { IsOkUnless result Refusal.OutOfMemory }
-    {
-        let mut both = context.copy(context.allocator())?;
-        self.add_dots(&mut both)?;
-        *context = both;
-        Ok(())
-    }
 
     /// The causal join of this store under its context and the other under its context: at each place and
     /// dot, of two things held the greater, and what one side alone holds where the other does not know it.

@@ -15,9 +15,9 @@ fn joined<S: DotStore<Global>>(
     known: &[Dot],
 ) -> Result<S, Refusal> {
     let mut own = context_of(alloc, seen)?;
-    mine.dots_into(&mut own)?;
+    own.union(&mine.dots(alloc)?)?;
     let mut theirs = context_of(alloc, known)?;
-    yours.add_dots(&mut theirs)?;
+    theirs.union(&yours.dots(alloc)?)?;
     mine.join(alloc, &own, yours, &theirs)
 }
 
