@@ -1,3 +1,5 @@
+ghost use Rattle.watched_io.specs.Watched.{IsNew};
+
 use dots::Refusal;
 use std::alloc::Global;
 use std::io;
@@ -68,7 +70,9 @@ impl Write for Taking {
     }
 }
 
-fn taker(alloc: Global, piece: usize, calls: u64) -> Watched<Taking> {
+fn taker(alloc: Global, piece: usize, calls: u64) -> Watched<Taking>
+    ensures { IsNew result }
+{
     Watched::new(Taking {
         text: Vec::new(alloc),
         piece,

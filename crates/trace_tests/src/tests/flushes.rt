@@ -1,3 +1,5 @@
+ghost use Rattle.watched_io.specs.Watched.{IsNew};
+
 use std::alloc::Global;
 use std::io;
 use std::io::Write;
@@ -23,7 +25,9 @@ impl Write for Flushing {
     }
 }
 
-fn new_writer(alloc: Global) -> Watched<Flushing> {
+fn new_writer(alloc: Global) -> Watched<Flushing>
+    ensures { IsNew result }
+{
     Watched::new(Flushing {
         text: Vec::new(alloc),
         lengths: Vec::new(alloc),
