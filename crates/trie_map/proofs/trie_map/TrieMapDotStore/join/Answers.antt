@@ -1,0 +1,19 @@
+use Rattle.std.proofs.Common.{◌≡◌, ap, sym, ◌∙◌, subst}
+use Rattle.causal_context.specs.Context.{has}
+use Rattle.dot_store.specs.Store.{HoldsSame}
+use Rattle.trie_map.specs.Keyed.{at_keys}
+use Rattle.trie_map.specs.Joined.{AreJoined}
+use Rattle.trie_map.proofs.Written.{if_ok, map_joined}
+use Rattle.trie_map.proofs.trie_map.TrieMapDotStore.join.Goals as goal
+
+pub returns-clause-ok : goal.returns-clause-ok
+returns-clause-ok g c =
+    if_ok c.finish.result
+    (λ both is. map_joined g.S.DotStore.at g.S.DotStore.greater c.args.self.now c.args.other.now both (has c.args.own.now) (has c.args.theirs.now)
+    (subst (λ m. AreJoined g.S.DotStore.at g.S.DotStore.greater c.args.self.now.1 (has c.args.own.now) c.args.other.now.1 (has c.args.theirs.now) c.args.self.now.1 m.1
+    × AreJoined g.S.DotStore.at g.S.DotStore.greater c.args.self.now.1 (has c.args.own.now) c.args.other.now.1 (has c.args.theirs.now) c.args.other.now.1 m.1) (sym is) c.in_ok-join_others.ensures.ok))
+    c.finish.ensures.ok
+
+pub returns-clause-hash : goal.returns-clause-hash
+returns-clause-hash g c =
+    if_ok c.finish.result (λ both is. ap (λ m. m.0) is ∙ c.in_ok-join_others.ensures.hash ∙ c.in_ok-join_own.ensures.hash ∙ ap (λ m. m.0) c.in_ok-draft.ensures.ok) c.finish.ensures.ok

@@ -1,0 +1,29 @@
+-- What a join does to one key of a map. Of this project.
+use Rattle.std.specs.Prelude.{◌≡◌, ℕ, List, Bool, false, Option, Some, ◌⊎◌}
+use Rattle.std.specs.FinMap as finite
+use Rattle.std.specs.Ordering.{eq_by_cmp}
+use Rattle.dots.specs.Bytes.{bytes_cmp}
+use Rattle.dots.specs.Dot.{DotValue}
+use Rattle.dot_store.specs.Store.{HoldsSame}
+use Rattle.dot_store.specs.Stores.{held_by, joined_store}
+use Rattle.op_model.specs.State.{joined}
+
+module _ {S P H : Type 0} (at : S → P → DotValue → Option H) (greater : H → H → H) where
+  -- what the join of two stores holds at a place and a dot
+  abbrev pub both_at : (mine : S) (own : DotValue → Bool) (yours : S) (theirs : DotValue → Bool) → P → DotValue → Option H
+  both_at mine own yours theirs place dot = joined greater (at mine place dot) (own dot) (at yours place dot) (theirs dot)
+
+  -- The map changes at one key at most. If the key held what one side holds there, or their join already, it holds the join.
+  pub record JoinsAt (old new : finite.FinMap bytes_cmp S) (key : List ℕ) (mine : S) (own : DotValue → Bool) (yours : S) (theirs : DotValue → Bool) : Type 0 where
+    pub apart : (q : List ℕ) → eq_by_cmp bytes_cmp q key ≡ false → finite.get new q ≡ finite.get old q
+    pub here : HoldsSame (held_by at (finite.get old key)) (at mine) ⊎ HoldsSame (held_by at (finite.get old key)) (both_at mine own yours theirs)
+        → HoldsSame (held_by at (finite.get new key)) (both_at mine own yours theirs)
+
+  -- at a key of a draft stands the join of two maps
+  abbrev pub IsJoinedAt : (mine : finite.FinMap bytes_cmp S) (own : DotValue → Bool) (yours : finite.FinMap bytes_cmp S) (theirs : DotValue → Bool) (draft : finite.FinMap bytes_cmp S) → List ℕ → Type 0
+  IsJoinedAt mine own yours theirs draft q = HoldsSame (held_by at (finite.get draft q)) (joined_store at greater (finite.get mine q) own (finite.get yours q) theirs)
+
+  -- the draft has at each key what the first map has, or the join; and at these keys the join
+  pub record AreJoined (mine : finite.FinMap bytes_cmp S) (own : DotValue → Bool) (yours : finite.FinMap bytes_cmp S) (theirs : DotValue → Bool) (keys draft : finite.FinMap bytes_cmp S) : Type 0 where
+    pub either : (q : List ℕ) → (finite.get draft q ≡ finite.get mine q) ⊎ IsJoinedAt mine own yours theirs draft q
+    pub there : (q : List ℕ) (store : S) → finite.get keys q ≡ Some store → IsJoinedAt mine own yours theirs draft q

@@ -1,0 +1,184 @@
+ghost use Rattle.std.specs.Prelude.{◌≡◌, ◌↔◌, IsTrue, IsSome, IfSome, IfOk, OnOk, OnErr, IsOkUnless, false};
+ghost use Rattle.std.specs.FinMap as finite;
+ghost use Rattle.std.specs.Option.{option_copied};
+ghost use Rattle.causal_context.specs.Context.{has};
+ghost use Rattle.dot_store.specs.Store.{HasNothing, HoldsSame, state_with};
+ghost use Rattle.dots.specs.Dot.{DotValue};
+ghost use Rattle.op_model.specs.State.{join};
+ghost use Rattle.trie_map.specs.Keyed.{at_keys, NoStoreIsEmpty};
+
+use crate::draft::Draft;
+use crate::joining::{join_others, join_own};
+use crate::same::is_within;
+use causal_context::Context;
+use dot_store::DotStore;
+use dots::{Dot, Key, Refusal};
+use gen_trie::{Frozen, NoSummary, Summary};
+use hash_path::{Fnv1a, PathHash};
+use std::alloc::{Allocator, Global};
+use std::marker::Model;
+
+/// A map from keys to dot stores, none of which is empty, that is kept as a trie by the path hash of the keys.
+///
+/// It holds what a `DotMap` of the same stores does. A copy takes a reference count and shares all nodes; a join writes the
+/// keys whose stores change, and shares the rest.
+#[derive(Drop)]
+pub struct TrieMap<S: DotStore<A>, M: Summary<S> = NoSummary, H: PathHash = Fnv1a, A: Allocator + Copy = Global> {
+    entries: Frozen<S, M, H, A>,
+}
+
+impl<S: DotStore<A>, M: Summary<S>, H: PathHash, A: Allocator + Copy> Model for TrieMap<S, M, H, A> {
+    ghost use Rattle.std.specs.Coded.{coded×, coded_list, coded_ℕ};
+    ghost use Rattle.std.specs.FinMap as finite;
+    ghost use Rattle.trie_map.specs.Keyed.{TrieMapValue, NoStoreIsEmpty};
+
+    ghost Value = { TrieMapValue H S };
+
+    ghost coded = { coded× H.code (finite.code (coded_list coded_ℕ) S.code) };
+
+    ghost view = { λ map. (map.entries.hash, map.entries.map) };
+
+    ghost invariant = { λ map. NoStoreIsEmpty S.at map.entries.map };
+}
+
+impl<S: DotStore<A>, M: Summary<S>, H: PathHash, A: Allocator + Copy> TrieMap<S, M, H, A> {
+    /// The map with no keys, whose paths are by this hash. Takes no memory.
+    pub fn new(alloc: A, hash: H) -> TrieMap<S, M, H, A>
+        ensures { result ≡ (hash, finite.empty) }
+    {
+        TrieMap {
+            entries: Frozen::new(alloc, hash),
+        }
+    }
+
+    // The map of this trie.
+    pub(crate) fn of(entries: Frozen<S, M, H, A>) -> TrieMap<S, M, H, A>
+        requires { NoStoreIsEmpty S.at entries.map }
+        ensures { result ≡ (entries.hash, entries.map) }
+    {
+        TrieMap { entries }
+    }
+
+    /// The store at the key, which is never an empty one. Touches eight nodes at most, and takes no memory.
+    /// None exactly where nothing stands at the key.
+    pub fn get(&self, key: &Key<A>) -> Option<&S>
+        ensures store { option_copied result ≡ finite.get self.now.1 key.now }
+        ensures filled { IfSome result (λ store. ¬ HasNothing (S.at store.now)) }
+    {
+        self.entries.lookup(key)
+    }
+
+    /// The number of keys. Takes constant time.
+    pub fn size(&self) -> u64
+        ensures { result ≡ finite.len self.now.1 }
+    {
+        self.entries.size()
+    }
+
+    /// The trie of the keys with their stores.
+    pub fn frozen(&self) -> &Frozen<S, M, H, A>
+        ensures hash { result.now.hash ≡ self.now.0 }
+        ensures map { result.now.map ≡ self.now.1 }
+        ensures filled { NoStoreIsEmpty S.at result.now.map }
+    {
+        &self.entries
+    }
+
+    /// The same map. Copies no node: it takes a reference count, and is refused only where that is full.
+    /// Its only refusal is OutOfMemory.
+    pub fn share(&self) -> Result<TrieMap<S, M, H, A>, Refusal>
+        ensures ok { IfOk result (λ copy. copy ≡ self.now) }
+        ensures err { IsOkUnless result Refusal.OutOfMemory }
+    {
+        let entries = self.entries.copy()?;
+        Ok(TrieMap { entries })
+    }
+
+    /// A draft that holds what this map does, and is written in its place. Copies no node: it takes a reference count, and
+    /// is refused only where that is full.
+    /// Its only refusal is OutOfMemory.
+    pub fn draft(&self) -> Result<Draft<S, M, H, A>, Refusal>
+        ensures ok { IfOk result (λ draft. draft ≡ self.now) }
+        ensures err { IsOkUnless result Refusal.OutOfMemory }
+    {
+        let entries = self.entries.thaw()?;
+        Ok(Draft::of(entries))
+    }
+}
+
+impl<S: DotStore<A>, M: Summary<S>, H: PathHash, A: Allocator + Copy> DotStore<A> for TrieMap<S, M, H, A> {
+    type Place = (Key<A>, S::Place);
+
+    type Held = S::Held;
+
+    ghost at = { at_keys S.at };
+
+    ghost greater = { S.greater };
+
+    fn empty(alloc: A) -> TrieMap<S, M, H, A> {
+        TrieMap::new(alloc, H::default())
+    }
+
+    fn is_empty(&self) -> bool {
+        self.entries.size() == 0
+    }
+
+    fn contains(&self, dot: Dot) -> bool {
+        for (_, store) in self.entries.iter() {
+            if store.contains(dot) {
+                return true;
+            }
+        }
+        false
+    }
+
+    fn is_inside(&self, context: &Context<A>) -> bool {
+        for (_, store) in self.entries.iter() {
+            if !store.is_inside(context) {
+                return false;
+            }
+        }
+        true
+    }
+
+    fn dots(&self, alloc: A) -> Result<Context<A>, Refusal> {
+        let mut dots = Context::new(alloc);
+        for (_, store) in self.entries.iter() {
+            let more = store.dots(alloc)?;
+            dots.union(&more)?;
+        }
+        Ok(dots)
+    }
+
+    fn join(
+        &self,
+        alloc: A,
+        own: &Context<A>,
+        other: &TrieMap<S, M, H, A>,
+        theirs: &Context<A>,
+    ) -> Result<TrieMap<S, M, H, A>, Refusal>
+        ensures ok { IfOk result (λ both. HoldsSame (at_keys S.at both)
+            (join S.greater (state_with (at_keys S.at self.now) (has own.now)) (state_with (at_keys S.at other.now) (has theirs.now))).at) }
+        ensures hash { IfOk result (λ both. both.0 ≡ self.now.0) }
+        ensures err { IsOkUnless result Refusal.OutOfMemory }
+    {
+        let mut draft = self.draft()?;
+        join_own(alloc, &mut draft, self, own, other, theirs)?;
+        join_others(alloc, &mut draft, self, own, other, theirs)?;
+        draft.finish()
+    }
+
+    fn copy(&self, _alloc: A) -> Result<TrieMap<S, M, H, A>, Refusal> {
+        self.share()
+    }
+
+    fn same(&self, other: &TrieMap<S, M, H, A>) -> bool {
+        is_within(self, other) && is_within(other, self)
+    }
+
+    ghost greater_comm = { S.greater_comm };
+
+    ghost greater_assoc = { S.greater_assoc };
+
+    ghost greater_idem = { S.greater_idem };
+}
