@@ -1,7 +1,7 @@
 use Rattle.std.proofs.Common.{[], ◌∷◌, sym, ◌∙◌, subst}
-use Rattle.dot_store.proofs.Places.{Ascends, ascends_tail, less_from_greater}
-use Rattle.dot_store.proofs.Merged.{turn_mine, turn_yours, turn_both, below_other, nil_from_length}
-use Rattle.dot_store.proofs.merge.Merge.next.Goals as goal
+use Rattle.ordered_list.proofs.Places.{Ascends, ascends_tail, less_from_greater}
+use Rattle.ordered_list.proofs.Merged.{turn_mine, turn_yours, turn_both, below_other, nil_from_length}
+use Rattle.ordered_list.proofs.merge.Merge.next.Goals as goal
 
 pub invariant_of-self : goal.invariant_of-self
 invariant_of-self g c =

@@ -3,8 +3,8 @@ use Rattle.std.specs.Prelude.{Result, Ok, Err, OnOk, OnErr}
 use Rattle.std.specs.List.{insert}
 use Rattle.std.specs.BTreeMap.{insert_entry}
 use Rattle.std.proofs.lemmas.Result.{on_ok_weaker}
-use Rattle.dot_store.proofs.Places.{Ascends, place_within, gap_within, set_there, insert_there, ascends_insert, updated_insert}
-use Rattle.dot_store.proofs.ordered_list.OrderedList.insert.Goals as goal
+use Rattle.ordered_list.proofs.Places.{Ascends, place_within, gap_within, set_there, insert_there, ascends_insert, updated_insert}
+use Rattle.ordered_list.proofs.ordered_list.OrderedList.insert.Goals as goal
 
 pub index_mut-requires : goal.index_mut-requires
 index_mut-requires g c =

@@ -1,8 +1,8 @@
 use Rattle.std.proofs.Common.{◌≡◌, ◌++◌, ◌∷◌, [], sym, ◌∙◌, rules, of_calls}
 use Rattle.std.specs.declared.cmp.Ordering.TheVariants.{Less}
 use Rattle.std.proofs.lemmas.Fn.{always_returns_same}
-use Rattle.dot_store.proofs.Places.{gap_at_end, searched_Ok, searched_Err, less_from_test}
-use Rattle.dot_store.proofs.ordered_list.place_of.Goals as goal
+use Rattle.ordered_list.proofs.Places.{gap_at_end, searched_Ok, searched_Err, less_from_test}
+use Rattle.ordered_list.proofs.ordered_list.place_of.Goals as goal
 
 pub returns-in-Some-clause-absent : goal.returns-in-Some-clause-absent
 returns-in-Some-clause-absent g c =

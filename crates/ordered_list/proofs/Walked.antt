@@ -8,8 +8,8 @@ use Rattle.std.specs.Ordering.{is_eq}
 use Rattle.std.specs.Cmp.{IsTotalOrder}
 use Rattle.std.proofs.lemmas.Cmp.{tied_itself}
 use Rattle.std.proofs.lemmas.Map.Lookups.{CmpEqualImpliesEq}
-use Rattle.dot_store.specs.Places.{value_at}
-use Rattle.dot_store.specs.Merged.{IsTurn}
+use Rattle.ordered_list.specs.Places.{value_at}
+use Rattle.ordered_list.specs.Merged.{IsTurn}
 
 equal_from_test : (o : Ordering) → is_eq o ≡ true → o ≡ Equal
 equal_from_test Less h = absurd (cc h)

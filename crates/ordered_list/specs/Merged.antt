@@ -2,7 +2,7 @@
 use Rattle.std.specs.Prelude.{◌≡◌, ◌+◌, ◌<◌, cond, ◌||◌, Option, None, List, length, IsTrue, is_some}
 use Rattle.std.specs.declared.cmp.Ordering.{Ordering}
 use Rattle.std.specs.Ordering.{is_eq}
-use Rattle.dot_store.specs.Places.{value_at}
+use Rattle.ordered_list.specs.Places.{value_at}
 
 -- One turn, at a key of either list or of both: what each list has there, and what is left of them, which is
 -- what they have at the other keys.

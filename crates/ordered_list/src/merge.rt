@@ -2,14 +2,14 @@ ghost use Rattle.std.specs.Prelude.{◌≡◌, [], IfNone, IfSome};
 ghost use Rattle.std.specs.Option.{option_copied};
 ghost use Rattle.std.specs.List.Sorted.{IsStrictlySortedBy};
 ghost use Rattle.std.specs.Map.{keys_of};
-ghost use Rattle.dot_store.specs.Merged.{IsTurn};
+ghost use Rattle.ordered_list.specs.Merged.{IsTurn};
 
 use std::cmp::Ordering;
 use std::marker::Model;
 
-// Two lists of entries, each by ascending key, gone through together: a turn for each key of either.
+/// Two lists of entries, each by ascending key, gone through together: a turn for each key of either.
 #[derive(Drop)]
-pub(crate) struct Merge<'a, K: Ord, V> {
+pub struct Merge<'a, K: Ord, V> {
     mine: &'a [(K, V)],
     yours: &'a [(K, V)],
 }
@@ -28,8 +28,8 @@ impl<'a, K: Ord, V> Model for Merge<'a, K, V> {
 }
 
 impl<'a, K: Ord, V> Merge<'a, K, V> {
-    // Both lists from their first entries on.
-    pub(crate) fn new(mine: &'a [(K, V)], yours: &'a [(K, V)]) -> Merge<'a, K, V>
+    /// Both lists from their first entries on.
+    pub fn new(mine: &'a [(K, V)], yours: &'a [(K, V)]) -> Merge<'a, K, V>
         requires mine { IsStrictlySortedBy K.cmp (keys_of mine.now) }
         requires yours { IsStrictlySortedBy K.cmp (keys_of yours.now) }
         ensures { result ≡ (mine.now, yours.now) }
@@ -37,8 +37,8 @@ impl<'a, K: Ord, V> Merge<'a, K, V> {
         Merge { mine, yours }
     }
 
-    // The least key that is left, with what each list has there.
-    pub(crate) fn next(&mut self) -> Option<(&'a K, Option<&'a V>, Option<&'a V>)>
+    /// The least key that is left, with what each list has there.
+    pub fn next(&mut self) -> Option<(&'a K, Option<&'a V>, Option<&'a V>)>
         ensures end { IfNone result (self.old ≡ ([], [])) }
         ensures turn { IfSome result (λ turn. IsTurn K.cmp self.old.0 self.old.1 self.new.0 self.new.1
             turn.0.now (option_copied turn.1) (option_copied turn.2)) }

@@ -1,8 +1,8 @@
 use Rattle.std.proofs.Common.{Some, sym, ap, ◌∙◌, arith}
 use Rattle.std.specs.Map.{lookup}
 use Rattle.std.specs.BTreeMap.{is_at}
-use Rattle.dot_store.proofs.Places.{place_within, found_there, not_found_in_gap}
-use Rattle.dot_store.proofs.ordered_list.OrderedList.get.Goals as goal
+use Rattle.ordered_list.proofs.Places.{place_within, found_there, not_found_in_gap}
+use Rattle.ordered_list.proofs.ordered_list.OrderedList.get.Goals as goal
 
 pub index-requires : goal.index-requires
 index-requires g c =

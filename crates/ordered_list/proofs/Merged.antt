@@ -7,8 +7,8 @@ use Rattle.std.specs.Cmp.{IsTotalOrder, eq_by_cmp_equiv}
 use Rattle.std.specs.Map.{lookup, keys_of}
 use Rattle.std.specs.BTreeMap.{is_at}
 use Rattle.std.proofs.lemmas.Cmp.{tied_itself}
-use Rattle.dot_store.specs.Merged.{IsTurn}
-use Rattle.dot_store.proofs.Places.{Ascends, IsBelow, ascends_head, below_all, not_found_below}
+use Rattle.ordered_list.specs.Merged.{IsTurn}
+use Rattle.ordered_list.proofs.Places.{Ascends, IsBelow, ascends_head, below_all, not_found_below}
 
 module _ {K V : Type 0} (cmp : K → K → Ordering) (total : IsTotalOrder cmp) where
   -- keys that are equal find the same

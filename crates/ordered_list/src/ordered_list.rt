@@ -5,20 +5,20 @@ ghost use Rattle.std.specs.List.{insert};
 ghost use Rattle.std.specs.List.Sorted.{IsStrictlySortedBy};
 ghost use Rattle.std.specs.Map.{keys_of, remove_entry};
 ghost use Rattle.std.specs.BTreeMap.{is_at, insert_entry};
-ghost use Rattle.dot_store.specs.Places.{value_at, IsPlaceOf, IsGapFor};
+ghost use Rattle.ordered_list.specs.Places.{value_at, IsPlaceOf, IsGapFor};
 
 use dots::Refusal;
 use std::alloc::{Allocator, Global};
 use std::cmp::Ordering;
 use std::marker::Model;
 
-// A map as the list of its entries, by ascending key.
-//
-// Most stores hold one entry or a few, for which this takes the room of the entries and no more. A look-up
-// is a binary search. An insert or a removal moves the entries that come after, so it takes time in these:
-// none at the end, where a join and a decoder insert.
+/// A map as the list of its entries, by ascending key.
+///
+/// Most lists hold one entry or a few, for which this takes the room of the entries and no more. A look-up
+/// is a binary search. An insert or a removal moves the entries that come after, so it takes time in these:
+/// none at the end, where a join and a decoder insert.
 #[derive(Drop)]
-pub(crate) struct OrderedList<K: Ord, V, A: Allocator = Global> {
+pub struct OrderedList<K: Ord, V, A: Allocator = Global> {
     items: Vec<(K, V), A>,
 }
 
@@ -35,8 +35,8 @@ impl<K: Ord, V, A: Allocator> Model for OrderedList<K, V, A> {
 }
 
 impl<K: Ord + Drop, V: Drop, A: Allocator + Copy> OrderedList<K, V, A> {
-    // The list with no entries. Takes no memory.
-    pub(crate) fn new(alloc: A) -> OrderedList<K, V, A>
+    /// The list with no entries. Takes no memory.
+    pub fn new(alloc: A) -> OrderedList<K, V, A>
         ensures { result ≡ [] }
     {
         OrderedList {
@@ -44,8 +44,8 @@ impl<K: Ord + Drop, V: Drop, A: Allocator + Copy> OrderedList<K, V, A> {
         }
     }
 
-    // The list with no entries, and with room for this many.
-    pub(crate) fn with_capacity(alloc: A, capacity: usize) -> Result<OrderedList<K, V, A>, Refusal>
+    /// The list with no entries, and with room for this many.
+    pub fn with_capacity(alloc: A, capacity: usize) -> Result<OrderedList<K, V, A>, Refusal>
         ensures ok { IfOk result (λ list. list ≡ []) }
         ensures err { IsOkUnless result Refusal.OutOfMemory }
     {
@@ -53,9 +53,9 @@ impl<K: Ord + Drop, V: Drop, A: Allocator + Copy> OrderedList<K, V, A> {
         Ok(OrderedList { items })
     }
 
-    // The list of these entries, or None exactly where their keys do not ascend, each key once. The vector
-    // is taken over as it is.
-    pub(crate) fn from_entries(items: Vec<(K, V), A>) -> Option<OrderedList<K, V, A>>
+    /// The list of these entries, or None exactly where their keys do not ascend, each key once. The vector
+    /// is taken over as it is.
+    pub fn from_entries(items: Vec<(K, V), A>) -> Option<OrderedList<K, V, A>>
         ensures ascend { IsSome result ↔ IsStrictlySortedBy K.cmp (keys_of items.items) }
         ensures entries { IfSome result (λ list. list ≡ items.items) }
     {
@@ -65,16 +65,16 @@ impl<K: Ord + Drop, V: Drop, A: Allocator + Copy> OrderedList<K, V, A> {
         Some(OrderedList { items })
     }
 
-    // The entries, in the order of their keys.
-    pub(crate) fn entries(&self) -> &[(K, V)]
+    /// The entries, in the order of their keys.
+    pub fn entries(&self) -> &[(K, V)]
         ensures all { result.now ≡ self.now }
         ensures ordered { IsStrictlySortedBy K.cmp (keys_of result.now) }
     {
         &self.items
     }
 
-    // The value at the key.
-    pub(crate) fn get(&self, key: &K) -> Option<&V>
+    /// The value at the key.
+    pub fn get(&self, key: &K) -> Option<&V>
         ensures { option_copied result ≡ value_at K.cmp self.now key.now }
     {
         match place_of(&self.items, key) {
@@ -83,8 +83,8 @@ impl<K: Ord + Drop, V: Drop, A: Allocator + Copy> OrderedList<K, V, A> {
         }
     }
 
-    // Puts the value at the key, in place of what was there. A refused call leaves the list as it was.
-    pub(crate) fn insert(&mut self, key: K, value: V) -> Result<(), Refusal>
+    /// Puts the value at the key, in place of what was there. A refused call leaves the list as it was.
+    pub fn insert(&mut self, key: K, value: V) -> Result<(), Refusal>
         ensures ok { OnOk result (self.new ≡ insert_entry K.cmp self.old key value) }
         ensures updates { OnOk result ((q : K)
             → value_at K.cmp self.new q ≡ cond (is_eq (K.cmp key q)) (Some value) (value_at K.cmp self.old q)) }
@@ -100,8 +100,8 @@ impl<K: Ord + Drop, V: Drop, A: Allocator + Copy> OrderedList<K, V, A> {
         }
     }
 
-    // Takes the entry of the key out, if there is one.
-    pub(crate) fn remove(&mut self, key: &K)
+    /// Takes the entry of the key out, if there is one.
+    pub fn remove(&mut self, key: &K)
         ensures entries { self.new ≡ remove_entry (is_at (K.cmp key.now)) self.old }
         ensures updates { (q : K)
             → value_at K.cmp self.new q ≡ cond (is_eq (K.cmp key.now q)) None (value_at K.cmp self.old q) }

@@ -6,8 +6,8 @@ use Rattle.std.specs.List.{IsAllAdjacentAnswer}
 use Rattle.std.specs.declared.cmp.Ordering.{Ordering}
 use Rattle.std.proofs.Common.{List, rules, of_calls}
 use Rattle.std.proofs.lemmas.Fn.{always_returns_same}
-use Rattle.dot_store.proofs.Places.{Ascends, ascends_from_test, test_from_ascends}
-use Rattle.dot_store.proofs.ordered_list.is_ascending.Goals as goal
+use Rattle.ordered_list.proofs.Places.{Ascends, ascends_from_test, test_from_ascends}
+use Rattle.ordered_list.proofs.ordered_list.is_ascending.Goals as goal
 
 answer : {K V : Type 0} (cmp : K → K → Ordering) → IsTotalOrder cmp → (es : List (K × V)) (r : Bool) → IsAllAdjacentAnswer (λ x y b. b ≡ is_lt (cmp x.0 y.0)) es r
     → (IsTrue r → Ascends cmp es) × (Ascends cmp es → IsTrue r)

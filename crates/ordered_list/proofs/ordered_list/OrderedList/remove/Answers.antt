@@ -1,8 +1,8 @@
 use Rattle.std.proofs.Common.{sym, ap, ◌∙◌, subst, arith}
 use Rattle.std.specs.Map.{remove_entry}
 use Rattle.std.specs.BTreeMap.{is_at}
-use Rattle.dot_store.proofs.Places.{Ascends, place_within, remove_there, remove_nothing, not_found_in_gap, ascends_remove, updated_remove}
-use Rattle.dot_store.proofs.ordered_list.OrderedList.remove.Goals as goal
+use Rattle.ordered_list.proofs.Places.{Ascends, place_within, remove_there, remove_nothing, not_found_in_gap, ascends_remove, updated_remove}
+use Rattle.ordered_list.proofs.ordered_list.OrderedList.remove.Goals as goal
 
 pub remove-requires : goal.remove-requires
 remove-requires g c =
