@@ -112,6 +112,17 @@ impl<K: Ord + Drop, V: Drop, A: Allocator + Copy> OrderedList<K, V, A> {
     }
 }
 
+impl<K: Ord + Copy, V: Copy, A: Allocator + Copy> OrderedList<K, V, A> {
+    /// The same entries, in one copy of their memory.
+    pub fn copy(&self, alloc: A) -> Result<OrderedList<K, V, A>, Refusal>
+        ensures ok { IfOk result (λ copy. copy ≡ self.now) }
+        ensures err { IsOkUnless result Refusal.OutOfMemory }
+    {
+        let items = Vec::from_slice(alloc, &self.items)?;
+        Ok(OrderedList { items })
+    }
+}
+
 // The place of the key among the entries, or the one that it would take. The last entry is looked at first,
 // so that entries which come in order go to the end with one comparison.
 fn place_of<K: Ord, V>(entries: &[(K, V)], key: &K) -> Result<usize, usize>
@@ -129,8 +140,8 @@ fn place_of<K: Ord, V>(entries: &[(K, V)], key: &K) -> Result<usize, usize>
     }
 }
 
-// Puts the entry at the place. An empty vector would take room for four at once, and most lists stay at one.
-fn insert_at<T: Drop, A: Allocator + Copy>(
+// Puts the item at the place. An empty vector would take room for four at once, and most lists stay at one.
+pub(crate) fn insert_at<T: Drop, A: Allocator + Copy>(
     items: &mut Vec<T, A>,
     place: usize,
     item: T,
