@@ -65,24 +65,6 @@ impl<K: Ord + Drop, V: Drop, A: Allocator + Copy> OrderedList<K, V, A> {
         Some(OrderedList { items })
     }
 
-    /// The entries, in the order of their keys.
-    pub fn entries(&self) -> &[(K, V)]
-        ensures all { result.now ≡ self.now }
-        ensures ordered { IsStrictlySortedBy K.cmp (keys_of result.now) }
-    {
-        &self.items
-    }
-
-    /// The value at the key.
-    pub fn get(&self, key: &K) -> Option<&V>
-        ensures { option_copied result ≡ value_at K.cmp self.now key.now }
-    {
-        match place_of(&self.items, key) {
-            Ok(place) => Some(&self.items[place].1),
-            Err(_) => None,
-        }
-    }
-
     /// Puts the value at the key, in place of what was there. A refused call leaves the list as it was.
     pub fn insert(&mut self, key: K, value: V) -> Result<(), Refusal>
         ensures ok { OnOk result (self.new ≡ insert_entry K.cmp self.old key value) }
@@ -108,6 +90,26 @@ impl<K: Ord + Drop, V: Drop, A: Allocator + Copy> OrderedList<K, V, A> {
     {
         if let Ok(place) = place_of(&self.items, key) {
             self.items.remove(place);
+        }
+    }
+}
+
+impl<K: Ord, V, A: Allocator> OrderedList<K, V, A> {
+    /// The entries, in the order of their keys.
+    pub fn entries(&self) -> &[(K, V)]
+        ensures all { result.now ≡ self.now }
+        ensures ordered { IsStrictlySortedBy K.cmp (keys_of result.now) }
+    {
+        &self.items
+    }
+
+    /// The value at the key.
+    pub fn get(&self, key: &K) -> Option<&V>
+        ensures { option_copied result ≡ value_at K.cmp self.now key.now }
+    {
+        match place_of(&self.items, key) {
+            Ok(place) => Some(&self.items[place].1),
+            Err(_) => None,
         }
     }
 }

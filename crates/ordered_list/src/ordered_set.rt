@@ -63,6 +63,34 @@ impl<T: Ord + Drop, A: Allocator + Copy> OrderedSet<T, A> {
         Some(OrderedSet { items })
     }
 
+    /// Puts the item in, if it is not there. A refused call leaves the set as it was.
+    pub fn insert(&mut self, item: T) -> Result<(), Refusal>
+        ensures ok { OnOk result (self.new ≡ insert_key T.cmp self.old item) }
+        ensures updates { OnOk result ((q : T)
+            → is_among T.cmp self.new q ≡ cond (is_eq (T.cmp item q)) true (is_among T.cmp self.old q)) }
+        ensures unchanged { OnErr result (self.new ≡ self.old) }
+        ensures err { IsOkUnless result Refusal.OutOfMemory }
+    {
+        match place_of(&self.items, &item) {
+            Ok(_) => Ok(()),
+            Err(place) => insert_at(&mut self.items, place, item),
+        }
+    }
+
+    /// Takes out the items that are neither below the low one nor above the high one. Takes time in the number
+    /// of all items.
+    pub fn remove_between(&mut self, low: &T, high: &T)
+        ensures { self.new ≡ filter (λ x. not (is_between T.cmp low.now high.now x)) self.old }
+    {
+        self.items.retain(
+            |item| -> bool
+                ensures { result ≡ not (is_between T.cmp low.entry.now high.entry.now item.now) }
+            { item.cmp(low).is_lt() || item.cmp(high).is_gt() },
+        );
+    }
+}
+
+impl<T: Ord, A: Allocator> OrderedSet<T, A> {
     /// The items, in order.
     pub fn items(&self) -> &[T]
         ensures all { result.now ≡ self.now }
@@ -93,32 +121,6 @@ impl<T: Ord + Drop, A: Allocator + Copy> OrderedSet<T, A> {
             return None;
         }
         Some(&items[end - 1])
-    }
-
-    /// Puts the item in, if it is not there. A refused call leaves the set as it was.
-    pub fn insert(&mut self, item: T) -> Result<(), Refusal>
-        ensures ok { OnOk result (self.new ≡ insert_key T.cmp self.old item) }
-        ensures updates { OnOk result ((q : T)
-            → is_among T.cmp self.new q ≡ cond (is_eq (T.cmp item q)) true (is_among T.cmp self.old q)) }
-        ensures unchanged { OnErr result (self.new ≡ self.old) }
-        ensures err { IsOkUnless result Refusal.OutOfMemory }
-    {
-        match place_of(&self.items, &item) {
-            Ok(_) => Ok(()),
-            Err(place) => insert_at(&mut self.items, place, item),
-        }
-    }
-
-    /// Takes out the items that are neither below the low one nor above the high one. Takes time in the number
-    /// of all items.
-    pub fn remove_between(&mut self, low: &T, high: &T)
-        ensures { self.new ≡ filter (λ x. not (is_between T.cmp low.now high.now x)) self.old }
-    {
-        self.items.retain(
-            |item| -> bool
-                ensures { result ≡ not (is_between T.cmp low.entry.now high.entry.now item.now) }
-            { item.cmp(low).is_lt() || item.cmp(high).is_gt() },
-        );
     }
 }
 

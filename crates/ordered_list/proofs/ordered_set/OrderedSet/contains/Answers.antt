@@ -1,4 +1,4 @@
-use Rattle.std.proofs.Common.{sym, ap, ◌∙◌}
+use Rattle.std.proofs.Common.{ap, ◌∙◌}
 use Rattle.ordered_list.specs.Items.{is_among}
 use Rattle.ordered_list.proofs.Items.{among_from_place}
 use Rattle.ordered_list.proofs.ordered_set.OrderedSet.contains.Goals as goal
