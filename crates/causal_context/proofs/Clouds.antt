@@ -1,19 +1,20 @@
 -- Clouds, read by the test of their dots.
-use Rattle.std.proofs.Common.{◌≡◌, ℕ, ◌≤◌, ◌<◌, Bool, true, false, ◌||◌, ◌&&◌, not, cond, List, [], ◌∷◌, ◌++◌, refl, sym, ap, subst, ◌∙◌, arith, eqb, ltb, leb, ⊎_elim, ◌+◌}
+use Rattle.std.proofs.Common.{◌≡◌, ℕ, ◌≤◌, ◌<◌, Bool, true, false, ◌||◌, ◌&&◌, not, cond, List, [], ◌∷◌, ◌++◌, length, get_or, refl, sym, ap, subst, ◌∙◌, arith, eqb, ltb, leb, ◌+◌}
 use Rattle.std.specs.Prelude.{IsTrue}
 use Rattle.std.specs.declared.cmp.Ordering.{Ordering}
 use Rattle.std.specs.declared.cmp.Ordering.TheVariants.{Less, Equal, Greater}
 use Rattle.std.specs.Ordering.{is_eq, is_gt, is_lt, nat_cmp, ordering_then}
 use Rattle.std.specs.Cmp.{nat_eq_equiv}
-use Rattle.std.specs.List.{list_any}
+use Rattle.std.specs.List.{list_any, filter}
 use Rattle.std.specs.List.Sorted.{IsStrictlySortedBy}
 use Rattle.std.specs.BTreeMap.{is_at}
 use Rattle.std.specs.BTreeSet.{BTreeSet}
 use Rattle.std.proofs.lemmas.Map.Lookups.{btree_set_from_contains}
-use Rattle.std.proofs.lemmas.Bool.{cases_lt}
 use Rattle.std.proofs.lemmas.Bool.Decides.{nat_tests}
 use Rattle.std.proofs.lemmas.Map.Keys.{le_from_not_gt}
-use Rattle.std.proofs.lemmas.List.Folds.{list_any-append}
+use Rattle.std.proofs.lemmas.Map.Views.{any-filter_same}
+use Rattle.std.proofs.lemmas.List.Folds.{list_any-append, list_any_at}
+use Rattle.ordered_list.specs.Items.{is_among, is_between, IsLastUpTo}
 use Rattle.dots.specs.Dot.{DotValue, same_dot}
 use Rattle.causal_context.specs.Dots.{dot_cmp}
 use Rattle.causal_context.specs.Context.{in_cloud, IsGreatest}
@@ -39,22 +40,33 @@ in_cloud-push xs x d = list_any-append (same_dot d) xs (x ∷ []) ∙ or_false (
 pub first_in_cloud : (x : DotValue) (xs : List DotValue) → IsTrue (in_cloud (x ∷ xs) x)
 first_in_cloud x xs = rw (same_dot-refl x) refl
 
--- a run that is taken out as far as n, and then the dot above n
-taken_at : (a n m : ℕ) (same start new old : Bool) → a ≤ n → new ≡ cond (same && eqb (n + 1) m) false old → old ≡ (start && not (same && (ltb a m && leb m n)))
-    → new ≡ (start && not (same && (ltb a m && leb m (n + 1))))
-taken_at a n m true true new old l h k = grind (arith, nat_tests)
-taken_at a n m true false new old l h k = grind (arith, nat_tests)
-taken_at a n m false start new old l h k = h ∙ k
+-- a dot that stands in the list is in the cloud
+pub in_cloud_at : (ds : List DotValue) (i : ℕ) (d : DotValue) → i < length ds → d ≡ get_or ds i d → in_cloud ds d ≡ true
+in_cloud_at ds i d l is = list_any_at (same_dot d) ds i d l (ap (same_dot d) (sym is) ∙ same_dot-refl d)
 
-pub taken_more : (dot x : DotValue) (n : ℕ) (start old new : DotValue → Bool) → x ≡ record { name = dot.name; number = n + 1 } → dot.number ≤ n
-    → ((d : DotValue) → new d ≡ cond (is_eq (dot_cmp x d)) false (old d)) → ((d : DotValue) → old d ≡ (start d && not (is_in_run dot n d)))
-    → (d : DotValue) → new d ≡ (start d && not (is_in_run dot (n + 1) d))
-taken_more dot x n start old new is l h k d =
-    let removed : new d ≡ cond (eqb dot.name d.name && eqb (n + 1) d.number) false (old d) =
-    h d ∙ ap (λ b. cond b false (old d)) (is_eq-dot_cmp x d ∙ ap (λ y. same_dot y d) is) in
-    taken_at dot.number n d.number (eqb dot.name d.name) (start d) (new d) (old d) l removed (k d)
+-- the dots that pass a test
+in_cloud-filter : (p : DotValue → Bool) (ds : List DotValue) (d : DotValue) → in_cloud (filter p ds) d ≡ (p d && in_cloud ds d)
+in_cloud-filter p ds d = any-filter_same (same_dot d) p (p d) (λ k t. ap p (sym (same_from_test d k t))) ds
 
--- the last dot of a range that has all dots of a name
+between_by : (a b m n e : ℕ) → (not (is_lt (ordering_then (nat_cmp b a) (nat_cmp m (n + 1)))) && not (is_gt (ordering_then (nat_cmp b a) (nat_cmp m e)))) ≡ (eqb a b && (ltb n m && leb m e))
+between_by a b m n e = grind (arith, nat_tests)
+
+and_turned : (a b : Bool) → (not a && b) ≡ (b && not a)
+and_turned true true = refl
+and_turned true false = refl
+and_turned false true = refl
+and_turned false false = refl
+
+-- a run that is taken out of a cloud
+pub run_taken : (dot low high : DotValue) (end : ℕ) (old new : List DotValue) → low ≡ record { name = dot.name; number = dot.number + 1 } → high ≡ record { name = dot.name; number = end }
+    → new ≡ filter (λ x. not (is_between dot_cmp low high x)) old → (d : DotValue) → in_cloud new d ≡ (in_cloud old d && not (is_in_run dot end d))
+run_taken dot low high end old new low_is high_is is d =
+    let inside : is_between dot_cmp low high d ≡ is_in_run dot end d =
+    ap (λ l. is_between dot_cmp l high d) low_is ∙ ap (λ h. is_between dot_cmp (record { name = dot.name; number = dot.number + 1 }) h d) high_is ∙ between_by dot.name d.name d.number dot.number end in
+    ap (λ ds. in_cloud ds d) is ∙ in_cloud-filter (λ x. not (is_between dot_cmp low high x)) old d ∙ and_turned (is_between dot_cmp low high d) (in_cloud old d)
+    ∙ ap (λ b. in_cloud old d && not b) inside
+
+-- the last dot that is not above the last of a name
 then_le : (o p : Ordering) → is_gt (ordering_then o p) ≡ false → is_gt o ≡ false
 then_le Less p h = refl
 then_le Equal p h = refl
@@ -63,40 +75,44 @@ then_le Greater p h = h
 within : (a m n : ℕ) → m ≤ n → is_gt (ordering_then (nat_cmp a a) (nat_cmp m n)) ≡ false
 within a m n l = grind (arith, nat_tests)
 
-above : (a m n : ℕ) → is_lt (ordering_then (nat_cmp a a) (nat_cmp m n)) ≡ false → n ≤ m
-above a m n l = grind (arith, nat_tests)
+at_most : (a m n : ℕ) → is_gt (ordering_then (nat_cmp a a) (nat_cmp m n)) ≡ false → m ≤ n
+at_most a m n l = grind (arith, nat_tests)
 
-pub greatest_from_last : (test : DotValue → Bool) (name top : ℕ) (k lo hi : DotValue) → lo ≡ record { name = name; number = 1 } → hi ≡ record { name = name; number = top }
-    → ((d : DotValue) → IsTrue (test d) → d.number ≤ top) → is_gt (dot_cmp lo k) ≡ false → is_gt (dot_cmp k hi) ≡ false → IsTrue (test k)
-    → ((q : DotValue) → (is_gt (dot_cmp lo q) ≡ false) × (is_gt (dot_cmp q hi) ≡ false) → IsTrue (test q) → is_lt (dot_cmp k q) ≡ false) → IsGreatest name test k.number
-greatest_from_last test name top k lo hi lo_is hi_is bounded low high there greatest =
-    let from = le_from_not_gt lo.name k.name (then_le (nat_cmp lo.name k.name) (nat_cmp lo.number k.number) low) in
-    let upto = le_from_not_gt k.name hi.name (then_le (nat_cmp k.name hi.name) (nat_cmp k.number hi.number) high) in
-    let lo_name = ap (λ (d : DotValue). d.name) lo_is in
-    let hi_name = ap (λ (d : DotValue). d.name) hi_is in
-    let named : k.name ≡ name = omega arith in
-    let at : ℕ → DotValue = λ n. record { name = n; number = k.number } in
-    record {
-      known = λ _. subst (λ n. IsTrue (test (at n))) named there;
-      bound = λ m h. ⊎_elim (λ (zero : m < 1). omega arith) (λ (one : 1 ≤ m).
-          let q : DotValue = record { name = name; number = m } in
-          let low' : is_gt (dot_cmp lo q) ≡ false = rw lo_is (within name 1 m one) in
-          let high' : is_gt (dot_cmp q hi) ≡ false = rw hi_is (within name m top (bounded q h)) in
-          above name k.number m (subst (λ n. is_lt (ordering_then (nat_cmp n name) (nat_cmp k.number m)) ≡ false) named (greatest q (low', high') h)))
-          (cases_lt m 1);
-    }
+module _ (ds : List DotValue) (name top : ℕ) (high : DotValue) (high_is : high ≡ record { name = name; number = top }) (bounded : (d : DotValue) → IsTrue (in_cloud ds d) → d.number ≤ top) where
+  not_above : (m : ℕ) → IsTrue (in_cloud ds (record { name = name; number = m })) → is_gt (dot_cmp (record { name = name; number = m }) high) ≡ false
+  not_above m h = rw high_is (within name m top (bounded (record { name = name; number = m }) h))
 
-pub greatest_from_none : (test : DotValue → Bool) (name top : ℕ) (lo hi : DotValue) → lo ≡ record { name = name; number = 1 } → hi ≡ record { name = name; number = top }
-    → ((d : DotValue) → IsTrue (test d) → d.number ≤ top) → ((q : DotValue) → (is_gt (dot_cmp lo q) ≡ false) × (is_gt (dot_cmp q hi) ≡ false) → test q ≡ false) → IsGreatest name test 0
-greatest_from_none test name top lo hi lo_is hi_is bounded none = record {
-  known = λ l. absurd (omega arith);
-  bound = λ m h. ⊎_elim (λ (zero : m < 1). omega arith) (λ (one : 1 ≤ m).
-      let q : DotValue = record { name = name; number = m } in
-      let low : is_gt (dot_cmp lo q) ≡ false = rw lo_is (within name 1 m one) in
-      let high : is_gt (dot_cmp q hi) ≡ false = rw hi_is (within name m top (bounded q h)) in
-      absurd (cc (h, none q (low, high))))
-      (cases_lt m 1);
-}
+  among : (d : DotValue) → IsTrue (in_cloud ds d) → IsTrue (is_among dot_cmp ds d)
+  among d h = list_any-dot_cmp d ds ∙ h
+
+  pub greatest_from_last : (k : DotValue) → IsLastUpTo dot_cmp ds high k → k.name ≡ name → IsGreatest name (in_cloud ds) k.number
+  greatest_from_last k last named =
+      let at : ℕ → DotValue = λ n. record { name = n; number = k.number } in
+      record {
+        known = λ _. subst (λ n. IsTrue (in_cloud ds (at n))) named (sym (list_any-dot_cmp k ds) ∙ last.there);
+        bound = λ m h.
+            let q : DotValue = record { name = name; number = m } in
+            at_most name m k.number (subst (λ n. is_gt (ordering_then (nat_cmp name n) (nat_cmp m k.number)) ≡ false) named (last.greatest q (among q h) (not_above m h)));
+      }
+
+  pub greatest_from_other : (k : DotValue) → IsLastUpTo dot_cmp ds high k → (k.name ≡ name → ⊥) → IsGreatest name (in_cloud ds) 0
+  greatest_from_other k last other = record {
+    known = λ l. absurd (omega arith);
+    bound = λ m h.
+        let q : DotValue = record { name = name; number = m } in
+        let from = le_from_not_gt name k.name (then_le (nat_cmp name k.name) (nat_cmp m k.number) (last.greatest q (among q h) (not_above m h))) in
+        let upto = le_from_not_gt k.name high.name (then_le (nat_cmp k.name high.name) (nat_cmp k.number high.number) last.within) in
+        let high_name = ap (λ (d : DotValue). d.name) high_is in
+        absurd (other (omega arith));
+  }
+
+  pub greatest_from_none : ((q : DotValue) → IsTrue (is_among dot_cmp ds q) → is_gt (dot_cmp q high) ≡ true) → IsGreatest name (in_cloud ds) 0
+  greatest_from_none none = record {
+    known = λ l. absurd (omega arith);
+    bound = λ m h.
+        let q : DotValue = record { name = name; number = m } in
+        absurd (cc (not_above m h, none q (among q h)));
+  }
 
 cond_or : (a b : Bool) → cond a true b ≡ (a || b)
 cond_or true b = refl

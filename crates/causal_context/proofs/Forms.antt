@@ -1,17 +1,10 @@
 -- The canonical form of a set of dots.
-use Rattle.std.proofs.Common.{◌≡◌, ℕ, Bool, true, false, ◌||◌, ◌&&◌, List, [], ◌∷◌, length, refl, sym, ap, ◌∙◌, arith, max, leb}
+use Rattle.std.proofs.Common.{◌≡◌, ℕ, Bool, true, false, ◌||◌, ◌&&◌, List, [], ◌∷◌, length, refl, ap, ◌∙◌, arith, max, leb}
 use Rattle.std.specs.Prelude.{IsTrue}
 use Rattle.std.proofs.lemmas.Bool.Decides.{nat_tests}
-use Rattle.std.specs.Ordering.{nat_cmp}
-use Rattle.std.specs.List.{list_any}
-use Rattle.std.specs.List.Sorted.{IsStrictlySortedBy}
-use Rattle.std.specs.Map.{keys_of}
-use Rattle.std.specs.BTreeMap.{is_at}
 use Rattle.dots.specs.Dot.{DotValue}
-use Rattle.causal_context.specs.Dots.{dot_cmp}
-use Rattle.causal_context.specs.Context.{ContextValue, has, known_up_to, in_cloud, is_known}
-use Rattle.causal_context.specs.Canonical.{IsCanonical, IsApart, HasNoZero, EqualSetsAreOne}
-use Rattle.causal_context.proofs.Dots.{list_any-dot_cmp}
+use Rattle.causal_context.specs.Context.{has, known_up_to, in_cloud, is_known}
+use Rattle.causal_context.specs.Canonical.{IsApart, HasNoZero, EqualSetsAreOne}
 use Rattle.causal_context.proofs.Vectors.{vector_from_known, first_known}
 use Rattle.causal_context.proofs.Clouds.{cloud_from_test, first_in_cloud}
 use Rattle.causal_context.proofs.Known.{known_below, known_in_cloud, known_max, same_entries, same_clouds}
@@ -51,23 +44,7 @@ cloud_empty_from_none vector (x ∷ xs) apart h =
     absurd (cc (there, h x))
 
 -- a vector that is as high as either of two, with no cloud
-pub known-covering : (first second third mine yours : List (ℕ × ℕ)) (cloud : List DotValue) → first ≡ [] → ((name : ℕ) → known_up_to second name ≡ max (known_up_to first name) (known_up_to mine name))
-    → ((name : ℕ) → known_up_to third name ≡ max (known_up_to second name) (known_up_to yours name)) → cloud ≡ [] → (d : DotValue) → is_known third cloud d ≡ (is_known mine [] d || is_known yours [] d)
-known-covering first second third mine yours cloud none raised again empty d =
-    let begun : known_up_to first d.name ≡ 0 = ap (λ es. known_up_to es d.name) none in
-    let once = raised d.name in
-    let twice = again d.name in
-    let most : known_up_to third d.name ≡ max (known_up_to mine d.name) (known_up_to yours d.name) = omega arith in
-    ap (λ ds. is_known third ds d) empty ∙ ap (λ n. leb 1 d.number && (leb d.number n || false)) most ∙ known_max d.number (known_up_to mine d.name) (known_up_to yours d.name)
-
--- what is copied is the same
-pub copied_form : (none vector : List (ℕ × ℕ)) (cloud : List DotValue) (from : List (ℕ × ℕ)) (dots : List DotValue) → IsCanonical (record { vector = from; cloud = dots })
-    → none ≡ [] → IsStrictlySortedBy nat_cmp (keys_of vector) → HasNoZero vector → ((name : ℕ) → known_up_to vector name ≡ max (known_up_to none name) (known_up_to from name))
-    → IsStrictlySortedBy dot_cmp cloud → ((d : DotValue) → list_any (is_at (dot_cmp d)) cloud ≡ list_any (is_at (dot_cmp d)) dots)
-    → (let context : List (ℕ × ℕ) → List DotValue → ContextValue = λ v c. record { vector = v; cloud = c } in context vector cloud ≡ context from dots)
-copied_form none vector cloud from dots c empty s z raised t found =
-    let entry : (name : ℕ) → known_up_to vector name ≡ known_up_to from name =
-    λ name. let begun : known_up_to none name ≡ 0 = ap (λ es. known_up_to es name) empty in let up = raised name in omega arith in
-    let vectors = vector_from_known vector from s c.names_ascend z c.no_zero entry in
-    let clouds = cloud_from_test cloud dots t c.dots_ascend (λ d. sym (list_any-dot_cmp d cloud) ∙ found d ∙ list_any-dot_cmp d dots) in
-    λ i. record { vector = vectors i; cloud = clouds i }
+pub known-covering : (both mine yours : List (ℕ × ℕ)) (cloud : List DotValue) → ((name : ℕ) → known_up_to both name ≡ max (known_up_to mine name) (known_up_to yours name)) → cloud ≡ []
+    → (d : DotValue) → is_known both cloud d ≡ (is_known mine [] d || is_known yours [] d)
+known-covering both mine yours cloud merged empty d =
+    ap (λ ds. is_known both ds d) empty ∙ ap (λ n. leb 1 d.number && (leb d.number n || false)) (merged d.name) ∙ known_max d.number (known_up_to mine d.name) (known_up_to yours d.name)

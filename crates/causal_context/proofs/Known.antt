@@ -198,7 +198,7 @@ greatest-known entry test name above apart h = record {
 }
 
 union_by : (p x y s t : Bool) → (s ≡ true → p ≡ true) → (t ≡ true → p ≡ true)
-    → ((((p && (x || false)) || (p && (y || false))) || s) || t) ≡ ((p && (x || s)) || (p && (y || t)))
+    → (((p && (x || false)) || (p && (y || false))) || (s || t)) ≡ ((p && (x || s)) || (p && (y || t)))
 union_by true true y s t h k = refl
 union_by true false true true t h k = refl
 union_by true false true false t h k = refl
@@ -211,7 +211,7 @@ union_by false x y false false h k = refl
 
 -- the vectors' dots and those of both clouds are those of both sets
 pub known-union : (mine yours : ℕ → ℕ) (here there : DotValue → Bool) → Apart mine here → Apart yours there → (d : DotValue)
-    → (((known mine (λ _. false) d || known yours (λ _. false) d) || here d) || there d) ≡ (known mine here d || known yours there d)
+    → ((known mine (λ _. false) d || known yours (λ _. false) d) || (here d || there d)) ≡ (known mine here d || known yours there d)
 known-union mine yours here there apart apart' d =
     union_by (leb 1 d.number) (leb d.number (mine d.name)) (leb d.number (yours d.name)) (here d) (there d)
     (λ h. let l = apart d h in le-leb 1 d.number (omega arith)) (λ h. let l = apart' d h in le-leb 1 d.number (omega arith))

@@ -5,4 +5,3 @@ pub mod Clouds
 pub mod Known
 pub mod Forms
 pub mod Equality
-pub mod InOrder

@@ -1,6 +1,6 @@
 -- Version vectors, read as functions of the name.
-use Rattle.std.proofs.Common.{◌≡◌, ◌≢◌, ℕ, ◌≤◌, Bool, true, false, cond, List, [], ◌∷◌, ◌++◌, Option, Some, None, refl, sym, ap, subst, ◌∙◌, arith, eqb, max, ⊎_elim, rules}
-use Rattle.std.specs.Prelude.{unwrap_or}
+use Rattle.std.proofs.Common.{◌≡◌, ◌≢◌, ℕ, ◌≤◌, Bool, true, false, cond, List, [], ◌∷◌, ◌++◌, Option, Some, None, refl, sym, ap, subst, ◌∙◌, ◌||◌, arith, eqb, max, rules}
+use Rattle.std.specs.Prelude.{IsTrue, is_some, unwrap_or}
 use Rattle.std.specs.Ordering.{is_eq, nat_cmp}
 use Rattle.std.specs.declared.cmp.Ordering.{Ordering}
 use Rattle.std.specs.declared.cmp.Ordering.TheVariants.{Less, Equal, Greater}
@@ -8,7 +8,6 @@ use Rattle.std.specs.Cmp.{nat_cmp_total}
 use Rattle.std.specs.List.Sorted.{IsStrictlySortedBy}
 use Rattle.std.specs.Map.{lookup, keys_of}
 use Rattle.std.specs.BTreeMap.{is_at}
-use Rattle.std.proofs.lemmas.Bool.{cases_eq}
 use Rattle.std.proofs.lemmas.Bool.Decides.{nat_tests}
 use Rattle.std.proofs.lemmas.Map.Lookups.{exact_unsigned}
 use Rattle.causal_context.specs.Context.{known_up_to}
@@ -94,40 +93,44 @@ first_known x xs z = by_test (is_eq (nat_cmp x.0 x.0)) refl (is_eq-nat_cmp x.0 x
         rw is (omega arith)
     by_test false e h = absurd (cc h)
 
--- a vector that began at start and is raised to each entry of the other, having seen these of it
-pub record IsRaised (start other seen vector : List (ℕ × ℕ)) : Type 0 where
-  pub mine : (q : ℕ) → known_up_to start q ≤ known_up_to vector q
-  pub yours : (q : ℕ) → known_up_to seen q ≤ known_up_to vector q
-  pub most : (q : ℕ) → known_up_to vector q ≤ max (known_up_to start q) (known_up_to other q)
-  pub ascend : IsStrictlySortedBy nat_cmp (keys_of vector)
-  pub no_zero : HasNoZero vector
+-- what a name has in the entries of both of two vectors
+pub record IsMergedAt (mine yours both : List (ℕ × ℕ)) (name : ℕ) : Type 0 where
+  pub entry : known_up_to both name ≡ max (known_up_to mine name) (known_up_to yours name)
+  pub no_zero : lookup (is_at (nat_cmp name)) both ≢ Some 0
 
-raised_at : (x : ℕ × ℕ) (q a b s o : ℕ) → (x.0 ≡ q → b ≡ max a x.1) → (q ≢ x.0 → b ≡ a) → (x.0 ≡ q → o ≡ x.1) → a ≤ max s o → (a ≤ b) × (b ≤ max s o) × (x.0 ≡ q → x.1 ≤ b)
-raised_at x q a b s o same other found h = ⊎_elim
-    (λ (e : x.0 ≡ q). let k = same e in let f = found e in (omega arith, omega arith, λ _. omega arith))
-    (λ (ne : x.0 ≡ q → ⊥). let k = other (λ e. ne (sym e)) in (omega arith, omega arith, λ e. absurd (ne e)))
-    (cases_eq x.0 q)
+positive_by : (x y : Option ℕ) → IsTrue (is_some x || is_some y) → x ≢ Some 0 → y ≢ Some 0 → 1 ≤ max (unwrap_or x 0) (unwrap_or y 0)
+positive_by None None h p q = absurd (cc h)
+positive_by None (Some n) h p q = let k : n ≢ 0 = λ e. q (ap Some e) in omega arith
+positive_by (Some m) y h p q = let k : m ≢ 0 = λ e. p (ap Some e) in omega arith
 
-pub raised_more : (start other seen old new : List (ℕ × ℕ)) (x : ℕ × ℕ) → IsRaised start other seen old → known_up_to other x.0 ≡ x.1
-    → known_up_to new x.0 ≡ max (known_up_to old x.0) x.1 → ((q : ℕ) → q ≢ x.0 → known_up_to new q ≡ known_up_to old q) → IsStrictlySortedBy nat_cmp (keys_of new) → HasNoZero new
-    → IsRaised start other (seen ++ x ∷ []) new
-raised_more start other seen old new x so_far found here others s z =
-    let at = λ (q : ℕ). raised_at x q (known_up_to old q) (known_up_to new q) (known_up_to start q) (known_up_to other q)
-    (λ e. subst (λ n. known_up_to new n ≡ max (known_up_to old n) x.1) e here) (others q) (λ e. subst (λ n. known_up_to other n ≡ x.1) e found) (so_far.most q) in
+pub merged_here : (mine yours new : List (ℕ × ℕ)) (name number : ℕ) (x y : Option ℕ) → lookup (is_at (nat_cmp name)) mine ≡ x → lookup (is_at (nat_cmp name)) yours ≡ y → IsTrue (is_some x || is_some y)
+    → number ≡ max (unwrap_or x 0) (unwrap_or y 0) → lookup (is_at (nat_cmp name)) new ≡ Some number → HasNoZero mine → HasNoZero yours → IsMergedAt mine yours new name
+merged_here mine yours new name number x y e f somewhere is found z w =
+    let m : known_up_to mine name ≡ unwrap_or x 0 = ap (λ o. unwrap_or o 0) e in
+    let n : known_up_to yours name ≡ unwrap_or y 0 = ap (λ o. unwrap_or o 0) f in
+    let k : known_up_to new name ≡ number = ap (λ o. unwrap_or o 0) found in
+    let up = positive_by x y somewhere (λ h. z name (e ∙ h)) (λ h. w name (f ∙ h)) in
     record {
-      mine = λ q. let up = (at q).0 in let was = so_far.mine q in omega arith;
-      yours = λ q. let up = (at q).0 in let was = so_far.yours q in known_up_to-push_le seen x q (known_up_to new q) (omega arith) (at q).2;
-      most = λ q. (at q).1;
-      ascend = s;
-      no_zero = z;
+      entry = rw (k, m, n) is;
+      no_zero = λ h. let zero : number ≡ 0 = cc in absurd (omega arith);
     }
 
-pub raised_all : (start other seen vector : List (ℕ × ℕ)) → seen ≡ other → IsRaised start other seen vector → (q : ℕ) → known_up_to vector q ≡ max (known_up_to start q) (known_up_to other q)
-raised_all start other seen vector e h q =
-    let a = h.mine q in
-    let b : known_up_to other q ≤ known_up_to vector q = subst (λ es. known_up_to es q ≤ known_up_to vector q) e (h.yours q) in
-    let c = h.most q in
-    omega arith
+pub merged_kept : (mine yours old new : List (ℕ × ℕ)) (name : ℕ) → lookup (is_at (nat_cmp name)) new ≡ lookup (is_at (nat_cmp name)) old → IsMergedAt mine yours old name → IsMergedAt mine yours new name
+merged_kept mine yours old new name e h = record {
+  entry = ap (λ o. unwrap_or o 0) e ∙ h.entry;
+  no_zero = λ z. h.no_zero (sym e ∙ z);
+}
+
+pub merged_nowhere : (mine yours both : List (ℕ × ℕ)) (name : ℕ) → lookup (is_at (nat_cmp name)) mine ≡ None → lookup (is_at (nat_cmp name)) yours ≡ None → lookup (is_at (nat_cmp name)) both ≡ None
+    → IsMergedAt mine yours both name
+merged_nowhere mine yours both name e f h =
+    let m : known_up_to mine name ≡ 0 = ap (λ o. unwrap_or o 0) e in
+    let n : known_up_to yours name ≡ 0 = ap (λ o. unwrap_or o 0) f in
+    let k : known_up_to both name ≡ 0 = ap (λ o. unwrap_or o 0) h in
+    record {
+      entry = rw (k, m, n) refl;
+      no_zero = λ z. absurd (cc (h, z));
+    }
 
 pub known_from_found : (es : List (ℕ × ℕ)) (name number : ℕ) → lookup (is_at (nat_cmp name)) es ≡ Some number → known_up_to es name ≡ number
 known_from_found es name number h = ap (λ o. unwrap_or o 0) h

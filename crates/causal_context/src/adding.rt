@@ -1,29 +1,27 @@
 // What adding a dot does to a vector and a cloud.
 ghost use Rattle.std.specs.Prelude.{◌≡◌, ◌+◌, ◌||◌, false, OnOk, OnErr, IsOkUnless};
-ghost use Rattle.std.specs.BTreeMap as tree;
-ghost use Rattle.std.specs.BTreeSet as sorted;
 ghost use Rattle.dots.specs.Dot.{DotValue, same_dot};
 ghost use Rattle.causal_context.specs.Context.{is_known, known_up_to};
 ghost use Rattle.causal_context.specs.Canonical.{IsCanonical};
 
 use crate::{cloud, vector};
 use dots::{Dot, Name, Refusal};
+use ordered_list::{OrderedList, OrderedSet};
 use std::alloc::Allocator;
-use std::collections::{BTreeMap, BTreeSet};
 
 // Adds a dot that is not there.
 pub(crate) fn add_to<A: Allocator + Copy>(
-    vector: &mut BTreeMap<Name, u64, A>,
-    cloud: &mut BTreeSet<Dot, A>,
+    vector: &mut OrderedList<Name, u64, A>,
+    cloud: &mut OrderedSet<Dot, A>,
     dot: Dot,
 ) -> Result<(), Refusal>
-    requires canonical { IsCanonical (record { vector = vector.old.entries; cloud = cloud.old.keys }) }
-    requires absent { is_known vector.old.entries cloud.old.keys dot ≡ false }
-    ensures ok { OnOk result ((d : DotValue) → is_known vector.new.entries cloud.new.keys d
-        ≡ (same_dot dot d || is_known vector.old.entries cloud.old.keys d)) }
-    ensures canonical { IsCanonical (record { vector = vector.new.entries; cloud = cloud.new.keys }) }
-    ensures same_vector { OnErr result (vector.new.entries ≡ vector.old.entries) }
-    ensures same_cloud { OnErr result (cloud.new.keys ≡ cloud.old.keys) }
+    requires canonical { IsCanonical (record { vector = vector.old; cloud = cloud.old }) }
+    requires absent { is_known vector.old cloud.old dot ≡ false }
+    ensures ok { OnOk result ((d : DotValue) → is_known vector.new cloud.new d
+        ≡ (same_dot dot d || is_known vector.old cloud.old d)) }
+    ensures canonical { IsCanonical (record { vector = vector.new; cloud = cloud.new }) }
+    ensures same_vector { OnErr result (vector.new ≡ vector.old) }
+    ensures same_cloud { OnErr result (cloud.new ≡ cloud.old) }
     ensures err { IsOkUnless result Refusal.OutOfMemory }
 {
     if dot.number() - 1 == vector::known_up_to(vector, dot.name()) {
@@ -35,17 +33,17 @@ pub(crate) fn add_to<A: Allocator + Copy>(
 
 // Raises the entry to the dot just above it, and on over the dots that follow it in the cloud.
 fn close_gap<A: Allocator + Copy>(
-    vector: &mut BTreeMap<Name, u64, A>,
-    cloud: &mut BTreeSet<Dot, A>,
+    vector: &mut OrderedList<Name, u64, A>,
+    cloud: &mut OrderedSet<Dot, A>,
     dot: Dot,
 ) -> Result<(), Refusal>
-    requires canonical { IsCanonical (record { vector = vector.old.entries; cloud = cloud.old.keys }) }
-    requires next { dot.number ≡ known_up_to vector.old.entries dot.name + 1 }
-    ensures ok { OnOk result ((d : DotValue) → is_known vector.new.entries cloud.new.keys d
-        ≡ (same_dot dot d || is_known vector.old.entries cloud.old.keys d)) }
-    ensures canonical { IsCanonical (record { vector = vector.new.entries; cloud = cloud.new.keys }) }
-    ensures same_vector { OnErr result (vector.new.entries ≡ vector.old.entries) }
-    ensures same_cloud { OnErr result (cloud.new.keys ≡ cloud.old.keys) }
+    requires canonical { IsCanonical (record { vector = vector.old; cloud = cloud.old }) }
+    requires next { dot.number ≡ known_up_to vector.old dot.name + 1 }
+    ensures ok { OnOk result ((d : DotValue) → is_known vector.new cloud.new d
+        ≡ (same_dot dot d || is_known vector.old cloud.old d)) }
+    ensures canonical { IsCanonical (record { vector = vector.new; cloud = cloud.new }) }
+    ensures same_vector { OnErr result (vector.new ≡ vector.old) }
+    ensures same_cloud { OnErr result (cloud.new ≡ cloud.old) }
     ensures err { IsOkUnless result Refusal.OutOfMemory }
 {
     let end = cloud::run_end(cloud, dot);

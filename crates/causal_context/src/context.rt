@@ -1,17 +1,15 @@
-ghost use Rattle.std.specs.Prelude.{◌≡◌, ◌^◌, ◌-◌, ◌↔◌, ◌||◌, ◌&&◌, ℕ, false, [], IsTrue, IsNone, IsSome, IfSome, IfOk, OnOk, OnErr, IsOkUnless};
+ghost use Rattle.std.specs.Prelude.{◌≡◌, ◌^◌, ◌-◌, ◌↔◌, ◌||◌, ◌&&◌, false, [], IsTrue, IsNone, IsSome, IfSome, IfOk, OnOk, OnErr, IsOkUnless};
 ghost use Rattle.std.specs.Cmp.{partial_equiv_from_equiv};
-ghost use Rattle.std.specs.Map.Iter.{ShowsInOrder, deref, deref_pair};
 ghost use Rattle.dots.specs.Dot.{DotValue, same_dot};
-ghost use Rattle.causal_context.specs.Context.{has, is_known, in_cloud, HasNone, HasSame, Includes, IsGreatest, IsNext};
-ghost use Rattle.causal_context.specs.Canonical.{IsCanonical};
+ghost use Rattle.causal_context.specs.Context.{has, is_known, known_up_to, in_cloud, HasNone, HasSame, Includes, IsGreatest, IsNext};
+ghost use Rattle.causal_context.specs.Canonical.{IsCanonical, HasNoZero};
 ghost use Rattle.causal_context.specs.Equal.{same_form, same_form_equiv};
 
 use crate::adding::add_to;
-use crate::in_order::{map_in_order, set_in_order};
 use crate::{cloud, vector};
 use dots::{Dot, Name, Refusal};
+use ordered_list::{OrderedList, OrderedSet};
 use std::alloc::{Allocator, Global};
-use std::collections::{BTreeMap, BTreeSet, btree_map, btree_set};
 use std::marker::Model;
 
 /// A causal context: a set of dots. Those that a replica has seen, or that a delta speaks of.
@@ -23,8 +21,8 @@ use std::marker::Model;
 /// What grows keeps to the allocator that `new` or `copy` was given.
 #[derive(Drop)]
 pub struct Context<A: Allocator = Global> {
-    vector: BTreeMap<Name, u64, A>,
-    cloud: BTreeSet<Dot, A>,
+    vector: OrderedList<Name, u64, A>,
+    cloud: OrderedSet<Dot, A>,
     alloc: A,
 }
 
@@ -34,9 +32,9 @@ impl<A: Allocator> Model for Context<A> {
 
     ghost Value = { ContextValue };
 
-    ghost view = { λ context. record { vector = context.vector.entries; cloud = context.cloud.keys } };
+    ghost view = { λ context. record { vector = context.vector; cloud = context.cloud } };
 
-    ghost invariant = { λ context. IsCanonical (record { vector = context.vector.entries; cloud = context.cloud.keys }) };
+    ghost invariant = { λ context. IsCanonical (record { vector = context.vector; cloud = context.cloud }) };
 }
 
 impl<A: Allocator + Copy> Context<A> {
@@ -45,8 +43,8 @@ impl<A: Allocator + Copy> Context<A> {
         ensures { HasNone result }
     {
         Context {
-            vector: BTreeMap::new(alloc),
-            cloud: BTreeSet::new(alloc),
+            vector: OrderedList::new(alloc),
+            cloud: OrderedSet::new(alloc),
             alloc,
         }
     }
@@ -54,40 +52,35 @@ impl<A: Allocator + Copy> Context<A> {
     /// The context of this vector and this cloud, or None exactly where they are not the canonical form of a
     /// set of dots: the vector by ascending name, each name once and no entry 0, and the cloud by ascending
     /// dot, each once, no dot at or below the entry of its name or just above it, an absent entry counting
-    /// as 0. Takes time in the number of names and dots, times their logarithms.
-    /// Its only refusal is OutOfMemory.
+    /// as 0. Takes both over as they are, and no memory, and time in the number of names and dots, for each
+    /// dot times the logarithm of that of the names.
     pub fn from_parts(
         alloc: A,
         vector: Vec<(Name, u64), A>,
         cloud: Vec<Dot, A>,
-    ) -> Result<Option<Context<A>>, Refusal>
-        ensures canonical { IfOk result (λ made. IsSome made
-            ↔ IsCanonical (record { vector = vector.items; cloud = cloud.items })) }
-        ensures form { IfOk result (λ made. IfSome made
-            (λ context. context ≡ record { vector = vector.items; cloud = cloud.items })) }
-        ensures err { IsOkUnless result Refusal.OutOfMemory }
+    ) -> Option<Context<A>>
+        ensures canonical { IsSome result
+            ↔ IsCanonical (record { vector = vector.items; cloud = cloud.items }) }
+        ensures form { IfSome result
+            (λ context. context ≡ record { vector = vector.items; cloud = cloud.items }) }
     {
-        let Some(vector) = map_in_order(alloc, vector)? else {
-            return Ok(None);
-        };
-        let Some(cloud) = set_in_order(alloc, cloud)? else {
-            return Ok(None);
-        };
+        let vector = OrderedList::from_entries(vector)?;
+        let cloud = OrderedSet::from_items(cloud)?;
         if !vector::has_no_zero(&vector) || !cloud::is_apart(&cloud, &vector) {
-            return Ok(None);
+            return None;
         }
-        Ok(Some(Context {
+        Some(Context {
             vector,
             cloud,
             alloc,
-        }))
+        })
     }
 
     /// Whether no dot is in the context. Takes no memory.
     pub fn is_empty(&self) -> bool
         ensures { IsTrue result ↔ HasNone self.now }
     {
-        self.vector.is_empty() && self.cloud.is_empty()
+        self.vector.entries().is_empty() && self.cloud.items().is_empty()
     }
 
     /// Whether the dot is in the context. Takes time in the logarithms of the number of names and of the
@@ -96,6 +89,14 @@ impl<A: Allocator + Copy> Context<A> {
         ensures { result ≡ has self.now dot }
     {
         dot.number() <= vector::known_up_to(&self.vector, dot.name()) || self.cloud.contains(&dot)
+    }
+
+    /// The entry of the name: the number up to which all its dots are in the context, or 0 where it has none.
+    /// Takes time in the logarithm of the number of names, and no memory.
+    pub fn entry(&self, name: Name) -> u64
+        ensures { result ≡ known_up_to self.now.vector name }
+    {
+        vector::known_up_to(&self.vector, name)
     }
 
     /// The dot after the greatest of this name, which nothing of this context has used, or None where
@@ -129,10 +130,10 @@ impl<A: Allocator + Copy> Context<A> {
     }
 
     // Whether each of the dots is in the context.
-    fn contains_all(&self, dots: &BTreeSet<Dot, A>) -> bool
-        ensures { IsTrue result ↔ ((d : DotValue) → IsTrue (in_cloud dots.now.keys d) → IsTrue (has self.now d)) }
+    fn contains_all(&self, dots: &OrderedSet<Dot, A>) -> bool
+        ensures { IsTrue result ↔ ((d : DotValue) → IsTrue (in_cloud dots.now d) → IsTrue (has self.now d)) }
     {
-        for dot in dots {
+        for dot in dots.items() {
             if !self.contains(*dot) {
                 return false;
             }
@@ -141,37 +142,34 @@ impl<A: Allocator + Copy> Context<A> {
     }
 
     /// The version vector: each name that has an entry, in order, with the number up to which all its
-    /// dots are in the context. Takes no memory.
-    pub fn vector(&self) -> btree_map::Iter<'_, Name, u64>
-        ensures rest { result ≡ self.now.vector }
-        ensures runs { ShowsInOrder (deref_pair {K = ℕ} {X = ℕ}) }
-        ensures has { (d : DotValue) → has self.now d ≡ is_known result self.now.cloud d }
+    /// dots are in the context.
+    pub fn vector(&self) -> &[(Name, u64)]
+        ensures rest { result.now ≡ self.now.vector }
+        ensures has { (d : DotValue) → has self.now d ≡ is_known result.now self.now.cloud d }
         ensures canonical { IsCanonical self.now }
     {
-        self.vector.iter()
+        self.vector.entries()
     }
 
-    /// The cloud: the dots that stand apart from the vector, in order. Takes no memory.
-    pub fn cloud(&self) -> btree_set::Iter<'_, Dot>
-        ensures rest { result ≡ self.now.cloud }
-        ensures runs { ShowsInOrder (deref {X = DotValue}) }
-        ensures has { (d : DotValue) → has self.now d ≡ is_known self.now.vector result d }
+    /// The cloud: the dots that stand apart from the vector, in order.
+    pub fn cloud(&self) -> &[Dot]
+        ensures rest { result.now ≡ self.now.cloud }
+        ensures has { (d : DotValue) → has self.now d ≡ is_known self.now.vector result.now d }
         ensures canonical { IsCanonical self.now }
     {
-        self.cloud.iter()
+        self.cloud.items()
     }
 
-    /// The same set of dots, on this allocator. Takes memory in the number of names and of the dots in the
-    /// cloud, and time in these, times their logarithms.
+    /// The same set of dots, on this allocator, in one copy of the memory of the vector and one of that of
+    /// the cloud. Takes as much memory.
     /// Its only refusal is OutOfMemory.
     pub fn copy(&self, alloc: A) -> Result<Context<A>, Refusal>
         ensures ok { IfOk result (HasSame self.now) }
         ensures equal { IfOk result (λ copy. copy ≡ self.now) }
         ensures err { IsOkUnless result Refusal.OutOfMemory }
     {
-        let mut vector = BTreeMap::new(alloc);
-        vector::raise_all(&mut vector, &self.vector)?;
-        let cloud = cloud::copied(alloc, &self.cloud)?;
+        let vector = self.vector.copy(alloc)?;
+        let cloud = self.cloud.copy(alloc)?;
         Ok(Context {
             vector,
             cloud,
@@ -179,8 +177,10 @@ impl<A: Allocator + Copy> Context<A> {
         })
     }
 
-    /// Adds the dot. A refused call leaves the context as it was. Takes time as `contains` does, and the
-    /// same again for each dot of the cloud that goes to the vector, where the dot closes the gap below.
+    /// Adds the dot. A refused call leaves the context as it was. Takes time as `contains` does, and writes one
+    /// number where the dot is just above its entry. A new name moves the entries of greater names, and a dot
+    /// that goes to the cloud the greater ones there. Where the dot closes the gap below dots of the cloud,
+    /// these go to the vector: a look-up for each, and a pass over the cloud.
     /// Its only refusal is OutOfMemory.
     pub fn add(&mut self, dot: Dot) -> Result<(), Refusal>
         ensures ok { OnOk result ((d : DotValue) → has self.new d ≡ (same_dot dot d || has self.old d)) }
@@ -196,7 +196,7 @@ impl<A: Allocator + Copy> Context<A> {
 
     /// Adds each dot of the other. A refused call leaves the context as it was, so the union is made
     /// anew: it takes memory in the number of names and of the dots in the clouds of both, and time in
-    /// these, times their logarithms.
+    /// these, for each dot times the logarithm of that of the names.
     /// Its only refusal is OutOfMemory.
     pub fn union(&mut self, other: &Context<A>) -> Result<(), Refusal>
         ensures ok { OnOk result ((d : DotValue) → has self.new d ≡ (has self.old d || has other.now d)) }
@@ -205,18 +205,18 @@ impl<A: Allocator + Copy> Context<A> {
         ensures err { IsOkUnless result Refusal.OutOfMemory }
     {
         let mut both = covering(self.alloc, &self.vector, &other.vector)?;
-        both.add_all(&self.cloud)?;
-        both.add_all(&other.cloud)?;
+        let dots = self.cloud.union(self.alloc, &other.cloud)?;
+        both.add_all(&dots)?;
         *self = both;
         Ok(())
     }
 
     // Adds each of the dots.
-    fn add_all(&mut self, dots: &BTreeSet<Dot, A>) -> Result<(), Refusal>
-        ensures ok { OnOk result ((d : DotValue) → has self.new d ≡ (has self.old d || in_cloud dots.now.keys d)) }
+    fn add_all(&mut self, dots: &OrderedSet<Dot, A>) -> Result<(), Refusal>
+        ensures ok { OnOk result ((d : DotValue) → has self.new d ≡ (has self.old d || in_cloud dots.now d)) }
         ensures err { IsOkUnless result Refusal.OutOfMemory }
     {
-        for dot in dots {
+        for dot in dots.items() {
             self.add(*dot)?;
         }
         Ok(())
@@ -234,7 +234,7 @@ impl<A: Allocator> PartialEq for Context<A> {
         ensures same { IsTrue result ↔ HasSame self.now other.now }
         ensures equal { IsTrue result ↔ (self.now ≡ other.now) }
     {
-        self.vector == other.vector && self.cloud == other.cloud
+        self.vector.entries() == other.vector.entries() && self.cloud.items() == other.cloud.items()
     }
 }
 
@@ -245,18 +245,18 @@ impl<A: Allocator> Eq for Context<A> {
 // The context of what either vector stands for.
 fn covering<A: Allocator + Copy>(
     alloc: A,
-    mine: &BTreeMap<Name, u64, A>,
-    yours: &BTreeMap<Name, u64, A>,
+    mine: &OrderedList<Name, u64, A>,
+    yours: &OrderedList<Name, u64, A>,
 ) -> Result<Context<A>, Refusal>
-    ensures ok { IfOk result (λ both. (d : DotValue) → has both d ≡ (is_known mine.now.entries [] d || is_known yours.now.entries [] d)) }
+    requires mine { HasNoZero mine.now }
+    requires yours { HasNoZero yours.now }
+    ensures ok { IfOk result (λ both. (d : DotValue) → has both d ≡ (is_known mine.now [] d || is_known yours.now [] d)) }
     ensures err { IsOkUnless result Refusal.OutOfMemory }
 {
-    let mut vector = BTreeMap::new(alloc);
-    vector::raise_all(&mut vector, mine)?;
-    vector::raise_all(&mut vector, yours)?;
+    let vector = vector::merged(alloc, mine, yours)?;
     Ok(Context {
         vector,
-        cloud: BTreeSet::new(alloc),
+        cloud: OrderedSet::new(alloc),
         alloc,
     })
 }

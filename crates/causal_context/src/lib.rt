@@ -5,10 +5,8 @@
 mod adding;
 mod cloud;
 mod context;
-mod in_order;
 mod laws;
 mod vector;
 
 pub use context::Context;
-pub use in_order::map_in_order;
 pub use laws::{equal_sets_are_one, equality_is_that_of_sets};

@@ -3,7 +3,7 @@ use Rattle.std.proofs.Common.{◌≡◌, ℕ, ◌+◌, ◌<◌, Bool, true, fals
 use Rattle.std.specs.Prelude.{IsTrue, ◌⊎◌}
 use Rattle.dots.specs.Dot.{DotValue, same_dot}
 use Rattle.causal_context.proofs.Dots.{same_dot-refl, same_from_test}
-use Rattle.dot_store.proofs.Places.{items_more}
+use Rattle.ordered_list.proofs.Places.{items_more}
 
 -- The context has what it had and the dots of the first items, and of other dots none but those that are held.
 -- `Dots` says which are the dots of an item.

@@ -16,7 +16,7 @@ use Rattle.std.proofs.lemmas.Map.Views.{All-values-insert_entry, All-map-remove_
 use Rattle.dots.specs.Dot.{DotValue}
 use Rattle.dot_store.specs.Store.{HasNothing, HoldsDot, HoldsSame}
 use Rattle.dot_store.specs.Stores.{at_stores, held_by, joined_store, NoKeyIsEmpty}
-use Rattle.dot_store.proofs.Places.{Ascends, item_found, entry_found}
+use Rattle.ordered_list.proofs.Places.{Ascends, item_found, entry_found}
 
 module _ {S P H : Type 0} (at : S → P → DotValue → Option H) where
   -- ---- no key has an empty store

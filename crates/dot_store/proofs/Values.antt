@@ -11,7 +11,7 @@ use Rattle.causal_context.proofs.Dots.{is_eq-dot_cmp, lookup-dot_cmp, same_dot-r
 use Rattle.op_model.specs.State.{joined}
 use Rattle.dot_store.specs.Store.{HoldsDot}
 use Rattle.dot_store.specs.Stores.{at_values}
-use Rattle.dot_store.proofs.Places.{Ascends, item_found, entry_found}
+use Rattle.ordered_list.proofs.Places.{Ascends, item_found, entry_found}
 
 module _ {V : Type 0} where
   some_value : (o : Option V) → IsSome o → (v : V) × (o ≡ Some v)

@@ -7,17 +7,16 @@ ghost use Rattle.dots.specs.Dot.{DotValue, same_dot};
 ghost use Rattle.causal_context.specs.Context.{has};
 ghost use Rattle.causal_context.specs.Dots.{dot_cmp};
 ghost use Rattle.op_model.specs.State.{joined};
-ghost use Rattle.dot_store.specs.Places.{value_at};
+ghost use Rattle.ordered_list.specs.Places.{value_at};
 ghost use Rattle.dot_store.specs.Stores.{at_values, joined_value};
 ghost use Rattle.dot_store.specs.Greater.{ord_max-comm, ord_max-assoc, ord_max-idem};
 
 use crate::kept::Kept;
-use crate::merge::Merge;
-use crate::ordered_list::OrderedList;
 use crate::put::put_some;
 use crate::store::DotStore;
 use causal_context::Context;
 use dots::{Dot, Refusal};
+use ordered_list::{Merge, OrderedList};
 use std::alloc::{Allocator, Global};
 use std::marker::Model;
 

@@ -4,17 +4,16 @@ ghost use Rattle.std.specs.List.Sorted.{IsStrictlySortedBy};
 ghost use Rattle.std.specs.Map.{keys_of};
 ghost use Rattle.dots.specs.Dot.{DotValue};
 ghost use Rattle.causal_context.specs.Context.{has};
-ghost use Rattle.dot_store.specs.Places.{value_at};
+ghost use Rattle.ordered_list.specs.Places.{value_at};
 ghost use Rattle.dot_store.specs.Store.{HasNothing, HoldsSame};
 ghost use Rattle.dot_store.specs.Stores.{at_stores, held_by, joined_store, with_store, NoKeyIsEmpty};
 
 use crate::kept::Kept;
-use crate::merge::Merge;
-use crate::ordered_list::OrderedList;
 use crate::put::put_some;
 use crate::store::DotStore;
 use causal_context::Context;
 use dots::{Dot, Refusal};
+use ordered_list::{Merge, OrderedList};
 use std::alloc::{Allocator, Global};
 use std::marker::Model;
 

@@ -7,8 +7,6 @@ mod dot_fun;
 mod dot_map;
 mod dot_set;
 mod kept;
-mod merge;
-mod ordered_list;
 mod put;
 mod store;
 

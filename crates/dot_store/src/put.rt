@@ -3,11 +3,11 @@ ghost use Rattle.std.specs.Prelude.{◌≡◌, cond, MatchOption, OnOk, OnErr, I
 ghost use Rattle.std.specs.Ordering.{is_eq};
 ghost use Rattle.std.specs.Option.{option_or};
 ghost use Rattle.std.specs.BTreeMap.{insert_entry};
-ghost use Rattle.dot_store.specs.Places.{value_at};
+ghost use Rattle.ordered_list.specs.Places.{value_at};
 
 use crate::kept::Kept;
-use crate::ordered_list::OrderedList;
 use dots::Refusal;
+use ordered_list::OrderedList;
 use std::alloc::Allocator;
 
 // Puts the value, if there is one, at a copy of the key.

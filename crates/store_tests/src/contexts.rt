@@ -99,7 +99,7 @@ fn of_parts(
     for (of, number) in vector {
         entries.push((name(rt, *of), *number))?;
     }
-    Context::from_parts(alloc, entries, dots_of(rt, alloc, cloud)?)
+    Ok(Context::from_parts(alloc, entries, dots_of(rt, alloc, cloud)?))
 }
 
 // Whether there is a context of these lists.

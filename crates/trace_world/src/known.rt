@@ -9,7 +9,6 @@ ghost use Rattle.trace_words.specs.Outcome.{dot_text, context_text};
 use causal_context::Context;
 use dots::{Dot, Name, Refusal};
 use std::alloc::Allocator;
-use std::collections::{btree_map, btree_set};
 
 /// The answer to a look at the known dots: `context`, then the entries of the vector and the dots of the cloud.
 pub(crate) fn context_answer<A: Allocator + Copy>(
@@ -30,10 +29,10 @@ pub(crate) fn context_answer<A: Allocator + Copy>(
 fn push_vector<A: Allocator + Copy>(
     alloc: A,
     out: &mut Vec<u8, A>,
-    entries: btree_map::Iter<'_, Name, u64>,
+    entries: &[(Name, u64)],
 ) -> Result<(), Refusal>
     ensures ok { OnOk result (out.new.items ≡ out.old.items ++
-        flat_map (λ entry. codes " " ++ dot_text entry.0 entry.1) entries.entry) }
+        flat_map (λ entry. codes " " ++ dot_text entry.0 entry.1) entries.now) }
     ensures err { IsOkUnless result Refusal.OutOfMemory }
 {
     for (name, number) in entries {
@@ -46,10 +45,10 @@ fn push_vector<A: Allocator + Copy>(
 fn push_cloud<A: Allocator + Copy>(
     alloc: A,
     out: &mut Vec<u8, A>,
-    dots: btree_set::Iter<'_, Dot>,
+    dots: &[Dot],
 ) -> Result<(), Refusal>
     ensures ok { OnOk result (out.new.items ≡ out.old.items ++
-        flat_map (λ dot. codes " +" ++ dot_text dot.name dot.number) dots.entry) }
+        flat_map (λ dot. codes " +" ++ dot_text dot.name dot.number) dots.now) }
     ensures err { IsOkUnless result Refusal.OutOfMemory }
 {
     for dot in dots {

@@ -1,24 +1,26 @@
-use Rattle.std.proofs.Common.{◌∙◌, sym, arith, rules, subst}
+use Rattle.std.proofs.Common.{◌≡◌, ◌∙◌, ℕ, Bool, true, false, not, refl, sym, ap, arith, subst, eqb, eqb-true, eq-eqb}
 use Rattle.causal_context.specs.Context.{in_cloud, IsGreatest}
-use Rattle.causal_context.proofs.Dots.{list_any-dot_cmp}
-use Rattle.causal_context.proofs.Clouds.{greatest_from_last, greatest_from_none}
+use Rattle.causal_context.proofs.Clouds.{greatest_from_last, greatest_from_other, greatest_from_none}
 use Rattle.causal_context.proofs.cloud.greatest_in.Goals as goal
 
-pub returns-in-Some : goal.returns-in-Some
-returns-in-Some g c =
-    let ks = c.args.cloud.now.keys in
-    let part = c.range.ensures.in_range (search rules) in
-    let k = c.in-Some.dot.now in
-    let last = part.3 k c.next_back.new.self c.in-Some.ensures.steps in
-    let greatest = part.4 k c.next_back.new.self c.in-Some.ensures.steps in
-    subst (IsGreatest c.args.name (in_cloud ks)) (sym c.number.ensures.value)
-    (greatest_from_last (in_cloud ks) c.args.name 18446744073709551615 k _ _ (c.new-all.ensures.start ∙ c.dot_at.ensures) (c.new-all.ensures.end ∙ c.dot_at-2.ensures)
-    (λ d h. let b = c.requires d h in omega arith) last.0.0 last.0.1 (sym (list_any-dot_cmp k ks) ∙ last.1) (λ q inside h. greatest q inside (list_any-dot_cmp q ks ∙ h)))
+apart : (a b : ℕ) (r : Bool) → r ≡ not (eqb a b) → r ≡ true → a ≡ b → ⊥
+apart a b r is t e = let bad : true ≡ false = sym t ∙ is ∙ ap not (eq-eqb a b e) in absurd (cc bad)
 
-pub returns-in-None : goal.returns-in-None
-returns-in-None g c =
-    let ks = c.args.cloud.now.keys in
-    let part = c.range.ensures.in_range (search rules) in
-    let none = part.5 c.in-None.ensures.steps.0 in
-    greatest_from_none (in_cloud ks) c.args.name 18446744073709551615 _ _ (c.new-all.ensures.start ∙ c.dot_at.ensures) (c.new-all.ensures.end ∙ c.dot_at-2.ensures)
-    (λ d h. let b = c.requires d h in omega arith) (λ q inside. sym (list_any-dot_cmp q ks) ∙ none q inside)
+same : (a b : ℕ) (t r : Bool) → eqb a b ≡ t → r ≡ not t → r ≡ false → a ≡ b
+same a b true r e is f = eqb-true a b e
+same a b false r e is f = let bad : true ≡ false = sym is ∙ f in absurd (cc bad)
+
+pub returns-in_default : goal.returns-in_default
+returns-in_default g c =
+    greatest_from_none c.args.cloud.now c.args.name 18446744073709551615 c.dot_at.result c.dot_at.ensures (λ d h. let b = c.requires d h in omega arith) (rw c.in_default.is at c.last_up_to.ensures.none)
+
+pub returns-then-ne : goal.returns-then-ne
+returns-then-ne g c =
+    greatest_from_other c.args.cloud.now c.args.name 18446744073709551615 c.dot_at.result c.dot_at.ensures (λ d h. let b = c.requires d h in omega arith) c.in-Some.dot.now c.in-Some.ensures.last
+    (λ e. apart c.name.result c.args.name c.ne.result c.ne.ensures c.if-ne.true (c.name.ensures ∙ e))
+
+pub returns : goal.returns
+returns g c =
+    subst (IsGreatest c.args.name (in_cloud c.args.cloud.now)) (sym c.number.ensures.value)
+    (greatest_from_last c.args.cloud.now c.args.name 18446744073709551615 c.dot_at.result c.dot_at.ensures (λ d h. let b = c.requires d h in omega arith) c.in-Some.dot.now c.in-Some.ensures.last
+    (sym c.name.ensures ∙ same c.name.result c.args.name (eqb c.name.result c.args.name) c.ne.result refl c.ne.ensures c.if-ne.false))

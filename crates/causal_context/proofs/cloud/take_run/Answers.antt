@@ -1,27 +1,18 @@
-use Rattle.std.proofs.Common.{ℕ, ◌≡◌, ◌&&◌, not, ap, ◌∙◌, sym, arith, cond, false, ◌+◌}
-use Rattle.std.specs.Ordering.{is_eq}
+use Rattle.std.proofs.Common.{◌+◌, ◌∙◌, ℕ, sym, ap, subst}
+use Rattle.std.specs.List.Sorted.{IsStrictlySortedBy}
+use Rattle.std.proofs.lemmas.List.Kept.{IsStrictlySortedBy-filter}
 use Rattle.dots.specs.Dot.{DotValue}
-use Rattle.causal_context.specs.Context.{in_cloud}
 use Rattle.causal_context.specs.Dots.{dot_cmp}
-use Rattle.causal_context.specs.Run.{is_in_run}
-use Rattle.causal_context.proofs.Dots.{list_any-dot_cmp}
-use Rattle.causal_context.proofs.Clouds.{taken_more}
+use Rattle.causal_context.proofs.Clouds.{run_taken}
 use Rattle.causal_context.proofs.cloud.take_run.Goals as goal
 
-pub loop-number-preserved : goal.loop-number-preserved
-loop-number-preserved g c =
-    let old = c.loop-number.cloud.keys in
-    let new = c.remove.new.self.keys in
-    let updates : (d : DotValue) → in_cloud new d ≡ cond (is_eq (dot_cmp c.dot_at.result d)) false (in_cloud old d) =
-    λ d. sym (list_any-dot_cmp d new) ∙ c.remove.ensures.updates.0 d ∙ ap (λ b. cond (is_eq (dot_cmp c.dot_at.result d)) false b) (list_any-dot_cmp d old) in
-    let is : c.dot_at.result ≡ record { name = c.args.dot.name; number = c.loop-number.number + 1 } =
-    let with_name : ℕ → DotValue = λ n. record { name = n; number = c.loop-number.number + 1 } in
-    c.dot_at.ensures ∙ ap with_name c.name.ensures in (
-      taken_more c.args.dot c.dot_at.result c.loop-number.number (in_cloud c.args.cloud.now.keys) (in_cloud old) (in_cloud new) is (omega arith) updates c.loop-number.invariant.0,
-      c.remove.ensures.ordered,
-    )
+pub returns-then-number-end-clause-run : goal.returns-then-number-end-clause-run
+returns-then-number-end-clause-run g c = λ d.
+    let dot_of : ℕ → ℕ → DotValue = λ name number. record { name = name; number = number } in
+    let low = c.dot_at.ensures ∙ ap (λ n. dot_of n (c.number-then-number-end.result + 1)) c.name.ensures ∙ ap (λ n. dot_of c.args.dot.name (n + 1)) c.number-then-number-end.ensures.value in
+    let high = c.dot_at-then-number-end.ensures ∙ ap (λ n. dot_of n c.args.end) c.name-then-number-end.ensures in
+    run_taken c.args.dot c.dot_at.result c.dot_at-then-number-end.result c.args.end c.args.cloud.now c.remove_between.new.self low high c.remove_between.ensures d
 
-pub returns-clause-run : goal.returns-clause-run
-returns-clause-run g c = λ d.
-    let e : c.loop-number.number ≡ c.args.end = omega arith in
-    c.loop-number.invariant.0 d ∙ ap (λ n. in_cloud c.args.cloud.now.keys d && not (is_in_run c.args.dot n d)) e
+pub returns-then-number-end-clause-ordered : goal.returns-then-number-end-clause-ordered
+returns-then-number-end-clause-ordered g c =
+    subst (IsStrictlySortedBy dot_cmp) (sym c.remove_between.ensures) (IsStrictlySortedBy-filter dot_cmp _ c.args.cloud.now c.requires.ordered)

@@ -1,25 +1,28 @@
-use Rattle.std.proofs.Common.{◌≡◌, ◌≤◌, ℕ, [], ◌∷◌, ◌++◌, map, sym, ap, subst, arith}
+use Rattle.std.proofs.Common.{◌≡◌, ◌≤◌, ◌∙◌, take, refl, sym, ap, subst, arith}
 use Rattle.std.specs.Cmp.{nat_cmp_total}
-use Rattle.std.specs.Map.Iter.{deref_pair}
-use Rattle.std.proofs.lemmas.List.{map-append}
-use Rattle.std.proofs.lemmas.Map.Iter.{btree_map_turn}
+use Rattle.std.specs.Ordering.{nat_cmp}
+use Rattle.ordered_list.proofs.Places.{item_found, take_all, take_next}
 use Rattle.causal_context.specs.Context.{known_up_to}
 use Rattle.causal_context.proofs.Vectors.{known_up_to-push_le, known_from_found}
 use Rattle.causal_context.proofs.vector.covers.Goals as goal
 
 pub returns-then-number-known_up_to : goal.returns-then-number-known_up_to
 returns-then-number-known_up_to g c =
-    let gives = c.into_iter-name-iterator.ensures.into_iter_gives in
-    let turn = btree_map_turn deref_pair c.loop-name.yielded _ _ _ _ (c.in-Some.name, c.in-Some.number) c.loop-name.yielded_by c.in-Some.is c.next.ensures.steps
-    nat_cmp_total c.args.other.now gives.0 gives.5 in
-    let there = known_from_found c.args.other.now.entries c.in-Some.name.now c.in-Some.number.now turn.1 in
-    (λ h. absurd (cc h), λ all. let below = all c.in-Some.name.now in absurd (omega (arith, there)))
+    let es = c.entries-name-items.result.now in
+    let e = c.loop-name-item.result in
+    let there = known_from_found es e.0 e.1 (item_found nat_cmp nat_cmp_total es c.loop-name.name-index e c.entries-name-items.ensures.ordered c.loop-name-test.true c.loop-name-item.is) in
+    let here : known_up_to c.args.other.now e.0 ≡ e.1 = ap (λ l. known_up_to l e.0) (sym c.entries-name-items.ensures.all) ∙ there in
+    (λ h. absurd (cc h), λ all. let below = all e.0 in absurd (omega (arith, here)))
 
 pub loop-name-preserved : goal.loop-name-preserved
 loop-name-preserved g c = λ q.
-    let x : ℕ × ℕ = (c.in-Some.name.now, c.in-Some.number.now) in
-    let mine = known_up_to c.args.vector.now.entries in
-    let e : map deref_pair (c.loop-name.yielded ++ (c.in-Some.name, c.in-Some.number) ∷ []) ≡ map deref_pair c.loop-name.yielded ++ x ∷ [] = map-append deref_pair c.loop-name.yielded _ in
-    subst (λ seen. known_up_to seen q ≤ mine q) (sym e)
-    (known_up_to-push_le (map deref_pair c.loop-name.yielded) x q (mine q) (c.loop-name.invariant q)
-    (λ (at : x.0 ≡ q). let same = ap mine at in omega (arith, same)))
+    let es = c.entries-name-items.result.now in
+    let e = c.loop-name-item.result in
+    let mine = known_up_to c.args.vector.now in
+    subst (λ seen. known_up_to seen q ≤ mine q) (sym (take_next es c.loop-name.name-index e c.loop-name-test.true c.loop-name-item.is))
+    (known_up_to-push_le (take c.loop-name.name-index es) e q (mine q) (c.loop-name.invariant q) (λ (at : e.0 ≡ q). let same = ap mine at in omega (arith, same)))
+
+pub returns : goal.returns
+returns g c =
+    let all = take_all c.entries-name-items.result.now c.loop-name.name-index c.loop-name-test.false ∙ c.entries-name-items.ensures.all in
+    (λ _ q. subst (λ es. known_up_to es q ≤ known_up_to c.args.vector.now q) all (c.loop-name.invariant q), λ _. refl)

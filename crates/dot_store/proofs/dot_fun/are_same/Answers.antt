@@ -3,8 +3,8 @@ use Rattle.std.specs.Option.{option_copied}
 use Rattle.dots.specs.Dot.{DotValue}
 use Rattle.causal_context.specs.Dots.{dot_cmp}
 use Rattle.causal_context.proofs.Dots.{dot_exact}
-use Rattle.dot_store.specs.Places.{value_at}
-use Rattle.dot_store.proofs.Walked.{walked_here, walked_more}
+use Rattle.ordered_list.specs.Places.{value_at}
+use Rattle.ordered_list.proofs.Walked.{walked_here, walked_more}
 use Rattle.dot_store.proofs.dot_fun.are_same.Goals as goal
 
 pub returns-then-not-is_same : goal.returns-then-not-is_same

@@ -1,7 +1,7 @@
 use Rattle.std.proofs.Common.{◌≡◌, ◌+◌, length}
 use Rattle.causal_context.specs.Dots.{dot_cmp}
-use Rattle.dot_store.specs.Places.{value_at}
-use Rattle.dot_store.proofs.Walked.{Walked}
+use Rattle.ordered_list.specs.Places.{value_at}
+use Rattle.ordered_list.proofs.Walked.{Walked}
 use Rattle.dot_store.proofs.dot_fun.are_same.Given as goal
 
 abbrev pub invariant-loop-x : goal.invariant-loop-x

@@ -2,7 +2,7 @@ use Rattle.std.proofs.Common.{sym, ap, ◌∙◌}
 use Rattle.std.specs.BTreeMap.{insert_entry}
 use Rattle.causal_context.specs.Dots.{dot_cmp}
 use Rattle.causal_context.proofs.Dots.{dot_cmp_total}
-use Rattle.dot_store.proofs.Places.{take_insert}
+use Rattle.ordered_list.proofs.Places.{take_insert}
 use Rattle.dot_store.proofs.dot_fun.copied.Goals as goal
 
 pub loop-dot-preserved : goal.loop-dot-preserved

@@ -5,10 +5,10 @@ use Rattle.dots.specs.Dot.{DotValue}
 use Rattle.causal_context.specs.Context.{has}
 use Rattle.causal_context.specs.Dots.{dot_cmp}
 use Rattle.causal_context.proofs.Dots.{dot_cmp_total, dot_exact}
-use Rattle.dot_store.specs.Places.{value_at}
+use Rattle.ordered_list.specs.Places.{value_at}
 use Rattle.dot_store.specs.Stores.{joined_value}
 use Rattle.dot_store.proofs.Values.{joined_along}
-use Rattle.dot_store.proofs.Walked.{walked_here, walked_more, put_here, put_apart}
+use Rattle.ordered_list.proofs.Walked.{walked_here, walked_more, put_here, put_apart}
 use Rattle.dot_store.proofs.dot_fun.join_values.Goals as goal
 
 pub loop-dot-preserved : goal.loop-dot-preserved

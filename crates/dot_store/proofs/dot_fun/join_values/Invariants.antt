@@ -2,9 +2,9 @@ use Rattle.std.proofs.Common.{◌≡◌, ◌+◌, length, None}
 use Rattle.std.specs.Ordering.{ord_max}
 use Rattle.causal_context.specs.Context.{has}
 use Rattle.causal_context.specs.Dots.{dot_cmp}
-use Rattle.dot_store.specs.Places.{value_at}
+use Rattle.ordered_list.specs.Places.{value_at}
 use Rattle.dot_store.specs.Stores.{joined_value}
-use Rattle.dot_store.proofs.Walked.{Walked}
+use Rattle.ordered_list.proofs.Walked.{Walked}
 use Rattle.dot_store.proofs.dot_fun.join_values.Given as goal
 
 abbrev pub invariant-loop-dot : goal.invariant-loop-dot

@@ -1,6 +1,6 @@
 use Rattle.std.proofs.Common.{refl, arith}
 use Rattle.dot_store.specs.Store.{HasNothing}
-use Rattle.dot_store.proofs.Places.{items_more}
+use Rattle.ordered_list.proofs.Places.{items_more}
 use Rattle.dot_store.proofs.Stores.{filled_item, filled_all}
 use Rattle.dot_store.proofs.dot_map.are_filled.Goals as goal
 

@@ -1,9 +1,9 @@
 use Rattle.std.proofs.Common.{refl, sym, ap, ◌∙◌}
 use Rattle.std.specs.Option.{option_copied}
-use Rattle.dot_store.specs.Places.{value_at}
+use Rattle.ordered_list.specs.Places.{value_at}
 use Rattle.dot_store.specs.Store.{HoldsSame}
 use Rattle.dot_store.specs.Stores.{at_stores, held_by}
-use Rattle.dot_store.proofs.Walked.{walked_here, walked_more, walked_all}
+use Rattle.ordered_list.proofs.Walked.{walked_here, walked_more, walked_all}
 use Rattle.dot_store.proofs.Stores.{held_along}
 use Rattle.dot_store.proofs.dot_map.are_same.Goals as goal
 

@@ -1,8 +1,8 @@
 use Rattle.std.proofs.Common.{◌+◌, length}
-use Rattle.dot_store.specs.Places.{value_at}
+use Rattle.ordered_list.specs.Places.{value_at}
 use Rattle.dot_store.specs.Store.{HoldsSame}
 use Rattle.dot_store.specs.Stores.{held_by}
-use Rattle.dot_store.proofs.Walked.{Walked}
+use Rattle.ordered_list.proofs.Walked.{Walked}
 use Rattle.dot_store.proofs.dot_map.are_same.Given as goal
 
 abbrev pub invariant-loop-x : goal.invariant-loop-x

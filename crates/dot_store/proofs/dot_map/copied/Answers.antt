@@ -1,8 +1,8 @@
 use Rattle.std.proofs.Common.{cond, Some, take, sym, ap, ◌∙◌, subst}
 use Rattle.std.specs.Ordering.{is_eq}
-use Rattle.dot_store.specs.Places.{value_at}
+use Rattle.ordered_list.specs.Places.{value_at}
 use Rattle.dot_store.specs.Stores.{at_stores, held_by, NoKeyIsEmpty}
-use Rattle.dot_store.proofs.Places.{take_insert, take_all, lookup-insert_entry}
+use Rattle.ordered_list.proofs.Places.{take_insert, take_all, lookup-insert_entry}
 use Rattle.dot_store.proofs.Stores.{filled_insert, filled_item, copied_by}
 use Rattle.dot_store.proofs.dot_map.copied.Goals as goal
 

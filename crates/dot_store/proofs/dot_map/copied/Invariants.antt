@@ -1,5 +1,5 @@
 use Rattle.std.proofs.Common.{take}
-use Rattle.dot_store.specs.Places.{value_at}
+use Rattle.ordered_list.specs.Places.{value_at}
 use Rattle.dot_store.specs.Store.{HoldsSame}
 use Rattle.dot_store.specs.Stores.{held_by, NoKeyIsEmpty}
 use Rattle.dot_store.proofs.dot_map.copied.Given as goal

@@ -1,9 +1,9 @@
 use Rattle.std.proofs.Common.{◌≡◌, ◌+◌, length, None}
 use Rattle.causal_context.specs.Context.{has}
-use Rattle.dot_store.specs.Places.{value_at}
+use Rattle.ordered_list.specs.Places.{value_at}
 use Rattle.dot_store.specs.Store.{HoldsSame}
 use Rattle.dot_store.specs.Stores.{held_by, joined_store, NoKeyIsEmpty}
-use Rattle.dot_store.proofs.Walked.{Walked}
+use Rattle.ordered_list.proofs.Walked.{Walked}
 use Rattle.dot_store.proofs.dot_map.join_stores.Given as goal
 
 abbrev pub invariant-loop-key : goal.invariant-loop-key

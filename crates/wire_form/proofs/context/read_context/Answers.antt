@@ -15,11 +15,11 @@ returns-in_err-cloud g c =
 
 pub returns-in-Some : goal.returns-in-Some
 returns-in-Some g c =
-    let canonical = rw c.in-Some.is at c.in_ok-context.ensures.canonical in
-    let same = rw c.in-Some.is at c.in_ok-context.ensures.form in
+    let canonical = rw c.in-Some.is at c.from_parts.ensures.canonical in
+    let same = rw c.in-Some.is at c.from_parts.ensures.form in
     context_begins c.args.bytes.now c.in_ok-vector.vector.items c.in_ok-vector.rest.now c.in_ok-cloud.cloud.items c.in_ok-cloud.rest.now c.in-Some.context c.in_ok-vector.ensures c.in_ok-cloud.ensures (canonical.0 refl) same
 
 pub returns-in-None : goal.returns-in-None
 returns-in-None g c =
-    let canonical = rw c.in-None.is at c.in_ok-context.ensures.canonical in
+    let canonical = rw c.in-None.is at c.from_parts.ensures.canonical in
     no_context c.args.bytes.now c.in_ok-vector.vector.items c.in_ok-vector.rest.now c.in_ok-cloud.cloud.items c.in_ok-cloud.rest.now c.in_ok-vector.ensures c.in_ok-cloud.ensures canonical.1

@@ -4,4 +4,4 @@ use Rattle.causal_context.proofs.context.Context.cloud.Goals as goal
 
 pub returns-clause-has : goal.returns-clause-has
 unfolding has
-returns-clause-has g c = λ d. ap (λ v. is_known c.args.self.now.vector v d) (sym (c.iter.ensures.rest ∙ ap (λ x. x.cloud) c.self.view_is))
+returns-clause-has g c = λ d. ap (λ v. is_known c.args.self.now.vector v d) (sym (c.items.ensures.all ∙ ap (λ x. x.cloud) c.self.view_is))

@@ -7,7 +7,7 @@ use Rattle.causal_context.specs.Dots.{dot_cmp}
 use Rattle.causal_context.proofs.Dots.{dot_cmp_total, dot_exact}
 use Rattle.dot_store.specs.Stores.{at_values}
 use Rattle.dot_store.proofs.Values.{at_values-found}
-use Rattle.dot_store.proofs.Walked.{same_key}
+use Rattle.ordered_list.proofs.Walked.{same_key}
 use Rattle.dot_store.proofs.dot_fun.DotFun.entries.Goals as goal
 
 pub returns-clause-held : goal.returns-clause-held

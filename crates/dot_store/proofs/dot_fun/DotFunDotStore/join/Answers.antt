@@ -2,7 +2,7 @@ use Rattle.std.proofs.Common.{sym, ◌∙◌}
 use Rattle.std.specs.Ordering.{ord_max}
 use Rattle.causal_context.specs.Context.{has}
 use Rattle.causal_context.specs.Dots.{dot_cmp}
-use Rattle.dot_store.specs.Places.{value_at}
+use Rattle.ordered_list.specs.Places.{value_at}
 use Rattle.dot_store.specs.Stores.{at_values}
 use Rattle.dot_store.proofs.Values.{at_values-found, joined_along}
 use Rattle.dot_store.proofs.dot_fun.DotFunDotStore.join.Goals as goal

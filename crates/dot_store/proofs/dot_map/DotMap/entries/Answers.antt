@@ -7,7 +7,7 @@ use Rattle.std.proofs.lemmas.Map.Keys.{IsDistinct-from_sorted}
 use Rattle.std.proofs.lemmas.Map.Views.{Contains-from_lookup, lookup-from_Contains}
 use Rattle.dot_store.specs.Stores.{at_stores}
 use Rattle.dot_store.proofs.Stores.{store_from_held, held_at_some}
-use Rattle.dot_store.proofs.Walked.{same_key}
+use Rattle.ordered_list.proofs.Walked.{same_key}
 use Rattle.dot_store.proofs.dot_map.DotMap.entries.Goals as goal
 
 pub returns-clause-held : goal.returns-clause-held

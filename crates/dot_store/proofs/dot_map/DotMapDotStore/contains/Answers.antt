@@ -1,7 +1,7 @@
 use Rattle.std.proofs.Common.{◌≡◌, None, sym, ap, ◌∙◌, subst, refl, arith}
 use Rattle.dot_store.specs.Store.{HoldsDot}
 use Rattle.dot_store.specs.Stores.{at_stores}
-use Rattle.dot_store.proofs.Places.{items_more}
+use Rattle.ordered_list.proofs.Places.{items_more}
 use Rattle.dot_store.proofs.Stores.{holds_from_item, absent_from_items}
 use Rattle.dot_store.proofs.dot_map.DotMapDotStore.contains.Goals as goal
 

@@ -3,7 +3,7 @@ use Rattle.std.specs.Prelude.{IsSome, IsTrue, is_some}
 use Rattle.dots.specs.Dot.{DotValue}
 use Rattle.causal_context.specs.Context.{has}
 use Rattle.dot_store.specs.Stores.{at_stores}
-use Rattle.dot_store.proofs.Places.{items_more}
+use Rattle.ordered_list.proofs.Places.{items_more}
 use Rattle.dot_store.proofs.Stores.{held_from_item, item_from_held}
 use Rattle.dot_store.proofs.dot_map.DotMapDotStore.is_inside.Goals as goal
 

@@ -1,0 +1,4 @@
+pub mod Places
+pub mod Items
+pub mod Merged
+pub mod Walked
