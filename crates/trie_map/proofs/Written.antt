@@ -10,13 +10,13 @@ use Rattle.std.specs.FinMap.{get-insert, get-remove}
 use Rattle.dots.specs.Bytes.{bytes_cmp}
 use Rattle.dots.specs.Dot.{DotValue}
 use Rattle.dot_store.specs.Store.{HasNothing, HoldsSame}
-use Rattle.dot_store.specs.Stores.{held_by, joined_store}
+use Rattle.dot_store.specs.Stores.{held_by}
 use Rattle.dot_store.proofs.Stores.{held_at_some}
 use Rattle.dot_store.specs.Store.{state_with}
 use Rattle.op_model.specs.State.{joined, join}
 use Rattle.hash_path.proofs.Words.{same_tied, tied_same}
 use Rattle.trie_map.specs.Keyed.{TrieMapValue, at_keys, NoStoreIsEmpty}
-use Rattle.trie_map.specs.Joined.{both_at, JoinsAt, IsJoinedAt, AreJoined}
+use Rattle.trie_map.specs.Joined.{both_at, JoinsAt, IsJoinedAt, IsEitherAt, AreJoined}
 
 -- ---- what follows from a clause, where it holds
 pub on_ok : {E P Q : Type 0} (r : Result (Unit {0}) E) → (P → Q) → OnOk r P → OnOk r Q
@@ -91,11 +91,21 @@ module _ {S P H : Type 0} (at : S → P → DotValue → Option H) where
     }
 
   -- ---- a store that is there, and an empty one where there is none
-  pub holds_found : (o : Option S) (store : S) → o ≡ Some store → HoldsSame (held_by at o) (at store)
-  holds_found o store is place d = held_at_some at o store place d is
+  pub holds_found : {Hash : Type 0} (map : TrieMapValue Hash S) (key : List ℕ) (store : S) → finite.get map.1 key ≡ Some store → (place : P) (d : DotValue) → at_keys at map (key, place) d ≡ at store place d
+  unfolding at_keys
+  holds_found map key store is place d = held_at_some at (finite.get map.1 key) store place d is
 
-  pub holds_empty : (o : Option S) (empty : S) → o ≡ None → HasNothing (at empty) → HoldsSame (held_by at o) (at empty)
-  holds_empty o empty is nothing place d = ap (λ x. held_by at x place d) is ∙ sym (nothing place d)
+  pub nothing_at : {Hash : Type 0} (map : TrieMapValue Hash S) (key : List ℕ) (place : P) (d : DotValue) → finite.get map.1 key ≡ None → at_keys at map (key, place) d ≡ None
+  unfolding at_keys
+  nothing_at map key place d is = ap (λ x. held_by at x place d) is
+
+  pub holds_empty : {Hash : Type 0} (map : TrieMapValue Hash S) (key : List ℕ) (empty : S) → finite.get map.1 key ≡ None → HasNothing (at empty) → (place : P) (d : DotValue) → at_keys at map (key, place) d ≡ at empty place d
+  holds_empty map key empty is nothing place d = nothing_at map key place d is ∙ sym (nothing place d)
+
+  -- a draft that is the map holds what it does
+  pub held_where : {Hash : Type 0} (draft map : TrieMapValue Hash S) (q : List ℕ) → draft ≡ map → (place : P) (d : DotValue) → held_by at (finite.get draft.1 q) place d ≡ at_keys at map (q, place) d
+  unfolding at_keys
+  held_where draft map q is place d = ap (λ p. held_by at (finite.get p.1 q) place d) is
 
   pub none_copied : (r : Option (Bor S)) → is_some r ≡ false → option_copied r ≡ None
   none_copied None e = refl
@@ -105,59 +115,60 @@ module _ {S P H : Type 0} (at : S → P → DotValue → Option H) where
   some_copied None e = absurd (cc e)
   some_copied (Some s) e = (s.now, refl)
 
-  pub holds_either : (r : Option (Bor S)) (empty : Bor S) (o : Option S) → option_copied r ≡ o → HasNothing (at empty.now) → HoldsSame (held_by at o) (at (unwrap_or r empty).now)
-  holds_either None empty o is nothing = holds_empty o empty.now (sym is) nothing
-  holds_either (Some store) empty o is nothing = holds_found o store.now (sym is)
+  pub holds_either : {Hash : Type 0} (map : TrieMapValue Hash S) (key : List ℕ) (r : Option (Bor S)) (empty : Bor S) → option_copied r ≡ finite.get map.1 key → HasNothing (at empty.now)
+      → (place : P) (d : DotValue) → at_keys at map (key, place) d ≡ at (unwrap_or r empty).now place d
+  holds_either map key None empty is nothing = holds_empty map key empty.now (sym is) nothing
+  holds_either map key (Some store) empty is nothing = holds_found map key store.now (sym is)
 
-  module _ (greater : H → H → H) (mine : finite.FinMap bytes_cmp S) (own : DotValue → Bool) (yours : finite.FinMap bytes_cmp S) (theirs : DotValue → Bool) where
+  module _ (greater : H → H → H) (mine : List ℕ × P → DotValue → Option H) (own : DotValue → Bool) (yours : List ℕ × P → DotValue → Option H) (theirs : DotValue → Bool) where
+    abbrev Joined : finite.FinMap bytes_cmp S → List ℕ → Type 0
+    Joined = IsJoinedAt at greater mine own yours theirs
+
     abbrev Either : finite.FinMap bytes_cmp S → Type 0
-    Either draft = (q : List ℕ) → (finite.get draft q ≡ finite.get mine q) ⊎ IsJoinedAt at greater mine own yours theirs draft q
+    Either draft = (q : List ℕ) → IsEitherAt at greater mine own yours theirs draft q
 
     -- one key more is joined
-    module _ (draft new : finite.FinMap bytes_cmp S) (key : List ℕ) (x y : S) (mine_holds : HoldsSame (held_by at (finite.get mine key)) (at x)) (yours_holds : HoldsSame (held_by at (finite.get yours key)) (at y))
+    module _ (draft new : finite.FinMap bytes_cmp S) (key : List ℕ) (x y : S) (mine_holds : (place : P) (d : DotValue) → mine (key, place) d ≡ at x place d) (yours_holds : (place : P) (d : DotValue) → yours (key, place) d ≡ at y place d)
         (before : Either draft) (step : JoinsAt at greater draft new key x own y theirs) where
-      wanted_is : HoldsSame (both_at at greater x own y theirs) (joined_store at greater (finite.get mine key) own (finite.get yours key) theirs)
+      wanted_is : (place : P) (d : DotValue) → both_at at greater x own y theirs place d ≡ joined greater (mine (key, place) d) (own d) (yours (key, place) d) (theirs d)
       wanted_is place d i = joined greater (sym (mine_holds place d) i) (own d) (sym (yours_holds place d) i) (theirs d)
 
-      pub joined_here : IsJoinedAt at greater mine own yours theirs new key
+      pub joined_here : Joined new key
       joined_here place d =
           step.here (⊎_elim
-            (λ e. inl (λ p q. ap (λ o. held_by at o p q) e ∙ mine_holds p q))
+            (λ e. inl (λ p q. e p q ∙ mine_holds p q))
             (λ j. inr (λ p q. j p q ∙ sym (wanted_is p q)))
             (before key)) place d
           ∙ wanted_is place d
 
-      pub joined_apart : (q : List ℕ) → eq_by_cmp bytes_cmp q key ≡ false → IsJoinedAt at greater mine own yours theirs draft q → IsJoinedAt at greater mine own yours theirs new q
+      pub joined_apart : (q : List ℕ) → eq_by_cmp bytes_cmp q key ≡ false → Joined draft q → Joined new q
       joined_apart q apart was place d = ap (λ o. held_by at o place d) (step.apart q apart) ∙ was place d
 
-      pub joined_kept : (q : List ℕ) → IsJoinedAt at greater mine own yours theirs draft q → IsJoinedAt at greater mine own yours theirs new q
+      pub joined_kept : (q : List ℕ) → Joined draft q → Joined new q
       joined_kept q was = by_test (eq_by_cmp bytes_cmp q key) refl
         where
-          by_test : (b : Bool) → eq_by_cmp bytes_cmp q key ≡ b → IsJoinedAt at greater mine own yours theirs new q
-          by_test true t = subst (IsJoinedAt at greater mine own yours theirs new) (sym (tied_same q key t)) joined_here
+          by_test : (b : Bool) → eq_by_cmp bytes_cmp q key ≡ b → Joined new q
+          by_test true t = subst (Joined new) (sym (tied_same q key t)) joined_here
           by_test false t = joined_apart q t was
 
       pub either_more : Either new
       either_more q = by_test (eq_by_cmp bytes_cmp q key) refl
         where
-          by_test : (b : Bool) → eq_by_cmp bytes_cmp q key ≡ b → (finite.get new q ≡ finite.get mine q) ⊎ IsJoinedAt at greater mine own yours theirs new q
-          by_test true t = inr (subst (IsJoinedAt at greater mine own yours theirs new) (sym (tied_same q key t)) joined_here)
-          by_test false t = ⊎_elim (λ e. inl (step.apart q t ∙ e)) (λ j. inr (joined_apart q t j)) (before q)
+          by_test : (b : Bool) → eq_by_cmp bytes_cmp q key ≡ b → IsEitherAt at greater mine own yours theirs new q
+          by_test true t = inr (subst (Joined new) (sym (tied_same q key t)) joined_here)
+          by_test false t = ⊎_elim (λ e. inl (λ place d. ap (λ o. held_by at o place d) (step.apart q t) ∙ e place d)) (λ j. inr (joined_apart q t j)) (before q)
 
-    -- once both maps were gone through, the draft holds the join
-    all_by : (draft : finite.FinMap bytes_cmp S) (q : List ℕ) (x y : Option S) → finite.get mine q ≡ x → finite.get yours q ≡ y → AreJoined at greater mine own yours theirs mine draft → AreJoined at greater mine own yours theirs yours draft
-        → IsJoinedAt at greater mine own yours theirs draft q
+  -- once both maps were gone through, the draft holds the join
+  module _ (greater : H → H → H) {Hash : Type 0} (mine yours : TrieMapValue Hash S) (own theirs : DotValue → Bool) where
+    abbrev Holds : finite.FinMap bytes_cmp S → finite.FinMap bytes_cmp S → Type 0
+    Holds = AreJoined at greater (at_keys at mine) own (at_keys at yours) theirs
+
+    all_by : (draft : finite.FinMap bytes_cmp S) (q : List ℕ) (x y : Option S) → finite.get mine.1 q ≡ x → finite.get yours.1 q ≡ y → Holds mine.1 draft → Holds yours.1 draft → IsJoinedAt at greater (at_keys at mine) own (at_keys at yours) theirs draft q
     all_by draft q (Some s) y is_x is_y first second = first.there q s is_x
     all_by draft q None (Some s) is_x is_y first second = second.there q s is_y
     all_by draft q None None is_x is_y first second =
-        ⊎_elim (λ e place d. ap (λ o. held_by at o place d) (e ∙ is_x) ∙ (λ i. joined greater (held_by at (sym is_x i) place d) (own d) (held_by at (sym is_y i) place d) (theirs d))) (λ j. j) (first.either q)
+        ⊎_elim (λ e place d. e place d ∙ nothing_at mine q place d is_x ∙ (λ i. joined greater (sym (nothing_at mine q place d is_x) i) (own d) (sym (nothing_at yours q place d is_y) i) (theirs d))) (λ j. j) (first.either q)
 
-    pub all_joined : (draft : finite.FinMap bytes_cmp S) → AreJoined at greater mine own yours theirs mine draft → AreJoined at greater mine own yours theirs yours draft
-        → (q : List ℕ) → IsJoinedAt at greater mine own yours theirs draft q
-    all_joined draft first second q = all_by draft q (finite.get mine q) (finite.get yours q) refl refl first second
-
-  pub map_joined : (greater : H → H → H) {Hash : Type 0} (mine yours both : TrieMapValue Hash S) (own theirs : DotValue → Bool)
-      → AreJoined at greater mine.1 own yours.1 theirs mine.1 both.1 × AreJoined at greater mine.1 own yours.1 theirs yours.1 both.1
-      → HoldsSame (at_keys at both) (join greater (state_with (at_keys at mine) own) (state_with (at_keys at yours) theirs)).at
-  unfolding at_keys
-  map_joined greater mine yours both own theirs h place d = all_joined greater mine.1 own yours.1 theirs both.1 h.0 h.1 place.0 place.1 d
+    pub map_joined : (both : TrieMapValue Hash S) → Holds mine.1 both.1 × Holds yours.1 both.1 → HoldsSame (at_keys at both) (join greater (state_with (at_keys at mine) own) (state_with (at_keys at yours) theirs)).at
+    unfolding at_keys
+    map_joined both h place d = all_by both.1 place.0 (finite.get mine.1 place.0) (finite.get yours.1 place.0) refl refl h.0 h.1 place.1 d

@@ -5,7 +5,7 @@ use Rattle.std.specs.Ordering.{eq_by_cmp}
 use Rattle.dots.specs.Bytes.{bytes_cmp}
 use Rattle.dots.specs.Dot.{DotValue}
 use Rattle.dot_store.specs.Store.{HoldsSame}
-use Rattle.dot_store.specs.Stores.{held_by, joined_store}
+use Rattle.dot_store.specs.Stores.{held_by}
 use Rattle.op_model.specs.State.{joined}
 
 module _ {S P H : Type 0} (at : S → P → DotValue → Option H) (greater : H → H → H) where
@@ -19,11 +19,15 @@ module _ {S P H : Type 0} (at : S → P → DotValue → Option H) (greater : H 
     pub here : HoldsSame (held_by at (finite.get old key)) (at mine) ⊎ HoldsSame (held_by at (finite.get old key)) (both_at mine own yours theirs)
         → HoldsSame (held_by at (finite.get new key)) (both_at mine own yours theirs)
 
-  -- at a key of a draft stands the join of two maps
-  abbrev pub IsJoinedAt : (mine : finite.FinMap bytes_cmp S) (own : DotValue → Bool) (yours : finite.FinMap bytes_cmp S) (theirs : DotValue → Bool) (draft : finite.FinMap bytes_cmp S) → List ℕ → Type 0
-  IsJoinedAt mine own yours theirs draft q = HoldsSame (held_by at (finite.get draft q)) (joined_store at greater (finite.get mine q) own (finite.get yours q) theirs)
+  -- at a key of a draft stands the join of what two maps hold there
+  abbrev pub IsJoinedAt : (mine : List ℕ × P → DotValue → Option H) (own : DotValue → Bool) (yours : List ℕ × P → DotValue → Option H) (theirs : DotValue → Bool) (draft : finite.FinMap bytes_cmp S) → List ℕ → Type 0
+  IsJoinedAt mine own yours theirs draft q = (place : P) (dot : DotValue) → held_by at (finite.get draft q) place dot ≡ joined greater (mine (q, place) dot) (own dot) (yours (q, place) dot) (theirs dot)
+
+  -- at a key of a draft stands what a map holds there, or the join
+  abbrev pub IsEitherAt : (mine : List ℕ × P → DotValue → Option H) (own : DotValue → Bool) (yours : List ℕ × P → DotValue → Option H) (theirs : DotValue → Bool) (draft : finite.FinMap bytes_cmp S) → List ℕ → Type 0
+  IsEitherAt mine own yours theirs draft q = ((place : P) (dot : DotValue) → held_by at (finite.get draft q) place dot ≡ mine (q, place) dot) ⊎ IsJoinedAt mine own yours theirs draft q
 
   -- the draft has at each key what the first map has, or the join; and at these keys the join
-  pub record AreJoined (mine : finite.FinMap bytes_cmp S) (own : DotValue → Bool) (yours : finite.FinMap bytes_cmp S) (theirs : DotValue → Bool) (keys draft : finite.FinMap bytes_cmp S) : Type 0 where
-    pub either : (q : List ℕ) → (finite.get draft q ≡ finite.get mine q) ⊎ IsJoinedAt mine own yours theirs draft q
+  pub record AreJoined (mine : List ℕ × P → DotValue → Option H) (own : DotValue → Bool) (yours : List ℕ × P → DotValue → Option H) (theirs : DotValue → Bool) (keys draft : finite.FinMap bytes_cmp S) : Type 0 where
+    pub either : (q : List ℕ) → IsEitherAt mine own yours theirs draft q
     pub there : (q : List ℕ) (store : S) → finite.get keys q ≡ Some store → IsJoinedAt mine own yours theirs draft q

@@ -1,10 +1,8 @@
 // The join of two maps, key by key, written into a draft of the first.
-ghost use Rattle.std.specs.Prelude.{◌≡◌, ◌⊎◌, Some, List, ℕ, OnOk, IsOkUnless};
-ghost use Rattle.std.specs.FinMap as finite;
+ghost use Rattle.std.specs.Prelude.{◌≡◌, OnOk, IsOkUnless};
 ghost use Rattle.causal_context.specs.Context.{has};
-ghost use Rattle.dot_store.specs.Store.{HoldsSame};
-ghost use Rattle.dot_store.specs.Stores.{held_by, joined_store};
 ghost use Rattle.trie_map.specs.Joined.{AreJoined};
+ghost use Rattle.trie_map.specs.Keyed.{at_keys};
 
 use crate::draft::Draft;
 use crate::trie_map::TrieMap;
@@ -26,7 +24,7 @@ pub(crate) fn join_own<S: DotStore<A>, M: Summary<S>, H: PathHash, A: Allocator 
 ) -> Result<(), Refusal>
     requires { draft.old ≡ mine.now }
     ensures hash { draft.new.0 ≡ draft.old.0 }
-    ensures ok { OnOk result (AreJoined S.at S.greater mine.now.1 (has own.now) yours.now.1 (has theirs.now) mine.now.1 draft.new.1) }
+    ensures ok { OnOk result (AreJoined S.at S.greater (at_keys S.at mine.now) (has own.now) (at_keys S.at yours.now) (has theirs.now) mine.now.1 draft.new.1) }
     ensures err { IsOkUnless result Refusal.OutOfMemory }
 {
     let empty = S::empty(alloc);
@@ -46,10 +44,10 @@ pub(crate) fn join_others<S: DotStore<A>, M: Summary<S>, H: PathHash, A: Allocat
     yours: &TrieMap<S, M, H, A>,
     theirs: &Context<A>,
 ) -> Result<(), Refusal>
-    requires { AreJoined S.at S.greater mine.now.1 (has own.now) yours.now.1 (has theirs.now) mine.now.1 draft.old.1 }
+    requires { AreJoined S.at S.greater (at_keys S.at mine.now) (has own.now) (at_keys S.at yours.now) (has theirs.now) mine.now.1 draft.old.1 }
     ensures hash { draft.new.0 ≡ draft.old.0 }
-    ensures ok { OnOk result (AreJoined S.at S.greater mine.now.1 (has own.now) yours.now.1 (has theirs.now) mine.now.1 draft.new.1
-        × AreJoined S.at S.greater mine.now.1 (has own.now) yours.now.1 (has theirs.now) yours.now.1 draft.new.1) }
+    ensures ok { OnOk result (AreJoined S.at S.greater (at_keys S.at mine.now) (has own.now) (at_keys S.at yours.now) (has theirs.now) mine.now.1 draft.new.1
+        × AreJoined S.at S.greater (at_keys S.at mine.now) (has own.now) (at_keys S.at yours.now) (has theirs.now) yours.now.1 draft.new.1) }
     ensures err { IsOkUnless result Refusal.OutOfMemory }
 {
     let empty = S::empty(alloc);

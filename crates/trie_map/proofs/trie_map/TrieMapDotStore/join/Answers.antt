@@ -8,10 +8,11 @@ use Rattle.trie_map.proofs.trie_map.TrieMapDotStore.join.Goals as goal
 
 pub returns-clause-ok : goal.returns-clause-ok
 returns-clause-ok g c =
+    let at = g.S.DotStore.at in
+    let Holds = AreJoined at g.S.DotStore.greater (at_keys at c.args.self.now) (has c.args.own.now) (at_keys at c.args.other.now) (has c.args.theirs.now) in
     if_ok c.finish.result
-    (λ both is. map_joined g.S.DotStore.at g.S.DotStore.greater c.args.self.now c.args.other.now both (has c.args.own.now) (has c.args.theirs.now)
-    (subst (λ m. AreJoined g.S.DotStore.at g.S.DotStore.greater c.args.self.now.1 (has c.args.own.now) c.args.other.now.1 (has c.args.theirs.now) c.args.self.now.1 m.1
-    × AreJoined g.S.DotStore.at g.S.DotStore.greater c.args.self.now.1 (has c.args.own.now) c.args.other.now.1 (has c.args.theirs.now) c.args.other.now.1 m.1) (sym is) c.in_ok-join_others.ensures.ok))
+    (λ both is. map_joined at g.S.DotStore.greater c.args.self.now c.args.other.now (has c.args.own.now) (has c.args.theirs.now) both
+    (subst (λ m. Holds c.args.self.now.1 m.1 × Holds c.args.other.now.1 m.1) (sym is) c.in_ok-join_others.ensures.ok))
     c.finish.ensures.ok
 
 pub returns-clause-hash : goal.returns-clause-hash
