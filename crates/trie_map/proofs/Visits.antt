@@ -1,6 +1,6 @@
 -- A walk of a map that is under way: what is left of it are entries of the map, and what was done holds at the other keys.
-use Rattle.std.proofs.Common.{◌≡◌, ℕ, List, [], ◌∷◌, Bool, true, false, cond, T, Option, Some, None, map, refl, sym, ◌∙◌, ap, subst, inl, inr, ⊎_elim}
-use Rattle.std.specs.Prelude.{◌⊎◌, ◌&&◌, is_some}
+use Rattle.std.proofs.Common.{◌≡◌, ℕ, List, [], ◌∷◌, Bool, true, false, cond, T, Some, None, map, refl, sym, ◌∙◌, ap, subst, inl, inr, ⊎_elim}
+use Rattle.std.specs.Prelude.{◌⊎◌, ◌&&◌}
 use Rattle.std.specs.declared.cmp.Ordering.{Ordering}
 use Rattle.std.specs.declared.cmp.Ordering.TheVariants.{Less, Equal, Greater}
 use Rattle.std.specs.Ordering.{is_lt, is_eq, eq_by_cmp}
@@ -9,7 +9,7 @@ use Rattle.std.specs.FinMap as finite
 use Rattle.std.specs.FinMap.{get-entries, get-from_entries, entries_sorted}
 use Rattle.std.specs.FinMap.Entries.{find, is_sorted, below_all}
 use Rattle.dots.specs.Bytes.{bytes_cmp}
-use Rattle.hash_path.specs.Map.{path, key_of, HashedBy, by_key, with_path, by_path, walk}
+use Rattle.hash_path.specs.Map.{path, key_of, HashedBy, with_path, by_path, walk}
 use Rattle.hash_path.specs.Word.{key_in}
 use Rattle.hash_path.proofs.Maps.{is_path, tied_path}
 use Rattle.hash_path.proofs.Walks.{find_off}

@@ -5,7 +5,7 @@ use Rattle.causal_context.specs.Context.{has}
 use Rattle.hash_path.specs.Map.{walk}
 use Rattle.trie_map.specs.Keyed.{at_keys}
 use Rattle.trie_map.specs.Joined.{IsJoinedAt}
-use Rattle.trie_map.proofs.Visits.{Visits, visits_none, visits_next, visits_more, visits_all}
+use Rattle.trie_map.proofs.Visits.{visits_none, visits_next, visits_more, visits_all}
 use Rattle.trie_map.proofs.Written.{holds_found, holds_empty, none_copied, some_copied, joined_here, joined_apart, joined_kept, either_more}
 use Rattle.trie_map.proofs.joining.join_others.Goals as goal
 

@@ -1,13 +1,10 @@
 use Rattle.std.proofs.Common.{◌≡◌, ap, sym, ◌∙◌, subst, refl, inl}
 use Rattle.std.specs.Borrow.{Bor}
-use Rattle.std.specs.FinMap as finite
 use Rattle.causal_context.specs.Context.{has}
-use Rattle.dot_store.specs.Store.{HoldsSame}
-use Rattle.dot_store.specs.Stores.{held_by}
 use Rattle.hash_path.specs.Map.{walk}
 use Rattle.trie_map.specs.Keyed.{at_keys}
 use Rattle.trie_map.specs.Joined.{IsJoinedAt}
-use Rattle.trie_map.proofs.Visits.{Visits, visits_none, visits_next, visits_more, visits_all}
+use Rattle.trie_map.proofs.Visits.{visits_none, visits_next, visits_more, visits_all}
 use Rattle.trie_map.proofs.Written.{held_where, holds_found, holds_either, joined_here, joined_apart, either_more}
 use Rattle.trie_map.proofs.joining.join_own.Goals as goal
 

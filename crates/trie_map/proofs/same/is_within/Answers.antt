@@ -1,8 +1,7 @@
-use Rattle.std.proofs.Common.{◌≡◌, Some, refl, sym, ap, ◌∙◌, subst}
-use Rattle.std.specs.FinMap as finite
+use Rattle.std.proofs.Common.{refl, sym, ap, ◌∙◌, subst}
 use Rattle.hash_path.specs.Map.{walk}
 use Rattle.trie_map.specs.Keyed.{NoStoreIsEmpty}
-use Rattle.trie_map.proofs.Visits.{Visits, visits_none, visits_next, visits_more, visits_all}
+use Rattle.trie_map.proofs.Visits.{visits_none, visits_next, visits_more, visits_all}
 use Rattle.trie_map.proofs.Holding.{IsHeldBy, held_by_here, not_held_by, not_held_where_none}
 use Rattle.trie_map.proofs.same.is_within.Goals as goal
 

@@ -1,6 +1,3 @@
-use Rattle.std.specs.FinMap as finite
-use Rattle.dot_store.specs.Store.{HoldsSame}
-use Rattle.dot_store.specs.Stores.{held_by}
 use Rattle.trie_map.proofs.Visits.{Visits}
 use Rattle.trie_map.proofs.Holding.{IsHeldBy}
 use Rattle.trie_map.proofs.same.is_within.Given as goal

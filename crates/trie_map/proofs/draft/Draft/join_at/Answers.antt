@@ -1,10 +1,7 @@
-use Rattle.std.proofs.Common.{◌≡◌, sym, ap, ◌∙◌, subst, refl}
-use Rattle.std.specs.Prelude.{OnOk, OnErr}
+use Rattle.std.proofs.Common.{sym, ap, ◌∙◌, subst, refl}
 use Rattle.std.specs.FinMap as finite
 use Rattle.causal_context.specs.Context.{has}
-use Rattle.dot_store.specs.Store.{HasNothing}
-use Rattle.trie_map.specs.Keyed.{at_keys, NoStoreIsEmpty}
-use Rattle.trie_map.specs.Joined.{JoinsAt}
+use Rattle.trie_map.specs.Keyed.{NoStoreIsEmpty}
 use Rattle.trie_map.proofs.Written.{on_ok, on_err, filled_remove, filled_after_insert, joins_kept, joins_cut, joins_put}
 use Rattle.trie_map.proofs.draft.Draft.join_at.Goals as goal
 

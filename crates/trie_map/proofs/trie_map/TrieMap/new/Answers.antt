@@ -2,7 +2,6 @@ use Rattle.std.proofs.Common.{◌≡◌, Some, None, sym, ◌∙◌, ap}
 use Rattle.std.specs.FinMap as finite
 use Rattle.std.specs.FinMap.{get-empty}
 use Rattle.dots.specs.Bytes.{bytes_cmp}
-use Rattle.trie_map.specs.Keyed.{at_keys}
 use Rattle.trie_map.proofs.trie_map.TrieMap.new.Goals as goal
 
 pub invariant_of-result : goal.invariant_of-result

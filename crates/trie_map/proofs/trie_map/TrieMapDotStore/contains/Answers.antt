@@ -1,7 +1,6 @@
 use Rattle.std.proofs.Common.{◌≡◌, None, refl, ap, ◌∙◌}
 use Rattle.hash_path.specs.Map.{walk}
-use Rattle.trie_map.specs.Keyed.{at_keys}
-use Rattle.trie_map.proofs.Visits.{Visits, Reached, visits_none, visits_next, reached_more, reached_all}
+use Rattle.trie_map.proofs.Visits.{Reached, visits_none, visits_next, reached_more, reached_all}
 use Rattle.trie_map.proofs.Holding.{holds_of, absent_of}
 use Rattle.trie_map.proofs.trie_map.TrieMapDotStore.contains.Goals as goal
 

@@ -1,13 +1,12 @@
-use Rattle.std.proofs.Common.{◌≡◌, refl, sym, ap, ◌∙◌, ⊎_elim}
-use Rattle.std.specs.Prelude.{IsTrue, IsSome, is_some}
+use Rattle.std.proofs.Common.{ap, ◌∙◌, ⊎_elim}
+use Rattle.std.specs.Prelude.{IsTrue}
 use Rattle.dots.specs.Dot.{DotValue}
 use Rattle.causal_context.specs.Context.{has}
 use Rattle.dot_store.specs.Store.{HoldsDot}
 use Rattle.dot_store.proofs.Gathered.{union_keeps, union_only, union_adds}
 use Rattle.hash_path.specs.Map.{walk}
-use Rattle.trie_map.specs.Keyed.{at_keys}
-use Rattle.trie_map.proofs.Visits.{Visits, Reached, visits_none, visits_next, reached_more, reached_all}
-use Rattle.trie_map.proofs.Holding.{held_of, store_of, holds_of}
+use Rattle.trie_map.proofs.Visits.{Reached, visits_none, visits_next, reached_more, reached_all}
+use Rattle.trie_map.proofs.Holding.{store_of, holds_of}
 use Rattle.trie_map.proofs.trie_map.TrieMapDotStore.dots.Goals as goal
 
 pub loop-store-init : goal.loop-store-init

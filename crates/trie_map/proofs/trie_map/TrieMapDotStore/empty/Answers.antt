@@ -1,4 +1,3 @@
-use Rattle.trie_map.specs.Keyed.{at_keys}
 use Rattle.trie_map.proofs.Holding.{nothing_of_empty}
 use Rattle.trie_map.proofs.trie_map.TrieMapDotStore.empty.Goals as goal
 

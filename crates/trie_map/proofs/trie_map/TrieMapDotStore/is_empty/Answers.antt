@@ -1,6 +1,6 @@
-use Rattle.std.proofs.Common.{◌≡◌, refl, sym, ap, ◌∙◌, subst, eq-eqb, eqb-true}
+use Rattle.std.proofs.Common.{◌≡◌, sym, ap, ◌∙◌, subst, eq-eqb, eqb-true}
 use Rattle.std.specs.FinMap as finite
-use Rattle.trie_map.specs.Keyed.{at_keys, NoStoreIsEmpty}
+use Rattle.trie_map.specs.Keyed.{NoStoreIsEmpty}
 use Rattle.trie_map.proofs.Holding.{nothing_of_none, none_of_nothing}
 use Rattle.trie_map.proofs.trie_map.TrieMapDotStore.is_empty.Goals as goal
 

@@ -1,10 +1,9 @@
-use Rattle.std.proofs.Common.{◌≡◌, refl, sym, ap, ◌∙◌}
+use Rattle.std.proofs.Common.{refl, ap, ◌∙◌}
 use Rattle.std.specs.Prelude.{IsTrue, IsSome, is_some}
 use Rattle.dots.specs.Dot.{DotValue}
 use Rattle.causal_context.specs.Context.{has}
 use Rattle.hash_path.specs.Map.{walk}
-use Rattle.trie_map.specs.Keyed.{at_keys}
-use Rattle.trie_map.proofs.Visits.{Visits, Reached, visits_none, visits_next, reached_more, reached_all}
+use Rattle.trie_map.proofs.Visits.{Reached, visits_none, visits_next, reached_more, reached_all}
 use Rattle.trie_map.proofs.Holding.{held_of, store_of}
 use Rattle.trie_map.proofs.trie_map.TrieMapDotStore.is_inside.Goals as goal
 

@@ -1,6 +1,5 @@
-use Rattle.std.proofs.Common.{◌≡◌, ap, sym, ◌∙◌, subst}
+use Rattle.std.proofs.Common.{ap, sym, ◌∙◌, subst}
 use Rattle.causal_context.specs.Context.{has}
-use Rattle.dot_store.specs.Store.{HoldsSame}
 use Rattle.trie_map.specs.Keyed.{at_keys}
 use Rattle.trie_map.specs.Joined.{AreJoined}
 use Rattle.trie_map.proofs.Written.{if_ok, map_joined}

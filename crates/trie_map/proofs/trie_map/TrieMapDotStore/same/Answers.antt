@@ -1,5 +1,4 @@
 use Rattle.std.proofs.Common.{refl, sym}
-use Rattle.trie_map.specs.Keyed.{at_keys}
 use Rattle.trie_map.proofs.Holding.{same_of_within, within_of_same}
 use Rattle.trie_map.proofs.trie_map.TrieMapDotStore.same.Goals as goal
 

@@ -1,0 +1,4 @@
+pub mod Members
+pub mod Passing
+pub mod Places
+pub mod Changing

@@ -1,0 +1,42 @@
+-- Which items a set has, once one was put in or taken out.
+use Rattle.std.proofs.Common.{◌≡◌, List, [], ◌∷◌, Bool, true, false, cond, refl, sym, ap, subst, inl, inr, ⊎_elim}
+use Rattle.std.specs.Prelude.{IsTrue, ◌⊎◌, ◌||◌}
+use Rattle.std.specs.declared.cmp.Ordering.{Ordering}
+use Rattle.std.specs.declared.cmp.Ordering.TheVariants.{Less, Equal, Greater}
+use Rattle.std.specs.Ordering.{is_eq}
+use Rattle.std.specs.List.{list_any, filter}
+use Rattle.trie_map.proofs.Visits.{Among}
+
+pub equal : (o : Ordering) → is_eq o ≡ true → o ≡ Equal
+equal Less e = absurd (cc e)
+equal Equal e = refl
+equal Greater e = absurd (cc e)
+
+pub kept_by : (b was : Bool) → IsTrue was → IsTrue (cond b true was)
+kept_by true was h = refl
+kept_by false was h = h
+
+module _ {K : Type 0} (cmp : K → K → Ordering) where
+  abbrev pub member : List K → K → Bool
+  member keys q = list_any (λ k. is_eq (cmp q k)) keys
+
+  among_step : (q k : K) (keys : List K) (b : Bool) → is_eq (cmp q k) ≡ b → (IsTrue (member keys q) → (x : K) × Among keys x × (cmp q x ≡ Equal)) → IsTrue (b || member keys q) → (x : K) × Among (k ∷ keys) x × (cmp q x ≡ Equal)
+  among_step q k keys true e rest h = (k, inl refl, equal (cmp q k) e)
+  among_step q k keys false e rest h = let there = rest h in (there.0, inr there.1, there.2)
+
+  -- what is a member is one of the list
+  pub among_member : (keys : List K) (q : K) → IsTrue (member keys q) → (x : K) × Among keys x × (cmp q x ≡ Equal)
+  among_member [] q h = absurd (cc h)
+  among_member (k ∷ keys) q h = among_step q k keys (is_eq (cmp q k)) refl (among_member keys q) h
+
+  pub among_exact : ((x y : K) → cmp x y ≡ Equal → x ≡ y) → (keys : List K) (q : K) → IsTrue (member keys q) → Among keys q
+  among_exact exact keys q h = let there = among_member keys q h in subst (Among keys) (sym (exact q there.0 there.2)) there.1
+
+-- ---- items that pass a test
+filtered : {K : Type 0} (p : K → Bool) (x : K) (xs : List K) (b : Bool) (y : K) → p y ≡ b → p x ≡ true → (y ≡ x) ⊎ Among (filter p xs) x → Among (cond b (y ∷ filter p xs) (filter p xs)) x
+filtered p x xs true y e h there = there
+filtered p x xs false y e h there = ⊎_elim (λ is. let same = ap p is in absurd (cc (e, h, same))) (λ rest. rest) there
+
+pub among_filter : {K : Type 0} (p : K → Bool) (xs : List K) (x : K) → Among xs x → p x ≡ true → Among (filter p xs) x
+among_filter p [] x h e = absurd h
+among_filter p (y ∷ ys) x h e = filtered p x ys (p y) y refl e (⊎_elim (λ is. inl is) (λ rest. inr (among_filter p ys x rest e)) h)

@@ -1,0 +1,121 @@
+ghost use Rattle.std.specs.Prelude.{◌≡◌, ◌≤◌, cond, true, false, [], ℕ, List, IsTrue, OnOk, OnErr, IsOkUnless};
+ghost use Rattle.std.specs.List.{All};
+ghost use Rattle.std.specs.Ordering.{is_eq};
+ghost use Rattle.causal_context.specs.Context.{has};
+ghost use Rattle.dots.specs.Dot.{DotValue};
+ghost use Rattle.live_map.specs.Index.{place_cmp, names, has_key, IsInSpan};
+
+use crate::dot_span::{dot_at, range_of};
+use crate::touched::Touched;
+use causal_context::Context;
+use dots::{Dot, Key, Name, Refusal};
+use std::alloc::{Allocator, Global};
+use std::collections::BTreeSet;
+use std::marker::Model;
+
+// The keys at which dots stand, by dot.
+#[derive(Drop)]
+pub(crate) struct Index<A: Allocator + Copy = Global> {
+    places: BTreeSet<(Dot, Key<A>), A>,
+}
+
+impl<A: Allocator + Copy> Model for Index<A> {
+    ghost use Rattle.std.specs.Prelude.{List};
+    ghost use Rattle.live_map.specs.Index.{PlaceValue};
+
+    ghost Value = { List PlaceValue };
+
+    ghost view = { λ index. index.places.keys };
+}
+
+impl<A: Allocator + Copy> Index<A> {
+    // The index of no dot. Takes no memory.
+    pub(crate) fn new(alloc: A) -> Index<A>
+        ensures { result ≡ [] }
+    {
+        Index {
+            places: BTreeSet::new(alloc),
+        }
+    }
+
+    // Names the key for the dot.
+    fn add(&mut self, dot: Dot, key: Key<A>) -> Result<(), Refusal>
+        ensures there { OnOk result (IsTrue (names self.new dot key)) }
+        ensures kept { (d : DotValue) (q : List ℕ) → IsTrue (names self.old d q) → IsTrue (names self.new d q) }
+        ensures err { IsOkUnless result Refusal.OutOfMemory }
+    {
+        self.places.insert((dot, key))?;
+        Ok(())
+    }
+
+    // Names the key no more for the dot.
+    pub(crate) fn remove(&mut self, place: &(Dot, Key<A>))
+        ensures { (d : DotValue) (q : List ℕ) → names self.new d q
+            ≡ cond (is_eq (place_cmp (place.now.0, place.now.1) (d, q))) false (names self.old d q) }
+    {
+        self.places.remove(place);
+    }
+
+    // Names the key for the dots of this name up to this number. A refused call may have named some.
+    fn add_run(&mut self, alloc: A, key: &Key<A>, name: Name, last: u64) -> Result<(), Refusal>
+        ensures there { OnOk result ((d : DotValue) → d.name ≡ name → 1 ≤ d.number → d.number ≤ last → IsTrue (names self.new d key.now)) }
+        ensures kept { (d : DotValue) (q : List ℕ) → IsTrue (names self.old d q) → IsTrue (names self.new d q) }
+        ensures err { IsOkUnless result Refusal.OutOfMemory }
+    {
+        for number in 0..last {
+            self.add(dot_at(name, number + 1), key.copy(alloc)?)?;
+        }
+        Ok(())
+    }
+
+    // Names the key for these dots. A refused call may have named some.
+    pub(crate) fn add_dots(&mut self, alloc: A, key: &Key<A>, dots: &Context<A>) -> Result<(), Refusal>
+        ensures there { OnOk result ((d : DotValue) → IsTrue (has dots.now d) → IsTrue (names self.new d key.now)) }
+        ensures kept { (d : DotValue) (q : List ℕ) → IsTrue (names self.old d q) → IsTrue (names self.new d q) }
+        ensures err { IsOkUnless result Refusal.OutOfMemory }
+    {
+        self.add_vector(alloc, key, dots.vector())?;
+        self.add_cloud(alloc, key, dots.cloud())
+    }
+
+    // Names the key for the dots of a vector.
+    fn add_vector(&mut self, alloc: A, key: &Key<A>, vector: &[(Name, u64)]) -> Result<(), Refusal>
+        ensures there { OnOk result (All (λ entry. (d : DotValue) → d.name ≡ entry.0 → 1 ≤ d.number → d.number ≤ entry.1
+            → IsTrue (names self.new d key.now)) vector.now) }
+        ensures kept { (d : DotValue) (q : List ℕ) → IsTrue (names self.old d q) → IsTrue (names self.new d q) }
+        ensures err { IsOkUnless result Refusal.OutOfMemory }
+    {
+        for (name, last) in vector {
+            self.add_run(alloc, key, *name, *last)?;
+        }
+        Ok(())
+    }
+
+    // Names the key for the dots of a cloud.
+    fn add_cloud(&mut self, alloc: A, key: &Key<A>, cloud: &[Dot]) -> Result<(), Refusal>
+        ensures there { OnOk result (All (λ d. IsTrue (names self.new d key.now)) cloud.now) }
+        ensures kept { (d : DotValue) (q : List ℕ) → IsTrue (names self.old d q) → IsTrue (names self.new d q) }
+        ensures err { IsOkUnless result Refusal.OutOfMemory }
+    {
+        for dot in cloud {
+            self.add(*dot, key.copy(alloc)?)?;
+        }
+        Ok(())
+    }
+
+    // Adds the keys that are named for dots of the name of the first, from its number up to the last. Takes time in these,
+    // and two look-ups.
+    pub(crate) fn find(&self, alloc: A, first: Dot, last: u64, touched: &mut Touched<A>) -> Result<(), Refusal>
+        ensures there { OnOk result ((d : DotValue) (q : List ℕ) → IsInSpan first last d → IsTrue (names self.now d q) → IsTrue (has_key touched.new q)) }
+        ensures kept { (q : List ℕ) → IsTrue (has_key touched.old q) → IsTrue (has_key touched.new q) }
+        ensures err { IsOkUnless result Refusal.OutOfMemory }
+    {
+        if last < first.number() {
+            return Ok(());
+        }
+        for (dot, key) in self.places.range(range_of(first, last)) {
+            touched.add_place(alloc, *dot, key)?;
+        }
+        Ok(())
+    }
+}

@@ -1,0 +1,153 @@
+ghost use Rattle.std.specs.Prelude.{◌≡◌, IfOk, OnOk, OnErr, IsOkUnless};
+ghost use Rattle.causal_context.specs.Context.{has, HasNone};
+ghost use Rattle.causal_join.specs.Causal.{state_of};
+ghost use Rattle.dot_store.specs.Store.{HasNothing, HoldsSame, state_with};
+ghost use Rattle.dot_store.specs.Stores.{at_stores};
+ghost use Rattle.dots.specs.Bytes.{bytes_cmp};
+ghost use Rattle.op_model.specs.State.{join, Same, IsInside};
+ghost use Rattle.live_map.specs.Index.{AreAllTouched, IsIndexed};
+ghost use Rattle.trie_map.specs.Keyed.{at_keys};
+
+use crate::index::Index;
+use crate::prepared::Prepared;
+use crate::touching::{cut_all, join_at_keys, name_all, touched_by};
+use causal_context::Context;
+use causal_join::Causal;
+use dot_store::{DotMap, DotStore};
+use dots::{Key, Refusal};
+use gen_trie::{NoSummary, Summary};
+use hash_path::{Fnv1a, PathHash};
+use std::alloc::{Allocator, Global};
+use std::collections::BTreeSet;
+use std::marker::Model;
+use trie_map::TrieMap;
+
+/// The pair of a replica: the store of its keys, and the context of the dots that it knows.
+///
+/// A delta is joined in at the keys that it touches: those at which it holds something, and those at which dots stand that
+/// its context knows. These are found in an index of where dots stand, which is kept beside the pair.
+#[derive(Drop)]
+pub struct Live<S: DotStore<A>, M: Summary<S> = NoSummary, H: PathHash = Fnv1a, A: Allocator + Copy = Global> {
+    store: TrieMap<S, M, H, A>,
+    context: Context<A>,
+    index: Index<A>,
+}
+
+impl<S: DotStore<A>, M: Summary<S>, H: PathHash, A: Allocator + Copy> Model for Live<S, M, H, A> {
+    ghost use Rattle.causal_join.specs.Causal.{state_of};
+    ghost use Rattle.op_model.specs.State.{IsInside};
+    ghost use Rattle.trie_map.specs.Keyed.{at_keys};
+    ghost use Rattle.live_map.specs.Index.{IsIndexed};
+    ghost use Rattle.live_map.specs.Live.{LiveValue, live_code};
+
+    ghost Value = { LiveValue H S };
+
+    ghost coded = { live_code H.code S.code };
+
+    ghost view = { λ live. ((live.store, live.context), live.index) };
+
+    ghost invariant = { λ live. IsInside (state_of (at_keys S.at) (live.store, live.context)) × IsIndexed (at_keys S.at live.store) live.index };
+}
+
+impl<S: DotStore<A>, M: Summary<S>, H: PathHash, A: Allocator + Copy> Live<S, M, H, A> {
+    /// The pair that holds nothing and knows no dot, whose keys' paths are by this hash. Takes no memory.
+    pub fn new(alloc: A, hash: H) -> Live<S, M, H, A>
+        ensures hash { result.0.0.0 ≡ hash }
+        ensures store { HasNothing (at_keys S.at result.0.0) }
+        ensures context { HasNone result.0.1 }
+    {
+        Live {
+            store: TrieMap::new(alloc, hash),
+            context: Context::new(alloc),
+            index: Index::new(alloc),
+        }
+    }
+
+    /// The store of the pair. A copy of it takes a reference count.
+    pub fn store(&self) -> &TrieMap<S, M, H, A>
+        ensures value { result.now ≡ self.now.0.0 }
+        ensures inside { IsInside (state_of (at_keys S.at) self.now.0) }
+    {
+        &self.store
+    }
+
+    /// The context of the pair.
+    pub fn context(&self) -> &Context<A>
+        ensures value { result.now ≡ self.now.0.1 }
+        ensures inside { IsInside (state_of (at_keys S.at) self.now.0) }
+    {
+        &self.context
+    }
+
+    /// What the pair will be once the delta is joined in. The pair stays as it is, also where the call is refused: only the
+    /// index may name more. Takes time and memory in the keys and dots of the delta and in the dots that stand here and are
+    /// known there, each times the logarithm of the map, and in the names of both contexts.
+    /// Its only refusal is OutOfMemory.
+    pub fn prepare(
+        &mut self,
+        alloc: A,
+        delta: &Causal<DotMap<Key<A>, S, A>, A>,
+    ) -> Result<Prepared<S, M, H, A>, Refusal>
+        ensures hash { IfOk result (λ next. next.0.0 ≡ self.old.0.0.0) }
+        ensures ok { IfOk result (λ next. Same (state_of (at_keys S.at) next)
+            (join S.greater (state_of (at_keys S.at) self.old.0) (state_of (at_stores S.at bytes_cmp) delta.now))) }
+        ensures fits { IfOk result (λ next. IsIndexed (at_keys S.at next.0) self.new.1) }
+        ensures unchanged { self.new.0 ≡ self.old.0 }
+        ensures err { IsOkUnless result Refusal.OutOfMemory }
+    {
+        let touched = touched_by(alloc, &self.index, delta)?;
+        let store = joined(alloc, &self.store, &self.context, delta, touched.keys())?;
+        let mut context = self.context.copy(alloc)?;
+        context.union(delta.context())?;
+        name_all(alloc, &mut self.index, delta.store().entries())?;
+        Ok(Prepared {
+            store,
+            context,
+            places: touched.into_places(),
+        })
+    }
+
+    /// Puts the prepared pair in the place of this one. It has to be prepared of this one as it is; it is not refused, and
+    /// takes no memory.
+    pub fn commit(&mut self, next: Prepared<S, M, H, A>)
+        requires { IsIndexed (at_keys S.at next.0) self.old.1 }
+        ensures { self.new.0 ≡ next }
+    {
+        cut_all(&mut self.index, &next.store, &next.places);
+        self.store = next.store;
+        self.context = next.context;
+    }
+
+    /// Joins the delta into the pair. A refused call leaves the pair as it was. Takes what `prepare` does.
+    /// Its only refusal is OutOfMemory.
+    pub fn join_delta(&mut self, alloc: A, delta: &Causal<DotMap<Key<A>, S, A>, A>) -> Result<(), Refusal>
+        ensures hash { self.new.0.0.0 ≡ self.old.0.0.0 }
+        ensures ok { OnOk result (Same (state_of (at_keys S.at) self.new.0)
+            (join S.greater (state_of (at_keys S.at) self.old.0) (state_of (at_stores S.at bytes_cmp) delta.now))) }
+        ensures unchanged { OnErr result (self.new.0 ≡ self.old.0) }
+        ensures err { IsOkUnless result Refusal.OutOfMemory }
+    {
+        let next = self.prepare(alloc, delta)?;
+        self.commit(next);
+        Ok(())
+    }
+}
+
+// The store with what the delta holds joined in at these keys.
+fn joined<S: DotStore<A>, M: Summary<S>, H: PathHash, A: Allocator + Copy>(
+    alloc: A,
+    mine: &TrieMap<S, M, H, A>,
+    own: &Context<A>,
+    delta: &Causal<DotMap<Key<A>, S, A>, A>,
+    keys: &BTreeSet<Key<A>, A>,
+) -> Result<TrieMap<S, M, H, A>, Refusal>
+    requires { AreAllTouched (at_keys S.at mine.now) (at_stores S.at bytes_cmp delta.now.0) (has delta.now.1) keys.now.keys }
+    ensures hash { IfOk result (λ both. both.0 ≡ mine.now.0) }
+    ensures ok { IfOk result (λ both. HoldsSame (at_keys S.at both) (join S.greater (state_with (at_keys S.at mine.now) (has own.now))
+        (state_of (at_stores S.at bytes_cmp) delta.now)).at) }
+    ensures err { IsOkUnless result Refusal.OutOfMemory }
+{
+    let mut draft = mine.draft()?;
+    join_at_keys(alloc, &mut draft, mine, own, delta, keys)?;
+    draft.finish()
+}
