@@ -15,6 +15,19 @@ fn a_dot_that_closes_a_gap_folds_the_cloud_into_the_vector(rt: HostRuntime) -> R
     context.add(dot(&rt, 1, 2))?;
     assert!(rt; has_form(alloc, &context, &[(1, 3)], &[])?);
     assert_eq!(rt; context.next(name(&rt, 1)), Some(dot(&rt, 1, 4)));
+    assert!(rt; context.entry(name(&rt, 1)) == 3 && context.entry(name(&rt, 2)) == 0);
+    Ok(())
+}
+
+#[test]
+fn a_run_is_taken_out_from_among_other_dots(rt: HostRuntime) -> Result<(), Fail> {
+    let alloc = rt.alloc();
+    let dots = [(3, 9), (1, 3), (2, 4), (2, 6), (2, 1), (2, 3)];
+    let mut context = numbered(&rt, alloc, &dots)?;
+    let cloud = [(1, 3), (2, 3), (2, 4), (2, 6), (3, 9)];
+    assert!(rt; has_form(alloc, &context, &[(2, 1)], &cloud)?);
+    context.add(dot(&rt, 2, 2))?;
+    assert!(rt; has_form(alloc, &context, &[(2, 4)], &[(1, 3), (2, 6), (3, 9)])?);
     Ok(())
 }
 
