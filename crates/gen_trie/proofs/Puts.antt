@@ -34,8 +34,8 @@ pub same_more : {X Y : Type 0} (f : X → Y) (xs : List X) (k : ℕ) (x y : X) (
 same_more f xs k x y ds es h is e so q =
     ap (map f) q ∙ map-append f ds (y ∷ []) ∙ (λ i. so i ++ (e ∙ ap f is) i ∷ []) ∙ sym (map-append f (take k xs) (get_or xs k x ∷ [])) ∙ sym (ap (map f) (take_more xs k x h))
 
-module _ {V A : Type 0} (below : ℕ) where
-  pub same_branch : (m : ℕ) (ss ts : List (Slot V A)) → IsBranch below m ss → children below ts ≡ children below ss → (All (StandsBelow below) ss → All (StandsBelow below) ts) → IsBranch below m ts
+module _ {V M A : Type 0} (below : ℕ) where
+  pub same_branch : (m : ℕ) (ss ts : List (Slot V M A)) → IsBranch below m ss → children below ts ≡ children below ss → (All (StandsBelow below) ss → All (StandsBelow below) ts) → IsBranch below m ts
   same_branch m ss ts b e f = record {
     height = b.height;
     bitmap_is = subst (λ cs. m ≡ bits_of cs) (sym e) b.bitmap_is;
@@ -46,7 +46,7 @@ module _ {V A : Type 0} (below : ℕ) where
 
   -- ---- the children with an entry put in
 
-  pub put_is : (m m' : ℕ) (e : Entry V A) (ss ts : List (Slot V A)) → IsBranch below m ss
+  pub put_is : (m m' : ℕ) (e : Entry V A) (ss ts : List (Slot V M A)) → IsBranch below m ss
       → children below ts ≡ put_child (digit below e.hash) (with_entry below e (at (digit below e.hash) (children below ss))) (children below ss)
       → m' ≡ bits_of (put_child (digit below e.hash) (with_entry below e (at (digit below e.hash) (children below ss))) (children below ss))
       → All (StandsBelow below) ts → digit below e.hash < 32
@@ -64,12 +64,12 @@ module _ {V A : Type 0} (below : ℕ) where
         },
       )
 
-  map_insert : (ss : List (Slot V A)) (n : ℕ) (s : Slot V A) → children below (insert ss n s) ≡ insert (children below ss) n (child below s)
+  map_insert : (ss : List (Slot V M A)) (n : ℕ) (s : Slot V M A) → children below (insert ss n s) ≡ insert (children below ss) n (child below s)
   map_insert ss n s =
       map-append (child below) (take n ss) (s ∷ drop n ss) ∙ (λ i. sym (take-map (child below) n ss) i ++ child below s ∷ sym (drop-map (child below) n ss) i)
 
   -- at an index that has no child
-  pub put_new_is : (m count j n : ℕ) (t : Bool) (e : Arc (Entry V A) A) (ss ts : List (Slot V A)) → IsBranch below m ss
+  pub put_new_is : (m count j n : ℕ) (t : Bool) (e : Arc (Entry V A) A) (ss ts : List (Slot V M A)) → IsBranch below m ss
       → IsSeat (digit below e.value.hash) (children below ss) count j n t → t ≡ false → ts ≡ insert ss n (One j e)
       → (fan (children below ts) ≡ with_entry (suc below) e.value (fan (children below ss))) × IsBranch below (m + 1 * 2 ^ j % 4294967296) ts
   put_new_is m count j n t e ss ts b seat free is =
@@ -88,7 +88,7 @@ module _ {V A : Type 0} (below : ℕ) where
       All-append (StandsBelow below) (take n ss) (One j e ∷ drop n ss) (All-take (StandsBelow below) n ss b.fits) (All-cons (StandsBelow below) (One j e) (drop n ss) tt (All-drop (StandsBelow below) n ss b.fits)) in
       put_is m _ e.value ss ts b child_is bits (subst (All (StandsBelow below)) (sym is) fits) seat.bound
 
-  pub bitmap_room : (m count i j n : ℕ) (t : Bool) (ss : List (Slot V A)) → IsBranch below m ss → IsSeat i (children below ss) count j n t → t ≡ false → m + 1 * 2 ^ j % 4294967296 < 2 ^ 32
+  pub bitmap_room : (m count i j n : ℕ) (t : Bool) (ss : List (Slot V M A)) → IsBranch below m ss → IsSeat i (children below ss) count j n t → t ≡ false → m + 1 * 2 ^ j % 4294967296 < 2 ^ 32
   bitmap_room m count i j n t ss b seat free =
       let cs = children below ss in
       let none : there i cs ≡ false = sym seat.taken_is ∙ free in
@@ -99,7 +99,7 @@ module _ {V A : Type 0} (below : ℕ) where
       omega arith
 
   -- at an index that has one
-  pub put_old_is : (m count j n : ℕ) (t : Bool) (e : Entry V A) (s s' : Slot V A) (ss ts : List (Slot V A)) → IsBranch below m ss
+  pub put_old_is : (m count j n : ℕ) (t : Bool) (e : Entry V A) (s s' : Slot V M A) (ss ts : List (Slot V M A)) → IsBranch below m ss
       → IsSeat (digit below e.hash) (children below ss) count j n t → t ≡ true → s ≡ get_or ss n s → ts ≡ set ss n s'
       → child below s' ≡ ((child below s).0, with_entry below e (child below s).1) → StandsBelow below s'
       → (fan (children below ts) ≡ with_entry (suc below) e (fan (children below ss))) × IsBranch below m ts
@@ -119,7 +119,7 @@ module _ {V A : Type 0} (below : ℕ) where
       put_is m m e ss ts b child_is bits (subst (All (StandsBelow below)) (sym is) (All-set (StandsBelow below) ss n s' fits b.fits)) seat.bound
 
   -- a refused put changed no child
-  pub put_none_is : (m n : ℕ) (s s' : Slot V A) (ss ts : List (Slot V A)) → IsBranch below m ss → n < length ss → s ≡ get_or ss n s → ts ≡ set ss n s' → child below s' ≡ child below s → StandsBelow below s'
+  pub put_none_is : (m n : ℕ) (s s' : Slot V M A) (ss ts : List (Slot V M A)) → IsBranch below m ss → n < length ss → s ≡ get_or ss n s → ts ≡ set ss n s' → child below s' ≡ child below s → StandsBelow below s'
       → (fan (children below ts) ≡ fan (children below ss)) × IsBranch below m ts
   put_none_is m n s s' ss ts b l at_s is new fits =
       let e : children below ts ≡ children below ss = ap (children below) is ∙ map-set_same (child below) ss n s' s (new ∙ ap (child below) at_s) in
@@ -127,7 +127,7 @@ module _ {V A : Type 0} (below : ℕ) where
 
 -- ---- a node of one key
 
-pub single_is : {V A : Type 0} (below height index : ℕ) (e : Arc (Entry V A) A) (new ss : List (Slot V A)) → height ≡ suc below → below ≤ 6 → index ≡ digit below e.value.hash → index < 32
+pub single_is : {V M A : Type 0} (below height index : ℕ) (e : Arc (Entry V A) A) (new ss : List (Slot V M A)) → height ≡ suc below → below ≤ 6 → index ≡ digit below e.value.hash → index < 32
     → new ≡ [] → ss ≡ new ++ One index e ∷ []
     → IsBranch below (1 * 2 ^ index % 4294967296) ss × (◌≡◌ {A = ℕ × List (List ℕ × V)} (suc below, fan (children below ss)) (height, entry_at height e.value ∷ []))
 single_is {V} below height index e new ss h low is less empty items =
@@ -197,9 +197,9 @@ module _ {V A : Type 0} where
 
   -- ---- a slot
 
-  pub replaced : (below i : ℕ) (e : Arc (Entry V A) A) (leaf : Arc (Entry V A) A) (s : Slot V A) → s ≡ One i e
+  pub replaced : {M : Type 0} (below i : ℕ) (e : Arc (Entry V A) A) (leaf : Arc (Entry V A) A) (s : Slot V M A) → s ≡ One i e
       → true ≡ eq_by_cmp bytes_cmp (leaf.value.hash ∷ leaf.value.key) (e.value.hash ∷ e.value.key)
-      → child below (One i leaf) ≡ ((child below s).0, with_entry below leaf.value (child below s).1)
+      → child {M = M} below (One i leaf) ≡ ((child below s).0, with_entry below leaf.value (child below s).1)
   replaced below i e leaf s is t =
       let same = tied_same (leaf.value.hash ∷ leaf.value.key) (e.value.hash ∷ e.value.key) (sym t) in
       let words : word below leaf.value.hash leaf.value.key ≡ word below e.value.hash e.value.key = ap (λ x. word below (get_or x 0 0) (drop 1 x)) same in

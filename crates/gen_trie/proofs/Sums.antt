@@ -24,9 +24,9 @@ use Rattle.gen_trie.specs.declared.node.Slot.{Slot}
 use Rattle.gen_trie.specs.declared.node.Slot.TheVariants.{One}
 use Rattle.gen_trie.specs.Shapes.{children, child, listed}
 
-module _ {V A M : Type 0} (below : ℕ) (s : List (List ℕ × V) → Option M) where
+module _ {V M A : Type 0} (below : ℕ) (s : List (List ℕ × V) → Option M) where
   -- the summary of the last child goes in front of those behind it
-  pub one_before : (slots others : List (Slot V A)) (last : Slot V A) (x : ℕ × M) (behind list : List (ℕ × M)) → slots ≡ others ++ last ∷ []
+  pub one_before : (slots others : List (Slot V M A)) (last : Slot V M A) (x : ℕ × M) (behind list : List (ℕ × M)) → slots ≡ others ++ last ∷ []
       → x.0 ≡ (child below last).0 → s (child below last).1 ≡ Some x.1 → list ≡ x ∷ behind
       → sums s (children below others) ++ list ≡ sums s (children below slots) ++ behind
   one_before slots others last x behind list is index sum ls =
@@ -41,14 +41,14 @@ module _ {V A M : Type 0} (below : ℕ) (s : List (List ℕ × V) → Option M) 
 pub front_fits : {X : Type 0} (P : X → Type 0) (all front : List X) (last : X) → all ≡ front ++ last ∷ [] → All P all → All P front
 front_fits P all front last is fits = subst (All P) (take-append_seam front (last ∷ [])) (All-take P (length front) (front ++ last ∷ []) (subst (All P) is fits))
 
-pub few_slots : {V A : Type 0} (below : ℕ) (slots : List (Slot V A)) → Rise 0 (children below slots) → length slots ≤ 32
+pub few_slots : {V M A : Type 0} (below : ℕ) (slots : List (Slot V M A)) → Rise 0 (children below slots) → length slots ≤ 32
 few_slots below slots rise =
     let few = rise_short 0 (children below slots) (omega arith) rise in
     let same = length-map slots (child below) in
     omega (arith, few, same)
 
-module _ {V A M : Type 0} (c : Calls V M) where
-  pub of_children : (node : ℕ × List (List ℕ × V)) (below : ℕ) (slots found : List (Slot V A)) (behind : List (ℕ × M)) (m : M) → node ≡ (suc below, fan (children below slots)) → Rise 0 (children below slots) → 2 ≤ length node.1
+module _ {V M A : Type 0} (c : Calls V M) where
+  pub of_children : (node : ℕ × List (List ℕ × V)) (below : ℕ) (slots found : List (Slot V M A)) (behind : List (ℕ × M)) (m : M) → node ≡ (suc below, fan (children below slots)) → Rise 0 (children below slots) → 2 ≤ length node.1
       → found ≡ slots → behind ≡ [] → m ≡ c.branch (sums (summary_of c below) (children below found) ++ behind) → summary_of c node.0 node.1 ≡ Some m
   of_children node below slots found behind m e rise several fs none ms =
       ap (λ n. summary_of c n.0 n.1) e
@@ -56,13 +56,13 @@ module _ {V A M : Type 0} (c : Calls V M) where
       ∙ ap (λ l. Some (c.branch l)) (sym (append-nil (sums (summary_of c below) (children below slots))) ∙ (λ t. sums (summary_of c below) (children below (sym fs t)) ++ sym none t))
       ∙ ap Some (sym ms)
 
-  pub children_rise : (below : ℕ) (slots found : List (Slot V A)) (behind : List (ℕ × M)) → Rise 0 (children below slots) → found ≡ slots → behind ≡ []
+  pub children_rise : (below : ℕ) (slots found : List (Slot V M A)) (behind : List (ℕ × M)) → Rise 0 (children below slots) → found ≡ slots → behind ≡ []
       → Rise 0 (sums (summary_of c below) (children below found) ++ behind)
   children_rise below slots found behind rise fs none =
       subst (Rise 0) (sym ((λ t. sums (summary_of c below) (children below (fs t)) ++ none t) ∙ append-nil (sums (summary_of c below) (children below slots))))
       (Rise-sums (summary_of c below) 0 (children below slots) rise)
 
-  pub one_key : (below : ℕ) (slot : Slot V A) (i : ℕ) (e : Arc (Entry V A) A) (k : List ℕ) (v : V) (m : M) → slot ≡ One i e → k ≡ e.value.key → v ≡ e.value.value.value → m ≡ c.leaf k v
+  pub one_key : (below : ℕ) (slot : Slot V M A) (i : ℕ) (e : Arc (Entry V A) A) (k : List ℕ) (v : V) (m : M) → slot ≡ One i e → k ≡ e.value.key → v ≡ e.value.value.value → m ≡ c.leaf k v
       → summary_of c below (child below slot).1 ≡ Some m
   one_key below slot i e k v m is ks vs ms =
       ap (λ s. summary_of c below (child below s).1) is
@@ -101,7 +101,7 @@ module _ {V M : Type 0} (c : Calls V M) where
 
 -- ---- at the root of a trie
 
-module _ {V A M : Type 0} (c : Calls V M) (f : List ℕ → ℕ) (root : Option (Slot V A)) (count : ℕ) (trie : IsTrie f root count) where
+module _ {V M A : Type 0} (c : Calls V M) (f : List ℕ → ℕ) (root : Option (Slot V M A)) (count : ℕ) (trie : IsTrie f root count) where
   pub at_root : (prefix : List ℕ) → summary_at c prefix 7 (root_entries root) ≡ summary_at c prefix 7 (by_path f (as_map (root_entries root)))
   at_root prefix = ap (summary_at c prefix 7) (sym (by_path_is f (root_entries root) trie.hashed (let r = trie.root_is in r.sorted)))
 
@@ -112,6 +112,6 @@ module _ {V A M : Type 0} (c : Calls V M) (f : List ℕ → ℕ) (root : Option 
       let exactly = none_exactly c f prefix (root_entries root) short trie.hashed in
       (λ e. exactly.0 (sym so ∙ e), λ all. so ∙ exactly.1 all)
 
-module _ {V A M : Type 0} (f : List ℕ → ℕ) (root : Option (Slot V A)) where
+module _ {V M A : Type 0} (f : List ℕ → ℕ) (root : Option (Slot V M A)) where
   pub none_nowhere : (prefix : List ℕ) → root ≡ None → (◌≡◌ {A = Option M} None None) ↔ ((key : List ℕ) → indices (length prefix) (f key) ≡ prefix → finite.get (as_map (root_entries root)) key ≡ None)
   none_nowhere prefix e = (λ same key covers. ap (λ r. finite.get (as_map (root_entries r)) key) e ∙ get-as_map f key [] tt, λ all. refl)

@@ -16,41 +16,42 @@ module _ {V A : Type 0} where
   abbrev pub item : Entry V A → List ℕ × V
   item e = (e.key, e.value.value)
 
+module _ {V M A : Type 0} where
   -- the entries of children of a branch that has so many levels of branches below
-  abbrev pub slots_left : ℕ → List (Slot V A) → List (List ℕ × V)
+  abbrev pub slots_left : ℕ → List (Slot V M A) → List (List ℕ × V)
   slots_left below [] = []
   slots_left below (slot ∷ slots) = by_key below (child below slot).1 ++ slots_left below slots
 
   -- the entries of what is left of such branches, from this number of levels on
-  abbrev pub levels_left : ℕ → List (Bor (List (Slot V A))) → List (List ℕ × V)
+  abbrev pub levels_left : ℕ → List (Bor (List (Slot V M A))) → List (List ℕ × V)
   levels_left below [] = []
   levels_left below (slots ∷ levels) = slots_left below slots.now ++ levels_left (suc below) levels
 
-  abbrev pub root_left : Option (Bor (Slot V A)) → List (List ℕ × V)
+  abbrev pub root_left : Option (Bor (Slot V M A)) → List (List ℕ × V)
   root_left None = []
   root_left (Some slot) = by_key 7 (child 7 slot.now).1
 
-  abbrev pub left : Rest V A → List (List ℕ × V)
+  abbrev pub left : Rest V M A → List (List ℕ × V)
   left rest = by_key 0 (listed rest.list.now) ++ (levels_left 0 rest.levels ++ root_left rest.root)
 
   -- each child fits where it stands
-  abbrev pub LevelsStand : ℕ → List (Bor (List (Slot V A))) → Type 0
+  abbrev pub LevelsStand : ℕ → List (Bor (List (Slot V M A))) → Type 0
   LevelsStand below [] = Unit {0}
   LevelsStand below (slots ∷ levels) = All (StandsBelow below) slots.now × LevelsStand (suc below) levels
 
-  abbrev pub RootFits : Option (Bor (Slot V A)) → Type 0
+  abbrev pub RootFits : Option (Bor (Slot V M A)) → Type 0
   RootFits None = Unit {0}
   RootFits (Some slot) = StandsBelow 7 slot.now
 
-  abbrev pub RestStands : Rest V A → Type 0
+  abbrev pub RestStands : Rest V M A → Type 0
   RestStands rest = LevelsStand 0 rest.levels × RootFits rest.root
 
   -- nothing is left of the branches with fewer levels below
-  abbrev pub NoneBelow : ℕ → List (Bor (List (Slot V A))) → Type 0
+  abbrev pub NoneBelow : ℕ → List (Bor (List (Slot V M A))) → Type 0
   NoneBelow zero levels = Unit {0}
   NoneBelow (suc below) [] = Unit {0}
   NoneBelow (suc below) (slots ∷ levels) = (slots.now ≡ []) × NoneBelow below levels
 
   -- and nothing of the list
-  abbrev pub IsPast : ℕ → Rest V A → Type 0
+  abbrev pub IsPast : ℕ → Rest V M A → Type 0
   IsPast below rest = (rest.list.now ≡ []) × NoneBelow below rest.levels

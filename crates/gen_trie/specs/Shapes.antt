@@ -33,34 +33,35 @@ module _ {V A : Type 0} where
   abbrev pub with_entry : ℕ → Entry V A → List (List ℕ × V) → List (List ℕ × V)
   with_entry height e = put bytes_cmp (word height e.hash e.key) e.value.value
 
-  -- a child of a branch that has so many levels of branches below
-  abbrev pub child : ℕ → Slot V A → ℕ × List (List ℕ × V)
-  child below (One index e) = (index, entry_at below e.value ∷ [])
-  child below (Many index n) = (index, n.value.1)
-
-  abbrev pub children : ℕ → List (Slot V A) → List (ℕ × List (List ℕ × V))
-  children below = map (child below)
-
   -- a list of keys with equal hashes
   abbrev pub listed : List (Arc (Entry V A) A) → List (List ℕ × V)
   listed = map (λ e. entry_at 0 e.value)
 
-  abbrev pub height_and_entries : Shape V A → ℕ × List (List ℕ × V)
+module _ {V M A : Type 0} where
+  -- a child of a branch that has so many levels of branches below
+  abbrev pub child : ℕ → Slot V M A → ℕ × List (List ℕ × V)
+  child below (One index e) = (index, entry_at below e.value ∷ [])
+  child below (Many index n) = (index, n.value.1)
+
+  abbrev pub children : ℕ → List (Slot V M A) → List (ℕ × List (List ℕ × V))
+  children below = map (child below)
+
+  abbrev pub height_and_entries : Shape V M A → ℕ × List (List ℕ × V)
   height_and_entries (Branch below bitmap slots) = (suc below, fan (children below slots.items))
   height_and_entries (Keys es) = (0, listed es.items)
 
   -- a node below a branch is one level lower, and has two keys or more
-  abbrev pub StandsBelow : ℕ → Slot V A → Type 0
+  abbrev pub StandsBelow : ℕ → Slot V M A → Type 0
   StandsBelow below (One index e) = Unit {0}
   StandsBelow below (Many index n) = (n.value.0 ≡ below) × (2 ≤ length n.value.1)
 
-  pub record IsBranch (below bitmap : ℕ) (slots : List (Slot V A)) : Type 0 where
+  pub record IsBranch (below bitmap : ℕ) (slots : List (Slot V M A)) : Type 0 where
     pub height : below ≤ 6
     pub bitmap_is : bitmap ≡ bits_of (children below slots)
     pub rise : Rise 0 (children below slots)
     pub fits : All (StandsBelow below) slots
     pub words : AllWords (suc below) (fan (children below slots))
 
-  abbrev pub IsCanonical : Shape V A → Type 0
+  abbrev pub IsCanonical : Shape V M A → Type 0
   IsCanonical (Branch below bitmap slots) = IsBranch below bitmap slots.items
   IsCanonical (Keys es) = Unit {0}

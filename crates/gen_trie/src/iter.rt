@@ -8,6 +8,7 @@ ghost use Rattle.gen_trie.specs.Left.{item, slots_left, levels_left, left, Level
 
 use crate::entry::Entry;
 use crate::node::{Shape, Slot};
+use crate::summary::Summary;
 use dots::Key;
 use std::alloc::{Allocator, Global};
 use std::iter::FusedIterator;
@@ -16,23 +17,23 @@ use std::sync::Arc;
 
 // What is left of a walk.
 #[derive(Drop)]
-pub(crate) struct Rest<'a, V, A: Allocator> {
+pub(crate) struct Rest<'a, V, M: Summary<V>, A: Allocator> {
     // Of a list of keys with equal hashes.
     list: &'a [Arc<Entry<V, A>, A>],
     // Of the branches on the way down, each at the number of levels of branches below it.
-    levels: [&'a [Slot<V, A>]; 7],
+    levels: [&'a [Slot<V, M, A>]; 7],
     // The root, before the first call.
-    root: Option<&'a Slot<V, A>>,
+    root: Option<&'a Slot<V, M, A>>,
 }
 
 /// The keys of a map with their values, by ascending index sequence of the key's hash, and those of equal hashes by key
 /// bytes. It takes no memory, and a call of `next` touches eight nodes at most.
 #[derive(Drop)]
-pub struct Iter<'a, V, A: Allocator = Global> {
-    rest: Rest<'a, V, A>,
+pub struct Iter<'a, V, M: Summary<V>, A: Allocator = Global> {
+    rest: Rest<'a, V, M, A>,
 }
 
-impl<'a, V, A: Allocator> Model for Iter<'a, V, A> {
+impl<'a, V, M: Summary<V>, A: Allocator> Model for Iter<'a, V, M, A> {
     ghost use Rattle.std.specs.Prelude.{ℕ, List};
     ghost use Rattle.std.specs.Coded.{coded×, coded_list, coded_ℕ};
 
@@ -48,10 +49,10 @@ impl<'a, V, A: Allocator> Model for Iter<'a, V, A> {
 }
 
 // Leaves these children of a branch with so many levels of branches below for later calls.
-fn leave<'a, V, A: Allocator>(
-    levels: &mut [&'a [Slot<V, A>]; 7],
+fn leave<'a, V, M: Summary<V>, A: Allocator>(
+    levels: &mut [&'a [Slot<V, M, A>]; 7],
     below: u32,
-    slots: &'a [Slot<V, A>],
+    slots: &'a [Slot<V, M, A>],
 )
     requires bound { below < 7 }
     requires fits { All (StandsBelow below) slots.now }
@@ -65,10 +66,10 @@ fn leave<'a, V, A: Allocator>(
 }
 
 // The first of the children that are left of the branch with so many levels of branches below.
-fn next_slot<'a, V, A: Allocator>(
-    levels: &mut [&'a [Slot<V, A>]; 7],
+fn next_slot<'a, V, M: Summary<V>, A: Allocator>(
+    levels: &mut [&'a [Slot<V, M, A>]; 7],
     below: u32,
-) -> Option<&'a Slot<V, A>>
+) -> Option<&'a Slot<V, M, A>>
     requires bound { below < 7 }
     requires stand { LevelsStand 0 levels.old }
     requires past { NoneBelow below levels.old }
@@ -82,10 +83,10 @@ fn next_slot<'a, V, A: Allocator>(
 }
 
 // The first entry of a slot. What stands behind it there is left for later calls.
-fn enter<'a, V, A: Allocator>(
-    rest: &mut Rest<'a, V, A>,
+fn enter<'a, V, M: Summary<V>, A: Allocator>(
+    rest: &mut Rest<'a, V, M, A>,
     below: u32,
-    slot: &'a Slot<V, A>,
+    slot: &'a Slot<V, M, A>,
 ) -> &'a Arc<Entry<V, A>, A>
     requires fits { StandsBelow below slot.now }
     requires stands { RestStands rest.old }
@@ -115,7 +116,9 @@ fn enter<'a, V, A: Allocator>(
 }
 
 // The next entry of the branches, once the list has none.
-fn next_below<'a, V, A: Allocator>(rest: &mut Rest<'a, V, A>) -> Option<&'a Arc<Entry<V, A>, A>>
+fn next_below<'a, V, M: Summary<V>, A: Allocator>(
+    rest: &mut Rest<'a, V, M, A>,
+) -> Option<&'a Arc<Entry<V, A>, A>>
     requires stands { RestStands rest.old }
     requires past { IsPast 0 rest.old }
     ensures first { MatchOption result ((rest.new ≡ rest.old) × IsPast 7 rest.old) (λ entry. left rest.old ≡ item entry.now.value ∷ left rest.new) }
@@ -130,7 +133,9 @@ fn next_below<'a, V, A: Allocator>(rest: &mut Rest<'a, V, A>) -> Option<&'a Arc<
 }
 
 // The next entry of the walk.
-fn next_entry<'a, V, A: Allocator>(rest: &mut Rest<'a, V, A>) -> Option<&'a Arc<Entry<V, A>, A>>
+fn next_entry<'a, V, M: Summary<V>, A: Allocator>(
+    rest: &mut Rest<'a, V, M, A>,
+) -> Option<&'a Arc<Entry<V, A>, A>>
     requires stands { RestStands rest.old }
     ensures first { MatchOption result ((left rest.old ≡ []) × (left rest.new ≡ [])) (λ entry. left rest.old ≡ item entry.now.value ∷ left rest.new) }
     ensures stands { RestStands rest.new }
@@ -148,9 +153,9 @@ fn next_entry<'a, V, A: Allocator>(rest: &mut Rest<'a, V, A>) -> Option<&'a Arc<
     }
 }
 
-impl<'a, V, A: Allocator> Iter<'a, V, A> {
+impl<'a, V, M: Summary<V>, A: Allocator> Iter<'a, V, M, A> {
     // The entries of the trie of this root.
-    pub(crate) fn new(root: &'a Option<Slot<V, A>>) -> Iter<'a, V, A>
+    pub(crate) fn new(root: &'a Option<Slot<V, M, A>>) -> Iter<'a, V, M, A>
         requires { RootStands root.now }
         ensures { result ≡ by_key 7 (root_entries root.now) }
     {
@@ -163,7 +168,7 @@ impl<'a, V, A: Allocator> Iter<'a, V, A> {
     }
 }
 
-impl<'a, V, A: Allocator> Iterator for Iter<'a, V, A> {
+impl<'a, V, M: Summary<V>, A: Allocator> Iterator for Iter<'a, V, M, A> {
     type Item = (&'a Key<A>, &'a V);
 
     ghost next_gives = { YieldsFirstBy (λ item. (item.0.now, item.1.now)) (λ it. it) };
@@ -176,4 +181,4 @@ impl<'a, V, A: Allocator> Iterator for Iter<'a, V, A> {
     }
 }
 
-impl<'a, V, A: Allocator> FusedIterator for Iter<'a, V, A> {}
+impl<'a, V, M: Summary<V>, A: Allocator> FusedIterator for Iter<'a, V, M, A> {}

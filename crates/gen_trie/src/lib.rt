@@ -12,6 +12,7 @@ mod no_summary;
 mod node;
 mod put;
 mod root;
+mod sealing;
 mod summary;
 mod summing;
 mod take;

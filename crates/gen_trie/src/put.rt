@@ -9,14 +9,15 @@ ghost use Rattle.gen_trie.specs.Shapes.{children, child, entry_at, with_entry, S
 use crate::entry::{Entry, same_key};
 use crate::listing::put_in_list;
 use crate::node::{Node, Seat, Shape, Slot, seat_of};
+use crate::summary::Summary;
 use dots::Refusal;
 use std::alloc::Allocator;
 use std::sync::Arc;
 
 // Puts an entry into a node. A refused call leaves what the node stands for.
 #[cycle(put)]
-pub(crate) fn put<V: Drop, A: Allocator + Copy>(
-    node: &mut Node<V, A>,
+pub(crate) fn put<V: Drop, M: Summary<V>, A: Allocator + Copy>(
+    node: &mut Node<V, M, A>,
     alloc: A,
     generation: u64,
     leaf: Arc<Entry<V, A>, A>,
@@ -25,6 +26,7 @@ pub(crate) fn put<V: Drop, A: Allocator + Copy>(
     ensures same { OnErr result (node.new ≡ node.old) }
     ensures err { IsOkUnless result OutOfMemory }
 {
+    node.kept = None;
     match &mut node.shape {
         Shape::Branch(below, bitmap, slots) => put_branch(
             slots, bitmap, *below, alloc, generation, leaf,
@@ -34,8 +36,8 @@ pub(crate) fn put<V: Drop, A: Allocator + Copy>(
 }
 
 #[cycle(put)]
-fn put_branch<V: Drop, A: Allocator + Copy>(
-    slots: &mut Vec<Slot<V, A>, A>,
+fn put_branch<V: Drop, M: Summary<V>, A: Allocator + Copy>(
+    slots: &mut Vec<Slot<V, M, A>, A>,
     bitmap: &mut u32,
     below: u32,
     alloc: A,
@@ -56,8 +58,8 @@ fn put_branch<V: Drop, A: Allocator + Copy>(
 }
 
 // Puts an entry at an index that has no child.
-fn put_new<V: Drop, A: Allocator + Copy>(
-    slots: &mut Vec<Slot<V, A>, A>,
+fn put_new<V: Drop, M: Summary<V>, A: Allocator + Copy>(
+    slots: &mut Vec<Slot<V, M, A>, A>,
     bitmap: &mut u32,
     below: u32,
     seat: Seat,
@@ -77,8 +79,8 @@ fn put_new<V: Drop, A: Allocator + Copy>(
 }
 
 #[cycle(put)]
-pub(crate) fn put_slot<V: Drop, A: Allocator + Copy>(
-    slot: &mut Slot<V, A>,
+pub(crate) fn put_slot<V: Drop, M: Summary<V>, A: Allocator + Copy>(
+    slot: &mut Slot<V, M, A>,
     below: u32,
     alloc: A,
     generation: u64,
@@ -108,13 +110,13 @@ pub(crate) fn put_slot<V: Drop, A: Allocator + Copy>(
 
 // The node of two entries.
 #[cycle(put)]
-fn pair<V: Drop, A: Allocator + Copy>(
+fn pair<V: Drop, M: Summary<V>, A: Allocator + Copy>(
     alloc: A,
     generation: u64,
     height: u32,
     first: &Arc<Entry<V, A>, A>,
     leaf: Arc<Entry<V, A>, A>,
-) -> Result<Arc<Node<V, A>, A>, Refusal>
+) -> Result<Arc<Node<V, M, A>, A>, Refusal>
     requires { height ≤ 7 }
     ensures ok { IfOk result (λ node. node.value ≡ (height, with_entry height leaf.value (entry_at height first.now.value ∷ []))) }
     ensures err { IsOkUnless result OutOfMemory }
@@ -126,8 +128,8 @@ fn pair<V: Drop, A: Allocator + Copy>(
 
 // Puts an entry into a node that may be shared. At the last generation each node is copied.
 #[cycle(put)]
-fn put_shared<V: Drop, A: Allocator + Copy>(
-    node: &mut Arc<Node<V, A>, A>,
+fn put_shared<V: Drop, M: Summary<V>, A: Allocator + Copy>(
+    node: &mut Arc<Node<V, M, A>, A>,
     alloc: A,
     generation: u64,
     leaf: Arc<Entry<V, A>, A>,

@@ -13,14 +13,16 @@ use crate::copied::shared;
 use crate::entry::Entry;
 use crate::node::Slot;
 use crate::put::put_slot;
+use crate::sealing::seal_slot;
+use crate::summary::Summary;
 use crate::take::{one_of, take_below};
 use dots::{Key, Refusal};
 use std::alloc::Allocator;
 use std::sync::Arc;
 
 // The value of the key of this hash and these bytes.
-pub(crate) fn look_root<'a, V, A: Allocator>(
-    root: &'a Option<Slot<V, A>>,
+pub(crate) fn look_root<'a, V, M: Summary<V>, A: Allocator>(
+    root: &'a Option<Slot<V, M, A>>,
     hash: u32,
     key: &[u8],
 ) -> Option<&'a Arc<V, A>>
@@ -35,9 +37,9 @@ pub(crate) fn look_root<'a, V, A: Allocator>(
 }
 
 // A second owner of the same entry or node.
-pub(crate) fn share_root<V: Drop, A: Allocator + Copy>(
-    root: &Option<Slot<V, A>>,
-) -> Result<Option<Slot<V, A>>, Refusal>
+pub(crate) fn share_root<V: Drop, M: Summary<V>, A: Allocator + Copy>(
+    root: &Option<Slot<V, M, A>>,
+) -> Result<Option<Slot<V, M, A>>, Refusal>
     ensures same { IfOk result (λ copy. root_entries copy ≡ root_entries root.now) }
     ensures is_root { IfOk result (λ copy. (count : ℕ) → IsRoot root.now count → IsRoot copy count) }
     ensures err { IsOkUnless result OutOfMemory }
@@ -48,9 +50,26 @@ pub(crate) fn share_root<V: Drop, A: Allocator + Copy>(
     }
 }
 
+// Gives each node that has none its summary.
+pub(crate) fn seal_root<V: Drop, M: Summary<V>, A: Allocator + Copy>(
+    root: &mut Option<Slot<V, M, A>>,
+    alloc: A,
+    generation: u64,
+) -> Result<(), Refusal>
+    requires { RootStands root.old }
+    ensures same { root_entries root.new ≡ root_entries root.old }
+    ensures stands { RootStands root.new }
+    ensures err { IsOkUnless result OutOfMemory }
+{
+    match root {
+        None => Ok(()),
+        Some(slot) => seal_slot(slot, 7, alloc, generation),
+    }
+}
+
 // Puts an entry into the trie of this root.
-fn put_root<V: Drop, A: Allocator + Copy>(
-    root: &mut Option<Slot<V, A>>,
+fn put_root<V: Drop, M: Summary<V>, A: Allocator + Copy>(
+    root: &mut Option<Slot<V, M, A>>,
     alloc: A,
     generation: u64,
     leaf: Arc<Entry<V, A>, A>,
@@ -85,8 +104,8 @@ fn new_leaf<V: Drop, A: Allocator + Copy>(
 }
 
 // Puts a value at a key, and counts the keys. At 2^64 - 1 keys a new one is refused as for want of memory.
-pub(crate) fn insert_at<V: Drop, A: Allocator + Copy>(
-    root: &mut Option<Slot<V, A>>,
+pub(crate) fn insert_at<V: Drop, M: Summary<V>, A: Allocator + Copy>(
+    root: &mut Option<Slot<V, M, A>>,
     count: &mut u64,
     alloc: A,
     generation: u64,
@@ -113,8 +132,8 @@ pub(crate) fn insert_at<V: Drop, A: Allocator + Copy>(
 }
 
 // Takes the entry of a key that is there out of the trie of this root.
-fn take_root<V: Drop, A: Allocator + Copy>(
-    root: &mut Option<Slot<V, A>>,
+fn take_root<V: Drop, M: Summary<V>, A: Allocator + Copy>(
+    root: &mut Option<Slot<V, M, A>>,
     alloc: A,
     generation: u64,
     hash: u32,
@@ -141,8 +160,8 @@ fn take_root<V: Drop, A: Allocator + Copy>(
 }
 
 // Takes a key out with its value, and counts the keys. A key that is not there takes no memory.
-pub(crate) fn remove_at<V: Drop, A: Allocator + Copy>(
-    root: &mut Option<Slot<V, A>>,
+pub(crate) fn remove_at<V: Drop, M: Summary<V>, A: Allocator + Copy>(
+    root: &mut Option<Slot<V, M, A>>,
     count: &mut u64,
     alloc: A,
     generation: u64,

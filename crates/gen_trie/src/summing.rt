@@ -1,4 +1,4 @@
-// The summary of a trie's entries, by recursion over its nodes.
+// The summary of a trie's entries: what its nodes keep, and by recursion below those that keep none.
 ghost use Rattle.std.specs.Prelude.{◌≡◌, ◌≤◌, ◌<◌, length, ◌∷◌, ◌++◌};
 ghost use Rattle.std.specs.List.{All};
 ghost use Rattle.std.specs.declared.option.Option.TheVariants.{Some};
@@ -14,7 +14,7 @@ use std::alloc::Allocator;
 
 // The index of a child, and the summary of its entries.
 #[cycle(summing)]
-fn sum_of<V, A: Allocator + Copy, M: Summary<V>>(slot: &Slot<V, A>, below: u32) -> (u32, M)
+fn sum_of<V, M: Summary<V>, A: Allocator + Copy>(slot: &Slot<V, M, A>, below: u32) -> (u32, M)
     requires { StandsBelow below slot.now }
     ensures index { result.0 ≡ (child below slot.now).0 }
     ensures summary { summary_of M.calls below (child below slot.now).1 ≡ Some result.1 }
@@ -27,10 +27,13 @@ fn sum_of<V, A: Allocator + Copy, M: Summary<V>>(slot: &Slot<V, A>, below: u32) 
 
 // The summary of a node's entries, which are two or more.
 #[cycle(summing)]
-fn summary<V, A: Allocator + Copy, M: Summary<V>>(node: &Node<V, A>) -> M
+pub(crate) fn summary<V, M: Summary<V>, A: Allocator + Copy>(node: &Node<V, M, A>) -> M
     requires { 2 ≤ length node.now.1 }
     ensures { summary_of M.calls node.now.0 node.now.1 ≡ Some result }
 {
+    if let Some(summary) = node.kept {
+        return summary;
+    }
     match &node.shape {
         Shape::Branch(below, _, slots) => branch_of(slots, *below, Children::none()),
         Shape::Keys(entries) => M::list(entries),
@@ -40,8 +43,8 @@ fn summary<V, A: Allocator + Copy, M: Summary<V>>(node: &Node<V, A>) -> M
 // The summary of a branch, of these children and of those behind them, whose summaries are made already. The children are
 // summed from the last to the first, so that each has its place in a call of its own, and they take no memory.
 #[cycle(summing)]
-fn branch_of<V, A: Allocator + Copy, M: Summary<V>>(
-    slots: &[Slot<V, A>],
+fn branch_of<V, M: Summary<V>, A: Allocator + Copy>(
+    slots: &[Slot<V, M, A>],
     below: u32,
     behind: Children<'_, M>,
 ) -> M
@@ -61,8 +64,8 @@ fn branch_of<V, A: Allocator + Copy, M: Summary<V>>(
 
 // The summary of the entries of a child whose paths go on with a prefix.
 #[cycle(seeking)]
-pub(crate) fn summary_below<V, A: Allocator + Copy, M: Summary<V>>(
-    slot: &Slot<V, A>,
+pub(crate) fn summary_below<V, M: Summary<V>, A: Allocator + Copy>(
+    slot: &Slot<V, M, A>,
     height: u32,
     prefix: Prefix,
 ) -> Option<M>
@@ -89,8 +92,8 @@ pub(crate) fn summary_below<V, A: Allocator + Copy, M: Summary<V>>(
 
 // The same at a node, for a prefix of one index or more.
 #[cycle(seeking)]
-fn summary_under<V, A: Allocator + Copy, M: Summary<V>>(
-    node: &Node<V, A>,
+fn summary_under<V, M: Summary<V>, A: Allocator + Copy>(
+    node: &Node<V, M, A>,
     index: u32,
     rest: Prefix,
 ) -> Option<M>

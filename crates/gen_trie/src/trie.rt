@@ -9,12 +9,13 @@ ghost use Rattle.dots.specs.declared.refusal.Refusal.TheVariants.{OutOfMemory};
 use crate::frozen::Frozen;
 use crate::iter::Iter;
 use crate::node::Slot;
-use crate::root::{insert_at, look_root, remove_at, share_root};
+use crate::root::{insert_at, look_root, remove_at, seal_root, share_root};
+use crate::sealing::stamped_in;
 use crate::summary::Summary;
 use dots::{Key, Refusal};
 use hash_path::PathHash;
 use std::alloc::{Allocator, Global};
-use std::marker::{Model, PhantomData};
+use std::marker::Model;
 use std::sync::Arc;
 
 /// A finite map from keys to values that can be frozen at the cost of a few reference counts.
@@ -28,8 +29,7 @@ pub struct GenTrie<V, M: Summary<V>, H: PathHash, A: Allocator = Global> {
     hash: H,
     generation: u64,
     count: u64,
-    root: Option<Slot<V, A>>,
-    summary: PhantomData<M>,
+    root: Option<Slot<V, M, A>>,
 }
 
 impl<V, M: Summary<V>, H: PathHash, A: Allocator> Model for GenTrie<V, M, H, A> {
@@ -58,7 +58,6 @@ impl<V, M: Summary<V>, H: PathHash, A: Allocator + Copy> GenTrie<V, M, H, A> {
             generation: 0,
             count: 0,
             root: None,
-            summary: PhantomData,
         }
     }
 
@@ -80,7 +79,7 @@ impl<V, M: Summary<V>, H: PathHash, A: Allocator + Copy> GenTrie<V, M, H, A> {
         hash: H,
         generation: u64,
         count: u64,
-        root: Option<Slot<V, A>>,
+        root: Option<Slot<V, M, A>>,
     ) -> GenTrie<V, M, H, A>
         requires { IsTrie (H.hash_of hash) root count }
         ensures { result ≡ shown_of hash root generation }
@@ -91,7 +90,6 @@ impl<V, M: Summary<V>, H: PathHash, A: Allocator + Copy> GenTrie<V, M, H, A> {
             generation,
             count,
             root,
-            summary: PhantomData,
         }
     }
 
@@ -104,7 +102,7 @@ impl<V, M: Summary<V>, H: PathHash, A: Allocator + Copy> GenTrie<V, M, H, A> {
 
     /// The keys with their values, by ascending index sequence of the key's hash, and those of equal hashes by key bytes.
     /// Takes no memory.
-    pub fn iter(&self) -> Iter<'_, V, A>
+    pub fn iter(&self) -> Iter<'_, V, M, A>
         ensures { result ≡ walk (H.hash_of self.now.hash) self.now.map }
     {
         Iter::new(&self.root)
@@ -160,21 +158,35 @@ impl<V: Drop, M: Summary<V>, H: PathHash, A: Allocator + Copy> GenTrie<V, M, H, 
         self.count = 0;
     }
 
-    /// Renews the summaries of the nodes that were written in the current generation, and leaves the map. Nodes keep no
-    /// summaries yet, so there is nothing to renew, and nothing is refused.
-    /// The only refusal that its contract leaves open is OutOfMemory.
+    /// Renews the summaries that writes took away: of the nodes that were written since the last seal, and of those above
+    /// them. Nodes that keep one are passed over. The map stays as it is, also where it is refused; a further call goes on
+    /// from there. Copies the nodes without a summary that a frozen map shares, and takes no other memory.
+    /// Its only refusal is OutOfMemory.
     pub fn seal(&mut self) -> Result<(), Refusal>
         ensures same { self.new ≡ self.old }
         ensures err { IsOkUnless result OutOfMemory }
     {
-        // no node has a summary
-        Ok(())
+        seal_root(&mut self.root, self.alloc, self.generation)
+    }
+
+    /// Seals, and then shares: the map as it is, whose nodes keep their summaries. A refused call leaves the map and the
+    /// generation as they were.
+    /// Its only refusal is OutOfMemory.
+    pub fn freeze(&mut self) -> Result<Frozen<V, M, H, A>, Refusal>
+        ensures ok { IfOk result (λ frozen. frozen ≡ self.old) }
+        ensures next { OnOk result (self.new ≡ record self.old { generation = generation_after self.old.generation }) }
+        ensures same { OnErr result (self.new ≡ self.old) }
+        ensures err { IsOkUnless result OutOfMemory }
+    {
+        self.seal()?;
+        self.share()
     }
 
     /// The map as it is, which stays so whatever is written afterwards. The next generation starts on both sides; at the
-    /// last, 2^64 - 1, it stays. Copies no node: it takes a reference count, and is refused only where that is full.
+    /// last, 2^64 - 1, it stays. Makes no summaries and copies no node: it takes a reference count, and is refused only
+    /// where that is full.
     /// Its only refusal is OutOfMemory.
-    pub fn freeze(&mut self) -> Result<Frozen<V, M, H, A>, Refusal>
+    pub fn share(&mut self) -> Result<Frozen<V, M, H, A>, Refusal>
         ensures ok { IfOk result (λ frozen. frozen ≡ self.old) }
         ensures next { OnOk result (self.new ≡ record self.old { generation = generation_after self.old.generation }) }
         ensures same { OnErr result (self.new ≡ self.old) }
@@ -187,15 +199,26 @@ impl<V: Drop, M: Summary<V>, H: PathHash, A: Allocator + Copy> GenTrie<V, M, H, 
     }
 }
 
+impl<V, M: Summary<V>, H: PathHash, A: Allocator + Copy> GenTrie<V, M, H, A> {
+    /// How many nodes were sealed in the current generation: those of its stamp that keep a summary. It visits the nodes of
+    /// this stamp and their children, and takes no memory.
+    pub fn stamped(&self) -> u64 {
+        match &self.root {
+            None => 0,
+            Some(slot) => stamped_in(slot, 7, self.generation),
+        }
+    }
+}
+
 impl<'a, V, M: Summary<V>, H: PathHash, A: Allocator + Copy> IntoIterator
     for &'a GenTrie<V, M, H, A> {
     type Item = (&'a Key<A>, &'a V);
 
-    type IntoIter = Iter<'a, V, A>;
+    type IntoIter = Iter<'a, V, M, A>;
 
     ghost into_iter_gives = { λ trie it. it ≡ walk (H.hash_of trie.now.hash) trie.now.map };
 
-    fn into_iter(self) -> Iter<'a, V, A> {
+    fn into_iter(self) -> Iter<'a, V, M, A> {
         self.iter()
     }
 }

@@ -23,11 +23,11 @@ summary_below-returns-else-height-gt0-clause-summary g t c =
 pub summary_under-returns-in-None : goal.summary_under-returns-in-None
 summary_under-returns-in-None g t c =
     let e = sym c.node.view_is ∙ ap height_and_entries c.in-Branch.is in
-    let b = subst IsCanonical c.in-Branch.is c.node.invariant in
+    let b = subst IsCanonical c.in-Branch.is c.node.invariant.0 in
     under_branch g.M.Summary.calls c.args.node.now c.args.index c.args.rest c.in-Branch.below _ [] None e b.rise c.in-None.ensures (sym (summary_none g.M.Summary.calls c.args.rest c.in-Branch.below))
 
 pub summary_under-returns-in-Some : goal.summary_under-returns-in-Some
 summary_under-returns-in-Some g t c =
     let e = sym c.node.view_is ∙ ap height_and_entries c.in-Branch.is in
-    let b = subst IsCanonical c.in-Branch.is c.node.invariant in
+    let b = subst IsCanonical c.in-Branch.is c.node.invariant.0 in
     under_branch g.M.Summary.calls c.args.node.now c.args.index c.args.rest c.in-Branch.below _ (child c.in-Branch.below c.in-Some.slot.now).1 c.summary_below.result e b.rise (sym (ap (λ k. k.1) c.in-Some.ensures.0)) c.summary_below.ensures.summary
