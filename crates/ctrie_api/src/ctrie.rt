@@ -1,10 +1,10 @@
-ghost use Rattle.std.specs.Prelude.{◌≡◌, ◌↔◌, ◌⊎◌, IsTrue, IsErrOf, IfOk, IfErr, OnOk, OnErr, IsOkUnless, true, false};
+ghost use Rattle.std.specs.Prelude.{◌≡◌, ◌↔◌, ◌⊎◌, IsTrue, IsErrOf, IfOk, IfErr, IfSome, OnOk, OnErr, IsOkUnless, true, false};
 ghost use Rattle.std.specs.Option.{option_map};
 ghost use Rattle.std.specs.FinMap as finite;
 ghost use Rattle.hash_path.specs.Map.{walk};
 
 use dots::{Key, Refusal};
-use gen_trie::{Frozen, GenTrie, Iter, NoSummary, Summary};
+use gen_trie::{Entry, Frozen, GenTrie, Iter, NoSummary, Summary};
 use hash_path::PathHash;
 use std::alloc::{Allocator, Global};
 use std::marker::Model;
@@ -55,9 +55,17 @@ impl<V, H: PathHash, M: Summary<V>, A: Allocator + Copy> Ctrie<V, H, M, A> {
     pub fn lookup(&self, key: &Key<A>) -> Option<&V>
         ensures { option_map (λ value. value.now) result ≡ finite.get self.now.map key.now }
     {
+        self.lookup_bytes(key.bytes())
+    }
+
+    /// The value of the key of these bytes. Touches eight nodes at most, and takes no memory.
+    /// None exactly where the key is not there.
+    pub fn lookup_bytes(&self, key: &[u8]) -> Option<&V>
+        ensures { option_map (λ value. value.now) result ≡ finite.get self.now.map key.now }
+    {
         match &self.access {
-            Access::Writable(trie) => trie.lookup(key),
-            Access::ReadOnly(frozen) => frozen.lookup(key),
+            Access::Writable(trie) => trie.lookup_bytes(key),
+            Access::ReadOnly(frozen) => frozen.lookup_bytes(key),
         }
     }
 
@@ -122,12 +130,13 @@ impl<V: Drop, H: PathHash, M: Summary<V>, A: Allocator + Copy> Ctrie<V, H, M, A>
         }
     }
 
-    /// Takes the key out, and gives the value that was there. A refused call leaves the map as it was. A key that is not
+    /// Takes the key out, and gives its entry, with the value that was there. A refused call leaves the map as it was. A key that is not
     /// there takes no memory. Touches eight nodes at most, and copies those that a snapshot shares.
     /// ReadOnly exactly where this trie is read-only; its only other refusal is OutOfMemory.
-    pub fn remove(&mut self, key: &Key<A>) -> Result<Option<Arc<V, A>>, Refusal>
+    pub fn remove(&mut self, key: &Key<A>) -> Result<Option<Arc<Entry<V, A>, A>>, Refusal>
         ensures read_only { IsErrOf result Refusal.ReadOnly ↔ IsTrue self.old.read_only }
-        ensures value { IfOk result (λ taken. option_map (λ value. value.value) taken ≡ finite.get self.old.map key.now) }
+        ensures value { IfOk result (λ taken. option_map (λ entry. entry.value.value) taken ≡ finite.get self.old.map key.now) }
+        ensures key { IfOk result (λ taken. IfSome taken (λ entry. entry.value.key ≡ key.now)) }
         ensures ok { OnOk result (self.new ≡ record self.old { map = finite.remove self.old.map key.now }) }
         ensures same { OnErr result (self.new ≡ self.old) }
         ensures err { IfErr result (λ refusal. (refusal ≡ Refusal.ReadOnly) ⊎ (refusal ≡ Refusal.OutOfMemory)) }

@@ -1,13 +1,15 @@
 -- What is left of a walk as it goes on.
-use Rattle.std.proofs.Common.{◌≡◌, ℕ, zero, suc, ◌+◌, ◌<◌, ◌≤◌, List, [], ◌∷◌, ◌++◌, length, get_or, set, Vec, arith, refl, sym, ◌∙◌, ap, subst}
+use Rattle.std.proofs.Common.{◌≡◌, ℕ, zero, suc, ◌+◌, ◌-◌, ◌<◌, ◌≤◌, List, [], ◌∷◌, ◌++◌, length, get_or, set, Vec, Some, None, arith, refl, sym, ◌∙◌, ap, subst}
 use Rattle.std.specs.Borrow.{Bor}
 use Rattle.std.specs.List.{All}
 use Rattle.std.specs.declared.sync.Arc.{Arc}
-use Rattle.std.proofs.lemmas.List.{append_assoc}
+use Rattle.std.proofs.lemmas.List.{append_assoc, append-nil}
 use Rattle.std.proofs.lemmas.List.Elements.{All-head, All-tail}
 use Rattle.hash_path.specs.Word.{key_in}
 use Rattle.hash_path.specs.Fan.{under, fan}
-use Rattle.hash_path.specs.Map.{as_map, walk}
+use Rattle.hash_path.specs.Map.{as_map, walk, walk_under}
+use Rattle.hash_path.specs.Summary.{under_prefix}
+use Rattle.hash_path.proofs.Parts.{walk_under_is}
 use Rattle.hash_path.proofs.Walks.{walk_is}
 use Rattle.hash_path.proofs.Words.{key_in-word}
 use Rattle.std.specs.declared.option.Option.{Option}
@@ -21,7 +23,7 @@ use Rattle.gen_trie.specs.declared.node.Slot.{Slot}
 use Rattle.gen_trie.specs.declared.node.Slot.TheVariants.{One, Many}
 use Rattle.gen_trie.specs.Shapes.{children, child, listed, height_and_entries, StandsBelow, IsBranch, IsCanonical}
 use Rattle.hash_path.specs.Map.{by_key}
-use Rattle.gen_trie.specs.Left.{item, slots_left, levels_left, LevelsStand, NoneBelow}
+use Rattle.gen_trie.specs.Left.{item, slots_left, levels_left, root_left, LevelsStand, NoneBelow}
 
 module _ {V : Type 0} where
   by_key-under : (below i : ℕ) (es rest : List (List ℕ × V)) → by_key (suc below) (under i es ++ rest) ≡ by_key below es ++ by_key (suc below) rest
@@ -138,7 +140,33 @@ module _ {V A : Type 0} where
 
   pub entered_one : {M : Type 0} (below i : ℕ) (s : Slot V M A) (e : Arc (Entry V A) A) (rest : List (List ℕ × V)) → s ≡ One i e → by_key below (child below s).1 ++ rest ≡ item e.value ∷ rest
   entered_one below i s e rest is =
-      ap (λ t. by_key below (child below t).1 ++ rest) is ∙ (λ k. (key_in-word below e.value.hash e.value.key k, e.value.value.value) ∷ rest)
+      ap (λ t. by_key below (child below t).1 ++ rest) is ∙ (λ k. (key_in-word below e.value.hash e.value.key k, e.value.value) ∷ rest)
+
+-- ---- the first entry
+
+module _ {V M A : Type 0} where
+  pub past_less : (k n : ℕ) (ls : List (Bor (List (Slot V M A)))) → k ≤ n → NoneBelow n ls → NoneBelow k ls
+  past_less zero n ls h past = tt
+  past_less (suc k) zero ls h past = absurd (omega arith)
+  past_less (suc k) (suc n) [] h past = tt
+  past_less (suc k) (suc n) (x ∷ xs) h past = (past.0, past_less k n xs (omega arith) past.1)
+
+  all_past : (from n : ℕ) (ls : List (Bor (List (Slot V M A)))) → length ls ≡ n → NoneBelow n ls → levels_left from ls ≡ []
+  all_past from n [] e past = refl
+  all_past from zero (x ∷ xs) e past = absurd (omega arith)
+  all_past from (suc n) (x ∷ xs) e past = ap (λ l. slots_left from l ++ levels_left (suc from) xs) past.0 ∙ all_past (suc from) n xs (omega arith) past.1
+
+  module _ (height : ℕ) (list : List (Arc (Entry V A) A)) (ls : List (Bor (List (Slot V M A)))) (none : list ≡ []) (seven : length ls ≡ 7) (past : NoneBelow 7 ls) where
+    nothing_before : (x : List (List ℕ × V)) → by_key 0 (listed list) ++ (levels_left 0 ls ++ x) ≡ x
+    nothing_before x = (λ k. by_key 0 (listed (none k)) ++ (all_past 0 7 ls seven past k ++ x))
+
+    -- the walk goes on at the root, once nothing else is left
+    pub root_first : (root taken : Option (Bor (Slot V M A))) (slot : Bor (Slot V M A)) (y : List ℕ × V) (new : List (List ℕ × V)) → root ≡ Some slot → taken ≡ None
+        → by_key height (child height slot.now).1 ++ (by_key 0 (listed list) ++ (levels_left 0 ls ++ root_left height taken)) ≡ y ∷ new
+        → by_key 0 (listed list) ++ (levels_left 0 ls ++ root_left height root) ≡ y ∷ new
+    root_first root taken slot y new some gone first =
+        nothing_before (root_left height root) ∙ ap (root_left height) some ∙ sym (append-nil (by_key height (child height slot.now).1))
+        ∙ ap (λ l. by_key height (child height slot.now).1 ++ l) (sym (nothing_before (root_left height taken) ∙ ap (root_left height) gone)) ∙ first
 
 -- ---- the whole
 
@@ -150,3 +178,9 @@ module _ {V M A H : Type 0} (hash_of : H → List ℕ → ℕ) (hash : H) (root 
   -- as the map is seen
   pub iter_shown : IsTrie (hash_of hash) root count → shown_of hash root generation ≡ seen → all ≡ by_key 7 (root_entries root) → all ≡ walk (hash_of seen.hash) seen.map
   iter_shown trie shown is = iter_is (hash_of hash) root count trie all is ∙ ap (λ x. walk (hash_of x.hash) x.map) shown
+
+  -- and its part under a prefix
+  pub iter_under_shown : (prefix : List ℕ) → IsTrie (hash_of hash) root count → shown_of hash root generation ≡ seen → length prefix ≤ 7
+      → all ≡ by_key (7 - length prefix) (under_prefix prefix (root_entries root)) → all ≡ walk_under (hash_of seen.hash) prefix seen.map
+  iter_under_shown prefix trie shown short is =
+      is ∙ sym (walk_under_is (hash_of hash) prefix (root_entries root) short trie.hashed (let r = trie.root_is in r.sorted)) ∙ ap (λ x. walk_under (hash_of x.hash) prefix x.map) shown

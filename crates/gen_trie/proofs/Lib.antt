@@ -7,3 +7,4 @@ pub mod Takes
 pub mod Iters
 pub mod Sums
 pub mod Seals
+pub mod Seeks

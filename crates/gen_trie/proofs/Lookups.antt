@@ -18,7 +18,7 @@ use Rattle.gen_trie.specs.Shapes.{children, child, entry_at, height_and_entries,
 
 -- one entry is found by its hash and its bytes
 pub found_one : {V A : Type 0} (below hash : ℕ) (key : List ℕ) (e : Entry V A) → find bytes_cmp (word below hash key) (entry_at below e ∷ []) ≡ find bytes_cmp (hash ∷ key) (entry_at 0 e ∷ [])
-found_one below hash key e = ap (λ b. cond b (Some e.value.value) None) (tied-word below hash e.hash key e.key)
+found_one below hash key e = ap (λ b. cond b (Some e.value) None) (tied-word below hash e.hash key e.key)
 
 module _ {V M A : Type 0} (shape : Shape V M A) (node : ℕ × List (List ℕ × V)) (below m hash : ℕ) (key : List ℕ) (slots : Vec (Slot V M A) A)
     (seen : height_and_entries shape ≡ node) (is : shape ≡ Branch below m slots) (holds : IsCanonical shape) where

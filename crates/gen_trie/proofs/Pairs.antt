@@ -46,7 +46,7 @@ module _ {V A : Type 0} (below : ℕ) where
   up_one i e es rest is words =
       let here = subst (λ l. AllWords (suc below) (under i l ++ rest)) is words in
       let index = word_index below i e.hash e.key here.0 in
-      ap (λ l. under i l ++ rest) is ∙ (λ k. (index k ∷ word below e.hash e.key, e.value.value) ∷ rest)
+      ap (λ l. under i l ++ rest) is ∙ (λ k. (index k ∷ word below e.hash e.key, e.value) ∷ rest)
 
 module _ {V M A : Type 0} (below : ℕ) where
   slot_has : (s : Slot V M A) → StandsBelow below s → 1 ≤ length (child below s).1
@@ -95,7 +95,7 @@ module _ {V M A : Type 0} (below : ℕ) where
       let first = word_index below i (a x).hash (a x).key w.0 in
       let second = word_index below i (b x).hash (b x).key w.1.0 in
       ap (λ y. y.1) seen ∙ ap (λ l. under i l ++ []) q'
-      ∙ (λ k. (first k ∷ word below (a x).hash (a x).key, (a x).value.value) ∷ (second k ∷ word below (b x).hash (b x).key, (b x).value.value) ∷ [])
+      ∙ (λ k. (first k ∷ word below (a x).hash (a x).key, (a x).value) ∷ (second k ∷ word below (b x).hash (b x).key, (b x).value) ∷ [])
       ∙ ap (λ k. entry_at k (a x) ∷ entry_at k (b x) ∷ []) (sym (ap (λ y. y.0) seen)))
       h
 

@@ -1,9 +1,8 @@
 -- What a write at the root leaves, and what the parts of a trie are as a map.
-use Rattle.std.proofs.Common.{◌≡◌, ℕ, ◌+◌, ◌-◌, ◌≤◌, List, [], ◌∷◌, length, Bool, true, false, cond, T, Some, None, arith, sym, ◌∙◌, ap, subst}
+use Rattle.std.proofs.Common.{◌≡◌, ◌⊎◌, inl, inr, ℕ, ◌+◌, ◌-◌, ◌^◌, ◌<◌, ◌≤◌, List, [], ◌∷◌, length, Bool, true, false, cond, T, Some, None, arith, refl, sym, ◌∙◌, ap, subst}
 use Rattle.std.specs.Prelude.{is_some, not, MatchOption}
 use Rattle.std.specs.Ordering.{eq_by_cmp}
 use Rattle.std.specs.declared.option.Option.{Option}
-use Rattle.std.specs.Option.{option_map}
 use Rattle.std.specs.Cmp.Lexicographic.{nat_list_cmp_total}
 use Rattle.std.specs.FinMap as finite
 use Rattle.std.specs.FinMap.Entries.{put, find, is_sorted, is_sorted-put, is_sorted-where_key, length-put}
@@ -16,17 +15,9 @@ use Rattle.hash_path.proofs.MapCuts.{HashedBy-cut, as_map-cut}
 use Rattle.hash_path.proofs.Maps.{HashedBy-put, as_map-put, get-as_map, len-as_map}
 use Rattle.gen_trie.specs.declared.entry.Entry.{Entry}
 use Rattle.gen_trie.specs.declared.node.Slot.{Slot}
-use Rattle.gen_trie.specs.Shapes.{child, entry_at, StandsBelow}
+use Rattle.gen_trie.specs.Shapes.{child, entry_at, HasMore, StandsBelow}
 use Rattle.gen_trie.specs.Root.{root_entries, RootStands, IsRoot, IsTrie}
 use Rattle.gen_trie.proofs.Takes.{cut_only}
-
-count_new : {X V : Type 0} (r : Option X) (f : X → V) (o : Option V) (n : ℕ) → option_map f r ≡ o → is_some r ≡ false → n + 1 ≡ cond (is_some o) n (n + 1)
-count_new None f o n e t = ap (λ x. cond (is_some x) n (n + 1)) e
-count_new (Some x) f o n e t = cc
-
-count_old : {X V : Type 0} (r : Option X) (f : X → V) (o : Option V) (n : ℕ) → option_map f r ≡ o → is_some r ≡ true → n ≡ cond (is_some o) n (n + 1)
-count_old None f o n e t = cc
-count_old (Some x) f o n e t = ap (λ x. cond (is_some x) n (n + 1)) e
 
 module _ {V M A : Type 0} where
   pub same_root : (root copy : Option (Slot V M A)) (count : ℕ) → root_entries copy ≡ root_entries root → (RootStands root → RootStands copy) → IsRoot root count → IsRoot copy count
@@ -36,23 +27,26 @@ module _ {V M A : Type 0} where
     counted = h.counted ∙ ap length (sym e);
   }
 
-  put_root_is : (root new : Option (Slot V M A)) (count n : ℕ) (w : List ℕ) (v : V) → IsRoot root count → root_entries new ≡ put bytes_cmp w v (root_entries root) → RootStands new
-      → n ≡ cond (is_some (find bytes_cmp w (root_entries root))) count (count + 1) → IsRoot new n
-  put_root_is root new count n w v h e s c = record {
+  pub put_root_is : (root new : Option (Slot V M A)) (count n : ℕ) (w : List ℕ) (v : V) (fresh : Bool) → IsRoot root count → root_entries new ≡ put bytes_cmp w v (root_entries root) → RootStands new
+      → HasMore fresh (root_entries root) (root_entries new) → n ≡ cond fresh (count + 1) count → IsRoot new n
+  put_root_is root new count n w v fresh h e s more c = record {
     stands = s;
     sorted = subst (λ es. T (is_sorted bytes_cmp es)) (sym e) (is_sorted-put bytes_cmp nat_list_cmp_total w v (root_entries root) h.sorted);
-    counted = c ∙ ap (λ k. cond (is_some (find bytes_cmp w (root_entries root))) k (k + 1)) h.counted ∙ sym (length-put bytes_cmp nat_list_cmp_total w v (root_entries root) h.sorted) ∙ ap length (sym e);
+    counted = c ∙ ap (λ k. cond fresh (k + 1) k) h.counted ∙ sym more;
   }
 
-  pub put_fresh : {X : Type 0} (r : Option X) (f : X → V) (fresh : Bool) (root new : Option (Slot V M A)) (count : ℕ) (w : List ℕ) (v : V) → IsRoot root count
-      → root_entries new ≡ put bytes_cmp w v (root_entries root) → RootStands new
-      → option_map f r ≡ find bytes_cmp w (root_entries root) → is_some r ≡ not fresh → fresh ≡ true → IsRoot new (count + 1)
-  put_fresh r f fresh root new count w v h e s o q t = put_root_is root new count (count + 1) w v h e s (count_new r f (find bytes_cmp w (root_entries root)) count o (q ∙ ap not t))
+  -- a key that is there is not counted again
+  pub not_more : (root new : Option (Slot V M A)) (count : ℕ) (w : List ℕ) (v : V) (fresh : Bool) → IsRoot root count → root_entries new ≡ put bytes_cmp w v (root_entries root)
+      → HasMore fresh (root_entries root) (root_entries new) → is_some (find bytes_cmp w (root_entries root)) ≡ true → fresh ≡ false
+  not_more root new count w v false h e more there = refl
+  not_more root new count w v true h e more there =
+      let same = ap length e ∙ length-put bytes_cmp nat_list_cmp_total w v (root_entries root) h.sorted ∙ ap (λ b. cond b (length (root_entries root)) (length (root_entries root) + 1)) there in
+      absurd (omega (arith, same, more))
 
-  pub put_there : {X : Type 0} (r : Option X) (f : X → V) (fresh : Bool) (root new : Option (Slot V M A)) (count : ℕ) (w : List ℕ) (v : V) → IsRoot root count
-      → root_entries new ≡ put bytes_cmp w v (root_entries root) → RootStands new
-      → option_map f r ≡ find bytes_cmp w (root_entries root) → is_some r ≡ not fresh → fresh ≡ false → IsRoot new count
-  put_there r f fresh root new count w v h e s o q t = put_root_is root new count count w v h e s (count_old r f (find bytes_cmp w (root_entries root)) count o (q ∙ ap not t))
+  pub room_for_one : (root new : Option (Slot V M A)) (count : ℕ) (w : List ℕ) (v : V) (fresh : Bool) → IsRoot root count → root_entries new ≡ put bytes_cmp w v (root_entries root)
+      → HasMore fresh (root_entries root) (root_entries new) → (count < 2 ^ 64 - 1) ⊎ (is_some (find bytes_cmp w (root_entries root)) ≡ true) → fresh ≡ true → count + 1 < 2 ^ 64
+  room_for_one root new count w v fresh h e more (inl less) t = omega (arith, less)
+  room_for_one root new count w v fresh h e more (inr there) t = let twice : true ≡ false = sym t ∙ not_more root new count w v fresh h e more there in absurd cc
 
   -- ---- a key that goes
 

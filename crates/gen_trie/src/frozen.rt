@@ -2,7 +2,7 @@ ghost use Rattle.std.specs.Prelude.{◌≡◌, ◌↔◌, ℕ, List, length, IfO
 ghost use Rattle.std.specs.declared.option.Option.TheVariants.{None};
 ghost use Rattle.std.specs.Option.{option_map};
 ghost use Rattle.std.specs.FinMap as finite;
-ghost use Rattle.hash_path.specs.Map.{by_path, walk};
+ghost use Rattle.hash_path.specs.Map.{by_path, walk, walk_under};
 ghost use Rattle.hash_path.specs.Path.{indices};
 ghost use Rattle.hash_path.specs.Summary.{summary_at};
 ghost use Rattle.gen_trie.specs.Root.{IsTrie};
@@ -13,7 +13,7 @@ use crate::iter::Iter;
 use crate::node::Slot;
 use crate::root::{look_root, seal_root, share_root};
 use crate::summary::Summary;
-use crate::summing::summary_below;
+use crate::summing::summary_under;
 use crate::trie::GenTrie;
 use dots::{Key, Refusal};
 use hash_path::{PathHash, Prefix};
@@ -66,10 +66,18 @@ impl<V, M: Summary<V>, H: PathHash, A: Allocator + Copy> Frozen<V, M, H, A> {
     pub fn lookup(&self, key: &Key<A>) -> Option<&V>
         ensures { option_map (λ value. value.now) result ≡ finite.get self.now.map key.now }
     {
-        let hash = self.hash.hash(key.bytes());
-        match look_root(&self.root, hash, key.bytes()) {
+        self.lookup_bytes(key.bytes())
+    }
+
+    /// The value of the key of these bytes. Touches eight nodes at most, and takes no memory.
+    /// None exactly where the key is not there.
+    pub fn lookup_bytes(&self, key: &[u8]) -> Option<&V>
+        ensures { option_map (λ value. value.now) result ≡ finite.get self.now.map key.now }
+    {
+        let hash = self.hash.hash(key);
+        match look_root(&self.root, hash, key) {
             None => None,
-            Some(value) => Some(&**value),
+            Some(entry) => Some(&entry.value),
         }
     }
 
@@ -86,6 +94,14 @@ impl<V, M: Summary<V>, H: PathHash, A: Allocator + Copy> Frozen<V, M, H, A> {
         ensures { result ≡ walk (H.hash_of self.now.hash) self.now.map }
     {
         Iter::new(&self.root)
+    }
+
+    /// The keys whose paths begin with a prefix, with their values, in the order of `iter`: all keys for the root. Touches
+    /// eight nodes at most before the first item, and takes no memory.
+    pub fn iter_under(&self, prefix: Prefix) -> Iter<'_, V, M, A>
+        ensures { result ≡ walk_under (H.hash_of self.now.hash) prefix self.now.map }
+    {
+        Iter::under(&self.root, prefix)
     }
 
     // The map of the parts of a trie.
@@ -159,7 +175,7 @@ impl<V, M: Summary<V>, H: PathHash, A: Allocator + Copy> Frozen<V, M, H, A> {
     {
         match &self.root {
             None => None,
-            Some(slot) => summary_below(slot, 7, prefix),
+            Some(slot) => summary_under(slot, prefix),
         }
     }
 }

@@ -1,15 +1,18 @@
-ghost use Rattle.std.specs.Prelude.{◌≡◌, ◌<◌, suc, [], ◌∷◌, ◌++◌, MatchOption};
+ghost use Rattle.std.specs.Prelude.{◌≡◌, ◌-◌, ◌<◌, ◌≤◌, suc, length, [], ◌∷◌, ◌++◌, MatchOption};
 ghost use Rattle.std.specs.List.{All};
 ghost use Rattle.std.specs.Iterator.{YieldsFirstBy, item_count};
 ghost use Rattle.hash_path.specs.Map.{by_key};
+ghost use Rattle.hash_path.specs.Summary.{under_prefix};
 ghost use Rattle.gen_trie.specs.Shapes.{child, StandsBelow};
 ghost use Rattle.gen_trie.specs.Root.{root_entries, RootStands};
-ghost use Rattle.gen_trie.specs.Left.{item, slots_left, levels_left, left, LevelsStand, RestStands, NoneBelow, IsPast};
+ghost use Rattle.gen_trie.specs.Left.{item, slots_left, levels_left, root_left, left, LevelsStand, RootFits, RestStands, NoneBelow, IsPast};
 
 use crate::entry::Entry;
 use crate::node::{Shape, Slot};
+use crate::seeking::slot_below;
 use crate::summary::Summary;
 use dots::Key;
+use hash_path::Prefix;
 use std::alloc::{Allocator, Global};
 use std::iter::FusedIterator;
 use std::marker::Model;
@@ -22,8 +25,9 @@ pub(crate) struct Rest<'a, V, M: Summary<V>, A: Allocator> {
     list: &'a [Arc<Entry<V, A>, A>],
     // Of the branches on the way down, each at the number of levels of branches below it.
     levels: [&'a [Slot<V, M, A>]; 7],
-    // The root, before the first call.
+    // What the walk is of, before the first call: the root, or a child under it, with the indices that are left below.
     root: Option<&'a Slot<V, M, A>>,
+    height: u32,
 }
 
 /// The keys of a map with their values, by ascending index sequence of the key's hash, and those of equal hashes by key
@@ -132,6 +136,22 @@ fn next_below<'a, V, M: Summary<V>, A: Allocator>(
     None
 }
 
+// The first entry of the walk, once nothing else is left.
+fn first_entry<'a, V, M: Summary<V>, A: Allocator>(
+    rest: &mut Rest<'a, V, M, A>,
+) -> Option<&'a Arc<Entry<V, A>, A>>
+    requires stands { RestStands rest.old }
+    requires past { IsPast 7 rest.old }
+    ensures first { MatchOption result ((left rest.old ≡ []) × (left rest.new ≡ [])) (λ entry. left rest.old ≡ item entry.now.value ∷ left rest.new) }
+    ensures stands { RestStands rest.new }
+{
+    let height = rest.height;
+    match rest.root.take() {
+        None => None,
+        Some(slot) => Some(enter(rest, height, slot)),
+    }
+}
+
 // The next entry of the walk.
 fn next_entry<'a, V, M: Summary<V>, A: Allocator>(
     rest: &mut Rest<'a, V, M, A>,
@@ -147,24 +167,44 @@ fn next_entry<'a, V, M: Summary<V>, A: Allocator>(
     if let Some(entry) = next_below(rest) {
         return Some(entry);
     }
-    match rest.root.take() {
-        None => None,
-        Some(slot) => Some(enter(rest, 7, slot)),
-    }
+    first_entry(rest)
 }
 
 impl<'a, V, M: Summary<V>, A: Allocator> Iter<'a, V, M, A> {
+    // The entries of a child of this height.
+    fn of(root: Option<&'a Slot<V, M, A>>, height: u32) -> Iter<'a, V, M, A>
+        requires fits { RootFits height root }
+        requires height { height ≤ 7 }
+        ensures { result ≡ root_left height root.entry }
+    {
+        let rest = Rest {
+            list: &[],
+            levels: [&[]; 7],
+            root,
+            height,
+        };
+        Iter { rest }
+    }
+
     // The entries of the trie of this root.
     pub(crate) fn new(root: &'a Option<Slot<V, M, A>>) -> Iter<'a, V, M, A>
         requires { RootStands root.now }
         ensures { result ≡ by_key 7 (root_entries root.now) }
     {
-        let rest = Rest {
-            list: &[],
-            levels: [&[]; 7],
-            root: root.as_ref(),
-        };
-        Iter { rest }
+        Iter::of(root.as_ref(), 7)
+    }
+
+    // Those whose paths begin with a prefix.
+    pub(crate) fn under(root: &'a Option<Slot<V, M, A>>, prefix: Prefix) -> Iter<'a, V, M, A>
+        requires { RootStands root.now }
+        ensures short { length prefix ≤ 7 }
+        ensures part { result ≡ by_key (7 - length prefix) (under_prefix prefix (root_entries root.now)) }
+    {
+        let height = 7 - prefix.depth();
+        match root {
+            None => Iter::of(None, height),
+            Some(slot) => Iter::of(slot_below(slot, 7, prefix), height),
+        }
     }
 }
 
@@ -177,7 +217,7 @@ impl<'a, V, M: Summary<V>, A: Allocator> Iterator for Iter<'a, V, M, A> {
 
     fn next(&mut self) -> Option<(&'a Key<A>, &'a V)> {
         let entry = next_entry(&mut self.rest)?;
-        Some((&entry.key, &*entry.value))
+        Some((&entry.key, &entry.value))
     }
 }
 

@@ -13,6 +13,7 @@ mod node;
 mod put;
 mod root;
 mod sealing;
+mod seeking;
 mod summary;
 mod summing;
 mod take;

@@ -1,4 +1,4 @@
-ghost use Rattle.std.specs.Prelude.{◌≡◌, ℕ, ◌<◌, ◌≤◌, [], ◌^◌, ◌%◌, count_ones, MatchOption, vec_len};
+ghost use Rattle.std.specs.Prelude.{◌≡◌, ℕ, ◌<◌, ◌≤◌, [], ◌^◌, ◌%◌, count_ones, MatchOption, IfSome, vec_len};
 ghost use Rattle.std.specs.Option.{option_map};
 ghost use Rattle.std.specs.FinMap.Entries.{find};
 ghost use Rattle.dots.specs.Bytes.{bytes_cmp};
@@ -6,7 +6,7 @@ ghost use Rattle.hash_path.specs.Word.{word, digit};
 ghost use Rattle.hash_path.specs.Fan.{at, place, there};
 ghost use Rattle.gen_trie.specs.Shapes.{children, child, StandsBelow, IsBranch, IsSeat, listed};
 
-use crate::entry::Entry;
+use crate::entry::{Entry, entry_for};
 use crate::summary::Summary;
 use hash_path::index_at;
 use std::alloc::Allocator;
@@ -178,31 +178,33 @@ fn slot_at<V, M: Summary<V>, A: Allocator>(
     slot_of(slots, below, bitmap, index)
 }
 
-// The value of a key among those of equal hashes.
+// The entry of a key among those of equal hashes.
 fn in_list<'a, V, A: Allocator>(
     entries: &'a [Arc<Entry<V, A>, A>],
     hash: u32,
     key: &[u8],
-) -> Option<&'a Arc<V, A>>
-    ensures { option_map (λ value. value.now.value) result ≡ find bytes_cmp (word 0 hash key.now) (listed entries.now) }
+) -> Option<&'a Arc<Entry<V, A>, A>>
+    ensures value { option_map (λ found. found.now.value.value) result ≡ find bytes_cmp (word 0 hash key.now) (listed entries.now) }
+    ensures key { IfSome result (λ found. found.now.value.key ≡ key.now) }
 {
     for entry in entries {
-        if let Some(value) = entry.value_at(hash, key) {
-            return Some(value);
+        if let Some(found) = entry_for(entry, hash, key) {
+            return Some(found);
         }
     }
     None
 }
 
 impl<V, M: Summary<V>, A: Allocator> Node<V, M, A> {
-    // The value of the key of this hash and these bytes.
-    pub fn lookup<'a>(&'a self, hash: u32, key: &[u8]) -> Option<&'a Arc<V, A>>
-        ensures { option_map (λ value. value.now.value) result ≡ find bytes_cmp (word self.now.0 hash key.now) self.now.1 }
+    // The entry of this hash and these bytes.
+    pub fn lookup<'a>(&'a self, hash: u32, key: &[u8]) -> Option<&'a Arc<Entry<V, A>, A>>
+        ensures value { option_map (λ found. found.now.value.value) result ≡ find bytes_cmp (word self.now.0 hash key.now) self.now.1 }
+        ensures key { IfSome result (λ found. found.now.value.key ≡ key.now) }
     {
         match &self.shape {
             Shape::Branch(below, bitmap, slots) => match slot_at(slots, *below, *bitmap, hash) {
                 None => None,
-                Some(Slot::One(_, entry)) => entry.value_at(hash, key),
+                Some(Slot::One(_, entry)) => entry_for(entry, hash, key),
                 Some(Slot::Many(_, node)) => node.lookup(hash, key),
             },
             Shape::Keys(entries) => in_list(entries, hash, key),

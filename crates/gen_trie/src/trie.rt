@@ -1,4 +1,4 @@
-ghost use Rattle.std.specs.Prelude.{◌≡◌, OnOk, OnErr, IfOk, IsOkUnless};
+ghost use Rattle.std.specs.Prelude.{◌≡◌, IfSome, OnOk, OnErr, IfOk, IsOkUnless};
 ghost use Rattle.std.specs.Option.{option_map};
 ghost use Rattle.std.specs.FinMap as finite;
 ghost use Rattle.hash_path.specs.Map.{walk};
@@ -6,6 +6,7 @@ ghost use Rattle.gen_trie.specs.Root.{IsTrie};
 ghost use Rattle.gen_trie.specs.Shown.{shown, shown_of, generation_after};
 ghost use Rattle.dots.specs.declared.refusal.Refusal.TheVariants.{OutOfMemory};
 
+use crate::entry::Entry;
 use crate::frozen::Frozen;
 use crate::iter::Iter;
 use crate::node::Slot;
@@ -22,7 +23,7 @@ use std::sync::Arc;
 ///
 /// It is a trie by the path hash of the keys: 32 children a branch, five bits of the hash a level, and lists of keys
 /// with equal hashes past the last. What is written after a freeze is copied first, node by node, so a frozen map stays
-/// what it was. An entry takes three allocations: the entry, the key's bytes, the value.
+/// what it was. An entry takes two allocations: the entry with its value, and the key's bytes.
 #[derive(Drop)]
 pub struct GenTrie<V, M: Summary<V>, H: PathHash, A: Allocator = Global> {
     alloc: A,
@@ -66,10 +67,18 @@ impl<V, M: Summary<V>, H: PathHash, A: Allocator + Copy> GenTrie<V, M, H, A> {
     pub fn lookup(&self, key: &Key<A>) -> Option<&V>
         ensures { option_map (λ value. value.now) result ≡ finite.get self.now.map key.now }
     {
-        let hash = self.hash.hash(key.bytes());
-        match look_root(&self.root, hash, key.bytes()) {
+        self.lookup_bytes(key.bytes())
+    }
+
+    /// The value of the key of these bytes. Touches eight nodes at most, and takes no memory.
+    /// None exactly where the key is not there.
+    pub fn lookup_bytes(&self, key: &[u8]) -> Option<&V>
+        ensures { option_map (λ value. value.now) result ≡ finite.get self.now.map key.now }
+    {
+        let hash = self.hash.hash(key);
+        match look_root(&self.root, hash, key) {
             None => None,
-            Some(value) => Some(&**value),
+            Some(entry) => Some(&entry.value),
         }
     }
 
@@ -130,11 +139,12 @@ impl<V: Drop, M: Summary<V>, H: PathHash, A: Allocator + Copy> GenTrie<V, M, H, 
         )
     }
 
-    /// Takes the key out, and gives the value that was there. A refused call leaves the map as it was. A key that is not
+    /// Takes the key out, and gives its entry, with the value that was there. A refused call leaves the map as it was. A key that is not
     /// there takes no memory. Touches eight nodes at most, and copies those that a frozen map shares.
     /// Its only refusal is OutOfMemory.
-    pub fn remove(&mut self, key: &Key<A>) -> Result<Option<Arc<V, A>>, Refusal>
-        ensures value { IfOk result (λ taken. option_map (λ value. value.value) taken ≡ finite.get self.old.map key.now) }
+    pub fn remove(&mut self, key: &Key<A>) -> Result<Option<Arc<Entry<V, A>, A>>, Refusal>
+        ensures value { IfOk result (λ taken. option_map (λ entry. entry.value.value) taken ≡ finite.get self.old.map key.now) }
+        ensures key { IfOk result (λ taken. IfSome taken (λ entry. entry.value.key ≡ key.now)) }
         ensures ok { OnOk result (self.new ≡ record self.old { map = finite.remove self.old.map key.now }) }
         ensures same { OnErr result (self.new ≡ self.old) }
         ensures err { IsOkUnless result OutOfMemory }

@@ -21,7 +21,7 @@ fn taken(alloc: Global, trie: &mut Map, key: &[u8]) -> Result<Option<u64>, Refus
     let key = Key::new(alloc, key)?;
     match trie.remove(&key)? {
         None => Ok(None),
-        Some(value) => Ok(Some(*value)),
+        Some(entry) => Ok(Some(*entry.value())),
     }
 }
 

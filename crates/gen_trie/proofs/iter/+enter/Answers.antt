@@ -17,7 +17,7 @@ pub enter-requires : goal.enter-requires
 enter-requires g t c κs within =
     let fits = first_fits c.args.below _ _ _ _ _ c.in-Many.is c.deref.ensures c.requires.fits c.behind-node.view_is _ _ _ c.in-Branch.is c.behind-node.invariant.0 _ _ _ c.as_slice.ensures.value c.in-Some.ensures.cases.0 in
     let lower = lower_is c.args.below _ _ _ _ _ c.in-Many.is c.deref.ensures c.requires.fits c.behind-node.view_is _ _ _ c.in-Branch.is c.behind-node.invariant.0 in
-    (omega (arith, lower, c.decreases), (within.0, (within.1.0, (within.1.1, (omega arith, (fits, ((c.leave.ensures.stand, c.requires.stands.1), (c.requires.past.0, c.leave.ensures.past))))))))
+    (omega (arith, lower, c.decreases), (within.0, (within.1.0, (within.1.1, (omega arith, (fits, ((c.leave.ensures.stand, c.requires.stands.1, c.requires.stands.2), (c.requires.past.0, c.leave.ensures.past))))))))
 
 pub unreachable-requires-in-None-split_first : goal.unreachable-requires-in-None-split_first
 unreachable-requires-in-None-split_first g t c =

@@ -8,8 +8,8 @@ use Rattle.gen_trie.proofs.summing.+summing.Goals as goal
 
 pub sum_of-returns-in-One-clause-summary : goal.sum_of-returns-in-One-clause-summary
 sum_of-returns-in-One-clause-summary g t c =
-    one_key g.M.Summary.calls c.args.below c.args.slot.now c.in-One.index c.in-One.entry c.bytes.result.now c.deref-in-One-2.result.now c.leaf.result c.in-One.is
-    (c.bytes.ensures.value ∙ ap (λ e. e.key) c.deref.ensures) (c.deref-in-One-2.ensures ∙ ap (λ e. e.value.value) c.deref-in-One.ensures) c.leaf.ensures
+    one_key g.M.Summary.calls c.args.below c.args.slot.now c.in-One.index c.in-One.entry c.bytes.result.now c.deref-in-One.result.now.value c.leaf.result c.in-One.is
+    (c.bytes.ensures.value ∙ ap (λ e. e.key) c.deref.ensures) (ap (λ e. e.value) c.deref-in-One.ensures) c.leaf.ensures
 
 pub branch_of-branch_of-requires : goal.branch_of-branch_of-requires
 branch_of-branch_of-requires g t c κs within =
