@@ -94,7 +94,7 @@ macro_rules! plain {
 plain!(HashMap);
 plain!(BTreeMap);
 
-/// The same with a map of std. A freeze is a clone, and so is the freeze before the writes.
+/// The same with a map of std. A share is a clone, and so is the share before the writes.
 fn plain<M: Plain>(keys: &[u64], step: u32, times: u32) -> f64 {
     let begin = now();
     let mut map = M::default();
@@ -141,8 +141,8 @@ const STEPS: [&str; 5] = [
     "lookup",
     "remove",
     "iterate",
-    "freeze",
-    "freeze, write again",
+    "share",
+    "share, write again",
 ];
 
 fn tries(count: usize, repeats: Repeats) {
@@ -151,8 +151,8 @@ fn tries(count: usize, repeats: Repeats) {
     println!("{count} keys of 8 bytes: microseconds a key, and times a HashMap's and a BTreeMap's");
     for (step, name) in (0..).zip(STEPS) {
         let repeats = match name {
-            // a walk and a freeze are short beside the insertion before them
-            "iterate" | "freeze" => Repeats {
+            // a walk and a share are short beside the insertion before them
+            "iterate" | "share" => Repeats {
                 times: 20 * repeats.times,
                 ..repeats
             },
@@ -169,7 +169,7 @@ fn tries(count: usize, repeats: Repeats) {
         if step == 0 {
             row("insert", ours.0 * scale, ours.0 / hash.0, ours.0 / tree.0);
         }
-        if name == "freeze" {
+        if name == "share" {
             // once for each key, where a plain map is cloned once
             let each = ours.1 * scale;
             row(name, each, each / (1e6 * hash.1), each / (1e6 * tree.1));

@@ -45,16 +45,16 @@ fn sum_of_walk(trie: &Trie) -> u64 {
 
 // Writes each key with a frozen map beside it.
 fn write_beside(alloc: Global, trie: &mut Trie, keys: &[u64]) -> Result<u64, Refusal> {
-    let frozen: Frozen<u64, NoSummary, Fnv1a> = trie.freeze()?;
+    let frozen: Frozen<u64, NoSummary, Fnv1a> = trie.share()?;
     insert_all(alloc, trie, keys)?;
     Ok(frozen.size())
 }
 
-// Freezes as often as there are keys.
-fn freeze_often(trie: &mut Trie, keys: &[u64]) -> Result<u64, Refusal> {
+// Shares as often as there are keys.
+fn share_often(trie: &mut Trie, keys: &[u64]) -> Result<u64, Refusal> {
     let mut sum: u64 = 0;
     for _ in keys {
-        let frozen: Frozen<u64, NoSummary, Fnv1a> = trie.freeze()?;
+        let frozen: Frozen<u64, NoSummary, Fnv1a> = trie.share()?;
         sum = sum.wrapping_add(frozen.size());
     }
     Ok(sum)
@@ -69,7 +69,7 @@ fn step_once(alloc: Global, trie: &mut Trie, keys: &[u64], step: u32) -> Result<
             Ok(trie.size())
         }
         2 => Ok(sum_of_walk(trie)),
-        3 => freeze_often(trie, keys),
+        3 => share_often(trie, keys),
         _ => write_beside(alloc, trie, keys),
     }
 }
@@ -85,7 +85,7 @@ fn steps(alloc: Global, keys: &[u64], step: u32, times: u32) -> Result<u64, Refu
 }
 
 /// Inserts the keys, eight bytes each, into a new trie, and then so many times does the step with all of them: 0 looks
-/// each up, 1 removes each, 2 walks, 3 freezes once for each key, 4 freezes and writes each again.
+/// each up, 1 removes each, 2 walks, 3 shares once for each key, 4 shares and writes each again.
 #[unsafe(no_mangle)]
 pub extern "C" fn measure_trie(alloc: Global, keys: &[u64], step: u32, times: u32) -> u64 {
     match steps(alloc, keys, step, times) {

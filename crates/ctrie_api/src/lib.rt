@@ -8,4 +8,5 @@ mod tries;
 
 pub use act::Act;
 pub use ctrie::Ctrie;
+pub use gen_trie::NoSummary;
 pub use tries::Tries;

@@ -7,6 +7,7 @@ ghost use Rattle.ctrie_api.specs.Run.{acted, acted_all, index_of, is_refused, Is
 use crate::act::Act;
 use crate::ctrie::Ctrie;
 use dots::{Key, Refusal};
+use gen_trie::{NoSummary, Summary};
 use hash_path::PathHash;
 use std::alloc::{Allocator, Global};
 use std::marker::Model;
@@ -15,11 +16,11 @@ use std::marker::Model;
 ///
 /// A write changes its own trie alone, and a snapshot is a copy that comes last.
 #[derive(Drop)]
-pub struct Tries<V, H: PathHash, A: Allocator = Global> {
-    tries: Vec<Ctrie<V, H, A>, A>,
+pub struct Tries<V, H: PathHash, M: Summary<V> = NoSummary, A: Allocator = Global> {
+    tries: Vec<Ctrie<V, H, M, A>, A>,
 }
 
-impl<V, H: PathHash, A: Allocator> Model for Tries<V, H, A> {
+impl<V, H: PathHash, M: Summary<V>, A: Allocator> Model for Tries<V, H, M, A> {
     ghost use Rattle.std.specs.Prelude.{List};
     ghost use Rattle.std.specs.Coded.{coded_list};
     ghost use Rattle.ctrie_api.specs.Trie.{Trie, trie_code};
@@ -31,10 +32,10 @@ impl<V, H: PathHash, A: Allocator> Model for Tries<V, H, A> {
     ghost view = { λ a. a.tries.items };
 }
 
-impl<V: Drop, H: PathHash, A: Allocator + Copy> Tries<V, H, A> {
+impl<V: Drop, H: PathHash, M: Summary<V>, A: Allocator + Copy> Tries<V, H, M, A> {
     /// This trie alone.
     /// Its only refusal is OutOfMemory.
-    pub fn new(alloc: A, first: Ctrie<V, H, A>) -> Result<Tries<V, H, A>, Refusal>
+    pub fn new(alloc: A, first: Ctrie<V, H, M, A>) -> Result<Tries<V, H, M, A>, Refusal>
         ensures ok { IfOk result (λ tries. tries ≡ first ∷ []) }
         ensures err { IsOkUnless result Refusal.OutOfMemory }
     {
@@ -52,7 +53,7 @@ impl<V: Drop, H: PathHash, A: Allocator + Copy> Tries<V, H, A> {
 
     /// The trie of this index.
     /// None exactly where none has it.
-    pub fn trie(&self, index: usize) -> Option<&Ctrie<V, H, A>>
+    pub fn trie(&self, index: usize) -> Option<&Ctrie<V, H, M, A>>
         ensures { option_map (λ trie. trie.now) result ≡ slice_get self.now index }
     {
         self.tries.get(index)
@@ -83,7 +84,7 @@ impl<V: Drop, H: PathHash, A: Allocator + Copy> Tries<V, H, A> {
     }
 }
 
-impl<V: Drop, H: PathHash, A: Allocator + Copy> Tries<V, H, A> {
+impl<V: Drop, H: PathHash, M: Summary<V>, A: Allocator + Copy> Tries<V, H, M, A> {
     /// Carries acts out, one after the other, up to the first for which memory was refused: an error tells how many were
     /// carried out before it. An act that is refused as its trie is read-only, or that is at none, is passed over.
     pub fn run(&mut self, acts: Vec<Act<V, A>, A>) -> Result<(), usize>
@@ -117,8 +118,8 @@ impl<V: Drop, H: PathHash, A: Allocator + Copy> Tries<V, H, A> {
 }
 
 // Puts the value into the trie of this index, and tells whether that is there.
-fn insert_at<V: Drop, H: PathHash, A: Allocator + Copy>(
-    tries: &mut [Ctrie<V, H, A>],
+fn insert_at<V: Drop, H: PathHash, M: Summary<V>, A: Allocator + Copy>(
+    tries: &mut [Ctrie<V, H, M, A>],
     index: usize,
     key: Key<A>,
     value: V,
@@ -137,8 +138,8 @@ fn insert_at<V: Drop, H: PathHash, A: Allocator + Copy>(
 }
 
 // Takes the key out of the trie of this index, and tells whether that is there.
-fn remove_at<V: Drop, H: PathHash, A: Allocator + Copy>(
-    tries: &mut [Ctrie<V, H, A>],
+fn remove_at<V: Drop, H: PathHash, M: Summary<V>, A: Allocator + Copy>(
+    tries: &mut [Ctrie<V, H, M, A>],
     index: usize,
     key: Key<A>,
 ) -> Result<bool, Refusal>
@@ -156,8 +157,8 @@ fn remove_at<V: Drop, H: PathHash, A: Allocator + Copy>(
 }
 
 // Takes all keys out of the trie of this index, and tells whether that is there.
-fn clear_at<V: Drop, H: PathHash, A: Allocator + Copy>(
-    tries: &mut [Ctrie<V, H, A>],
+fn clear_at<V: Drop, H: PathHash, M: Summary<V>, A: Allocator + Copy>(
+    tries: &mut [Ctrie<V, H, M, A>],
     index: usize,
 ) -> Result<bool, Refusal>
     ensures there { IfOk result (λ there. IsTrue there ↔ index < length tries.old) }
@@ -174,8 +175,8 @@ fn clear_at<V: Drop, H: PathHash, A: Allocator + Copy>(
 }
 
 // Appends a snapshot of the trie of this index, and tells whether that is there.
-fn add_snapshot<V: Drop, H: PathHash, A: Allocator + Copy>(
-    tries: &mut Vec<Ctrie<V, H, A>, A>,
+fn add_snapshot<V: Drop, H: PathHash, M: Summary<V>, A: Allocator + Copy>(
+    tries: &mut Vec<Ctrie<V, H, M, A>, A>,
     index: usize,
 ) -> Result<bool, Refusal>
     ensures there { IfOk result (λ there. IsTrue there ↔ index < length tries.old.items) }
@@ -188,8 +189,8 @@ fn add_snapshot<V: Drop, H: PathHash, A: Allocator + Copy>(
 }
 
 // Appends a read-only snapshot of the trie of this index, and tells whether that is there.
-fn add_read_only_snapshot<V: Drop, H: PathHash, A: Allocator + Copy>(
-    tries: &mut Vec<Ctrie<V, H, A>, A>,
+fn add_read_only_snapshot<V: Drop, H: PathHash, M: Summary<V>, A: Allocator + Copy>(
+    tries: &mut Vec<Ctrie<V, H, M, A>, A>,
     index: usize,
 ) -> Result<bool, Refusal>
     ensures there { IfOk result (λ there. IsTrue there ↔ index < length tries.old.items) }
@@ -202,10 +203,10 @@ fn add_read_only_snapshot<V: Drop, H: PathHash, A: Allocator + Copy>(
 }
 
 // A snapshot of the trie of this index, if that is there.
-fn snapshot_at<V: Drop, H: PathHash, A: Allocator + Copy>(
-    tries: &mut [Ctrie<V, H, A>],
+fn snapshot_at<V: Drop, H: PathHash, M: Summary<V>, A: Allocator + Copy>(
+    tries: &mut [Ctrie<V, H, M, A>],
     index: usize,
-) -> Result<Option<Ctrie<V, H, A>>, Refusal>
+) -> Result<Option<Ctrie<V, H, M, A>>, Refusal>
     ensures ok { IfOk result (λ made. made ≡ slice_get tries.old index) }
     ensures same { tries.new ≡ tries.old }
     ensures err { IsOkUnless result Refusal.OutOfMemory }
@@ -218,10 +219,10 @@ fn snapshot_at<V: Drop, H: PathHash, A: Allocator + Copy>(
 }
 
 // A read-only snapshot of the trie of this index, if that is there.
-fn read_only_snapshot_at<V: Drop, H: PathHash, A: Allocator + Copy>(
-    tries: &mut [Ctrie<V, H, A>],
+fn read_only_snapshot_at<V: Drop, H: PathHash, M: Summary<V>, A: Allocator + Copy>(
+    tries: &mut [Ctrie<V, H, M, A>],
     index: usize,
-) -> Result<Option<Ctrie<V, H, A>>, Refusal>
+) -> Result<Option<Ctrie<V, H, M, A>>, Refusal>
     ensures ok { IfOk result (λ made. made ≡ option_map read_only (slice_get tries.old index)) }
     ensures same { tries.new ≡ tries.old }
     ensures err { IsOkUnless result Refusal.OutOfMemory }
@@ -234,9 +235,9 @@ fn read_only_snapshot_at<V: Drop, H: PathHash, A: Allocator + Copy>(
 }
 
 // Appends the trie that was made, if one was, and tells whether one was.
-fn add<V: Drop, H: PathHash, A: Allocator + Copy>(
-    tries: &mut Vec<Ctrie<V, H, A>, A>,
-    made: Option<Ctrie<V, H, A>>,
+fn add<V: Drop, H: PathHash, M: Summary<V>, A: Allocator + Copy>(
+    tries: &mut Vec<Ctrie<V, H, M, A>, A>,
+    made: Option<Ctrie<V, H, M, A>>,
 ) -> Result<bool, Refusal>
     ensures there { IfOk result (λ there. there ≡ is_some made) }
     ensures ok { OnOk result (tries.new.items ≡ tries.old.items ++ as_list made) }

@@ -6,3 +6,5 @@ pub mod Pairs
 pub mod Takes
 pub mod Iters
 pub mod Sums
+pub mod Seals
+pub mod Seeks

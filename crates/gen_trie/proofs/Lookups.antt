@@ -18,9 +18,9 @@ use Rattle.gen_trie.specs.Shapes.{children, child, entry_at, height_and_entries,
 
 -- one entry is found by its hash and its bytes
 pub found_one : {V A : Type 0} (below hash : ℕ) (key : List ℕ) (e : Entry V A) → find bytes_cmp (word below hash key) (entry_at below e ∷ []) ≡ find bytes_cmp (hash ∷ key) (entry_at 0 e ∷ [])
-found_one below hash key e = ap (λ b. cond b (Some e.value.value) None) (tied-word below hash e.hash key e.key)
+found_one below hash key e = ap (λ b. cond b (Some e.value) None) (tied-word below hash e.hash key e.key)
 
-module _ {V A : Type 0} (shape : Shape V A) (node : ℕ × List (List ℕ × V)) (below m hash : ℕ) (key : List ℕ) (slots : Vec (Slot V A) A)
+module _ {V M A : Type 0} (shape : Shape V M A) (node : ℕ × List (List ℕ × V)) (below m hash : ℕ) (key : List ℕ) (slots : Vec (Slot V M A) A)
     (seen : height_and_entries shape ≡ node) (is : shape ≡ Branch below m slots) (holds : IsCanonical shape) where
   below_it : find bytes_cmp (word node.0 hash key) node.1 ≡ find bytes_cmp (word below hash key) (at (digit below hash) (children below slots.items))
   below_it =
@@ -31,14 +31,14 @@ module _ {V A : Type 0} (shape : Shape V A) (node : ℕ × List (List ℕ × V))
   pub look_none : at (digit below hash) (children below slots.items) ≡ [] → None ≡ find bytes_cmp (word node.0 hash key) node.1
   look_none e = sym (below_it ∙ ap (find bytes_cmp (word below hash key)) e)
 
-  pub look_one : (s : Slot V A) (i : ℕ) (e : Arc (Entry V A) A) (x : Entry V A) (r : Option V) → s ≡ One i e → x ≡ e.value
+  pub look_one : (s : Slot V M A) (i : ℕ) (e : Arc (Entry V A) A) (x : Entry V A) (r : Option V) → s ≡ One i e → x ≡ e.value
       → (child below s ≡ (digit below hash, at (digit below hash) (children below slots.items))) × StandsBelow below s
       → r ≡ find bytes_cmp (hash ∷ key) (entry_at 0 x ∷ []) → r ≡ find bytes_cmp (word node.0 hash key) node.1
   look_one s i e x r one q h f =
       let entries : entry_at below e.value ∷ [] ≡ at (digit below hash) (children below slots.items) = ap (λ c. c.1) (ap (child below) (sym one) ∙ h.0) in
       f ∙ ap (λ y. find bytes_cmp (hash ∷ key) (entry_at 0 y ∷ [])) q ∙ sym (found_one below hash key e.value) ∙ ap (find bytes_cmp (word below hash key)) entries ∙ sym below_it
 
-  pub look_many : (s : Slot V A) (i : ℕ) (n : Arc (Node V A) A) (x : Node V A) (r : Option V) → s ≡ Many i n → x ≡ n.value
+  pub look_many : (s : Slot V M A) (i : ℕ) (n : Arc (Node V M A) A) (x : Node V M A) (r : Option V) → s ≡ Many i n → x ≡ n.value
       → (child below s ≡ (digit below hash, at (digit below hash) (children below slots.items))) × StandsBelow below s
       → r ≡ find bytes_cmp (word x.0 hash key) x.1 → r ≡ find bytes_cmp (word node.0 hash key) node.1
   look_many s i n x r many q h f =

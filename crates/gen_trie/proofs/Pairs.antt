@@ -41,11 +41,19 @@ words_rest height i [] rest a = a
 words_rest height i (e ∷ es) rest a = words_rest height i es rest a.1
 
 module _ {V A : Type 0} (below : ℕ) where
-  slot_has : (s : Slot V A) → StandsBelow below s → 1 ≤ length (child below s).1
+  -- one entry below an index, in a branch
+  up_one : (i : ℕ) (e : Entry V A) (es rest : List (List ℕ × V)) → es ≡ entry_at below e ∷ [] → AllWords (suc below) (under i es ++ rest) → under i es ++ rest ≡ entry_at (suc below) e ∷ rest
+  up_one i e es rest is words =
+      let here = subst (λ l. AllWords (suc below) (under i l ++ rest)) is words in
+      let index = word_index below i e.hash e.key here.0 in
+      ap (λ l. under i l ++ rest) is ∙ (λ k. (index k ∷ word below e.hash e.key, e.value) ∷ rest)
+
+module _ {V M A : Type 0} (below : ℕ) where
+  slot_has : (s : Slot V M A) → StandsBelow below s → 1 ≤ length (child below s).1
   slot_has (One i e) h = omega arith
   slot_has (Many i n) h = let k = h.1 in omega arith
 
-  pub fan_long : (ss : List (Slot V A)) → All (StandsBelow below) ss → length ss ≤ length (fan (children below ss))
+  pub fan_long : (ss : List (Slot V M A)) → All (StandsBelow below) ss → length ss ≤ length (fan (children below ss))
   fan_long [] h = omega arith
   fan_long (s ∷ ss) h =
       let first = slot_has s (All-head (StandsBelow below) s ss h) in
@@ -54,29 +62,22 @@ module _ {V A : Type 0} (below : ℕ) where
       let own = length-under (child below s).0 (child below s).1 in
       omega arith
 
-  -- one entry below an index, in a branch
-  up_one : (i : ℕ) (e : Entry V A) (es rest : List (List ℕ × V)) → es ≡ entry_at below e ∷ [] → AllWords (suc below) (under i es ++ rest) → under i es ++ rest ≡ entry_at (suc below) e ∷ rest
-  up_one i e es rest is words =
-      let here = subst (λ l. AllWords (suc below) (under i l ++ rest)) is words in
-      let index = word_index below i e.hash e.key here.0 in
-      ap (λ l. under i l ++ rest) is ∙ (λ k. (index k ∷ word below e.hash e.key, e.value.value) ∷ rest)
-
-  pub pair_none : (m : ℕ) (ss : List (Slot V A)) (node : ℕ × List (List ℕ × V)) → node ≡ (suc below, fan (children below ss)) → IsBranch below m ss → 3 ≤ length ss → length node.1 ≢ 2
+  pub pair_none : (m : ℕ) (ss : List (Slot V M A)) (node : ℕ × List (List ℕ × V)) → node ≡ (suc below, fan (children below ss)) → IsBranch below m ss → 3 ≤ length ss → length node.1 ≢ 2
   pair_none m ss node e b h two =
       let long = fan_long ss b.fits in
       let same = ap (λ n. length n.1) e in
       omega arith
 
-  pub pair_empty : (ss : List (Slot V A)) (node : ℕ × List (List ℕ × V)) → node ≡ (suc below, fan (children below ss)) → length ss < 1 → length node.1 ≢ 2
+  pub pair_empty : (ss : List (Slot V M A)) (node : ℕ × List (List ℕ × V)) → node ≡ (suc below, fan (children below ss)) → length ss < 1 → length node.1 ≢ 2
   pair_empty [] node e h two = let same = ap (λ n. length n.1) e in omega arith
   pair_empty (s ∷ ss) node e h two = absurd (omega arith)
 
-  pub pair_one : (ss : List (Slot V A)) (i : ℕ) (x : Arc (Entry V A) A) (node : ℕ × List (List ℕ × V)) → node ≡ (suc below, fan (children below ss)) → ss ≡ One i x ∷ [] → length node.1 ≢ 2
+  pub pair_one : (ss : List (Slot V M A)) (i : ℕ) (x : Arc (Entry V A) A) (node : ℕ × List (List ℕ × V)) → node ≡ (suc below, fan (children below ss)) → ss ≡ One i x ∷ [] → length node.1 ≢ 2
   pair_one ss i x node e is two =
       let same = ap (λ n. length n.1) e ∙ ap (λ l. length (fan (children below l))) is in
       omega arith
 
-  pub pair_many : {X : Type 0} (a b : X → Entry V A) (m : ℕ) (ss : List (Slot V A)) (i : ℕ) (n : Arc (Node V A) A) (node : ℕ × List (List ℕ × V)) (r : Option X)
+  pub pair_many : {X : Type 0} (a b : X → Entry V A) (m : ℕ) (ss : List (Slot V M A)) (i : ℕ) (n : Arc (Node V M A) A) (node : ℕ × List (List ℕ × V)) (r : Option X)
       → node ≡ (suc below, fan (children below ss)) → IsBranch below m ss → ss ≡ Many i n ∷ []
       → MatchOption r (length n.value.1 ≢ 2) (λ x. n.value.1 ≡ entry_at n.value.0 (a x) ∷ entry_at n.value.0 (b x) ∷ [])
       → MatchOption r (length node.1 ≢ 2) (λ x. node.1 ≡ entry_at node.0 (a x) ∷ entry_at node.0 (b x) ∷ [])
@@ -94,11 +95,11 @@ module _ {V A : Type 0} (below : ℕ) where
       let first = word_index below i (a x).hash (a x).key w.0 in
       let second = word_index below i (b x).hash (b x).key w.1.0 in
       ap (λ y. y.1) seen ∙ ap (λ l. under i l ++ []) q'
-      ∙ (λ k. (first k ∷ word below (a x).hash (a x).key, (a x).value.value) ∷ (second k ∷ word below (b x).hash (b x).key, (b x).value.value) ∷ [])
+      ∙ (λ k. (first k ∷ word below (a x).hash (a x).key, (a x).value) ∷ (second k ∷ word below (b x).hash (b x).key, (b x).value) ∷ [])
       ∙ ap (λ k. entry_at k (a x) ∷ entry_at k (b x) ∷ []) (sym (ap (λ y. y.0) seen)))
       h
 
-  pub pair_two : {X : Type 0} (a b : X → Entry V A) (m : ℕ) (ss : List (Slot V A)) (s t : Slot V A) (node : ℕ × List (List ℕ × V)) (r : Option X)
+  pub pair_two : {X : Type 0} (a b : X → Entry V A) (m : ℕ) (ss : List (Slot V M A)) (s t : Slot V M A) (node : ℕ × List (List ℕ × V)) (r : Option X)
       → node ≡ (suc below, fan (children below ss)) → IsBranch below m ss → ss ≡ s ∷ t ∷ []
       → MatchOption r (StandsBelow below s → StandsBelow below t → 3 ≤ length (child below s).1 + length (child below t).1) (λ x. ((child below s).1 ≡ entry_at below (a x) ∷ []) × ((child below t).1 ≡ entry_at below (b x) ∷ []))
       → MatchOption r (length node.1 ≢ 2) (λ x. node.1 ≡ entry_at node.0 (a x) ∷ entry_at node.0 (b x) ∷ [])
@@ -119,6 +120,6 @@ module _ {V A : Type 0} (below : ℕ) where
       option_so r
       (λ f two. let same = ap (λ x. length x.1) seen in let long = f fits_s fits_t in omega arith)
       (λ x q.
-      ap (λ y. y.1) seen ∙ up_one i (a x) es (under j fs ++ []) q.0 words ∙ ap (λ l. entry_at (suc below) (a x) ∷ l) (up_one j (b x) fs [] q.1 (words_rest (suc below) i es (under j fs ++ []) words))
+      ap (λ y. y.1) seen ∙ up_one below i (a x) es (under j fs ++ []) q.0 words ∙ ap (λ l. entry_at (suc below) (a x) ∷ l) (up_one below j (b x) fs [] q.1 (words_rest (suc below) i es (under j fs ++ []) words))
       ∙ ap (λ k. entry_at k (a x) ∷ entry_at k (b x) ∷ []) (sym (ap (λ y. y.0) seen)))
       h

@@ -7,8 +7,8 @@ use Rattle.hash_path.proofs.Places.{position_is, place_le, test_some, test_none,
 use Rattle.gen_trie.specs.declared.node.Slot.{Slot}
 use Rattle.gen_trie.specs.Shapes.{children, child, StandsBelow, IsBranch, IsSeat}
 
-module _ {V A : Type 0} (below : ℕ) (ss : List (Slot V A)) where
-  pub some_there : (i n r : ℕ) (s : Slot V A) (items : List (Slot V A)) → items ≡ ss → true ≡ nat_lt n (length items) → s ≡ get_or items n s
+module _ {V M A : Type 0} (below : ℕ) (ss : List (Slot V M A)) where
+  pub some_there : (i n r : ℕ) (s : Slot V M A) (items : List (Slot V M A)) → items ≡ ss → true ≡ nat_lt n (length items) → s ≡ get_or items n s
       → r ≡ (child below s).0 → n ≡ place i (children below ss) → nat_eq r i ≡ there i (children below ss)
   some_there i n r s items q lt e is p =
       let here : s ≡ get_or ss n s = e ∙ ap (λ l. get_or l n s) q in
@@ -18,7 +18,7 @@ module _ {V A : Type 0} (below : ℕ) (ss : List (Slot V A)) where
       subst (λ k. child below s ≡ get_or (children below ss) k (child below s)) p (ap (child below) here ∙ sym (get_or-map (child below) ss n s)) in
       ap (λ k. nat_eq k i) is ∙ test_some i (child below s) (children below ss) inside seen
 
-  pub none_there : (i n : ℕ) (items : List (Slot V A)) → items ≡ ss → false ≡ nat_lt n (length items) → n ≡ place i (children below ss) → false ≡ there i (children below ss)
+  pub none_there : (i n : ℕ) (items : List (Slot V M A)) → items ≡ ss → false ≡ nat_lt n (length items) → n ≡ place i (children below ss) → false ≡ there i (children below ss)
   none_there i n items q lt p =
       let past : length ss ≤ n = ltb-false n (length ss) (ap (λ l. nat_lt n (length l)) (sym q) ∙ sym lt) in
       let beyond : length (children below ss) ≤ place i (children below ss) = subst (λ k. length (children below ss) ≤ k) p (subst (λ k. k ≤ n) (sym (length-map ss (child below))) past) in
@@ -41,7 +41,7 @@ module _ {V A : Type 0} (below : ℕ) (ss : List (Slot V A)) where
             omega arith;
       }
 
-  pub found : (m i count j n : ℕ) (t : Bool) (s : Slot V A) → IsBranch below m ss → IsSeat i (children below ss) count j n t → count ≡ length ss → t ≡ true → s ≡ get_or ss n s
+  pub found : (m i count j n : ℕ) (t : Bool) (s : Slot V M A) → IsBranch below m ss → IsSeat i (children below ss) count j n t → count ≡ length ss → t ≡ true → s ≡ get_or ss n s
       → (child below s ≡ (i, at i (children below ss))) × StandsBelow below s
   found m i count j n t s b seat c h e =
       let inside = there_at i (child below s) (children below ss) (sym seat.taken_is ∙ h) in

@@ -62,12 +62,12 @@ module _ {V : Type 0} (below : ℕ) (hash : ℕ) (key : List ℕ) where
       (ap (λ y. y.0) ok ∙ h.0, let fewer = length-cut (word m.0 hash key) m.1 sorted f in let same = ap (λ y. length y.1) ok in let many = h.1 in omega arith)
   two_left (Err x) n m ok err h two sorted f = (ap (λ y. y.0) err ∙ h.0, subst (λ y. 2 ≤ length y.1) (sym err) h.1)
 
-module _ {V A : Type 0} (below : ℕ) (hash : ℕ) (key : List ℕ) where
-  pub found_at : (m : ℕ) (ss : List (Slot V A)) → IsBranch below m ss → is_some (find bytes_cmp (word (suc below) hash key) (fan (children below ss))) ≡ true
+module _ {V M A : Type 0} (below : ℕ) (hash : ℕ) (key : List ℕ) where
+  pub found_at : (m : ℕ) (ss : List (Slot V M A)) → IsBranch below m ss → is_some (find bytes_cmp (word (suc below) hash key) (fan (children below ss))) ≡ true
       → is_some (find bytes_cmp (word below hash key) (at (digit below hash) (children below ss))) ≡ true
   found_at m ss b f = ap is_some (sym (find-fan 0 (digit below hash) (word below hash key) (children below ss) b.rise)) ∙ f
 
-  pub taken_there : (m count j n : ℕ) (t : Bool) (ss : List (Slot V A)) → IsBranch below m ss → IsSeat (digit below hash) (children below ss) count j n t
+  pub taken_there : (m count j n : ℕ) (t : Bool) (ss : List (Slot V M A)) → IsBranch below m ss → IsSeat (digit below hash) (children below ss) count j n t
       → is_some (find bytes_cmp (word (suc below) hash key) (fan (children below ss))) ≡ true → t ≡ true
   taken_there m count j n t ss b seat f = by (there (digit below hash) (children below ss)) refl
     where
@@ -75,7 +75,7 @@ module _ {V A : Type 0} (below : ℕ) (hash : ℕ) (key : List ℕ) where
       by true e = seat.taken_is ∙ e
       by false e = no_entry (word below hash key) (at (digit below hash) (children below ss)) (at_absent (digit below hash) (children below ss) e) (found_at m ss b f) _
 
-  pub cut_one : (m : ℕ) (ss : List (Slot V A)) (s : Slot V A) (e : Entry V A) → IsBranch below m ss → is_some (find bytes_cmp (word (suc below) hash key) (fan (children below ss))) ≡ true
+  pub cut_one : (m : ℕ) (ss : List (Slot V M A)) (s : Slot V M A) (e : Entry V A) → IsBranch below m ss → is_some (find bytes_cmp (word (suc below) hash key) (fan (children below ss))) ≡ true
       → child below s ≡ (digit below hash, at (digit below hash) (children below ss)) → (child below s).1 ≡ entry_at below e ∷ []
       → cut (word below hash key) (at (digit below hash) (children below ss)) ≡ []
   cut_one m ss s e b f here one =
@@ -84,11 +84,11 @@ module _ {V A : Type 0} (below : ℕ) (hash : ℕ) (key : List ℕ) where
 
   -- ---- a child that goes
 
-  map_remove : (ss : List (Slot V A)) (n : ℕ) → children below (remove ss n) ≡ remove (children below ss) n
+  map_remove : (ss : List (Slot V M A)) (n : ℕ) → children below (remove ss n) ≡ remove (children below ss) n
   map_remove ss n =
       map-append (child below) (take n ss) (drop (suc n) ss) ∙ (λ i. sym (take-map (child below) n ss) i ++ sym (drop-map (child below) (suc n) ss) i)
 
-  pub bit_there : (m count j n : ℕ) (t : Bool) (ss : List (Slot V A)) → IsBranch below m ss → IsSeat (digit below hash) (children below ss) count j n t → t ≡ true → 1 * 2 ^ j % 4294967296 ≤ m
+  pub bit_there : (m count j n : ℕ) (t : Bool) (ss : List (Slot V M A)) → IsBranch below m ss → IsSeat (digit below hash) (children below ss) count j n t → t ≡ true → 1 * 2 ^ j % 4294967296 ≤ m
   bit_there m count j n t ss b seat taken =
       let i = digit below hash in
       let yes : there i (children below ss) ≡ true = sym seat.taken_is ∙ taken in
@@ -98,7 +98,7 @@ module _ {V A : Type 0} (below : ℕ) (hash : ℕ) (key : List ℕ) where
       let shift : 1 * 2 ^ j % 4294967296 ≡ 2 ^ i = one_shl j 32 less ∙ ap (λ k. 2 ^ k) seat.index_is in
       omega arith
 
-  pub drop_is : (m count j n : ℕ) (t : Bool) (ss ts : List (Slot V A)) → IsBranch below m ss → IsSeat (digit below hash) (children below ss) count j n t → t ≡ true
+  pub drop_is : (m count j n : ℕ) (t : Bool) (ss ts : List (Slot V M A)) → IsBranch below m ss → IsSeat (digit below hash) (children below ss) count j n t → t ≡ true
       → cut (word below hash key) (at (digit below hash) (children below ss)) ≡ [] → ts ≡ remove ss n
       → (fan (children below ts) ≡ cut (word (suc below) hash key) (fan (children below ss))) × IsBranch below (m - 1 * 2 ^ j % 4294967296) ts
   drop_is m count j n t ss ts b seat taken none is =
@@ -126,7 +126,7 @@ module _ {V A : Type 0} (below : ℕ) (hash : ℕ) (key : List ℕ) where
 
   -- ---- a child that stays
 
-  pub cut_old_is : (m count j n : ℕ) (t : Bool) (s s' : Slot V A) (ss ts : List (Slot V A)) → IsBranch below m ss → IsSeat (digit below hash) (children below ss) count j n t → t ≡ true
+  pub cut_old_is : (m count j n : ℕ) (t : Bool) (s s' : Slot V M A) (ss ts : List (Slot V M A)) → IsBranch below m ss → IsSeat (digit below hash) (children below ss) count j n t → t ≡ true
       → child below s ≡ (digit below hash, at (digit below hash) (children below ss)) → ts ≡ set ss n s'
       → child below s' ≡ ((child below s).0, cut (word below hash key) (child below s).1) → StandsBelow below s'
       → (fan (children below ts) ≡ cut (word (suc below) hash key) (fan (children below ss))) × IsBranch below m ts
@@ -150,7 +150,7 @@ module _ {V A : Type 0} (below : ℕ) (hash : ℕ) (key : List ℕ) where
       )
 
   -- what the child at the index gives to be taken from
-  pub child_gives : {X : Type 0} (m : ℕ) (ss : List (Slot V A)) (s : Slot V A) (r : Option X) (e : X → Entry V A) → IsBranch below m ss → T (is_sorted bytes_cmp (fan (children below ss)))
+  pub child_gives : {X : Type 0} (m : ℕ) (ss : List (Slot V M A)) (s : Slot V M A) (r : Option X) (e : X → Entry V A) → IsBranch below m ss → T (is_sorted bytes_cmp (fan (children below ss)))
       → is_some (find bytes_cmp (word (suc below) hash key) (fan (children below ss))) ≡ true
       → (child below s ≡ (digit below hash, at (digit below hash) (children below ss))) × StandsBelow below s
       → MatchOption r (StandsBelow below s → 2 ≤ length (child below s).1) (λ x. (child below s).1 ≡ entry_at below (e x) ∷ []) → is_some r ≡ false
@@ -163,7 +163,7 @@ module _ {V A : Type 0} (below : ℕ) (hash : ℕ) (key : List ℕ) where
       )
   child_gives m ss s (Some x) e b sorted f here h t = cc
 
-  pub one_gives : {X : Type 0} (m : ℕ) (ss : List (Slot V A)) (s : Slot V A) (r : Option X) (e : X → Entry V A) → IsBranch below m ss
+  pub one_gives : {X : Type 0} (m : ℕ) (ss : List (Slot V M A)) (s : Slot V M A) (r : Option X) (e : X → Entry V A) → IsBranch below m ss
       → is_some (find bytes_cmp (word (suc below) hash key) (fan (children below ss))) ≡ true
       → child below s ≡ (digit below hash, at (digit below hash) (children below ss))
       → MatchOption r (StandsBelow below s → 2 ≤ length (child below s).1) (λ x. (child below s).1 ≡ entry_at below (e x) ∷ []) → is_some r ≡ true

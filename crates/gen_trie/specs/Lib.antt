@@ -1,5 +1,6 @@
 pub mod Children
 pub mod Shapes
+pub mod Kept
 pub mod Falls
 pub mod Root
 pub mod Left

@@ -9,23 +9,23 @@ use Rattle.hash_path.specs.Map.{HashedBy}
 use Rattle.gen_trie.specs.declared.node.Slot.{Slot}
 use Rattle.gen_trie.specs.Shapes.{child, StandsBelow}
 
-module _ {V A : Type 0} where
+module _ {V M A : Type 0} where
   -- the entries by path. The root's slot has all seven levels of branches below it, and its index is not looked at
-  abbrev pub root_entries : Option (Slot V A) → List (List ℕ × V)
+  abbrev pub root_entries : Option (Slot V M A) → List (List ℕ × V)
   root_entries None = []
   root_entries (Some slot) = (child 7 slot).1
 
-  abbrev pub RootStands : Option (Slot V A) → Type 0
+  abbrev pub RootStands : Option (Slot V M A) → Type 0
   RootStands None = Unit {0}
   RootStands (Some slot) = StandsBelow 7 slot
 
   -- the root has its form, its entries ascend by path, and there are so many
-  pub record IsRoot (root : Option (Slot V A)) (count : ℕ) : Type 0 where
+  pub record IsRoot (root : Option (Slot V M A)) (count : ℕ) : Type 0 where
     pub stands : RootStands root
     pub sorted : T (is_sorted bytes_cmp (root_entries root))
     pub counted : count ≡ length (root_entries root)
 
   -- and each stands at the path of its key
-  pub record IsTrie (hash_of : List ℕ → ℕ) (root : Option (Slot V A)) (count : ℕ) : Type 0 where
+  pub record IsTrie (hash_of : List ℕ → ℕ) (root : Option (Slot V M A)) (count : ℕ) : Type 0 where
     pub root_is : IsRoot root count
     pub hashed : HashedBy hash_of (root_entries root)

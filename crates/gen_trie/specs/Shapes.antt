@@ -1,7 +1,7 @@
 -- What a node stands for: its height, which is the number of indices that are left on the paths of its keys, and its
 -- entries by word. After Prokopec, Bronson, Bagwell and Odersky, "Concurrent Tries with Efficient Non-Blocking
 -- Snapshots" (2012); the lists of keys with equal hashes and the canonical form are this project's own.
-use Rattle.std.specs.Prelude.{◌≡◌, ℕ, suc, ◌<◌, ◌≤◌, Bool, true, List, [], ◌∷◌, map, length}
+use Rattle.std.specs.Prelude.{◌≡◌, ℕ, suc, ◌+◌, ◌<◌, ◌≤◌, Bool, true, cond, List, [], ◌∷◌, map, length}
 use Rattle.std.specs.List.{All}
 use Rattle.std.specs.FinMap.Entries.{put}
 use Rattle.std.specs.declared.sync.Arc.{Arc}
@@ -13,6 +13,10 @@ use Rattle.gen_trie.specs.declared.node.Shape.{Shape}
 use Rattle.gen_trie.specs.declared.node.Shape.TheVariants.{Branch, Keys}
 use Rattle.gen_trie.specs.declared.node.Slot.{Slot}
 use Rattle.gen_trie.specs.declared.node.Slot.TheVariants.{One, Many}
+
+-- one entry more, where a key was new, and else as many
+abbrev pub HasMore : {X : Type 0} → Bool → List X → List X → Type 0
+HasMore new before after = length after ≡ cond new (length before + 1) (length before)
 
 module _ {V : Type 0} where
   -- where the child of an index stands among the packed children, or would stand
@@ -27,40 +31,41 @@ module _ {V : Type 0} where
 module _ {V A : Type 0} where
   -- an entry at a node of this height
   abbrev pub entry_at : ℕ → Entry V A → List ℕ × V
-  entry_at height e = (word height e.hash e.key, e.value.value)
+  entry_at height e = (word height e.hash e.key, e.value)
 
   -- the entries of a node of this height after an entry was put: an entry of its key is replaced
   abbrev pub with_entry : ℕ → Entry V A → List (List ℕ × V) → List (List ℕ × V)
-  with_entry height e = put bytes_cmp (word height e.hash e.key) e.value.value
-
-  -- a child of a branch that has so many levels of branches below
-  abbrev pub child : ℕ → Slot V A → ℕ × List (List ℕ × V)
-  child below (One index e) = (index, entry_at below e.value ∷ [])
-  child below (Many index n) = (index, n.value.1)
-
-  abbrev pub children : ℕ → List (Slot V A) → List (ℕ × List (List ℕ × V))
-  children below = map (child below)
+  with_entry height e = put bytes_cmp (word height e.hash e.key) e.value
 
   -- a list of keys with equal hashes
   abbrev pub listed : List (Arc (Entry V A) A) → List (List ℕ × V)
   listed = map (λ e. entry_at 0 e.value)
 
-  abbrev pub height_and_entries : Shape V A → ℕ × List (List ℕ × V)
+module _ {V M A : Type 0} where
+  -- a child of a branch that has so many levels of branches below
+  abbrev pub child : ℕ → Slot V M A → ℕ × List (List ℕ × V)
+  child below (One index e) = (index, entry_at below e.value ∷ [])
+  child below (Many index n) = (index, n.value.1)
+
+  abbrev pub children : ℕ → List (Slot V M A) → List (ℕ × List (List ℕ × V))
+  children below = map (child below)
+
+  abbrev pub height_and_entries : Shape V M A → ℕ × List (List ℕ × V)
   height_and_entries (Branch below bitmap slots) = (suc below, fan (children below slots.items))
   height_and_entries (Keys es) = (0, listed es.items)
 
   -- a node below a branch is one level lower, and has two keys or more
-  abbrev pub StandsBelow : ℕ → Slot V A → Type 0
+  abbrev pub StandsBelow : ℕ → Slot V M A → Type 0
   StandsBelow below (One index e) = Unit {0}
   StandsBelow below (Many index n) = (n.value.0 ≡ below) × (2 ≤ length n.value.1)
 
-  pub record IsBranch (below bitmap : ℕ) (slots : List (Slot V A)) : Type 0 where
+  pub record IsBranch (below bitmap : ℕ) (slots : List (Slot V M A)) : Type 0 where
     pub height : below ≤ 6
     pub bitmap_is : bitmap ≡ bits_of (children below slots)
     pub rise : Rise 0 (children below slots)
     pub fits : All (StandsBelow below) slots
     pub words : AllWords (suc below) (fan (children below slots))
 
-  abbrev pub IsCanonical : Shape V A → Type 0
+  abbrev pub IsCanonical : Shape V M A → Type 0
   IsCanonical (Branch below bitmap slots) = IsBranch below bitmap slots.items
   IsCanonical (Keys es) = Unit {0}

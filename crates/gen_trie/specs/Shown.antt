@@ -27,7 +27,7 @@ abbrev pub shown : {H V : Type 0} → H → finite.FinMap bytes_cmp V → ℕ �
 shown hash map generation = record { hash = hash; map = map; generation = generation }
 
 -- what the parts of a trie are seen as
-abbrev pub shown_of : {H V A : Type 0} → H → Option (Slot V A) → ℕ → Shown H V
+abbrev pub shown_of : {H V M A : Type 0} → H → Option (Slot V M A) → ℕ → Shown H V
 shown_of hash root generation = shown hash (as_map (root_entries root)) generation
 
 -- the generation after one: the last, 2^64 - 1, stays

@@ -6,12 +6,15 @@ ghost use Rattle.gen_trie.specs.Shapes.{children, child, entry_at, listed, Stand
 
 use crate::entry::Entry;
 use crate::node::{Node, Shape, Slot, digit_of};
+use crate::summary::Summary;
 use dots::Refusal;
 use std::alloc::Allocator;
 use std::sync::Arc;
 
 // A second owner of the same entry or node.
-pub(crate) fn shared<V: Drop, A: Allocator + Copy>(slot: &Slot<V, A>) -> Result<Slot<V, A>, Refusal>
+pub(crate) fn shared<V: Drop, M: Summary<V>, A: Allocator + Copy>(
+    slot: &Slot<V, M, A>,
+) -> Result<Slot<V, M, A>, Refusal>
     ensures same { IfOk result (λ copy. (below : ℕ) → child below copy ≡ child below slot.now) }
     ensures fits { IfOk result (λ copy. (below : ℕ) → StandsBelow below slot.now → StandsBelow below copy) }
     ensures err { IsOkUnless result OutOfMemory }
@@ -22,10 +25,10 @@ pub(crate) fn shared<V: Drop, A: Allocator + Copy>(slot: &Slot<V, A>) -> Result<
     }
 }
 
-fn shared_all<V: Drop, A: Allocator + Copy>(
+fn shared_all<V: Drop, M: Summary<V>, A: Allocator + Copy>(
     alloc: A,
-    slots: &[Slot<V, A>],
-) -> Result<Vec<Slot<V, A>, A>, Refusal>
+    slots: &[Slot<V, M, A>],
+) -> Result<Vec<Slot<V, M, A>, A>, Refusal>
     ensures same { IfOk result (λ copies. (below : ℕ) → children below copies.items ≡ children below slots.now) }
     ensures fits { IfOk result (λ copies. (below : ℕ) → All (StandsBelow below) slots.now → All (StandsBelow below) copies.items) }
     ensures err { IsOkUnless result OutOfMemory }
@@ -51,9 +54,9 @@ fn shared_list<V: Drop, A: Allocator + Copy>(
     Ok(copies)
 }
 
-impl<V: Drop, A: Allocator + Copy> Node<V, A> {
-    // The same node in a later generation. What stands below it is shared.
-    pub fn copy(&self, alloc: A, generation: u64) -> Result<Node<V, A>, Refusal>
+impl<V: Drop, M: Summary<V>, A: Allocator + Copy> Node<V, M, A> {
+    // The same node in a later generation, without its summary. What stands below it is shared.
+    pub fn copy(&self, alloc: A, generation: u64) -> Result<Node<V, M, A>, Refusal>
         ensures ok { IfOk result (λ copy. copy ≡ self.now) }
         ensures err { IsOkUnless result OutOfMemory }
     {
@@ -62,6 +65,7 @@ impl<V: Drop, A: Allocator + Copy> Node<V, A> {
                 let slots = shared_all(alloc, slots)?;
                 Ok(Node {
                     stamp: generation,
+                    kept: None,
                     shape: Shape::Branch(*below, *bitmap, slots),
                 })
             }
@@ -69,6 +73,7 @@ impl<V: Drop, A: Allocator + Copy> Node<V, A> {
                 let entries = shared_list(alloc, entries)?;
                 Ok(Node {
                     stamp: generation,
+                    kept: None,
                     shape: Shape::Keys(entries),
                 })
             }
@@ -81,7 +86,7 @@ impl<V: Drop, A: Allocator + Copy> Node<V, A> {
         generation: u64,
         height: u32,
         entry: Arc<Entry<V, A>, A>,
-    ) -> Result<Node<V, A>, Refusal>
+    ) -> Result<Node<V, M, A>, Refusal>
         requires { height ≤ 7 }
         ensures ok { IfOk result (λ node. node ≡ (height, entry_at height entry.value ∷ [])) }
         ensures err { IsOkUnless result OutOfMemory }
@@ -91,6 +96,7 @@ impl<V: Drop, A: Allocator + Copy> Node<V, A> {
             entries.push(entry)?;
             return Ok(Node {
                 stamp: generation,
+                kept: None,
                 shape: Shape::Keys(entries),
             });
         }
@@ -100,6 +106,7 @@ impl<V: Drop, A: Allocator + Copy> Node<V, A> {
         slots.push(Slot::One(index, entry))?;
         Ok(Node {
             stamp: generation,
+            kept: None,
             shape: Shape::Branch(below, 1 << index, slots),
         })
     }

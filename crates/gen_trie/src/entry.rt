@@ -1,4 +1,4 @@
-ghost use Rattle.std.specs.Prelude.{◌≡◌, [], ◌∷◌};
+ghost use Rattle.std.specs.Prelude.{◌≡◌, [], ◌∷◌, IfSome};
 ghost use Rattle.std.specs.Option.{option_map};
 ghost use Rattle.std.specs.FinMap.Entries.{find};
 ghost use Rattle.std.specs.Ordering.{eq_by_cmp, is_gt};
@@ -13,7 +13,7 @@ use std::sync::Arc;
 pub struct Entry<V, A: Allocator> {
     pub(crate) hash: u32,
     pub(crate) key: Key<A>,
-    pub(crate) value: Arc<V, A>,
+    pub(crate) value: V,
 }
 
 impl<V, A: Allocator> Entry<V, A> {
@@ -26,7 +26,7 @@ impl<V, A: Allocator> Entry<V, A> {
 
     /// The value.
     pub fn value(&self) -> &V
-        ensures { result.now ≡ self.now.value.value }
+        ensures { result.now ≡ self.now.value }
     {
         &self.value
     }
@@ -38,17 +38,6 @@ impl<V, A: Allocator> Entry<V, A> {
         self.hash == hash && self.key.bytes() == key
     }
 
-    // The value, where it is the entry of this hash and these bytes.
-    pub(crate) fn value_at<'a>(&'a self, hash: u32, key: &[u8]) -> Option<&'a Arc<V, A>>
-        ensures { option_map (λ value. value.now.value) result ≡ find bytes_cmp (hash ∷ key.now) ((self.now.hash ∷ self.now.key, self.now.value.value) ∷ []) }
-    {
-        if self.is_at(hash, key) {
-            Some(&self.value)
-        } else {
-            None
-        }
-    }
-
     // Whether its hash and bytes come before these.
     pub(crate) fn is_before(&self, hash: u32, key: &[u8]) -> bool
         ensures { result ≡ is_gt (bytes_cmp (hash ∷ key.now) (self.now.hash ∷ self.now.key)) }
@@ -56,6 +45,22 @@ impl<V, A: Allocator> Entry<V, A> {
         hash.cmp(&self.hash)
             .then(key.cmp(&self.key.bytes()))
             .is_gt()
+    }
+}
+
+// The entry, where it is that of this hash and these bytes.
+pub(crate) fn entry_for<'a, V, A: Allocator>(
+    entry: &'a Arc<Entry<V, A>, A>,
+    hash: u32,
+    key: &[u8],
+) -> Option<&'a Arc<Entry<V, A>, A>>
+    ensures value { option_map (λ found. found.now.value.value) result ≡ find bytes_cmp (hash ∷ key.now) ((entry.now.value.hash ∷ entry.now.value.key, entry.now.value.value) ∷ []) }
+    ensures key { IfSome result (λ found. found.now.value.key ≡ key.now) }
+{
+    if entry.is_at(hash, key) {
+        Some(entry)
+    } else {
+        None
     }
 }
 

@@ -2,7 +2,7 @@ ghost use Rattle.std.specs.Prelude.{◌≡◌, ◌↔◌, ℕ, List, length, IfO
 ghost use Rattle.std.specs.declared.option.Option.TheVariants.{None};
 ghost use Rattle.std.specs.Option.{option_map};
 ghost use Rattle.std.specs.FinMap as finite;
-ghost use Rattle.hash_path.specs.Map.{by_path, walk};
+ghost use Rattle.hash_path.specs.Map.{by_path, walk, walk_under};
 ghost use Rattle.hash_path.specs.Path.{indices};
 ghost use Rattle.hash_path.specs.Summary.{summary_at};
 ghost use Rattle.gen_trie.specs.Root.{IsTrie};
@@ -11,14 +11,14 @@ ghost use Rattle.dots.specs.declared.refusal.Refusal.TheVariants.{OutOfMemory};
 
 use crate::iter::Iter;
 use crate::node::Slot;
-use crate::root::{look_root, share_root};
+use crate::root::{look_root, seal_root, share_root};
 use crate::summary::Summary;
-use crate::summing::summary_below;
+use crate::summing::summary_under;
 use crate::trie::GenTrie;
 use dots::{Key, Refusal};
 use hash_path::{PathHash, Prefix};
 use std::alloc::{Allocator, Global};
-use std::marker::{Model, PhantomData};
+use std::marker::Model;
 
 /// A finite map from keys to values that is only read. It shares its nodes with the tries that it comes from, and stays
 /// what it is whatever they write.
@@ -29,8 +29,7 @@ pub struct Frozen<V, M: Summary<V>, H: PathHash, A: Allocator = Global> {
     // No node of it has a later stamp.
     generation: u64,
     count: u64,
-    root: Option<Slot<V, A>>,
-    summary: PhantomData<M>,
+    root: Option<Slot<V, M, A>>,
 }
 
 impl<V, M: Summary<V>, H: PathHash, A: Allocator> Model for Frozen<V, M, H, A> {
@@ -59,7 +58,6 @@ impl<V, M: Summary<V>, H: PathHash, A: Allocator + Copy> Frozen<V, M, H, A> {
             generation: 0,
             count: 0,
             root: None,
-            summary: PhantomData,
         }
     }
 
@@ -68,10 +66,18 @@ impl<V, M: Summary<V>, H: PathHash, A: Allocator + Copy> Frozen<V, M, H, A> {
     pub fn lookup(&self, key: &Key<A>) -> Option<&V>
         ensures { option_map (λ value. value.now) result ≡ finite.get self.now.map key.now }
     {
-        let hash = self.hash.hash(key.bytes());
-        match look_root(&self.root, hash, key.bytes()) {
+        self.lookup_bytes(key.bytes())
+    }
+
+    /// The value of the key of these bytes. Touches eight nodes at most, and takes no memory.
+    /// None exactly where the key is not there.
+    pub fn lookup_bytes(&self, key: &[u8]) -> Option<&V>
+        ensures { option_map (λ value. value.now) result ≡ finite.get self.now.map key.now }
+    {
+        let hash = self.hash.hash(key);
+        match look_root(&self.root, hash, key) {
             None => None,
-            Some(value) => Some(&**value),
+            Some(entry) => Some(&entry.value),
         }
     }
 
@@ -84,10 +90,18 @@ impl<V, M: Summary<V>, H: PathHash, A: Allocator + Copy> Frozen<V, M, H, A> {
 
     /// The keys with their values, by ascending index sequence of the key's hash, and those of equal hashes by key bytes.
     /// Takes no memory.
-    pub fn iter(&self) -> Iter<'_, V, A>
+    pub fn iter(&self) -> Iter<'_, V, M, A>
         ensures { result ≡ walk (H.hash_of self.now.hash) self.now.map }
     {
         Iter::new(&self.root)
+    }
+
+    /// The keys whose paths begin with a prefix, with their values, in the order of `iter`: all keys for the root. Touches
+    /// eight nodes at most before the first item, and takes no memory.
+    pub fn iter_under(&self, prefix: Prefix) -> Iter<'_, V, M, A>
+        ensures { result ≡ walk_under (H.hash_of self.now.hash) prefix self.now.map }
+    {
+        Iter::under(&self.root, prefix)
     }
 
     // The map of the parts of a trie.
@@ -96,7 +110,7 @@ impl<V, M: Summary<V>, H: PathHash, A: Allocator + Copy> Frozen<V, M, H, A> {
         hash: H,
         generation: u64,
         count: u64,
-        root: Option<Slot<V, A>>,
+        root: Option<Slot<V, M, A>>,
     ) -> Frozen<V, M, H, A>
         requires { IsTrie (H.hash_of hash) root count }
         ensures { result ≡ shown_of hash root generation }
@@ -107,7 +121,6 @@ impl<V, M: Summary<V>, H: PathHash, A: Allocator + Copy> Frozen<V, M, H, A> {
             generation,
             count,
             root,
-            summary: PhantomData,
         }
     }
 }
@@ -126,8 +139,18 @@ impl<V: Drop, M: Summary<V>, H: PathHash, A: Allocator + Copy> Frozen<V, M, H, A
             generation: self.generation,
             count: self.count,
             root,
-            summary: PhantomData,
         })
+    }
+
+    /// Gives the nodes that keep no summary, as after a share without a seal, theirs. The map stays as it is, also where it
+    /// is refused; a further call goes on from there. Copies those nodes that a trie or another frozen map shares, and takes
+    /// no other memory.
+    /// Its only refusal is OutOfMemory.
+    pub fn seal(&mut self) -> Result<(), Refusal>
+        ensures same { self.new ≡ self.old }
+        ensures err { IsOkUnless result OutOfMemory }
+    {
+        seal_root(&mut self.root, self.alloc, self.generation)
     }
 
     /// A trie of the same map that can be written, in a generation after those of all nodes that it shares; at the last,
@@ -144,15 +167,15 @@ impl<V: Drop, M: Summary<V>, H: PathHash, A: Allocator + Copy> Frozen<V, M, H, A
 }
 
 impl<V, M: Summary<V>, H: PathHash, A: Allocator + Copy> Frozen<V, M, H, A> {
-    /// The summary of the keys whose paths begin with a prefix, by recursion over their entries. None exactly where there
-    /// are no such keys. Nodes keep no summaries yet, so it visits all nodes under the prefix. Takes no memory.
+    /// The summary of the keys whose paths begin with a prefix. None exactly where there are no such keys. It reads what a
+    /// node keeps, and visits the nodes that keep none, as before a seal, with their children. Takes no memory.
     pub fn summary(&self, prefix: Prefix) -> Option<M>
         ensures summary { result ≡ summary_at M.calls prefix 7 (by_path (H.hash_of self.now.hash) self.now.map) }
         ensures none { (result ≡ None) ↔ ((key : List ℕ) → indices (length prefix) (H.hash_of self.now.hash key) ≡ prefix → finite.get self.now.map key ≡ None) }
     {
         match &self.root {
             None => None,
-            Some(slot) => summary_below(slot, 7, prefix),
+            Some(slot) => summary_under(slot, prefix),
         }
     }
 }
@@ -161,11 +184,11 @@ impl<'a, V, M: Summary<V>, H: PathHash, A: Allocator + Copy> IntoIterator
     for &'a Frozen<V, M, H, A> {
     type Item = (&'a Key<A>, &'a V);
 
-    type IntoIter = Iter<'a, V, A>;
+    type IntoIter = Iter<'a, V, M, A>;
 
     ghost into_iter_gives = { λ frozen it. it ≡ walk (H.hash_of frozen.now.hash) frozen.now.map };
 
-    fn into_iter(self) -> Iter<'a, V, A> {
+    fn into_iter(self) -> Iter<'a, V, M, A> {
         self.iter()
     }
 }

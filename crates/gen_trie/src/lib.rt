@@ -12,6 +12,8 @@ mod no_summary;
 mod node;
 mod put;
 mod root;
+mod sealing;
+mod seeking;
 mod summary;
 mod summing;
 mod take;

@@ -1,12 +1,12 @@
 // Lists of keys with equal hashes, by key bytes.
-ghost use Rattle.std.specs.Prelude.{◌≡◌, ℕ, ◌<◌, List, ◌∷◌, length, slice_index_or, T, IsTrue, OnOk, OnErr, IsOkUnless};
+ghost use Rattle.std.specs.Prelude.{◌≡◌, ℕ, ◌<◌, List, ◌∷◌, length, slice_index_or, T, IsTrue, OnOk, OnErr, IfOk, IsOkUnless};
 ghost use Rattle.std.specs.Ordering.{eq_by_cmp};
 ghost use Rattle.std.specs.FinMap.Entries.{is_sorted};
 ghost use Rattle.dots.specs.Bytes.{bytes_cmp};
 ghost use Rattle.dots.specs.declared.refusal.Refusal.TheVariants.{OutOfMemory};
 ghost use Rattle.hash_path.specs.Cut.{cut, spot};
 ghost use Rattle.hash_path.specs.Rank.{rank};
-ghost use Rattle.gen_trie.specs.Shapes.{listed, with_entry};
+ghost use Rattle.gen_trie.specs.Shapes.{listed, with_entry, HasMore};
 
 use crate::entry::{Entry, comes_before, same_key};
 use dots::Refusal;
@@ -42,22 +42,23 @@ fn has_key_at<V, A: Allocator>(
     }
 }
 
-// Puts an entry in its place, or in that of the entry of its key.
+// Puts an entry in its place, or in that of the entry of its key, and tells whether the key is new.
 pub(crate) fn put_in_list<V: Drop, A: Allocator + Copy>(
     entries: &mut Vec<Arc<Entry<V, A>, A>, A>,
     leaf: Arc<Entry<V, A>, A>,
-) -> Result<(), Refusal>
+) -> Result<bool, Refusal>
     ensures ok { OnOk result (listed entries.new.items ≡ with_entry 0 leaf.value (listed entries.old.items)) }
+    ensures fresh { IfOk result (λ fresh. HasMore fresh (listed entries.old.items) (listed entries.new.items)) }
     ensures same { OnErr result (listed entries.new.items ≡ listed entries.old.items) }
     ensures err { IsOkUnless result OutOfMemory }
 {
     let at = rank_of(entries, &leaf);
     if has_key_at(entries, at, &leaf) {
         entries[at] = leaf;
-        return Ok(());
+        return Ok(false);
     }
     entries.insert(at, leaf)?;
-    Ok(())
+    Ok(true)
 }
 
 // The position of the entry of a key, or the number of entries.

@@ -1,4 +1,4 @@
-ghost use Rattle.std.specs.Prelude.{◌≡◌, ℕ, ◌<◌, ◌≤◌, [], ◌^◌, ◌%◌, count_ones, MatchOption, vec_len};
+ghost use Rattle.std.specs.Prelude.{◌≡◌, ℕ, ◌<◌, ◌≤◌, [], ◌^◌, ◌%◌, count_ones, MatchOption, IfSome, vec_len};
 ghost use Rattle.std.specs.Option.{option_map};
 ghost use Rattle.std.specs.FinMap.Entries.{find};
 ghost use Rattle.dots.specs.Bytes.{bytes_cmp};
@@ -6,25 +6,28 @@ ghost use Rattle.hash_path.specs.Word.{word, digit};
 ghost use Rattle.hash_path.specs.Fan.{at, place, there};
 ghost use Rattle.gen_trie.specs.Shapes.{children, child, StandsBelow, IsBranch, IsSeat, listed};
 
-use crate::entry::Entry;
+use crate::entry::{Entry, entry_for};
+use crate::summary::Summary;
 use hash_path::index_at;
 use std::alloc::Allocator;
 use std::marker::Model;
 use std::sync::Arc;
 
-// A node of the trie, seen as its height and its entries by word. It is stamped with the generation that wrote it.
+// A node of the trie, seen as its height and its entries by word. It is stamped with the generation that wrote it, and keeps
+// the summary of its entries from a seal on to the next write.
 #[cycle(node)]
 #[derive(Drop)]
-pub(crate) struct Node<V, A: Allocator> {
+pub(crate) struct Node<V, M: Summary<V>, A: Allocator> {
     pub stamp: u64,
-    pub shape: Shape<V, A>,
+    pub kept: Option<M>,
+    pub shape: Shape<V, M, A>,
 }
 
 #[cycle(node)]
 #[derive(Drop)]
-pub(crate) enum Shape<V, A: Allocator> {
+pub(crate) enum Shape<V, M: Summary<V>, A: Allocator> {
     // The levels of branches below, the bitmap of the indices that have a child, and the children by index.
-    Branch(u32, u32, Vec<Slot<V, A>, A>),
+    Branch(u32, u32, Vec<Slot<V, M, A>, A>),
     // Past the last index: the entries of keys with equal hashes, by key bytes.
     Keys(Vec<Arc<Entry<V, A>, A>, A>),
 }
@@ -32,32 +35,33 @@ pub(crate) enum Shape<V, A: Allocator> {
 // A child, with its index.
 #[cycle(node)]
 #[derive(Drop)]
-pub(crate) enum Slot<V, A: Allocator> {
+pub(crate) enum Slot<V, M: Summary<V>, A: Allocator> {
     // One key alone.
     One(u32, Arc<Entry<V, A>, A>),
     // A node of two keys or more.
-    Many(u32, Arc<Node<V, A>, A>),
+    Many(u32, Arc<Node<V, M, A>, A>),
 }
 
-impl<V, A: Allocator> Model for Node<V, A> {
+impl<V, M: Summary<V>, A: Allocator> Model for Node<V, M, A> {
     ghost use Rattle.std.specs.Prelude.{ℕ, List};
 
     ghost Value = { ℕ × List (List ℕ × V) };
 
     ghost use Rattle.gen_trie.specs.Shapes.{height_and_entries, IsCanonical};
+    ghost use Rattle.gen_trie.specs.Kept.{IsKept};
 
     ghost view = { λ a. height_and_entries a.shape };
 
-    ghost invariant = { λ a. IsCanonical a.shape };
+    ghost invariant = { λ a. IsCanonical a.shape × IsKept M.calls a.kept (height_and_entries a.shape) };
 
     ghost size = { λ d. d.0 };
 
     ghost use Rattle.gen_trie.specs.Falls.{falls};
 
-    ghost size_decreases = { λ a h. falls V A A.Allocator a.shape h };
+    ghost size_decreases = { λ a h. falls V M A M.Summary A.Allocator a.shape h.0 };
 }
 
-impl<V, A: Allocator> Slot<V, A> {
+impl<V, M: Summary<V>, A: Allocator> Slot<V, M, A> {
     fn index(&self) -> u32
         ensures { (below : ℕ) → result ≡ (child below self.now).0 }
     {
@@ -89,7 +93,11 @@ fn position(bitmap: u32, index: u32) -> usize
 }
 
 // Whether the child at a position has this index. The position is where it would stand.
-fn is_there<V, A: Allocator>(slots: &Vec<Slot<V, A>, A>, at: usize, index: u32) -> bool
+fn is_there<V, M: Summary<V>, A: Allocator>(
+    slots: &Vec<Slot<V, M, A>, A>,
+    at: usize,
+    index: u32,
+) -> bool
     ensures { (below : ℕ) → at ≡ place index (children below slots.now.items) → result ≡ there index (children below slots.now.items) }
 {
     match slots.get(at) {
@@ -106,8 +114,8 @@ pub(crate) struct Seat {
     pub taken: bool,
 }
 
-pub(crate) fn seat_of<V, A: Allocator>(
-    slots: &Vec<Slot<V, A>, A>,
+pub(crate) fn seat_of<V, M: Summary<V>, A: Allocator>(
+    slots: &Vec<Slot<V, M, A>, A>,
     below: u32,
     bitmap: u32,
     hash: u32,
@@ -120,7 +128,12 @@ pub(crate) fn seat_of<V, A: Allocator>(
 }
 
 // Where the child at an index stands, or would stand.
-fn seat_at<V, A: Allocator>(slots: &Vec<Slot<V, A>, A>, below: u32, bitmap: u32, index: u32) -> Seat
+fn seat_at<V, M: Summary<V>, A: Allocator>(
+    slots: &Vec<Slot<V, M, A>, A>,
+    below: u32,
+    bitmap: u32,
+    index: u32,
+) -> Seat
     requires branch { IsBranch below bitmap slots.now.items }
     requires bound { index < 32 }
     ensures { IsSeat index (children below slots.now.items) (vec_len slots.now) result.index result.at result.taken }
@@ -131,12 +144,12 @@ fn seat_at<V, A: Allocator>(slots: &Vec<Slot<V, A>, A>, below: u32, bitmap: u32,
 }
 
 // The child at an index.
-pub(crate) fn slot_of<V, A: Allocator>(
-    slots: &Vec<Slot<V, A>, A>,
+pub(crate) fn slot_of<V, M: Summary<V>, A: Allocator>(
+    slots: &Vec<Slot<V, M, A>, A>,
     below: u32,
     bitmap: u32,
     index: u32,
-) -> Option<&Slot<V, A>>
+) -> Option<&Slot<V, M, A>>
     requires branch { IsBranch below bitmap slots.now.items }
     requires bound { index < 32 }
     ensures { MatchOption result (at index (children below slots.now.items) ≡ [])
@@ -151,12 +164,12 @@ pub(crate) fn slot_of<V, A: Allocator>(
 }
 
 // The child at the index of a hash.
-fn slot_at<V, A: Allocator>(
-    slots: &Vec<Slot<V, A>, A>,
+fn slot_at<V, M: Summary<V>, A: Allocator>(
+    slots: &Vec<Slot<V, M, A>, A>,
     below: u32,
     bitmap: u32,
     hash: u32,
-) -> Option<&Slot<V, A>>
+) -> Option<&Slot<V, M, A>>
     requires { IsBranch below bitmap slots.now.items }
     ensures { MatchOption result (at (digit below hash) (children below slots.now.items) ≡ [])
         (λ slot. (child below slot.now ≡ (digit below hash, at (digit below hash) (children below slots.now.items))) × StandsBelow below slot.now) }
@@ -165,31 +178,33 @@ fn slot_at<V, A: Allocator>(
     slot_of(slots, below, bitmap, index)
 }
 
-// The value of a key among those of equal hashes.
+// The entry of a key among those of equal hashes.
 fn in_list<'a, V, A: Allocator>(
     entries: &'a [Arc<Entry<V, A>, A>],
     hash: u32,
     key: &[u8],
-) -> Option<&'a Arc<V, A>>
-    ensures { option_map (λ value. value.now.value) result ≡ find bytes_cmp (word 0 hash key.now) (listed entries.now) }
+) -> Option<&'a Arc<Entry<V, A>, A>>
+    ensures value { option_map (λ found. found.now.value.value) result ≡ find bytes_cmp (word 0 hash key.now) (listed entries.now) }
+    ensures key { IfSome result (λ found. found.now.value.key ≡ key.now) }
 {
     for entry in entries {
-        if let Some(value) = entry.value_at(hash, key) {
-            return Some(value);
+        if let Some(found) = entry_for(entry, hash, key) {
+            return Some(found);
         }
     }
     None
 }
 
-impl<V, A: Allocator> Node<V, A> {
-    // The value of the key of this hash and these bytes.
-    pub fn lookup<'a>(&'a self, hash: u32, key: &[u8]) -> Option<&'a Arc<V, A>>
-        ensures { option_map (λ value. value.now.value) result ≡ find bytes_cmp (word self.now.0 hash key.now) self.now.1 }
+impl<V, M: Summary<V>, A: Allocator> Node<V, M, A> {
+    // The entry of this hash and these bytes.
+    pub fn lookup<'a>(&'a self, hash: u32, key: &[u8]) -> Option<&'a Arc<Entry<V, A>, A>>
+        ensures value { option_map (λ found. found.now.value.value) result ≡ find bytes_cmp (word self.now.0 hash key.now) self.now.1 }
+        ensures key { IfSome result (λ found. found.now.value.key ≡ key.now) }
     {
         match &self.shape {
             Shape::Branch(below, bitmap, slots) => match slot_at(slots, *below, *bitmap, hash) {
                 None => None,
-                Some(Slot::One(_, entry)) => entry.value_at(hash, key),
+                Some(Slot::One(_, entry)) => entry_for(entry, hash, key),
                 Some(Slot::Many(_, node)) => node.lookup(hash, key),
             },
             Shape::Keys(entries) => in_list(entries, hash, key),

@@ -4,27 +4,30 @@ ghost use Rattle.std.specs.Prelude.{◌≡◌, suc, ◌≤◌, [], ◌∷◌, ve
 ghost use Rattle.dots.specs.declared.refusal.Refusal.TheVariants.{OutOfMemory};
 ghost use Rattle.hash_path.specs.Word.{digit};
 ghost use Rattle.hash_path.specs.Fan.{fan};
-ghost use Rattle.gen_trie.specs.Shapes.{children, child, entry_at, with_entry, StandsBelow, IsBranch, IsSeat};
+ghost use Rattle.gen_trie.specs.Shapes.{children, child, entry_at, with_entry, HasMore, StandsBelow, IsBranch, IsSeat};
 
 use crate::entry::{Entry, same_key};
 use crate::listing::put_in_list;
 use crate::node::{Node, Seat, Shape, Slot, seat_of};
+use crate::summary::Summary;
 use dots::Refusal;
 use std::alloc::Allocator;
 use std::sync::Arc;
 
-// Puts an entry into a node. A refused call leaves what the node stands for.
+// Puts an entry into a node, and tells whether its key is new there. A refused call leaves what the node stands for.
 #[cycle(put)]
-pub(crate) fn put<V: Drop, A: Allocator + Copy>(
-    node: &mut Node<V, A>,
+pub(crate) fn put<V: Drop, M: Summary<V>, A: Allocator + Copy>(
+    node: &mut Node<V, M, A>,
     alloc: A,
     generation: u64,
     leaf: Arc<Entry<V, A>, A>,
-) -> Result<(), Refusal>
+) -> Result<bool, Refusal>
     ensures ok { OnOk result (node.new ≡ (node.old.0, with_entry node.old.0 leaf.value node.old.1)) }
+    ensures fresh { IfOk result (λ fresh. HasMore fresh node.old.1 node.new.1) }
     ensures same { OnErr result (node.new ≡ node.old) }
     ensures err { IsOkUnless result OutOfMemory }
 {
+    node.kept = None;
     match &mut node.shape {
         Shape::Branch(below, bitmap, slots) => put_branch(
             slots, bitmap, *below, alloc, generation, leaf,
@@ -34,16 +37,17 @@ pub(crate) fn put<V: Drop, A: Allocator + Copy>(
 }
 
 #[cycle(put)]
-fn put_branch<V: Drop, A: Allocator + Copy>(
-    slots: &mut Vec<Slot<V, A>, A>,
+fn put_branch<V: Drop, M: Summary<V>, A: Allocator + Copy>(
+    slots: &mut Vec<Slot<V, M, A>, A>,
     bitmap: &mut u32,
     below: u32,
     alloc: A,
     generation: u64,
     leaf: Arc<Entry<V, A>, A>,
-) -> Result<(), Refusal>
+) -> Result<bool, Refusal>
     requires { IsBranch below bitmap.old slots.old.items }
     ensures ok { OnOk result (fan (children below slots.new.items) ≡ with_entry (suc below) leaf.value (fan (children below slots.old.items))) }
+    ensures fresh { IfOk result (λ fresh. HasMore fresh (fan (children below slots.old.items)) (fan (children below slots.new.items))) }
     ensures branch { IsBranch below bitmap.new slots.new.items }
     ensures same { OnErr result (fan (children below slots.new.items) ≡ fan (children below slots.old.items)) }
     ensures err { IsOkUnless result OutOfMemory }
@@ -56,37 +60,39 @@ fn put_branch<V: Drop, A: Allocator + Copy>(
 }
 
 // Puts an entry at an index that has no child.
-fn put_new<V: Drop, A: Allocator + Copy>(
-    slots: &mut Vec<Slot<V, A>, A>,
+fn put_new<V: Drop, M: Summary<V>, A: Allocator + Copy>(
+    slots: &mut Vec<Slot<V, M, A>, A>,
     bitmap: &mut u32,
     below: u32,
     seat: Seat,
     leaf: Arc<Entry<V, A>, A>,
-) -> Result<(), Refusal>
+) -> Result<bool, Refusal>
     requires branch { IsBranch below bitmap.old slots.old.items }
     requires seat { IsSeat (digit below leaf.value.hash) (children below slots.old.items) (vec_len slots.old) seat.index seat.at seat.taken }
     requires free { seat.taken ≡ false }
     ensures ok { OnOk result (fan (children below slots.new.items) ≡ with_entry (suc below) leaf.value (fan (children below slots.old.items))) }
+    ensures fresh { IfOk result (λ fresh. HasMore fresh (fan (children below slots.old.items)) (fan (children below slots.new.items))) }
     ensures branch { IsBranch below bitmap.new slots.new.items }
     ensures same { OnErr result (fan (children below slots.new.items) ≡ fan (children below slots.old.items)) }
     ensures err { IsOkUnless result OutOfMemory }
 {
     slots.insert(seat.at, Slot::One(seat.index, leaf))?;
     *bitmap += 1 << seat.index;
-    Ok(())
+    Ok(true)
 }
 
 #[cycle(put)]
-pub(crate) fn put_slot<V: Drop, A: Allocator + Copy>(
-    slot: &mut Slot<V, A>,
+pub(crate) fn put_slot<V: Drop, M: Summary<V>, A: Allocator + Copy>(
+    slot: &mut Slot<V, M, A>,
     below: u32,
     alloc: A,
     generation: u64,
     leaf: Arc<Entry<V, A>, A>,
-) -> Result<(), Refusal>
+) -> Result<bool, Refusal>
     requires fits { StandsBelow below slot.old }
     requires height { below ≤ 7 }
     ensures ok { OnOk result (child below slot.new ≡ ((child below slot.old).0, with_entry below leaf.value (child below slot.old).1)) }
+    ensures fresh { IfOk result (λ fresh. HasMore fresh (child below slot.old).1 (child below slot.new).1) }
     ensures fits { StandsBelow below slot.new }
     ensures same { OnErr result (child below slot.new ≡ child below slot.old) }
     ensures err { IsOkUnless result OutOfMemory }
@@ -95,12 +101,12 @@ pub(crate) fn put_slot<V: Drop, A: Allocator + Copy>(
         Slot::One(index, entry) => {
             if same_key(entry, &leaf) {
                 *entry = leaf;
-                return Ok(());
+                return Ok(false);
             }
             let index = *index;
             let node = pair(alloc, generation, below, entry, leaf)?;
             *slot = Slot::Many(index, node);
-            Ok(())
+            Ok(true)
         }
         Slot::Many(_, node) => put_shared(node, alloc, generation, leaf),
     }
@@ -108,13 +114,13 @@ pub(crate) fn put_slot<V: Drop, A: Allocator + Copy>(
 
 // The node of two entries.
 #[cycle(put)]
-fn pair<V: Drop, A: Allocator + Copy>(
+fn pair<V: Drop, M: Summary<V>, A: Allocator + Copy>(
     alloc: A,
     generation: u64,
     height: u32,
     first: &Arc<Entry<V, A>, A>,
     leaf: Arc<Entry<V, A>, A>,
-) -> Result<Arc<Node<V, A>, A>, Refusal>
+) -> Result<Arc<Node<V, M, A>, A>, Refusal>
     requires { height ≤ 7 }
     ensures ok { IfOk result (λ node. node.value ≡ (height, with_entry height leaf.value (entry_at height first.now.value ∷ []))) }
     ensures err { IsOkUnless result OutOfMemory }
@@ -126,13 +132,14 @@ fn pair<V: Drop, A: Allocator + Copy>(
 
 // Puts an entry into a node that may be shared. At the last generation each node is copied.
 #[cycle(put)]
-fn put_shared<V: Drop, A: Allocator + Copy>(
-    node: &mut Arc<Node<V, A>, A>,
+fn put_shared<V: Drop, M: Summary<V>, A: Allocator + Copy>(
+    node: &mut Arc<Node<V, M, A>, A>,
     alloc: A,
     generation: u64,
     leaf: Arc<Entry<V, A>, A>,
-) -> Result<(), Refusal>
+) -> Result<bool, Refusal>
     ensures ok { OnOk result (node.new.value ≡ (node.old.value.0, with_entry node.old.value.0 leaf.value node.old.value.1)) }
+    ensures fresh { IfOk result (λ fresh. HasMore fresh node.old.value.1 node.new.value.1) }
     ensures same { OnErr result (node.new.value ≡ node.old.value) }
     ensures err { IsOkUnless result OutOfMemory }
 {
@@ -142,7 +149,7 @@ fn put_shared<V: Drop, A: Allocator + Copy>(
         }
     }
     let mut copy = node.copy(alloc, generation)?;
-    put(&mut copy, alloc, generation, leaf)?;
+    let fresh = put(&mut copy, alloc, generation, leaf)?;
     *node = Arc::new(alloc, copy)?;
-    Ok(())
+    Ok(fresh)
 }

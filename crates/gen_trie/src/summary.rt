@@ -19,7 +19,7 @@ pub trait Summary<V>: Copy + Drop {
 
     /// The summary of two keys or more with equal hashes, by ascending key bytes.
     fn list<A: Allocator>(entries: &[Arc<Entry<V, A>, A>]) -> Self
-        ensures { result ≡ calls.list (map (λ entry. (entry.value.key, entry.value.value.value)) entries.now) };
+        ensures { result ≡ calls.list (map (λ entry. (entry.value.key, entry.value.value)) entries.now) };
 
     /// The summary of a branch, of the summaries of its children by ascending index, which is below 32.
     fn branch(children: Children<'_, Self>) -> Self

@@ -1,5 +1,5 @@
-// The summary of a trie's entries, by recursion over its nodes.
-ghost use Rattle.std.specs.Prelude.{◌≡◌, ◌≤◌, ◌<◌, length, ◌∷◌, ◌++◌};
+// The summary of a trie's entries: what its nodes keep, and by recursion below those that keep none.
+ghost use Rattle.std.specs.Prelude.{◌≡◌, ◌≤◌, length, ◌++◌};
 ghost use Rattle.std.specs.List.{All};
 ghost use Rattle.std.specs.declared.option.Option.TheVariants.{Some};
 ghost use Rattle.hash_path.specs.Fan.{Rise};
@@ -7,14 +7,15 @@ ghost use Rattle.hash_path.specs.Summary.{summary_of, summary_at, sums};
 ghost use Rattle.gen_trie.specs.Shapes.{children, child, StandsBelow};
 
 use crate::children::{Child, Children};
-use crate::node::{Node, Shape, Slot, digit_of, slot_of};
+use crate::node::{Node, Shape, Slot};
+use crate::seeking::slot_below;
 use crate::summary::Summary;
 use hash_path::Prefix;
 use std::alloc::Allocator;
 
 // The index of a child, and the summary of its entries.
 #[cycle(summing)]
-fn sum_of<V, A: Allocator + Copy, M: Summary<V>>(slot: &Slot<V, A>, below: u32) -> (u32, M)
+fn sum_of<V, M: Summary<V>, A: Allocator + Copy>(slot: &Slot<V, M, A>, below: u32) -> (u32, M)
     requires { StandsBelow below slot.now }
     ensures index { result.0 ≡ (child below slot.now).0 }
     ensures summary { summary_of M.calls below (child below slot.now).1 ≡ Some result.1 }
@@ -27,10 +28,13 @@ fn sum_of<V, A: Allocator + Copy, M: Summary<V>>(slot: &Slot<V, A>, below: u32) 
 
 // The summary of a node's entries, which are two or more.
 #[cycle(summing)]
-fn summary<V, A: Allocator + Copy, M: Summary<V>>(node: &Node<V, A>) -> M
+pub(crate) fn summary<V, M: Summary<V>, A: Allocator + Copy>(node: &Node<V, M, A>) -> M
     requires { 2 ≤ length node.now.1 }
     ensures { summary_of M.calls node.now.0 node.now.1 ≡ Some result }
 {
+    if let Some(summary) = node.kept {
+        return summary;
+    }
     match &node.shape {
         Shape::Branch(below, _, slots) => branch_of(slots, *below, Children::none()),
         Shape::Keys(entries) => M::list(entries),
@@ -40,8 +44,8 @@ fn summary<V, A: Allocator + Copy, M: Summary<V>>(node: &Node<V, A>) -> M
 // The summary of a branch, of these children and of those behind them, whose summaries are made already. The children are
 // summed from the last to the first, so that each has its place in a call of its own, and they take no memory.
 #[cycle(summing)]
-fn branch_of<V, A: Allocator + Copy, M: Summary<V>>(
-    slots: &[Slot<V, A>],
+fn branch_of<V, M: Summary<V>, A: Allocator + Copy>(
+    slots: &[Slot<V, M, A>],
     below: u32,
     behind: Children<'_, M>,
 ) -> M
@@ -59,49 +63,21 @@ fn branch_of<V, A: Allocator + Copy, M: Summary<V>>(
     }
 }
 
-// The summary of the entries of a child whose paths go on with a prefix.
-#[cycle(seeking)]
-pub(crate) fn summary_below<V, A: Allocator + Copy, M: Summary<V>>(
-    slot: &Slot<V, A>,
-    height: u32,
+// The summary of the entries of the root whose paths begin with a prefix.
+pub(crate) fn summary_under<V, M: Summary<V>, A: Allocator + Copy>(
+    root: &Slot<V, M, A>,
     prefix: Prefix,
 ) -> Option<M>
-    requires fits { StandsBelow height slot.now }
-    requires height { height ≤ 7 }
+    requires { StandsBelow 7 root.now }
     ensures short { length prefix ≤ 7 }
-    ensures summary { result ≡ summary_at M.calls prefix height (child height slot.now).1 }
+    ensures summary { result ≡ summary_at M.calls prefix 7 (child 7 root.now).1 }
 {
-    let Some((index, rest)) = prefix.split_first() else {
-        let (_, summary) = sum_of(slot, height);
-        return Some(summary);
-    };
-    match slot {
-        Slot::One(_, entry) => {
-            if height > 0 && digit_of(height - 1, entry.hash) == index {
-                summary_below(slot, height - 1, rest)
-            } else {
-                None
-            }
+    let height = 7 - prefix.depth();
+    match slot_below(root, 7, prefix) {
+        None => None,
+        Some(slot) => {
+            let (_, summary) = sum_of(slot, height);
+            Some(summary)
         }
-        Slot::Many(_, node) => summary_under(node, index, rest),
-    }
-}
-
-// The same at a node, for a prefix of one index or more.
-#[cycle(seeking)]
-fn summary_under<V, A: Allocator + Copy, M: Summary<V>>(
-    node: &Node<V, A>,
-    index: u32,
-    rest: Prefix,
-) -> Option<M>
-    requires { index < 32 }
-    ensures { result ≡ summary_at M.calls (index ∷ rest) node.now.0 node.now.1 }
-{
-    match &node.shape {
-        Shape::Branch(below, bitmap, slots) => match slot_of(slots, *below, *bitmap, index) {
-            None => None,
-            Some(slot) => summary_below(slot, *below, rest),
-        },
-        Shape::Keys(_) => None,
     }
 }

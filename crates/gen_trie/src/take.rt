@@ -12,12 +12,15 @@ ghost use Rattle.gen_trie.specs.Shapes.{children, child, entry_at, StandsBelow, 
 use crate::entry::Entry;
 use crate::listing::take_from_list;
 use crate::node::{Node, Seat, Shape, Slot, seat_of};
+use crate::summary::Summary;
 use dots::Refusal;
 use std::alloc::Allocator;
 use std::sync::Arc;
 
 // The entry of a slot that has one alone.
-pub(crate) fn one_of<V, A: Allocator>(slot: &Slot<V, A>) -> Option<&Arc<Entry<V, A>, A>>
+pub(crate) fn one_of<V, M: Summary<V>, A: Allocator>(
+    slot: &Slot<V, M, A>,
+) -> Option<&Arc<Entry<V, A>, A>>
     ensures { (below : ℕ) → MatchOption result (StandsBelow below slot.now → 2 ≤ length (child below slot.now).1) (λ entry. (child below slot.now).1 ≡ entry_at below entry.now.value ∷ []) }
 {
     match slot {
@@ -27,9 +30,9 @@ pub(crate) fn one_of<V, A: Allocator>(slot: &Slot<V, A>) -> Option<&Arc<Entry<V,
 }
 
 // The entries of two slots that have one each.
-fn two_of<'a, V, A: Allocator>(
-    first: &'a Slot<V, A>,
-    second: &'a Slot<V, A>,
+fn two_of<'a, V, M: Summary<V>, A: Allocator>(
+    first: &'a Slot<V, M, A>,
+    second: &'a Slot<V, M, A>,
 ) -> Option<(&'a Arc<Entry<V, A>, A>, &'a Arc<Entry<V, A>, A>)>
     ensures { (below : ℕ) → MatchOption result (StandsBelow below first.now → StandsBelow below second.now → 3 ≤ length (child below first.now).1 + length (child below second.now).1)
         (λ both. ((child below first.now).1 ≡ entry_at below both.0.now.value ∷ []) × ((child below second.now).1 ≡ entry_at below both.1.now.value ∷ [])) }
@@ -43,7 +46,7 @@ fn two_of<'a, V, A: Allocator>(
     }
 }
 
-impl<V, A: Allocator> Node<V, A> {
+impl<V, M: Summary<V>, A: Allocator> Node<V, M, A> {
     // Its two entries, where it has just two.
     pub fn pair(&self) -> Option<(&Arc<Entry<V, A>, A>, &Arc<Entry<V, A>, A>)>
         ensures { MatchOption result (length self.now.1 ≢ 2) (λ both. self.now.1 ≡ entry_at self.now.0 both.0.now.value ∷ entry_at self.now.0 both.1.now.value ∷ []) }
@@ -81,8 +84,8 @@ fn other_of<'a, V, A: Allocator>(
 }
 
 // The one entry that remains in a node of two without the key's.
-fn lone_after<V: Drop, A: Allocator + Copy>(
-    node: &Node<V, A>,
+fn lone_after<V: Drop, M: Summary<V>, A: Allocator + Copy>(
+    node: &Node<V, M, A>,
     hash: u32,
     key: &[u8],
 ) -> Result<Option<Arc<Entry<V, A>, A>>, Refusal>
@@ -99,8 +102,8 @@ fn lone_after<V: Drop, A: Allocator + Copy>(
 
 // Takes the entry of a key out of a node that has it. A refused call leaves what the node stands for.
 #[cycle(take)]
-fn take<V: Drop, A: Allocator + Copy>(
-    node: &mut Node<V, A>,
+fn take<V: Drop, M: Summary<V>, A: Allocator + Copy>(
+    node: &mut Node<V, M, A>,
     alloc: A,
     generation: u64,
     hash: u32,
@@ -112,6 +115,7 @@ fn take<V: Drop, A: Allocator + Copy>(
     ensures same { OnErr result (node.new ≡ node.old) }
     ensures err { IsOkUnless result OutOfMemory }
 {
+    node.kept = None;
     match &mut node.shape {
         Shape::Branch(below, bitmap, slots) => take_branch(
             slots, bitmap, *below, alloc, generation, hash, key,
@@ -124,8 +128,8 @@ fn take<V: Drop, A: Allocator + Copy>(
 }
 
 #[cycle(take)]
-fn take_branch<V: Drop, A: Allocator + Copy>(
-    slots: &mut Vec<Slot<V, A>, A>,
+fn take_branch<V: Drop, M: Summary<V>, A: Allocator + Copy>(
+    slots: &mut Vec<Slot<V, M, A>, A>,
     bitmap: &mut u32,
     below: u32,
     alloc: A,
@@ -150,8 +154,8 @@ fn take_branch<V: Drop, A: Allocator + Copy>(
 }
 
 // Takes a child of one entry out.
-fn drop_slot<V: Drop, A: Allocator + Copy>(
-    slots: &mut Vec<Slot<V, A>, A>,
+fn drop_slot<V: Drop, M: Summary<V>, A: Allocator + Copy>(
+    slots: &mut Vec<Slot<V, M, A>, A>,
     bitmap: &mut u32,
     below: u32,
     seat: Seat,
@@ -170,8 +174,8 @@ fn drop_slot<V: Drop, A: Allocator + Copy>(
 }
 
 #[cycle(take)]
-pub(crate) fn take_below<V: Drop, A: Allocator + Copy>(
-    slot: &mut Slot<V, A>,
+pub(crate) fn take_below<V: Drop, M: Summary<V>, A: Allocator + Copy>(
+    slot: &mut Slot<V, M, A>,
     below: u32,
     alloc: A,
     generation: u64,
@@ -202,8 +206,8 @@ pub(crate) fn take_below<V: Drop, A: Allocator + Copy>(
 
 // Takes the entry of a key out of a node that may be shared. At the last generation each node is copied.
 #[cycle(take)]
-fn take_shared<V: Drop, A: Allocator + Copy>(
-    node: &mut Arc<Node<V, A>, A>,
+fn take_shared<V: Drop, M: Summary<V>, A: Allocator + Copy>(
+    node: &mut Arc<Node<V, M, A>, A>,
     alloc: A,
     generation: u64,
     hash: u32,

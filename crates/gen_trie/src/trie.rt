@@ -1,4 +1,4 @@
-ghost use Rattle.std.specs.Prelude.{◌≡◌, OnOk, OnErr, IfOk, IsOkUnless};
+ghost use Rattle.std.specs.Prelude.{◌≡◌, IfSome, OnOk, OnErr, IfOk, IsOkUnless};
 ghost use Rattle.std.specs.Option.{option_map};
 ghost use Rattle.std.specs.FinMap as finite;
 ghost use Rattle.hash_path.specs.Map.{walk};
@@ -6,30 +6,31 @@ ghost use Rattle.gen_trie.specs.Root.{IsTrie};
 ghost use Rattle.gen_trie.specs.Shown.{shown, shown_of, generation_after};
 ghost use Rattle.dots.specs.declared.refusal.Refusal.TheVariants.{OutOfMemory};
 
+use crate::entry::Entry;
 use crate::frozen::Frozen;
 use crate::iter::Iter;
 use crate::node::Slot;
-use crate::root::{insert_at, look_root, remove_at, share_root};
+use crate::root::{insert_at, look_root, remove_at, seal_root, share_root};
+use crate::sealing::stamped_in;
 use crate::summary::Summary;
 use dots::{Key, Refusal};
 use hash_path::PathHash;
 use std::alloc::{Allocator, Global};
-use std::marker::{Model, PhantomData};
+use std::marker::Model;
 use std::sync::Arc;
 
 /// A finite map from keys to values that can be frozen at the cost of a few reference counts.
 ///
 /// It is a trie by the path hash of the keys: 32 children a branch, five bits of the hash a level, and lists of keys
 /// with equal hashes past the last. What is written after a freeze is copied first, node by node, so a frozen map stays
-/// what it was. An entry takes three allocations: the entry, the key's bytes, the value.
+/// what it was. An entry takes two allocations: the entry with its value, and the key's bytes.
 #[derive(Drop)]
 pub struct GenTrie<V, M: Summary<V>, H: PathHash, A: Allocator = Global> {
     alloc: A,
     hash: H,
     generation: u64,
     count: u64,
-    root: Option<Slot<V, A>>,
-    summary: PhantomData<M>,
+    root: Option<Slot<V, M, A>>,
 }
 
 impl<V, M: Summary<V>, H: PathHash, A: Allocator> Model for GenTrie<V, M, H, A> {
@@ -58,7 +59,6 @@ impl<V, M: Summary<V>, H: PathHash, A: Allocator + Copy> GenTrie<V, M, H, A> {
             generation: 0,
             count: 0,
             root: None,
-            summary: PhantomData,
         }
     }
 
@@ -67,10 +67,18 @@ impl<V, M: Summary<V>, H: PathHash, A: Allocator + Copy> GenTrie<V, M, H, A> {
     pub fn lookup(&self, key: &Key<A>) -> Option<&V>
         ensures { option_map (λ value. value.now) result ≡ finite.get self.now.map key.now }
     {
-        let hash = self.hash.hash(key.bytes());
-        match look_root(&self.root, hash, key.bytes()) {
+        self.lookup_bytes(key.bytes())
+    }
+
+    /// The value of the key of these bytes. Touches eight nodes at most, and takes no memory.
+    /// None exactly where the key is not there.
+    pub fn lookup_bytes(&self, key: &[u8]) -> Option<&V>
+        ensures { option_map (λ value. value.now) result ≡ finite.get self.now.map key.now }
+    {
+        let hash = self.hash.hash(key);
+        match look_root(&self.root, hash, key) {
             None => None,
-            Some(value) => Some(&**value),
+            Some(entry) => Some(&entry.value),
         }
     }
 
@@ -80,7 +88,7 @@ impl<V, M: Summary<V>, H: PathHash, A: Allocator + Copy> GenTrie<V, M, H, A> {
         hash: H,
         generation: u64,
         count: u64,
-        root: Option<Slot<V, A>>,
+        root: Option<Slot<V, M, A>>,
     ) -> GenTrie<V, M, H, A>
         requires { IsTrie (H.hash_of hash) root count }
         ensures { result ≡ shown_of hash root generation }
@@ -91,7 +99,6 @@ impl<V, M: Summary<V>, H: PathHash, A: Allocator + Copy> GenTrie<V, M, H, A> {
             generation,
             count,
             root,
-            summary: PhantomData,
         }
     }
 
@@ -104,7 +111,7 @@ impl<V, M: Summary<V>, H: PathHash, A: Allocator + Copy> GenTrie<V, M, H, A> {
 
     /// The keys with their values, by ascending index sequence of the key's hash, and those of equal hashes by key bytes.
     /// Takes no memory.
-    pub fn iter(&self) -> Iter<'_, V, A>
+    pub fn iter(&self) -> Iter<'_, V, M, A>
         ensures { result ≡ walk (H.hash_of self.now.hash) self.now.map }
     {
         Iter::new(&self.root)
@@ -132,11 +139,12 @@ impl<V: Drop, M: Summary<V>, H: PathHash, A: Allocator + Copy> GenTrie<V, M, H, 
         )
     }
 
-    /// Takes the key out, and gives the value that was there. A refused call leaves the map as it was. A key that is not
+    /// Takes the key out, and gives its entry, with the value that was there. A refused call leaves the map as it was. A key that is not
     /// there takes no memory. Touches eight nodes at most, and copies those that a frozen map shares.
     /// Its only refusal is OutOfMemory.
-    pub fn remove(&mut self, key: &Key<A>) -> Result<Option<Arc<V, A>>, Refusal>
-        ensures value { IfOk result (λ taken. option_map (λ value. value.value) taken ≡ finite.get self.old.map key.now) }
+    pub fn remove(&mut self, key: &Key<A>) -> Result<Option<Arc<Entry<V, A>, A>>, Refusal>
+        ensures value { IfOk result (λ taken. option_map (λ entry. entry.value.value) taken ≡ finite.get self.old.map key.now) }
+        ensures key { IfOk result (λ taken. IfSome taken (λ entry. entry.value.key ≡ key.now)) }
         ensures ok { OnOk result (self.new ≡ record self.old { map = finite.remove self.old.map key.now }) }
         ensures same { OnErr result (self.new ≡ self.old) }
         ensures err { IsOkUnless result OutOfMemory }
@@ -160,21 +168,35 @@ impl<V: Drop, M: Summary<V>, H: PathHash, A: Allocator + Copy> GenTrie<V, M, H, 
         self.count = 0;
     }
 
-    /// Renews the summaries of the nodes that were written in the current generation, and leaves the map. Nodes keep no
-    /// summaries yet, so there is nothing to renew, and nothing is refused.
-    /// The only refusal that its contract leaves open is OutOfMemory.
+    /// Renews the summaries that writes took away: of the nodes that were written since the last seal, and of those above
+    /// them. Nodes that keep one are passed over. The map stays as it is, also where it is refused; a further call goes on
+    /// from there. Copies the nodes without a summary that a frozen map shares, and takes no other memory.
+    /// Its only refusal is OutOfMemory.
     pub fn seal(&mut self) -> Result<(), Refusal>
         ensures same { self.new ≡ self.old }
         ensures err { IsOkUnless result OutOfMemory }
     {
-        // no node has a summary
-        Ok(())
+        seal_root(&mut self.root, self.alloc, self.generation)
+    }
+
+    /// Seals, and then shares: the map as it is, whose nodes keep their summaries. A refused call leaves the map and the
+    /// generation as they were.
+    /// Its only refusal is OutOfMemory.
+    pub fn freeze(&mut self) -> Result<Frozen<V, M, H, A>, Refusal>
+        ensures ok { IfOk result (λ frozen. frozen ≡ self.old) }
+        ensures next { OnOk result (self.new ≡ record self.old { generation = generation_after self.old.generation }) }
+        ensures same { OnErr result (self.new ≡ self.old) }
+        ensures err { IsOkUnless result OutOfMemory }
+    {
+        self.seal()?;
+        self.share()
     }
 
     /// The map as it is, which stays so whatever is written afterwards. The next generation starts on both sides; at the
-    /// last, 2^64 - 1, it stays. Copies no node: it takes a reference count, and is refused only where that is full.
+    /// last, 2^64 - 1, it stays. Makes no summaries and copies no node: it takes a reference count, and is refused only
+    /// where that is full.
     /// Its only refusal is OutOfMemory.
-    pub fn freeze(&mut self) -> Result<Frozen<V, M, H, A>, Refusal>
+    pub fn share(&mut self) -> Result<Frozen<V, M, H, A>, Refusal>
         ensures ok { IfOk result (λ frozen. frozen ≡ self.old) }
         ensures next { OnOk result (self.new ≡ record self.old { generation = generation_after self.old.generation }) }
         ensures same { OnErr result (self.new ≡ self.old) }
@@ -187,15 +209,26 @@ impl<V: Drop, M: Summary<V>, H: PathHash, A: Allocator + Copy> GenTrie<V, M, H, 
     }
 }
 
+impl<V, M: Summary<V>, H: PathHash, A: Allocator + Copy> GenTrie<V, M, H, A> {
+    /// How many nodes were sealed in the current generation: those of its stamp that keep a summary. It visits the nodes of
+    /// this stamp and their children, and takes no memory.
+    pub fn stamped(&self) -> u64 {
+        match &self.root {
+            None => 0,
+            Some(slot) => stamped_in(slot, 7, self.generation),
+        }
+    }
+}
+
 impl<'a, V, M: Summary<V>, H: PathHash, A: Allocator + Copy> IntoIterator
     for &'a GenTrie<V, M, H, A> {
     type Item = (&'a Key<A>, &'a V);
 
-    type IntoIter = Iter<'a, V, A>;
+    type IntoIter = Iter<'a, V, M, A>;
 
     ghost into_iter_gives = { λ trie it. it ≡ walk (H.hash_of trie.now.hash) trie.now.map };
 
-    fn into_iter(self) -> Iter<'a, V, A> {
+    fn into_iter(self) -> Iter<'a, V, M, A> {
         self.iter()
     }
 }

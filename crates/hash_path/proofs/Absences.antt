@@ -12,7 +12,7 @@ use Rattle.hash_path.specs.PathLaws.{length-indices}
 use Rattle.dots.specs.Bytes.{bytes_cmp}
 use Rattle.hash_path.specs.Word.{digit, word, hash_in, key_in, IsWord, AllWords}
 use Rattle.hash_path.specs.Map.{path, key_of, HashedBy, as_map}
-use Rattle.hash_path.specs.Summary.{Calls, under_index, summary_of, summary_at}
+use Rattle.hash_path.specs.Summary.{Calls, under_index, under_prefix, summary_of, summary_at}
 use Rattle.hash_path.proofs.Orders.{less, same, more}
 use Rattle.hash_path.proofs.Maps.{get-as_map}
 use Rattle.hash_path.proofs.Paths.{path_begins}
@@ -24,10 +24,6 @@ same_front a b x y n e = sym (take-append_seam a x) ∙ (λ i. take (n i) (e i))
 
 module _ {V : Type 0} where
   -- ---- the entries under a prefix
-
-  abbrev under : List ℕ → List (List ℕ × V) → List (List ℕ × V)
-  under [] es = es
-  under (i ∷ p) es = under p (under_index i es)
 
   AllWords-index : (below i : ℕ) (es : List (List ℕ × V)) → AllWords (suc below) es → AllWords below (under_index i es)
   AllWords-index below i [] a = tt
@@ -58,7 +54,7 @@ module _ {V : Type 0} where
       ap (λ x. cond (eq_by_cmp bytes_cmp (i ∷ w) x) (Some e.1) (find bytes_cmp (i ∷ w) es)) a.0 ∙ at
       ∙ ap (λ x. find bytes_cmp w (cond (nat_eq i (get_or x 0 0)) ((drop 1 x, e.1) ∷ under_index i es) (under_index i es))) (sym a.0)
 
-  find-under : (p : List ℕ) (height : ℕ) (w : List ℕ) (es : List (List ℕ × V)) → length p ≤ height → AllWords height es → find bytes_cmp (p ++ w) es ≡ find bytes_cmp w (under p es)
+  find-under : (p : List ℕ) (height : ℕ) (w : List ℕ) (es : List (List ℕ × V)) → length p ≤ height → AllWords height es → find bytes_cmp (p ++ w) es ≡ find bytes_cmp w (under_prefix p es)
   find-under [] height w es h a = refl
   find-under (i ∷ p) zero w es h a = absurd (omega arith)
   find-under (i ∷ p) (suc below) w es h a = find-index below i (p ++ w) es a ∙ find-under p below w (under_index i es) (omega arith) (AllWords-index below i es a)
@@ -81,12 +77,12 @@ module _ {V M : Type 0} (c : Calls V M) where
   none_of zero (x ∷ y ∷ es) e = absurd cc
   none_of (suc below) (x ∷ y ∷ es) e = absurd cc
 
-  none_under : (p : List ℕ) (height : ℕ) (es : List (List ℕ × V)) → length p ≤ height → summary_at c p height es ≡ None → under p es ≡ []
+  none_under : (p : List ℕ) (height : ℕ) (es : List (List ℕ × V)) → length p ≤ height → summary_at c p height es ≡ None → under_prefix p es ≡ []
   none_under [] height es h e = none_of height es e
   none_under (i ∷ p) zero es h e = absurd (omega arith)
   none_under (i ∷ p) (suc below) es h e = none_under p below (under_index i es) (omega arith) e
 
-  under_none : (p : List ℕ) (height : ℕ) (es : List (List ℕ × V)) → length p ≤ height → under p es ≡ [] → summary_at c p height es ≡ None
+  under_none : (p : List ℕ) (height : ℕ) (es : List (List ℕ × V)) → length p ≤ height → under_prefix p es ≡ [] → summary_at c p height es ≡ None
   under_none [] height es h e = ap (summary_of c height) e
   under_none (i ∷ p) zero es h e = refl
   under_none (i ∷ p) (suc below) es h e = under_none p below (under_index i es) (omega arith) e
@@ -99,7 +95,7 @@ module _ {V M : Type 0} (c : Calls V M) where
         let is : path f key ≡ p ++ w = path_begins f (length p) r key (omega arith) ∙ ap (λ q. q ++ w) covers in
         get-as_map f key es h ∙ ap (λ q. find bytes_cmp q es) is ∙ find-under p 7 w es short (HashedBy-AllWords f es h) ∙ ap (find bytes_cmp w) (none_under p 7 es short e)
 
-    nothing : ((key : List ℕ) → indices (length p) (f key) ≡ p → finite.get (as_map es) key ≡ None) → (left : List (List ℕ × V)) → under p es ≡ left → left ≡ []
+    nothing : ((key : List ℕ) → indices (length p) (f key) ≡ p → finite.get (as_map es) key ≡ None) → (left : List (List ℕ × V)) → under_prefix p es ≡ left → left ≡ []
     nothing all [] e = refl
     nothing all (x ∷ left) e =
         let w = p ++ x.0 in
@@ -114,4 +110,4 @@ module _ {V M : Type 0} (c : Calls V M) where
         absurd cc
 
     pub none_exactly : (summary_at c p 7 es ≡ None) ↔ ((key : List ℕ) → indices (length p) (f key) ≡ p → finite.get (as_map es) key ≡ None)
-    none_exactly = (absent, λ all. under_none p 7 es short (nothing all (under p es) refl))
+    none_exactly = (absent, λ all. under_none p 7 es short (nothing all (under_prefix p es) refl))

@@ -14,3 +14,4 @@ pub mod Summaries
 pub mod Walks
 pub mod Absences
 pub mod Paths
+pub mod Parts

@@ -1,5 +1,6 @@
 -- Putting a word into a branch is putting the rest of it into the child at its first index.
-use Rattle.std.proofs.Common.{◌≡◌, ℕ, suc, ◌<◌, List, [], ◌∷◌, ◌++◌, arith, refl, ◌∙◌, ap}
+use Rattle.std.proofs.Common.{◌≡◌, ℕ, suc, ◌+◌, ◌<◌, List, [], ◌∷◌, ◌++◌, length, length-append, arith, refl, ◌∙◌, ap}
+use Rattle.std.proofs.lemmas.List.{length-map}
 use Rattle.std.specs.declared.cmp.Ordering.{Ordering}
 use Rattle.std.specs.declared.cmp.Ordering.TheVariants.{Less, Equal, Greater}
 use Rattle.std.specs.Ordering.{nat_cmp, ordering_then}
@@ -60,3 +61,26 @@ module _ {V : Type 0} (i : ℕ) (w : List ℕ) (v : V) where
   pub put-fan : (low : ℕ) (cs : List (ℕ × List (List ℕ × V))) → Rise low cs → put bytes_cmp (i ∷ w) v (fan cs) ≡ fan (put_child i (put bytes_cmp w v (at i cs)) cs)
   put-fan low [] r = refl
   put-fan low (c ∷ cs) r = put_step c cs (nat_cmp i c.0) refl r.2 (put-fan (suc c.0) cs r.2)
+
+-- ---- how many
+
+module _ {V : Type 0} (i : ℕ) (es : List (List ℕ × V)) where
+  length-under : (j : ℕ) (fs rest : List (List ℕ × V)) → length (under j fs ++ rest) ≡ length fs + length rest
+  length-under j fs rest = length-append (under j fs) rest ∙ ap (λ n. n + length rest) (length-map fs (λ e. (j ∷ e.0, e.1)))
+
+  more_step : (c : ℕ × List (List ℕ × V)) (cs : List (ℕ × List (List ℕ × V))) (o : Ordering) → length (fan (put_child i es cs)) + length (at i cs) ≡ length (fan cs) + length es
+      → length (fan (by_order o ((i, es) ∷ c ∷ cs) ((c.0, es) ∷ cs) (c ∷ put_child i es cs))) + length (by_order o [] c.1 (at i cs)) ≡ length (under c.0 c.1 ++ fan cs) + length es
+  more_step c cs Less rest = let all = length-under i es (under c.0 c.1 ++ fan cs) in omega (arith, all)
+  more_step c cs Equal rest =
+      let here = length-under c.0 c.1 (fan cs) in
+      let there = length-under c.0 es (fan cs) in
+      omega (arith, here, there)
+  more_step c cs Greater rest =
+      let before = length-under c.0 c.1 (fan cs) in
+      let after = length-under c.0 c.1 (fan (put_child i es cs)) in
+      omega (arith, before, after, rest)
+
+  -- a branch has as many entries more as the child does
+  pub length-put_child : (cs : List (ℕ × List (List ℕ × V))) → length (fan (put_child i es cs)) + length (at i cs) ≡ length (fan cs) + length es
+  length-put_child [] = let all = length-under i es [] in omega (arith, all)
+  length-put_child (c ∷ cs) = more_step c cs (nat_cmp i c.0) (length-put_child cs)

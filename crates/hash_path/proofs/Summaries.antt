@@ -1,5 +1,5 @@
 -- The summary of a branch is made of the summaries of its children, and that at a prefix is found in one child.
-use Rattle.std.proofs.Common.{◌≡◌, ℕ, zero, suc, ◌+◌, ◌<◌, ◌≤◌, List, [], ◌∷◌, ◌++◌, length, false, cond, nat_eq, Some, None, arith, refl, sym, ◌∙◌, ap, subst, append-nil, eq-eqb, ne_eqb}
+use Rattle.std.proofs.Common.{◌≡◌, ℕ, zero, suc, ◌+◌, ◌-◌, ◌<◌, ◌≤◌, List, [], ◌∷◌, ◌++◌, length, false, cond, nat_eq, Some, None, arith, refl, sym, ◌∙◌, ap, subst, append-nil, eq-eqb, ne_eqb}
 use Rattle.std.specs.declared.option.Option.{Option}
 use Rattle.std.specs.declared.cmp.Ordering.{Ordering}
 use Rattle.std.specs.declared.cmp.Ordering.TheVariants.{Less, Equal, Greater}
@@ -7,7 +7,7 @@ use Rattle.std.specs.Ordering.{nat_cmp}
 use Rattle.std.specs.FinMap.Entries.{by_order}
 use Rattle.hash_path.specs.Fan.{under, fan, Rise, at}
 use Rattle.hash_path.specs.Map.{by_key}
-use Rattle.hash_path.specs.Summary.{Calls, under_index, one_present, present, summary_of, summary_at, sums}
+use Rattle.hash_path.specs.Summary.{Calls, under_index, under_prefix, one_present, present, summary_of, summary_at, sums}
 use Rattle.hash_path.proofs.Orders.{less, same, more, is_more}
 
 module _ {V : Type 0} where
@@ -112,6 +112,22 @@ module _ {V M : Type 0} (c : Calls V M) where
 
   pub summary_child : (i : ℕ) (p : List ℕ) (below : ℕ) (cs : List (ℕ × List (List ℕ × V))) → Rise 0 cs → summary_at c (i ∷ p) (suc below) (fan cs) ≡ summary_at c p below (at i cs)
   summary_child i p below cs r = ap (summary_at c p below) (under_index-fan 0 i cs r)
+
+  -- a summary at a prefix is that of the entries there
+  pub summary_there : (p : List ℕ) (height : ℕ) (es : List (List ℕ × V)) → length p ≤ height → summary_at c p height es ≡ summary_of c (height - length p) (under_prefix p es)
+  summary_there [] height es h = let same : height ≡ height - 0 = omega arith in ap (λ k. summary_of c k es) same
+  summary_there (i ∷ p) zero es h = absurd (omega arith)
+  summary_there (i ∷ p) (suc below) es h =
+      let same : below - length p ≡ suc below - suc (length p) = omega arith in
+      summary_there p below (under_index i es) (omega arith) ∙ ap (λ k. summary_of c k (under_prefix p (under_index i es))) same
+
+module _ {V : Type 0} where
+  pub under_none : (p : List ℕ) → under_prefix {V = V} p [] ≡ []
+  under_none [] = refl
+  under_none (i ∷ p) = under_none p
+
+  pub under_child : (i : ℕ) (p : List ℕ) (cs : List (ℕ × List (List ℕ × V))) → Rise 0 cs → under_prefix (i ∷ p) (fan cs) ≡ under_prefix p (at i cs)
+  under_child i p cs r = ap (under_prefix p) (under_index-fan 0 i cs r)
 
 -- ---- one child after another
 

@@ -16,7 +16,7 @@ module _ {V : Type 0} (f : List ℕ → ℕ) where
   HashedBy-with_path (e ∷ es) = (is_path f e.0, HashedBy-with_path es)
 
   -- a key is found at its path
-  find-with_path : (k : List ℕ) (es : List (List ℕ × V)) → find bytes_cmp (path f k) (with_path f es) ≡ find bytes_cmp k es
+  pub find-with_path : (k : List ℕ) (es : List (List ℕ × V)) → find bytes_cmp (path f k) (with_path f es) ≡ find bytes_cmp k es
   find-with_path k [] = refl
   find-with_path k (e ∷ es) =
       let rest = find-with_path k es in

@@ -57,6 +57,15 @@ tied-word height a b k l =
 
 -- ---- how many
 
+pub length_put_le : {V : Type 0} (w : List ℕ) (v : V) (es : List (List ℕ × V)) → length (put bytes_cmp w v es) ≤ suc (length es)
+length_put_le w v [] = omega arith
+length_put_le w v (e ∷ es) = step (bytes_cmp w e.0) (length_put_le w v es)
+  where
+    step : (o : Ordering) → length (put bytes_cmp w v es) ≤ suc (length es) → length (by_order o ((w, v) ∷ e ∷ es) ((e.0, v) ∷ es) (e ∷ put bytes_cmp w v es)) ≤ suc (suc (length es))
+    step Less h = omega arith
+    step Equal h = omega arith
+    step Greater h = omega arith
+
 pub length_put_ge : {V : Type 0} (w : List ℕ) (v : V) (es : List (List ℕ × V)) → length es ≤ length (put bytes_cmp w v es)
 length_put_ge w v [] = omega arith
 length_put_ge w v (e ∷ es) = step (bytes_cmp w e.0) (length_put_ge w v es)

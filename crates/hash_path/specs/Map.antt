@@ -1,9 +1,10 @@
 -- What a trie stands for: a finite map from keys to values. Its entries stand by path, and the map is that of their
 -- keys; the walk of a map is its entries in the order of their paths. Of this project.
 use Rattle.std.specs.Prelude.{◌≡◌, ℕ, List, [], ◌∷◌, map}
+use Rattle.std.specs.List.{filter}
 use Rattle.std.specs.FinMap as finite
 use Rattle.dots.specs.Bytes.{bytes_cmp}
-use Rattle.hash_path.specs.Word.{word, key_in}
+use Rattle.hash_path.specs.Word.{word, key_in, begins}
 
 -- the word of a key at the root: its seven indices, its hash, its bytes
 abbrev pub path : (List ℕ → ℕ) → List ℕ → List ℕ
@@ -41,3 +42,7 @@ by_path hash_of m = finite.entries (finite.from_entries {R = bytes_cmp} (with_pa
 -- not of the order that the keys were written in.
 abbrev pub walk : {V : Type 0} → (List ℕ → ℕ) → finite.FinMap bytes_cmp V → List (List ℕ × V)
 walk hash_of m = by_key 7 (by_path hash_of m)
+
+-- its part under a prefix: the keys whose paths begin with the prefix, with their values, in the order of the walk
+abbrev pub walk_under : {V : Type 0} → (List ℕ → ℕ) → List ℕ → finite.FinMap bytes_cmp V → List (List ℕ × V)
+walk_under hash_of prefix m = filter (λ e. begins prefix (path hash_of e.0)) (walk hash_of m)

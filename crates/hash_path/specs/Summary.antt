@@ -17,6 +17,11 @@ abbrev pub under_index : {V : Type 0} → ℕ → List (List ℕ × V) → List 
 under_index i [] = []
 under_index i (e ∷ es) = cond (nat_eq i (get_or e.0 0 0)) ((drop 1 e.0, e.1) ∷ under_index i es) (under_index i es)
 
+-- and those whose word begins with a prefix, without it
+abbrev pub under_prefix : {V : Type 0} → List ℕ → List (List ℕ × V) → List (List ℕ × V)
+under_prefix [] es = es
+under_prefix (i ∷ p) es = under_prefix p (under_index i es)
+
 -- of so many indices from a first one on, those that have a summary
 abbrev pub one_present : {M : Type 0} → ℕ → Option M → List (ℕ × M) → List (ℕ × M)
 one_present i None rest = rest

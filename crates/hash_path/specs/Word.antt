@@ -2,7 +2,7 @@
 -- its hash, then its bytes; so two keys of one height have one word exactly when their hashes and their bytes are
 -- equal. Words are ordered as texts are, by `bytes_cmp`, and at the root that is the order of the walk: by index
 -- sequence, then by bytes. Of this project.
-use Rattle.std.specs.Prelude.{◌≡◌, ℕ, zero, suc, ◌-◌, List, [], ◌∷◌, get_or, drop}
+use Rattle.std.specs.Prelude.{◌≡◌, ℕ, zero, suc, ◌-◌, Bool, true, false, cond, nat_eq, List, [], ◌∷◌, get_or, drop}
 use Rattle.hash_path.specs.Path.{index_in}
 
 -- the index of a hash where so many levels of branches are below
@@ -29,3 +29,8 @@ IsWord height w = w ≡ word height (hash_in height w) (key_in height w)
 abbrev pub AllWords : {V : Type 0} → ℕ → List (List ℕ × V) → Type 0
 AllWords height [] = Unit {0}
 AllWords height (e ∷ es) = IsWord height e.0 × AllWords height es
+
+-- whether a word begins with these indices
+abbrev pub begins : List ℕ → List ℕ → Bool
+begins [] w = true
+begins (i ∷ p) w = cond (nat_eq i (get_or w 0 0)) (begins p (drop 1 w)) false

@@ -13,7 +13,8 @@ use sha2::{Digest, Sha256};
 use std::alloc::Allocator;
 
 /// The digest of a map at a prefix: the SHA-256 of its page there. None exactly where no key stands under the prefix. Takes
-/// no memory. Nodes keep no digests yet, so it visits all entries under the prefix.
+/// no memory. It reads the digests that nodes keep after a freeze or a seal; where they keep none, it visits all entries
+/// under the prefix.
 pub fn digest<H: PathHash, A: Allocator + Copy>(
     frozen: &Frozen<DotFun<Value<A>, A>, ShaSummary, H, A>,
     prefix: Prefix,

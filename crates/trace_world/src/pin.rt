@@ -1,10 +1,10 @@
-use ctrie_api::Ctrie;
+use ctrie_api::{Ctrie, NoSummary};
 use dots::{Name, Value};
 use hash_path::Fnv1a;
 use std::alloc::{Allocator, Global};
 
 /// What a replica showed: the distinct values of each key, ascending by bytes.
-pub(crate) type Shown<A> = Ctrie<Vec<Value<A>, A>, Fnv1a, A>;
+pub(crate) type Shown<A> = Ctrie<Vec<Value<A>, A>, Fnv1a, NoSummary, A>;
 
 /// A map that is kept as it was.
 #[derive(Drop)]

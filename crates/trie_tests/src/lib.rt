@@ -15,6 +15,8 @@ mod paths;
 #[cfg(test)]
 mod runs;
 #[cfg(test)]
+mod seals;
+#[cfg(test)]
 mod snapshots;
 #[cfg(test)]
 mod summaries;

@@ -57,6 +57,6 @@ pub fn taken<H: PathHash>(
     let key = Key::new(alloc, key)?;
     match trie.remove(&key)? {
         None => Ok(None),
-        Some(value) => Ok(Some(*value)),
+        Some(entry) => Ok(Some(*entry.value())),
     }
 }

@@ -1,7 +1,7 @@
 // Workiva's calls: a map with snapshots.
 use ctrie_api::Ctrie;
 use dots::{Key, Refusal};
-use gen_trie::Iter;
+use gen_trie::{Iter, NoSummary};
 use hash_path::Fnv1a;
 use std::alloc::Global;
 use std::test::Fail;
@@ -21,7 +21,7 @@ fn taken(alloc: Global, trie: &mut Map, key: &[u8]) -> Result<Option<u64>, Refus
     let key = Key::new(alloc, key)?;
     match trie.remove(&key)? {
         None => Ok(None),
-        Some(value) => Ok(Some(*value)),
+        Some(entry) => Ok(Some(*entry.value())),
     }
 }
 
@@ -65,7 +65,7 @@ fn a_removed_key_is_gone_and_a_second_value_replaces_the_first(
 }
 
 // The sum of the values, each times ten to the number of those after it.
-fn digits<'a>(walk: Iter<'a, u64>) -> u64 {
+fn digits<'a>(walk: Iter<'a, u64, NoSummary>) -> u64 {
     let mut number: u64 = 0;
     for (_, value) in walk {
         number = number.wrapping_mul(10).wrapping_add(*value);

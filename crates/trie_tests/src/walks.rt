@@ -6,7 +6,7 @@ use hash_path::{Fnv1a, SameHash};
 use std::test::Fail;
 
 // Whether a walk gives these keys and values, and then nothing.
-fn is_walk(mut walk: Iter<'_, u64>, expected: &[(&[u8], u64)]) -> bool {
+fn is_walk(mut walk: Iter<'_, u64, NoSummary>, expected: &[(&[u8], u64)]) -> bool {
     for (key, value) in expected {
         match walk.next() {
             Some((k, v)) if k.bytes() == *key && v == value => {}

@@ -14,3 +14,7 @@ returns-clause-ok g c =
 pub returns-clause-branch : goal.returns-clause-branch
 returns-clause-branch g c =
     (put_new_is c.args.below c.args.bitmap.now _ _ _ _ c.args.leaf c.args.slots.now.items _ c.requires.branch c.requires.seat c.requires.free c.in_ok-insert.ensures.items).1
+
+pub returns-clause-fresh : goal.returns-clause-fresh
+returns-clause-fresh g c =
+    (put_new_is c.args.below c.args.bitmap.now _ _ _ _ c.args.leaf c.args.slots.now.items _ c.requires.branch c.requires.seat c.requires.free c.in_ok-insert.ensures.items).2

@@ -7,8 +7,8 @@ use Rattle.gen_trie.proofs.Roots.{IsRoot-cut}
 use Rattle.gen_trie.proofs.root.remove_at.Goals as goal
 
 pub returns-in-None-clause-ok : goal.returns-in-None-clause-ok
-returns-in-None-clause-ok g c = sym (cut_missing (word 7 c.args.hash c.args.key.now) (root_entries c.args.root.now) (sym c.in-None.ensures))
+returns-in-None-clause-ok g c = sym (cut_missing (word 7 c.args.hash c.args.key.now) (root_entries c.args.root.now) (sym c.in-None.ensures.value))
 
 pub returns-clause-is_root : goal.returns-clause-is_root
 returns-clause-is_root g c =
-    IsRoot-cut c.args.root.now c.take_root.new.root c.args.count.now (word 7 c.args.hash c.args.key.now) c.requires (ap is_some (sym c.in-Some.ensures)) c.in_ok-take_root.ensures.ok c.in_ok-take_root.ensures.stands
+    IsRoot-cut c.args.root.now c.take_root.new.root c.args.count.now (word 7 c.args.hash c.args.key.now) c.requires (ap is_some (sym c.in-Some.ensures.value)) c.in_ok-take_root.ensures.ok c.in_ok-take_root.ensures.stands

@@ -8,8 +8,8 @@ use Rattle.gen_trie.proofs.summing.+summing.Goals as goal
 
 pub sum_of-returns-in-One-clause-summary : goal.sum_of-returns-in-One-clause-summary
 sum_of-returns-in-One-clause-summary g t c =
-    one_key g.M.Summary.calls c.args.below c.args.slot.now c.in-One.index c.in-One.entry c.bytes.result.now c.deref-in-One-2.result.now c.leaf.result c.in-One.is
-    (c.bytes.ensures.value ∙ ap (λ e. e.key) c.deref.ensures) (c.deref-in-One-2.ensures ∙ ap (λ e. e.value.value) c.deref-in-One.ensures) c.leaf.ensures
+    one_key g.M.Summary.calls c.args.below c.args.slot.now c.in-One.index c.in-One.entry c.bytes.result.now c.deref-in-One.result.now.value c.leaf.result c.in-One.is
+    (c.bytes.ensures.value ∙ ap (λ e. e.key) c.deref.ensures) (ap (λ e. e.value) c.deref-in-One.ensures) c.leaf.ensures
 
 pub branch_of-branch_of-requires : goal.branch_of-branch_of-requires
 branch_of-branch_of-requires g t c κs within =
@@ -41,7 +41,7 @@ branch_of-returns-in-Some g t c =
 pub summary-branch_of-requires : goal.summary-branch_of-requires
 summary-branch_of-requires g t c κs within =
     let e = sym c.node.view_is ∙ ap height_and_entries c.in-Branch.is in
-    let b = subst IsCanonical c.in-Branch.is c.node.invariant in
+    let b = subst IsCanonical c.in-Branch.is c.node.invariant.0 in
     let few = few_slots c.in-Branch.below c.deref.result.now (subst (λ l. Rise 0 (children c.in-Branch.below l)) (sym c.deref.ensures.value) b.rise) in
     let rise = children_rise g.M.Summary.calls c.in-Branch.below c.in-Branch.slots.items c.deref.result.now c.none.result b.rise c.deref.ensures.value c.none.ensures in
     let height : c.args.node.now.0 ≡ suc c.in-Branch.below = ap (λ n. n.0) e in
@@ -50,7 +50,7 @@ summary-branch_of-requires g t c κs within =
 pub summary-returns-in-Branch : goal.summary-returns-in-Branch
 summary-returns-in-Branch g t c =
     let e = sym c.node.view_is ∙ ap height_and_entries c.in-Branch.is in
-    let b = subst IsCanonical c.in-Branch.is c.node.invariant in
+    let b = subst IsCanonical c.in-Branch.is c.node.invariant.0 in
     of_children g.M.Summary.calls c.args.node.now c.in-Branch.below c.in-Branch.slots.items c.deref.result.now c.none.result c.branch_of.result e b.rise c.requires c.deref.ensures.value c.none.ensures c.branch_of.ensures
 
 pub summary-returns-in-Keys : goal.summary-returns-in-Keys

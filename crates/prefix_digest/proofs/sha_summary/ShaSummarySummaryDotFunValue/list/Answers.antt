@@ -12,7 +12,7 @@ use Rattle.prefix_digest.proofs.Taken.{takes_same, item_held}
 use Rattle.prefix_digest.proofs.sha_summary.ShaSummarySummaryDotFunValue.list.Goals as goal
 
 abbrev shows : {A : Type 0} → Arc (Entry Values A) A → List ℕ × Values
-shows e = (e.value.key, e.value.value.value)
+shows e = (e.value.key, e.value.value)
 
 pub loop-entry-init : goal.loop-entry-init
 loop-entry-init g c = c.new_with_prefix-hasher.ensures
@@ -20,7 +20,7 @@ loop-entry-init g c = c.new_with_prefix-hasher.ensures
 pub loop-entry-preserved : goal.loop-entry-preserved
 loop-entry-preserved g c =
     let key = c.bytes.ensures.value ∙ c.key.ensures ∙ ap (λ e. e.key) c.deref.ensures in
-    let held = c.value.ensures ∙ ap (λ e. e.value.value) c.deref-in-loop-entry.ensures in
+    let held = c.value.ensures ∙ ap (λ e. e.value) c.deref-in-loop-entry.ensures in
     let taken : Takes c.loop-entry.hasher c.feed_entry.new.hasher (entry_bytes (shows c.entry-item.result)) =
     takes_same c.loop-entry.hasher c.feed_entry.new.hasher _ (entry_bytes (shows c.entry-item.result)) (λ i. entry_bytes (key i, held i)) c.feed_entry.ensures in
     subst (λ xs. Holds256 c.feed_entry.new.hasher (1 ∷ flat_map entry_bytes xs)) (sym (one_taken shows c.args.entries.now c.loop-entry.entry-index c.entry-item.result c.loop-entry-test.true c.entry-item.is))

@@ -5,4 +5,4 @@ use Rattle.prefix_digest.specs.Page.{entry_bytes}
 use Rattle.prefix_digest.proofs.sha_summary.ShaSummarySummaryDotFunValue.list.Given as goal
 
 abbrev pub invariant-loop-entry : goal.invariant-loop-entry
-invariant-loop-entry g l = Holds256 l.hasher (1 ∷ flat_map entry_bytes (map (λ e. (e.value.key, e.value.value.value)) (take l.entry-index l.entries)))
+invariant-loop-entry g l = Holds256 l.hasher (1 ∷ flat_map entry_bytes (map (λ e. (e.value.key, e.value.value)) (take l.entry-index l.entries)))

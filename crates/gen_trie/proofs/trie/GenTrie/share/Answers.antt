@@ -1,5 +1,5 @@
 use Rattle.gen_trie.proofs.Roots.{IsTrie-same}
-use Rattle.gen_trie.proofs.trie.GenTrie.freeze.Goals as goal
+use Rattle.gen_trie.proofs.trie.GenTrie.share.Goals as goal
 
 pub of-frozen-requires : goal.of-frozen-requires
 of-frozen-requires g c =

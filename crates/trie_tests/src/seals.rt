@@ -1,0 +1,181 @@
+// Summaries that nodes keep. How many nodes there are was counted by a program in python, from the paths of the keys.
+use crate::made::{prefix_of, three};
+use dot_store::{DotFun, DotStore};
+use dots::{Dot, Key, Name, Refusal, Value};
+use gen_trie::{Frozen, GenTrie, NoSummary};
+use hash_path::{Fnv1a, Prefix};
+use linked_list_allocator::LocalHeap;
+use prefix_digest::{ShaSummary, digest};
+use std::alloc::{Allocator, Global};
+use std::test::Fail;
+
+type Plain = GenTrie<u64, NoSummary, Fnv1a>;
+
+type Digested<A> = GenTrie<DotFun<Value<A>, A>, ShaSummary, Fnv1a, A>;
+
+// The key of a number: eight bytes, the most significant first, of a multiple of the number.
+fn key_of<A: Allocator + Copy>(alloc: A, number: u64) -> Result<Key<A>, Refusal> {
+    Key::new(
+        alloc,
+        &number.wrapping_mul(0x9e37_79b9_7f4a_7c15).to_be_bytes(),
+    )
+}
+
+// The trie of the keys of the numbers below 1,000.
+fn thousand(alloc: Global) -> Result<Plain, Refusal> {
+    let mut trie = GenTrie::new(alloc, Fnv1a);
+    for number in 0..1_000 {
+        trie.insert(key_of(alloc, number)?, number)?;
+    }
+    Ok(trie)
+}
+
+#[test]
+fn a_seal_reaches_each_node(rt: HostRuntime) -> Result<(), Fail> {
+    let mut trie = thousand(rt.alloc())?;
+    assert_eq!(rt; trie.stamped(), 0);
+    trie.seal()?;
+    assert_eq!(rt; trie.stamped(), 315);
+    Ok(())
+}
+
+#[test]
+fn a_seal_renews_what_was_written_after_a_freeze(rt: HostRuntime) -> Result<(), Fail> {
+    let mut trie = thousand(rt.alloc())?;
+    let _frozen = trie.freeze()?;
+    assert_eq!(rt; trie.stamped(), 0);
+    trie.insert(key_of(rt.alloc(), 1_000)?, 1_000)?;
+    trie.seal()?;
+    assert_eq!(rt; trie.stamped(), 3);
+    Ok(())
+}
+
+#[test]
+fn a_seal_copies_nodes_that_are_shared(rt: HostRuntime) -> Result<(), Fail> {
+    let mut trie = thousand(rt.alloc())?;
+    let _shared = trie.share()?;
+    trie.seal()?;
+    assert_eq!(rt; trie.stamped(), 315);
+    Ok(())
+}
+
+// Puts a value at the key of a number, and nothing else there.
+fn put<A: Allocator + Copy>(alloc: A, trie: &mut Digested<A>, number: u64) -> Result<(), Refusal> {
+    let name = Name::new(1).ok_or(Refusal::BadLine)?;
+    let dot = Dot::new(name, number.saturating_add(1)).ok_or(Refusal::BadLine)?;
+    let mut held = DotFun::empty(alloc);
+    held.insert(dot, Value::new(alloc, b"v")?)?;
+    trie.insert(key_of(alloc, number)?, held)
+}
+
+// The trie of the keys of the numbers below 40.
+fn forty<A: Allocator + Copy>(alloc: A) -> Result<Digested<A>, Refusal> {
+    let mut trie = GenTrie::new(alloc, Fnv1a);
+    for number in 0..40 {
+        put(alloc, &mut trie, number)?;
+    }
+    Ok(trie)
+}
+
+#[test]
+fn kept_digests_are_those_of_the_entries(rt: HostRuntime) -> Result<(), Fail> {
+    let mut trie = forty(rt.alloc())?;
+    let shared = trie.share()?;
+    let frozen = trie.freeze()?;
+    assert_eq!(rt;
+        digest(&frozen, Prefix::root()),
+        digest(&shared, Prefix::root())
+    );
+    put(rt.alloc(), &mut trie, 40)?;
+    let more = trie.freeze()?;
+    assert!(rt; digest(&more, Prefix::root()) != digest(&frozen, Prefix::root()));
+    trie.remove(&key_of(rt.alloc(), 40)?)?;
+    let less = trie.freeze()?;
+    assert_eq!(rt;
+        digest(&less, Prefix::root()),
+        digest(&frozen, Prefix::root())
+    );
+    Ok(())
+}
+
+// Takes what is left of the heap, in pieces of 8 bytes.
+fn fill<'a>(alloc: Global, heap: &'a LocalHeap) -> Vec<Vec<u8, &'a LocalHeap>> {
+    let mut pieces = Vec::new(alloc);
+    for _ in 0..100_000 {
+        let Ok(piece) = Vec::from_slice(heap, b"8 bytes.") else {
+            break;
+        };
+        if pieces.push(piece).is_err() {
+            break;
+        }
+    }
+    pieces
+}
+
+// What a seal answers in a heap that is full but for this many pieces.
+fn sealed_in<'a>(
+    alloc: Global,
+    heap: &'a LocalHeap,
+    trie: &mut Digested<&'a LocalHeap>,
+    room: usize,
+) -> Result<(), Refusal> {
+    let mut pieces = fill(alloc, heap);
+    for _ in 0..room {
+        pieces.pop();
+    }
+    trie.seal()
+}
+
+#[test]
+fn a_refused_seal_is_made_again(rt: HostRuntime) -> Result<(), Fail> {
+    let heap = LocalHeap::new(rt.alloc(), 40_000)?;
+    let mut trie = forty(&heap)?;
+    let shared = trie.share()?;
+    assert_eq!(rt;
+        sealed_in(rt.alloc(), &heap, &mut trie, 0),
+        Err(Refusal::OutOfMemory)
+    );
+    assert_eq!(rt;
+        sealed_in(rt.alloc(), &heap, &mut trie, 60),
+        Err(Refusal::OutOfMemory)
+    );
+    trie.seal()?;
+    let frozen = trie.share()?;
+    assert_eq!(rt;
+        digest(&frozen, Prefix::root()),
+        digest(&shared, Prefix::root())
+    );
+    Ok(())
+}
+
+// How many keys a frozen map walks through under these indices.
+fn count_under(frozen: &Frozen<u64, NoSummary, Fnv1a>, path: &[u32]) -> Result<usize, Fail> {
+    let prefix = prefix_of(path).ok_or("a prefix")?;
+    Ok(frozen.iter_under(prefix).count())
+}
+
+#[test]
+fn a_walk_under_a_prefix_is_that_part(rt: HostRuntime) -> Result<(), Fail> {
+    let frozen = thousand(rt.alloc())?.freeze()?;
+    assert_eq!(rt; count_under(&frozen, &[])?, 1_000);
+    assert_eq!(rt; count_under(&frozen, &[7])?, 37);
+    assert_eq!(rt; count_under(&frozen, &[7, 3])?, 2);
+    Ok(())
+}
+
+#[test]
+fn a_key_alone_is_walked_at_each_prefix_of_its_path(rt: HostRuntime) -> Result<(), Fail> {
+    let frozen = three(rt.alloc(), Fnv1a)?.freeze()?;
+    assert_eq!(rt; count_under(&frozen, &[12, 9])?, 1);
+    assert_eq!(rt; count_under(&frozen, &[12, 8])?, 0);
+    Ok(())
+}
+
+#[test]
+fn bytes_are_looked_up_as_their_key_is(rt: HostRuntime) -> Result<(), Fail> {
+    let mut trie = three(rt.alloc(), Fnv1a)?;
+    assert_eq!(rt; trie.lookup_bytes(b"b").copied(), Some(2));
+    assert_eq!(rt; trie.lookup_bytes(b"d").copied(), None);
+    assert_eq!(rt; trie.freeze()?.lookup_bytes(b"c").copied(), Some(3));
+    Ok(())
+}
