@@ -75,7 +75,7 @@ impl<S: DotStore<A>, M: Summary<S>, H: PathHash, A: Allocator + Copy> Draft<S, M
         ensures ok { IfOk result (λ map. map ≡ self) }
         ensures err { IsOkUnless result Refusal.OutOfMemory }
     {
-        let entries = self.entries.freeze()?;
+        let entries = self.entries.share()?;
         Ok(TrieMap::of(entries))
     }
 }
