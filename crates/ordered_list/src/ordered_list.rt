@@ -45,6 +45,7 @@ impl<K: Ord + Drop, V: Drop, A: Allocator + Copy> OrderedList<K, V, A> {
     }
 
     /// The list with no entries, and with room for this many.
+    /// Its only refusal is OutOfMemory.
     pub fn with_capacity(alloc: A, capacity: usize) -> Result<OrderedList<K, V, A>, Refusal>
         ensures ok { IfOk result (λ list. list ≡ []) }
         ensures err { IsOkUnless result Refusal.OutOfMemory }
@@ -53,8 +54,8 @@ impl<K: Ord + Drop, V: Drop, A: Allocator + Copy> OrderedList<K, V, A> {
         Ok(OrderedList { items })
     }
 
-    /// The list of these entries, or None exactly where their keys do not ascend, each key once. The vector
-    /// is taken over as it is.
+    /// The list of these entries, or None exactly where their keys do not ascend, each key once. Takes the
+    /// vector over as it is, and no memory.
     pub fn from_entries(items: Vec<(K, V), A>) -> Option<OrderedList<K, V, A>>
         ensures ascend { IsSome result ↔ IsStrictlySortedBy K.cmp (keys_of items.items) }
         ensures entries { IfSome result (λ list. list ≡ items.items) }
@@ -66,6 +67,8 @@ impl<K: Ord + Drop, V: Drop, A: Allocator + Copy> OrderedList<K, V, A> {
     }
 
     /// Puts the value at the key, in place of what was there. A refused call leaves the list as it was.
+    /// Takes time in the number of greater keys, besides that of a look-up.
+    /// Its only refusal is OutOfMemory.
     pub fn insert(&mut self, key: K, value: V) -> Result<(), Refusal>
         ensures ok { OnOk result (self.new ≡ insert_entry K.cmp self.old key value) }
         ensures updates { OnOk result ((q : K)
@@ -82,7 +85,8 @@ impl<K: Ord + Drop, V: Drop, A: Allocator + Copy> OrderedList<K, V, A> {
         }
     }
 
-    /// Takes the entry of the key out, if there is one.
+    /// Takes the entry of the key out, if there is one. Takes time in the number of greater keys, besides that
+    /// of a look-up.
     pub fn remove(&mut self, key: &K)
         ensures entries { self.new ≡ remove_entry (is_at (K.cmp key.now)) self.old }
         ensures updates { (q : K)
@@ -103,7 +107,8 @@ impl<K: Ord, V, A: Allocator> OrderedList<K, V, A> {
         &self.items
     }
 
-    /// The value at the key.
+    /// The value at the key. Takes time in the logarithm of their number.
+    /// None exactly where it has none.
     pub fn get(&self, key: &K) -> Option<&V>
         ensures { option_copied result ≡ value_at K.cmp self.now key.now }
     {
@@ -116,6 +121,7 @@ impl<K: Ord, V, A: Allocator> OrderedList<K, V, A> {
 
 impl<K: Ord + Copy, V: Copy, A: Allocator + Copy> OrderedList<K, V, A> {
     /// The same entries, in one copy of their memory.
+    /// Its only refusal is OutOfMemory.
     pub fn copy(&self, alloc: A) -> Result<OrderedList<K, V, A>, Refusal>
         ensures ok { IfOk result (λ copy. copy ≡ self.now) }
         ensures err { IsOkUnless result Refusal.OutOfMemory }

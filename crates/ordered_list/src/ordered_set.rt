@@ -43,6 +43,7 @@ impl<T: Ord + Drop, A: Allocator + Copy> OrderedSet<T, A> {
     }
 
     /// The set with no items, and with room for this many.
+    /// Its only refusal is OutOfMemory.
     pub fn with_capacity(alloc: A, capacity: usize) -> Result<OrderedSet<T, A>, Refusal>
         ensures ok { IfOk result (λ set. set ≡ []) }
         ensures err { IsOkUnless result Refusal.OutOfMemory }
@@ -51,8 +52,8 @@ impl<T: Ord + Drop, A: Allocator + Copy> OrderedSet<T, A> {
         Ok(OrderedSet { items })
     }
 
-    /// The set of these items, or None exactly where they do not ascend, each once. The vector is taken over
-    /// as it is.
+    /// The set of these items, or None exactly where they do not ascend, each once. Takes the vector over as it
+    /// is, and no memory.
     pub fn from_items(items: Vec<T, A>) -> Option<OrderedSet<T, A>>
         ensures ascend { IsSome result ↔ IsStrictlySortedBy T.cmp items.items }
         ensures items { IfSome result (λ set. set ≡ items.items) }
@@ -63,7 +64,9 @@ impl<T: Ord + Drop, A: Allocator + Copy> OrderedSet<T, A> {
         Some(OrderedSet { items })
     }
 
-    /// Puts the item in, if it is not there. A refused call leaves the set as it was.
+    /// Puts the item in, if it is not there. A refused call leaves the set as it was. Takes time in the number
+    /// of greater items, besides that of a look-up.
+    /// Its only refusal is OutOfMemory.
     pub fn insert(&mut self, item: T) -> Result<(), Refusal>
         ensures ok { OnOk result (self.new ≡ insert_key T.cmp self.old item) }
         ensures updates { OnOk result ((q : T)
@@ -99,14 +102,15 @@ impl<T: Ord, A: Allocator> OrderedSet<T, A> {
         &self.items
     }
 
-    /// Whether the item is in the set.
+    /// Whether the item is in the set. Takes time in the logarithm of their number.
     pub fn contains(&self, item: &T) -> bool
         ensures { result ≡ is_among T.cmp self.now item.now }
     {
         place_of(&self.items, item).is_ok()
     }
 
-    /// The greatest item that is not above the high one, if there is one.
+    /// The greatest item that is not above the high one, if there is one. Takes time in the logarithm of their
+    /// number.
     pub fn last_up_to(&self, high: &T) -> Option<&T>
         ensures last { IfSome result (λ item. IsLastUpTo T.cmp self.now high.now item.now) }
         ensures none { IfNone result ((q : T) → IsTrue (is_among T.cmp self.now q) → is_gt (T.cmp q high.now) ≡ true) }
@@ -126,6 +130,7 @@ impl<T: Ord, A: Allocator> OrderedSet<T, A> {
 
 impl<T: Ord + Copy, A: Allocator + Copy> OrderedSet<T, A> {
     /// The same items, in one copy of their memory.
+    /// Its only refusal is OutOfMemory.
     pub fn copy(&self, alloc: A) -> Result<OrderedSet<T, A>, Refusal>
         ensures ok { IfOk result (λ copy. copy ≡ self.now) }
         ensures err { IsOkUnless result Refusal.OutOfMemory }
@@ -135,6 +140,7 @@ impl<T: Ord + Copy, A: Allocator + Copy> OrderedSet<T, A> {
     }
 
     /// The items of either set, in one pass over both.
+    /// Its only refusal is OutOfMemory.
     pub fn union(&self, alloc: A, other: &OrderedSet<T, A>) -> Result<OrderedSet<T, A>, Refusal>
         ensures ok { IfOk result (λ both. (q : T)
             → is_among T.cmp both q ≡ (is_among T.cmp self.now q || is_among T.cmp other.now q)) }
