@@ -184,10 +184,10 @@ begins-front (i ∷ p) [] w n = absurd (omega (arith, n))
 begins-front (i ∷ p) (j ∷ q) w n =
     let rest = begins-front p q w (omega (arith, n)) in
     let here : (b : Bool) → nat_eq i j ≡ b → cond b (begins p (q ++ w)) false ≡ true → j ∷ q ≡ i ∷ p = λ b.
-        elim b as (λ b. nat_eq i j ≡ b → cond b (begins p (q ++ w)) false ≡ true → j ∷ q ≡ i ∷ p) [
-          | true ↦ λ s t k. sym (eqb-true i j s) k ∷ rest.0 t k
-          | false ↦ λ s t. absurd cc
-        ] in (
+    elim b as (λ b. nat_eq i j ≡ b → cond b (begins p (q ++ w)) false ≡ true → j ∷ q ≡ i ∷ p) [
+      | true ↦ λ s t k. sym (eqb-true i j s) k ∷ rest.0 t k
+      | false ↦ λ s t. absurd cc
+    ] in (
       here (nat_eq i j) refl,
       λ e. let both = same_first j i q p e in ap (λ b. cond b (begins p (q ++ w)) false) (eq-eqb i j (sym both.0)) ∙ rest.1 both.1,
     )

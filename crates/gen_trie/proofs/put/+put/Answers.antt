@@ -85,3 +85,13 @@ put_slot-returns-in_ok-node-in-One-clause-fresh g t c =
 pub put_slot-returns-in-Many-clause-fresh : goal.put_slot-returns-in-Many-clause-fresh
 put_slot-returns-in-Many-clause-fresh g t c =
     if_ok_so c.put_shared.result (λ fresh more. subst (λ s. HasMore fresh (child c.args.below s).1 c.put_shared.new.node.value.1) (sym c.in-Many.is) more) c.put_shared.ensures.fresh
+
+pub put-invariant_of-node : goal.put-invariant_of-node
+put-invariant_of-node g t c =
+    elim c.match-node.branch [
+      | put-in-Branch w ↦ rw w.node-inside-is (w.put_branch.ensures.branch, tt)
+      | put-in-Keys w ↦ rw w.node-inside-is (tt, tt)
+    ]
+
+pub put_slot-returns-then-same_key-clause-fresh : goal.put_slot-returns-then-same_key-clause-fresh
+put_slot-returns-then-same_key-clause-fresh g t c = ap (λ s. length (child c.args.below s).1) (sym c.in-One.is)

@@ -90,3 +90,10 @@ take_branch-returns-clause-same g t c =
     err_so c.take_below.result
     (λ same. (put_none_is c.args.below c.args.bitmap.now c.seat_of-seat.result.at c.index_mut.result.now c.take_below.new.slot c.args.slots.now.items _ c.requires.branch less c.index_mut.ensures.value refl same c.take_below.ensures.fits).0)
     c.take_below.ensures.same
+
+pub take-invariant_of-node : goal.take-invariant_of-node
+take-invariant_of-node g t c =
+    elim c.match-node.branch [
+      | take-in-Branch w ↦ rw w.node-inside-is (w.take_branch.ensures.branch, tt)
+      | take-in-Keys w ↦ rw w.node-inside-is (tt, tt)
+    ]
