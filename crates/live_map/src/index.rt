@@ -69,7 +69,12 @@ impl<A: Allocator + Copy> Index<A> {
     }
 
     // Names the key for these dots. A refused call may have named some.
-    pub(crate) fn add_dots(&mut self, alloc: A, key: &Key<A>, dots: &Context<A>) -> Result<(), Refusal>
+    pub(crate) fn add_dots(
+        &mut self,
+        alloc: A,
+        key: &Key<A>,
+        dots: &Context<A>,
+    ) -> Result<(), Refusal>
         ensures there { OnOk result ((d : DotValue) → IsTrue (has dots.now d) → IsTrue (names self.new d key.now)) }
         ensures kept { (d : DotValue) (q : List ℕ) → IsTrue (names self.old d q) → IsTrue (names self.new d q) }
         ensures err { IsOkUnless result Refusal.OutOfMemory }
@@ -105,7 +110,13 @@ impl<A: Allocator + Copy> Index<A> {
 
     // Adds the keys that are named for dots of the name of the first, from its number up to the last. Takes time in these,
     // and two look-ups.
-    pub(crate) fn find(&self, alloc: A, first: Dot, last: u64, touched: &mut Touched<A>) -> Result<(), Refusal>
+    pub(crate) fn find(
+        &self,
+        alloc: A,
+        first: Dot,
+        last: u64,
+        touched: &mut Touched<A>,
+    ) -> Result<(), Refusal>
         ensures there { OnOk result ((d : DotValue) (q : List ℕ) → IsInSpan first last d → IsTrue (names self.now d q) → IsTrue (has_key touched.new q)) }
         ensures kept { (q : List ℕ) → IsTrue (has_key touched.old q) → IsTrue (has_key touched.new q) }
         ensures err { IsOkUnless result Refusal.OutOfMemory }

@@ -27,7 +27,12 @@ use trie_map::TrieMap;
 /// A delta is joined in at the keys that it touches: those at which it holds something, and those at which dots stand that
 /// its context knows. These are found in an index of where dots stand, which is kept beside the pair.
 #[derive(Drop)]
-pub struct Live<S: DotStore<A>, M: Summary<S> = NoSummary, H: PathHash = Fnv1a, A: Allocator + Copy = Global> {
+pub struct Live<
+    S: DotStore<A>,
+    M: Summary<S> = NoSummary,
+    H: PathHash = Fnv1a,
+    A: Allocator + Copy = Global,
+> {
     store: TrieMap<S, M, H, A>,
     context: Context<A>,
     index: Index<A>,
@@ -120,7 +125,11 @@ impl<S: DotStore<A>, M: Summary<S>, H: PathHash, A: Allocator + Copy> Live<S, M,
 
     /// Joins the delta into the pair. A refused call leaves the pair as it was. Takes what `prepare` does.
     /// Its only refusal is OutOfMemory.
-    pub fn join_delta(&mut self, alloc: A, delta: &Causal<DotMap<Key<A>, S, A>, A>) -> Result<(), Refusal>
+    pub fn join_delta(
+        &mut self,
+        alloc: A,
+        delta: &Causal<DotMap<Key<A>, S, A>, A>,
+    ) -> Result<(), Refusal>
         ensures hash { self.new.0.0.0 ≡ self.old.0.0.0 }
         ensures ok { OnOk result (Same (state_of (at_keys S.at) self.new.0)
             (join S.greater (state_of (at_keys S.at) self.old.0) (state_of (at_stores S.at bytes_cmp) delta.now))) }

@@ -16,7 +16,8 @@ pub struct Prepared<S: DotStore<A>, M: Summary<S>, H: PathHash, A: Allocator + C
     pub(crate) places: Vec<(Dot, Key<A>), A>,
 }
 
-impl<S: DotStore<A>, M: Summary<S>, H: PathHash, A: Allocator + Copy> Model for Prepared<S, M, H, A> {
+impl<S: DotStore<A>, M: Summary<S>, H: PathHash, A: Allocator + Copy> Model
+    for Prepared<S, M, H, A> {
     ghost use Rattle.causal_join.specs.Causal.{state_of};
     ghost use Rattle.op_model.specs.State.{IsInside};
     ghost use Rattle.trie_map.specs.Keyed.{at_keys};

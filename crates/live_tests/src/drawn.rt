@@ -70,7 +70,10 @@ fn agrees_at<H: PathHash>(
     plain: &Plain,
     key: u64,
 ) -> Result<bool, Refusal> {
-    match (live.store().get(&Key::new(alloc, &key.to_be_bytes())?), plain.get(&key)) {
+    match (
+        live.store().get(&Key::new(alloc, &key.to_be_bytes())?),
+        plain.get(&key),
+    ) {
         (Some(set), Some(one)) => Ok(set.contains(*one)),
         (None, None) => Ok(true),
         _ => Ok(false),
@@ -91,12 +94,7 @@ fn agrees<H: PathHash>(
 }
 
 // So many writes and removes at 40 keys, each third of them a remove, and what they come to.
-fn run<H: PathHash>(
-    rt: &impl Abort,
-    alloc: Global,
-    hash: H,
-    count: u64,
-) -> Result<bool, Refusal> {
+fn run<H: PathHash>(rt: &impl Abort, alloc: Global, hash: H, count: u64) -> Result<bool, Refusal> {
     let mut draws = Draws { state: 7 };
     let mut live: LiveSets<H, Global> = Live::new(alloc, hash);
     let mut plain = BTreeMap::new(alloc);
@@ -105,7 +103,13 @@ fn run<H: PathHash>(
         if draws.below(3) == 0 {
             remove(alloc, &mut live, &mut plain, key)?;
         } else {
-            write(alloc, &mut live, &mut plain, key, dot(rt, 1 + key % 3, number + 1))?;
+            write(
+                alloc,
+                &mut live,
+                &mut plain,
+                key,
+                dot(rt, 1 + key % 3, number + 1),
+            )?;
         }
     }
     agrees(alloc, &live, &plain)

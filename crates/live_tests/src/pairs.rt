@@ -79,7 +79,10 @@ fn a_dot_at_two_keys_goes_from_both(rt: HostRuntime) -> Result<(), Fail> {
 fn a_write_at_one_of_two_keys_ends_the_dot_at_the_other(rt: HostRuntime) -> Result<(), Fail> {
     let two = dot(&rt, 1, 2);
     let mut live = forged(&rt, rt.alloc())?;
-    live.join_delta(rt.alloc(), &written(rt.alloc(), b"a", two, &[dot(&rt, 1, 1), two])?)?;
+    live.join_delta(
+        rt.alloc(),
+        &written(rt.alloc(), b"a", two, &[dot(&rt, 1, 1), two])?,
+    )?;
     assert_eq!(rt; live.store().size(), 1);
     assert!(rt; stands(rt.alloc(), &live, b"a", two)?);
     Ok(())

@@ -1,5 +1,5 @@
 // A delta that is refused for want of memory leaves the pair as it was.
-use crate::made::{LiveSets, dot, stands, written};
+use crate::made::{LiveSets, Sets, dot, stands, written};
 use causal_join::Causal;
 use dots::{Dot, Refusal};
 use hash_path::Fnv1a;
@@ -8,8 +8,6 @@ use live_map::Live;
 use std::alloc::Global;
 use std::process::Abort;
 use std::test::Fail;
-
-use crate::made::Sets;
 
 // Takes what is left of the heap, in pieces of 8 bytes.
 fn fill<'a>(alloc: Global, heap: &'a LocalHeap) -> Vec<Vec<u8, &'a LocalHeap>> {

@@ -136,9 +136,9 @@ module _ {S P H : Type 0} (at : S → P → DotValue → Option H) where
       pub joined_here : Joined new key
       joined_here place d =
           step.here (⊎_elim
-            (λ e. inl (λ p q. e p q ∙ mine_holds p q))
-            (λ j. inr (λ p q. j p q ∙ sym (wanted_is p q)))
-            (before key)) place d
+          (λ e. inl (λ p q. e p q ∙ mine_holds p q))
+          (λ j. inr (λ p q. j p q ∙ sym (wanted_is p q)))
+          (before key)) place d
           ∙ wanted_is place d
 
       pub joined_apart : (q : List ℕ) → eq_by_cmp bytes_cmp q key ≡ false → Joined draft q → Joined new q

@@ -23,11 +23,17 @@ use std::marker::Model;
 /// It holds what a `DotMap` of the same stores does. A copy takes a reference count and shares all nodes; a join writes the
 /// keys whose stores change, and shares the rest.
 #[derive(Drop)]
-pub struct TrieMap<S: DotStore<A>, M: Summary<S> = NoSummary, H: PathHash = Fnv1a, A: Allocator + Copy = Global> {
+pub struct TrieMap<
+    S: DotStore<A>,
+    M: Summary<S> = NoSummary,
+    H: PathHash = Fnv1a,
+    A: Allocator + Copy = Global,
+> {
     entries: Frozen<S, M, H, A>,
 }
 
-impl<S: DotStore<A>, M: Summary<S>, H: PathHash, A: Allocator + Copy> Model for TrieMap<S, M, H, A> {
+impl<S: DotStore<A>, M: Summary<S>, H: PathHash, A: Allocator + Copy> Model
+    for TrieMap<S, M, H, A> {
     ghost use Rattle.std.specs.Coded.{coded×, coded_list, coded_ℕ};
     ghost use Rattle.std.specs.FinMap as finite;
     ghost use Rattle.trie_map.specs.Keyed.{TrieMapValue, NoStoreIsEmpty};
@@ -106,7 +112,8 @@ impl<S: DotStore<A>, M: Summary<S>, H: PathHash, A: Allocator + Copy> TrieMap<S,
     }
 }
 
-impl<S: DotStore<A>, M: Summary<S>, H: PathHash, A: Allocator + Copy> DotStore<A> for TrieMap<S, M, H, A> {
+impl<S: DotStore<A>, M: Summary<S>, H: PathHash, A: Allocator + Copy> DotStore<A>
+    for TrieMap<S, M, H, A> {
     type Place = (Key<A>, S::Place);
 
     type Held = S::Held;

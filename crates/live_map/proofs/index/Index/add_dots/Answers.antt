@@ -11,8 +11,8 @@ pub returns-clause-there : goal.returns-clause-there
 returns-clause-there g c =
     on_ok c.add_cloud.result
     (λ there d h.
-        by_known d (IsTrue (names c.add_cloud.new.self d c.args.key.now)) c.vector.result.now c.cloud.result.now
-        (λ k e below name one up. c.add_cloud.ensures.kept d c.args.key.now (c.in_ok-add_vector.ensures.there k e below d name one up))
-        (λ k e below is. subst (λ x. IsTrue (names c.add_cloud.new.self x c.args.key.now)) (sym is) (there k e below))
-        (ap (λ cloud. is_known c.vector.result.now cloud d) c.cloud.ensures.rest ∙ sym (c.vector.ensures.has d) ∙ h))
+    by_known d (IsTrue (names c.add_cloud.new.self d c.args.key.now)) c.vector.result.now c.cloud.result.now
+    (λ k e below name one up. c.add_cloud.ensures.kept d c.args.key.now (c.in_ok-add_vector.ensures.there k e below d name one up))
+    (λ k e below is. subst (λ x. IsTrue (names c.add_cloud.new.self x c.args.key.now)) (sym is) (there k e below))
+    (ap (λ cloud. is_known c.vector.result.now cloud d) c.cloud.ensures.rest ∙ sym (c.vector.ensures.has d) ∙ h))
     c.add_cloud.ensures.there
