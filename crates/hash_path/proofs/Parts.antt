@@ -1,7 +1,6 @@
 -- What the walk of a map has, and what its part under a prefix is.
-use Rattle.std.proofs.Common.{◌≡◌, ℕ, zero, suc, ◌+◌, ◌-◌, ◌<◌, ◌≤◌, ◌↔◌, List, [], ◌∷◌, ◌++◌, length, drop, get_or, Bool, true, false, cond, nat_eq, T, Some, None, arith, refl, sym, ◌∙◌, ap, subst, eqb-true, eq-eqb}
+use Rattle.std.proofs.Common.{◌≡◌, ℕ, zero, suc, ◌-◌, ◌≤◌, ◌↔◌, List, [], ◌∷◌, ◌++◌, length, drop, get_or, Bool, true, false, cond, nat_eq, T, Some, arith, refl, sym, ◌∙◌, ap, subst, eqb-true, eq-eqb}
 use Rattle.std.specs.Prelude.{◌&&◌}
-use Rattle.std.specs.declared.option.Option.{Option}
 use Rattle.std.specs.declared.cmp.Ordering.{Ordering}
 use Rattle.std.specs.declared.cmp.Ordering.TheVariants.{Less, Equal, Greater}
 use Rattle.std.specs.Option.{unwrap_or}
@@ -16,7 +15,7 @@ use Rattle.std.proofs.lemmas.List.Elements.{All-nil, All-cons, All-map}
 use Rattle.dots.specs.Bytes.{bytes_cmp}
 use Rattle.hash_path.specs.Path.{indices}
 use Rattle.hash_path.specs.PathLaws.{length-indices}
-use Rattle.hash_path.specs.Word.{word, key_in, begins}
+use Rattle.hash_path.specs.Word.{word, begins}
 use Rattle.hash_path.specs.Map.{path, key_of, HashedBy, by_key, as_map, with_path, by_path, walk, walk_under}
 use Rattle.hash_path.specs.Summary.{under_index, under_prefix}
 use Rattle.hash_path.proofs.Maps.{HashedBy-put}

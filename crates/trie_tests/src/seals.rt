@@ -149,9 +149,13 @@ fn a_refused_seal_is_made_again(rt: HostRuntime) -> Result<(), Fail> {
 }
 
 // How many keys a frozen map walks through under these indices.
-fn count_under(frozen: &Frozen<u64, NoSummary, Fnv1a>, path: &[u32]) -> Result<usize, Fail> {
+fn count_under(frozen: &Frozen<u64, NoSummary, Fnv1a>, path: &[u32]) -> Result<u64, Fail> {
     let prefix = prefix_of(path).ok_or("a prefix")?;
-    Ok(frozen.iter_under(prefix).count())
+    let mut count: u64 = 0;
+    for _ in frozen.iter_under(prefix) {
+        count = count.wrapping_add(1);
+    }
+    Ok(count)
 }
 
 #[test]
