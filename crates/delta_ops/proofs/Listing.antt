@@ -93,7 +93,7 @@ missing fields field d nowhere = go (lookup (is_at (bytes_cmp field)) fields) re
     go (Some standing) is = nowhere (in_map (λ e. e.0) fields (field, standing) (Contains-from_lookup same_bytes-true field standing fields is)) d
 
 -- something stands at some field where not nothing does
-somewhere : (fields : FieldsValue) → ¬ HasNothing (fields_at fields) → (field : List ℕ) × StandsAt fields field
+pub somewhere : (fields : FieldsValue) → ¬ HasNothing (fields_at fields) → (field : List ℕ) × StandsAt fields field
 somewhere fields filled = by (at_any fields fields)
   where
     by : ((field : List ℕ) × StandsAt fields field) ⊎ ((field : List ℕ) → Contains (keys_of fields) field → NothingAt fields field) → (field : List ℕ) × StandsAt fields field

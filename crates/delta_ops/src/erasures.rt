@@ -122,7 +122,7 @@ fn dots_anywhere<A: Allocator + Copy>(
 }
 
 /// Adds the dots that stand at any of the fields.
-fn gather_fields<A: Allocator + Copy>(
+pub fn gather_fields<A: Allocator + Copy>(
     dots: &mut BTreeSet<Dot, A>,
     fields: &DotMap<Field<A>, DotFun<Value<A>, A>, A>,
 ) -> Result<(), Refusal>
@@ -137,7 +137,7 @@ fn gather_fields<A: Allocator + Copy>(
 }
 
 /// Adds the dots of a field's values.
-fn gather<A: Allocator + Copy>(
+pub fn gather<A: Allocator + Copy>(
     dots: &mut BTreeSet<Dot, A>,
     standing: &DotFun<Value<A>, A>,
 ) -> Result<(), Refusal>
@@ -152,7 +152,7 @@ fn gather<A: Allocator + Copy>(
 }
 
 /// The delta of an erasure of these dots, and how many they are.
-fn erasing<A: Allocator + Copy>(
+pub fn erasing<A: Allocator + Copy>(
     alloc: A,
     dots: &BTreeSet<Dot, A>,
 ) -> Result<(OrMap<A>, u64), Refusal>

@@ -80,7 +80,7 @@ fn observed_at<A: Allocator + Copy>(
 }
 
 /// The store that holds the value alone, at the field of the key and the dot.
-fn one_value<A: Allocator + Copy>(
+pub fn one_value<A: Allocator + Copy>(
     alloc: A,
     dot: Dot,
     key: &Key<A>,

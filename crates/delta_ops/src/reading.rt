@@ -85,7 +85,7 @@ pub fn keys<A: Allocator + Copy>(alloc: A, live: &OrMap<A>) -> Result<Vec<Key<A>
 }
 
 /// Adds the values of a field.
-fn gather_values<A: Allocator + Copy>(
+pub fn gather_values<A: Allocator + Copy>(
     alloc: A,
     found: &mut BTreeSet<Value<A>, A>,
     standing: &DotFun<Value<A>, A>,
@@ -101,7 +101,7 @@ fn gather_values<A: Allocator + Copy>(
 }
 
 /// Adds the values of all these fields.
-fn gather_fields<A: Allocator + Copy>(
+pub fn gather_fields<A: Allocator + Copy>(
     alloc: A,
     found: &mut BTreeSet<Value<A>, A>,
     fields: &[(Field<A>, DotFun<Value<A>, A>)],
@@ -117,7 +117,7 @@ fn gather_fields<A: Allocator + Copy>(
 }
 
 /// What is in a set, in order.
-fn listed<T: Ord + Drop, A: Allocator + Copy>(
+pub fn listed<T: Ord + Drop, A: Allocator + Copy>(
     alloc: A,
     found: BTreeSet<T, A>,
 ) -> Result<Vec<T, A>, AllocError>
@@ -127,7 +127,7 @@ fn listed<T: Ord + Drop, A: Allocator + Copy>(
 }
 
 /// The keys of these entries, in their order.
-fn copied_keys<K: Kept<A>, S, A: Allocator + Copy>(
+pub fn copied_keys<K: Kept<A>, S, A: Allocator + Copy>(
     alloc: A,
     entries: &[(K, S)],
 ) -> Result<Vec<K, A>, Refusal>

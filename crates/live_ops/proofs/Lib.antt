@@ -1,0 +1,3 @@
+pub mod AsOrMap
+pub mod Clearing
+pub mod Keeping

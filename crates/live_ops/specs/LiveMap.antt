@@ -1,0 +1,14 @@
+-- What a live pair of the observed-remove map stands for, in the words of the model: what the pair of its entries in the
+-- order of their keys does. Of this project.
+use Rattle.std.specs.FinMap as finite
+use Rattle.causal_join.specs.OrMap.{FieldsValue, OrMapValue, or_map_state}
+use Rattle.op_model.specs.Meaning.{MapState}
+use Rattle.live_map.specs.Live.{PairValue}
+
+-- the pair of the entries and the context
+abbrev pub as_or_map : {Hash : Type 0} → PairValue Hash FieldsValue → OrMapValue
+as_or_map pair = (finite.entries pair.0.1, pair.1)
+
+-- the state that a live pair stands for
+abbrev pub live_state : {Hash : Type 0} → PairValue Hash FieldsValue → MapState
+live_state pair = or_map_state (as_or_map pair)

@@ -1,0 +1,85 @@
+ghost use Rattle.std.specs.Prelude.{◌≡◌, ◌-◌, ◌^◌, ◌↔◌, ◌⊎◌, ◌∷◌, [], is_some, IfOk, IfErr, IsErrOf, IsOkUnless};
+ghost use Rattle.causal_context.specs.Context.{has, IsGreatest};
+ghost use Rattle.causal_join.specs.OrMap.{or_map_state};
+ghost use Rattle.live_ops.specs.LiveMap.{live_state};
+ghost use Rattle.dots.specs.Dot.{DotValue};
+ghost use Rattle.op_model.specs.State.{Same};
+ghost use Rattle.op_model.specs.Operation.{Write, Wrote};
+ghost use Rattle.op_model.specs.Made.{IsPutAt};
+ghost use Rattle.op_model.specs.Meaning.{state};
+ghost use Rattle.op_model.specs.Place.{place_of, plain};
+
+use crate::live_or_map::{Fields, LiveOrMap};
+use crate::standing::values_at;
+use causal_context::Context;
+use causal_join::{Causal, OrMap};
+use delta_ops::one_value;
+use dot_store::DotStore;
+use dots::{Dot, Field, Key, Name, Refusal, Value};
+use gen_trie::Summary;
+use hash_path::PathHash;
+use std::alloc::Allocator;
+
+/// The delta of a put of the value on the key by this name, and its dot, which is the next of the name: a put at the
+/// empty field.
+///
+/// The delta holds the value alone, and knows its dot and the dots that stood there. NumbersSpent exactly where the
+/// greatest known number of the name is 2^64 - 1, else OutOfMemory or the delta. Takes two look-ups, and time and memory
+/// in what stands there.
+pub fn put<M: Summary<Fields<A>>, H: PathHash, A: Allocator + Copy>(
+    alloc: A,
+    name: Name,
+    live: &LiveOrMap<M, H, A>,
+    key: &Key<A>,
+    value: &Value<A>,
+) -> Result<(OrMap<A>, Dot), Refusal>
+    ensures ok { IfOk result (λ made. (w : Write) × IsPutAt (live_state live.now.0) name (plain key.now) value.now w ×
+        Same (or_map_state made.0) (state (Wrote w ∷ [])) × (made.1 ≡ w.id)) }
+    ensures spent { IsErrOf result Refusal.NumbersSpent ↔ IsGreatest name (has live.now.0.1) (2 ^ 64 - 1) }
+    ensures err { IfErr result (λ refusal. (refusal ≡ Refusal.NumbersSpent) ⊎ (refusal ≡ Refusal.OutOfMemory)) }
+{
+    put_field(alloc, name, live, key, &Field::empty(), value)
+}
+
+/// The delta of a put of the value at the field of the key by this name, and its dot, which is the next of the name.
+///
+/// The delta holds the value alone, and knows its dot and the dots that stood there; the key's other fields stay as they
+/// are. NumbersSpent exactly where the greatest known number of the name is 2^64 - 1, else OutOfMemory or the delta. Takes
+/// two look-ups, and time and memory in what stands there.
+pub fn put_field<M: Summary<Fields<A>>, H: PathHash, A: Allocator + Copy>(
+    alloc: A,
+    name: Name,
+    live: &LiveOrMap<M, H, A>,
+    key: &Key<A>,
+    field: &Field<A>,
+    value: &Value<A>,
+) -> Result<(OrMap<A>, Dot), Refusal>
+    ensures ok { IfOk result (λ made. (w : Write) ×
+        IsPutAt (live_state live.now.0) name (place_of key.now field.now) value.now w ×
+        Same (or_map_state made.0) (state (Wrote w ∷ [])) × (made.1 ≡ w.id)) }
+    ensures spent { IsErrOf result Refusal.NumbersSpent ↔ IsGreatest name (has live.now.0.1) (2 ^ 64 - 1) }
+    ensures err { IfErr result (λ refusal. (refusal ≡ Refusal.NumbersSpent) ⊎ (refusal ≡ Refusal.OutOfMemory)) }
+{
+    let dot = live.context().next(name).ok_or(Refusal::NumbersSpent)?;
+    let mut context = observed_at(alloc, live, key, field)?;
+    context.add(dot)?;
+    let store = one_value(alloc, dot, key, field, value)?;
+    Ok((Causal::from_parts(store, context).unwrap(), dot))
+}
+
+/// The context of the dots that stand at the field of the key.
+fn observed_at<M: Summary<Fields<A>>, H: PathHash, A: Allocator + Copy>(
+    alloc: A,
+    live: &LiveOrMap<M, H, A>,
+    key: &Key<A>,
+    field: &Field<A>,
+) -> Result<Context<A>, Refusal>
+    ensures ok { IfOk result (λ context. (d : DotValue) →
+        has context d ≡ is_some ((live_state live.now.0).at (place_of key.now field.now) d)) }
+    ensures err { IsOkUnless result Refusal.OutOfMemory }
+{
+    let Some(standing) = values_at(live, key, field) else {
+        return Ok(Context::new(alloc));
+    };
+    standing.dots(alloc)
+}

@@ -1,0 +1,39 @@
+ghost use Rattle.std.specs.Prelude.{◌≡◌, List, ℕ};
+ghost use Rattle.std.specs.Option.{option_copied};
+ghost use Rattle.causal_join.specs.OrMap.{fields_at, or_map_at, or_map_state};
+ghost use Rattle.dot_store.specs.Stores.{at_values, held_by};
+ghost use Rattle.dots.specs.Dot.{DotValue};
+ghost use Rattle.op_model.specs.Place.{place_of};
+ghost use Rattle.live_ops.specs.LiveMap.{as_or_map, live_state};
+
+use crate::live_or_map::{Fields, LiveOrMap};
+use dot_store::DotFun;
+use dots::{Field, Key, Value};
+use gen_trie::Summary;
+use hash_path::PathHash;
+use std::alloc::Allocator;
+
+/// What stands at the fields of the key, or None where nothing stands there. Takes a look-up, and no memory.
+pub fn fields_of<'a, M: Summary<Fields<A>>, H: PathHash, A: Allocator + Copy>(
+    live: &'a LiveOrMap<M, H, A>,
+    key: &Key<A>,
+) -> Option<&'a Fields<A>>
+    ensures { (place : List ℕ × Unit {0}) (d : DotValue) →
+        or_map_at (as_or_map live.now.0).0 (key.now, place) d ≡ held_by fields_at (option_copied result) place d }
+{
+    live.store().get(key)
+}
+
+/// The values that stand at the field of the key, by the dots of their writes, or None where none stands there. Takes two
+/// look-ups, and no memory.
+pub fn values_at<'a, M: Summary<Fields<A>>, H: PathHash, A: Allocator + Copy>(
+    live: &'a LiveOrMap<M, H, A>,
+    key: &Key<A>,
+    field: &Field<A>,
+) -> Option<&'a DotFun<Value<A>, A>>
+    ensures { (d : DotValue) →
+        (live_state live.now.0).at (place_of key.now field.now) d ≡ held_by at_values (option_copied result) tt d }
+{
+    let fields = fields_of(live, key)?;
+    fields.get(field)
+}
