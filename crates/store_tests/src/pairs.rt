@@ -2,7 +2,7 @@ use crate::made::{context_of, dot, nested, set_of};
 use causal_context::Context;
 use causal_join::Causal;
 use dot_store::{DotMap, DotSet, DotStore};
-use dots::{Dot, Refusal};
+use dots::{Dot, Key, Refusal};
 use std::alloc::Global;
 use std::test::Fail;
 
@@ -13,6 +13,28 @@ fn are_same<S: DotStore<Global>>(one: &Causal<S>, other: &Causal<S>) -> bool {
         && other.context().includes(one.context())
 }
 
+// Whether the join of the two is the third.
+fn joined_is<S: DotStore<Global>>(
+    alloc: Global,
+    mine: &Causal<S>,
+    theirs: &Causal<S>,
+    both: &Causal<S>,
+) -> Result<bool, Refusal> {
+    Ok(are_same(&mine.join(alloc, theirs)?, both))
+}
+
+// Whether a copy of the one is the third once the other is joined into it.
+fn joined_into_is<S: DotStore<Global>>(
+    alloc: Global,
+    mine: &Causal<S>,
+    theirs: &Causal<S>,
+    both: &Causal<S>,
+) -> Result<bool, Refusal> {
+    let mut copy = mine.copy(alloc)?;
+    copy.join_into(alloc, theirs)?;
+    Ok(are_same(&copy, both))
+}
+
 // Whether both joins of the two give the third, which only the first of them is below.
 fn joins_to<S: DotStore<Global>>(
     alloc: Global,
@@ -20,11 +42,12 @@ fn joins_to<S: DotStore<Global>>(
     theirs: &Causal<S>,
     both: &Causal<S>,
 ) -> Result<bool, Refusal> {
-    let joined = mine.join(alloc, theirs)?;
-    let mut copy = mine.copy(alloc)?;
-    copy.join_into(alloc, theirs)?;
     let is_below = mine.is_below(alloc, both)? && !both.is_below(alloc, mine)?;
-    Ok(is_below && are_same(&joined, both) && are_same(&copy, both))
+    Ok(
+        is_below
+            && joined_is(alloc, mine, theirs, both)?
+            && joined_into_is(alloc, mine, theirs, both)?,
+    )
 }
 
 // The pair of the store and the context of these dots.
@@ -33,12 +56,24 @@ fn pair<S: DotStore<Global>>(alloc: Global, store: S, known: &[Dot]) -> Result<C
     Ok(pair.ok_or("outside")?)
 }
 
+fn pair_of_set(alloc: Global, dots: &[Dot], known: &[Dot]) -> Result<Causal<DotSet>, Fail> {
+    pair(alloc, set_of(alloc, dots)?, known)
+}
+
+// The pair of the set of these dots under a field of a key, and of their context.
+fn pair_of_maps(
+    alloc: Global,
+    dots: &[Dot],
+) -> Result<Causal<DotMap<Key, DotMap<Key, DotSet>>>, Fail> {
+    pair(alloc, nested(alloc, dots)?, dots)
+}
+
 #[test]
 fn a_removed_dot_stays_removed_in_the_join(rt: HostRuntime) -> Result<(), Fail> {
     let alloc = rt.alloc();
     let (a, b, c) = (dot(&rt, 1, 1), dot(&rt, 1, 2), dot(&rt, 2, 1));
-    let mine = pair(alloc, set_of(alloc, &[a, b])?, &[a, b])?;
-    let theirs = pair(alloc, set_of(alloc, &[b, c])?, &[a, b, c])?;
+    let mine = pair_of_set(alloc, &[a, b], &[a, b])?;
+    let theirs = pair_of_set(alloc, &[b, c], &[a, b, c])?;
     assert!(rt; joins_to(alloc, &mine, &theirs, &theirs)?);
     Ok(())
 }
@@ -47,7 +82,7 @@ fn a_removed_dot_stays_removed_in_the_join(rt: HostRuntime) -> Result<(), Fail> 
 fn a_dot_removed_under_two_keys_leaves_no_key(rt: HostRuntime) -> Result<(), Fail> {
     let alloc = rt.alloc();
     let d = dot(&rt, 1, 1);
-    let mine = pair(alloc, nested(alloc, &[d])?, &[d])?;
+    let mine = pair_of_maps(alloc, &[d])?;
     let theirs = pair(alloc, DotMap::empty(alloc), &[d])?;
     assert!(rt; joins_to(alloc, &mine, &theirs, &theirs)?);
     Ok(())
