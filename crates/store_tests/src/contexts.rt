@@ -64,25 +64,25 @@ fn is_above(one: &Context, other: &Context) -> bool {
     one.includes(other) && !other.includes(one)
 }
 
-// Whether the union has this form, and is more than the first of the two.
-fn unites_to(
+// Whether the union of the contexts of these dots has this vector alone, and is more than the first of the two.
+fn unite_to(
+    rt: &impl Abort,
     alloc: Global,
-    mine: &Context,
-    yours: &Context,
+    mine: &[(u64, u64)],
+    yours: &[(u64, u64)],
     vector: &[(u64, u64)],
-    cloud: &[(u64, u64)],
 ) -> Result<bool, Refusal> {
-    let both = united(alloc, mine, yours)?;
-    Ok(is_above(&both, mine) && has_form(alloc, &both, vector, cloud)?)
+    let mine = numbered(rt, alloc, mine)?;
+    let both = united(alloc, &mine, &numbered(rt, alloc, yours)?)?;
+    Ok(is_above(&both, &mine) && has_form(alloc, &both, vector, &[])?)
 }
 
 #[test]
 fn a_union_of_what_fills_each_others_gaps_is_one_entry(rt: HostRuntime) -> Result<(), Fail> {
-    let alloc = rt.alloc();
-    let odd = numbered(&rt, alloc, &[(7, 1), (7, 3), (7, 5)])?;
-    let even = numbered(&rt, alloc, &[(7, 2), (7, 4), (7, 6)])?;
-    assert!(rt; unites_to(alloc, &odd, &even, &[(7, 6)], &[])?);
-    assert!(rt; unites_to(alloc, &even, &odd, &[(7, 6)], &[])?);
+    let odd = [(7, 1), (7, 3), (7, 5)];
+    let even = [(7, 2), (7, 4), (7, 6)];
+    assert!(rt; unite_to(&rt, rt.alloc(), &odd, &even, &[(7, 6)])?);
+    assert!(rt; unite_to(&rt, rt.alloc(), &even, &odd, &[(7, 6)])?);
     Ok(())
 }
 
@@ -101,24 +101,25 @@ fn the_next_dot_follows_the_greatest_of_its_name(rt: HostRuntime) -> Result<(), 
     Ok(())
 }
 
-// Whether the union equals the third.
+// Whether the union of the contexts of the first two equals that of the third.
 fn is_union(
+    rt: &impl Abort,
     alloc: Global,
-    mine: &Context,
-    yours: &Context,
-    both: &Context,
+    mine: &[(u64, u64)],
+    yours: &[(u64, u64)],
+    both: &[(u64, u64)],
 ) -> Result<bool, Refusal> {
-    Ok(united(alloc, mine, yours)? == *both)
+    let mine = numbered(rt, alloc, mine)?;
+    let united = united(alloc, &mine, &numbered(rt, alloc, yours)?)?;
+    Ok(united == numbered(rt, alloc, both)?)
 }
 
 #[test]
 fn a_union_has_the_dots_of_both_and_leaves_the_other(rt: HostRuntime) -> Result<(), Fail> {
-    let alloc = rt.alloc();
-    let mine = numbered(&rt, alloc, &[(1, 1)])?;
-    let yours = numbered(&rt, alloc, &[(1, 1), (2, 1)])?;
-    assert!(rt; unites_to(alloc, &mine, &yours, &[(1, 1), (2, 1)], &[])?);
-    assert!(rt; is_union(alloc, &mine, &yours, &yours)?);
-    assert!(rt; !is_union(alloc, &mine, &yours, &mine)?);
+    let (mine, yours) = ([(1, 1)], [(1, 1), (2, 1)]);
+    assert!(rt; unite_to(&rt, rt.alloc(), &mine, &yours, &yours)?);
+    assert!(rt; is_union(&rt, rt.alloc(), &mine, &yours, &yours)?);
+    assert!(rt; !is_union(&rt, rt.alloc(), &mine, &yours, &mine)?);
     Ok(())
 }
 

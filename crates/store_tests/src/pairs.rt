@@ -2,7 +2,7 @@ use crate::made::{context_of, dot, nested, set_of};
 use causal_context::Context;
 use causal_join::Causal;
 use dot_store::{DotMap, DotSet, DotStore};
-use dots::{Dot, Key, Refusal};
+use dots::{Dot, Refusal};
 use std::alloc::Global;
 use std::test::Fail;
 
@@ -56,25 +56,26 @@ fn pair<S: DotStore<Global>>(alloc: Global, store: S, known: &[Dot]) -> Result<C
     Ok(pair.ok_or("outside")?)
 }
 
-fn pair_of_set(alloc: Global, dots: &[Dot], known: &[Dot]) -> Result<Causal<DotSet>, Fail> {
-    pair(alloc, set_of(alloc, dots)?, known)
-}
-
-// The pair of the set of these dots under a field of a key, and of their context.
-fn pair_of_maps(
+// Whether the join of the pairs of these stores and contexts is the second pair, and more than the first.
+fn join_to_theirs<S: DotStore<Global>>(
     alloc: Global,
-    dots: &[Dot],
-) -> Result<Causal<DotMap<Key, DotMap<Key, DotSet>>>, Fail> {
-    pair(alloc, nested(alloc, dots)?, dots)
+    mine: S,
+    my_dots: &[Dot],
+    theirs: S,
+    their_dots: &[Dot],
+) -> Result<bool, Fail> {
+    let mine = pair(alloc, mine, my_dots)?;
+    let theirs = pair(alloc, theirs, their_dots)?;
+    Ok(joins_to(alloc, &mine, &theirs, &theirs)?)
 }
 
 #[test]
 fn a_removed_dot_stays_removed_in_the_join(rt: HostRuntime) -> Result<(), Fail> {
     let alloc = rt.alloc();
     let (a, b, c) = (dot(&rt, 1, 1), dot(&rt, 1, 2), dot(&rt, 2, 1));
-    let mine = pair_of_set(alloc, &[a, b], &[a, b])?;
-    let theirs = pair_of_set(alloc, &[b, c], &[a, b, c])?;
-    assert!(rt; joins_to(alloc, &mine, &theirs, &theirs)?);
+    let mine = set_of(alloc, &[a, b])?;
+    let theirs = set_of(alloc, &[b, c])?;
+    assert!(rt; join_to_theirs(alloc, mine, &[a, b], theirs, &[a, b, c])?);
     Ok(())
 }
 
@@ -82,9 +83,8 @@ fn a_removed_dot_stays_removed_in_the_join(rt: HostRuntime) -> Result<(), Fail> 
 fn a_dot_removed_under_two_keys_leaves_no_key(rt: HostRuntime) -> Result<(), Fail> {
     let alloc = rt.alloc();
     let d = dot(&rt, 1, 1);
-    let mine = pair_of_maps(alloc, &[d])?;
-    let theirs = pair(alloc, DotMap::empty(alloc), &[d])?;
-    assert!(rt; joins_to(alloc, &mine, &theirs, &theirs)?);
+    let mine = nested(alloc, &[d])?;
+    assert!(rt; join_to_theirs(alloc, mine, &[d], DotMap::empty(alloc), &[d])?);
     Ok(())
 }
 
