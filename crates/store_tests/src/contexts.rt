@@ -14,7 +14,18 @@ fn a_dot_that_closes_a_gap_folds_the_cloud_into_the_vector(rt: HostRuntime) -> R
     assert!(rt; has_form(alloc, &context, &[(1, 1)], &[(1, 3)])?);
     context.add(dot(&rt, 1, 2))?;
     assert!(rt; has_form(alloc, &context, &[(1, 3)], &[])?);
-    assert_eq!(rt; context.next(name(&rt, 1)), Some(dot(&rt, 1, 4)));
+    assert!(rt; is_next(&rt, &context, 1, 4));
+    Ok(())
+}
+
+// Whether the next dot of this name has this number.
+fn is_next(rt: &impl Abort, context: &Context, of: u64, number: u64) -> bool {
+    context.next(name(rt, of)) == Some(dot(rt, of, number))
+}
+
+#[test]
+fn an_entry_is_the_number_of_its_name_in_the_vector(rt: HostRuntime) -> Result<(), Fail> {
+    let context = numbered(&rt, rt.alloc(), &[(1, 3), (1, 1), (1, 2)])?;
     assert!(rt; context.entry(name(&rt, 1)) == 3 && context.entry(name(&rt, 2)) == 0);
     Ok(())
 }
@@ -36,19 +47,42 @@ fn the_greatest_number_alone_is_one_dot_of_the_cloud(rt: HostRuntime) -> Result<
     let alloc = rt.alloc();
     let context = numbered(&rt, alloc, &[(1, u64::MAX)])?;
     assert!(rt; has_form(alloc, &context, &[], &[(1, u64::MAX)])?);
-    assert_eq!(rt; context.next(name(&rt, 1)), None);
-    assert_eq!(rt; context.next(name(&rt, 2)), Some(dot(&rt, 2, 1)));
+    assert!(rt; context.next(name(&rt, 1)).is_none());
+    assert!(rt; is_next(&rt, &context, 2, 1));
     Ok(())
+}
+
+// The union of the two.
+fn united(alloc: Global, mine: &Context, yours: &Context) -> Result<Context, Refusal> {
+    let mut both = mine.copy(alloc)?;
+    both.union(yours)?;
+    Ok(both)
+}
+
+// Whether the first includes the other, and not the other way round.
+fn is_above(one: &Context, other: &Context) -> bool {
+    one.includes(other) && !other.includes(one)
+}
+
+// Whether the union of the contexts of these dots has this vector alone, and is more than the first of the two.
+fn unite_to(
+    rt: &impl Abort,
+    alloc: Global,
+    mine: &[(u64, u64)],
+    yours: &[(u64, u64)],
+    vector: &[(u64, u64)],
+) -> Result<bool, Refusal> {
+    let mine = numbered(rt, alloc, mine)?;
+    let both = united(alloc, &mine, &numbered(rt, alloc, yours)?)?;
+    Ok(is_above(&both, &mine) && has_form(alloc, &both, vector, &[])?)
 }
 
 #[test]
 fn a_union_of_what_fills_each_others_gaps_is_one_entry(rt: HostRuntime) -> Result<(), Fail> {
-    let alloc = rt.alloc();
-    let mut odd = numbered(&rt, alloc, &[(7, 1), (7, 3), (7, 5)])?;
-    let even = numbered(&rt, alloc, &[(7, 2), (7, 4), (7, 6)])?;
-    odd.union(&even)?;
-    assert!(rt; has_form(alloc, &odd, &[(7, 6)], &[])?);
-    assert!(rt; !even.includes(&odd));
+    let odd = [(7, 1), (7, 3), (7, 5)];
+    let even = [(7, 2), (7, 4), (7, 6)];
+    assert!(rt; unite_to(&rt, rt.alloc(), &odd, &even, &[(7, 6)])?);
+    assert!(rt; unite_to(&rt, rt.alloc(), &even, &odd, &[(7, 6)])?);
     Ok(())
 }
 
@@ -61,22 +95,31 @@ fn the_laws_of_the_form_can_be_called(_rt: HostRuntime) {
 #[test]
 fn the_next_dot_follows_the_greatest_of_its_name(rt: HostRuntime) -> Result<(), Fail> {
     let context = numbered(&rt, rt.alloc(), &[(1, 3), (1, 1), (2, 7)])?;
-    assert_eq!(rt; context.next(name(&rt, 1)), Some(dot(&rt, 1, 4)));
-    assert_eq!(rt; context.next(name(&rt, 2)), Some(dot(&rt, 2, 8)));
-    assert_eq!(rt; context.next(name(&rt, 3)), Some(dot(&rt, 3, 1)));
+    assert!(rt; is_next(&rt, &context, 1, 4));
+    assert!(rt; is_next(&rt, &context, 2, 8));
+    assert!(rt; is_next(&rt, &context, 3, 1));
     Ok(())
+}
+
+// Whether the union of the contexts of the first two equals that of the third.
+fn is_union(
+    rt: &impl Abort,
+    alloc: Global,
+    mine: &[(u64, u64)],
+    yours: &[(u64, u64)],
+    both: &[(u64, u64)],
+) -> Result<bool, Refusal> {
+    let mine = numbered(rt, alloc, mine)?;
+    let united = united(alloc, &mine, &numbered(rt, alloc, yours)?)?;
+    Ok(united == numbered(rt, alloc, both)?)
 }
 
 #[test]
 fn a_union_has_the_dots_of_both_and_leaves_the_other(rt: HostRuntime) -> Result<(), Fail> {
-    let alloc = rt.alloc();
-    let mine = numbered(&rt, alloc, &[(1, 1)])?;
-    let yours = numbered(&rt, alloc, &[(1, 1), (2, 1)])?;
-    let mut both = mine.copy(alloc)?;
-    both.union(&yours)?;
-    assert!(rt; has_form(alloc, &both, &[(1, 1), (2, 1)], &[])?);
-    assert!(rt; both == yours && both != mine);
-    assert!(rt; both.includes(&mine) && !mine.includes(&both));
+    let (mine, yours) = ([(1, 1)], [(1, 1), (2, 1)]);
+    assert!(rt; unite_to(&rt, rt.alloc(), &mine, &yours, &yours)?);
+    assert!(rt; is_union(&rt, rt.alloc(), &mine, &yours, &yours)?);
+    assert!(rt; !is_union(&rt, rt.alloc(), &mine, &yours, &mine)?);
     Ok(())
 }
 
@@ -89,15 +132,19 @@ fn row(rt: &impl Abort, alloc: Global, of: u64, last: u64) -> Result<Context, Re
     Ok(context)
 }
 
+// Whether a million dots and the one after the next are one entry and one dot, which is more than the million.
+fn is_one_entry_beside(rt: &impl Abort, alloc: Global, million: &Context) -> Result<bool, Refusal> {
+    let other = numbered(rt, alloc, &[(5, 1_000_002)])?;
+    let both = united(alloc, &other, million)?;
+    Ok(is_above(&both, million) && has_form(alloc, &both, &[(5, 1_000_000)], &[(5, 1_000_002)])?)
+}
+
 #[test]
 fn a_million_writes_of_one_name_are_one_entry(rt: HostRuntime) -> Result<(), Fail> {
     let alloc = rt.alloc();
     let million = row(&rt, alloc, 5, 1_000_000)?;
     assert!(rt; has_form(alloc, &million, &[(5, 1_000_000)], &[])?);
-    let mut other = numbered(&rt, alloc, &[(5, 1_000_002)])?;
-    other.union(&million)?;
-    assert!(rt; has_form(alloc, &other, &[(5, 1_000_000)], &[(5, 1_000_002)])?);
-    assert!(rt; other.includes(&million) && !million.includes(&other));
+    assert!(rt; is_one_entry_beside(&rt, alloc, &million)?);
     Ok(())
 }
 
@@ -125,11 +172,16 @@ fn are_parts(
     Ok(of_parts(rt, alloc, vector, cloud)?.is_some())
 }
 
+// The context of a vector and a cloud of two each.
+fn parts(rt: &impl Abort, alloc: Global) -> Result<Context, Fail> {
+    let made = of_parts(rt, alloc, &[(1, 3), (4, u64::MAX)], &[(1, 5), (2, 2)])?;
+    Ok(made.ok_or("canonical")?)
+}
+
 #[test]
 fn a_context_is_made_from_its_own_vector_and_cloud(rt: HostRuntime) -> Result<(), Fail> {
     let alloc = rt.alloc();
-    let made = of_parts(&rt, alloc, &[(1, 3), (4, u64::MAX)], &[(1, 5), (2, 2)])?;
-    let mut made = made.ok_or("canonical")?;
+    let mut made = parts(&rt, alloc)?;
     assert!(rt; has_form(alloc, &made, &[(1, 3), (4, u64::MAX)], &[(1, 5), (2, 2)])?);
     assert!(rt; made.contains(dot(&rt, 1, 3)) && !made.contains(dot(&rt, 1, 4)));
     made.add(dot(&rt, 1, 4))?;

@@ -12,6 +12,9 @@ use std::test::Fail;
 
 type Plain = BTreeSet<Dot, Global>;
 
+// A context and the plain set.
+type Both = (Context, Plain);
+
 // The dot after the greatest of this name.
 fn plain_next(dots: &Plain, name: Name) -> Option<Dot> {
     let mut greatest = 0;
@@ -115,12 +118,7 @@ impl Draws {
 }
 
 // A context and the plain set, each with this many dots of the draws.
-fn drawn(
-    rt: &impl Abort,
-    alloc: Global,
-    draws: &mut Draws,
-    count: u64,
-) -> Result<(Context, Plain), Refusal> {
+fn drawn(rt: &impl Abort, alloc: Global, draws: &mut Draws, count: u64) -> Result<Both, Refusal> {
     let mut context = Context::new(alloc);
     let mut plain = BTreeSet::new(alloc);
     for _ in 0..count {
@@ -132,6 +130,27 @@ fn drawn(
     Ok((context, plain))
 }
 
+// Whether the contexts include one another as the plain sets do.
+fn include_alike(mine: &Both, yours: &Both) -> bool {
+    mine.0.includes(&yours.0) == yours.1.is_subset(&mine.1)
+}
+
+// Whether the contexts are equal just where the plain sets are.
+fn equal_alike(mine: &Both, yours: &Both) -> bool {
+    (mine.0 == yours.0) == (mine.1 == yours.1)
+}
+
+// Adds the dots of the other.
+fn unite(mine: &mut Both, yours: &Both) -> Result<(), Refusal> {
+    mine.0.union(&yours.0)?;
+    mine.1.extend(&yours.1)?;
+    Ok(())
+}
+
+fn is_as_its_copy(alloc: Global, context: &Context) -> Result<bool, Refusal> {
+    Ok(context.copy(alloc)? == *context)
+}
+
 // Compares two contexts, each of so many draws, and their union with the plain sets.
 fn compare(
     rt: &impl Abort,
@@ -140,14 +159,12 @@ fn compare(
     my_count: u64,
     your_count: u64,
 ) -> Result<(), Refusal> {
-    let (mut mine, mut my_plain) = drawn(rt, alloc, draws, my_count)?;
-    let (yours, your_plain) = drawn(rt, alloc, draws, your_count)?;
-    assert_eq!(rt; mine.includes(&yours), your_plain.is_subset(&my_plain));
-    assert_eq!(rt; mine == yours, my_plain == your_plain);
-    mine.union(&yours)?;
-    my_plain.extend(&your_plain)?;
-    assert!(rt; agree(rt, alloc, &mine, &my_plain)?);
-    assert!(rt; mine.copy(alloc)? == mine);
+    let mut mine = drawn(rt, alloc, draws, my_count)?;
+    let yours = drawn(rt, alloc, draws, your_count)?;
+    assert!(rt; include_alike(&mine, &yours) && equal_alike(&mine, &yours));
+    unite(&mut mine, &yours)?;
+    assert!(rt; agree(rt, alloc, &mine.0, &mine.1)?);
+    assert!(rt; is_as_its_copy(alloc, &mine.0)?);
     Ok(())
 }
 

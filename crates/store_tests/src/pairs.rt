@@ -13,6 +13,28 @@ fn are_same<S: DotStore<Global>>(one: &Causal<S>, other: &Causal<S>) -> bool {
         && other.context().includes(one.context())
 }
 
+// Whether the join of the two is the third.
+fn joined_is<S: DotStore<Global>>(
+    alloc: Global,
+    mine: &Causal<S>,
+    theirs: &Causal<S>,
+    both: &Causal<S>,
+) -> Result<bool, Refusal> {
+    Ok(are_same(&mine.join(alloc, theirs)?, both))
+}
+
+// Whether a copy of the one is the third once the other is joined into it.
+fn joined_into_is<S: DotStore<Global>>(
+    alloc: Global,
+    mine: &Causal<S>,
+    theirs: &Causal<S>,
+    both: &Causal<S>,
+) -> Result<bool, Refusal> {
+    let mut copy = mine.copy(alloc)?;
+    copy.join_into(alloc, theirs)?;
+    Ok(are_same(&copy, both))
+}
+
 // Whether both joins of the two give the third, which only the first of them is below.
 fn joins_to<S: DotStore<Global>>(
     alloc: Global,
@@ -20,11 +42,12 @@ fn joins_to<S: DotStore<Global>>(
     theirs: &Causal<S>,
     both: &Causal<S>,
 ) -> Result<bool, Refusal> {
-    let joined = mine.join(alloc, theirs)?;
-    let mut copy = mine.copy(alloc)?;
-    copy.join_into(alloc, theirs)?;
     let is_below = mine.is_below(alloc, both)? && !both.is_below(alloc, mine)?;
-    Ok(is_below && are_same(&joined, both) && are_same(&copy, both))
+    Ok(
+        is_below
+            && joined_is(alloc, mine, theirs, both)?
+            && joined_into_is(alloc, mine, theirs, both)?,
+    )
 }
 
 // The pair of the store and the context of these dots.
@@ -33,13 +56,26 @@ fn pair<S: DotStore<Global>>(alloc: Global, store: S, known: &[Dot]) -> Result<C
     Ok(pair.ok_or("outside")?)
 }
 
+// Whether the join of the pairs of these stores and contexts is the second pair, and more than the first.
+fn join_to_theirs<S: DotStore<Global>>(
+    alloc: Global,
+    mine: S,
+    my_dots: &[Dot],
+    theirs: S,
+    their_dots: &[Dot],
+) -> Result<bool, Fail> {
+    let mine = pair(alloc, mine, my_dots)?;
+    let theirs = pair(alloc, theirs, their_dots)?;
+    Ok(joins_to(alloc, &mine, &theirs, &theirs)?)
+}
+
 #[test]
 fn a_removed_dot_stays_removed_in_the_join(rt: HostRuntime) -> Result<(), Fail> {
     let alloc = rt.alloc();
     let (a, b, c) = (dot(&rt, 1, 1), dot(&rt, 1, 2), dot(&rt, 2, 1));
-    let mine = pair(alloc, set_of(alloc, &[a, b])?, &[a, b])?;
-    let theirs = pair(alloc, set_of(alloc, &[b, c])?, &[a, b, c])?;
-    assert!(rt; joins_to(alloc, &mine, &theirs, &theirs)?);
+    let mine = set_of(alloc, &[a, b])?;
+    let theirs = set_of(alloc, &[b, c])?;
+    assert!(rt; join_to_theirs(alloc, mine, &[a, b], theirs, &[a, b, c])?);
     Ok(())
 }
 
@@ -47,9 +83,8 @@ fn a_removed_dot_stays_removed_in_the_join(rt: HostRuntime) -> Result<(), Fail> 
 fn a_dot_removed_under_two_keys_leaves_no_key(rt: HostRuntime) -> Result<(), Fail> {
     let alloc = rt.alloc();
     let d = dot(&rt, 1, 1);
-    let mine = pair(alloc, nested(alloc, &[d])?, &[d])?;
-    let theirs = pair(alloc, DotMap::empty(alloc), &[d])?;
-    assert!(rt; joins_to(alloc, &mine, &theirs, &theirs)?);
+    let mine = nested(alloc, &[d])?;
+    assert!(rt; join_to_theirs(alloc, mine, &[d], DotMap::empty(alloc), &[d])?);
     Ok(())
 }
 

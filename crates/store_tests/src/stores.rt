@@ -26,6 +26,19 @@ fn is_wanted<S: DotStore<Global>>(alloc: Global, store: &S, wanted: &S) -> Resul
     Ok(store.same(wanted) && wanted.copy(alloc)?.same(store))
 }
 
+// Whether the join, where each side knows its own dots and the others that are named, is the store that is wanted.
+fn gives<S: DotStore<Global>>(
+    alloc: Global,
+    mine: &S,
+    seen: &[Dot],
+    yours: &S,
+    known: &[Dot],
+    wanted: &S,
+) -> Result<bool, Refusal> {
+    let both = joined(alloc, mine, seen, yours, known)?;
+    is_wanted(alloc, &both, wanted)
+}
+
 // Whether the join of the two sets is the set of the wanted dots.
 fn joins_to(
     alloc: Global,
@@ -37,8 +50,7 @@ fn joins_to(
 ) -> Result<bool, Refusal> {
     let mine = set_of(alloc, mine)?;
     let yours = set_of(alloc, yours)?;
-    let both = joined(alloc, &mine, seen, &yours, known)?;
-    is_wanted(alloc, &both, &set_of(alloc, wanted)?)
+    gives(alloc, &mine, seen, &yours, known, &set_of(alloc, wanted)?)
 }
 
 #[test]
@@ -71,15 +83,35 @@ fn a_dot_of_both_sides_keeps_the_greater_value(rt: HostRuntime) -> Result<(), Fa
     Ok(())
 }
 
+// The set of these dots under the key.
+fn keyed(alloc: Global, key: &[u8], dots: &[Dot]) -> Result<DotMap<Key, DotSet>, Refusal> {
+    under(alloc, key, set_of(alloc, dots)?)
+}
+
+fn has_key(alloc: Global, map: &DotMap<Key, DotSet>, key: &[u8]) -> Result<bool, Refusal> {
+    let key = Key::new(alloc, key)?;
+    Ok(map.get(&key).is_some())
+}
+
+// Whether the join is the other side's map, which knows these dots, and the key k is not in it.
+fn takes_k_out(
+    alloc: Global,
+    mine: &DotMap<Key, DotSet>,
+    yours: &DotMap<Key, DotSet>,
+    known: &[Dot],
+) -> Result<bool, Refusal> {
+    let both = joined(alloc, mine, &[], yours, known)?;
+    Ok(is_wanted(alloc, &both, yours)? && !has_key(alloc, &both, b"k")?)
+}
+
 #[test]
 fn a_key_whose_dots_were_all_removed_is_gone(rt: HostRuntime) -> Result<(), Fail> {
     let alloc = rt.alloc();
     let (a, b) = (dot(&rt, 1, 1), dot(&rt, 2, 1));
-    let mine = under(alloc, b"k", set_of(alloc, &[a])?)?;
-    let yours = under(alloc, b"m", set_of(alloc, &[b])?)?;
-    let both = joined(alloc, &mine, &[], &yours, &[a])?;
-    assert!(rt; is_wanted(alloc, &both, &yours)?);
-    assert!(rt; both.get(&Key::new(alloc, b"k")?).is_none());
+    let mine = keyed(alloc, b"k", &[a])?;
+    let yours = keyed(alloc, b"m", &[b])?;
+    assert!(rt; has_key(alloc, &mine, b"k")?);
+    assert!(rt; takes_k_out(alloc, &mine, &yours, &[a])?);
     Ok(())
 }
 
@@ -93,13 +125,23 @@ fn an_empty_store_takes_its_key_along(rt: HostRuntime) -> Result<(), Fail> {
     Ok(())
 }
 
+// Whether this is left of a map in the join with an empty one, where the other side knows these dots.
+fn is_left<S: DotStore<Global>>(
+    alloc: Global,
+    mine: &S,
+    known: &[Dot],
+    left: &S,
+) -> Result<bool, Refusal> {
+    gives(alloc, mine, &[], &S::empty(alloc), known, left)
+}
+
 #[test]
 fn a_map_of_maps_goes_through_the_same_join(rt: HostRuntime) -> Result<(), Fail> {
     let alloc = rt.alloc();
     let (a, b) = (dot(&rt, 1, 1), dot(&rt, 2, 1));
     let mine = nested(alloc, &[a, b])?;
-    let both = joined(alloc, &mine, &[], &DotMap::empty(alloc), &[a])?;
-    assert!(rt; is_wanted(alloc, &both, &nested(alloc, &[b])?)?);
+    let left = nested(alloc, &[b])?;
+    assert!(rt; is_left(alloc, &mine, &[a], &left)?);
     Ok(())
 }
 

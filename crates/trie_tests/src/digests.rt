@@ -10,6 +10,8 @@ use std::test::Fail;
 
 type Trie<H> = GenTrie<DotFun<Value>, ShaSummary, H>;
 
+type Map<H> = Frozen<DotFun<Value>, ShaSummary, H>;
+
 // The key `a` with the dot 1:1 and the value x, alone.
 const OF_A: [u8; 32] = [
     0x37, 0x33, 0x0a, 0x03, 0x29, 0x86, 0xc5, 0x50, 0x6a, 0xa0, 0x8b, 0xa0, 0xae, 0xd1, 0x0c, 0x31,
@@ -60,17 +62,39 @@ fn dot(name: u64, number: u64) -> Result<Dot, Refusal> {
     Dot::new(name, number).ok_or(Refusal::BadLine)
 }
 
-// Puts a value at a key under this dot, and nothing else there.
+// The values at these dots.
+fn values_of(alloc: Global, values: &[((u64, u64), &[u8])]) -> Result<DotFun<Value>, Refusal> {
+    let mut held = DotFun::empty(alloc);
+    for ((name, number), value) in values {
+        held.insert(dot(*name, *number)?, Value::new(alloc, value)?)?;
+    }
+    Ok(held)
+}
+
+// Puts these values at a key, and nothing else there.
 fn put<H: PathHash>(
     alloc: Global,
     trie: &mut Trie<H>,
     key: &[u8],
-    dot: Dot,
-    value: &[u8],
+    values: &[((u64, u64), &[u8])],
 ) -> Result<(), Refusal> {
-    let mut held = DotFun::empty(alloc);
-    held.insert(dot, Value::new(alloc, value)?)?;
+    let held = values_of(alloc, values)?;
     trie.insert(Key::new(alloc, key)?, held)
+}
+
+// The map with these values at one key.
+fn alone(alloc: Global, key: &[u8], values: &[((u64, u64), &[u8])]) -> Result<Map<Fnv1a>, Refusal> {
+    let mut trie = GenTrie::new(alloc, Fnv1a);
+    put(alloc, &mut trie, key, values)?;
+    trie.freeze()
+}
+
+// The map with v at the empty key and w at b.
+fn two(alloc: Global) -> Result<Map<Fnv1a>, Refusal> {
+    let mut trie = GenTrie::new(alloc, Fnv1a);
+    put(alloc, &mut trie, b"b", &[((2, 2), b"w")])?;
+    put(alloc, &mut trie, b"", &[((2, 1), b"v")])?;
+    trie.freeze()
 }
 
 fn take<H: PathHash>(alloc: Global, trie: &mut Trie<H>, key: &[u8]) -> Result<(), Refusal> {
@@ -79,64 +103,54 @@ fn take<H: PathHash>(alloc: Global, trie: &mut Trie<H>, key: &[u8]) -> Result<()
     Ok(())
 }
 
-// The digest at these indices, which are a prefix.
-fn at<H: PathHash>(
-    frozen: &Frozen<DotFun<Value>, ShaSummary, H>,
+// Whether this is the digest at these indices, which are a prefix.
+fn is_at<H: PathHash>(
+    frozen: &Map<H>,
     path: &[u32],
-) -> Result<Option<[u8; 32]>, Fail> {
-    Ok(digest(frozen, prefix_of(path).ok_or("a prefix")?))
+    wanted: Option<[u8; 32]>,
+) -> Result<bool, Fail> {
+    Ok(digest(frozen, prefix_of(path).ok_or("a prefix")?) == wanted)
 }
 
 // The keys a, b and c with a value each.
 fn three<H: PathHash>(alloc: Global, hash: H) -> Result<Trie<H>, Refusal> {
     let mut trie = GenTrie::new(alloc, hash);
-    put(alloc, &mut trie, b"a", dot(1, 1)?, b"x")?;
-    put(alloc, &mut trie, b"b", dot(1, 2)?, b"y")?;
-    put(alloc, &mut trie, b"c", dot(1, 3)?, b"z")?;
+    put(alloc, &mut trie, b"a", &[((1, 1), b"x")])?;
+    put(alloc, &mut trie, b"b", &[((1, 2), b"y")])?;
+    put(alloc, &mut trie, b"c", &[((1, 3), b"z")])?;
     Ok(trie)
 }
 
 #[test]
 fn one_key_has_one_digest_at_each_prefix_of_its_path(rt: HostRuntime) -> Result<(), Fail> {
-    let mut trie = GenTrie::new(rt.alloc(), Fnv1a);
-    put(rt.alloc(), &mut trie, b"a", dot(1, 1)?, b"x")?;
-    let frozen = trie.freeze()?;
-    assert_eq!(rt; digest(&frozen, Prefix::root()), Some(OF_A));
-    assert_eq!(rt; at(&frozen, &[12, 9])?, Some(OF_A));
-    assert_eq!(rt; at(&frozen, &[12, 8])?, None);
+    let frozen = alone(rt.alloc(), b"a", &[((1, 1), b"x")])?;
+    assert!(rt; is_at(&frozen, &[], Some(OF_A))?);
+    assert!(rt; is_at(&frozen, &[12, 9], Some(OF_A))?);
+    assert!(rt; is_at(&frozen, &[12, 8], None)?);
     Ok(())
 }
 
 #[test]
 fn all_values_of_a_key_are_told(rt: HostRuntime) -> Result<(), Fail> {
-    let alloc = rt.alloc();
-    let mut held = DotFun::empty(alloc);
-    held.insert(dot(2, 1)?, Value::new(alloc, b"y")?)?;
-    held.insert(dot(1, 1)?, Value::new(alloc, b"x")?)?;
-    let mut trie: Trie<Fnv1a> = GenTrie::new(alloc, Fnv1a);
-    trie.insert(Key::new(alloc, b"a")?, held)?;
-    let frozen = trie.freeze()?;
-    assert_eq!(rt; digest(&frozen, Prefix::root()), Some(OF_TWO_VALUES));
+    let frozen = alone(rt.alloc(), b"a", &[((2, 1), b"y"), ((1, 1), b"x")])?;
+    assert!(rt; is_at(&frozen, &[], Some(OF_TWO_VALUES))?);
     Ok(())
 }
 
 #[test]
 fn two_keys_share_their_first_index(rt: HostRuntime) -> Result<(), Fail> {
-    let mut trie = GenTrie::new(rt.alloc(), Fnv1a);
-    put(rt.alloc(), &mut trie, b"b", dot(2, 2)?, b"w")?;
-    put(rt.alloc(), &mut trie, b"", dot(2, 1)?, b"v")?;
-    let frozen = trie.freeze()?;
-    assert_eq!(rt; digest(&frozen, Prefix::root()), Some(AT_ROOT));
-    assert_eq!(rt; at(&frozen, &[5])?, Some(AT_FIVE));
-    assert_eq!(rt; at(&frozen, &[5, 15])?, Some(OF_B));
+    let frozen = two(rt.alloc())?;
+    assert!(rt; is_at(&frozen, &[], Some(AT_ROOT))?);
+    assert!(rt; is_at(&frozen, &[5], Some(AT_FIVE))?);
+    assert!(rt; is_at(&frozen, &[5, 15], Some(OF_B))?);
     Ok(())
 }
 
 #[test]
 fn keys_of_one_hash_are_told_past_the_last_index(rt: HostRuntime) -> Result<(), Fail> {
     let frozen = three(rt.alloc(), SameHash(0))?.freeze()?;
-    assert_eq!(rt; digest(&frozen, Prefix::root()), Some(OF_ONE_HASH));
-    assert_eq!(rt; at(&frozen, &[0; 7])?, Some(OF_LIST));
+    assert!(rt; is_at(&frozen, &[], Some(OF_ONE_HASH))?);
+    assert!(rt; is_at(&frozen, &[0; 7], Some(OF_LIST))?);
     Ok(())
 }
 
@@ -146,13 +160,13 @@ fn what_is_left_has_the_digest_that_it_has_alone(rt: HostRuntime) -> Result<(), 
     take(rt.alloc(), &mut trie, b"b")?;
     take(rt.alloc(), &mut trie, b"c")?;
     let frozen = trie.freeze()?;
-    assert_eq!(rt; digest(&frozen, Prefix::root()), Some(OF_A));
+    assert!(rt; is_at(&frozen, &[], Some(OF_A))?);
     Ok(())
 }
 
 #[test]
 fn no_keys_have_no_digest(rt: HostRuntime) -> Result<(), Fail> {
-    let frozen: Frozen<DotFun<Value>, ShaSummary, Fnv1a> = Frozen::new(rt.alloc(), Fnv1a);
+    let frozen: Map<Fnv1a> = Frozen::new(rt.alloc(), Fnv1a);
     assert_eq!(rt; digest(&frozen, Prefix::root()), None);
     Ok(())
 }

@@ -39,7 +39,7 @@ pub fn at<H: PathHash>(
     Ok(trie.lookup(&key).copied())
 }
 
-pub fn frozen_at<H: PathHash>(
+fn frozen_at<H: PathHash>(
     alloc: Global,
     frozen: &Frozen<u64, NoSummary, H>,
     key: &[u8],
@@ -59,4 +59,41 @@ pub fn taken<H: PathHash>(
         None => Ok(None),
         Some(entry) => Ok(Some(*entry.value())),
     }
+}
+
+// Puts a value at the key of these bytes.
+pub fn put<H: PathHash>(
+    alloc: Global,
+    trie: &mut GenTrie<u64, NoSummary, H>,
+    key: &[u8],
+    value: u64,
+) -> Result<(), Refusal> {
+    trie.insert(Key::new(alloc, key)?, value)
+}
+
+// Whether there are so many keys, and these are the values at these keys.
+pub fn holds<H: PathHash>(
+    alloc: Global,
+    trie: &GenTrie<u64, NoSummary, H>,
+    size: u64,
+    values: &[(&[u8], Option<u64>)],
+) -> Result<bool, Refusal> {
+    let mut same = trie.size() == size;
+    for (key, value) in values {
+        same = at(alloc, trie, key)? == *value && same;
+    }
+    Ok(same)
+}
+
+pub fn frozen_holds<H: PathHash>(
+    alloc: Global,
+    frozen: &Frozen<u64, NoSummary, H>,
+    size: u64,
+    values: &[(&[u8], Option<u64>)],
+) -> Result<bool, Refusal> {
+    let mut same = frozen.size() == size;
+    for (key, value) in values {
+        same = frozen_at(alloc, frozen, key)? == *value && same;
+    }
+    Ok(same)
 }

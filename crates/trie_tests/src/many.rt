@@ -17,6 +17,17 @@ fn key_of(alloc: Global, number: u64) -> Result<Key, Refusal> {
     Key::new(alloc, &number.to_be_bytes())
 }
 
+// Whether the two have the same at this key.
+fn same_at<H: PathHash>(
+    alloc: Global,
+    trie: &GenTrie<u64, NoSummary, H>,
+    plain: &Plain,
+    number: u64,
+) -> Result<bool, Refusal> {
+    let key = key_of(alloc, number)?;
+    Ok(trie.lookup(&key).copied() == plain.get(&number).copied())
+}
+
 // Puts one value into both, and tells whether the two had the same at its key.
 fn put_both<H: PathHash>(
     alloc: Global,
@@ -25,7 +36,7 @@ fn put_both<H: PathHash>(
     number: u64,
     value: u64,
 ) -> Result<bool, Fail> {
-    let same = trie.lookup(&key_of(alloc, number)?).copied() == plain.get(&number).copied();
+    let same = same_at(alloc, trie, plain, number)?;
     trie.insert(key_of(alloc, number)?, value)?;
     plain.insert(number, value)?;
     Ok(same)
@@ -131,30 +142,51 @@ fn walks_agree<H: PathHash>(hash: H, frozen: &Frozen<u64, NoSummary, H>, plain: 
     left == 0
 }
 
-// 20,000 writes with a freeze after each 2,000, whose maps are compared at the end.
+// A frozen map, and what the plain map was then.
+type Kept<H> = (Frozen<u64, NoSummary, H>, Plain);
+
+fn kept<H: PathHash>(
+    trie: &mut GenTrie<u64, NoSummary, H>,
+    plain: &Plain,
+) -> Result<Kept<H>, Fail> {
+    Ok((trie.freeze()?, plain.clone()?))
+}
+
+// 20,000 writes with a freeze after each 2,000.
+fn written<H: PathHash>(
+    rt: &impl Abort,
+    alloc: Global,
+    hash: H,
+    keys: u64,
+) -> Result<Vec<Kept<H>>, Fail> {
+    let mut trie = GenTrie::new(alloc, hash);
+    let mut plain = Plain::new(alloc);
+    let mut all = Vec::new(alloc);
+    for round in 1..11 {
+        assert!(rt; run(alloc, &mut trie, &mut plain, keys, round, 2000)?);
+        all.push(kept(&mut trie, &plain)?)?;
+    }
+    Ok(all)
+}
+
+// Whether the maps of all freezes, once all writes are made, are what the plain maps were then.
 fn writes_agree<H: PathHash>(
     rt: &impl Abort,
     alloc: Global,
     hash: H,
     keys: u64,
-) -> Result<(), Fail> {
-    let mut trie = GenTrie::new(alloc, hash);
-    let mut plain = Plain::new(alloc);
-    let mut kept = Vec::new(alloc);
-    for round in 1..11 {
-        assert!(rt; run(alloc, &mut trie, &mut plain, keys, round, 2000)?);
-        kept.push((trie.freeze()?, plain.clone()?))?;
+) -> Result<bool, Fail> {
+    let mut same = true;
+    for (frozen, then) in &written(rt, alloc, hash, keys)? {
+        same = agree(alloc, frozen, then, keys)? && walks_agree(hash, frozen, then) && same;
     }
-    for (frozen, then) in &kept {
-        assert!(rt; agree(alloc, frozen, then, keys)?);
-        assert!(rt; walks_agree(hash, frozen, then));
-    }
-    Ok(())
+    Ok(same)
 }
 
 #[test]
 fn random_writes_agree_with_a_plain_map(rt: HostRuntime) -> Result<(), Fail> {
-    writes_agree(&rt, rt.alloc(), Fnv1a, 3000)
+    assert!(rt; writes_agree(&rt, rt.alloc(), Fnv1a, 3000)?);
+    Ok(())
 }
 
 // A hash of eight values, which differ at three depths.
@@ -171,5 +203,6 @@ impl PathHash for FewHashes {
 
 #[test]
 fn random_writes_agree_where_hashes_meet(rt: HostRuntime) -> Result<(), Fail> {
-    writes_agree(&rt, rt.alloc(), FewHashes, 200)
+    assert!(rt; writes_agree(&rt, rt.alloc(), FewHashes, 200)?);
+    Ok(())
 }

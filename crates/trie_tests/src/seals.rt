@@ -13,6 +13,8 @@ type Plain = GenTrie<u64, NoSummary, Fnv1a>;
 
 type Digested<A> = GenTrie<DotFun<Value<A>, A>, ShaSummary, Fnv1a, A>;
 
+type DigestedMap<A> = Frozen<DotFun<Value<A>, A>, ShaSummary, Fnv1a, A>;
+
 // The key of a number: eight bytes, the most significant first, of a multiple of the number.
 fn key_of<A: Allocator + Copy>(alloc: A, number: u64) -> Result<Key<A>, Refusal> {
     Key::new(
@@ -39,14 +41,19 @@ fn a_seal_reaches_each_node(rt: HostRuntime) -> Result<(), Fail> {
     Ok(())
 }
 
+// How many nodes a seal reaches once the key of 1,000 is put.
+fn stamped_with_one_more(alloc: Global, trie: &mut Plain) -> Result<u64, Refusal> {
+    trie.insert(key_of(alloc, 1_000)?, 1_000)?;
+    trie.seal()?;
+    Ok(trie.stamped())
+}
+
 #[test]
 fn a_seal_renews_what_was_written_after_a_freeze(rt: HostRuntime) -> Result<(), Fail> {
     let mut trie = thousand(rt.alloc())?;
     let _frozen = trie.freeze()?;
     assert_eq!(rt; trie.stamped(), 0);
-    trie.insert(key_of(rt.alloc(), 1_000)?, 1_000)?;
-    trie.seal()?;
-    assert_eq!(rt; trie.stamped(), 3);
+    assert_eq!(rt; stamped_with_one_more(rt.alloc(), &mut trie)?, 3);
     Ok(())
 }
 
@@ -77,24 +84,46 @@ fn forty<A: Allocator + Copy>(alloc: A) -> Result<Digested<A>, Refusal> {
     Ok(trie)
 }
 
+// Whether both have one digest.
+fn are_alike<A: Allocator + Copy>(one: &DigestedMap<A>, other: &DigestedMap<A>) -> bool {
+    digest(one, Prefix::root()) == digest(other, Prefix::root())
+}
+
 #[test]
 fn kept_digests_are_those_of_the_entries(rt: HostRuntime) -> Result<(), Fail> {
     let mut trie = forty(rt.alloc())?;
     let shared = trie.share()?;
     let frozen = trie.freeze()?;
-    assert_eq!(rt;
-        digest(&frozen, Prefix::root()),
-        digest(&shared, Prefix::root())
-    );
-    put(rt.alloc(), &mut trie, 40)?;
-    let more = trie.freeze()?;
-    assert!(rt; digest(&more, Prefix::root()) != digest(&frozen, Prefix::root()));
-    trie.remove(&key_of(rt.alloc(), 40)?)?;
-    let less = trie.freeze()?;
-    assert_eq!(rt;
-        digest(&less, Prefix::root()),
-        digest(&frozen, Prefix::root())
-    );
+    assert!(rt; are_alike(&frozen, &shared));
+    Ok(())
+}
+
+// Whether a freeze has another digest than this once the key of 40 is put.
+fn differs_with_one_more(
+    alloc: Global,
+    trie: &mut Digested<Global>,
+    frozen: &DigestedMap<Global>,
+) -> Result<bool, Refusal> {
+    put(alloc, trie, 40)?;
+    Ok(!are_alike(&trie.freeze()?, frozen))
+}
+
+// Whether a freeze has this digest once the key of 40 is taken out.
+fn is_alike_with_one_less(
+    alloc: Global,
+    trie: &mut Digested<Global>,
+    frozen: &DigestedMap<Global>,
+) -> Result<bool, Refusal> {
+    trie.remove(&key_of(alloc, 40)?)?;
+    Ok(are_alike(&trie.freeze()?, frozen))
+}
+
+#[test]
+fn kept_digests_follow_the_writes(rt: HostRuntime) -> Result<(), Fail> {
+    let mut trie = forty(rt.alloc())?;
+    let frozen = trie.freeze()?;
+    assert!(rt; differs_with_one_more(rt.alloc(), &mut trie, &frozen)?);
+    assert!(rt; is_alike_with_one_less(rt.alloc(), &mut trie, &frozen)?);
     Ok(())
 }
 
@@ -126,25 +155,32 @@ fn sealed_in<'a>(
     trie.seal()
 }
 
+// Whether a seal is refused in a heap that is full, and in one with little room.
+fn is_refused<'a>(alloc: Global, heap: &'a LocalHeap, trie: &mut Digested<&'a LocalHeap>) -> bool {
+    sealed_in(alloc, heap, trie, 0) == Err(Refusal::OutOfMemory)
+        && sealed_in(alloc, heap, trie, 60) == Err(Refusal::OutOfMemory)
+}
+
+// Whether a seal gives the trie the digest that was shared of it before.
+fn seals_as<A: Allocator + Copy>(
+    trie: &mut Digested<A>,
+    shared: &DigestedMap<A>,
+) -> Result<bool, Refusal> {
+    trie.seal()?;
+    Ok(are_alike(&trie.share()?, shared))
+}
+
+// Whether a seal in this heap is refused for want of room, and is then made again.
+fn is_made_again(alloc: Global, heap: &LocalHeap) -> Result<bool, Refusal> {
+    let mut trie = forty(heap)?;
+    let shared = trie.share()?;
+    Ok(is_refused(alloc, heap, &mut trie) && seals_as(&mut trie, &shared)?)
+}
+
 #[test]
 fn a_refused_seal_is_made_again(rt: HostRuntime) -> Result<(), Fail> {
     let heap = LocalHeap::new(rt.alloc(), 40_000)?;
-    let mut trie = forty(&heap)?;
-    let shared = trie.share()?;
-    assert_eq!(rt;
-        sealed_in(rt.alloc(), &heap, &mut trie, 0),
-        Err(Refusal::OutOfMemory)
-    );
-    assert_eq!(rt;
-        sealed_in(rt.alloc(), &heap, &mut trie, 60),
-        Err(Refusal::OutOfMemory)
-    );
-    trie.seal()?;
-    let frozen = trie.share()?;
-    assert_eq!(rt;
-        digest(&frozen, Prefix::root()),
-        digest(&shared, Prefix::root())
-    );
+    assert!(rt; is_made_again(rt.alloc(), &heap)?);
     Ok(())
 }
 

@@ -32,6 +32,17 @@ pub(crate) fn one(alloc: Global) -> Result<Map, Refusal> {
     Ok(trie)
 }
 
+// Whether there are so many keys, and this is the value at this key.
+fn holds(
+    alloc: Global,
+    trie: &Map,
+    size: u64,
+    key: &[u8],
+    value: Option<u64>,
+) -> Result<bool, Refusal> {
+    Ok(at(alloc, trie, key)? == value && trie.size() == size)
+}
+
 // The same with 2 and 3 at b and c.
 fn three(alloc: Global) -> Result<Map, Refusal> {
     let mut trie = one(alloc)?;
@@ -44,23 +55,27 @@ fn three(alloc: Global) -> Result<Map, Refusal> {
 fn a_trie_is_a_map(rt: HostRuntime) -> Result<(), Fail> {
     let alloc = rt.alloc();
     let mut trie = three(alloc)?;
-    assert_eq!(rt; trie.size(), 3);
-    assert_eq!(rt; at(alloc, &trie, b"b")?, Some(2));
+    assert!(rt; holds(alloc, &trie, 3, b"b", Some(2))?);
     assert!(rt; !trie.is_read_only());
     Ok(())
 }
 
 #[test]
-fn a_removed_key_is_gone_and_a_second_value_replaces_the_first(
-    rt: HostRuntime,
-) -> Result<(), Fail> {
+fn a_removed_key_is_gone(rt: HostRuntime) -> Result<(), Fail> {
     let alloc = rt.alloc();
-    let mut trie = one(alloc)?;
-    put(alloc, &mut trie, b"b", 2)?;
+    let mut trie = three(alloc)?;
     assert_eq!(rt; taken(alloc, &mut trie, b"a")?, Some(1));
     assert_eq!(rt; taken(alloc, &mut trie, b"a")?, None);
+    assert!(rt; holds(alloc, &trie, 2, b"b", Some(2))?);
+    Ok(())
+}
+
+#[test]
+fn a_second_value_replaces_the_first(rt: HostRuntime) -> Result<(), Fail> {
+    let alloc = rt.alloc();
+    let mut trie = three(alloc)?;
     put(alloc, &mut trie, b"b", 9)?;
-    assert_eq!(rt; (at(alloc, &trie, b"b")?, trie.size()), (Some(9), 1));
+    assert!(rt; holds(alloc, &trie, 3, b"b", Some(9))?);
     Ok(())
 }
 
@@ -78,9 +93,18 @@ fn a_trie_is_walked_by_the_lowest_bits_of_the_hash(rt: HostRuntime) -> Result<()
     let alloc = rt.alloc();
     let mut trie = three(alloc)?;
     assert_eq!(rt; digits(trie.iter()), 213);
+    put(alloc, &mut trie, b"b", 9)?;
+    assert_eq!(rt; digits(trie.iter()), 913);
+    Ok(())
+}
+
+#[test]
+fn a_snapshot_is_walked_as_it_was(rt: HostRuntime) -> Result<(), Fail> {
+    let alloc = rt.alloc();
+    let mut trie = three(alloc)?;
     let snapshot = trie.read_only_snapshot()?;
     put(alloc, &mut trie, b"b", 9)?;
-    assert_eq!(rt; (digits(trie.iter()), digits(snapshot.iter())), (913, 213));
+    assert!(rt; digits(trie.iter()) == 913 && digits(snapshot.iter()) == 213);
     Ok(())
 }
 
@@ -102,16 +126,19 @@ fn write_over(alloc: Global, trie: &mut Map) -> Result<(), Refusal> {
     trie.clear()
 }
 
+// Whether neither a map nor its snapshot sees what is then written into the other.
+fn are_apart(alloc: Global, live: &mut Map, snapshot: &mut Map) -> Result<bool, Refusal> {
+    write_over(alloc, live)?;
+    let is_kept = live.size() == 0 && holds(alloc, snapshot, 1, b"a", Some(1))?;
+    put(alloc, snapshot, b"c", 3)?;
+    Ok(at(alloc, live, b"c")?.is_none() && is_kept)
+}
+
 #[test]
 fn a_snapshot_does_not_see_later_writes(rt: HostRuntime) -> Result<(), Fail> {
-    let alloc = rt.alloc();
-    let mut live = one(alloc)?;
+    let mut live = one(rt.alloc())?;
     let mut snapshot = live.snapshot()?;
-    write_over(alloc, &mut live)?;
-    assert_eq!(rt; (live.size(), snapshot.size()), (0, 1));
-    assert_eq!(rt; at(alloc, &snapshot, b"a")?, Some(1));
-    put(alloc, &mut snapshot, b"c", 3)?;
-    assert_eq!(rt; at(alloc, &live, b"c")?, None);
+    assert!(rt; are_apart(rt.alloc(), &mut live, &mut snapshot)?);
     Ok(())
 }
 
@@ -128,11 +155,8 @@ fn refuses_writes(alloc: Global, trie: &mut Map) -> bool {
 #[test]
 fn a_read_only_snapshot_and_its_snapshots_refuse_writes(rt: HostRuntime) -> Result<(), Fail> {
     let alloc = rt.alloc();
-    let mut trie = one(alloc)?;
-    put(alloc, &mut trie, b"c", 3)?;
-    let mut read_only = trie.read_only_snapshot()?;
-    assert!(rt; refuses_writes(alloc, &mut read_only));
-    assert_eq!(rt; read_only.size(), 2);
+    let mut read_only = three(alloc)?.read_only_snapshot()?;
+    assert!(rt; refuses_writes(alloc, &mut read_only) && read_only.size() == 3);
     let mut snapshot = read_only.snapshot()?;
     assert!(rt; snapshot.is_read_only() && refuses_writes(alloc, &mut snapshot));
     Ok(())
