@@ -63,7 +63,10 @@ pub fn remove_field<M: Summary<Fields<A>>, H: PathHash, A: Allocator + Copy>(
 /// The delta holds nothing, and knows these dots. Where there are none it is the bottom, as no operation is made. Takes
 /// time and memory in the whole map.
 /// Its only refusal is OutOfMemory.
-pub fn clear<M: Summary<Fields<A>>, H: PathHash, A: Allocator + Copy>(alloc: A, live: &LiveOrMap<M, H, A>) -> Result<(OrMap<A>, u64), Refusal>
+pub fn clear<M: Summary<Fields<A>>, H: PathHash, A: Allocator + Copy>(
+    alloc: A,
+    live: &LiveOrMap<M, H, A>,
+) -> Result<(OrMap<A>, u64), Refusal>
     ensures ok { IfOk result (λ made. (over : List DotValue) × IsClearAt (live_state live.now.0) over ×
         Same (or_map_state made.0) (state (erasure over)) × IsDistinct same_dot over × (made.1 ≡ length over)) }
     ensures err { IsOkUnless result Refusal.OutOfMemory }

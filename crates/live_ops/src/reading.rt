@@ -75,7 +75,10 @@ pub fn fields<M: Summary<Fields<A>>, H: PathHash, A: Allocator + Copy>(
 /// The keys that hold a value at some field, ascending by bytes. Takes memory in their number, and time in it and its
 /// logarithm.
 /// Its only refusal is OutOfMemory.
-pub fn keys<M: Summary<Fields<A>>, H: PathHash, A: Allocator + Copy>(alloc: A, live: &LiveOrMap<M, H, A>) -> Result<Vec<Key<A>, A>, Refusal>
+pub fn keys<M: Summary<Fields<A>>, H: PathHash, A: Allocator + Copy>(
+    alloc: A,
+    live: &LiveOrMap<M, H, A>,
+) -> Result<Vec<Key<A>, A>, Refusal>
     ensures ascending { IfOk result (λ found. IsAscending found.items) }
     ensures held { IfOk result (λ found. (key : List ℕ) →
         Contains found.items key ↔ HoldsKey (live_state live.now.0) key) }
