@@ -1,4 +1,6 @@
 // Random operations on a live pair, beside a plain ordered map.
+ghost use Rattle.std.specs.Prelude.{◌<◌};
+
 use crate::made::{LiveSets, dot, removed, written};
 use dot_store::DotStore;
 use dots::{Dot, Key, Refusal};

@@ -11,6 +11,4 @@ mod operations;
 #[cfg(test)]
 mod pairs;
 #[cfg(test)]
-mod refused;
-#[cfg(test)]
 mod stores;

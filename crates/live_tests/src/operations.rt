@@ -60,8 +60,15 @@ fn what_was_written_is_counted(rt: HostRuntime) -> Result<(), Fail> {
 fn is_in_order(alloc: Global, live: &LiveOrMap) -> Result<bool, Refusal> {
     let all = keys(alloc, live)?;
     let values = values_of_key(alloc, live, &Key::new(alloc, b"b")?)?;
-    let keys_ascend = all.len() == 2 && all[0].bytes() == b"a".as_slice() && all[1].bytes() == b"b".as_slice();
-    Ok(keys_ascend && values.len() == 2 && values[0].bytes() == b"x".as_slice() && values[1].bytes() == b"y".as_slice())
+    let keys_ascend = all.len() == 2
+        && all[0].bytes() == b"a".as_slice()
+        && all[1].bytes() == b"b".as_slice();
+    Ok(
+        keys_ascend
+            && values.len() == 2
+            && values[0].bytes() == b"x".as_slice()
+            && values[1].bytes() == b"y".as_slice(),
+    )
 }
 
 #[test]
@@ -92,7 +99,12 @@ fn a_remove_takes_all_fields_of_its_key(rt: HostRuntime) -> Result<(), Fail> {
 fn a_remove_of_a_field_leaves_the_others(rt: HostRuntime) -> Result<(), Fail> {
     let alloc = rt.alloc();
     let mut live = of_three(&rt, alloc)?;
-    let made = remove_field(alloc, &live, &Key::new(alloc, b"b")?, &Field::new(alloc, b"f")?)?;
+    let made = remove_field(
+        alloc,
+        &live,
+        &Key::new(alloc, b"b")?,
+        &Field::new(alloc, b"f")?,
+    )?;
     assert_eq!(rt; take(alloc, &mut live, made)?, 1);
     assert_eq!(rt; counts(alloc, &live)?, [2, 1, 1, 1]);
     Ok(())
