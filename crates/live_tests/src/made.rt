@@ -1,0 +1,84 @@
+use causal_context::Context;
+use causal_join::Causal;
+use dot_store::{DotMap, DotSet, DotStore};
+use dots::{Dot, Key, Name, Refusal};
+use gen_trie::NoSummary;
+use hash_path::PathHash;
+use live_map::Live;
+use std::alloc::Allocator;
+use std::process::Abort;
+
+// A map from keys to sets of dots.
+pub type Sets<A> = DotMap<Key<A>, DotSet<A>, A>;
+
+// A live pair of such a map.
+pub type LiveSets<H, A> = Live<DotSet<A>, NoSummary, H, A>;
+
+// The dot of this name and number, neither of them 0.
+pub fn dot(rt: &impl Abort, of: u64, number: u64) -> Dot {
+    Dot::new(Name::new(of).expect(rt, "a name"), number).expect(rt, "a number")
+}
+
+pub fn context_of<A: Allocator + Copy>(alloc: A, dots: &[Dot]) -> Result<Context<A>, Refusal> {
+    let mut context = Context::new(alloc);
+    for dot in dots {
+        context.add(*dot)?;
+    }
+    Ok(context)
+}
+
+// The map with these dots at the key, besides what it has at other keys.
+pub fn put<A: Allocator + Copy>(
+    alloc: A,
+    map: &mut Sets<A>,
+    key: &[u8],
+    dots: &[Dot],
+) -> Result<(), Refusal> {
+    let mut set = DotSet::empty(alloc);
+    for dot in dots {
+        set.insert(*dot)?;
+    }
+    map.insert(Key::new(alloc, key)?, set)
+}
+
+// The pair of the map and the context of these dots. BadLine stands for a dot that is outside.
+pub fn pair<A: Allocator + Copy>(
+    alloc: A,
+    map: Sets<A>,
+    known: &[Dot],
+) -> Result<Causal<Sets<A>, A>, Refusal> {
+    Causal::from_parts(map, context_of(alloc, known)?).ok_or(Refusal::BadLine)
+}
+
+// The delta of a write of the dot at the key, which observed these.
+pub fn written<A: Allocator + Copy>(
+    alloc: A,
+    key: &[u8],
+    dot: Dot,
+    known: &[Dot],
+) -> Result<Causal<Sets<A>, A>, Refusal> {
+    let mut map = DotMap::empty(alloc);
+    put(alloc, &mut map, key, &[dot])?;
+    pair(alloc, map, known)
+}
+
+// The delta of a remove that observed these dots.
+pub fn removed<A: Allocator + Copy>(
+    alloc: A,
+    known: &[Dot],
+) -> Result<Causal<Sets<A>, A>, Refusal> {
+    pair(alloc, DotMap::empty(alloc), known)
+}
+
+// Whether the dot stands at the key.
+pub fn stands<H: PathHash, A: Allocator + Copy>(
+    alloc: A,
+    live: &LiveSets<H, A>,
+    key: &[u8],
+    dot: Dot,
+) -> Result<bool, Refusal> {
+    match live.store().get(&Key::new(alloc, key)?) {
+        Some(set) => Ok(set.contains(dot)),
+        None => Ok(false),
+    }
+}

@@ -1,0 +1,134 @@
+// The operations of a replica on its live pair, and what is read of it.
+use causal_join::OrMap;
+use dots::{Field, Key, Name, Refusal, Value};
+use hash_path::Fnv1a;
+use live_map::Live;
+use live_ops::{
+    LiveOrMap, clear, fields, fields_of, keys, put, put_field, remove, remove_field, values,
+    values_at, values_of_key,
+};
+use std::alloc::Global;
+use std::process::Abort;
+use std::test::Fail;
+
+// Puts the value at the field of the key, by the name 1.
+fn write(
+    rt: &impl Abort,
+    alloc: Global,
+    live: &mut LiveOrMap,
+    key: &[u8],
+    field: &[u8],
+    value: &[u8],
+) -> Result<u64, Refusal> {
+    let name = Name::new(1).expect(rt, "a name");
+    let key = Key::new(alloc, key)?;
+    let field = Field::new(alloc, field)?;
+    let value = Value::new(alloc, value)?;
+    let (delta, dot) = put_field(alloc, name, live, &key, &field, &value)?;
+    live.join_delta(alloc, &delta)?;
+    Ok(dot.number())
+}
+
+// The pair of three writes: at two fields of the key b, and at the empty field of the key a.
+fn of_three(rt: &impl Abort, alloc: Global) -> Result<LiveOrMap, Refusal> {
+    let mut live: LiveOrMap = Live::new(alloc, Fnv1a);
+    write(rt, alloc, &mut live, b"b", b"", b"y")?;
+    write(rt, alloc, &mut live, b"b", b"f", b"x")?;
+    write(rt, alloc, &mut live, b"a", b"", b"z")?;
+    Ok(live)
+}
+
+// The numbers of keys, of fields of the key b, of its values, and of those at its empty field.
+fn counts(alloc: Global, live: &LiveOrMap) -> Result<[usize; 4], Refusal> {
+    let key = Key::new(alloc, b"b")?;
+    Ok([
+        keys(alloc, live)?.len(),
+        fields(alloc, live, &key)?.len(),
+        values_of_key(alloc, live, &key)?.len(),
+        values(alloc, live, &key, &Field::empty())?.len(),
+    ])
+}
+
+#[test]
+fn what_was_written_is_counted(rt: HostRuntime) -> Result<(), Fail> {
+    let live = of_three(&rt, rt.alloc())?;
+    assert_eq!(rt; counts(rt.alloc(), &live)?, [2, 2, 2, 1]);
+    Ok(())
+}
+
+// Whether the keys are a and b, and the values of b are x and y, in this order.
+fn is_in_order(alloc: Global, live: &LiveOrMap) -> Result<bool, Refusal> {
+    let all = keys(alloc, live)?;
+    let values = values_of_key(alloc, live, &Key::new(alloc, b"b")?)?;
+    let keys_ascend = all.len() == 2
+        && all[0].bytes() == b"a".as_slice()
+        && all[1].bytes() == b"b".as_slice();
+    Ok(
+        keys_ascend
+            && values.len() == 2
+            && values[0].bytes() == b"x".as_slice()
+            && values[1].bytes() == b"y".as_slice(),
+    )
+}
+
+#[test]
+fn keys_and_values_are_in_order(rt: HostRuntime) -> Result<(), Fail> {
+    let live = of_three(&rt, rt.alloc())?;
+    assert!(rt; is_in_order(rt.alloc(), &live)?);
+    Ok(())
+}
+
+// Joins the delta in, and answers how many writes it observed.
+fn take(alloc: Global, live: &mut LiveOrMap, made: (OrMap, u64)) -> Result<u64, Refusal> {
+    let (delta, number) = made;
+    live.join_delta(alloc, &delta)?;
+    Ok(number)
+}
+
+#[test]
+fn a_remove_takes_all_fields_of_its_key(rt: HostRuntime) -> Result<(), Fail> {
+    let alloc = rt.alloc();
+    let mut live = of_three(&rt, alloc)?;
+    let made = remove(alloc, &live, &Key::new(alloc, b"b")?)?;
+    assert_eq!(rt; take(alloc, &mut live, made)?, 2);
+    assert_eq!(rt; counts(alloc, &live)?, [1, 0, 0, 0]);
+    Ok(())
+}
+
+#[test]
+fn a_remove_of_a_field_leaves_the_others(rt: HostRuntime) -> Result<(), Fail> {
+    let alloc = rt.alloc();
+    let mut live = of_three(&rt, alloc)?;
+    let made = remove_field(
+        alloc,
+        &live,
+        &Key::new(alloc, b"b")?,
+        &Field::new(alloc, b"f")?,
+    )?;
+    assert_eq!(rt; take(alloc, &mut live, made)?, 1);
+    assert_eq!(rt; counts(alloc, &live)?, [2, 1, 1, 1]);
+    Ok(())
+}
+
+#[test]
+fn a_clear_takes_all_keys(rt: HostRuntime) -> Result<(), Fail> {
+    let alloc = rt.alloc();
+    let mut live = of_three(&rt, alloc)?;
+    let made = clear(alloc, &live)?;
+    assert_eq!(rt; take(alloc, &mut live, made)?, 3);
+    assert_eq!(rt; counts(alloc, &live)?, [0, 0, 0, 0]);
+    Ok(())
+}
+
+#[test]
+fn a_put_with_no_field_is_at_the_empty_one(rt: HostRuntime) -> Result<(), Fail> {
+    let alloc = rt.alloc();
+    let mut live = of_three(&rt, alloc)?;
+    let (key, name) = (Key::new(alloc, b"b")?, Name::new(2).ok_or("a name")?);
+    let (delta, dot) = put(alloc, name, &live, &key, &Value::new(alloc, b"w")?)?;
+    live.join_delta(alloc, &delta)?;
+    let standing = values_at(&live, &key, &Field::empty()).ok_or("a value")?;
+    assert_eq!(rt; (dot.number(), standing.entries().len()), (1, 1));
+    assert!(rt; fields_of(&live, &key).is_some());
+    Ok(())
+}

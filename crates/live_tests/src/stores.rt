@@ -1,0 +1,103 @@
+// A store that is kept as a trie, through the calls of every dot store.
+use crate::made::{context_of, dot, written};
+use dot_store::{DotSet, DotStore};
+use dots::{Dot, Refusal};
+use gen_trie::NoSummary;
+use hash_path::Fnv1a;
+use live_map::Live;
+use std::alloc::Global;
+use std::process::Abort;
+use std::test::Fail;
+use trie_map::TrieMap;
+
+type Sets<H> = TrieMap<DotSet, NoSummary, H>;
+
+// The store with the first two dots of the name 1, at the keys a and b.
+fn of_two(rt: &impl Abort, alloc: Global) -> Result<Sets<Fnv1a>, Refusal> {
+    let (one, two) = (dot(rt, 1, 1), dot(rt, 1, 2));
+    let mut live: Live<DotSet> = Live::new(alloc, Fnv1a);
+    live.join_delta(alloc, &written(alloc, b"a", one, &[one])?)?;
+    live.join_delta(alloc, &written(alloc, b"b", two, &[two])?)?;
+    live.store().share()
+}
+
+// Whether the store has just these dots, none of which is the other.
+fn has_just<S: DotStore<Global>>(
+    alloc: Global,
+    store: &S,
+    dots: &[Dot],
+    other: Dot,
+) -> Result<bool, Refusal> {
+    let context = context_of(alloc, dots)?;
+    let mut all = store.is_inside(&context) && store.dots(alloc)? == context;
+    for dot in dots {
+        all = all && store.contains(*dot);
+    }
+    Ok(all && !store.contains(other) && !store.is_empty())
+}
+
+#[test]
+fn a_store_has_the_dots_that_were_put(rt: HostRuntime) -> Result<(), Fail> {
+    let store = of_two(&rt, rt.alloc())?;
+    let dots = [dot(&rt, 1, 1), dot(&rt, 1, 2)];
+    assert!(rt; has_just(rt.alloc(), &store, &dots, dot(&rt, 1, 3))?);
+    assert!(rt; !store.is_inside(&context_of(rt.alloc(), &[dot(&rt, 1, 1)])?));
+    Ok(())
+}
+
+// Whether a copy of the store is the same, and the empty store is not.
+fn copies<S: DotStore<Global>>(alloc: Global, store: &S) -> Result<bool, Refusal> {
+    let copy = store.copy(alloc)?;
+    let empty = S::empty(alloc);
+    Ok(copy.same(store) && !empty.same(store) && !store.same(&empty) && empty.is_empty())
+}
+
+#[test]
+fn a_copy_is_the_same_store(rt: HostRuntime) -> Result<(), Fail> {
+    let store = of_two(&rt, rt.alloc())?;
+    assert!(rt; copies(rt.alloc(), &store)?);
+    Ok(())
+}
+
+// The join of the store, which knows these dots, with an empty one that knows those.
+fn joined<S: DotStore<Global>>(
+    alloc: Global,
+    store: &S,
+    own: &[Dot],
+    theirs: &[Dot],
+) -> Result<S, Refusal> {
+    let own = context_of(alloc, own)?;
+    let theirs = context_of(alloc, theirs)?;
+    store.join(alloc, &own, &S::empty(alloc), &theirs)
+}
+
+#[test]
+fn a_join_takes_out_what_the_other_side_removed(rt: HostRuntime) -> Result<(), Fail> {
+    let store = of_two(&rt, rt.alloc())?;
+    let dots = [dot(&rt, 1, 1), dot(&rt, 1, 2)];
+    let left = joined(rt.alloc(), &store, &dots, &[dot(&rt, 1, 1)])?;
+    assert_eq!(rt; left.size(), 1);
+    assert!(rt; has_just(rt.alloc(), &left, &[dot(&rt, 1, 2)], dot(&rt, 1, 1))?);
+    Ok(())
+}
+
+#[test]
+fn a_join_keeps_what_the_other_side_never_knew(rt: HostRuntime) -> Result<(), Fail> {
+    let store = of_two(&rt, rt.alloc())?;
+    let dots = [dot(&rt, 1, 1), dot(&rt, 1, 2)];
+    let left = joined(rt.alloc(), &store, &dots, &[])?;
+    assert!(rt; left.same(&store));
+    Ok(())
+}
+
+#[test]
+fn a_join_takes_in_what_only_the_other_side_has(rt: HostRuntime) -> Result<(), Fail> {
+    let alloc = rt.alloc();
+    let store = of_two(&rt, alloc)?;
+    let empty: Sets<Fnv1a> = TrieMap::new(alloc, Fnv1a);
+    let theirs = context_of(alloc, &[dot(&rt, 1, 1), dot(&rt, 1, 2)])?;
+    let both = empty.join(alloc, &context_of(alloc, &[])?, &store, &theirs)?;
+    assert!(rt; both.same(&store));
+    assert_eq!(rt; both.frozen().size(), 2);
+    Ok(())
+}
