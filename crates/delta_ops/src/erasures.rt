@@ -122,6 +122,8 @@ fn dots_anywhere<A: Allocator + Copy>(
 }
 
 /// Adds the dots that stand at any of the fields.
+/// A refused call may have added some.
+/// Its only refusal is OutOfMemory.
 pub fn gather_fields<A: Allocator + Copy>(
     dots: &mut BTreeSet<Dot, A>,
     fields: &DotMap<Field<A>, DotFun<Value<A>, A>, A>,
@@ -137,6 +139,8 @@ pub fn gather_fields<A: Allocator + Copy>(
 }
 
 /// Adds the dots of a field's values.
+/// A refused call may have added some.
+/// Its only refusal is OutOfMemory.
 pub fn gather<A: Allocator + Copy>(
     dots: &mut BTreeSet<Dot, A>,
     standing: &DotFun<Value<A>, A>,
@@ -152,6 +156,7 @@ pub fn gather<A: Allocator + Copy>(
 }
 
 /// The delta of an erasure of these dots, and how many they are.
+/// Its only refusal is OutOfMemory.
 pub fn erasing<A: Allocator + Copy>(
     alloc: A,
     dots: &BTreeSet<Dot, A>,

@@ -80,6 +80,7 @@ fn observed_at<A: Allocator + Copy>(
 }
 
 /// The store that holds the value alone, at the field of the key and the dot.
+/// Its only refusal is OutOfMemory.
 pub fn one_value<A: Allocator + Copy>(
     alloc: A,
     dot: Dot,

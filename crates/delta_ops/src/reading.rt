@@ -85,6 +85,8 @@ pub fn keys<A: Allocator + Copy>(alloc: A, live: &OrMap<A>) -> Result<Vec<Key<A>
 }
 
 /// Adds the values of a field.
+/// A refused call may have added some.
+/// Its only refusal is OutOfMemory.
 pub fn gather_values<A: Allocator + Copy>(
     alloc: A,
     found: &mut BTreeSet<Value<A>, A>,
@@ -101,6 +103,8 @@ pub fn gather_values<A: Allocator + Copy>(
 }
 
 /// Adds the values of all these fields.
+/// A refused call may have added some.
+/// Its only refusal is OutOfMemory.
 pub fn gather_fields<A: Allocator + Copy>(
     alloc: A,
     found: &mut BTreeSet<Value<A>, A>,
@@ -117,6 +121,7 @@ pub fn gather_fields<A: Allocator + Copy>(
 }
 
 /// What is in a set, in order.
+/// It fails only for want of memory.
 pub fn listed<T: Ord + Drop, A: Allocator + Copy>(
     alloc: A,
     found: BTreeSet<T, A>,
@@ -127,6 +132,7 @@ pub fn listed<T: Ord + Drop, A: Allocator + Copy>(
 }
 
 /// The keys of these entries, in their order.
+/// Its only refusal is OutOfMemory.
 pub fn copied_keys<K: Kept<A>, S, A: Allocator + Copy>(
     alloc: A,
     entries: &[(K, S)],
