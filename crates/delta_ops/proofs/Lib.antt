@@ -4,3 +4,7 @@ pub mod Erasing
 pub mod Gathering
 pub mod Listing
 mod Groups
+pub mod AsOrMap
+pub mod Clearing
+pub mod Keeping
+mod Counted

@@ -1,3 +1,4 @@
 pub mod Group
 pub mod Run
 pub mod Gathers
+pub mod LiveMap

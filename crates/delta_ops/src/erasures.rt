@@ -2,6 +2,7 @@ ghost use Rattle.std.specs.Prelude.{◌≡◌, ◌||◌, ◌↔◌, ◌⊎◌, �
 ghost use Rattle.std.specs.List.{IsDistinct};
 ghost use Rattle.causal_context.specs.Context.{has};
 ghost use Rattle.causal_join.specs.OrMap.{or_map_state, fields_at};
+ghost use Rattle.delta_ops.specs.LiveMap.{live_state};
 ghost use Rattle.dot_store.specs.Store.{HoldsDot};
 ghost use Rattle.dot_store.specs.Stores.{at_values};
 ghost use Rattle.dots.specs.Dot.{DotValue, same_dot};
@@ -11,11 +12,14 @@ ghost use Rattle.op_model.specs.Made.{IsRemoveAt, IsFieldRemoveAt, IsClearAt, er
 ghost use Rattle.op_model.specs.Meaning.{state};
 ghost use Rattle.op_model.specs.Place.{place_of};
 
-use crate::standing::values_at;
+use crate::live_or_map::{Fields, LiveOrMap};
+use crate::standing::{fields_of, values_at};
 use causal_context::Context;
 use causal_join::{Causal, OrMap};
 use dot_store::{DotFun, DotMap, DotStore};
 use dots::{Dot, Field, Key, Refusal, Value};
+use gen_trie::Summary;
+use hash_path::PathHash;
 use std::alloc::Allocator;
 use std::collections::BTreeSet;
 
@@ -25,12 +29,12 @@ use std::collections::BTreeSet;
 /// The delta holds nothing, and knows these dots. Where there are none it is the bottom, as no operation is made. Takes a
 /// look-up, and time and memory in what stands there.
 /// Its only refusal is OutOfMemory.
-pub fn remove<A: Allocator + Copy>(
+pub fn remove<M: Summary<Fields<A>>, H: PathHash, A: Allocator + Copy>(
     alloc: A,
-    live: &OrMap<A>,
+    live: &LiveOrMap<M, H, A>,
     key: &Key<A>,
 ) -> Result<(OrMap<A>, u64), Refusal>
-    ensures ok { IfOk result (λ made. (over : List DotValue) × IsRemoveAt (or_map_state live.now) key.now over ×
+    ensures ok { IfOk result (λ made. (over : List DotValue) × IsRemoveAt (live_state live.now.0) key.now over ×
         Same (or_map_state made.0) (state (erasure over)) × IsDistinct same_dot over × (made.1 ≡ length over)) }
     ensures err { IsOkUnless result Refusal.OutOfMemory }
 {
@@ -44,14 +48,14 @@ pub fn remove<A: Allocator + Copy>(
 /// The delta holds nothing, and knows these dots. Where there are none it is the bottom, as no operation is made. Takes
 /// two look-ups, and time and memory in what stands there.
 /// Its only refusal is OutOfMemory.
-pub fn remove_field<A: Allocator + Copy>(
+pub fn remove_field<M: Summary<Fields<A>>, H: PathHash, A: Allocator + Copy>(
     alloc: A,
-    live: &OrMap<A>,
+    live: &LiveOrMap<M, H, A>,
     key: &Key<A>,
     field: &Field<A>,
 ) -> Result<(OrMap<A>, u64), Refusal>
     ensures ok { IfOk result (λ made. (over : List DotValue) ×
-        IsFieldRemoveAt (or_map_state live.now) (place_of key.now field.now) over ×
+        IsFieldRemoveAt (live_state live.now.0) (place_of key.now field.now) over ×
         Same (or_map_state made.0) (state (erasure over)) × IsDistinct same_dot over × (made.1 ≡ length over)) }
     ensures err { IsOkUnless result Refusal.OutOfMemory }
 {
@@ -64,8 +68,11 @@ pub fn remove_field<A: Allocator + Copy>(
 /// The delta holds nothing, and knows these dots. Where there are none it is the bottom, as no operation is made. Takes
 /// time and memory in the whole map.
 /// Its only refusal is OutOfMemory.
-pub fn clear<A: Allocator + Copy>(alloc: A, live: &OrMap<A>) -> Result<(OrMap<A>, u64), Refusal>
-    ensures ok { IfOk result (λ made. (over : List DotValue) × IsClearAt (or_map_state live.now) over ×
+pub fn clear<M: Summary<Fields<A>>, H: PathHash, A: Allocator + Copy>(
+    alloc: A,
+    live: &LiveOrMap<M, H, A>,
+) -> Result<(OrMap<A>, u64), Refusal>
+    ensures ok { IfOk result (λ made. (over : List DotValue) × IsClearAt (live_state live.now.0) over ×
         Same (or_map_state made.0) (state (erasure over)) × IsDistinct same_dot over × (made.1 ≡ length over)) }
     ensures err { IsOkUnless result Refusal.OutOfMemory }
 {
@@ -74,48 +81,48 @@ pub fn clear<A: Allocator + Copy>(alloc: A, live: &OrMap<A>) -> Result<(OrMap<A>
 }
 
 /// The dots that stand at the field of the key.
-fn dots_at<A: Allocator + Copy>(
+fn dots_at<M: Summary<Fields<A>>, H: PathHash, A: Allocator + Copy>(
     alloc: A,
-    live: &OrMap<A>,
+    live: &LiveOrMap<M, H, A>,
     key: &Key<A>,
     field: &Field<A>,
 ) -> Result<BTreeSet<Dot, A>, Refusal>
-    ensures ok { IfOk result (λ dots. IsFieldRemoveAt (or_map_state live.now) (place_of key.now field.now) dots.keys) }
+    ensures ok { IfOk result (λ dots. IsFieldRemoveAt (live_state live.now.0) (place_of key.now field.now) dots.keys) }
     ensures err { IsOkUnless result Refusal.OutOfMemory }
 {
     let mut dots = BTreeSet::new(alloc);
-    if let Some(standing) = values_at(live, key, field) {
+    if let Some(standing) = values_at(live.store(), key, field) {
         gather(&mut dots, standing)?;
     }
     Ok(dots)
 }
 
 /// The dots that stand at any field of the key.
-fn dots_within<A: Allocator + Copy>(
+fn dots_within<M: Summary<Fields<A>>, H: PathHash, A: Allocator + Copy>(
     alloc: A,
-    live: &OrMap<A>,
+    live: &LiveOrMap<M, H, A>,
     key: &Key<A>,
 ) -> Result<BTreeSet<Dot, A>, Refusal>
-    ensures ok { IfOk result (λ dots. IsRemoveAt (or_map_state live.now) key.now dots.keys) }
+    ensures ok { IfOk result (λ dots. IsRemoveAt (live_state live.now.0) key.now dots.keys) }
     ensures err { IsOkUnless result Refusal.OutOfMemory }
 {
     let mut dots = BTreeSet::new(alloc);
-    if let Some(fields) = live.store().get(key) {
+    if let Some(fields) = fields_of(live.store(), key) {
         gather_fields(&mut dots, fields)?;
     }
     Ok(dots)
 }
 
 /// The dots that stand at any place.
-fn dots_anywhere<A: Allocator + Copy>(
+fn dots_anywhere<M: Summary<Fields<A>>, H: PathHash, A: Allocator + Copy>(
     alloc: A,
-    live: &OrMap<A>,
+    live: &LiveOrMap<M, H, A>,
 ) -> Result<BTreeSet<Dot, A>, Refusal>
-    ensures ok { IfOk result (λ dots. IsClearAt (or_map_state live.now) dots.keys) }
+    ensures ok { IfOk result (λ dots. IsClearAt (live_state live.now.0) dots.keys) }
     ensures err { IsOkUnless result Refusal.OutOfMemory }
 {
     let mut dots = BTreeSet::new(alloc);
-    for (_, fields) in live.store().entries() {
+    for (_, fields) in live.store().frozen().iter() {
         gather_fields(&mut dots, fields)?;
     }
     Ok(dots)
@@ -124,7 +131,7 @@ fn dots_anywhere<A: Allocator + Copy>(
 /// Adds the dots that stand at any of the fields.
 /// A refused call may have added some.
 /// Its only refusal is OutOfMemory.
-pub fn gather_fields<A: Allocator + Copy>(
+fn gather_fields<A: Allocator + Copy>(
     dots: &mut BTreeSet<Dot, A>,
     fields: &DotMap<Field<A>, DotFun<Value<A>, A>, A>,
 ) -> Result<(), Refusal>
@@ -141,7 +148,7 @@ pub fn gather_fields<A: Allocator + Copy>(
 /// Adds the dots of a field's values.
 /// A refused call may have added some.
 /// Its only refusal is OutOfMemory.
-pub fn gather<A: Allocator + Copy>(
+fn gather<A: Allocator + Copy>(
     dots: &mut BTreeSet<Dot, A>,
     standing: &DotFun<Value<A>, A>,
 ) -> Result<(), Refusal>
@@ -157,7 +164,7 @@ pub fn gather<A: Allocator + Copy>(
 
 /// The delta of an erasure of these dots, and how many they are.
 /// Its only refusal is OutOfMemory.
-pub fn erasing<A: Allocator + Copy>(
+fn erasing<A: Allocator + Copy>(
     alloc: A,
     dots: &BTreeSet<Dot, A>,
 ) -> Result<(OrMap<A>, u64), Refusal>

@@ -1,23 +1,21 @@
-// The deltas of puts, removes and clears, and groups of them.
-// Offered to the crates above: a delta is the state of the set of its one operation.
+// The operations of a replica on its live pair, what is read of its store, and groups of the deltas that it made.
+// Offered to the crates above: each delta is the state of the set of the one operation that was made, and what is read is
+// just what stands. No call but `clear` and `keys` goes through the map.
 #![tactic(auto)]
 
 mod erasures;
 mod grouping;
+mod live_or_map;
 mod mutators;
 mod outgoing;
 mod reading;
 mod run;
 mod standing;
 
-pub use erasures::{
-    clear, erasing as erasure_of, gather, gather_fields as gather_dots, remove, remove_field,
-};
+pub use erasures::{clear, remove, remove_field};
 pub use grouping::group;
-pub use mutators::{one_value, put, put_field};
+pub use live_or_map::{Fields, LiveOrMap, LiveStore};
+pub use mutators::{put, put_field};
 pub use outgoing::Outgoing;
-pub use reading::{
-    copied_keys, fields, gather_fields as gather_values_within, gather_values, keys, listed,
-    values, values_of_key,
-};
-pub use standing::values_at;
+pub use reading::{fields, keys, size, values, values_of_key};
+pub use standing::{fields_of, values_at};

@@ -1,6 +1,7 @@
 ghost use Rattle.std.specs.Prelude.{◌≡◌, ◌-◌, ◌^◌, ◌↔◌, ◌⊎◌, ◌∷◌, [], List, ℕ, Some, None, cond, ◌&&◌, is_some, IfOk, IfErr, IsErrOf, IsOkUnless};
 ghost use Rattle.causal_context.specs.Context.{has, IsGreatest};
 ghost use Rattle.causal_join.specs.OrMap.{or_map_at, or_map_state, path_of};
+ghost use Rattle.delta_ops.specs.LiveMap.{live_state};
 ghost use Rattle.dots.specs.Dot.{DotValue, same_dot};
 ghost use Rattle.op_model.specs.State.{Same};
 ghost use Rattle.op_model.specs.Operation.{Write, Wrote};
@@ -8,11 +9,14 @@ ghost use Rattle.op_model.specs.Made.{IsPutAt};
 ghost use Rattle.op_model.specs.Meaning.{state};
 ghost use Rattle.op_model.specs.Place.{Place, place_of, plain, same_place};
 
+use crate::live_or_map::{Fields, LiveOrMap};
 use crate::standing::values_at;
 use causal_context::Context;
 use causal_join::{Causal, OrMap, OrMapStore};
 use dot_store::{DotFun, DotMap, DotStore, Kept};
 use dots::{Dot, Field, Key, Name, Refusal, Value};
+use gen_trie::Summary;
+use hash_path::PathHash;
 use std::alloc::Allocator;
 
 /// The delta of a put of the value on the key by this name, and its dot, which is the next of the name: a put at the
@@ -21,16 +25,16 @@ use std::alloc::Allocator;
 /// The delta holds the value alone, and knows its dot and the dots that stood there. NumbersSpent exactly where the
 /// greatest known number of the name is 2^64 - 1, else OutOfMemory or the delta. Takes two look-ups, and time and memory
 /// in what stands there.
-pub fn put<A: Allocator + Copy>(
+pub fn put<M: Summary<Fields<A>>, H: PathHash, A: Allocator + Copy>(
     alloc: A,
     name: Name,
-    live: &OrMap<A>,
+    live: &LiveOrMap<M, H, A>,
     key: &Key<A>,
     value: &Value<A>,
 ) -> Result<(OrMap<A>, Dot), Refusal>
-    ensures ok { IfOk result (λ made. (w : Write) × IsPutAt (or_map_state live.now) name (plain key.now) value.now w ×
+    ensures ok { IfOk result (λ made. (w : Write) × IsPutAt (live_state live.now.0) name (plain key.now) value.now w ×
         Same (or_map_state made.0) (state (Wrote w ∷ [])) × (made.1 ≡ w.id)) }
-    ensures spent { IsErrOf result Refusal.NumbersSpent ↔ IsGreatest name (has live.now.1) (2 ^ 64 - 1) }
+    ensures spent { IsErrOf result Refusal.NumbersSpent ↔ IsGreatest name (has live.now.0.1) (2 ^ 64 - 1) }
     ensures err { IfErr result (λ refusal. (refusal ≡ Refusal.NumbersSpent) ⊎ (refusal ≡ Refusal.OutOfMemory)) }
 {
     put_field(alloc, name, live, key, &Field::empty(), value)
@@ -41,18 +45,18 @@ pub fn put<A: Allocator + Copy>(
 /// The delta holds the value alone, and knows its dot and the dots that stood there; the key's other fields stay as they
 /// are. NumbersSpent exactly where the greatest known number of the name is 2^64 - 1, else OutOfMemory or the delta. Takes
 /// two look-ups, and time and memory in what stands there.
-pub fn put_field<A: Allocator + Copy>(
+pub fn put_field<M: Summary<Fields<A>>, H: PathHash, A: Allocator + Copy>(
     alloc: A,
     name: Name,
-    live: &OrMap<A>,
+    live: &LiveOrMap<M, H, A>,
     key: &Key<A>,
     field: &Field<A>,
     value: &Value<A>,
 ) -> Result<(OrMap<A>, Dot), Refusal>
     ensures ok { IfOk result (λ made. (w : Write) ×
-        IsPutAt (or_map_state live.now) name (place_of key.now field.now) value.now w ×
+        IsPutAt (live_state live.now.0) name (place_of key.now field.now) value.now w ×
         Same (or_map_state made.0) (state (Wrote w ∷ [])) × (made.1 ≡ w.id)) }
-    ensures spent { IsErrOf result Refusal.NumbersSpent ↔ IsGreatest name (has live.now.1) (2 ^ 64 - 1) }
+    ensures spent { IsErrOf result Refusal.NumbersSpent ↔ IsGreatest name (has live.now.0.1) (2 ^ 64 - 1) }
     ensures err { IfErr result (λ refusal. (refusal ≡ Refusal.NumbersSpent) ⊎ (refusal ≡ Refusal.OutOfMemory)) }
 {
     let dot = live.context().next(name).ok_or(Refusal::NumbersSpent)?;
@@ -63,17 +67,17 @@ pub fn put_field<A: Allocator + Copy>(
 }
 
 /// The context of the dots that stand at the field of the key.
-fn observed_at<A: Allocator + Copy>(
+fn observed_at<M: Summary<Fields<A>>, H: PathHash, A: Allocator + Copy>(
     alloc: A,
-    live: &OrMap<A>,
+    live: &LiveOrMap<M, H, A>,
     key: &Key<A>,
     field: &Field<A>,
 ) -> Result<Context<A>, Refusal>
     ensures ok { IfOk result (λ context. (d : DotValue) →
-        has context d ≡ is_some ((or_map_state live.now).at (place_of key.now field.now) d)) }
+        has context d ≡ is_some ((live_state live.now.0).at (place_of key.now field.now) d)) }
     ensures err { IsOkUnless result Refusal.OutOfMemory }
 {
-    let Some(standing) = values_at(live, key, field) else {
+    let Some(standing) = values_at(live.store(), key, field) else {
         return Ok(Context::new(alloc));
     };
     standing.dots(alloc)
@@ -81,7 +85,7 @@ fn observed_at<A: Allocator + Copy>(
 
 /// The store that holds the value alone, at the field of the key and the dot.
 /// Its only refusal is OutOfMemory.
-pub fn one_value<A: Allocator + Copy>(
+fn one_value<A: Allocator + Copy>(
     alloc: A,
     dot: Dot,
     key: &Key<A>,

@@ -1,35 +1,37 @@
-ghost use Rattle.std.specs.Prelude.{◌≡◌, ◌↔◌, ℕ, List, Contains, IfOk, OnOk, IsOkUnless};
+ghost use Rattle.std.specs.Prelude.{◌≡◌, ◌↔◌, ℕ, List, length, Contains, IfOk, OnOk, IsOkUnless};
 ghost use Rattle.std.specs.List.{All, flat_map};
 ghost use Rattle.std.specs.Map.{keys_of, values_of};
-ghost use Rattle.causal_join.specs.OrMap.{or_map_state};
 ghost use Rattle.delta_ops.specs.Gathers.{GathersMore, AreEntries};
+ghost use Rattle.delta_ops.specs.LiveMap.{store_state};
 ghost use Rattle.op_model.specs.Meaning.{Stands, StandsWithin, HoldsField, HoldsKey};
 ghost use Rattle.op_model.specs.Place.{place_of};
 ghost use Rattle.op_model.specs.Shown.{IsAscending};
 
-use crate::standing::values_at;
-use causal_join::OrMap;
+use crate::live_or_map::{Fields, LiveStore};
+use crate::standing::{fields_of, values_at};
 use dot_store::{DotFun, Kept};
 use dots::{Field, Key, Refusal, Value};
+use gen_trie::Summary;
+use hash_path::PathHash;
 use std::alloc::{AllocError, Allocator};
 use std::collections::BTreeSet;
 
 /// The distinct values at the field of the key, ascending by bytes. Takes two look-ups, and time and memory in the
 /// values that stand there.
 /// Its only refusal is OutOfMemory.
-pub fn values<A: Allocator + Copy>(
+pub fn values<M: Summary<Fields<A>>, H: PathHash, A: Allocator + Copy>(
     alloc: A,
-    live: &OrMap<A>,
+    store: &LiveStore<M, H, A>,
     key: &Key<A>,
     field: &Field<A>,
 ) -> Result<Vec<Value<A>, A>, Refusal>
     ensures ascending { IfOk result (λ found. IsAscending found.items) }
     ensures held { IfOk result (λ found. (value : List ℕ) →
-        Contains found.items value ↔ Stands (or_map_state live.now) (place_of key.now field.now) value) }
+        Contains found.items value ↔ Stands (store_state store.now) (place_of key.now field.now) value) }
     ensures err { IsOkUnless result Refusal.OutOfMemory }
 {
     let mut found = BTreeSet::new(alloc);
-    if let Some(standing) = values_at(live, key, field) {
+    if let Some(standing) = values_at(store, key, field) {
         gather_values(alloc, &mut found, standing)?;
     }
     Ok(listed(alloc, found)?)
@@ -38,18 +40,18 @@ pub fn values<A: Allocator + Copy>(
 /// The distinct values of the key over all its fields, ascending by bytes. Takes a look-up, and time and memory in what
 /// stands at the key.
 /// Its only refusal is OutOfMemory.
-pub fn values_of_key<A: Allocator + Copy>(
+pub fn values_of_key<M: Summary<Fields<A>>, H: PathHash, A: Allocator + Copy>(
     alloc: A,
-    live: &OrMap<A>,
+    store: &LiveStore<M, H, A>,
     key: &Key<A>,
 ) -> Result<Vec<Value<A>, A>, Refusal>
     ensures ascending { IfOk result (λ found. IsAscending found.items) }
     ensures held { IfOk result (λ found. (value : List ℕ) →
-        Contains found.items value ↔ StandsWithin (or_map_state live.now) key.now value) }
+        Contains found.items value ↔ StandsWithin (store_state store.now) key.now value) }
     ensures err { IsOkUnless result Refusal.OutOfMemory }
 {
     let mut found = BTreeSet::new(alloc);
-    if let Some(fields) = live.store().get(key) {
+    if let Some(fields) = fields_of(store, key) {
         gather_fields(alloc, &mut found, fields.entries())?;
     }
     Ok(listed(alloc, found)?)
@@ -57,37 +59,55 @@ pub fn values_of_key<A: Allocator + Copy>(
 
 /// The fields of the key that hold a value, ascending by bytes. Takes a look-up, and time and memory in their number.
 /// Its only refusal is OutOfMemory.
-pub fn fields<A: Allocator + Copy>(
+pub fn fields<M: Summary<Fields<A>>, H: PathHash, A: Allocator + Copy>(
     alloc: A,
-    live: &OrMap<A>,
+    store: &LiveStore<M, H, A>,
     key: &Key<A>,
 ) -> Result<Vec<Field<A>, A>, Refusal>
     ensures ascending { IfOk result (λ found. IsAscending found.items) }
     ensures held { IfOk result (λ found. (field : List ℕ) →
-        Contains found.items field ↔ HoldsField (or_map_state live.now) key.now field) }
+        Contains found.items field ↔ HoldsField (store_state store.now) key.now field) }
     ensures err { IsOkUnless result Refusal.OutOfMemory }
 {
-    match live.store().get(key) {
+    match fields_of(store, key) {
         Some(fields) => copied_keys(alloc, fields.entries()),
         None => Ok(Vec::new(alloc)),
     }
 }
 
-/// The keys that hold a value at some field, ascending by bytes. Takes time and memory in their number.
+/// The keys that hold a value at some field, ascending by bytes. Takes memory in their number, and time in it and its
+/// logarithm.
 /// Its only refusal is OutOfMemory.
-pub fn keys<A: Allocator + Copy>(alloc: A, live: &OrMap<A>) -> Result<Vec<Key<A>, A>, Refusal>
+pub fn keys<M: Summary<Fields<A>>, H: PathHash, A: Allocator + Copy>(
+    alloc: A,
+    store: &LiveStore<M, H, A>,
+) -> Result<Vec<Key<A>, A>, Refusal>
     ensures ascending { IfOk result (λ found. IsAscending found.items) }
     ensures held { IfOk result (λ found. (key : List ℕ) →
-        Contains found.items key ↔ HoldsKey (or_map_state live.now) key) }
+        Contains found.items key ↔ HoldsKey (store_state store.now) key) }
     ensures err { IsOkUnless result Refusal.OutOfMemory }
 {
-    copied_keys(alloc, live.store().entries())
+    let mut found = BTreeSet::new(alloc);
+    for (key, _) in store.frozen().iter() {
+        found.insert(key.copy(alloc)?)?;
+    }
+    Ok(listed(alloc, found)?)
+}
+
+/// The number of keys that hold a value at some field: of those that `keys` lists. Takes constant time.
+pub fn size<M: Summary<Fields<A>>, H: PathHash, A: Allocator + Copy>(
+    store: &LiveStore<M, H, A>,
+) -> u64
+    ensures { (listed : List (List ℕ)) × IsAscending listed ×
+        ((key : List ℕ) → Contains listed key ↔ HoldsKey (store_state store.now) key) × (result ≡ length listed) }
+{
+    store.frozen().size()
 }
 
 /// Adds the values of a field.
 /// A refused call may have added some.
 /// Its only refusal is OutOfMemory.
-pub fn gather_values<A: Allocator + Copy>(
+fn gather_values<A: Allocator + Copy>(
     alloc: A,
     found: &mut BTreeSet<Value<A>, A>,
     standing: &DotFun<Value<A>, A>,
@@ -105,7 +125,7 @@ pub fn gather_values<A: Allocator + Copy>(
 /// Adds the values of all these fields.
 /// A refused call may have added some.
 /// Its only refusal is OutOfMemory.
-pub fn gather_fields<A: Allocator + Copy>(
+fn gather_fields<A: Allocator + Copy>(
     alloc: A,
     found: &mut BTreeSet<Value<A>, A>,
     fields: &[(Field<A>, DotFun<Value<A>, A>)],
@@ -122,7 +142,7 @@ pub fn gather_fields<A: Allocator + Copy>(
 
 /// What is in a set, in order.
 /// It fails only for want of memory.
-pub fn listed<T: Ord + Drop, A: Allocator + Copy>(
+fn listed<T: Ord + Drop, A: Allocator + Copy>(
     alloc: A,
     found: BTreeSet<T, A>,
 ) -> Result<Vec<T, A>, AllocError>
@@ -133,7 +153,7 @@ pub fn listed<T: Ord + Drop, A: Allocator + Copy>(
 
 /// The keys of these entries, in their order.
 /// Its only refusal is OutOfMemory.
-pub fn copied_keys<K: Kept<A>, S, A: Allocator + Copy>(
+fn copied_keys<K: Kept<A>, S, A: Allocator + Copy>(
     alloc: A,
     entries: &[(K, S)],
 ) -> Result<Vec<K, A>, Refusal>

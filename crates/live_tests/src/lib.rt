@@ -5,6 +5,8 @@
 #[cfg(test)]
 mod drawn;
 #[cfg(test)]
+mod groups;
+#[cfg(test)]
 mod made;
 #[cfg(test)]
 mod operations;

@@ -1,12 +1,12 @@
 // The operations of a replica on its live pair, and what is read of it.
 use causal_join::OrMap;
-use dots::{Field, Key, Name, Refusal, Value};
-use hash_path::Fnv1a;
-use live_map::Live;
-use live_ops::{
+use delta_ops::{
     LiveOrMap, clear, fields, fields_of, keys, put, put_field, remove, remove_field, values,
     values_at, values_of_key,
 };
+use dots::{Field, Key, Name, Refusal, Value};
+use hash_path::Fnv1a;
+use live_map::Live;
 use std::alloc::Global;
 use std::process::Abort;
 use std::test::Fail;
@@ -42,10 +42,10 @@ fn of_three(rt: &impl Abort, alloc: Global) -> Result<LiveOrMap, Refusal> {
 fn counts(alloc: Global, live: &LiveOrMap) -> Result<[usize; 4], Refusal> {
     let key = Key::new(alloc, b"b")?;
     Ok([
-        keys(alloc, live)?.len(),
-        fields(alloc, live, &key)?.len(),
-        values_of_key(alloc, live, &key)?.len(),
-        values(alloc, live, &key, &Field::empty())?.len(),
+        keys(alloc, live.store())?.len(),
+        fields(alloc, live.store(), &key)?.len(),
+        values_of_key(alloc, live.store(), &key)?.len(),
+        values(alloc, live.store(), &key, &Field::empty())?.len(),
     ])
 }
 
@@ -58,8 +58,8 @@ fn what_was_written_is_counted(rt: HostRuntime) -> Result<(), Fail> {
 
 // Whether the keys are a and b, and the values of b are x and y, in this order.
 fn is_in_order(alloc: Global, live: &LiveOrMap) -> Result<bool, Refusal> {
-    let all = keys(alloc, live)?;
-    let values = values_of_key(alloc, live, &Key::new(alloc, b"b")?)?;
+    let all = keys(alloc, live.store())?;
+    let values = values_of_key(alloc, live.store(), &Key::new(alloc, b"b")?)?;
     let keys_ascend = all.len() == 2
         && all[0].bytes() == b"a".as_slice()
         && all[1].bytes() == b"b".as_slice();
@@ -127,8 +127,32 @@ fn a_put_with_no_field_is_at_the_empty_one(rt: HostRuntime) -> Result<(), Fail> 
     let (key, name) = (Key::new(alloc, b"b")?, Name::new(2).ok_or("a name")?);
     let (delta, dot) = put(alloc, name, &live, &key, &Value::new(alloc, b"w")?)?;
     live.join_delta(alloc, &delta)?;
-    let standing = values_at(&live, &key, &Field::empty()).ok_or("a value")?;
+    let standing = values_at(live.store(), &key, &Field::empty()).ok_or("a value")?;
     assert_eq!(rt; (dot.number(), standing.entries().len()), (1, 1));
-    assert!(rt; fields_of(&live, &key).is_some());
+    assert!(rt; fields_of(live.store(), &key).is_some());
+    Ok(())
+}
+
+#[test]
+fn each_of_forty_keys_is_listed(rt: HostRuntime) -> Result<(), Fail> {
+    let alloc = rt.alloc();
+    let mut live: LiveOrMap = Live::new(alloc, Fnv1a);
+    for byte in 0..40u8 {
+        write(&rt, alloc, &mut live, &[byte], b"", b"x")?;
+    }
+    assert_eq!(rt; (keys(alloc, live.store())?.len(), live.store().size()), (40, 40));
+    Ok(())
+}
+
+// How many writes a remove of an absent key observes, and whether its delta knows none.
+fn removed_absent(alloc: Global) -> Result<(u64, bool), Refusal> {
+    let live: LiveOrMap = Live::new(alloc, Fnv1a);
+    let (delta, number) = remove(alloc, &live, &Key::new(alloc, b"a")?)?;
+    Ok((number, delta.context().is_empty()))
+}
+
+#[test]
+fn a_remove_of_an_absent_key_makes_no_operation(rt: HostRuntime) -> Result<(), Fail> {
+    assert_eq!(rt; removed_absent(rt.alloc())?, (0, true));
     Ok(())
 }

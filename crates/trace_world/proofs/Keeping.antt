@@ -9,6 +9,7 @@ use Rattle.std.specs.List.{slice_get}
 use Rattle.std.specs.Ordering.{nat_cmp}
 use Rattle.causal_context.specs.Context.{HasNone}
 use Rattle.delta_ops.specs.Group.{group_state}
+use Rattle.delta_ops.specs.LiveMap.{live_state}
 use Rattle.causal_join.specs.OrMap.{OrMapValue, or_map_state}
 use Rattle.op_model.specs.Meaning.{MapState, greater, state}
 use Rattle.op_model.specs.Operation.{Operation}
@@ -132,8 +133,8 @@ module _ {A : Type 0} where
   alike_means None (Some after) w name alike means = absurd alike
   alike_means (Some before) None w name alike means = absurd alike
   alike_means (Some before) (Some after) w name alike means =
-      means-same (or_map_state before.live) (or_map_state after.live) (group_state before.group) (group_state after.group) w name
-      (rw alike.live (same-itself (or_map_state before.live))) alike.group means
+      means-same (live_state before.live.0) (live_state after.live.0) (group_state before.group) (group_state after.group) w name
+      (rw alike.live (same-itself (live_state before.live.0))) alike.group means
 
   -- the replicas by what is found of them
   pub keeps_same : (old new : BTreeMap ℕ (Replica A)) (messages : List (Vec ℕ A)) (past : List Event) → SameReplicas old new → Keeps old messages past → Keeps new messages past
@@ -146,19 +147,19 @@ module _ {A : Type 0} where
 
   -- what a replica that is there means
   pub means_at : (replicas : BTreeMap ℕ (Replica A)) (messages : List (Vec ℕ A)) (past : List Event) (name : ℕ) (replica : Replica A) → Keeps replicas messages past
-      → get nat_cmp replicas name ≡ Some replica → Means (or_map_state replica.live) (group_state replica.group) (after past) name
+      → get nat_cmp replicas name ≡ Some replica → Means (live_state replica.live.0) (group_state replica.group) (after past) name
   means_at replicas messages past name replica keeps is =
       let P : Option (Replica A) → Type 0 = λ r. Means (live_of r) (group_of r) (after past) name in subst P is (keeps.means name)
 
   pub keeps_node : (old new : BTreeMap ℕ (Replica A)) (messages : List (Vec ℕ A)) (past : List Event) (name : ℕ) (replica : Replica A) → Keeps old messages past
-      → get nat_cmp old name ≡ None → Updates nat_cmp old new name (Some replica) → Same (or_map_state replica.live) (state []) → replica.group ≡ []
+      → get nat_cmp old name ≡ None → Updates nat_cmp old new name (Some replica) → Same (live_state replica.live.0) (state []) → replica.group ≡ []
       → Keeps new messages (past ++ Node name ∷ [])
   keeps_node old new messages past name replica keeps absent updates live group =
       keeps_event old new messages messages past (Node name) keeps
       (λ n apart. updates.2 n (at_is name n ∙ other n apart))
       (let P : Option (Replica A) → Type 0 = λ r. Means (live_of r) (group_of r) (after (past ++ Node name ∷ [])) name in
       subst P (sym updates.1)
-      (means-same bottom (or_map_state replica.live) bottom (group_state replica.group) (after (past ++ Node name ∷ [])) name
+      (means-same bottom (live_state replica.live.0) bottom (group_state replica.group) (after (past ++ Node name ∷ [])) name
       (same-chain _ _ _ live nothing_state) (rw group nothing_state)
       (node_means past name name bottom bottom
       (let Q : Option (Replica A) → Type 0 = λ r. Means (live_of r) (group_of r) (after past) name in subst Q absent (keeps.means name)))))
@@ -183,8 +184,8 @@ module _ {A : Type 0} where
   -- an operation of a replica, whose delta is one with which its pairs mean what they should after the event
   keeps_made : (old new : BTreeMap ℕ (Replica A)) (messages : List (Vec ℕ A)) (past : List Event) (e : Event) (before now : Replica A) (delta : MapState)
       → Keeps old messages past → Replaces old new (replica_of e) before now → Takes before now delta
-      → (Means (or_map_state before.live) (group_state before.group) (after past) (replica_of e)
-      → Means (join greater (or_map_state before.live) delta) (join greater (group_state before.group) delta) (after (past ++ e ∷ [])) (replica_of e))
+      → (Means (live_state before.live.0) (group_state before.group) (after past) (replica_of e)
+      → Means (join greater (live_state before.live.0) delta) (join greater (group_state before.group) delta) (after (past ++ e ∷ [])) (replica_of e))
       → (after (past ++ e ∷ [])).messages ≡ (after past).messages
       → ((n : ℕ) → is_node (after (past ++ e ∷ [])) n ≡ is_node (after past) n)
       → Keeps new messages (past ++ e ∷ [])
@@ -192,7 +193,7 @@ module _ {A : Type 0} where
       keeps_event old new messages messages past e keeps replaces.others
       (let P : Option (Replica A) → Type 0 = λ r. Means (live_of r) (group_of r) (after (past ++ e ∷ [])) (replica_of e) in
       subst P (sym replaces.becomes)
-      (means-same (join greater (or_map_state before.live) delta) (or_map_state now.live) (join greater (group_state before.group) delta) (group_state now.group)
+      (means-same (join greater (live_state before.live.0) delta) (live_state now.live.0) (join greater (group_state before.group) delta) (group_state now.group)
       (after (past ++ e ∷ [])) (replica_of e) takes.live takes.group (means (means_at old messages past (replica_of e) before keeps replaces.was))))
       (λ n. same_there old new (replica_of e) before now replaces n ∙ (keeps.there n ∙ sym (there n)))
       (carries-same messages (after past) (after (past ++ e ∷ [])) same (carries_of old messages past keeps))
@@ -201,22 +202,22 @@ module _ {A : Type 0} where
       → Keeps old messages past → IsOwn past name e delta → Replaces old new name before now → Takes before now delta → Keeps new messages (past ++ e ∷ [])
   keeps_own old new messages past name e before now delta keeps own replaces takes =
       let P : ℕ → Type 0 = λ n. Replaces old new n before now in
-      let Q : ℕ → Type 0 = λ n. Means (or_map_state before.live) (group_state before.group) (after past) n →
-      Means (join greater (or_map_state before.live) delta) (join greater (group_state before.group) delta) (after (past ++ e ∷ [])) n in
+      let Q : ℕ → Type 0 = λ n. Means (live_state before.live.0) (group_state before.group) (after past) n →
+      Means (join greater (live_state before.live.0) delta) (join greater (group_state before.group) delta) (after (past ++ e ∷ [])) n in
       keeps_made old new messages past e before now delta keeps (subst P (sym own.at) replaces) takes
-      (subst Q (sym own.at) (own.means (or_map_state before.live) (group_state before.group))) own.messages own.nodes
+      (subst Q (sym own.at) (own.means (live_state before.live.0) (group_state before.group))) own.messages own.nodes
 
   pub keeps_deliver : (old new : BTreeMap ℕ (Replica A)) (messages : List (Vec ℕ A)) (past : List Event) (name number : ℕ) (pair : OrMapValue) (before now : Replica A)
       → Keeps old messages past → Replaces old new name before now → Same (or_map_state pair) (state (message (after past).messages number))
-      → Same (or_map_state now.live) (join greater (or_map_state before.live) (or_map_state pair)) → now.group ≡ before.group
+      → Same (live_state now.live.0) (join greater (live_state before.live.0) (or_map_state pair)) → now.group ≡ before.group
       → Keeps new messages (past ++ Deliver number name ∷ [])
   keeps_deliver old new messages past name number pair before now keeps replaces means live group =
       keeps_event old new messages messages past (Deliver number name) keeps replaces.others
       (let P : Option (Replica A) → Type 0 = λ r. Means (live_of r) (group_of r) (after (past ++ Deliver number name ∷ [])) name in
       subst P (sym replaces.becomes)
-      (means-same (join greater (or_map_state before.live) (or_map_state pair)) (or_map_state now.live) (group_state before.group) (group_state now.group)
+      (means-same (join greater (live_state before.live.0) (or_map_state pair)) (live_state now.live.0) (group_state before.group) (group_state now.group)
       (after (past ++ Deliver number name ∷ [])) name live (rw group (same-itself (group_state before.group)))
-      (after_deliver past name (or_map_state before.live) (group_state before.group) (means_at old messages past name before keeps replaces.was) number (or_map_state pair) means)))
+      (after_deliver past name (live_state before.live.0) (group_state before.group) (means_at old messages past name before keeps replaces.was) number (or_map_state pair) means)))
       (λ n. same_there old new name before now replaces n ∙ (keeps.there n ∙ sym (ap (λ w. is_node w n) (after-push past (Deliver number name)))))
       (carries-same messages (after past) (after (past ++ Deliver number name ∷ [])) (messages_after past (Deliver number name)) (carries_of old messages past keeps))
 
@@ -230,7 +231,7 @@ module _ {A : Type 0} where
       keeps_event old new messages (messages ++ bytes ∷ []) past (Flush name) keeps replaces.others
       (let P : Option (Replica A) → Type 0 = λ r. Means (live_of r) (group_of r) (after (past ++ Flush name ∷ [])) name in
       subst P (sym replaces.becomes)
-      (rw (sent_now.live, sent_now.empty) (after_flush past name (or_map_state before.live) (group_state before.group) means (state []) (same-itself (state [])))))
+      (rw (sent_now.live, sent_now.empty) (after_flush past name (live_state before.live.0) (group_state before.group) means (state []) (same-itself (state [])))))
       (λ n. same_there old new name before now replaces n ∙ (keeps.there n ∙ sym (ap (λ w. is_node w n) (after-push past (Flush name)))))
       (carries-sent messages bytes ((after past).outgoing name) (after past) (after (past ++ Flush name ∷ []))
       (messages_after past (Flush name) ∙ ap (λ more. (after past).messages ++ more) (sent-some ((after past).outgoing name)
@@ -243,7 +244,7 @@ module _ {A : Type 0} where
       → Keeps replicas messages (past ++ Flush name ∷ [])
   keeps_unsent replicas messages past name replica keeps is unknown =
       let means = means_at replicas messages past name replica keeps is in
-      let none = (group_empty past name (or_map_state replica.live) (group_state replica.group) means).0 unknown in
+      let none = (group_empty past name (live_state replica.live.0) (group_state replica.group) means).0 unknown in
       keeps_event replicas replicas messages messages past (Flush name) keeps (λ n apart. refl)
       (after_flush past name (live_of (get nat_cmp replicas name)) (group_of (get nat_cmp replicas name)) (keeps.means name) (group_of (get nat_cmp replicas name))
       (let Q : List Operation → Type 0 = λ S. Same (group_of (get nat_cmp replicas name)) (state S) in subst Q none (keeps.means name).outgoing))

@@ -1,31 +1,31 @@
 -- Pairs by what they stand for: over plain variables.
 use Rattle.std.proofs.Common.{◌≡◌, ◌||◌, ℕ, List, [], Bool, true, false, Option, Some, None, IsSome, IsTrue, refl, sym, ◌∙◌, ap}
 use Rattle.std.proofs.lemmas.Bool.{false≢true}
-use Rattle.causal_context.specs.Context.{HasNone}
+use Rattle.causal_context.specs.Context.{HasNone, has}
 use Rattle.causal_join.specs.Causal.{state_of}
-use Rattle.causal_join.specs.OrMap.{OrMapValue, or_map_at, or_map_state, path_of}
+use Rattle.causal_join.specs.OrMap.{FieldsValue, OrMapValue, fields_at, or_map_at, or_map_state, path_of}
+use Rattle.delta_ops.specs.LiveMap.{live_state}
+use Rattle.delta_ops.proofs.AsOrMap.{as_entries}
 use Rattle.dots.specs.Dot.{DotValue}
 use Rattle.dot_store.specs.Store.{HasNothing}
 use Rattle.op_model.specs.Meaning.{MapState, greater, state}
-use Rattle.op_model.proofs.Joins.{join-same, same-itself, same-chain}
-use Rattle.op_model.specs.Place.{Place}
+use Rattle.live_map.specs.Live.{PairValue}
 use Rattle.op_model.specs.State.{Same, joined, join, IsInside}
+use Rattle.trie_map.specs.Keyed.{at_keys}
 
--- the join of pairs is that of their states
-pub join-or_map_state : (both p q : OrMapValue) → Same (state_of or_map_at both) (join greater (state_of or_map_at p) (state_of or_map_at q))
-    → Same (or_map_state both) (join greater (or_map_state p) (or_map_state q))
-join-or_map_state both p q same = record { at = λ place dot. same.at (path_of place) dot; has = same.has }
+module _ {Hash : Type 0} where
+  -- the join of a delta into a live pair is that of their states
+  pub join-live : (both live : PairValue Hash FieldsValue) (delta : OrMapValue) → Same (state_of (at_keys fields_at) both) (join greater (state_of (at_keys fields_at) live) (state_of or_map_at delta))
+      → Same (live_state both) (join greater (live_state live) (or_map_state delta))
+  join-live both live delta same = record {
+    at = λ place dot. as_entries both.0 (path_of place) dot ∙ same.at (path_of place) dot
+        ∙ ap (λ own. joined greater own (has live.1 dot) (or_map_at delta.0 (path_of place) dot) (has delta.1 dot)) (sym (as_entries live.0 (path_of place) dot));
+    has = same.has;
+  }
 
--- a pair that holds nothing and knows nothing
-pub bottom_state : (pair : OrMapValue) → HasNothing (or_map_at pair.0) → HasNone pair.1 → Same (or_map_state pair) (state [])
-bottom_state pair nothing unknown = record { at = λ place dot. nothing (path_of place) dot; has = unknown }
-
--- a pair joined with a delta of this meaning
-pub join-delta : (both p delta : OrMapValue) (meaning : MapState) → Same (state_of or_map_at both) (join greater (state_of or_map_at p) (state_of or_map_at delta))
-    → Same (or_map_state delta) meaning → Same (or_map_state both) (join greater (or_map_state p) meaning)
-join-delta both p delta meaning joined same =
-    same-chain (or_map_state both) (join greater (or_map_state p) (or_map_state delta)) (join greater (or_map_state p) meaning) (join-or_map_state both p delta joined)
-    (join-same greater (or_map_state p) (or_map_state delta) (or_map_state p) meaning (same-itself (or_map_state p)) same)
+  -- a live pair that holds nothing and knows nothing
+  pub bottom_live : (live : PairValue Hash FieldsValue) → HasNothing (at_keys fields_at live.0) → HasNone live.1 → Same (live_state live) (state [])
+  bottom_live live nothing unknown = record { at = λ place dot. as_entries live.0 (path_of place) dot ∙ nothing (path_of place) dot; has = unknown }
 
 -- a delta that knows no dot changes nothing
 unknown_at : (own : Option (List ℕ)) (knows : Bool) (held : Option (List ℕ)) (known : Bool) → known ≡ false → (IsSome held → IsTrue known) → own ≡ joined greater own knows held known

@@ -1,25 +1,19 @@
--- Pins: what a map of shown values shows, and that pins stay as more events come.
+-- Pins: what a pin shows, and that pins stay as more events come.
 use Rattle.std.specs.Prelude.{◌≡◌, ◌≤◌, ◌<◌, ◌+◌, ◌-◌, ◌⊎◌, ℕ, zero, suc, Bool, true, false, cond, List, [], ◌∷◌, ◌++◌, map, take, length, refl, Option, Some, None, Result, Ok, Err, Contains, slice_get, slice_index_or, nat_lt, nat_le, ◌↔◌, is_ok, IfOk, IsOkUnless}
 use Rattle.std.specs.List.{All}
 use Rattle.std.specs.Option.{option_map}
 use Rattle.std.proofs.lemmas.Option.{none-some, slice_get_within, get_or_from_slice_get}
 use Rattle.std.proofs.Common.{arith, ap, sym, ◌∙◌, inl, inr, subst, length-append, append-nil}
-use Rattle.std.specs.FinMap as finite
-use Rattle.std.specs.Ordering.{eq_by_cmp}
-use Rattle.std.proofs.lemmas.Bool.{false≢true, cases_Bool, cond-true, cond-false}
-use Rattle.std.proofs.lemmas.Cmp.{nat_list_cmp_total}
-use Rattle.std.proofs.lemmas.List.Elements.{Contains-append_left, Contains-append_right, Contains-append_cases}
+use Rattle.std.proofs.lemmas.Bool.{false≢true, cond-true}
 use Rattle.std.specs.declared.vec.Vec.{Vec}
-use Rattle.dots.specs.Bytes.{bytes_cmp}
-use Rattle.hash_path.proofs.Words.{tied_same, same_tied}
+use Rattle.delta_ops.specs.LiveMap.{live_state, store_state}
+use Rattle.op_model.specs.Meaning.{Stands}
 use Rattle.op_model.specs.Operation.{Operation}
 use Rattle.op_model.specs.Place.{plain}
-use Rattle.op_model.specs.Shown.{values, keys}
-use Rattle.op_model.specs.World.{Event, after}
-use Rattle.op_model.proofs.Members.{at_head, head_or_tail, nothing_in, at_same}
-use Rattle.op_model.proofs.Words.{values-IsShown, fields-IsShown, keys-IsShown}
-use Rattle.op_model.specs.World.{World}
-use Rattle.ctrie_api.specs.Trie.{Trie}
+use Rattle.op_model.specs.Shown.{IsAscending, values}
+use Rattle.op_model.specs.World.{Event, World, after}
+use Rattle.op_model.proofs.Fresh.{seen-NoReuse}
+use Rattle.op_model.proofs.Showing.{values_standing}
 use Rattle.dots.specs.Bytes.{MAX_LENGTH}
 use Rattle.dots.specs.declared.refusal.Refusal.{Refusal}
 use Rattle.dots.specs.declared.refusal.Refusal.TheVariants.{TooLong, OutOfMemory}
@@ -27,99 +21,15 @@ use Rattle.trace_words.specs.Parsed.{command_value}
 use Rattle.trace_words.specs.declared.command.Command as parsed
 use Rattle.trace_words.specs.declared.command.Command.TheVariants as parsed_command
 use Rattle.std.proofs.lemmas.Bool.Decides.{nat_tests}
-use Rattle.std.proofs.lemmas.List.{take_more, take_all, map-append}
+use Rattle.std.proofs.lemmas.List.{take_all, map-append}
 use Rattle.std.proofs.lemmas.List.Elements.{All-tail, All-append}
 use Rattle.trace_words.specs.Command.{CommandValue, Node, Put, Get, Flush, Deliver, Remove, RemoveField, Clear, Fields, Show, Size, Context, Look}
 use Rattle.trace_words.specs.Command as command
 use Rattle.trace_words.specs.Does.{Does, Brings}
 use Rattle.trace_words.specs.Machine.{Past, Told, answer_by, past_by}
 use Rattle.trace_words.specs.Outcome.{Outcome, Refused, Done, outcome_of, is_at_world, pin_at, look_outcome, with_bytes, values_text}
-use Rattle.trace_world.specs.Pins.{Grows, values_in, found_values, Shows, ShowsKeys, pinned, pins_of, IsPinned, AllPinned}
+use Rattle.trace_world.specs.Pins.{Grows, StandsFor, pinned, pins_of, IsPinned, AllPinned}
 use Rattle.trace_world.specs.declared.pin.Pin.{Pin}
-
-module _ {A : Type 0} where
-  values_if : (b : Bool) (found : Vec (List ℕ) A) (x : Option (Vec (List ℕ) A)) → values_in (cond b (Some found) x) ≡ cond b found.items (values_in x)
-  values_if true found x = refl
-  values_if false found x = refl
-
-  -- a map after the values of one key were put
-  pub found_insert : (m n : finite.FinMap bytes_cmp (Vec (List ℕ) A)) (key : List ℕ) (found : Vec (List ℕ) A) (vs : List (List ℕ)) → n ≡ finite.insert m key found → found.items ≡ vs
-      → (q : List ℕ) → found_values n q ≡ cond (eq_by_cmp bytes_cmp q key) vs (found_values m q)
-  found_insert m n key found vs is items q =
-      ap (λ x. found_values x q) is
-      ∙ ap values_in (finite.get-insert nat_list_cmp_total m key found q)
-      ∙ values_if (eq_by_cmp bytes_cmp q key) found (finite.get m q)
-      ∙ ap (λ v. cond (eq_by_cmp bytes_cmp q key) v (found_values m q)) items
-
-  pub shows_none : (seen : List Operation) → ShowsKeys (finite.empty {X = Vec (List ℕ) A} {R = bytes_cmp}) seen []
-  shows_none seen = record {
-    there = λ key h. nothing_in key h;
-    nowhere_else = λ key h. ap values_in (finite.get-empty bytes_cmp key);
-  }
-
-  pub shows_more : (m n : finite.FinMap bytes_cmp (Vec (List ℕ) A)) (seen : List Operation) (ks : List (List ℕ)) (key : List ℕ) → ShowsKeys m seen ks
-      → ((q : List ℕ) → found_values n q ≡ cond (eq_by_cmp bytes_cmp q key) (values seen (plain key)) (found_values m q)) → ShowsKeys n seen (ks ++ key ∷ [])
-  shows_more m n seen ks key before step = record {
-    there = λ q h. elim (cases_Bool (eq_by_cmp bytes_cmp q key)) [
-      | inr f ↦ step q ∙ cond-false (eq_by_cmp bytes_cmp q key) (values seen (plain key)) (found_values m q) f ∙ before.there q (old q f h)
-      | inl t ↦ step q ∙ cond-true (eq_by_cmp bytes_cmp q key) (values seen (plain key)) (found_values m q) t ∙ ap (λ k. values seen (plain k)) (sym (tied_same q key t))
-    ];
-    nowhere_else = λ q h. elim (cases_Bool (eq_by_cmp bytes_cmp q key)) [
-      | inr f ↦ step q ∙ cond-false (eq_by_cmp bytes_cmp q key) (values seen (plain key)) (found_values m q) f ∙ before.nowhere_else q (λ k. h (Contains-append_left ks (key ∷ []) q k))
-      | inl t ↦ absurd (h (Contains-append_right ks (key ∷ []) q (at_same (key ∷ []) key q (sym (tied_same q key t)) (at_head key []))))
-    ];
-  } where
-    old : (q : List ℕ) → eq_by_cmp bytes_cmp q key ≡ false → Contains (ks ++ key ∷ []) q → Contains ks q
-    old q f h = elim (Contains-append_cases ks (key ∷ []) q h) [
-      | inl k ↦ k
-      | inr last ↦ elim (head_or_tail key [] q last) [
-        | inl e ↦ absurd (false≢true (sym f ∙ same_tied q key (sym e)))
-        | inr none_left ↦ nothing_in q none_left
-      ]
-    ]
-
--- a key that shows nothing has no values
-no_values : (seen : List Operation) (key : List ℕ) (found : List (List ℕ)) → found ≡ values seen (plain key) → ¬ (Contains (keys seen) key) → values seen (plain key) ≡ []
-no_values seen key [] is absent = sym is
-no_values seen key (v ∷ vs) is absent =
-    let P : List (List ℕ) → Type 0 = λ xs. Contains xs v in
-    let shown_so = (values-IsShown seen (plain key) v).0 (subst P is (at_head v vs)) in
-    absurd (absent ((keys-IsShown seen key).1 ([], (fields-IsShown seen key []).1 (shown_so.0, shown_so.1))))
-
-module _ {A : Type 0} where
-  pub shows_all : (m : finite.FinMap bytes_cmp (Vec (List ℕ) A)) (seen : List Operation) → ShowsKeys m seen (keys seen) → ((key : List ℕ) → Contains (keys seen) key ⊎ ¬ (Contains (keys seen) key)) → Shows m seen
-  shows_all m seen part decide key = elim (decide key) [
-    | inl k ↦ part.there key k
-    | inr absent ↦ part.nowhere_else key absent ∙ sym (no_values seen key (values seen (plain key)) refl absent)
-  ]
-
--- whether a key is among some keys
-pub is_there_or_not : (ks : List (List ℕ)) (key : List ℕ) → Contains ks key ⊎ ¬ (Contains ks key)
-is_there_or_not [] key = inr (λ h. nothing_in key h)
-is_there_or_not (k ∷ ks) key = elim (cases_Bool (eq_by_cmp bytes_cmp k key)) [
-  | inr f ↦ elim (is_there_or_not ks key) [
-    | inl h ↦ inl (Contains-append_right (k ∷ []) ks key h)
-    | inr absent ↦ inr (λ h. elim (head_or_tail k ks key h) [
-      | inl e ↦ false≢true (sym f ∙ same_tied k key e)
-      | inr t ↦ absent t
-    ])
-  ]
-  | inl t ↦ inl (at_same (k ∷ ks) k key (tied_same k key t) (at_head k ks))
-]
-
-module _ {A : Type 0} where
-  -- the map that is made, before any key and after one more
-  pub shows_start : {H : Type 0} (h : H) (t : Trie H (Vec (List ℕ) A)) (seen : List Operation) → t ≡ record { read_only = false; hash = h; map = finite.empty } → ShowsKeys t.map seen [] × (t.read_only ≡ false)
-  shows_start h t seen is = (subst (λ m. ShowsKeys m seen []) (sym (ap (λ x. x.map) is)) (shows_none seen), ap (λ x. x.read_only) is)
-
-  pub shows_step : (m n : finite.FinMap bytes_cmp (Vec (List ℕ) A)) (seen : List Operation) (ks : List (List ℕ)) (i : ℕ) (key : List ℕ) → i < length ks → key ≡ slice_index_or ks i key → ShowsKeys m seen (take i ks)
-      → ((q : List ℕ) → found_values n q ≡ cond (eq_by_cmp bytes_cmp q key) (values seen (plain key)) (found_values m q)) → ShowsKeys n seen (take (i + 1) ks)
-  shows_step m n seen ks i key within is before step =
-      subst (ShowsKeys n seen) (sym (take_more ks i key within ∙ ap (λ k. take i ks ++ k ∷ []) (sym is))) (shows_more m n seen (take i ks) key before step)
-
-  pub shows_it : (m n : finite.FinMap bytes_cmp (Vec (List ℕ) A)) (seen : List Operation) (ks : List (List ℕ)) → ks ≡ keys seen → n ≡ m → ShowsKeys m seen ks → Shows n seen
-  shows_it m n seen ks all same part =
-      subst (λ x. Shows x seen) (sym same) (shows_all m seen (subst (ShowsKeys m seen) all part) (is_there_or_not (keys seen)))
 
 take_front : {X : Type 0} (n : ℕ) (xs ys : List X) → n ≤ length xs → take n (xs ++ ys) ≡ take n xs
 take_front zero xs ys h = refl
@@ -181,7 +91,7 @@ module _ {A : Type 0} where
   one_later : (events more : List Event) (pin : Pin A) → IsPinned events pin → IsPinned (events ++ more) pin
   one_later events more pin is = record {
     was = let sum = length-append events more in let was = is.was in omega (arith, sum, was);
-    shows = λ key. is.shows key ∙ ap (λ seen. values seen (plain key)) (sym (pinned_later events more pin is.was));
+    stands = subst (StandsFor pin.store) (sym (pinned_later events more pin is.was)) is.stands;
   }
 
   pub all_later : (old new : List Event) (pins : List (Pin A)) → AllPinned old pins → Grows old new → AllPinned new pins
@@ -215,9 +125,9 @@ module _ {A : Type 0} where
   pinned_now events pin age = ap (λ es. (after es).seen pin.name) (take_all pin.age events (omega (arith, age)))
 
   -- one more pin
-  pub all_more : (events : List Event) (pins : List (Pin A)) (pin : Pin A) → AllPinned events pins → pin.age ≡ length events → Shows pin.shown.map ((after events).seen pin.name) → AllPinned events (pins ++ pin ∷ [])
-  all_more events pins pin all age shows = All-append (IsPinned events) pins (pin ∷ []) all
-      (All-one (record { was = omega (arith, age); shows = λ key. shows key ∙ ap (λ seen. values seen (plain key)) (sym (pinned_now events pin age)) }))
+  pub all_more : (events : List Event) (pins : List (Pin A)) (pin : Pin A) → AllPinned events pins → pin.age ≡ length events → StandsFor pin.store ((after events).seen pin.name) → AllPinned events (pins ++ pin ∷ [])
+  all_more events pins pin all age stands = All-append (IsPinned events) pins (pin ∷ []) all
+      (All-one (record { was = omega (arith, age); stands = subst (StandsFor pin.store) (sym (pinned_now events pin age)) stands }))
     where
       All-one : IsPinned events pin → All (IsPinned events) (pin ∷ [])
       All-one h zero d l = h
@@ -236,12 +146,18 @@ module _ {A : Type 0} where
   no_pin events pins zero is = refl
   no_pin events pins (suc n) is = get_map (pinned events) pins n ∙ ap (option_map (pinned events)) (sym (at_number pins n is))
 
-  pub pin_shows : (events : List Event) (pins : List (Pin A)) (n : ℕ) (pin : Pin A) → AllPinned events pins → Some pin ≡ cond (nat_lt 0 n) (slice_get pins (n - 1)) None → Shows pin.shown.map (pinned events pin)
-  pin_shows events pins zero pin all is = absurd (none-some pin (sym is))
-  pin_shows events pins (suc n) pin all is =
+  pub pin_stands : (events : List Event) (pins : List (Pin A)) (n : ℕ) (pin : Pin A) → AllPinned events pins → Some pin ≡ cond (nat_lt 0 n) (slice_get pins (n - 1)) None → StandsFor pin.store (pinned events pin)
+  pin_stands events pins zero pin all is = absurd (none-some pin (sym is))
+  pin_stands events pins (suc n) pin all is =
       let there : slice_get pins n ≡ Some pin = sym (at_number pins n is) in
       let within = slice_get_within pins n pin there in
-      subst (λ p. Shows p.shown.map (pinned events p)) (get_or_from_slice_get pins n pin pin there) (all n pin within).shows
+      subst (λ p. StandsFor p.store (pinned events p)) (get_or_from_slice_get pins n pin pin there) (all n pin within).stands
+
+  -- the values at the empty field in a pin
+  pub pin_shows : (events : List Event) (pin : Pin A) (key : List ℕ) (found : List (List ℕ)) → StandsFor pin.store (pinned events pin) → IsAscending found
+      → ((value : List ℕ) → Contains found value ↔ Stands (store_state pin.store) (plain key) value) → found ≡ values (pinned events pin) (plain key)
+  pin_shows events pin key found stands ascending standing =
+      values_standing (pinned events pin) (plain key) (live_state (pin.store, stands.0)) found (seen-NoReuse (take pin.age events) pin.name) stands.1 ascending standing
 
   pub look_at : (found : Option (List Operation)) (seen : List Operation) (key : List ℕ) (old : Past) (r : Result (Vec ℕ A) Refusal) → found ≡ Some seen
       → Brings (with_bytes key (Done (values_text (values seen (plain key))) [])) old old r → Brings (look_outcome found key) old old r

@@ -7,6 +7,7 @@ use Rattle.std.specs.List.{slice_get}
 use Rattle.std.specs.Ordering.{nat_cmp}
 use Rattle.causal_context.specs.Context.{has}
 use Rattle.delta_ops.specs.Group.{group_state}
+use Rattle.delta_ops.specs.LiveMap.{live_state}
 use Rattle.trace_world.specs.Replaces.{CanSend, HasNothingToSend}
 use Rattle.causal_join.specs.OrMap.{OrMapValue, or_map_state}
 use Rattle.op_model.specs.Meaning.{Stands, StandsWithin, HoldsField, HoldsKey, state}
@@ -14,7 +15,7 @@ use Rattle.op_model.specs.Operation.{Operation, known}
 use Rattle.op_model.specs.Place.{Place}
 use Rattle.op_model.specs.Operation.{has as is_among}
 use Rattle.dots.specs.Dot.{DotValue}
-use Rattle.op_model.specs.Shown.{IsAscending, values, values_of_key, fields, keys}
+use Rattle.op_model.specs.Shown.{IsAscending, values, values_of_key, fields, keys, size}
 use Rattle.op_model.specs.World.{Event, after, is_node, is_message, message}
 use Rattle.op_model.proofs.Events.{group_empty}
 use Rattle.op_model.proofs.Fresh.{seen-NoReuse}
@@ -23,6 +24,7 @@ use Rattle.std.specs.declared.vec.Vec.{Vec}
 use Rattle.wire_form.specs.Message.{MessageValue, Delta, Spells}
 use Rattle.op_model.specs.State.{Same}
 use Rattle.trace_world.specs.Keeps.{Keeps, Carries}
+use Rattle.trace_world.specs.Pins.{StandsFor}
 use Rattle.trace_words.specs.Outcome.{sent_number}
 use Rattle.trace_world.specs.declared.replica.Replica.{Replica}
 use Rattle.trace_world.proofs.Keeping.{means_at}
@@ -38,22 +40,22 @@ module _ {A : Type 0} (replicas : BTreeMap ℕ (Replica A)) (messages : List (Ve
 
   -- the values at a place and of a key, and the fields of a key
   pub values_at_place : (name : ℕ) (place : Place) (replica : Replica A) (found : List (List ℕ)) → Some replica ≡ get nat_cmp replicas name → IsAscending found
-      → ((value : List ℕ) → Contains found value ↔ Stands (or_map_state replica.live) place value) → found ≡ values ((after past).seen name) place
+      → ((value : List ℕ) → Contains found value ↔ Stands (live_state replica.live.0) place value) → found ≡ values ((after past).seen name) place
   values_at_place name place replica found is ascending standing =
       let means = means_at replicas messages past name replica keeps (sym is) in
-      values_standing ((after past).seen name) place (or_map_state replica.live) found (seen-NoReuse past name) means.seen ascending standing
+      values_standing ((after past).seen name) place (live_state replica.live.0) found (seen-NoReuse past name) means.seen ascending standing
 
   pub values_over_fields : (name : ℕ) (key : List ℕ) (replica : Replica A) (found : List (List ℕ)) → Some replica ≡ get nat_cmp replicas name → IsAscending found
-      → ((value : List ℕ) → Contains found value ↔ StandsWithin (or_map_state replica.live) key value) → found ≡ values_of_key ((after past).seen name) key
+      → ((value : List ℕ) → Contains found value ↔ StandsWithin (live_state replica.live.0) key value) → found ≡ values_of_key ((after past).seen name) key
   values_over_fields name key replica found is ascending standing =
       let means = means_at replicas messages past name replica keeps (sym is) in
-      values_of_key_standing ((after past).seen name) key (or_map_state replica.live) found (seen-NoReuse past name) means.seen ascending standing
+      values_of_key_standing ((after past).seen name) key (live_state replica.live.0) found (seen-NoReuse past name) means.seen ascending standing
 
   pub fields_of_key : (name : ℕ) (key : List ℕ) (replica : Replica A) (found : List (List ℕ)) → Some replica ≡ get nat_cmp replicas name → IsAscending found
-      → ((field : List ℕ) → Contains found field ↔ HoldsField (or_map_state replica.live) key field) → found ≡ fields ((after past).seen name) key
+      → ((field : List ℕ) → Contains found field ↔ HoldsField (live_state replica.live.0) key field) → found ≡ fields ((after past).seen name) key
   fields_of_key name key replica found is ascending standing =
       let means = means_at replicas messages past name replica keeps (sym is) in
-      fields_standing ((after past).seen name) key (or_map_state replica.live) found means.seen ascending standing
+      fields_standing ((after past).seen name) key (live_state replica.live.0) found means.seen ascending standing
 
   -- a message that was found is one, and carries what it should
   pub found_message : (number : ℕ) (bytes : Vec ℕ A) → Some bytes ≡ cond (nat_lt 0 number) (slice_get messages (number - 1)) None
@@ -97,18 +99,28 @@ module _ {A : Type 0} (replicas : BTreeMap ℕ (Replica A)) (messages : List (Ve
 
   pub outgoing_none : (name : ℕ) (replica : Replica A) → get nat_cmp replicas name ≡ Some replica → HasNothingToSend replica → (after past).outgoing name ≡ []
   outgoing_none name replica found unknown =
-      (group_empty past name (or_map_state replica.live) (group_state replica.group) (means_at replicas messages past name replica keeps found)).0 unknown
+      (group_empty past name (live_state replica.live.0) (group_state replica.group) (means_at replicas messages past name replica keeps found)).0 unknown
 
   -- the known dots
-  pub known_of : (name : ℕ) (replica : Replica A) → Some replica ≡ get nat_cmp replicas name → (d : DotValue) → has replica.live.1 d ≡ is_among (known ((after past).seen name)) d
+  pub known_of : (name : ℕ) (replica : Replica A) → Some replica ≡ get nat_cmp replicas name → (d : DotValue) → has replica.live.0.1 d ≡ is_among (known ((after past).seen name)) d
   known_of name replica found = let means = means_at replicas messages past name replica keeps (sym found) in means.seen.has
 
   -- the keys
   pub keys_of_all : (name : ℕ) (replica : Replica A) (found : List (List ℕ)) → Some replica ≡ get nat_cmp replicas name → IsAscending found
-      → ((key : List ℕ) → Contains found key ↔ HoldsKey (or_map_state replica.live) key) → found ≡ keys ((after past).seen name)
+      → ((key : List ℕ) → Contains found key ↔ HoldsKey (live_state replica.live.0) key) → found ≡ keys ((after past).seen name)
   keys_of_all name replica found is ascending standing =
       let means = means_at replicas messages past name replica keeps (sym is) in
-      keys_standing ((after past).seen name) (or_map_state replica.live) found means.seen ascending standing
+      keys_standing ((after past).seen name) (live_state replica.live.0) found means.seen ascending standing
+
+  -- how many keys there are
+  pub count_of_all : (name : ℕ) (replica : Replica A) (number : ℕ) → Some replica ≡ get nat_cmp replicas name
+      → (listed : List (List ℕ)) × IsAscending listed × ((key : List ℕ) → Contains listed key ↔ HoldsKey (live_state replica.live.0) key) × (number ≡ length listed)
+      → number ≡ size ((after past).seen name)
+  count_of_all name replica number is (listed, ascending, standing, count) = count ∙ ap length (keys_of_all name replica listed is ascending standing)
+
+  -- the store of a replica stands for what it has seen
+  pub store_stands : (name : ℕ) (replica : Replica A) → Some replica ≡ get nat_cmp replicas name → StandsFor replica.live.0.0 ((after past).seen name)
+  store_stands name replica is = (replica.live.0.1, (means_at replicas messages past name replica keeps (sym is)).seen)
 
 -- the delta that the bytes spell means what they carry
 pub delta_means : (bytes : List ℕ) (delta : OrMapValue) (S : List Operation) → Carries bytes S → ((m : MessageValue) → Spells bytes m → Delta delta ≡ m) → Same (or_map_state delta) (state S)

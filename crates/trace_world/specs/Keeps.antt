@@ -4,6 +4,7 @@ use Rattle.std.specs.BTreeMap.{BTreeMap, get}
 use Rattle.std.specs.List.{slice_get}
 use Rattle.std.specs.Ordering.{nat_cmp}
 use Rattle.delta_ops.specs.Group.{group_state}
+use Rattle.delta_ops.specs.LiveMap.{live_state}
 use Rattle.causal_join.specs.OrMap.{OrMapValue, or_map_state}
 use Rattle.op_model.specs.Meaning.{MapState, greater, state}
 use Rattle.op_model.specs.Place.{place_of}
@@ -34,7 +35,7 @@ bottom = record { at = λ place dot. None; has = λ dot. false }
 -- what a replica holds, and what it is to send: nothing where it is not there
 abbrev pub live_of : {A : Type 0} → Option (Replica A) → MapState
 live_of None = bottom
-live_of (Some replica) = or_map_state replica.live
+live_of (Some replica) = live_state replica.live.0
 
 abbrev pub group_of : {A : Type 0} → Option (Replica A) → MapState
 group_of None = bottom

@@ -5,6 +5,7 @@ use Rattle.std.specs.Ordering.{nat_cmp}
 use Rattle.causal_context.specs.Context.{HasNone}
 use Rattle.dots.specs.Dot.{DotValue}
 use Rattle.delta_ops.specs.Group.{group_state}
+use Rattle.delta_ops.specs.LiveMap.{live_state}
 use Rattle.causal_join.specs.OrMap.{OrMapValue, or_map_state}
 use Rattle.op_model.specs.Meaning.{MapState, greater}
 use Rattle.op_model.specs.State.{Same, join}
@@ -19,7 +20,7 @@ pub record Replaces {A : Type 0} (old new : BTreeMap ℕ (Replica A)) (name : �
 
 -- the replica took this in, into what it holds and into what it is to send
 pub record Takes {A : Type 0} (before after : Replica A) (delta : MapState) : Type 0 where
-  pub live : Same (or_map_state after.live) (join greater (or_map_state before.live) delta)
+  pub live : Same (live_state after.live.0) (join greater (live_state before.live.0) delta)
   pub group : Same (group_state after.group) (join greater (group_state before.group) delta)
 
 -- these bytes spell what the replica has to send, which is something
@@ -40,7 +41,7 @@ HasNothingToSend replica = (dot : DotValue) → (group_state replica.group).has 
 
 -- the replica holds what it held, and what it is to send means the same
 pub record IsAlike {A : Type 0} (before after : Replica A) : Type 0 where
-  pub live : after.live ≡ before.live
+  pub live : after.live.0 ≡ before.live.0
   pub group : Same (group_state after.group) (group_state before.group)
 
 -- either is missing, or both are there and alike

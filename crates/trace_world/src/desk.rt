@@ -1,19 +1,17 @@
 ghost use Rattle.std.specs.Prelude.{◌≡◌, ◌⊎◌, ◌≤◌, ◌<◌, ◌++◌, ◌∷◌, [], Some, None, ℕ, List, length, IfOk, IfErr, OnOk, IsOkUnless, true, false, cond, map, string_bytes, MatchResult};
 ghost use Rattle.std.specs.List.{flat_map};
-ghost use Rattle.dots.specs.Bytes.{bytes_cmp};
-ghost use Rattle.op_model.specs.Place.{place_of, plain};
+ghost use Rattle.op_model.specs.Place.{place_of};
 ghost use Rattle.op_model.specs.Shown.{values, values_of_key, fields};
-ghost use Rattle.std.specs.Ordering.{eq_by_cmp};
 ghost use Rattle.op_model.specs.World.{after, is_node};
 ghost use Rattle.trace_words.specs.Outcome.{Done, Refused, outcome_of, is_at_world, put_text, values_text, node_outcome, put_outcome, get_outcome, flush_outcome, deliver_outcome, remove_outcome, remove_field_outcome, clear_outcome, fields_outcome, show_outcome, size_outcome, context_outcome, entry_text};
-ghost use Rattle.trace_world.specs.Pins.{found_values, Shows, ShowsKeys, Grows};
+ghost use Rattle.trace_world.specs.Pins.{Grows, StandsFor};
 ghost use Rattle.trace_words.specs.Word.{shown_as};
 
 use crate::known::context_answer;
-use crate::pin::Shown;
 use crate::world::World;
-use ctrie_api::Ctrie;
+use delta_ops::LiveStore;
 use dots::{Field, Key, Name, Refusal, Value};
+use gen_trie::NoSummary;
 use hash_path::Fnv1a;
 use std::alloc::{Allocator, Global};
 use std::marker::Model;
@@ -89,41 +87,13 @@ impl<A: Allocator + Copy> Desk<A> {
         }
     }
 
-    /// What the replica of this name shows at the empty field of each key, as a map that is only read.
-    pub fn shown(&self, name: Name) -> Result<Shown<A>, Refusal>
-        ensures ok { IfOk result (λ shown. (is_node (after self.now) name ≡ true) × Shows shown.map ((after self.now).seen name)) }
+    /// The store of the replica of this name as it is, which stays so. UnknownReplica exactly where no replica has the name.
+    pub fn store(&self, name: Name) -> Result<LiveStore<NoSummary, Fnv1a, A>, Refusal>
+        ensures ok { IfOk result (λ store. (is_node (after self.now) name ≡ true) × StandsFor store ((after self.now).seen name)) }
         ensures refused { IfErr result (λ refusal. (refusal ≡ Refusal.OutOfMemory) ⊎
             ((refusal ≡ Refusal.UnknownReplica) × (is_node (after self.now) name ≡ false))) }
     {
-        let keys = self.world.keys(name)?;
-        let mut shown = self.shown_at(name, keys.as_slice())?;
-        shown.read_only_snapshot()
-    }
-
-    /// The values at the empty field of these keys, at a replica that is there.
-    fn shown_at(&self, name: Name, keys: &[Key<A>]) -> Result<Shown<A>, Refusal>
-        requires { is_node (after self.now) name ≡ true }
-        ensures ok { IfOk result (λ shown. ShowsKeys shown.map ((after self.now).seen name) keys.now) }
-        ensures err { IsOkUnless result Refusal.OutOfMemory }
-    {
-        let mut shown = Ctrie::new(self.alloc, Fnv1a);
-        for key in keys {
-            self.show_key(&mut shown, name, key)?;
-        }
-        Ok(shown)
-    }
-
-    /// Puts the values at the empty field of the key, at a replica that is there.
-    fn show_key(&self, shown: &mut Shown<A>, name: Name, key: &Key<A>) -> Result<(), Refusal>
-        requires there { is_node (after self.now) name ≡ true }
-        requires writable { shown.old.read_only ≡ false }
-        ensures ok { OnOk result ((other : List ℕ) → found_values shown.new.map other
-            ≡ cond (eq_by_cmp bytes_cmp other key.now) (values ((after self.now).seen name) (plain key.now)) (found_values shown.old.map other)) }
-        ensures writable { shown.new.read_only ≡ false }
-        ensures err { IsOkUnless result Refusal.OutOfMemory }
-    {
-        let found = self.world.get(name, key, &Field::empty())?;
-        shown.insert(key.copy(self.alloc)?, found)
+        self.world.store(name)
     }
 
     #[tactic(auto, using(crate::proofs::Pinning::grows_same, crate::proofs::Pinning::grows_by))]
@@ -249,8 +219,10 @@ impl<A: Allocator + Copy> Desk<A> {
     fn size(&self, name: Name) -> Result<Vec<u8, A>, Refusal>
         ensures { Does (size_outcome (after self.now) name) self.now self.now result }
     {
-        let keys = self.world.keys(name)?;
-        Ok(size_answer(self.alloc, keys.len() as u64)?.into_bytes())
+        let Some(number) = self.world.size(name) else {
+            return Err(Refusal::UnknownReplica);
+        };
+        Ok(size_answer(self.alloc, number)?.into_bytes())
     }
 
     fn context(&self, name: Name) -> Result<Vec<u8, A>, Refusal>

@@ -8,7 +8,8 @@ ghost use Rattle.trace_words.specs.Outcome.{pin_outcome, look_outcome, pin_at};
 
 use crate::desk::Desk;
 use crate::pin::Pin;
-use dots::{Key, Name, Refusal};
+use delta_ops::values;
+use dots::{Field, Key, Name, Refusal};
 use std::alloc::{Allocator, Global};
 use std::marker::Model;
 use trace_words::{Command, Reply, get_answer, parse, pin_answer, reply_of};
@@ -88,10 +89,10 @@ impl<A: Allocator + Copy> Machine<A> {
     fn pin(&mut self, name: Name) -> Result<Vec<u8, A>, Refusal>
         ensures { Brings (pin_outcome (after self.old.events) self.old.pins name) self.old self.new result }
     {
-        let shown = self.desk.shown(name)?;
+        let store = self.desk.store(name)?;
         let text = pin_answer(self.alloc, self.pins.len() as u64 + 1)?;
         let age = self.desk.age();
-        self.pins.push(Pin { name, age, shown })?;
+        self.pins.push(Pin { name, age, store })?;
         Ok(text.into_bytes())
     }
 
@@ -102,10 +103,8 @@ impl<A: Allocator + Copy> Machine<A> {
             return Err(Refusal::BadLine);
         };
         let key = Key::new(self.alloc, key)?;
-        match pin.shown.lookup(&key) {
-            Some(found) => get_answer(self.alloc, found.as_slice()),
-            None => get_answer(self.alloc, Vec::new(self.alloc).as_slice()),
-        }
+        let found = values(self.alloc, &pin.store, &key, &Field::empty())?;
+        get_answer(self.alloc, found.as_slice())
     }
 }
 

@@ -1,18 +1,16 @@
-use ctrie_api::{Ctrie, NoSummary};
-use dots::{Name, Value};
+use delta_ops::LiveStore;
+use dots::Name;
+use gen_trie::NoSummary;
 use hash_path::Fnv1a;
 use std::alloc::{Allocator, Global};
 
-/// What a replica showed: the distinct values of each key, ascending by bytes.
-pub(crate) type Shown<A> = Ctrie<Vec<Value<A>, A>, Fnv1a, NoSummary, A>;
-
-/// A map that is kept as it was.
+/// A map that is kept as it was: it shares its nodes with the replica's.
 #[derive(Drop)]
 pub(crate) struct Pin<A: Allocator + Copy = Global> {
     /// Whose map it is.
     pub name: Name,
     /// How many events had been accepted then.
     pub age: usize,
-    /// What was shown.
-    pub shown: Shown<A>,
+    /// What the replica held.
+    pub store: LiveStore<NoSummary, Fnv1a, A>,
 }

@@ -1,20 +1,25 @@
 ghost use Rattle.std.specs.Prelude.{◌≡◌, ◌↔◌, ◌++◌, [], IfOk, IfErr, OnErr, OnOk, IsErrOf, IsOkUnless, IfSome, IfNone, false, Some, ℕ, List, Contains, map};
 ghost use Rattle.causal_context.specs.Context.{has, HasNone};
 ghost use Rattle.delta_ops.specs.Group.{group_state};
+ghost use Rattle.delta_ops.specs.LiveMap.{live_state};
 ghost use Rattle.causal_join.specs.OrMap.{or_map_state};
 ghost use Rattle.op_model.specs.State.{Same, join};
 ghost use Rattle.op_model.specs.Meaning.{state, greater};
 
-use causal_join::{Causal, OrMap};
-use delta_ops::Outgoing;
+use causal_join::OrMap;
+use delta_ops::{LiveOrMap, Outgoing};
 use dots::Refusal;
+use gen_trie::NoSummary;
+use hash_path::Fnv1a;
+use live_map::Live;
 use std::alloc::{Allocator, Global};
 use wire_form::{Message, encode};
 
-/// One replica: what it holds, and what it made since it last sent.
+/// One replica: what it holds, and what it made since it last sent. An own operation and a delivery take time in what they
+/// change, times the logarithm of the map, and in the names of the context.
 #[derive(Drop)]
 pub(crate) struct Replica<A: Allocator + Copy = Global> {
-    pub live: OrMap<A>,
+    pub live: LiveOrMap<NoSummary, Fnv1a, A>,
     pub group: Outgoing<A>,
 }
 
@@ -23,11 +28,11 @@ impl<A: Allocator + Copy> Replica<A> {
 
     /// A replica that has seen nothing. Takes no memory.
     pub fn new(alloc: A) -> Replica<A>
-        ensures live { Same (or_map_state result.live) (state []) }
+        ensures live { Same (live_state result.live.0) (state []) }
         ensures group { result.group ≡ [] }
     {
         Replica {
-            live: Causal::bottom(alloc),
+            live: Live::new(alloc, Fnv1a),
             group: Outgoing::new(alloc),
         }
     }
@@ -43,21 +48,22 @@ impl<A: Allocator + Copy> Replica<A> {
         if delta.context().is_empty() {
             return Ok(());
         }
-        let live = self.live.join(alloc, &delta)?;
+        let next = self.live.prepare(alloc, &delta)?;
         self.group.push(alloc, delta)?;
-        self.live = live;
+        self.live.commit(next);
         Ok(())
     }
 
-    /// The replica with what a message held joined into what it holds, and not into what it is to send.
+    /// Joins what a message held into what the replica holds, and not into what it is to send. A refused call changes
+    /// nothing of what they mean.
     pub fn deliver(&mut self, alloc: A, message: &OrMap<A>) -> Result<(), Refusal>
-        ensures ok { OnOk result (Same (or_map_state self.new.live)
-            (join greater (or_map_state self.old.live) (or_map_state message.now))) }
+        ensures ok { OnOk result (Same (live_state self.new.live.0)
+            (join greater (live_state self.old.live.0) (or_map_state message.now))) }
         ensures group { OnOk result (self.new.group ≡ self.old.group) }
-        ensures unchanged { OnErr result (self.new ≡ self.old) }
+        ensures unchanged { OnErr result (IsAlike self.old self.new) }
         ensures refusal { IsOkUnless result Refusal.OutOfMemory }
     {
-        self.live.join_into(alloc, message)
+        self.live.join_delta(alloc, message)
     }
 
     /// The bytes of the message that carries what the replica made since it last sent, or None where it made nothing.

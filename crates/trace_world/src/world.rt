@@ -5,6 +5,7 @@ ghost use Rattle.std.specs.BTreeMap.{get};
 ghost use Rattle.std.specs.Ordering.{nat_cmp};
 ghost use Rattle.causal_context.specs.Context.{has, HasNone, IsGreatest};
 ghost use Rattle.causal_join.specs.OrMap.{or_map_state};
+ghost use Rattle.delta_ops.specs.LiveMap.{live_state};
 ghost use Rattle.dots.specs.Dot.{DotValue};
 ghost use Rattle.op_model.specs.Meaning.{greater, state};
 ghost use Rattle.op_model.specs.State.{Same, join};
@@ -12,9 +13,10 @@ ghost use Rattle.trace_world.specs.Replaces.{Replaces, SameReplicas, Takes, IsSe
 ghost use Rattle.op_model.specs.Place.{place_of};
 ghost use Rattle.op_model.specs.World.{Node, Put, Flush, Deliver, Remove, RemoveField, Clear, after, is_node, is_message};
 ghost use Rattle.op_model.specs.Made.{dot_at, removed_at, field_removed_at, cleared_at};
-ghost use Rattle.op_model.specs.Shown.{values, values_of_key, fields, keys};
+ghost use Rattle.op_model.specs.Shown.{values, values_of_key, fields, keys, size};
 ghost use Rattle.op_model.specs.Operation.{Operation, known, has as is_among};
 ghost use Rattle.trace_world.specs.Keeps.{Carries};
+ghost use Rattle.trace_world.specs.Pins.{StandsFor};
 ghost use Rattle.causal_join.specs.OrMap.{OrMapValue};
 ghost use Rattle.wire_form.specs.Message.{message_of, Delta};
 ghost use Rattle.trace_words.specs.Outcome.{sent_number};
@@ -23,8 +25,12 @@ use crate::event::Event;
 use crate::replica::Replica;
 use causal_context::Context;
 use causal_join::OrMap;
-use delta_ops::{clear, fields, keys, put_field, remove, remove_field, values, values_of_key};
+use delta_ops::{
+    LiveStore, clear, fields, keys, put_field, remove, remove_field, size, values, values_of_key,
+};
 use dots::{Dot, Field, Key, Name, Refusal, Value};
+use gen_trie::NoSummary;
+use hash_path::Fnv1a;
 use std::alloc::{Allocator, Global};
 use std::collections::BTreeMap;
 use std::marker::Model;
@@ -210,7 +216,7 @@ impl<A: Allocator + Copy> World<A> {
             ((refusal ≡ Refusal.UnknownReplica) × (is_node (after self.now) name ≡ false))) }
     {
         match self.replicas.get(&name) {
-            Some(replica) => values(self.alloc, &replica.live, key, field),
+            Some(replica) => values(self.alloc, replica.live.store(), key, field),
             None => Err(Refusal::UnknownReplica),
         }
     }
@@ -224,7 +230,7 @@ impl<A: Allocator + Copy> World<A> {
             ((refusal ≡ Refusal.UnknownReplica) × (is_node (after self.now) name ≡ false))) }
     {
         match self.replicas.get(&name) {
-            Some(replica) => values_of_key(self.alloc, &replica.live, key),
+            Some(replica) => values_of_key(self.alloc, replica.live.store(), key),
             None => Err(Refusal::UnknownReplica),
         }
     }
@@ -238,7 +244,7 @@ impl<A: Allocator + Copy> World<A> {
             ((refusal ≡ Refusal.UnknownReplica) × (is_node (after self.now) name ≡ false))) }
     {
         match self.replicas.get(&name) {
-            Some(replica) => fields(self.alloc, &replica.live, key),
+            Some(replica) => fields(self.alloc, replica.live.store(), key),
             None => Err(Refusal::UnknownReplica),
         }
     }
@@ -252,7 +258,31 @@ impl<A: Allocator + Copy> World<A> {
             ((refusal ≡ Refusal.UnknownReplica) × (is_node (after self.now) name ≡ false))) }
     {
         match self.replicas.get(&name) {
-            Some(replica) => keys(self.alloc, &replica.live),
+            Some(replica) => keys(self.alloc, replica.live.store()),
+            None => Err(Refusal::UnknownReplica),
+        }
+    }
+
+    /// How many keys show a value at a replica. None exactly where no replica has the name. Takes constant time.
+    pub fn size(&self, name: Name) -> Option<u64>
+        ensures some { IfSome result (λ number. (is_node (after self.now) name ≡ true) ×
+            (number ≡ size ((after self.now).seen name))) }
+        ensures none { IfNone result (is_node (after self.now) name ≡ false) }
+    {
+        let replica = self.replicas.get(&name)?;
+        Some(size(replica.live.store()))
+    }
+
+    /// The store of a replica as it is, which stays so. Copies nothing: it takes a reference count. UnknownReplica exactly
+    /// where no replica has the name.
+    pub fn store(&self, name: Name) -> Result<LiveStore<NoSummary, Fnv1a, A>, Refusal>
+        ensures ok { IfOk result (λ store. (is_node (after self.now) name ≡ true) ×
+            StandsFor store ((after self.now).seen name)) }
+        ensures refused { IfErr result (λ refusal. (refusal ≡ Refusal.OutOfMemory) ⊎
+            ((refusal ≡ Refusal.UnknownReplica) × (is_node (after self.now) name ≡ false))) }
+    {
+        match self.replicas.get(&name) {
+            Some(replica) => replica.live.store().share(),
             None => Err(Refusal::UnknownReplica),
         }
     }
@@ -395,7 +425,7 @@ fn deliver_at<A: Allocator + Copy>(
 ) -> Result<(), Refusal>
     requires { IsSome (get nat_cmp replicas.old name) }
     ensures ok { OnOk result ((before : _) × (after : _) × Replaces replicas.old replicas.new name before after ×
-        Same (or_map_state after.live) (join greater (or_map_state before.live) (or_map_state message.now)) × (after.group ≡ before.group)) }
+        Same (live_state after.live.0) (join greater (live_state before.live.0) (or_map_state message.now)) × (after.group ≡ before.group)) }
     ensures refusal { IsOkUnless result Refusal.OutOfMemory }
     ensures err { OnErr result (SameReplicas replicas.old replicas.new) }
 {

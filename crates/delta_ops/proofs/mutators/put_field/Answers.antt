@@ -3,11 +3,13 @@ use Rattle.dots.specs.Dot.{same_dot}
 use Rattle.op_model.specs.Place.{place_of}
 use Rattle.delta_ops.proofs.Puts.{IsDelta, delta_inside, delta_state, put_at_pair, write_of}
 use Rattle.delta_ops.proofs.Stores.{there_from}
+use Rattle.delta_ops.specs.LiveMap.{as_or_map}
+use Rattle.delta_ops.proofs.AsOrMap.{inside_as}
 use Rattle.delta_ops.proofs.mutators.put_field.Goals as goal
 
 pub unwrap-requires : goal.unwrap-requires
 unwrap-requires g c =
-    let delta : IsDelta c.args.live.now (place_of c.args.key.now c.args.field.now) c.args.value.now c.in_ok-dot.dot c.in_ok-store.store c.add.new.self = record {
+    let delta : IsDelta (as_or_map c.args.live.now.0) (place_of c.args.key.now c.args.field.now) c.args.value.now c.in_ok-dot.dot c.in_ok-store.store c.add.new.self = record {
       held = c.in_ok-store.ensures.ok;
       known = λ d. c.in_ok-add.ensures.ok d ∙ ap (λ b. same_dot c.in_ok-dot.dot d || b) (c.in_ok-context.ensures.ok d);
     } in
@@ -15,15 +17,16 @@ unwrap-requires g c =
 
 pub returns-clause-ok : goal.returns-clause-ok
 returns-clause-ok g c =
-    let delta : IsDelta c.args.live.now (place_of c.args.key.now c.args.field.now) c.args.value.now c.in_ok-dot.dot c.in_ok-store.store c.add.new.self = record {
+    let live = as_or_map c.args.live.now.0 in
+    let delta : IsDelta (as_or_map c.args.live.now.0) (place_of c.args.key.now c.args.field.now) c.args.value.now c.in_ok-dot.dot c.in_ok-store.store c.add.new.self = record {
       held = c.in_ok-store.ensures.ok;
       known = λ d. c.in_ok-add.ensures.ok d ∙ ap (λ b. same_dot c.in_ok-dot.dot d || b) (c.in_ok-context.ensures.ok d);
     } in
     let next = rw (c.in_ok-dot.ensures.ok_part, c.context.ensures.value) at c.next.ensures.next in
     let unknown = rw (c.in_ok-dot.ensures.ok_part, c.context.ensures.value) at c.next.ensures.unknown in
     let made = rw c.unwrap.ensures at c.from_parts.ensures.pair in (
-      write_of c.args.live.now c.in_ok-dot.dot (place_of c.args.key.now c.args.field.now) c.args.value.now,
-      put_at_pair c.args.live.now c.args.name (place_of c.args.key.now c.args.field.now) c.args.value.now c.in_ok-dot.dot next,
-      rw made (delta_state _ _ _ _ _ _ delta c.context.ensures.inside unknown),
+      write_of live c.in_ok-dot.dot (place_of c.args.key.now c.args.field.now) c.args.value.now,
+      put_at_pair live c.args.name (place_of c.args.key.now c.args.field.now) c.args.value.now c.in_ok-dot.dot next,
+      rw made (delta_state _ _ _ _ _ _ delta (inside_as c.args.live.now.0 c.context.ensures.inside) unknown),
       refl,
     )

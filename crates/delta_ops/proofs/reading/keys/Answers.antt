@@ -1,19 +1,51 @@
-use Rattle.std.proofs.Common.{ℕ, List, Contains, ◌↔◌, subst, sym}
-use Rattle.std.proofs.lemmas.Result.{IfOk-weaker}
-use Rattle.std.specs.Map.{keys_of}
-use Rattle.causal_join.specs.OrMap.{or_map_state}
+use Rattle.std.proofs.Common.{◌≡◌, ◌↔◌, ℕ, List, Contains, ap, sym, ◌∙◌, subst, ⊎_elim}
+use Rattle.std.specs.BTreeSet.{insert_key}
+use Rattle.dots.specs.Bytes.{bytes_cmp}
+use Rattle.causal_join.specs.OrMap.{fields_at}
+use Rattle.hash_path.specs.Map.{walk}
+use Rattle.op_model.proofs.Ascending.{nothing_ascends}
+use Rattle.op_model.proofs.Members.{nothing_in}
 use Rattle.op_model.specs.Meaning.{HoldsKey}
 use Rattle.op_model.specs.Shown.{IsAscending}
-use Rattle.delta_ops.proofs.Listing.{ascends-from_sorted, keys_hold}
+use Rattle.trie_map.specs.Keyed.{NoStoreIsEmpty}
+use Rattle.trie_map.proofs.Visits.{Visits, visits_none, visits_next, visits_more, visits_all}
+use Rattle.delta_ops.specs.LiveMap.{live_state, no_dots}
+use Rattle.delta_ops.proofs.Keeping.{more_ascend, more_has, more_keeps, more_only, key_holds, holds_fields}
 use Rattle.delta_ops.proofs.reading.keys.Goals as goal
 
+pub loop-key-init : goal.loop-key-init
+loop-key-init g c = (
+  visits_none c.args.store.now.1 (g.H.PathHash.hash_of c.frozen.result.now.hash) c.into_iter-key-iterator.result (Contains c.new-found.result.keys)
+      (c.into_iter-key-iterator.ensures.into_iter_gives ∙ c.iter-key-items.ensures
+      ∙ ap (walk (g.H.PathHash.hash_of c.frozen.result.now.hash)) (c.frozen.ensures.map)),
+  subst IsAscending (sym c.new-found.ensures.empty) nothing_ascends,
+  λ q h. nothing_in q (subst (λ keys. Contains keys q) c.new-found.ensures.empty h),
+)
+
+pub loop-key-preserved : goal.loop-key-preserved
+loop-key-preserved g c =
+    let pair = (c.args.store.now, no_dots) in
+    let map = pair.0.1 in
+    let old = c.loop-key.found.keys in
+    let new = c.insert.new.self.keys in
+    let key = c.in-Some.key.now in
+    let fields = c.in-Some.field-0-1.now in
+    let is : new ≡ insert_key bytes_cmp old key = c.in_ok-insert.ensures.keys ∙ ap (insert_key bytes_cmp old) c.in_ok-copy.ensures.ok in
+    let there = visits_next map c.loop-key.key-iterator c.next.new.self key fields (Contains old) c.loop-key.invariant.0 c.in-Some.ensures.steps in
+    let filled = subst (NoStoreIsEmpty fields_at) (c.frozen.ensures.map) c.frozen.ensures.filled key fields there in (
+      visits_more map c.loop-key.key-iterator c.next.new.self key fields (Contains old) (Contains new) c.loop-key.invariant.0 c.in-Some.ensures.steps (more_has old new key is) (λ q apart was. more_keeps old new key is q was),
+      more_ascend old new key is c.loop-key.invariant.1,
+      λ q h. ⊎_elim (λ (e : q ≡ key). subst (HoldsKey (live_state pair)) (sym e) (key_holds pair key fields there filled)) (λ was. c.loop-key.invariant.2 q was) (more_only old new key is q h),
+    )
+
 pub returns-clause-ascending : goal.returns-clause-ascending
-returns-clause-ascending g c =
-    IfOk-weaker c.copied_keys.result _ _ (λ found is. subst IsAscending (sym is) (ascends-from_sorted (keys_of c.entries.result.now) c.entries.ensures.ordered)) c.copied_keys.ensures.ok
+returns-clause-ascending g c = subst IsAscending (sym c.in_ok-listed.ensures) c.loop-key.invariant.1
 
 pub returns-clause-held : goal.returns-clause-held
-returns-clause-held g c =
-    IfOk-weaker c.copied_keys.result _ _ (λ found is key.
-    let P : List (List ℕ) → Type 0 = λ keys. Contains keys key ↔ HoldsKey (or_map_state c.args.live.now) key in
-    subst P (sym is) (keys_hold c.args.live.now c.entries.result.now c.entries.ensures.filled
-    (rw c.store.ensures.value at c.entries.ensures.held) (rw c.store.ensures.value at c.entries.ensures.only) key)) c.copied_keys.ensures.ok
+returns-clause-held g c = λ key.
+    let pair = (c.args.store.now, no_dots) in
+    subst (λ keys. Contains keys key ↔ HoldsKey (live_state pair) key) (sym c.in_ok-listed.ensures) (
+      c.loop-key.invariant.2 key,
+      λ h. let there = holds_fields pair key h in
+          visits_all pair.0.1 c.loop-key.key-iterator (Contains c.loop-key.found.keys) c.loop-key.invariant.0 c.in-None.ensures.steps.0 key there.0 there.1,
+    )

@@ -1,5 +1,5 @@
 use Rattle.std.proofs.Common.{ℕ, List, Contains, ◌↔◌, subst, sym, ◌∙◌}
-use Rattle.causal_join.specs.OrMap.{or_map_state}
+use Rattle.delta_ops.specs.LiveMap.{as_or_map, live_state, no_dots}
 use Rattle.op_model.specs.Meaning.{Stands}
 use Rattle.op_model.specs.Place.{place_of}
 use Rattle.op_model.specs.Shown.{IsAscending}
@@ -17,11 +17,11 @@ returns-clause-ascending g c =
 
 pub returns-clause-held : goal.returns-clause-held
 returns-clause-held g c value =
-    let P : List (List ℕ) → Type 0 = λ found. Contains found value ↔ Stands (or_map_state c.args.live.now) (place_of c.args.key.now c.args.field.now) value in
+    let P : List (List ℕ) → Type 0 = λ found. Contains found value ↔ Stands (live_state (c.args.store.now, no_dots)) (place_of c.args.key.now c.args.field.now) value in
     subst P (sym c.in_ok-listed.ensures) (elim c.match-values_at.branch [
       | in-Some+in_ok-gather_values w ↦
-          rw w.found-is (gathered_stand c.args.live.now (place_of c.args.key.now c.args.field.now) w.in-Some.standing.now _ (λ d. rw w.in-Some.is at (c.values_at.ensures d))
+          rw w.found-is (gathered_stand (as_or_map (c.args.store.now, no_dots)) (place_of c.args.key.now c.args.field.now) w.in-Some.standing.now _ (λ d. rw w.in-Some.is at (c.values_at.ensures d))
           w.in_ok-gather_values.ensures.entries (gathered_first _ _ _ c.new-found.ensures.empty w.in_ok-gather_values.ensures.ok) value)
       | in_default w ↦
-          rw w.found-is (gathered_nothing c.args.live.now (place_of c.args.key.now c.args.field.now) _ (λ d. rw w.in_default.is at (c.values_at.ensures d)) c.new-found.ensures.empty value)
+          rw w.found-is (gathered_nothing (as_or_map (c.args.store.now, no_dots)) (place_of c.args.key.now c.args.field.now) _ (λ d. rw w.in_default.is at (c.values_at.ensures d)) c.new-found.ensures.empty value)
     ])

@@ -1,5 +1,5 @@
 use Rattle.std.proofs.lemmas.Result.{on_err_weaker}
-use Rattle.trace_world.proofs.ReplicaMaps.{replaces_from, same_from, alike_same}
+use Rattle.trace_world.proofs.ReplicaMaps.{replaces_from, same_from}
 use Rattle.trace_words.proofs.Answering.{OnOk-both}
 use Rattle.trace_world.proofs.world.deliver_at.Goals as goal
 
@@ -15,4 +15,4 @@ pub returns-clause-err : goal.returns-clause-err
 returns-clause-err g c =
     let was = c.in-Some.ensures.value in
     let updates = (c.get_mut.follows.holds c.deliver.new.self).3 c.requires in
-    on_err_weaker c.deliver.result (λ same. same_from c.args.replicas.now (c.get_mut.follows.lender c.deliver.new.self) c.args.name _ _ (alike_same _ _ same) was updates) c.deliver.ensures.unchanged
+    on_err_weaker c.deliver.result (λ alike. same_from c.args.replicas.now (c.get_mut.follows.lender c.deliver.new.self) c.args.name _ _ alike was updates) c.deliver.ensures.unchanged

@@ -8,4 +8,4 @@ returns-in-Some-clause-ok g c =
     rw (← c.self.view_is) (IfOk-both c.fields.result
     (λ listed ascending held.
     (found_node _ _ _ keeps c.args.name c.in-Some.replica.now found, fields_of_key _ _ _ keeps c.args.name c.args.key.now c.in-Some.replica.now listed.items found ascending held))
-    c.fields.ensures.ascending c.fields.ensures.held)
+    c.fields.ensures.ascending (rw c.store.ensures.value at c.fields.ensures.held))

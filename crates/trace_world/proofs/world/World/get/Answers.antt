@@ -9,4 +9,4 @@ returns-in-Some-clause-ok g c =
     rw (← c.self.view_is) (IfOk-both c.values.result
     (λ listed ascending held.
     (found_node _ _ _ keeps c.args.name c.in-Some.replica.now found, values_at_place _ _ _ keeps c.args.name (place_of c.args.key.now c.args.field.now) c.in-Some.replica.now listed.items found ascending held))
-    c.values.ensures.ascending c.values.ensures.held)
+    c.values.ensures.ascending (rw c.store.ensures.value at c.values.ensures.held))

@@ -8,4 +8,4 @@ returns-in-Some-clause-ok g c =
     rw (← c.self.view_is) (IfOk-both c.keys.result
     (λ keys ascending held.
     (found_node _ _ _ keeps c.args.name c.in-Some.replica.now found, keys_of_all _ _ _ keeps c.args.name c.in-Some.replica.now keys.items found ascending held))
-    c.keys.ensures.ascending c.keys.ensures.held)
+    c.keys.ensures.ascending (rw c.store.ensures.value at c.keys.ensures.held))

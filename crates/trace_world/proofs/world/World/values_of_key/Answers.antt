@@ -8,4 +8,4 @@ returns-in-Some-clause-ok g c =
     rw (← c.self.view_is) (IfOk-both c.values_of_key.result
     (λ listed ascending held.
     (found_node _ _ _ keeps c.args.name c.in-Some.replica.now found, values_over_fields _ _ _ keeps c.args.name c.args.key.now c.in-Some.replica.now listed.items found ascending held))
-    c.values_of_key.ensures.ascending c.values_of_key.ensures.held)
+    c.values_of_key.ensures.ascending (rw c.store.ensures.value at c.values_of_key.ensures.held))

@@ -1,0 +1,78 @@
+-- The keys of a map's entries are those that hold something.
+use Rattle.std.proofs.Common.{◌≡◌, ℕ, Bool, true, false, List, [], ◌∷◌, length, Contains, ◌↔◌, Option, None, Some, is_some, IsSome, refl, sym, ap, ◌∙◌}
+use Rattle.std.specs.Prelude.{◌&&◌, T}
+use Rattle.std.specs.declared.cmp.Ordering.{Ordering}
+use Rattle.std.specs.declared.cmp.Ordering.TheVariants.{Less, Equal, Greater}
+use Rattle.std.specs.FinMap as finite
+use Rattle.std.specs.FinMap.{entries_sorted, len-entries}
+use Rattle.std.specs.FinMap.Entries.{is_sorted, below_all}
+use Rattle.std.specs.List.{AllByRecursion}
+use Rattle.std.specs.List.Sorted.{IsStrictlySortedBy}
+use Rattle.std.specs.Map.{keys_of}
+use Rattle.std.specs.Ordering.{eq_by_cmp, is_lt}
+use Rattle.std.proofs.lemmas.Cmp.{eq_by_cmp_equiv, nat_list_cmp_total}
+use Rattle.std.proofs.lemmas.List.{length-map}
+use Rattle.std.proofs.lemmas.Map.Views.{Contains-keys_from_lookup, IsSome-lookup_from_Contains}
+use Rattle.causal_join.specs.OrMap.{FieldsValue, fields_at}
+use Rattle.delta_ops.specs.LiveMap.{live_state}
+use Rattle.delta_ops.proofs.AsOrMap.{lookup_is}
+use Rattle.delta_ops.proofs.Keeping.{key_holds, holds_fields}
+use Rattle.delta_ops.proofs.Listing.{ascends-from_sorted}
+use Rattle.dots.specs.Bytes.{bytes_cmp}
+use Rattle.live_map.specs.Live.{PairValue}
+use Rattle.op_model.proofs.Places.{same_bytes-true}
+use Rattle.op_model.specs.Meaning.{HoldsKey}
+use Rattle.op_model.specs.Shown.{IsAscending}
+use Rattle.trie_map.specs.Keyed.{NoStoreIsEmpty}
+
+front : (a b : Bool) → T (a && b) → T a
+front true b h = tt
+front false b h = h
+
+back : (a b : Bool) → T (a && b) → T b
+back true b h = h
+back false b h = absurd h
+
+is_less : (o : Ordering) → T (is_lt o) → o ≡ Less
+is_less Less h = refl
+is_less Equal h = absurd h
+is_less Greater h = absurd h
+
+-- the keys of ordered entries are in strict order
+all_less : {V : Type 0} (key : List ℕ) (entries : List (List ℕ × V)) → T (below_all bytes_cmp key entries) → AllByRecursion (λ other. bytes_cmp key other ≡ Less) (keys_of entries)
+all_less key [] below = tt
+all_less key (e ∷ entries) below =
+    (is_less (bytes_cmp key e.0) (front (is_lt (bytes_cmp key e.0)) (below_all bytes_cmp key entries) below), all_less key entries (back (is_lt (bytes_cmp key e.0)) (below_all bytes_cmp key entries) below))
+
+sorted_keys : {V : Type 0} (entries : List (List ℕ × V)) → T (is_sorted bytes_cmp entries) → IsStrictlySortedBy bytes_cmp (keys_of entries)
+unfolding IsStrictlySortedBy
+sorted_keys [] sorted = tt
+sorted_keys (e ∷ entries) sorted =
+    (all_less e.0 entries (front (below_all bytes_cmp e.0 entries) (is_sorted bytes_cmp entries) sorted), sorted_keys entries (back (below_all bytes_cmp e.0 entries) (is_sorted bytes_cmp entries) sorted))
+
+some_of : {V : Type 0} (o : Option V) → IsSome o → (v : V) × (o ≡ Some v)
+some_of None h = absurd cc
+some_of (Some v) h = (v, refl)
+
+module _ {Hash : Type 0} (pair : PairValue Hash FieldsValue) where
+  -- the keys of the entries are those that hold something, ascending
+  pub counted_keys : NoStoreIsEmpty fields_at pair.0.1
+      → (listed : List (List ℕ)) × IsAscending listed × ((key : List ℕ) → Contains listed key ↔ HoldsKey (live_state pair) key) × (finite.len pair.0.1 ≡ length listed)
+  counted_keys filled = (
+    keys_of entries,
+    ascends-from_sorted (keys_of entries) (sorted_keys entries (entries_sorted pair.0.1)),
+    λ key. (
+      λ h. let there = entry_of key h in key_holds pair key there.0 there.1 (filled key there.0 there.1),
+      λ h. let there = holds_fields pair key h in in_entries key there.0 there.1,
+    ),
+    len-entries pair.0.1 ∙ sym (length-map entries (λ e. e.0)),
+  )
+    where
+      entries : List (List ℕ × FieldsValue)
+      entries = finite.entries pair.0.1
+
+      entry_of : (key : List ℕ) → Contains (keys_of entries) key → (fields : FieldsValue) × (finite.get pair.0.1 key ≡ Some fields)
+      entry_of key h = some_of (finite.get pair.0.1 key) (sym (ap is_some (lookup_is pair.0.1 key)) ∙ IsSome-lookup_from_Contains {eq = eq_by_cmp bytes_cmp} (eq_by_cmp_equiv nat_list_cmp_total) key entries h)
+
+      in_entries : (key : List ℕ) (fields : FieldsValue) → finite.get pair.0.1 key ≡ Some fields → Contains (keys_of entries) key
+      in_entries key fields is = Contains-keys_from_lookup {eq = eq_by_cmp bytes_cmp} same_bytes-true key entries (ap is_some (lookup_is pair.0.1 key ∙ is))

@@ -1,0 +1,12 @@
+use Rattle.std.proofs.Common.{sym, ap, ◌∙◌}
+use Rattle.std.specs.FinMap as finite
+use Rattle.causal_join.specs.OrMap.{fields_at}
+use Rattle.dot_store.specs.Stores.{at_stores, held_by}
+use Rattle.delta_ops.proofs.AsOrMap.{lookup_is}
+use Rattle.delta_ops.proofs.standing.fields_of.Goals as goal
+
+pub returns : goal.returns
+unfolding at_stores
+returns g c = λ place d.
+    ap (λ o. held_by fields_at o place d)
+    (lookup_is c.args.store.now.1 c.args.key.now ∙ sym c.get.ensures.store)

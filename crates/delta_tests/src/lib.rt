@@ -1,5 +1,0 @@
-// The tests of `delta_ops`, apart from it, so that they are proved without proving it again.
-#![tactic(auto)]
-
-#[cfg(test)]
-mod tests;

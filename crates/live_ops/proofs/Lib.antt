@@ -1,3 +1,0 @@
-pub mod AsOrMap
-pub mod Clearing
-pub mod Keeping
