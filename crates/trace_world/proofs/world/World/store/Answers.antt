@@ -11,4 +11,4 @@ returns-in-Some-clause-ok g c =
     let found = c.in-Some.ensures.value in
     rw (← c.self.view_is) (IfOk-weaker c.share.result _ _
     (λ copy same. (found_node _ _ _ keeps c.args.name c.in-Some.replica.now found,
-    rw (same, c.store-2.ensures.value) (store_stands _ _ _ keeps c.args.name c.in-Some.replica.now found))) c.share.ensures.ok)
+    rw (same, c.store.ensures.value) (store_stands _ _ _ keeps c.args.name c.in-Some.replica.now found))) c.share.ensures.ok)
