@@ -9,7 +9,7 @@ use Rattle.op_model.specs.Meaning.{HoldsKey}
 use Rattle.op_model.specs.Shown.{IsAscending}
 use Rattle.trie_map.specs.Keyed.{NoStoreIsEmpty}
 use Rattle.trie_map.proofs.Visits.{Visits, visits_none, visits_next, visits_more, visits_all}
-use Rattle.delta_ops.specs.LiveMap.{live_state, no_dots}
+use Rattle.delta_ops.specs.LiveMap.{no_dots, store_state}
 use Rattle.delta_ops.proofs.Keeping.{more_ascend, more_has, more_keeps, more_only, key_holds, holds_fields}
 use Rattle.delta_ops.proofs.reading.keys.Goals as goal
 
@@ -24,8 +24,7 @@ loop-key-init g c = (
 
 pub loop-key-preserved : goal.loop-key-preserved
 loop-key-preserved g c =
-    let pair = (c.args.store.now, no_dots) in
-    let map = pair.0.1 in
+    let map = c.args.store.now.1 in
     let old = c.loop-key.found.keys in
     let new = c.insert.new.self.keys in
     let key = c.in-Some.key.now in
@@ -35,7 +34,7 @@ loop-key-preserved g c =
     let filled = subst (NoStoreIsEmpty fields_at) (c.frozen.ensures.map) c.frozen.ensures.filled key fields there in (
       visits_more map c.loop-key.key-iterator c.next.new.self key fields (Contains old) (Contains new) c.loop-key.invariant.0 c.in-Some.ensures.steps (more_has old new key is) (λ q apart was. more_keeps old new key is q was),
       more_ascend old new key is c.loop-key.invariant.1,
-      λ q h. ⊎_elim (λ (e : q ≡ key). subst (HoldsKey (live_state pair)) (sym e) (key_holds pair key fields there filled)) (λ was. c.loop-key.invariant.2 q was) (more_only old new key is q h),
+      λ q h. ⊎_elim (λ (e : q ≡ key). subst (HoldsKey (store_state c.args.store.now)) (sym e) (key_holds (c.args.store.now, no_dots) key fields there filled)) (λ was. c.loop-key.invariant.2 q was) (more_only old new key is q h),
     )
 
 pub returns-clause-ascending : goal.returns-clause-ascending
@@ -43,9 +42,8 @@ returns-clause-ascending g c = subst IsAscending (sym c.in_ok-listed.ensures) c.
 
 pub returns-clause-held : goal.returns-clause-held
 returns-clause-held g c = λ key.
-    let pair = (c.args.store.now, no_dots) in
-    subst (λ keys. Contains keys key ↔ HoldsKey (live_state pair) key) (sym c.in_ok-listed.ensures) (
+    subst (λ keys. Contains keys key ↔ HoldsKey (store_state c.args.store.now) key) (sym c.in_ok-listed.ensures) (
       c.loop-key.invariant.2 key,
-      λ h. let there = holds_fields pair key h in
-          visits_all pair.0.1 c.loop-key.key-iterator (Contains c.loop-key.found.keys) c.loop-key.invariant.0 c.in-None.ensures.steps.0 key there.0 there.1,
+      λ h. let there = holds_fields (c.args.store.now, no_dots) key h in
+          visits_all c.args.store.now.1 c.loop-key.key-iterator (Contains c.loop-key.found.keys) c.loop-key.invariant.0 c.in-None.ensures.steps.0 key there.0 there.1,
     )
