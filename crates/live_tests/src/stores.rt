@@ -118,7 +118,9 @@ fn in_order(rt: &impl Abort, alloc: Global) -> Result<(usize, bool), Refusal> {
     let map = live.store().to_map(alloc)?;
     let mut placed = true;
     for (number, (key, set)) in map.entries().iter().enumerate() {
-        placed = placed && key.bytes() == [number as u8] && set.contains(dot(rt, 1, number as u64 + 1));
+        placed = placed
+            && key.bytes() == [number as u8].as_slice()
+            && set.contains(dot(rt, 1, number as u64 + 1));
     }
     Ok((map.entries().len(), placed))
 }
