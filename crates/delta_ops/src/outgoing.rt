@@ -13,15 +13,16 @@ use causal_join::{Causal, OrMap};
 use dots::Refusal;
 use std::alloc::{Allocator, Global};
 use std::marker::Model;
+use std::sync::Arc;
 
 /// What a replica made since it last sent: a group of deltas.
 ///
 /// It is kept as runs, the oldest first, whose lengths fall as the digits of a binary counter do: a delta takes part
 /// in one join for each time that its run doubles, so that n deltas take as many joins of each entry as n has binary
-/// digits, and no more.
+/// digits, and no more. A run never changes, so that a copy of the group shares all of them.
 #[derive(Drop)]
 pub struct Outgoing<A: Allocator + Copy = Global> {
-    runs: Vec<Run<A>, A>,
+    runs: Vec<Arc<Run<A>, A>, A>,
 }
 
 impl<A: Allocator + Copy> Model for Outgoing<A> {
@@ -70,6 +71,17 @@ impl<A: Allocator + Copy> Outgoing<A> {
         Ok(Some(whole))
     }
 
+    /// The same group. Shares the runs: takes time and memory in their number, which is that of the binary digits of the
+    /// number of deltas.
+    /// Its only refusal is OutOfMemory.
+    pub fn copy(&self, alloc: A) -> Result<Outgoing<A>, Refusal>
+        ensures ok { IfOk result (λ copy. copy ≡ self.now) }
+        ensures err { IsOkUnless result Refusal.OutOfMemory }
+    {
+        let runs = shared(&self.runs, alloc)?;
+        Ok(Outgoing { runs })
+    }
+
     /// Empties the group. Takes no memory.
     pub fn clear(&mut self)
         ensures { self.new ≡ [] }
@@ -79,7 +91,7 @@ impl<A: Allocator + Copy> Outgoing<A> {
 }
 
 /// The join of all runs.
-fn joined<A: Allocator + Copy>(runs: &Vec<Run<A>, A>, alloc: A) -> Result<OrMap<A>, Refusal>
+fn joined<A: Allocator + Copy>(runs: &Vec<Arc<Run<A>, A>, A>, alloc: A) -> Result<OrMap<A>, Refusal>
     ensures ok { IfOk result (λ whole. Same (or_map_state whole) (group_state (groups_of runs.now.items))) }
     ensures err { IsOkUnless result Refusal.OutOfMemory }
 {
@@ -92,7 +104,7 @@ fn joined<A: Allocator + Copy>(runs: &Vec<Run<A>, A>, alloc: A) -> Result<OrMap<
 
 /// Puts the delta at the end, as a run of its own, once the runs before it were joined as far as is due.
 fn push_run<A: Allocator + Copy>(
-    runs: &mut Vec<Run<A>, A>,
+    runs: &mut Vec<Arc<Run<A>, A>, A>,
     alloc: A,
     delta: OrMap<A>,
 ) -> Result<(), Refusal>
@@ -103,15 +115,16 @@ fn push_run<A: Allocator + Copy>(
     ensures err { IsOkUnless result Refusal.OutOfMemory }
 {
     settle(runs, alloc)?;
-    runs.push(Run {
+    let run = Run {
         group: delta,
         deltas: 1,
-    })?;
+    };
+    runs.push(Arc::new(alloc, run)?)?;
     Ok(())
 }
 
 /// Joins the two newest runs as long as the newest is no shorter than the one before it.
-fn settle<A: Allocator + Copy>(runs: &mut Vec<Run<A>, A>, alloc: A) -> Result<(), Refusal>
+fn settle<A: Allocator + Copy>(runs: &mut Vec<Arc<Run<A>, A>, A>, alloc: A) -> Result<(), Refusal>
     ensures same { Same (group_state (groups_of runs.new.items)) (group_state (groups_of runs.old.items)) }
     ensures err { IsOkUnless result Refusal.OutOfMemory }
 {
@@ -122,7 +135,7 @@ fn settle<A: Allocator + Copy>(runs: &mut Vec<Run<A>, A>, alloc: A) -> Result<()
 }
 
 /// Whether the newest run is no shorter than the one before it.
-fn is_due<A: Allocator + Copy>(runs: &[Run<A>]) -> bool
+fn is_due<A: Allocator + Copy>(runs: &[Arc<Run<A>, A>]) -> bool
     ensures { IsTrue result → 2 ≤ length runs.now }
 {
     match runs {
@@ -132,7 +145,10 @@ fn is_due<A: Allocator + Copy>(runs: &[Run<A>]) -> bool
 }
 
 /// Joins the two newest runs into one, where there are two.
-fn join_newest<A: Allocator + Copy>(runs: &mut Vec<Run<A>, A>, alloc: A) -> Result<(), Refusal>
+fn join_newest<A: Allocator + Copy>(
+    runs: &mut Vec<Arc<Run<A>, A>, A>,
+    alloc: A,
+) -> Result<(), Refusal>
     ensures same { Same (group_state (groups_of runs.new.items)) (group_state (groups_of runs.old.items)) }
     ensures fewer { OnOk result (2 ≤ length runs.old.items → length runs.new.items < length runs.old.items) }
     ensures err { IsOkUnless result Refusal.OutOfMemory }
@@ -140,20 +156,51 @@ fn join_newest<A: Allocator + Copy>(runs: &mut Vec<Run<A>, A>, alloc: A) -> Resu
     let Some(newest) = runs.pop() else {
         return Ok(());
     };
-    let Some(mut older) = runs.pop() else {
+    let Some(older) = runs.pop() else {
         runs.push(newest).unwrap();
         return Ok(());
     };
-    let done = group(alloc, &mut older.group, &newest.group);
-    match done {
-        Ok(()) => {
-            older.deltas = older.deltas.saturating_add(newest.deltas);
-            runs.push(older).unwrap();
+    match both_of(alloc, &older, &newest) {
+        Ok(both) => {
+            runs.push(both).unwrap();
+            Ok(())
         }
-        Err(_) => {
+        Err(refusal) => {
             runs.push(older).unwrap();
             runs.push(newest).unwrap();
+            Err(refusal)
         }
     }
-    done
+}
+
+/// The run of the deltas of both.
+fn both_of<A: Allocator + Copy>(
+    alloc: A,
+    older: &Run<A>,
+    newest: &Run<A>,
+) -> Result<Arc<Run<A>, A>, Refusal>
+    ensures ok { IfOk result (λ both. Same (or_map_state both.value.group)
+        (join greater (or_map_state older.now.group) (or_map_state newest.now.group))) }
+    ensures err { IsOkUnless result Refusal.OutOfMemory }
+{
+    let both = Run {
+        group: older.group.join(alloc, &newest.group)?,
+        deltas: older.deltas.saturating_add(newest.deltas),
+    };
+    Ok(Arc::new(alloc, both)?)
+}
+
+/// The same runs.
+fn shared<A: Allocator + Copy>(
+    runs: &Vec<Arc<Run<A>, A>, A>,
+    alloc: A,
+) -> Result<Vec<Arc<Run<A>, A>, A>, Refusal>
+    ensures ok { IfOk result (λ copies. groups_of copies.items ≡ groups_of runs.now.items) }
+    ensures err { IsOkUnless result Refusal.OutOfMemory }
+{
+    let mut copies = Vec::new(alloc);
+    for run in runs {
+        copies.push(Arc::try_clone(run)?)?;
+    }
+    Ok(copies)
 }

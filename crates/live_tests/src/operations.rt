@@ -140,7 +140,10 @@ fn each_of_forty_keys_is_listed(rt: HostRuntime) -> Result<(), Fail> {
     for byte in 0..40u8 {
         write(&rt, alloc, &mut live, &[byte], b"", b"x")?;
     }
-    assert_eq!(rt; (keys(alloc, live.store())?.len(), live.store().size()), (40, 40));
+    assert_eq!(rt;
+        (keys(alloc, live.store())?.len(), live.store().size()),
+        (40, 40)
+    );
     Ok(())
 }
 

@@ -101,3 +101,32 @@ fn a_join_takes_in_what_only_the_other_side_has(rt: HostRuntime) -> Result<(), F
     assert_eq!(rt; both.frozen().size(), 2);
     Ok(())
 }
+
+// The pair of forty keys, the dot of a key's number plus one at each.
+fn of_forty(rt: &impl Abort, alloc: Global) -> Result<Live<DotSet>, Refusal> {
+    let mut live: Live<DotSet> = Live::new(alloc, Fnv1a);
+    for number in 0..40u8 {
+        let one = dot(rt, 1, number as u64 + 1);
+        live.join_delta(alloc, &written(alloc, &[number], one, &[one])?)?;
+    }
+    Ok(live)
+}
+
+// How many keys the map in order has, and whether each is at its place with its dot.
+fn in_order(rt: &impl Abort, alloc: Global) -> Result<(usize, bool), Refusal> {
+    let live = of_forty(rt, alloc)?;
+    let map = live.store().to_map(alloc)?;
+    let mut placed = true;
+    for (number, (key, set)) in map.entries().iter().enumerate() {
+        placed = placed
+            && key.bytes() == [number as u8].as_slice()
+            && set.contains(dot(rt, 1, number as u64 + 1));
+    }
+    Ok((map.entries().len(), placed))
+}
+
+#[test]
+fn the_map_of_forty_keys_is_in_their_order(rt: HostRuntime) -> Result<(), Fail> {
+    assert_eq!(rt; in_order(&rt, rt.alloc())?, (40, true));
+    Ok(())
+}

@@ -1,3 +1,4 @@
 pub mod Visits
 pub mod Holding
 pub mod Written
+pub mod Copied

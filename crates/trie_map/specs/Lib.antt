@@ -1,2 +1,3 @@
 pub mod Keyed
 pub mod Joined
+pub mod Copied

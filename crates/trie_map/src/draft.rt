@@ -1,5 +1,7 @@
 ghost use Rattle.std.specs.Prelude.{◌≡◌, IfOk, OnOk, OnErr, IsOkUnless};
 ghost use Rattle.causal_context.specs.Context.{has};
+ghost use Rattle.dot_store.specs.Store.{HoldsSame, state_with};
+ghost use Rattle.op_model.specs.State.{join};
 ghost use Rattle.trie_map.specs.Joined.{JoinsAt};
 ghost use Rattle.trie_map.specs.Keyed.{NoStoreIsEmpty};
 
@@ -55,6 +57,8 @@ impl<S: DotStore<A>, M: Summary<S>, H: PathHash, A: Allocator + Copy> Draft<S, M
     ) -> Result<(), Refusal>
         ensures hash { self.new.0 ≡ self.old.0 }
         ensures ok { OnOk result (JoinsAt S.at S.greater self.old.1 self.new.1 key.now mine.now (has own.now) yours.now (has theirs.now)) }
+        ensures kept { HoldsSame (S.at mine.now) (join S.greater (state_with (S.at mine.now) (has own.now))
+            (state_with (S.at yours.now) (has theirs.now))).at → self.new ≡ self.old }
         ensures unchanged { OnErr result (self.new ≡ self.old) }
         ensures err { IsOkUnless result Refusal.OutOfMemory }
     {

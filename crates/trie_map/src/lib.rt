@@ -3,6 +3,7 @@
 // Offered to the crates above: it holds what a `DotMap` of the same stores holds, and is a dot store by the same laws.
 #![tactic(auto, unfolding(crate::specs::Keyed::at_keys))]
 
+mod copying;
 mod draft;
 mod joining;
 mod same;

@@ -3,15 +3,18 @@ ghost use Rattle.std.specs.FinMap as finite;
 ghost use Rattle.std.specs.Option.{option_copied};
 ghost use Rattle.causal_context.specs.Context.{has};
 ghost use Rattle.dot_store.specs.Store.{HasNothing, HoldsSame, state_with};
+ghost use Rattle.dot_store.specs.Stores.{at_stores};
+ghost use Rattle.dots.specs.Bytes.{bytes_cmp};
 ghost use Rattle.dots.specs.Dot.{DotValue};
 ghost use Rattle.op_model.specs.State.{join};
 ghost use Rattle.trie_map.specs.Keyed.{at_keys, NoStoreIsEmpty};
 
+use crate::copying::{copies, listed};
 use crate::draft::Draft;
 use crate::joining::{join_others, join_own};
 use crate::same::is_within;
 use causal_context::Context;
-use dot_store::DotStore;
+use dot_store::{DotMap, DotStore};
 use dots::{Dot, Key, Refusal};
 use gen_trie::{Frozen, NoSummary, Summary};
 use hash_path::{Fnv1a, PathHash};
@@ -98,6 +101,18 @@ impl<S: DotStore<A>, M: Summary<S>, H: PathHash, A: Allocator + Copy> TrieMap<S,
     {
         let entries = self.entries.copy()?;
         Ok(TrieMap { entries })
+    }
+
+    /// The same stores in a map in the order of the keys. Takes time and memory in all stores, and time in the logarithm of
+    /// their number.
+    /// Its only refusal is OutOfMemory.
+    pub fn to_map(&self, alloc: A) -> Result<DotMap<Key<A>, S, A>, Refusal>
+        ensures ok { IfOk result (λ map. HoldsSame (at_stores S.at bytes_cmp map) (at_keys S.at self.now)) }
+        ensures err { IsOkUnless result Refusal.OutOfMemory }
+    {
+        let copies = copies(alloc, self)?;
+        let entries = listed(alloc, copies)?;
+        Ok(DotMap::from_entries(entries).unwrap())
     }
 
     /// A draft that holds what this map does, and is written in its place. Copies no node: it takes a reference count, and

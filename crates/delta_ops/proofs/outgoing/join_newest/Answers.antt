@@ -1,3 +1,4 @@
+use Rattle.std.proofs.Common.{refl}
 use Rattle.delta_ops.proofs.Groups.{runs-joined, runs-restored}
 use Rattle.delta_ops.proofs.outgoing.join_newest.Goals as goal
 
@@ -6,8 +7,7 @@ returns-in-Ok-clause-same g c =
     let was = rw c.in-Some.is at c.pop.ensures.items in
     let before = rw c.in-Some-pop.is at c.pop-2.ensures.items in
     let becomes = rw c.unwrap-in-Ok.ensures at c.push-in-Ok.ensures.items in
-    let is = rw c.in-Ok.is at c.group-done.ensures.ok in
-    runs-joined c.args.runs.now.items c.pop.new.self.items c.pop-2.new.self.items c.push-in-Ok.new.self.items c.in-Some-pop.older c.in-Some.newest _ was before becomes is
+    runs-joined c.args.runs.now.items c.pop.new.self.items c.pop-2.new.self.items c.push-in-Ok.new.self.items c.in-Some-pop.older c.in-Some.newest c.in-Ok.both was before becomes (rw (c.deref.ensures, c.deref-2.ensures) at c.in-Ok.ensures.ok)
 
 pub returns-in-Err-clause-same : goal.returns-in-Err-clause-same
 returns-in-Err-clause-same g c =
@@ -15,5 +15,4 @@ returns-in-Err-clause-same g c =
     let before = rw c.in-Some-pop.is at c.pop-2.ensures.items in
     let first = rw c.unwrap-in-Err.ensures at c.push-in-Err.ensures.items in
     let second = rw c.unwrap-in-Err-2.ensures at c.push-in-Err-2.ensures.items in
-    let kept = rw c.in-Err.is at c.group-done.ensures.unchanged in
-    runs-restored c.args.runs.now.items c.pop.new.self.items c.pop-2.new.self.items c.push-in-Err.new.self.items c.push-in-Err-2.new.self.items c.in-Some-pop.older _ c.in-Some.newest was before first second kept
+    runs-restored c.args.runs.now.items c.pop.new.self.items c.pop-2.new.self.items c.push-in-Err.new.self.items c.push-in-Err-2.new.self.items c.in-Some-pop.older c.in-Some-pop.older c.in-Some.newest was before first second refl
