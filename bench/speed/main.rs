@@ -9,6 +9,7 @@ unsafe extern "C" {
     fn measure_trie(keys: *const u64, count: usize, step: u32, times: u32) -> u64;
     fn measure_decode(bytes: *const u8, length: usize, times: u32) -> u64;
     fn measure_encode(bytes: *const u8, length: usize, times: u32) -> u64;
+    fn measure_live(keys: *const u64, count: usize, step: u32, times: u32) -> u64;
     fn measure_stores(keys: *const u64, count: usize, step: u32, times: u32) -> u64;
     fn clock_gettime(clock: i32, time: *mut Time) -> i32;
 }
@@ -137,13 +138,7 @@ fn step_of(run: impl Fn(u32, u32) -> f64, repeats: Repeats, step: u32) -> (f64, 
     )
 }
 
-const STEPS: [&str; 5] = [
-    "lookup",
-    "remove",
-    "iterate",
-    "share",
-    "share, write again",
-];
+const STEPS: [&str; 5] = ["lookup", "remove", "iterate", "share", "share, write again"];
 
 fn tries(count: usize, repeats: Repeats) {
     let keys = random_keys(count);
@@ -283,7 +278,84 @@ fn stores(count: u64, times: u32) {
     println!("  the same with maps of std  {:8.3}", plain / all);
 }
 
+/// Values of 16 bytes by key, as a map of std: puts all keys, and then overwrites, removes or reads each.
+fn plain_values(keys: &[u64], step: u32) {
+    let value = || black_box([118_u8; 16]).to_vec();
+    let mut map: BTreeMap<Vec<u8>, Vec<u8>> = BTreeMap::new();
+    for key in keys {
+        map.insert(key.to_be_bytes().to_vec(), value());
+    }
+    for key in keys {
+        let key = black_box(key.to_be_bytes().to_vec());
+        match step {
+            1 => drop(map.insert(key, value())),
+            2 => drop(map.remove(&key)),
+            3 => drop(black_box(map.get(&key).cloned())),
+            _ => {}
+        }
+    }
+    drop(black_box(map));
+}
+
+/// Operations on a live pair of so many keys, and what it takes in.
+fn live(count: usize) {
+    let keys = random_keys(count);
+    let runs = (100_000 / count).max(1);
+    let ours = |step, times| {
+        seconds(|| {
+            for _ in 0..runs {
+                let number = unsafe { measure_live(keys.as_ptr(), keys.len(), step, times) };
+                assert_ne!(number, u64::MAX, "want of memory");
+            }
+        })
+    };
+    let plain = |step| seconds(|| (0..runs).for_each(|_| plain_values(&keys, step)));
+    let scale = 1e6 / (count * runs) as f64;
+    let filled = ours(0, 0);
+    let plain_filled = plain(0);
+    println!(
+        "a live pair of {count} keys of 8 bytes, values of 16: microseconds each, and a BTreeMap's"
+    );
+    println!(
+        "  put of a new key       {:8.3} {:8.3}",
+        filled * scale,
+        plain_filled * scale
+    );
+    for (step, name) in [(1, "overwrite"), (2, "remove"), (3, "get")] {
+        let each = (ours(step, 0) - filled) * scale;
+        println!(
+            "  {name:22} {each:8.3} {:8.3}",
+            (plain(step) - plain_filled) * scale
+        );
+    }
+    println!(
+        "  share and size         {:8.3}",
+        (ours(4, 0) - filled) * scale
+    );
+    let (unsent, sent, again) = (ours(5, 0), ours(5, 1), ours(5, 2));
+    println!("  encode of a put        {:8.3}", (unsent - filled) * scale);
+    println!("  deliver of a put       {:8.3}", (sent - unsent) * scale);
+    println!("  deliver of it again    {:8.3}", (again - sent) * scale);
+    println!(
+        "  deliver of a remove    {:8.3}",
+        (ours(6, 1) - ours(6, 0)) * scale
+    );
+    let bytes = counting::most_live(&|| {
+        assert_ne!(
+            unsafe { measure_live(keys.as_ptr(), keys.len(), 0, 0) },
+            u64::MAX
+        )
+    });
+    println!(
+        "  bytes a key            {:8.1}",
+        bytes as f64 / count as f64
+    );
+}
+
 fn main() {
+    for count in [1_000, 10_000, 100_000] {
+        live(count);
+    }
     stores(10_000, 100);
     tries(100_000, Repeats { times: 5, runs: 2 });
     tries(1_000_000, Repeats { times: 5, runs: 3 });
