@@ -107,15 +107,36 @@ fn changed(alloc: Global, bytes: &[u8], at: usize, byte: u8) -> Result<Vec<u8>, 
     Ok(changed)
 }
 
-// The store with this value at this field of the key a, under this dot.
-fn holding(alloc: Global, field: &[u8], dot: Dot, value: &[u8]) -> Result<OrMapStore, Refusal> {
+// The store with this value alone, under this dot.
+fn written(alloc: Global, dot: Dot, value: &[u8]) -> Result<DotFun<Value>, Refusal> {
     let mut values = DotFun::empty(alloc);
     values.insert(dot, Value::new(alloc, value)?)?;
+    Ok(values)
+}
+
+// The store with these values at this field alone.
+fn at_field(
+    alloc: Global,
+    field: &[u8],
+    values: DotFun<Value>,
+) -> Result<DotMap<Field, DotFun<Value>>, Refusal> {
     let mut fields = DotMap::empty(alloc);
     fields.insert(Field::new(alloc, field)?, values)?;
+    Ok(fields)
+}
+
+// The store with these fields at the key a alone.
+fn at_key(alloc: Global, fields: DotMap<Field, DotFun<Value>>) -> Result<OrMapStore, Refusal> {
     let mut store = DotMap::empty(alloc);
     store.insert(Key::new(alloc, b"a")?, fields)?;
     Ok(store)
+}
+
+// The store with this value at this field of the key a, under this dot.
+fn holding(alloc: Global, field: &[u8], dot: Dot, value: &[u8]) -> Result<OrMapStore, Refusal> {
+    let values = written(alloc, dot, value)?;
+    let fields = at_field(alloc, field, values)?;
+    at_key(alloc, fields)
 }
 
 // The store with x at this field of the key a, under the first dot of replica 1.

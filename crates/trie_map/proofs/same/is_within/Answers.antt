@@ -1,4 +1,5 @@
 use Rattle.std.proofs.Common.{refl, sym, ap, ◌∙◌, subst}
+use Rattle.std.proofs.lemmas.Bool.{false≢true}
 use Rattle.hash_path.specs.Map.{walk}
 use Rattle.trie_map.specs.Keyed.{NoStoreIsEmpty}
 use Rattle.trie_map.proofs.Visits.{visits_none, visits_next, visits_more, visits_all}
@@ -18,7 +19,7 @@ returns-then-not-same g c =
     let key = c.in-Some.key.now in
     let store = c.in-Some.store.now in
     let there = visits_next mine c.loop-key.key-iterator c.next.new.self key store (IsHeldBy at mine yours) c.loop-key.invariant c.in-Some.ensures.steps in (
-      λ t. absurd (cc t),
+      λ t. absurd (false≢true t),
       λ all. c.if-not-same.ensures.1 (not_held_by at mine yours key store c.in-Some-get.other.now there (sym c.in-Some-get.ensures.store) (all key)),
     )
 
@@ -30,7 +31,7 @@ returns-in-None-get g c =
     let key = c.in-Some.key.now in
     let store = c.in-Some.store.now in
     let there = visits_next mine c.loop-key.key-iterator c.next.new.self key store (IsHeldBy at mine yours) c.loop-key.invariant c.in-Some.ensures.steps in (
-      λ t. absurd (cc t),
+      λ t. absurd (false≢true t),
       λ all. absurd (not_held_where_none at mine yours key store there (subst (NoStoreIsEmpty at) c.frozen.ensures.map c.frozen.ensures.filled) (sym c.in-None-get.ensures.store) (all key)),
     )
 

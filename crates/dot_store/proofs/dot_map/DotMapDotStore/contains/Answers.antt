@@ -1,6 +1,7 @@
 use Rattle.std.proofs.Common.{◌≡◌, None, sym, ap, ◌∙◌, subst, refl, arith}
 use Rattle.dot_store.specs.Store.{HoldsDot}
 use Rattle.dot_store.specs.Stores.{at_stores}
+use Rattle.std.proofs.lemmas.Bool.{true≢false}
 use Rattle.ordered_list.proofs.Places.{items_more}
 use Rattle.dot_store.proofs.Stores.{holds_from_item, absent_from_items}
 use Rattle.dot_store.proofs.dot_map.DotMapDotStore.contains.Goals as goal
@@ -13,6 +14,9 @@ returns-then-contains-clause-found g c = λ _.
     subst (λ l. HoldsDot (at_stores g.S.DotStore.at g.K.Ord.cmp l) c.args.dot) all
     (holds_from_item g.S.DotStore.at g.K.Ord.cmp g.met.K.Ord.total es c.loop-store.store-index c.loop-store-item.result c.entries-store-items.ensures.ordered c.loop-store-test.true c.loop-store-item.is c.args.dot
     (c.if-contains.ensures.found refl))
+
+pub returns-then-contains-clause-absent : goal.returns-then-contains-clause-absent
+returns-then-contains-clause-absent g c = λ answer. absurd (true≢false answer)
 
 pub loop-store-preserved : goal.loop-store-preserved
 unfolding at_stores

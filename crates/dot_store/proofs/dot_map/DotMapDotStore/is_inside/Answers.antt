@@ -3,6 +3,7 @@ use Rattle.std.specs.Prelude.{IsSome, IsTrue, is_some}
 use Rattle.dots.specs.Dot.{DotValue}
 use Rattle.causal_context.specs.Context.{has}
 use Rattle.dot_store.specs.Stores.{at_stores}
+use Rattle.std.proofs.lemmas.Bool.{false≢true}
 use Rattle.ordered_list.proofs.Places.{items_more}
 use Rattle.dot_store.proofs.Stores.{held_from_item, item_from_held}
 use Rattle.dot_store.proofs.dot_map.DotMapDotStore.is_inside.Goals as goal
@@ -16,7 +17,7 @@ returns-then-not-is_inside g c =
     let all : es ≡ c.args.self.now = c.entries-store-items.ensures.all ∙ c.self.view_is in
     let e = c.loop-store-item.result in
     let held = held_from_item at cmp g.met.K.Ord.total es c.loop-store.store-index e c.entries-store-items.ensures.ordered c.loop-store-test.true c.loop-store-item.is in (
-      λ t. absurd (cc t),
+      λ t. absurd (false≢true t),
       λ inside. c.if-not-is_inside.ensures.1 (λ place d h. inside (e.0, place) d (subst (λ l. IsSome (at_stores at cmp l (e.0, place) d)) all (ap is_some (held place d) ∙ h))),
     )
 

@@ -1,7 +1,8 @@
 use Rattle.std.proofs.Common.{◌∙◌, ap}
 use Rattle.std.specs.FinMap as finite
 use Rattle.gen_trie.specs.Shown.{shown}
-use Rattle.gen_trie.proofs.Puts.{ok_so, either_so}
+use Rattle.hash_path.specs.Map.{as_map}
+use Rattle.gen_trie.proofs.Puts.{ok_so, err_so, either_so}
 use Rattle.gen_trie.proofs.Roots.{IsTrie-put, IsTrie-same, insert_is}
 use Rattle.gen_trie.proofs.trie.GenTrie.insert.Goals as goal
 
@@ -22,3 +23,7 @@ returns-clause-ok g c =
     (λ is. ap (λ m. shown c.self.inside.hash m c.self.inside.generation) (insert_is f c.self.inside.root c.insert_at.new.root c.self.inside.count c.hash-hash.result c.args.key c.args.value c.self.invariant hashed is)
     ∙ ap (λ x. shown x.hash (finite.insert x.map c.args.key c.args.value) x.generation) c.self.view_is)
     c.insert_at.ensures.ok
+
+pub returns-clause-same : goal.returns-clause-same
+returns-clause-same g c =
+    err_so c.insert_at.result (λ same. ap (λ entries. shown c.self.inside.hash (as_map entries) c.self.inside.generation) same ∙ c.self.view_is) c.insert_at.ensures.same

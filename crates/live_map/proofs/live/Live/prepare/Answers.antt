@@ -1,12 +1,38 @@
-use Rattle.std.proofs.Common.{◌∙◌, ap, sym, subst}
+use Rattle.std.proofs.Common.{◌≡◌, ◌||◌, ◌∙◌, ap, sym, subst}
 use Rattle.std.specs.Prelude.{IsSome, is_some}
 use Rattle.causal_context.specs.Context.{has}
+use Rattle.causal_join.proofs.Pairs.{inside-same, inside-has, inside-join}
+use Rattle.causal_join.specs.Causal.{state_of}
 use Rattle.dot_store.specs.Stores.{at_stores}
 use Rattle.dots.specs.Bytes.{bytes_cmp}
+use Rattle.dots.specs.Dot.{DotValue}
+use Rattle.op_model.specs.State.{join, Same}
 use Rattle.trie_map.specs.Keyed.{at_keys}
 use Rattle.live_map.specs.Index.{IsIndexed}
 use Rattle.live_map.proofs.Changing.{indexed_join, held_named}
 use Rattle.live_map.proofs.live.Live.prepare.Goals as goal
+
+-- what the context of the prepared pair knows
+known : (g : _) (c : goal.After-into_places g) (dot : DotValue) → has c.union.new.self dot ≡ has c.self.inside.context dot || has c.args.delta.now.1 dot
+known g c dot =
+    c.in_ok-union.ensures.ok dot ∙ ap (λ b. b || has c.context.result.now dot) (sym (c.in_ok-context.ensures.ok dot))
+    ∙ ap (λ x. has c.self.inside.context dot || has x dot) c.context.ensures.value
+
+pub returns-clause-ok : goal.returns-clause-ok
+returns-clause-ok g c =
+    let at = at_keys g.S.DotStore.at {Hash = g.row.H.Denot} in
+    let theirs = state_of (at_stores g.S.DotStore.at bytes_cmp) c.args.delta.now in
+    subst (λ live. Same (state_of at (c.in_ok-store.store, c.union.new.self)) (join g.S.DotStore.greater (state_of at live.0) theirs)) c.self.view_is
+    (record { at = c.in_ok-store.ensures.ok; has = known g c })
+
+pub invariant_of-result : goal.invariant_of-result
+invariant_of-result g c =
+    let at = at_keys g.S.DotStore.at {Hash = g.row.H.Denot} in
+    let own = state_of at (c.self.inside.store, c.self.inside.context) in
+    let theirs = state_of (at_stores g.S.DotStore.at bytes_cmp) c.args.delta.now in
+    let both = join g.S.DotStore.greater own theirs in
+    inside-same (at c.in_ok-store.store) both.at (has c.union.new.self) c.in_ok-store.ensures.ok
+    (inside-has both.at (has c.union.new.self) both.has (known g c) (inside-join g.S.DotStore.greater own theirs c.self.invariant.0 c.context.ensures.inside))
 
 pub returns-clause-fits : goal.returns-clause-fits
 returns-clause-fits g c =

@@ -5,6 +5,9 @@ use Rattle.trie_map.specs.Joined.{AreJoined}
 use Rattle.trie_map.proofs.Written.{if_ok, map_joined}
 use Rattle.trie_map.proofs.trie_map.TrieMapDotStore.join.Goals as goal
 
+pub join_others-requires : goal.join_others-requires
+join_others-requires g c = c.in_ok-join_own.ensures.ok
+
 pub returns-clause-ok : goal.returns-clause-ok
 returns-clause-ok g c =
     let at = g.S.DotStore.at in
