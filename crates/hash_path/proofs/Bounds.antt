@@ -1,8 +1,8 @@
 -- No index of a path is greater than the greatest that a child can have there.
-use Rattle.std.proofs.Common.{◌≡◌, ℕ, zero, suc, ◌+◌, ◌^◌, ◌<◌, ◌≤◌, List, [], ◌∷◌, length, drop, get_or, Bool, true, false, cond, nat_eq, arith, refl, sym, ◌∙◌, ap, subst, eqb-true}
+use Rattle.std.proofs.Common.{◌≡◌, ℕ, zero, suc, ◌+◌, ◌^◌, ◌<◌, ◌≤◌, List, [], ◌∷◌, length, drop, get_or, Bool, true, false, cond, nat_eq, arith, refl, sym, subst, eqb-true}
 use Rattle.hash_path.specs.Path.{last_index}
 use Rattle.hash_path.specs.Word.{word}
-use Rattle.hash_path.specs.Map.{path, key_of, HashedBy}
+use Rattle.hash_path.specs.Map.{key_of, HashedBy}
 use Rattle.hash_path.specs.Summary.{under_index, under_prefix}
 
 -- a word of which so many indices were gone through already

@@ -21,18 +21,18 @@ named_appended old now fs made p e s = subst (λ (m : NamedValue). Appends named
 
 -- ---- items behind one another, with no count
 
-module _ {X : Type 0} (item : X → List ℕ) where
-  pub next_behind : (old now new : List ℕ) (xs : List X) (i : ℕ) (x : X) → now ≡ old ++ flat_map item (take i xs) → i < length xs → x ≡ get_or xs i x → new ≡ now ++ item x
+module _ {X Y : Type 0} (item : X → List Y) where
+  pub next_behind : (old now new : List Y) (xs : List X) (i : ℕ) (x : X) → now ≡ old ++ flat_map item (take i xs) → i < length xs → x ≡ get_or xs i x → new ≡ now ++ item x
       → new ≡ old ++ flat_map item (take (i + 1) xs)
   next_behind old now new xs i x p h is q =
-      q ∙ ap (λ (t : List ℕ). t ++ item x) p ∙ flat_map_more item old (take i xs) x
+      q ∙ ap (λ (t : List Y). t ++ item x) p ∙ flat_map_more item old (take i xs) x
       ∙ ap (λ (ys : List X). old ++ flat_map item ys) (ap (λ (y : X). take i xs ++ y ∷ []) is ∙ sym (take_more xs i x h))
 
-  pub all_behind : (old now : List ℕ) (xs : List X) (i : ℕ) → now ≡ old ++ flat_map item (take i xs) → length xs ≤ i → now ≡ old ++ flat_map item xs
+  pub all_behind : (old now : List Y) (xs : List X) (i : ℕ) → now ≡ old ++ flat_map item (take i xs) → length xs ≤ i → now ≡ old ++ flat_map item xs
   all_behind old now xs i p h = p ∙ ap (λ (ys : List X). old ++ flat_map item ys) (take_all i xs h)
 
-  pub next_read : (old now new : List ℕ) (xs : List X) (i : ℕ) (d : X) → now ≡ old ++ flat_map item (take i xs) → i < length xs → new ≡ now ++ item (get_or xs i d)
+  pub next_read : (old now new : List Y) (xs : List X) (i : ℕ) (d : X) → now ≡ old ++ flat_map item (take i xs) → i < length xs → new ≡ now ++ item (get_or xs i d)
       → new ≡ old ++ flat_map item (take (i + 1) xs)
   next_read old now new xs i d p h q =
-      q ∙ ap (λ (t : List ℕ). t ++ item (get_or xs i d)) p ∙ flat_map_more item old (take i xs) (get_or xs i d)
+      q ∙ ap (λ (t : List Y). t ++ item (get_or xs i d)) p ∙ flat_map_more item old (take i xs) (get_or xs i d)
       ∙ ap (λ (ys : List X). old ++ flat_map item ys) (sym (take_more xs i d h))
