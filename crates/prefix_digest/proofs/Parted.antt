@@ -1,21 +1,19 @@
 -- The page at a prefix, by the part of the walk there.
-use Rattle.std.proofs.Common.{◌≡◌, ◌⊎◌, ⊎_elim, ℕ, zero, suc, ◌+◌, ◌-◌, ◌^◌, ◌<◌, ◌≤◌, List, [], ◌∷◌, ◌++◌, length, map, Some, None, refl, sym, ap, ◌∙◌, subst, arith}
+use Rattle.std.proofs.Common.{◌≡◌, ◌⊎◌, ⊎_elim, ℕ, zero, suc, ◌+◌, ◌-◌, ◌^◌, ◌<◌, ◌≤◌, List, [], ◌∷◌, ◌++◌, length, Some, None, refl, sym, ap, ◌∙◌, subst, arith}
 use Rattle.std.specs.declared.option.Option.{Option}
 use Rattle.std.specs.Option.{option_map}
 use Rattle.std.specs.FinMap as finite
-use Rattle.std.specs.List.{flat_map}
 use Rattle.std.proofs.lemmas.List.{length-map}
 use Rattle.dots.specs.Bytes.{bytes_cmp}
-use Rattle.dots.specs.Dot.{DotValue}
 use Rattle.causal_join.specs.OrMap.{FieldsValue}
-use Rattle.wire_form.specs.Page.{EntryValue, PageValue, OneKey, Keys, Branch}
+use Rattle.wire_form.specs.Page.{EntryValue, OneKey, Keys, Branch}
 use Rattle.hash_path.specs.Path.{last_index}
 use Rattle.hash_path.specs.Word.{key_in}
 use Rattle.hash_path.specs.Map.{by_key, by_path, walk_under}
 use Rattle.hash_path.specs.Summary.{under_index, under_prefix, one_present, present}
 use Rattle.hash_path.proofs.Parts.{HashedBy-by_path, walk_part}
 use Rattle.hash_path.proofs.Bounds.{none_past}
-use Rattle.prefix_digest.specs.Page.{named_fields, named_entry, named_entries, digest_of, page, page_under, page_at, digest_at}
+use Rattle.prefix_digest.specs.Page.{named_entry, named_entries, digest_of, page, page_under, page_at, digest_at}
 use Rattle.prefix_digest.proofs.Digests.{keyed_named, index_named, prefix_named}
 
 -- ---- children that are present, one after another
@@ -35,7 +33,7 @@ module _ {M : Type 0} where
   pub present_next : (n : ℕ) (f : ℕ → Option M) (old new : List (ℕ × M)) (o : Option M) → old ≡ present 0 n f → o ≡ f n → new ≡ old ++ one_present n o [] → new ≡ present 0 (n + 1) f
   present_next n f old new o was is now =
       let next : suc n ≡ n + 1 = omega arith in
-      now ∙ (λ t. was t ++ one_present n (is t) []) ∙ sym (present_more 0 n n f refl) ∙ ap (λ k. present 0 k f) next
+      now ∙ (λ t. was t ++ one_present n (is t) []) ∙ sym (present_more 0 n n f (omega arith)) ∙ ap (λ k. present 0 k f) next
 
   present_same : (i n : ℕ) (f g : ℕ → Option M) → ((j : ℕ) → f j ≡ g j) → present i n f ≡ present i n g
   present_same i n f g h = λ t. present i n (λ j. h j t)
@@ -59,7 +57,7 @@ page_further (j ∷ p) i (suc below) es h =
 
 -- ---- by how many entries there are
 
-no_entries : {V : Type 0} (height : ℕ) (es : List (List ℕ × V)) → by_key height es ≡ [] → es ≡ []
+pub no_entries : {V : Type 0} (height : ℕ) (es : List (List ℕ × V)) → by_key height es ≡ [] → es ≡ []
 no_entries height [] e = refl
 no_entries height (x ∷ es) e = let long : suc (length (by_key height es)) ≡ 0 = ap length e in absurd (omega (arith, long))
 

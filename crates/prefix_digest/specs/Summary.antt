@@ -1,5 +1,5 @@
 -- Digests as the three calls of a summary.
-use Rattle.std.specs.Prelude.{ℕ, List, map}
+use Rattle.std.specs.Prelude.{map}
 use Rattle.causal_join.specs.OrMap.{FieldsValue}
 use Rattle.wire_form.specs.Page.{PageValue, OneKey, Keys, Branch}
 use Rattle.hash_path.specs.Summary.{Calls}

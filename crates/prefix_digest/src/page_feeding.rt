@@ -56,11 +56,7 @@ fn feed_named<A: Allocator + Copy>(hasher: &mut Sha256, fields: &NamedFields<A>)
     }
 }
 
-fn feed_named_entry<A: Allocator + Copy>(
-    hasher: &mut Sha256,
-    key: &Key<A>,
-    fields: &NamedFields<A>,
-)
+fn feed_named_entry<A: Allocator + Copy>(hasher: &mut Sha256, key: &Key<A>, fields: &NamedFields<A>)
     ensures { Takes hasher.old hasher.new (form.entry (key.now, fields.now)) }
 {
     feed_text(hasher, key.bytes());

@@ -201,7 +201,10 @@ fn write_values<A: Allocator + Copy>(
     Ok(())
 }
 
-pub(crate) fn write_text<A: Allocator + Copy>(out: &mut Vec<u8, A>, bytes: &[u8]) -> Result<(), Refusal>
+pub(crate) fn write_text<A: Allocator + Copy>(
+    out: &mut Vec<u8, A>,
+    bytes: &[u8],
+) -> Result<(), Refusal>
     requires { length bytes.now ≤ MAX_LENGTH }
     ensures ok { OnOk result (Appends part.text part.IsText out.old.items out.new.items bytes.now) }
     ensures err { IsOkUnless result Refusal.OutOfMemory }
@@ -226,7 +229,10 @@ fn write_name<A: Allocator + Copy>(out: &mut Vec<u8, A>, name: Name) -> Result<(
     write_number(out, name.number())
 }
 
-pub(crate) fn write_number<A: Allocator + Copy>(out: &mut Vec<u8, A>, value: u64) -> Result<(), Refusal>
+pub(crate) fn write_number<A: Allocator + Copy>(
+    out: &mut Vec<u8, A>,
+    value: u64,
+) -> Result<(), Refusal>
     ensures ok { OnOk result (Appends number IsNumber out.old.items out.new.items value) }
     ensures err { IsOkUnless result Refusal.OutOfMemory }
 {

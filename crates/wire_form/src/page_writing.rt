@@ -33,10 +33,7 @@ pub(crate) fn write_page<A: Allocator + Copy>(
     }
 }
 
-fn write_names<A: Allocator + Copy>(
-    out: &mut Vec<u8, A>,
-    names: &Names<A>,
-) -> Result<(), Refusal>
+fn write_names<A: Allocator + Copy>(out: &mut Vec<u8, A>, names: &Names<A>) -> Result<(), Refusal>
     ensures ok { OnOk result (Appends form.names form.AreNames out.old.items out.new.items names.now) }
     ensures err { IsOkUnless result Refusal.OutOfMemory }
 {
@@ -115,10 +112,7 @@ fn write_child<A: Allocator + Copy>(
     write_digest(out, digest)
 }
 
-fn write_digest<A: Allocator + Copy>(
-    out: &mut Vec<u8, A>,
-    digest: &[u8; 32],
-) -> Result<(), Refusal>
+fn write_digest<A: Allocator + Copy>(out: &mut Vec<u8, A>, digest: &[u8; 32]) -> Result<(), Refusal>
     ensures ok { OnOk result (Appends form.digest form.IsDigest out.old.items out.new.items digest.now) }
     ensures err { IsOkUnless result Refusal.OutOfMemory }
 {

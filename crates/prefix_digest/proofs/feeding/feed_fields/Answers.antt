@@ -1,5 +1,4 @@
-use Rattle.std.proofs.Common.{◌≡◌, ℕ, List, ◌++◌, length, take, sym, ap, ◌∙◌, subst}
-use Rattle.std.specs.List.{flat_map}
+use Rattle.std.proofs.Common.{ℕ, List, length, ap, subst}
 use Rattle.causal_join.specs.OrMap.{ValuesValue, FieldsValue}
 use Rattle.wire_form.specs.Spelling.{number, pair}
 use Rattle.wire_form.specs.Parts.{text}

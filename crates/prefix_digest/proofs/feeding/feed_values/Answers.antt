@@ -1,5 +1,4 @@
-use Rattle.std.proofs.Common.{◌≡◌, ℕ, List, ◌++◌, length, take, sym, ap, ◌∙◌, subst}
-use Rattle.std.specs.List.{flat_map}
+use Rattle.std.proofs.Common.{ℕ, List, length, subst}
 use Rattle.sha2.specs.Sha256.{sha256}
 use Rattle.dots.specs.Dot.{DotValue}
 use Rattle.causal_join.specs.OrMap.{ValuesValue}

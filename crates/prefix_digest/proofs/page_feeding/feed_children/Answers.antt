@@ -1,4 +1,4 @@
-use Rattle.std.proofs.Common.{[], ◌∷◌}
+use Rattle.std.proofs.Common.{[]}
 use Rattle.wire_form.specs.Page.{child}
 use Rattle.prefix_digest.proofs.Taken.{takes_none, takes_both, more_taken, all_taken}
 use Rattle.prefix_digest.proofs.page_feeding.feed_children.Goals as goal
