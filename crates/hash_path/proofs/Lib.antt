@@ -15,3 +15,4 @@ pub mod Walks
 pub mod Absences
 pub mod Paths
 pub mod Parts
+pub mod Bounds

@@ -171,6 +171,10 @@ module _ {V : Type 0} (f : List ℕ → ℕ) where
   pub walk_under_is : (p : List ℕ) (es : List (List ℕ × V)) → length p ≤ 7 → HashedBy f es → T (is_sorted bytes_cmp es) → walk_under f p (as_map es) ≡ by_key (7 - length p) (under_prefix p es)
   walk_under_is p es short h s = ap (filter (λ e. begins p (path f e.0))) (walk_is f es h s) ∙ keyed_part p es h ∙ sym (part_is p 7 es short)
 
+  -- and so are those of any map
+  pub walk_part : (p : List ℕ) (m : finite.FinMap bytes_cmp V) → length p ≤ 7 → walk_under f p m ≡ by_key (7 - length p) (under_prefix p (by_path f m))
+  walk_part p m short = keyed_part p (by_path f m) (HashedBy-by_path f m) ∙ sym (part_is p 7 (by_path f m) short)
+
 -- ---- what it is to begin with a prefix
 
 same_first : (i j : ℕ) (p q : List ℕ) → i ∷ p ≡ j ∷ q → (i ≡ j) × (p ≡ q)

@@ -1,6 +1,9 @@
 -- Paths, after Prokopec, Bronson, Bagwell and Odersky, "Concurrent Tries with Efficient Non-Blocking Snapshots" (2012):
 -- the index at the level lev is (hash >> lev) & 31, for lev = 0, 5, .. 30. So a hash of 32 bits has seven indices,
 -- the last of them from 0 to 3.
+use Rattle.std.specs.declared.cmp.Ordering.{Ordering}
+use Rattle.std.specs.Ordering.{nat_cmp}
+use Rattle.std.specs.Cmp.Lexicographic.{slice_cmp}
 use Rattle.std.specs.Prelude.{ℕ, zero, suc, ◌+◌, ◌*◌, ◌/◌, ◌%◌, ◌^◌, List, [], ◌∷◌, cond, nat_lt}
 
 -- the index at a depth from 0 to 6
@@ -20,3 +23,7 @@ packed (index ∷ path) = index + 32 * packed path
 -- the greatest index that a child at this depth can have
 abbrev pub last_index : ℕ → ℕ
 last_index depth = cond (nat_lt depth 6) 31 3
+
+-- the order of prefixes: at the first index that differs, and a beginning of a prefix comes before the prefix
+abbrev pub prefix_cmp : List ℕ → List ℕ → Ordering
+prefix_cmp = slice_cmp nat_cmp

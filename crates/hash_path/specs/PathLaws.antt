@@ -1,9 +1,10 @@
--- The indices of a hash give back its bits. Of this project.
-use Rattle.std.specs.Prelude.{◌≡◌, ℕ, zero, suc, ◌+◌, ◌*◌, ◌/◌, ◌%◌, ◌^◌, ◌<◌, ◌≤◌, [], ◌∷◌, ◌++◌, length, refl}
+-- The indices of a hash give back its bits, and a hash has 32 of them. Of this project.
+use Rattle.std.specs.Prelude.{◌≡◌, ℕ, zero, suc, ◌+◌, ◌*◌, ◌/◌, ◌%◌, ◌^◌, ◌<◌, ◌≤◌, List, [], ◌∷◌, ◌++◌, length, refl}
 use Rattle.std.proofs.Common.{sym, ◌∙◌, ap, arith}
 use Rattle.std.proofs.lemmas.Nat.{mod-pow-add, pow-add}
 use Rattle.std.proofs.Math.Nat.{mod-eq_of_lt}
 use Rattle.hash_path.specs.Path.{indices, packed, last_index}
+use Rattle.hash_path.specs.Fnv1a.{fnv1a, fnv1a_step, fnv1a_from}
 
 pub length-indices : (depth bits : ℕ) → length (indices depth bits) ≡ depth
 length-indices zero bits = refl
@@ -84,3 +85,15 @@ child_below depth bits index less b =
   where
     more : (d : ℕ) → 5 * (d + 1) ≡ 5 * d + 5
     more d = omega arith
+
+-- ---- a hash has 32 bits
+
+pub low_bits : (n : ℕ) → n % 2 ^ 32 < 2 ^ 32
+low_bits n = omega arith
+
+fnv1a_from_bounded : (hash : ℕ) (bytes : List ℕ) → hash < 2 ^ 32 → fnv1a_from hash bytes < 2 ^ 32
+fnv1a_from_bounded hash [] h = h
+fnv1a_from_bounded hash (byte ∷ bytes) h = fnv1a_from_bounded (fnv1a_step hash byte) bytes (low_bits _)
+
+pub fnv1a_bounded : (key : List ℕ) → fnv1a key < 2 ^ 32
+fnv1a_bounded key = fnv1a_from_bounded 0x811c9dc5 key (omega arith)

@@ -1,5 +1,6 @@
 ghost use Rattle.std.specs.Prelude.{◌≡◌};
 ghost use Rattle.hash_path.specs.Fnv1a.{fnv1a};
+ghost use Rattle.hash_path.specs.PathLaws.{fnv1a_bounded};
 
 use crate::path_hash::PathHash;
 
@@ -15,6 +16,8 @@ pub struct Fnv1a;
 
 impl PathHash for Fnv1a {
     ghost hash_of = { λ _ key. fnv1a key };
+
+    ghost bounded = { λ _ key. fnv1a_bounded key };
 
     fn hash(&self, key: &[u8]) -> u32 {
         digest(key)

@@ -1,6 +1,10 @@
-ghost use Rattle.std.specs.Prelude.{◌≡◌, ◌+◌, ◌<◌, ◌≤◌, ◌⊎◌, ◌↔◌, [], ◌∷◌, ◌++◌, length, IsTrue, MatchOption, IfSome};
-ghost use Rattle.hash_path.specs.Path.{index_in, indices, last_index};
+ghost use Rattle.std.specs.Prelude.{◌≡◌, ◌+◌, ◌<◌, ◌≤◌, ◌⊎◌, ◌↔◌, [], ◌∷◌, ◌++◌, length, refl, IsTrue, MatchOption, IfSome};
+ghost use Rattle.std.specs.Cmp.{eq_by_cmp_equiv, partial_equiv_from_equiv, partial_order_from_total};
+ghost use Rattle.std.specs.Cmp.Lexicographic.{nat_list_cmp_total};
+ghost use Rattle.std.specs.Ordering.{eq_by_cmp, as_partial_cmp};
+ghost use Rattle.hash_path.specs.Path.{index_in, indices, last_index, prefix_cmp};
 
+use std::cmp::Ordering;
 use std::marker::Model;
 
 // How many indices a hash has.
@@ -24,7 +28,8 @@ fn last_at(depth: u32) -> u32
     if depth < DEPTHS - 1 { 31 } else { 3 }
 }
 
-/// The indices from the root of a trie down to a node, of which there are at most seven.
+/// The indices from the root of a trie down to a node, of which there are at most seven. Prefixes are ordered index by
+/// index from the first on, one that another begins with before it.
 #[derive(Clone, Copy, Debug)]
 pub struct Prefix {
     depth: u32,
@@ -102,5 +107,64 @@ impl Prefix {
             return hash == self.bits;
         }
         hash % (1 << (5 * self.depth)) == self.bits
+    }
+}
+
+// The order of two prefixes whose first indices are these, and whose rests are.
+#[cycle(order)]
+fn order_behind(mine: (u32, Prefix), yours: (u32, Prefix)) -> Ordering
+    ensures { result ≡ prefix_cmp (mine.0 ∷ mine.1) (yours.0 ∷ yours.1) }
+{
+    mine.0.cmp(&yours.0).then(order(mine.1, yours.1))
+}
+
+// The order of two prefixes.
+#[cycle(order)]
+fn order(mine: Prefix, yours: Prefix) -> Ordering
+    ensures { result ≡ prefix_cmp mine yours }
+{
+    match (mine.split_first(), yours.split_first()) {
+        (None, None) => Ordering::Equal,
+        (None, Some(_)) => Ordering::Less,
+        (Some(_), None) => Ordering::Greater,
+        (Some(first), Some(other)) => order_behind(first, other),
+    }
+}
+
+impl PartialEq for Prefix {
+    ghost eq = { eq_by_cmp prefix_cmp };
+
+    ghost laws = { partial_equiv_from_equiv (eq_by_cmp_equiv nat_list_cmp_total) };
+
+    fn eq(&self, other: &Prefix) -> bool {
+        self.cmp(other).is_eq()
+    }
+}
+
+impl Eq for Prefix {
+    ghost laws = { eq_by_cmp_equiv nat_list_cmp_total };
+}
+
+impl PartialOrd for Prefix {
+    ghost partial_cmp = { as_partial_cmp prefix_cmp };
+
+    ghost laws = { partial_order_from_total nat_list_cmp_total };
+
+    fn partial_cmp(&self, other: &Prefix) -> Option<Ordering> {
+        Some(self.cmp(other))
+    }
+}
+
+impl Ord for Prefix {
+    ghost cmp = { prefix_cmp };
+
+    ghost total = { nat_list_cmp_total };
+
+    ghost matches_partial_cmp = { λ x y. refl };
+
+    ghost matches_eq = { λ x y. refl };
+
+    fn cmp(&self, other: &Prefix) -> Ordering {
+        order(*self, *other)
     }
 }

@@ -1,4 +1,5 @@
-ghost use Rattle.std.specs.Prelude.{◌≡◌};
+ghost use Rattle.std.specs.Prelude.{◌≡◌, ◌%◌, ◌^◌};
+ghost use Rattle.hash_path.specs.PathLaws.{low_bits};
 
 use crate::path_hash::PathHash;
 
@@ -7,7 +8,9 @@ use crate::path_hash::PathHash;
 pub struct SameHash(pub u32);
 
 impl PathHash for SameHash {
-    ghost hash_of = { λ hash key. hash.0 };
+    ghost hash_of = { λ hash key. hash.0 % 2 ^ 32 };
+
+    ghost bounded = { λ hash key. low_bits hash.0 };
 
     fn hash(&self, _key: &[u8]) -> u32 {
         self.0

@@ -4,15 +4,16 @@ use Rattle.std.proofs.lemmas.List.{map-append}
 use Rattle.std.proofs.Math.Seq.{take-suc}
 use Rattle.std.specs.List.{flat_map}
 use Rattle.hash_path.specs.Fan.{Rise}
+use Rattle.wire_form.specs.Page.{child}
 use Rattle.prefix_digest.specs.declared.sha_summary.ShaSummary.{ShaSummary}
 
 abbrev pub child_bytes : ℕ × ShaSummary → List ℕ
-child_bytes child = child.0 % 256 ∷ child.1.digest
+child_bytes c = c.0 % 256 ∷ c.1.digest
 
 abbrev pub told : ℕ × ShaSummary → ℕ × List ℕ
-told child = (child.0, child.1.digest)
+told c = (c.0, c.1.digest)
 
-pub bytes_are : (low : ℕ) (cs : List (ℕ × ShaSummary)) → Rise low cs → flat_map child_bytes cs ≡ flat_map (λ child. child.0 ∷ child.1) (map told cs)
+pub bytes_are : (low : ℕ) (cs : List (ℕ × ShaSummary)) → Rise low cs → flat_map child_bytes cs ≡ flat_map child (map told cs)
 bytes_are low [] rise = refl
 bytes_are low (c ∷ cs) rise =
     let bound : c.0 < 32 = rise.1 in

@@ -1,3 +1,7 @@
 pub mod Taken
 pub mod Branches
+pub mod KeptKeys
 pub mod Digests
+pub mod Parted
+pub mod Going
+pub mod UnknownValues

@@ -1,11 +1,12 @@
 -- What a hasher has taken in, part by part.
-use Rattle.std.proofs.Common.{◌≡◌, ℕ, ◌/◌, ◌%◌, List, [], ◌∷◌, ◌++◌, sym, ap, ◌∙◌, subst, append_assoc, arith}
+use Rattle.std.proofs.Common.{◌≡◌, ℕ, ◌+◌, ◌<◌, ◌≤◌, ◌/◌, ◌%◌, List, [], ◌∷◌, ◌++◌, length, take, get_or, map, sym, ap, ◌∙◌, subst, append_assoc, arith}
 use Rattle.std.specs.List.{flat_map}
-use Rattle.std.proofs.lemmas.List.{append-nil}
-use Rattle.std.proofs.lemmas.List.Concat.{flat_map-append}
+use Rattle.std.proofs.lemmas.List.{append-nil, take_more, take_all, flat_map_more, length-map}
+use Rattle.std.proofs.lemmas.List.Folds.{flat_map-map}
 use Rattle.std.specs.Int.{w16, to_be_bytes}
 use Rattle.sha2.specs.Hashers.{Holds256}
 use Rattle.sha2.specs.declared.Sha256.{Sha256}
+use Rattle.wire_form.specs.Spelling.{number, counted}
 use Rattle.prefix_digest.specs.Taking.{Takes}
 
 pub takes_both : (a b c : Sha256) (x y : List ℕ) → Takes a b x → Takes b c y → Takes a c (x ++ y)
@@ -13,6 +14,9 @@ takes_both a b c x y p q = λ held h. subst (Holds256 c) (append_assoc held x y)
 
 pub takes_same : (a b : Sha256) (x y : List ℕ) → x ≡ y → Takes a b x → Takes a b y
 takes_same a b x y e p = subst (Takes a b) e p
+
+pub takes_none : (a : Sha256) → Takes a a []
+takes_none a = λ held h. subst (Holds256 a) (sym (append-nil held)) h
 
 -- two bytes hold a number by what it is modulo 2 ^ 16
 pub two_bytes : (n : ℕ) → to_be_bytes w16 (n % 65536) ≡ to_be_bytes w16 n
@@ -24,15 +28,29 @@ two_bytes n = λ i. high n i ∷ low n i ∷ []
     low : (n : ℕ) → n % 65536 % 256 ≡ n % 256
     low n = omega arith
 
+-- counted items, each told by another
+pub counted_of : {X Y : Type 0} (item : Y → List ℕ) (told : X → Y) (xs : List X) → number (length xs) ++ flat_map (λ x. item (told x)) xs ≡ counted item (map told xs)
+counted_of item told xs = λ i. number (sym (length-map xs told) i) ++ sym (flat_map-map item told xs) i
+
 module _ {X : Type 0} (item : X → List ℕ) where
-  one_more : (front : List ℕ) (xs : List X) (x : X) → (front ++ flat_map item xs) ++ item x ≡ front ++ flat_map item (xs ++ x ∷ [])
-  one_more front xs x =
-      append_assoc front (flat_map item xs) (item x)
-      ∙ ap (λ l. front ++ l) (ap (λ l. flat_map item xs ++ l) (sym (append-nil (item x))) ∙ sym (flat_map-append item xs (x ∷ [])))
-
-  -- an item more behind those that were taken in, and behind those that are held
-  pub item_taken : (a b c : Sha256) (front : List ℕ) (xs : List X) (x : X) → Takes a b (front ++ flat_map item xs) → Takes b c (item x) → Takes a c (front ++ flat_map item (xs ++ x ∷ []))
-  item_taken a b c front xs x p q = takes_same a c _ _ (one_more front xs x) (takes_both a b c (front ++ flat_map item xs) (item x) p q)
-
+  -- an item more behind those that are held
   pub item_held : (b c : Sha256) (front : List ℕ) (xs : List X) (x : X) → Holds256 b (front ++ flat_map item xs) → Takes b c (item x) → Holds256 c (front ++ flat_map item (xs ++ x ∷ []))
-  item_held b c front xs x p q = subst (Holds256 c) (one_more front xs x) (q (front ++ flat_map item xs) p)
+  item_held b c front xs x p q = subst (Holds256 c) (flat_map_more item front xs x) (q (front ++ flat_map item xs) p)
+
+  -- no items, those that a loop has gone through and one more, and all of them
+  pub none_taken : (a b : Sha256) (front : List ℕ) → Takes a b front → Takes a b (front ++ flat_map item [])
+  none_taken a b front p = takes_same a b front (front ++ []) (sym (append-nil front)) p
+
+  pub more_taken : (a b c : Sha256) (front : List ℕ) (xs : List X) (i : ℕ) (d : X) → Takes a b (front ++ flat_map item (take i xs)) → i < length xs → Takes b c (item (get_or xs i d))
+      → Takes a c (front ++ flat_map item (take (i + 1) xs))
+  more_taken a b c front xs i d p h q =
+      takes_same a c ((front ++ flat_map item (take i xs)) ++ item (get_or xs i d)) (front ++ flat_map item (take (i + 1) xs))
+      (flat_map_more item front (take i xs) (get_or xs i d) ∙ ap (λ ys. front ++ flat_map item ys) (sym (take_more xs i d h)))
+      (takes_both a b c (front ++ flat_map item (take i xs)) (item (get_or xs i d)) p q)
+
+  pub next_taken : (a b c : Sha256) (front : List ℕ) (xs : List X) (i : ℕ) (x : X) → Takes a b (front ++ flat_map item (take i xs)) → i < length xs → x ≡ get_or xs i x → Takes b c (item x)
+      → Takes a c (front ++ flat_map item (take (i + 1) xs))
+  next_taken a b c front xs i x p h is q = more_taken a b c front xs i x p h (takes_same b c (item x) (item (get_or xs i x)) (ap item is) q)
+
+  pub all_taken : (a b : Sha256) (front : List ℕ) (xs : List X) (i : ℕ) → Takes a b (front ++ flat_map item (take i xs)) → length xs ≤ i → Takes a b (front ++ flat_map item xs)
+  all_taken a b front xs i p h = takes_same a b (front ++ flat_map item (take i xs)) (front ++ flat_map item xs) (ap (λ ys. front ++ flat_map item ys) (take_all i xs h)) p

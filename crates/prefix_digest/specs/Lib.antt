@@ -1,3 +1,5 @@
 pub mod Page
+pub mod Values
+pub mod Told
 pub mod Taking
 pub mod Summary

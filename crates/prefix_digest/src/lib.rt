@@ -1,10 +1,18 @@
 // Pages and digests of a map's snapshot, by which two replicas find out where they differ.
-// Offered to the crates above: the digest at a prefix is the SHA-256 of the page there, which is told by the entries alone.
+// Offered to the crates above: the page at a prefix is told by the entries alone, its digest is its SHA-256, and the values
+// that it names are given to who lacks them.
 #![tactic(auto)]
 
 mod feeding;
+mod naming;
+mod page_feeding;
 mod pages;
 mod sha_summary;
+mod told;
+mod values;
 
-pub use pages::{check, digest};
+pub use naming::value_digest;
+pub use page_feeding::digest_of;
+pub use pages::{FrozenMap, check, digest, page, page_value};
 pub use sha_summary::ShaSummary;
+pub use values::values_for;

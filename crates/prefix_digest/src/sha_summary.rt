@@ -2,12 +2,13 @@ ghost use Rattle.std.specs.Prelude.{◌≡◌};
 ghost use Rattle.hash_path.specs.Fan.{Rise};
 
 use crate::feeding::feed_entry;
-use dot_store::DotFun;
-use dots::Value;
+use dot_store::{DotFun, DotMap};
+use dots::{Field, Value};
 use gen_trie::{Children, Entry, Summary};
 use sha2::{Digest, Sha256};
 use std::alloc::Allocator;
 use std::sync::Arc;
+use wire_form::Fields;
 
 /// The digest of a page: the SHA-256 (FIPS 180-4) of its bytes, which are fed to the hasher piece by piece, so that it takes
 /// no memory.
@@ -25,20 +26,20 @@ impl ShaSummary {
     }
 }
 
-impl<A: Allocator + Copy> Summary<DotFun<Value<A>, A>> for ShaSummary {
+impl<A: Allocator + Copy> Summary<DotMap<Field<A>, DotFun<Value<A>, A>, A>> for ShaSummary {
     ghost use Rattle.prefix_digest.specs.Summary.{sha_calls};
 
     ghost calls = { sha_calls };
 
-    fn leaf(key: &[u8], value: &DotFun<Value<A>, A>) -> ShaSummary {
+    fn leaf(key: &[u8], fields: &Fields<A>) -> ShaSummary {
         let mut hasher = Sha256::new_with_prefix([0]);
-        feed_entry(&mut hasher, key, value);
+        feed_entry(&mut hasher, key, fields);
         ShaSummary {
             digest: hasher.finalize(),
         }
     }
 
-    fn list<B: Allocator>(entries: &[Arc<Entry<DotFun<Value<A>, A>, B>, B>]) -> ShaSummary {
+    fn list<B: Allocator>(entries: &[Arc<Entry<Fields<A>, B>, B>]) -> ShaSummary {
         let mut hasher = Sha256::new_with_prefix([1]);
         for entry in entries {
             feed_entry(&mut hasher, entry.key().bytes(), entry.value());

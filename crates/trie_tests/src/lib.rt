@@ -9,7 +9,11 @@ mod made;
 #[cfg(test)]
 mod many;
 #[cfg(test)]
+mod mapped;
+#[cfg(test)]
 mod maps;
+#[cfg(test)]
+mod pages;
 #[cfg(test)]
 mod paths;
 #[cfg(test)]

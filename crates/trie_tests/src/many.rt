@@ -1,6 +1,7 @@
 // Many keys, beside std's BTreeMap as the plain program.
 ghost use Rattle.std.specs.Prelude.{bit_and};
 ghost use Rattle.hash_path.specs.Fnv1a.{fnv1a};
+ghost use Rattle.trie_tests.specs.FewBits.{few_bits};
 
 use crate::made::taken;
 use dots::{Key, Refusal};
@@ -195,6 +196,8 @@ struct FewHashes;
 
 impl PathHash for FewHashes {
     ghost hash_of = { λ _ key. bit_and (fnv1a key) 1057 };
+
+    ghost bounded = { λ _ key. few_bits (fnv1a key) };
 
     fn hash(&self, key: &[u8]) -> u32 {
         Fnv1a.hash(key) & 0x0421

@@ -83,3 +83,19 @@ fn a_prefix_gives_its_first_index_and_the_others(rt: HostRuntime) -> Result<(), 
     assert!(rt; Prefix::root().split_first().is_none());
     Ok(())
 }
+
+// Whether the prefix of the first indices comes before that of the others.
+fn is_before(indices: &[u32], others: &[u32]) -> Result<bool, Fail> {
+    let first = prefix_of(indices).ok_or("a prefix")?;
+    let second = prefix_of(others).ok_or("a prefix")?;
+    Ok(first < second && first != second)
+}
+
+#[test]
+fn prefixes_are_ordered_index_by_index(rt: HostRuntime) -> Result<(), Fail> {
+    assert!(rt; is_before(&[5, 31], &[6])?);
+    assert!(rt; is_before(&[5], &[5, 0])?);
+    assert!(rt; !is_before(&[5], &[5])?);
+    assert!(rt; !is_before(&[6], &[5, 31])?);
+    Ok(())
+}

@@ -1,19 +1,20 @@
 // Summaries that nodes keep. How many nodes there are was counted by a program in python, from the paths of the keys.
 use crate::made::{prefix_of, three};
-use dot_store::{DotFun, DotStore};
-use dots::{Dot, Key, Name, Refusal, Value};
+use dot_store::{DotFun, DotMap, DotStore};
+use dots::{Dot, Field, Key, Name, Refusal, Value};
 use gen_trie::{Frozen, GenTrie, NoSummary};
 use hash_path::{Fnv1a, Prefix};
 use linked_list_allocator::LocalHeap;
-use prefix_digest::{ShaSummary, digest};
+use prefix_digest::{FrozenMap, ShaSummary, digest};
 use std::alloc::{Allocator, Global};
 use std::test::Fail;
+use wire_form::Fields;
 
 type Plain = GenTrie<u64, NoSummary, Fnv1a>;
 
-type Digested<A> = GenTrie<DotFun<Value<A>, A>, ShaSummary, Fnv1a, A>;
+type Digested<A> = GenTrie<Fields<A>, ShaSummary, Fnv1a, A>;
 
-type DigestedMap<A> = Frozen<DotFun<Value<A>, A>, ShaSummary, Fnv1a, A>;
+type DigestedMap<A> = FrozenMap<Fnv1a, A>;
 
 // The key of a number: eight bytes, the most significant first, of a multiple of the number.
 fn key_of<A: Allocator + Copy>(alloc: A, number: u64) -> Result<Key<A>, Refusal> {
@@ -72,7 +73,9 @@ fn put<A: Allocator + Copy>(alloc: A, trie: &mut Digested<A>, number: u64) -> Re
     let dot = Dot::new(name, number.saturating_add(1)).ok_or(Refusal::BadLine)?;
     let mut held = DotFun::empty(alloc);
     held.insert(dot, Value::new(alloc, b"v")?)?;
-    trie.insert(key_of(alloc, number)?, held)
+    let mut fields = DotMap::empty(alloc);
+    fields.insert(Field::empty(), held)?;
+    trie.insert(key_of(alloc, number)?, fields)
 }
 
 // The trie of the keys of the numbers below 40.

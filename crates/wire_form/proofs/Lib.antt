@@ -10,3 +10,4 @@ pub mod Sessions
 pub mod Deltas
 pub mod Messages
 pub mod Writes
+pub mod Pages

@@ -3,6 +3,7 @@ pub mod Parts
 pub mod Store
 pub mod Session
 pub mod Message
+pub mod Page
 pub mod Unique
 pub mod Reading
 pub mod Writing

@@ -201,7 +201,10 @@ fn write_values<A: Allocator + Copy>(
     Ok(())
 }
 
-fn write_text<A: Allocator + Copy>(out: &mut Vec<u8, A>, bytes: &[u8]) -> Result<(), Refusal>
+pub(crate) fn write_text<A: Allocator + Copy>(
+    out: &mut Vec<u8, A>,
+    bytes: &[u8],
+) -> Result<(), Refusal>
     requires { length bytes.now ≤ MAX_LENGTH }
     ensures ok { OnOk result (Appends part.text part.IsText out.old.items out.new.items bytes.now) }
     ensures err { IsOkUnless result Refusal.OutOfMemory }
@@ -211,7 +214,7 @@ fn write_text<A: Allocator + Copy>(out: &mut Vec<u8, A>, bytes: &[u8]) -> Result
     Ok(())
 }
 
-fn write_dot<A: Allocator + Copy>(out: &mut Vec<u8, A>, dot: Dot) -> Result<(), Refusal>
+pub(crate) fn write_dot<A: Allocator + Copy>(out: &mut Vec<u8, A>, dot: Dot) -> Result<(), Refusal>
     ensures ok { OnOk result (Appends part.dot part.IsDot out.old.items out.new.items dot) }
     ensures err { IsOkUnless result Refusal.OutOfMemory }
 {
@@ -226,7 +229,10 @@ fn write_name<A: Allocator + Copy>(out: &mut Vec<u8, A>, name: Name) -> Result<(
     write_number(out, name.number())
 }
 
-fn write_number<A: Allocator + Copy>(out: &mut Vec<u8, A>, value: u64) -> Result<(), Refusal>
+pub(crate) fn write_number<A: Allocator + Copy>(
+    out: &mut Vec<u8, A>,
+    value: u64,
+) -> Result<(), Refusal>
     ensures ok { OnOk result (Appends number IsNumber out.old.items out.new.items value) }
     ensures err { IsOkUnless result Refusal.OutOfMemory }
 {

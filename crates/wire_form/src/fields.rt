@@ -8,8 +8,8 @@ use dot_store::{DotFun, DotMap};
 use dots::{Field, Refusal, Value};
 use std::alloc::{Allocator, Global};
 
-// The fields of a key, each with the values that stand there.
-pub(crate) type Fields<A = Global> = DotMap<Field<A>, DotFun<Value<A>, A>, A>;
+/// The fields of a key, each with the values that stand there.
+pub type Fields<A = Global> = DotMap<Field<A>, DotFun<Value<A>, A>, A>;
 
 impl<A: Allocator + Copy> Spelled<A> for DotMap<Field<A>, DotFun<Value<A>, A>, A> {
     ghost spell = { fields };

@@ -10,6 +10,8 @@ mod items;
 mod laws;
 mod message;
 mod number;
+mod page;
+mod page_writing;
 mod plain;
 mod session;
 mod spelled;
@@ -19,6 +21,8 @@ mod values;
 
 pub use decoding::decode;
 pub use encoding::encode;
+pub use fields::Fields;
 pub use laws::{a_message_has_one_spelling, bytes_spell_one_delta, bytes_spell_one_message};
 pub use message::Message;
+pub use page::{NamedFields, Names, Page};
 pub use session::Session;

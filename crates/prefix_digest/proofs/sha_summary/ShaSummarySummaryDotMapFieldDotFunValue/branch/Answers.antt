@@ -2,10 +2,10 @@ use Rattle.std.proofs.Common.{ℕ, ◌%◌, [], ◌∷◌, sym, ap, ◌∙◌}
 use Rattle.std.specs.List.{flat_map}
 use Rattle.std.proofs.lemmas.Map.Iter.{iter_end}
 use Rattle.prefix_digest.specs.declared.sha_summary.ShaSummary.{ShaSummary}
-use Rattle.prefix_digest.specs.Summary.{of_page}
+use Rattle.sha2.specs.Sha256.{sha256}
 use Rattle.prefix_digest.proofs.Branches.{child_bytes, bytes_are, map_itself}
 use Rattle.prefix_digest.proofs.Taken.{takes_both, item_held}
-use Rattle.prefix_digest.proofs.sha_summary.ShaSummarySummaryDotFunValue.branch.Goals as goal
+use Rattle.prefix_digest.proofs.sha_summary.ShaSummarySummaryDotMapFieldDotFunValue.branch.Goals as goal
 
 pub loop-index-init : goal.loop-index-init
 loop-index-init g c = c.new_with_prefix-hasher.ensures
@@ -20,4 +20,4 @@ returns g c =
     let all = (iter_end (λ (child : ℕ × ShaSummary). child) c.args.children c.loop-index.yielded _ _ _ _ c.into_iter-index-iterator.ensures.into_iter_gives c.loop-index.yielded_by c.in-None.is c.next.ensures.steps).0 in
     let bytes = ap (flat_map child_bytes) (sym (map_itself c.loop-index.yielded) ∙ all) ∙ bytes_are 0 c.args.children c.requires in
     ap (λ d. record { digest = d }) (c.finalize.ensures (2 ∷ flat_map child_bytes c.loop-index.yielded) c.loop-index.invariant)
-    ∙ ap (λ l. of_page (2 ∷ l)) bytes
+    ∙ ap (λ l. record { digest = sha256 (2 ∷ l) }) bytes

@@ -1,17 +1,23 @@
 use Rattle.std.proofs.Common.{ℕ, List, [], ◌∷◌, map, take, sym, ap, ◌∙◌, subst}
 use Rattle.std.specs.List.{flat_map}
 use Rattle.std.proofs.lemmas.List.{take_all}
+use Rattle.std.proofs.lemmas.List.Folds.{flat_map-map}
+use Rattle.sha2.specs.Sha256.{sha256}
 use Rattle.std.specs.declared.sync.Arc.{Arc}
 use Rattle.gen_trie.specs.declared.entry.Entry.{Entry}
 use Rattle.sha2.specs.Hashers.{Holds256}
-use Rattle.prefix_digest.specs.Page.{Values, entry_bytes}
-use Rattle.prefix_digest.specs.Summary.{of_page}
+use Rattle.causal_join.specs.OrMap.{FieldsValue}
+use Rattle.wire_form.specs.Page.{entry}
+use Rattle.prefix_digest.specs.Page.{named_entry}
 use Rattle.prefix_digest.specs.Taking.{Takes}
 use Rattle.prefix_digest.proofs.Branches.{one_taken}
 use Rattle.prefix_digest.proofs.Taken.{takes_same, item_held}
-use Rattle.prefix_digest.proofs.sha_summary.ShaSummarySummaryDotFunValue.list.Goals as goal
+use Rattle.prefix_digest.proofs.sha_summary.ShaSummarySummaryDotMapFieldDotFunValue.list.Goals as goal
 
-abbrev shows : {A : Type 0} → Arc (Entry Values A) A → List ℕ × Values
+abbrev entry_bytes : List ℕ × FieldsValue → List ℕ
+entry_bytes e = entry (named_entry e)
+
+abbrev shows : {A : Type 0} → Arc (Entry FieldsValue A) A → List ℕ × FieldsValue
 shows e = (e.value.key, e.value.value)
 
 pub loop-entry-init : goal.loop-entry-init
@@ -29,4 +35,5 @@ loop-entry-preserved g c =
 pub returns : goal.returns
 returns g c =
     ap (λ d. record { digest = d }) (c.finalize.ensures (1 ∷ flat_map entry_bytes (map shows (take c.loop-entry.entry-index c.args.entries.now))) c.loop-entry.invariant)
-    ∙ ap (λ xs. of_page (1 ∷ flat_map entry_bytes (map shows xs))) (take_all c.loop-entry.entry-index c.args.entries.now c.loop-entry-test.false)
+    ∙ ap (λ xs. record { digest = sha256 (1 ∷ flat_map entry_bytes (map shows xs)) }) (take_all c.loop-entry.entry-index c.args.entries.now c.loop-entry-test.false)
+    ∙ ap (λ l. record { digest = sha256 (1 ∷ l) }) (sym (flat_map-map entry named_entry (map shows c.args.entries.now)))

@@ -1,0 +1,12 @@
+use Rattle.wire_form.specs.Page.{child}
+use Rattle.wire_form.proofs.Pages.{next_read, all_behind}
+use Rattle.wire_form.proofs.page_writing.write_children.Goals as goal
+
+pub loop-index-preserved : goal.loop-index-preserved
+loop-index-preserved g c =
+    next_read child c.args.out.now.items c.loop-index.out.items c.write_child.new.out.items c.args.children.now c.loop-index.index-index _
+    c.loop-index.invariant c.loop-index-test.true c.in_ok-write_child.ensures.ok
+
+pub returns-clause-ok : goal.returns-clause-ok
+returns-clause-ok g c =
+    all_behind child c.args.out.now.items c.loop-index.out.items c.args.children.now c.loop-index.index-index c.loop-index.invariant c.loop-index-test.false
