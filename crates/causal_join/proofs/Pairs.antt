@@ -1,5 +1,5 @@
 -- Pairs of a store and a context, over what they hold and know.
-use Rattle.std.proofs.Common.{◌≡◌, ◌↔◌, Bool, true, false, cond, ◌||◌, Option, Some, None, refl, sym, ap, ◌∙◌, subst}
+use Rattle.std.proofs.Common.{◌≡◌, ◌↔◌, Bool, true, false, ◌||◌, Option, Some, None, refl, sym, ap, ◌∙◌, subst}
 use Rattle.std.specs.Prelude.{IsTrue, IsSome, is_some}
 use Rattle.std.proofs.lemmas.Bool.{or_left, or_right}
 use Rattle.dots.specs.Dot.{DotValue}
@@ -39,17 +39,18 @@ module _ {S P H : Type 0} (at : S → P → DotValue → Option H) (greater : H 
       → Same (state_of at both) (join greater (state_of at mine) (state_of at other))
   joined_parts mine other own theirs both is are same known =
       subst (λ q. Same (state_of at both) (join greater (state_of at mine) (state_of at q))) are
-          (subst (λ p. Same (state_of at both) (join greater (state_of at p) (state_of at theirs))) is (record { at = same; has = known }))
+      (subst (λ p. Same (state_of at both) (join greater (state_of at p) (state_of at theirs))) is (record { at = same; has = known }))
 
   -- a pair is below another where its context is included and the join holds what the other holds
   pub below_iff : (mine other both : S × ContextValue) (r : Bool) → Includes other.1 mine.1 → Same (state_of at both) (join greater (state_of at other) (state_of at mine))
       → IsTrue r ↔ HoldsSame (at both.0) (at other.0) → IsTrue r ↔ Same (join greater (state_of at other) (state_of at mine)) (state_of at other)
-  below_iff mine other both r includes joins is =
-      ( λ t. record {
-          at = λ place dot. sym (joins.at place dot) ∙ is.0 t place dot;
-          has = λ dot. covered (has other.1 dot) (has mine.1 dot) (includes dot);
-        },
-        λ same. is.1 (λ place dot. joins.at place dot ∙ same.at place dot) )
+  below_iff mine other both r includes joins is = (
+    λ t. record {
+      at = λ place dot. sym (joins.at place dot) ∙ is.0 t place dot;
+      has = λ dot. covered (has other.1 dot) (has mine.1 dot) (includes dot);
+    },
+    λ same. is.1 (λ place dot. joins.at place dot ∙ same.at place dot),
+  )
     where
       covered : (x y : Bool) → (IsTrue y → IsTrue x) → x || y ≡ x
       covered true y h = refl
@@ -61,4 +62,4 @@ module _ {S P H : Type 0} (at : S → P → DotValue → Option H) (greater : H 
       → IsTrue r ↔ HoldsSame (at joined_one.0) (at theirs.0) → IsTrue r ↔ Same (join greater (state_of at other) (state_of at mine)) (state_of at other)
   below_by_parts mine other both own theirs joined_one r is are one includes joins same =
       below_iff mine other both r (subst (λ p. Includes p.1 mine.1) are (subst (λ p. Includes theirs.1 p.1) is includes)) joins
-          (subst (λ p. IsTrue r ↔ HoldsSame (at both.0) (at p.0)) are (subst (λ p. IsTrue r ↔ HoldsSame (at p.0) (at theirs.0)) one same))
+      (subst (λ p. IsTrue r ↔ HoldsSame (at both.0) (at p.0)) are (subst (λ p. IsTrue r ↔ HoldsSame (at p.0) (at theirs.0)) one same))

@@ -1,4 +1,4 @@
-use Rattle.std.proofs.Common.{◌≡◌, Bool, ◌||◌, ap, ◌∙◌, sym}
+use Rattle.std.proofs.Common.{◌≡◌, ◌||◌, ap, ◌∙◌, sym}
 use Rattle.dots.specs.Dot.{DotValue}
 use Rattle.causal_context.specs.Context.{has}
 use Rattle.op_model.specs.State.{join}
@@ -13,7 +13,7 @@ known g c dot = c.in_ok-union.ensures.ok dot ∙ ap (λ b. b || has c.other.insi
 pub returns-clause-ok : goal.returns-clause-ok
 returns-clause-ok g c =
     joined_parts g.S.DotStore.at g.S.DotStore.greater c.args.self.now c.args.other.now (c.self.inside.store, c.self.inside.context) (c.other.inside.store, c.other.inside.context)
-        (c.in_ok-store.store, c.union.new.self) c.self.view_is c.other.view_is c.in_ok-store.ensures.ok (known g c)
+    (c.in_ok-store.store, c.union.new.self) c.self.view_is c.other.view_is c.in_ok-store.ensures.ok (known g c)
 
 pub invariant_of-result : goal.invariant_of-result
 invariant_of-result g c =
@@ -21,4 +21,4 @@ invariant_of-result g c =
     let theirs = state_of g.S.DotStore.at (c.other.inside.store, c.other.inside.context) in
     let both = join g.S.DotStore.greater own theirs in
     inside-same (g.S.DotStore.at c.in_ok-store.store) both.at (has c.union.new.self) c.in_ok-store.ensures.ok
-        (inside-has both.at (has c.union.new.self) both.has (known g c) (inside-join g.S.DotStore.greater own theirs c.self.invariant c.other.invariant))
+    (inside-has both.at (has c.union.new.self) both.has (known g c) (inside-join g.S.DotStore.greater own theirs c.self.invariant c.other.invariant))
