@@ -10,7 +10,7 @@ ghost use Rattle.prefix_digest.specs.Page.{named_entry, named_entries, page_at, 
 
 use crate::naming::named_fields;
 use crate::sha_summary::ShaSummary;
-use crate::told::{Told, look_under};
+use crate::told::{DEPTHS, Told, look_under};
 use dots::{Key, Refusal};
 use gen_trie::Frozen;
 use hash_path::{PathHash, Prefix};
@@ -51,7 +51,7 @@ pub fn page_value<H: PathHash, A: Allocator + Copy>(
     match look_under(frozen, prefix) {
         Told::Nothing => Ok(None),
         Told::OneKey(key, fields) => Ok(Some(one_key(alloc, key, fields)?)),
-        Told::Several if depth == 7 => Ok(Some(keys(alloc, frozen, prefix)?)),
+        Told::Several if depth == DEPTHS => Ok(Some(keys(alloc, frozen, prefix)?)),
         Told::Several => Ok(Some(branch(alloc, frozen, prefix)?)),
     }
 }

@@ -1,14 +1,14 @@
 // The values that a page names and that who asks for it lacks.
-ghost use Rattle.std.specs.Prelude.{◌≡◌, ◌++◌, IfOk, OnOk, IsOkUnless};
+ghost use Rattle.std.specs.Prelude.{◌≡◌, ◌++◌, ◌∷◌, [], cond, IfOk, OnOk, IsOkUnless};
 ghost use Rattle.causal_context.specs.Context.{has};
 ghost use Rattle.hash_path.specs.Map.{walk_under};
 ghost use Rattle.prefix_digest.specs.Values.{unknown_in_values, unknown_in_fields, unknown_in, unknown_at};
 
 use crate::pages::FrozenMap;
-use crate::told::{Told, look_under};
+use crate::told::{DEPTHS, Told, look_under};
 use causal_context::Context;
 use dot_store::DotFun;
-use dots::{Refusal, Value};
+use dots::{Dot, Refusal, Value};
 use hash_path::{PathHash, Prefix};
 use std::alloc::Allocator;
 use wire_form::Fields;
@@ -29,7 +29,7 @@ pub fn values_for<H: PathHash, A: Allocator + Copy>(
     match look_under(frozen, prefix) {
         Told::Nothing => Ok(Vec::new(alloc)),
         Told::OneKey(_, _) => unknown_values(alloc, frozen, prefix, known),
-        Told::Several if depth == 7 => unknown_values(alloc, frozen, prefix, known),
+        Told::Several if depth == DEPTHS => unknown_values(alloc, frozen, prefix, known),
         Told::Several => Ok(Vec::new(alloc)),
     }
 }
@@ -76,9 +76,25 @@ fn add_values<A: Allocator + Copy>(
     ensures err { IsOkUnless result Refusal.OutOfMemory }
 {
     for (dot, value) in held.entries() {
-        if !known.contains(*dot) {
-            values.push(value.copy(alloc)?)?;
-        }
+        add_value(alloc, values, *dot, value, known)?;
     }
+    Ok(())
+}
+
+// Puts a value behind the others, unless its dot is known.
+fn add_value<A: Allocator + Copy>(
+    alloc: A,
+    values: &mut Vec<Value<A>, A>,
+    dot: Dot,
+    value: &Value<A>,
+    known: &Context<A>,
+) -> Result<(), Refusal>
+    ensures ok { OnOk result (values.new.items ≡ values.old.items ++ cond (has known.now dot) [] (value.now ∷ [])) }
+    ensures err { IsOkUnless result Refusal.OutOfMemory }
+{
+    if known.contains(dot) {
+        return Ok(());
+    }
+    values.push(value.copy(alloc)?)?;
     Ok(())
 }

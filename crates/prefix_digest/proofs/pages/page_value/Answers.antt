@@ -15,10 +15,10 @@ returns-in_ok-one_key-in-OneKey-clause-ok g c =
 pub returns-in_ok-keys-in-Several-clause-ok : goal.returns-in_ok-keys-in-Several-clause-ok
 returns-in_ok-keys-in-Several-clause-ok g c =
     ap Some c.in_ok-keys-in-Several.ensures.ok
-    ∙ sym (page_list (g.H.PathHash.hash_of c.args.frozen.now.hash) c.args.frozen.now.map c.args.prefix (omega (arith, c.depth-depth.ensures.length, c.if-depth-eq7.true)) c.in-Several.ensures)
+    ∙ sym (page_list (g.H.PathHash.hash_of c.args.frozen.now.hash) c.args.frozen.now.map c.args.prefix (omega (arith, c.depth-depth.ensures.length, c.if-depth-eq-DEPTHS.true)) c.in-Several.ensures)
 
 pub returns-in_ok-branch-in-Several-2-clause-ok : goal.returns-in_ok-branch-in-Several-2-clause-ok
 returns-in_ok-branch-in-Several-2-clause-ok g c =
     ap Some c.in_ok-branch-in-Several-2.ensures.ok
     ∙ sym (page_branch (g.H.PathHash.hash_of c.args.frozen.now.hash) c.args.frozen.now.map c.args.prefix
-    (omega (arith, c.depth-depth.ensures.length, c.depth-depth.ensures.bound, c.if-depth-eq7.false)) c.in-Several-2.ensures)
+    (omega (arith, c.depth-depth.ensures.length, c.depth-depth.ensures.bound, c.if-depth-eq-DEPTHS.false)) c.in-Several-2.ensures)

@@ -19,11 +19,11 @@ returns-in-OneKey-clause-ok g c =
 pub returns-in-Several-clause-ok : goal.returns-in-Several-clause-ok
 returns-in-Several-clause-ok g c =
     let all = values_of_list (has c.args.known.now) (g.H.PathHash.hash_of c.args.frozen.now.hash) c.args.frozen.now.map c.args.prefix
-    (omega (arith, c.depth-depth.ensures.length, c.if-depth-eq7.true)) c.in-Several.ensures in
+    (omega (arith, c.depth-depth.ensures.length, c.if-depth-eq-DEPTHS.true)) c.in-Several.ensures in
     IfOk-weaker c.unknown_values-in-Several.result _ _ (λ values is. is ∙ sym all) c.unknown_values-in-Several.ensures.ok
 
 pub returns-in-Several-2-clause-ok : goal.returns-in-Several-2-clause-ok
 returns-in-Several-2-clause-ok g c =
     c.new-in-Several-2.ensures.items
     ∙ sym (values_of_branch (has c.args.known.now) (g.H.PathHash.hash_of c.args.frozen.now.hash) c.args.frozen.now.map c.args.prefix
-    (omega (arith, c.depth-depth.ensures.length, c.depth-depth.ensures.bound, c.if-depth-eq7.false)) c.in-Several-2.ensures)
+    (omega (arith, c.depth-depth.ensures.length, c.depth-depth.ensures.bound, c.if-depth-eq-DEPTHS.false)) c.in-Several-2.ensures)
