@@ -36,7 +36,7 @@ def seconds(lines):
 
 for name, make, counts in [
     ("node and get", reading, (100_000, 200_000, 400_000)),
-    ("put on new keys", writing, (500, 1_000, 2_000)),
+    ("put on new keys", writing, (1_000, 10_000, 20_000)),
     ("put on one key", overwriting, (500, 1_000, 2_000, 10_000)),
 ]:
     for count in counts:
