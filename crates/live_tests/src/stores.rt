@@ -120,7 +120,7 @@ fn in_order(rt: &impl Abort, alloc: Global) -> Result<(usize, bool), Refusal> {
     for (number, (key, set)) in map.entries().iter().enumerate() {
         placed = placed
             && key.bytes() == [number as u8].as_slice()
-            && set.contains(dot(rt, 1, number as u64 + 1));
+            && set.contains(dot(rt, 1, (number as u64).wrapping_add(1)));
     }
     Ok((map.entries().len(), placed))
 }
