@@ -5,8 +5,6 @@
 #[cfg(test)]
 mod drawn;
 #[cfg(test)]
-mod groups;
-#[cfg(test)]
 mod made;
 #[cfg(test)]
 mod operations;
