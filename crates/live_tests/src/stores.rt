@@ -119,7 +119,7 @@ fn in_order(rt: &impl Abort, alloc: Global) -> Result<(usize, bool), Refusal> {
     let mut placed = true;
     for (number, (key, set)) in map.entries().iter().enumerate() {
         placed = placed
-            && key.bytes() == [number as u8].as_slice()
+            && key.bytes() == [(number % 0x100) as u8].as_slice()
             && set.contains(dot(rt, 1, (number as u64).wrapping_add(1)));
     }
     Ok((map.entries().len(), placed))
