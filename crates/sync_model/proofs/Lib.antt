@@ -1,0 +1,5 @@
+pub mod Prefixes
+pub mod Members
+pub mod Paged
+pub mod Found
+pub mod Alike

@@ -1,0 +1,5 @@
+pub mod Clash
+pub mod Opened
+pub mod Filled
+pub mod Differ
+pub mod Fetch

@@ -1,0 +1,4 @@
+// The definitions of a synchronisation by pages, and their laws. No product code.
+// Offered to the crates above: what an asker does with the pages that it takes, and that it comes to hold what its peer held.
+#![tactic(auto)]
+
