@@ -3,3 +3,4 @@ pub mod Members
 pub mod Paged
 pub mod Found
 pub mod Alike
+pub mod Filling

@@ -56,6 +56,20 @@ within_fields known = list_all (λ f. within_values known f.1)
 abbrev pub within : {N : Type 0} → (DotValue → Bool) → List (List ℕ × List (List ℕ × List (DotValue × N))) → Bool
 within known = list_all (λ e. within_fields known e.1)
 
+-- the children that have to be asked for, put to what is waited for
+abbrev pub put_children : List ℕ → List (ℕ × List ℕ) → Waiting → Waiting
+put_children p [] w = w
+put_children p (c ∷ cs) w = finite.insert (put_children p cs w) (p ++ c.0 ∷ []) c.1
+
+-- entries put to what is built; one that holds nothing is not put
+abbrev pub put_entry : List ℕ → FieldsValue → Held → Held
+put_entry key [] m = m
+put_entry key (f ∷ fs) m = finite.insert m key (f ∷ fs)
+
+abbrev pub put_entries : List (List ℕ × FieldsValue) → Held → Held
+put_entries [] m = m
+put_entries (e ∷ es) m = put_entry e.0 e.1 (put_entries es m)
+
 -- One session at its asker: the hash of keys, the own map when it asked, the dots that it had seen then, and the dots that
 -- the opening knows
 module _ (hash_of : List ℕ → ℕ) (own : Held) (seen opened : DotValue → Bool) where
@@ -78,20 +92,6 @@ module _ (hash_of : List ℕ → ℕ) (own : Held) (seen opened : DotValue → B
   -- next index
   abbrev pub stays : List ℕ → PageValue → List ℕ → Bool
   stays p page key = not (begins p (path hash_of key)) || list_any (λ c. nat_eq c.0 (get_or (path hash_of key) (length p) 0)) (children_of page)
-
-  -- the children that have to be asked for, put to what is waited for
-  abbrev pub put_children : List ℕ → List (ℕ × List ℕ) → Waiting → Waiting
-  put_children p [] w = w
-  put_children p (c ∷ cs) w = finite.insert (put_children p cs w) (p ++ c.0 ∷ []) c.1
-
-  -- entries put to what is built; one that holds nothing is not put
-  abbrev pub put_entry : List ℕ → FieldsValue → Held → Held
-  put_entry key [] m = m
-  put_entry key (f ∷ fs) m = finite.insert m key (f ∷ fs)
-
-  abbrev pub put_entries : List (List ℕ × FieldsValue) → Held → Held
-  put_entries [] m = m
-  put_entries (e ∷ es) m = put_entry e.0 e.1 (put_entries es m)
 
   -- what a page makes that fits, with the values that came for its names
   abbrev pub took : Fetch → List ℕ → PageValue → Option (List (List ℕ × FieldsValue)) → Taken

@@ -26,16 +26,31 @@ made_map f (Some m) = Some (f m.0, m.1)
 abbrev pub checked : DotValue → List ℕ → List ℕ → Made ValuesValue → Made ValuesValue
 checked d name v rest = cond (bytes_eq (sha256 v) name) (made_map (λ vs. (d, v) ∷ vs) rest) None
 
+-- one dot, by what the asker holds there, where the others are made of what is left
+abbrev pub fill_unseen : DotValue → List ℕ → (List (List ℕ) → Made ValuesValue) → List (List ℕ) → Made ValuesValue
+fill_unseen d name rest [] = None
+fill_unseen d name rest (v ∷ sent) = checked d name v (rest sent)
+
+abbrev pub fill_seen : DotValue → List ℕ → Option (List ℕ) → (List (List ℕ) → Made ValuesValue) → List (List ℕ) → Made ValuesValue
+fill_seen d name None rest sent = rest sent
+fill_seen d name (Some v) rest sent = checked d name v (rest sent)
+
+-- a field before the others, if it holds a value, and a key before the others
+abbrev pub then_fields : List ℕ → (List (List ℕ) → Made FieldsValue) → Made ValuesValue → Made FieldsValue
+then_fields field rest None = None
+then_fields field rest (Some m) = made_map (with_values field m.0) (rest m.1)
+
+abbrev pub then_entries : List ℕ → (List (List ℕ) → Made (List (List ℕ × FieldsValue))) → Made FieldsValue → Made (List (List ℕ × FieldsValue))
+then_entries key rest None = None
+then_entries key rest (Some m) = made_map (λ es. (key, m.0) ∷ es) (rest m.1)
+
+-- the entries, where no value is left over
+abbrev pub all_used : Made (List (List ℕ × FieldsValue)) → Option (List (List ℕ × FieldsValue))
+all_used None = None
+all_used (Some (es, [])) = Some es
+all_used (Some (es, v ∷ sent)) = None
+
 module _ (seen : DotValue → Bool) where
-  -- one dot, by what the asker holds there, where the others are made of what is left
-  abbrev pub fill_unseen : DotValue → List ℕ → (List (List ℕ) → Made ValuesValue) → List (List ℕ) → Made ValuesValue
-  fill_unseen d name rest [] = None
-  fill_unseen d name rest (v ∷ sent) = checked d name v (rest sent)
-
-  abbrev pub fill_seen : DotValue → List ℕ → Option (List ℕ) → (List (List ℕ) → Made ValuesValue) → List (List ℕ) → Made ValuesValue
-  fill_seen d name None rest sent = rest sent
-  fill_seen d name (Some v) rest sent = checked d name v (rest sent)
-
   -- the values of a field
   abbrev pub fill_values : ValuesValue → NamesValue → List (List ℕ) → Made ValuesValue
   fill_values own [] sent = Some ([], sent)
@@ -43,28 +58,15 @@ module _ (seen : DotValue → Bool) where
       cond (seen n.0) (fill_seen n.0 n.1 (find dot_cmp n.0 own) (fill_values own ns) sent) (fill_unseen n.0 n.1 (fill_values own ns) sent)
 
   -- the fields of a key that hold a value then
-  abbrev pub then_fields : List ℕ → (List (List ℕ) → Made FieldsValue) → Made ValuesValue → Made FieldsValue
-  then_fields field rest None = None
-  then_fields field rest (Some m) = made_map (with_values field m.0) (rest m.1)
-
   abbrev pub fill_fields : FieldsValue → NamedValue → List (List ℕ) → Made FieldsValue
   fill_fields own [] sent = Some ([], sent)
   fill_fields own (f ∷ fs) sent = then_fields f.0 (fill_fields own fs) (fill_values (values_of_field own f.0) f.1 sent)
 
   -- the entries of a page, by what the asker holds
-  abbrev pub then_entries : List ℕ → (List (List ℕ) → Made (List (List ℕ × FieldsValue))) → Made FieldsValue → Made (List (List ℕ × FieldsValue))
-  then_entries key rest None = None
-  then_entries key rest (Some m) = made_map (λ es. (key, m.0) ∷ es) (rest m.1)
-
   abbrev pub fill_entries : finite.FinMap bytes_cmp FieldsValue → List EntryValue → List (List ℕ) → Made (List (List ℕ × FieldsValue))
   fill_entries own [] sent = Some ([], sent)
   fill_entries own (e ∷ es) sent = then_entries e.0 (fill_entries own es) (fill_fields (fields_or_none (finite.get own e.0)) e.1 sent)
 
-  -- the entries, where no value is left over
-  abbrev pub all_used : Made (List (List ℕ × FieldsValue)) → Option (List (List ℕ × FieldsValue))
-  all_used None = None
-  all_used (Some (es, [])) = Some es
-  all_used (Some (es, v ∷ sent)) = None
-
+  -- and that of just the values sent
   abbrev pub filled : finite.FinMap bytes_cmp FieldsValue → List EntryValue → List (List ℕ) → Option (List (List ℕ × FieldsValue))
   filled own es sent = all_used (fill_entries own es sent)

@@ -1,0 +1,183 @@
+-- What the names of their entries are filled to: just the values that are left open, from just the values that were missing.
+use Rattle.std.proofs.Common.{◌≡◌, ◌≢◌, ◌⊎◌, inl, inr, ℕ, List, [], ◌∷◌, ◌++◌, map, Bool, true, false, cond, not, Some, None, refl, sym, ◌∙◌, ap, subst, append_assoc}
+use Rattle.std.specs.Prelude.{Option, ◌||◌, is_some}
+use Rattle.std.specs.Option.{option_map}
+use Rattle.std.specs.List.{filter, flat_map}
+use Rattle.std.specs.Str.{bytes_eq}
+use Rattle.std.specs.FinMap as finite
+use Rattle.std.specs.FinMap.Entries.{find}
+use Rattle.std.proofs.lemmas.Slice.Eq.{bytes_eq-Decides}
+use Rattle.dots.specs.Bytes.{bytes_cmp}
+use Rattle.dots.specs.Dot.{DotValue}
+use Rattle.causal_context.specs.Dots.{dot_cmp}
+use Rattle.sha2.specs.Sha256.{sha256}
+use Rattle.causal_join.specs.OrMap.{ValuesValue, FieldsValue}
+use Rattle.wire_form.specs.Page.{NamesValue, NamedValue, EntryValue}
+use Rattle.prefix_digest.specs.Page.{named_values, named_fields, named_entry, named_entries}
+use Rattle.prefix_digest.specs.Values.{unknown_in_values, unknown_in_fields, unknown_in}
+use Rattle.sync_model.specs.Opened.{fields_or_none, values_of_field, with_values, without_ended, open_fields}
+use Rattle.sync_model.specs.Filled.{Made, made_map, checked, fill_unseen, fill_seen, fill_values, then_fields, fill_fields, then_entries, fill_entries, all_used, filled}
+use Rattle.sync_model.specs.Differ.{Held}
+use Rattle.sync_model.proofs.Found.{same_Some}
+
+-- ---- what a step was made of
+
+module _ {X Y : Type 0} where
+  mapped_from : (f : X → Y) (m : Made X) (y : Y) (rest : List (List ℕ)) → made_map f m ≡ Some (y, rest) → (x : X) × (m ≡ Some (x, rest)) × (y ≡ f x)
+  mapped_from f None y rest e = absurd cc
+  mapped_from f (Some (x, left)) y rest e =
+      let both = same_Some (f x, left) (y, rest) e in
+      (x, ap (λ c. Some (x, c.1)) both, sym (ap (λ c. c.0) both))
+
+checked_from : (d : DotValue) (name v : List ℕ) (m : Made ValuesValue) (vs : ValuesValue) (rest : List (List ℕ)) → checked d name v m ≡ Some (vs, rest)
+    → (bytes_eq (sha256 v) name ≡ true) × ((ws : ValuesValue) × (m ≡ Some (ws, rest)) × (vs ≡ (d, v) ∷ ws))
+checked_from d name v m vs rest e = step (bytes_eq (sha256 v) name) refl e
+  where
+    step : (b : Bool) → bytes_eq (sha256 v) name ≡ b → cond b (made_map (λ vs. (d, v) ∷ vs) m) None ≡ Some (vs, rest)
+        → (bytes_eq (sha256 v) name ≡ true) × ((ws : ValuesValue) × (m ≡ Some (ws, rest)) × (vs ≡ (d, v) ∷ ws))
+    step true t s = (t, mapped_from (λ vs. (d, v) ∷ vs) m vs rest s)
+    step false t s = absurd cc
+
+abbrev behind_first : List (List ℕ) → List (List ℕ)
+behind_first [] = []
+behind_first (x ∷ xs) = xs
+
+module _ (MetHere MetThere : List ℕ → Type 0) (no_clash : (a b : List ℕ) → MetHere a → MetThere b → sha256 a ≡ sha256 b → a ≡ b) where
+  -- the values sent, those of the own map, and those of their entries were met
+  abbrev pub SentMet : List (List ℕ) → Type 0
+  SentMet [] = Unit {0}
+  SentMet (v ∷ vs) = MetHere v × SentMet vs
+
+  abbrev pub OwnValuesMet : ValuesValue → Type 0
+  OwnValuesMet own = (d : DotValue) (v : List ℕ) → find dot_cmp d own ≡ Some v → MetHere v
+
+  abbrev pub OwnFieldsMet : FieldsValue → Type 0
+  OwnFieldsMet own = (field : List ℕ) → OwnValuesMet (values_of_field own field)
+
+  abbrev pub OwnMet : Held → Type 0
+  OwnMet own = (key : List ℕ) → OwnFieldsMet (fields_or_none (finite.get own key))
+
+  abbrev pub ValuesMet : ValuesValue → Type 0
+  ValuesMet [] = Unit {0}
+  ValuesMet (v ∷ vs) = MetThere v.1 × ValuesMet vs
+
+  abbrev pub FieldsMet : FieldsValue → Type 0
+  FieldsMet [] = Unit {0}
+  FieldsMet (f ∷ fs) = ValuesMet f.1 × FieldsMet fs
+
+  abbrev pub EntriesMet : List (List ℕ × FieldsValue) → Type 0
+  EntriesMet [] = Unit {0}
+  EntriesMet (e ∷ es) = FieldsMet e.1 × EntriesMet es
+
+  same_value : (v w : List ℕ) → bytes_eq (sha256 v) (sha256 w) ≡ true → MetHere v → MetThere w → v ≡ w
+  same_value v w e here there = no_clash v w here there ((bytes_eq-Decides (sha256 v) (sha256 w)).0 e)
+
+  module _ (seen : DotValue → Bool) where
+    -- what is left of the values sent was met too
+    left_met : (old more new : List (List ℕ)) → old ≡ more ++ new → SentMet old → SentMet new
+    left_met old [] new e met = subst SentMet e met
+    left_met [] (v ∷ more) new e met = absurd cc
+    left_met (u ∷ old) (v ∷ more) new e met = left_met old more new (ap behind_first e) met.1
+
+    abbrev pub IsFilled : {X : Type 0} → X → X → List (List ℕ) → List (List ℕ) → List (List ℕ) → Type 0
+    IsFilled made opened sent missing rest = (made ≡ opened) × (sent ≡ missing ++ rest)
+
+    -- one value is left out, is the own one, or is sent
+    ended : (d : DotValue) (v : List ℕ) (own vs made : ValuesValue) (sent rest : List (List ℕ)) → seen d ≡ true → find dot_cmp d own ≡ None
+        → IsFilled made (without_ended seen own vs) sent (unknown_in_values seen vs) rest → IsFilled made (without_ended seen own ((d, v) ∷ vs)) sent (unknown_in_values seen ((d, v) ∷ vs)) rest
+    ended d v own vs made sent rest s none h =
+        (
+          h.0 ∙ (λ t. cond (not (sym s t) || is_some (sym none t)) ((d, v) ∷ without_ended seen own vs) (without_ended seen own vs)),
+          h.1 ∙ (λ t. map (λ v. v.1) (cond (not (sym s t)) ((d, v) ∷ filter (λ v. not (seen v.0)) vs) (filter (λ v. not (seen v.0)) vs)) ++ rest),
+        )
+
+    kept : (d : DotValue) (v o : List ℕ) (own vs made : ValuesValue) (sent rest : List (List ℕ)) → seen d ≡ true → find dot_cmp d own ≡ Some o → o ≡ v
+        → IsFilled made (without_ended seen own vs) sent (unknown_in_values seen vs) rest → IsFilled ((d, o) ∷ made) (without_ended seen own ((d, v) ∷ vs)) sent (unknown_in_values seen ((d, v) ∷ vs)) rest
+    kept d v o own vs made sent rest s some same h =
+        (
+          (λ t. (d, same t) ∷ h.0 t) ∙ (λ t. cond (not (sym s t) || is_some (sym some t)) ((d, v) ∷ without_ended seen own vs) (without_ended seen own vs)),
+          h.1 ∙ (λ t. map (λ v. v.1) (cond (not (sym s t)) ((d, v) ∷ filter (λ v. not (seen v.0)) vs) (filter (λ v. not (seen v.0)) vs)) ++ rest),
+        )
+
+    fresh : (d : DotValue) (v o : List ℕ) (own vs made : ValuesValue) (sent rest : List (List ℕ)) → seen d ≡ false → o ≡ v
+        → IsFilled made (without_ended seen own vs) sent (unknown_in_values seen vs) rest → IsFilled ((d, o) ∷ made) (without_ended seen own ((d, v) ∷ vs)) (o ∷ sent) (unknown_in_values seen ((d, v) ∷ vs)) rest
+    fresh d v o own vs made sent rest s same h =
+        (
+          (λ t. (d, same t) ∷ h.0 t) ∙ (λ t. cond (not (sym s t) || is_some (find dot_cmp d own)) ((d, v) ∷ without_ended seen own vs) (without_ended seen own vs)),
+          (λ t. same t ∷ h.1 t) ∙ (λ t. map (λ v. v.1) (cond (not (sym s t)) ((d, v) ∷ filter (λ v. not (seen v.0)) vs) (filter (λ v. not (seen v.0)) vs)) ++ rest),
+        )
+
+    pub values_filled : (own vs : ValuesValue) (sent : List (List ℕ)) (made : ValuesValue) (rest : List (List ℕ)) → OwnValuesMet own → ValuesMet vs → SentMet sent
+        → fill_values seen own (named_values vs) sent ≡ Some (made, rest) → IsFilled made (without_ended seen own vs) sent (unknown_in_values seen vs) rest
+    values_filled own [] sent made rest own_met met sent_met e =
+        let both = same_Some ([], sent) (made, rest) e in
+        (sym (ap (λ c. c.0) both), ap (λ c. c.1) both)
+    values_filled own ((d, v) ∷ vs) sent made rest own_met met sent_met e =
+        step (seen d) (find dot_cmp d own) refl refl e (λ sent made. values_filled own vs sent made rest own_met met.1)
+      where
+        Further : Type 0
+        Further = (sent : List (List ℕ)) (made : ValuesValue) → SentMet sent → fill_values seen own (named_values vs) sent ≡ Some (made, rest) → IsFilled made (without_ended seen own vs) sent (unknown_in_values seen vs) rest
+
+        unseen : (sent : List (List ℕ)) → SentMet sent → seen d ≡ false → fill_unseen d (sha256 v) (fill_values seen own (named_values vs)) sent ≡ Some (made, rest) → Further
+            → IsFilled made (without_ended seen own ((d, v) ∷ vs)) sent (unknown_in_values seen ((d, v) ∷ vs)) rest
+        unseen [] m s f further = absurd cc
+        unseen (o ∷ sent) m s f further =
+            let from = checked_from d (sha256 v) o (fill_values seen own (named_values vs) sent) made rest f in
+            let same = same_value o v from.0 m.0 met.0 in
+            subst (λ x. IsFilled x (without_ended seen own ((d, v) ∷ vs)) (o ∷ sent) (unknown_in_values seen ((d, v) ∷ vs)) rest) (sym from.1.2)
+            (fresh d v o own vs from.1.0 sent rest s same (further sent from.1.0 m.1 from.1.1))
+
+        step : (b : Bool) (held : Option (List ℕ)) → seen d ≡ b → find dot_cmp d own ≡ held
+            → cond b (fill_seen d (sha256 v) held (fill_values seen own (named_values vs)) sent) (fill_unseen d (sha256 v) (fill_values seen own (named_values vs)) sent) ≡ Some (made, rest) → Further
+            → IsFilled made (without_ended seen own ((d, v) ∷ vs)) sent (unknown_in_values seen ((d, v) ∷ vs)) rest
+        step true None s t f further = ended d v own vs made sent rest s t (further sent made sent_met f)
+        step true (Some o) s t f further =
+            let from = checked_from d (sha256 v) o (fill_values seen own (named_values vs) sent) made rest f in
+            let same = same_value o v from.0 (own_met d o t) met.0 in
+            subst (λ x. IsFilled x (without_ended seen own ((d, v) ∷ vs)) sent (unknown_in_values seen ((d, v) ∷ vs)) rest) (sym from.1.2)
+            (kept d v o own vs from.1.0 sent rest s t same (further sent from.1.0 sent_met from.1.1))
+        step false held s t f further = unseen sent sent_met s f further
+
+    -- ---- fields, and entries
+
+    then_from : {X Y Z : Type 0} (f : X → Y → Z) (m : Made X) (rest_of : List (List ℕ) → Made Y) (join : Made X → Made Z) → join None ≡ None → ((x : X) (left : List (List ℕ)) → join (Some (x, left)) ≡ made_map (f x) (rest_of left))
+        → (z : Z) (rest : List (List ℕ)) → join m ≡ Some (z, rest)
+        → (x : X) × (left : List (List ℕ)) × (y : Y) × (m ≡ Some (x, left)) × (rest_of left ≡ Some (y, rest)) × (z ≡ f x y)
+    then_from f None rest_of join n s z rest e = absurd (let none : None ≡ Some (z, rest) = sym n ∙ e in cc)
+    then_from f (Some (x, left)) rest_of join n s z rest e =
+        let from = mapped_from (f x) (rest_of left) z rest (sym (s x left) ∙ e) in
+        (x, left, from.0, refl, from.1, from.2)
+
+    pub fields_filled : (own fs : FieldsValue) (sent : List (List ℕ)) (made : FieldsValue) (rest : List (List ℕ)) → OwnFieldsMet own → FieldsMet fs → SentMet sent
+        → fill_fields seen own (named_fields fs) sent ≡ Some (made, rest) → IsFilled made (open_fields seen own fs) sent (unknown_in_fields seen fs) rest
+    fields_filled own [] sent made rest own_met met sent_met e =
+        let both = same_Some ([], sent) (made, rest) e in
+        (sym (ap (λ c. c.0) both), ap (λ c. c.1) both)
+    fields_filled own ((f, vs) ∷ fs) sent made rest own_met met sent_met e =
+        let from = then_from (with_values f) (fill_values seen (values_of_field own f) (named_values vs) sent) (fill_fields seen own (named_fields fs)) (then_fields f (fill_fields seen own (named_fields fs))) refl (λ x left. refl) made rest e in
+        let here = values_filled (values_of_field own f) vs sent from.0 from.1 (own_met f) met.0 sent_met from.3 in
+        let further = fields_filled own fs from.1 from.2 rest own_met met.1 (left_met sent (unknown_in_values seen vs) from.1 here.1 sent_met) from.4 in
+        (
+          from.5 ∙ (λ t. with_values f (here.0 t) (further.0 t)),
+          here.1 ∙ ap (λ l. unknown_in_values seen vs ++ l) further.1 ∙ sym (append_assoc (unknown_in_values seen vs) (unknown_in_fields seen fs) rest),
+        )
+
+    -- what is open of each entry
+    abbrev pub open_entries : Held → List (List ℕ × FieldsValue) → List (List ℕ × FieldsValue)
+    open_entries own [] = []
+    open_entries own (e ∷ es) = (e.0, open_fields seen (fields_or_none (finite.get own e.0)) e.1) ∷ open_entries own es
+
+    pub entries_filled : (own : Held) (es : List (List ℕ × FieldsValue)) (sent : List (List ℕ)) (made : List (List ℕ × FieldsValue)) (rest : List (List ℕ)) → OwnMet own → EntriesMet es → SentMet sent
+        → fill_entries seen own (named_entries es) sent ≡ Some (made, rest) → IsFilled made (open_entries own es) sent (unknown_in seen es) rest
+    entries_filled own [] sent made rest own_met met sent_met e =
+        let both = same_Some ([], sent) (made, rest) e in
+        (sym (ap (λ c. c.0) both), ap (λ c. c.1) both)
+    entries_filled own ((k, fs) ∷ es) sent made rest own_met met sent_met e =
+        let held = fields_or_none (finite.get own k) in
+        let from = then_from (λ fs es. (k, fs) ∷ es) (fill_fields seen held (named_fields fs) sent) (fill_entries seen own (named_entries es)) (then_entries k (fill_entries seen own (named_entries es))) refl (λ x left. refl) made rest e in
+        let here = fields_filled held fs sent from.0 from.1 (own_met k) met.0 sent_met from.3 in
+        let further = entries_filled own es from.1 from.2 rest own_met met.1 (left_met sent (unknown_in_fields seen fs) from.1 here.1 sent_met) from.4 in
+        (
+          from.5 ∙ (λ t. (k, here.0 t) ∷ further.0 t),
+          here.1 ∙ ap (λ l. unknown_in_fields seen fs ++ l) further.1 ∙ sym (append_assoc (unknown_in_fields seen fs) (unknown_in seen es) rest),
+        )
