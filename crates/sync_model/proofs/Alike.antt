@@ -59,8 +59,8 @@ module _ (hash_of : List ℕ → ℕ) (m : Held) (p : List ℕ) where
       step (Past long e) = absurd (let none : None ≡ Some page = sym e ∙ is in cc)
       step (Nothing short none e) = absurd (let none : None ≡ Some page = sym e ∙ is in cc)
       step (One short e one t) = told (e ∷ []) (OneKey (named_entry e)) one refl t
-      step (Several deep t) = told (walk_under hash_of p m) (Keys (named_entries (walk_under hash_of p m))) refl refl t
-      step (Parted less t) = absurd (subst IsLeaf (same_Some page _ (sym is ∙ t)) leaf)
+      step (Several deep many t) = told (walk_under hash_of p m) (Keys (named_entries (walk_under hash_of p m))) refl refl t
+      step (Parted less many t) = absurd (subst IsLeaf (same_Some page _ (sym is ∙ t)) leaf)
 
   -- no page, no key
   pub none_there : page_at hash_of m p ≡ None → length p ≤ 7 → (key : List ℕ) → begins p (path hash_of key) ≡ true → finite.get m key ≡ None
@@ -74,8 +74,8 @@ module _ (hash_of : List ℕ → ℕ) (m : Held) (p : List ℕ) where
       step (Past long e) = absurd (omega (arith, long, short))
       step (Nothing s none e) = empty none (finite.get m key) refl
       step (One s e one t) = absurd (let none : None ≡ Some (OneKey (named_entry e)) = sym is ∙ t in cc)
-      step (Several deep t) = absurd (let none : None ≡ Some (Keys (named_entries (walk_under hash_of p m))) = sym is ∙ t in cc)
-      step (Parted less t) = some_apart (sym is ∙ t)
+      step (Several deep many t) = absurd (let none : None ≡ Some (Keys (named_entries (walk_under hash_of p m))) = sym is ∙ t in cc)
+      step (Parted less many t) = some_apart (sym is ∙ t)
         where
           some_apart : {X : Type 0} {x : X} → None ≡ Some x → finite.get m key ≡ None
           some_apart e = absurd cc
@@ -96,11 +96,11 @@ module _ (hash_of : List ℕ → ℕ) (m : Held) (p : List ℕ) where
         where
           same_kind : Branch cs ≡ OneKey (named_entry e) → ⊥
           same_kind q = cc
-      step (Several deep t) = absurd (same_kind (walk_under hash_of p m) (same_Some (Branch cs) (Keys (named_entries (walk_under hash_of p m))) (sym is ∙ t)))
+      step (Several deep many t) = absurd (same_kind (walk_under hash_of p m) (same_Some (Branch cs) (Keys (named_entries (walk_under hash_of p m))) (sym is ∙ t)))
         where
           same_kind : (es : List (List ℕ × FieldsValue)) → Branch cs ≡ Keys (named_entries es) → ⊥
           same_kind es q = cc
-      step (Parted less t) = (less, ap children (same_Some (Branch cs) _ (sym is ∙ t)))
+      step (Parted less many t) = (less, ap children (same_Some (Branch cs) _ (sym is ∙ t)))
 
 digest_apart : (page : PageValue) → None ≡ Some (digest_of page) → ⊥
 digest_apart page e = absurd cc

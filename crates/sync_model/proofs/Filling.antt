@@ -3,6 +3,7 @@ use Rattle.std.proofs.Common.{◌≡◌, ◌≢◌, ◌⊎◌, inl, inr, ℕ, Li
 use Rattle.std.specs.Prelude.{Option, ◌||◌, is_some}
 use Rattle.std.specs.Option.{option_map}
 use Rattle.std.specs.List.{filter, flat_map}
+use Rattle.std.specs.Ordering.{eq_by_cmp}
 use Rattle.std.specs.Str.{bytes_eq}
 use Rattle.std.specs.FinMap as finite
 use Rattle.std.specs.FinMap.Entries.{find}
@@ -15,7 +16,7 @@ use Rattle.causal_join.specs.OrMap.{ValuesValue, FieldsValue}
 use Rattle.wire_form.specs.Page.{NamesValue, NamedValue, EntryValue}
 use Rattle.prefix_digest.specs.Page.{named_values, named_fields, named_entry, named_entries}
 use Rattle.prefix_digest.specs.Values.{unknown_in_values, unknown_in_fields, unknown_in}
-use Rattle.sync_model.specs.Opened.{fields_or_none, values_of_field, with_values, without_ended, open_fields}
+use Rattle.sync_model.specs.Opened.{fields_or_none, values_or_none, values_of_field, with_values, without_ended, open_fields}
 use Rattle.sync_model.specs.Filled.{Made, made_map, checked, fill_unseen, fill_seen, fill_values, then_fields, fill_fields, then_entries, fill_entries, all_used, filled}
 use Rattle.sync_model.specs.Differ.{Held}
 use Rattle.sync_model.proofs.Found.{same_Some}
@@ -38,44 +39,63 @@ checked_from d name v m vs rest e = step (bytes_eq (sha256 v) name) refl e
     step true t s = (t, mapped_from (λ vs. (d, v) ∷ vs) m vs rest s)
     step false t s = absurd cc
 
+-- ---- a fact of each value of a list, a field, a key
+
+module _ (P : List ℕ → Type 0) where
+  abbrev pub EachSent : List (List ℕ) → Type 0
+  EachSent [] = Unit {0}
+  EachSent (v ∷ vs) = P v × EachSent vs
+
+  abbrev pub EachValue : ValuesValue → Type 0
+  EachValue [] = Unit {0}
+  EachValue (v ∷ vs) = P v.1 × EachValue vs
+
+  abbrev pub EachField : FieldsValue → Type 0
+  EachField [] = Unit {0}
+  EachField (f ∷ fs) = EachValue f.1 × EachField fs
+
+  abbrev pub EachEntry : List (List ℕ × FieldsValue) → Type 0
+  EachEntry [] = Unit {0}
+  EachEntry (e ∷ es) = EachField e.1 × EachEntry es
+
+  abbrev pub EachHeld : Held → Type 0
+  EachHeld m = (key : List ℕ) (fields : FieldsValue) → finite.get m key ≡ Some fields → EachField fields
+
+  value_found : (vs : ValuesValue) (d : DotValue) (v : List ℕ) → EachValue vs → find dot_cmp d vs ≡ Some v → P v
+  value_found [] d v all e = absurd cc
+  value_found (x ∷ vs) d v all e = step (eq_by_cmp dot_cmp d x.0) e (value_found vs d v all.1)
+    where
+      step : (b : Bool) → cond b (Some x.1) (find dot_cmp d vs) ≡ Some v → (find dot_cmp d vs ≡ Some v → P v) → P v
+      step true s further = subst P (same_Some x.1 v s) all.0
+      step false s further = further s
+
+  field_found : (fs : FieldsValue) (field : List ℕ) → EachField fs → EachValue (values_of_field fs field)
+  field_found [] field all = tt
+  field_found (x ∷ fs) field all = step (eq_by_cmp bytes_cmp field x.0) (field_found fs field all.1)
+    where
+      step : (b : Bool) → EachValue (values_or_none (find bytes_cmp field fs)) → EachValue (values_or_none (cond b (Some x.1) (find bytes_cmp field fs)))
+      step true further = all.0
+      step false further = further
+
+  held_found : (m : Held) → EachHeld m → (key : List ℕ) → EachField (fields_or_none (finite.get m key))
+  held_found m all key = step (finite.get m key) refl
+    where
+      step : (o : Option FieldsValue) → finite.get m key ≡ o → EachField (fields_or_none o)
+      step None e = tt
+      step (Some fs) e = all key fs e
+
 abbrev behind_first : List (List ℕ) → List (List ℕ)
 behind_first [] = []
 behind_first (x ∷ xs) = xs
 
 module _ (MetHere MetThere : List ℕ → Type 0) (no_clash : (a b : List ℕ) → MetHere a → MetThere b → sha256 a ≡ sha256 b → a ≡ b) where
-  -- the values sent, those of the own map, and those of their entries were met
-  abbrev pub SentMet : List (List ℕ) → Type 0
-  SentMet [] = Unit {0}
-  SentMet (v ∷ vs) = MetHere v × SentMet vs
-
-  abbrev pub OwnValuesMet : ValuesValue → Type 0
-  OwnValuesMet own = (d : DotValue) (v : List ℕ) → find dot_cmp d own ≡ Some v → MetHere v
-
-  abbrev pub OwnFieldsMet : FieldsValue → Type 0
-  OwnFieldsMet own = (field : List ℕ) → OwnValuesMet (values_of_field own field)
-
-  abbrev pub OwnMet : Held → Type 0
-  OwnMet own = (key : List ℕ) → OwnFieldsMet (fields_or_none (finite.get own key))
-
-  abbrev pub ValuesMet : ValuesValue → Type 0
-  ValuesMet [] = Unit {0}
-  ValuesMet (v ∷ vs) = MetThere v.1 × ValuesMet vs
-
-  abbrev pub FieldsMet : FieldsValue → Type 0
-  FieldsMet [] = Unit {0}
-  FieldsMet (f ∷ fs) = ValuesMet f.1 × FieldsMet fs
-
-  abbrev pub EntriesMet : List (List ℕ × FieldsValue) → Type 0
-  EntriesMet [] = Unit {0}
-  EntriesMet (e ∷ es) = FieldsMet e.1 × EntriesMet es
-
   same_value : (v w : List ℕ) → bytes_eq (sha256 v) (sha256 w) ≡ true → MetHere v → MetThere w → v ≡ w
   same_value v w e here there = no_clash v w here there ((bytes_eq-Decides (sha256 v) (sha256 w)).0 e)
 
   module _ (seen : DotValue → Bool) where
     -- what is left of the values sent was met too
-    left_met : (old more new : List (List ℕ)) → old ≡ more ++ new → SentMet old → SentMet new
-    left_met old [] new e met = subst SentMet e met
+    left_met : (old more new : List (List ℕ)) → old ≡ more ++ new → EachSent MetHere old → EachSent MetHere new
+    left_met old [] new e met = subst (EachSent MetHere) e met
     left_met [] (v ∷ more) new e met = absurd cc
     left_met (u ∷ old) (v ∷ more) new e met = left_met old more new (ap behind_first e) met.1
 
@@ -107,7 +127,7 @@ module _ (MetHere MetThere : List ℕ → Type 0) (no_clash : (a b : List ℕ) �
           (λ t. same t ∷ h.1 t) ∙ (λ t. map (λ v. v.1) (cond (not (sym s t)) ((d, v) ∷ filter (λ v. not (seen v.0)) vs) (filter (λ v. not (seen v.0)) vs)) ++ rest),
         )
 
-    pub values_filled : (own vs : ValuesValue) (sent : List (List ℕ)) (made : ValuesValue) (rest : List (List ℕ)) → OwnValuesMet own → ValuesMet vs → SentMet sent
+    pub values_filled : (own vs : ValuesValue) (sent : List (List ℕ)) (made : ValuesValue) (rest : List (List ℕ)) → EachValue MetHere own → EachValue MetThere vs → EachSent MetHere sent
         → fill_values seen own (named_values vs) sent ≡ Some (made, rest) → IsFilled made (without_ended seen own vs) sent (unknown_in_values seen vs) rest
     values_filled own [] sent made rest own_met met sent_met e =
         let both = same_Some ([], sent) (made, rest) e in
@@ -116,9 +136,9 @@ module _ (MetHere MetThere : List ℕ → Type 0) (no_clash : (a b : List ℕ) �
         step (seen d) (find dot_cmp d own) refl refl e (λ sent made. values_filled own vs sent made rest own_met met.1)
       where
         Further : Type 0
-        Further = (sent : List (List ℕ)) (made : ValuesValue) → SentMet sent → fill_values seen own (named_values vs) sent ≡ Some (made, rest) → IsFilled made (without_ended seen own vs) sent (unknown_in_values seen vs) rest
+        Further = (sent : List (List ℕ)) (made : ValuesValue) → EachSent MetHere sent → fill_values seen own (named_values vs) sent ≡ Some (made, rest) → IsFilled made (without_ended seen own vs) sent (unknown_in_values seen vs) rest
 
-        unseen : (sent : List (List ℕ)) → SentMet sent → seen d ≡ false → fill_unseen d (sha256 v) (fill_values seen own (named_values vs)) sent ≡ Some (made, rest) → Further
+        unseen : (sent : List (List ℕ)) → EachSent MetHere sent → seen d ≡ false → fill_unseen d (sha256 v) (fill_values seen own (named_values vs)) sent ≡ Some (made, rest) → Further
             → IsFilled made (without_ended seen own ((d, v) ∷ vs)) sent (unknown_in_values seen ((d, v) ∷ vs)) rest
         unseen [] m s f further = absurd cc
         unseen (o ∷ sent) m s f further =
@@ -133,7 +153,7 @@ module _ (MetHere MetThere : List ℕ → Type 0) (no_clash : (a b : List ℕ) �
         step true None s t f further = ended d v own vs made sent rest s t (further sent made sent_met f)
         step true (Some o) s t f further =
             let from = checked_from d (sha256 v) o (fill_values seen own (named_values vs) sent) made rest f in
-            let same = same_value o v from.0 (own_met d o t) met.0 in
+            let same = same_value o v from.0 (value_found MetHere own d o own_met t) met.0 in
             subst (λ x. IsFilled x (without_ended seen own ((d, v) ∷ vs)) sent (unknown_in_values seen ((d, v) ∷ vs)) rest) (sym from.1.2)
             (kept d v o own vs from.1.0 sent rest s t same (further sent from.1.0 sent_met from.1.1))
         step false held s t f further = unseen sent sent_met s f further
@@ -148,14 +168,14 @@ module _ (MetHere MetThere : List ℕ → Type 0) (no_clash : (a b : List ℕ) �
         let from = mapped_from (f x) (rest_of left) z rest (sym (s x left) ∙ e) in
         (x, left, from.0, refl, from.1, from.2)
 
-    pub fields_filled : (own fs : FieldsValue) (sent : List (List ℕ)) (made : FieldsValue) (rest : List (List ℕ)) → OwnFieldsMet own → FieldsMet fs → SentMet sent
+    pub fields_filled : (own fs : FieldsValue) (sent : List (List ℕ)) (made : FieldsValue) (rest : List (List ℕ)) → EachField MetHere own → EachField MetThere fs → EachSent MetHere sent
         → fill_fields seen own (named_fields fs) sent ≡ Some (made, rest) → IsFilled made (open_fields seen own fs) sent (unknown_in_fields seen fs) rest
     fields_filled own [] sent made rest own_met met sent_met e =
         let both = same_Some ([], sent) (made, rest) e in
         (sym (ap (λ c. c.0) both), ap (λ c. c.1) both)
     fields_filled own ((f, vs) ∷ fs) sent made rest own_met met sent_met e =
         let from = then_from (with_values f) (fill_values seen (values_of_field own f) (named_values vs) sent) (fill_fields seen own (named_fields fs)) (then_fields f (fill_fields seen own (named_fields fs))) refl (λ x left. refl) made rest e in
-        let here = values_filled (values_of_field own f) vs sent from.0 from.1 (own_met f) met.0 sent_met from.3 in
+        let here = values_filled (values_of_field own f) vs sent from.0 from.1 (field_found MetHere own f own_met) met.0 sent_met from.3 in
         let further = fields_filled own fs from.1 from.2 rest own_met met.1 (left_met sent (unknown_in_values seen vs) from.1 here.1 sent_met) from.4 in
         (
           from.5 ∙ (λ t. with_values f (here.0 t) (further.0 t)),
@@ -167,7 +187,7 @@ module _ (MetHere MetThere : List ℕ → Type 0) (no_clash : (a b : List ℕ) �
     open_entries own [] = []
     open_entries own (e ∷ es) = (e.0, open_fields seen (fields_or_none (finite.get own e.0)) e.1) ∷ open_entries own es
 
-    pub entries_filled : (own : Held) (es : List (List ℕ × FieldsValue)) (sent : List (List ℕ)) (made : List (List ℕ × FieldsValue)) (rest : List (List ℕ)) → OwnMet own → EntriesMet es → SentMet sent
+    pub entries_filled : (own : Held) (es : List (List ℕ × FieldsValue)) (sent : List (List ℕ)) (made : List (List ℕ × FieldsValue)) (rest : List (List ℕ)) → EachHeld MetHere own → EachEntry MetThere es → EachSent MetHere sent
         → fill_entries seen own (named_entries es) sent ≡ Some (made, rest) → IsFilled made (open_entries own es) sent (unknown_in seen es) rest
     entries_filled own [] sent made rest own_met met sent_met e =
         let both = same_Some ([], sent) (made, rest) e in
@@ -175,7 +195,7 @@ module _ (MetHere MetThere : List ℕ → Type 0) (no_clash : (a b : List ℕ) �
     entries_filled own ((k, fs) ∷ es) sent made rest own_met met sent_met e =
         let held = fields_or_none (finite.get own k) in
         let from = then_from (λ fs es. (k, fs) ∷ es) (fill_fields seen held (named_fields fs) sent) (fill_entries seen own (named_entries es)) (then_entries k (fill_entries seen own (named_entries es))) refl (λ x left. refl) made rest e in
-        let here = fields_filled held fs sent from.0 from.1 (own_met k) met.0 sent_met from.3 in
+        let here = fields_filled held fs sent from.0 from.1 (held_found MetHere own own_met k) met.0 sent_met from.3 in
         let further = entries_filled own es from.1 from.2 rest own_met met.1 (left_met sent (unknown_in_fields seen fs) from.1 here.1 sent_met) from.4 in
         (
           from.5 ∙ (λ t. (k, here.0 t) ∷ further.0 t),

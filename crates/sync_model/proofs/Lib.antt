@@ -4,3 +4,4 @@ pub mod Paged
 pub mod Found
 pub mod Alike
 pub mod Filling
+pub mod Stepping

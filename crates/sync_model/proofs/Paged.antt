@@ -63,8 +63,8 @@ pub data Paged (hash_of : List ℕ → ℕ) (m : Held) (p : List ℕ) : Type 0 w
   Past : 7 < length p → page_at hash_of m p ≡ None → Paged hash_of m p
   Nothing : length p ≤ 7 → walk_under hash_of p m ≡ [] → page_at hash_of m p ≡ None → Paged hash_of m p
   One : length p ≤ 7 → (e : List ℕ × FieldsValue) → walk_under hash_of p m ≡ e ∷ [] → page_at hash_of m p ≡ Some (OneKey (named_entry e)) → Paged hash_of m p
-  Several : length p ≡ 7 → page_at hash_of m p ≡ Some (Keys (named_entries (walk_under hash_of p m))) → Paged hash_of m p
-  Parted : length p < 7 → page_at hash_of m p ≡ Some (Branch (present 0 32 (λ i. digest_at hash_of m (p ++ i ∷ [])))) → Paged hash_of m p
+  Several : length p ≡ 7 → 2 ≤ length (walk_under hash_of p m) → page_at hash_of m p ≡ Some (Keys (named_entries (walk_under hash_of p m))) → Paged hash_of m p
+  Parted : length p < 7 → 2 ≤ length (walk_under hash_of p m) → page_at hash_of m p ≡ Some (Branch (present 0 32 (λ i. digest_at hash_of m (p ++ i ∷ [])))) → Paged hash_of m p
 
 module _ (hash_of : List ℕ → ℕ) (m : Held) (p : List ℕ) where
   by_walk : length p ≤ 7 → (es : List (List ℕ × FieldsValue)) → walk_under hash_of p m ≡ es → Paged hash_of m p
@@ -77,8 +77,8 @@ module _ (hash_of : List ℕ → ℕ) (m : Held) (p : List ℕ) where
       several = subst (λ l. 2 ≤ length l) (sym e) (omega arith)
 
       step : (length p ≡ 7) ⊎ (length p < 7) → Paged hash_of m p
-      step (inl deep) = Several deep (page_list hash_of m p deep several)
-      step (inr less) = Parted less (page_branch hash_of m p less several)
+      step (inl deep) = Several deep several (page_list hash_of m p deep several)
+      step (inr less) = Parted less several (page_branch hash_of m p less several)
 
   pub paged : Paged hash_of m p
   paged = step (cases_lt 7 (length p))
