@@ -5,3 +5,5 @@ pub mod Found
 pub mod Alike
 pub mod Filling
 pub mod Stepping
+pub mod Keeping
+pub mod Fetching

@@ -22,6 +22,11 @@ module _ {X : Type 0} where
   pub In-Contains : (xs : List X) (x : X) → Contains xs x → In xs x
   In-Contains xs x h = In-get xs h.0 x h.1 h.2
 
+  pub Contains-In : (xs : List X) (x : X) → In xs x → Contains xs x
+  Contains-In [] x h = absurd h
+  Contains-In (y ∷ ys) x (inl e) = (0, omega arith, e)
+  Contains-In (y ∷ ys) x (inr h) = let rest = Contains-In ys x h in let less = rest.1 in (suc rest.0, omega (arith, less), rest.2)
+
   pub In-All : (P : X → Type 0) (xs : List X) (x : X) → All P xs → In xs x → P x
   In-All P [] x all h = absurd h
   In-All P (y ∷ ys) x all (inl e) = subst P e (all 0 y (omega arith))

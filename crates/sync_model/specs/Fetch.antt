@@ -70,43 +70,44 @@ abbrev pub put_entries : List (List ℕ × FieldsValue) → Held → Held
 put_entries [] m = m
 put_entries (e ∷ es) m = put_entry e.0 e.1 (put_entries es m)
 
--- One session at its asker: the hash of keys, the own map when it asked, the dots that it had seen then, and the dots that
--- the opening knows
-module _ (hash_of : List ℕ → ℕ) (own : Held) (seen opened : DotValue → Bool) where
-  -- of the children of a branch, those whose digest is the own one, and the others
+-- whether what is built at a key stays where a page is taken: it is not under the prefix, or the page is a branch with the key's
+-- next index
+abbrev pub stays : (List ℕ → ℕ) → List ℕ → PageValue → List ℕ → Bool
+stays hash_of p page key = not (begins p (path hash_of key)) || list_any (λ c. nat_eq c.0 (get_or (path hash_of key) (length p) 0)) (children_of page)
+
+module _ (hash_of : List ℕ → ℕ) (own : Held) where
+  -- whether the digest of a child is the own one, and the children of a branch that have to be asked for
   abbrev pub is_own : List ℕ → ℕ × List ℕ → Bool
   is_own p child = is_digest (digest_at hash_of own (p ++ child.0 ∷ [])) child.1
 
-  -- the children that have to be asked for
   abbrev pub to_ask : List ℕ → List (ℕ × List ℕ) → List (ℕ × List ℕ)
   to_ask p = filter (λ c. not (is_own p c))
 
-  -- Whether a page can be that of the peer: its keys stand under the prefix, and what it tells and what is kept of the own map for
-  -- it are dots that the opening knows
-  abbrev pub fits : List ℕ → PageValue → Bool
-  fits p page =
+  -- Whether a page can be that of the peer, whose opening knows these dots: its keys stand under the prefix, and what it tells, and what is
+  -- kept of the own map for it, are dots that are known
+  abbrev pub fits : (DotValue → Bool) → List ℕ → PageValue → Bool
+  fits opened p page =
       list_all (λ e. begins p (path hash_of e.0)) (entries_of page)
       && (within opened (entries_of page) && list_all (λ c. not (is_own p c) || within opened (walk_under hash_of (p ++ c.0 ∷ []) own)) (children_of page))
 
-  -- whether what is built at a key stays where a page is taken: it is not under the prefix, or the page is a branch with the key's
-  -- next index
-  abbrev pub stays : List ℕ → PageValue → List ℕ → Bool
-  stays p page key = not (begins p (path hash_of key)) || list_any (λ c. nat_eq c.0 (get_or (path hash_of key) (length p) 0)) (children_of page)
-
+-- One session at its asker: the hash of keys, the own map when it asked, the dots that it had seen then, and the dots that
+-- the opening knows
+module _ (hash_of : List ℕ → ℕ) (own : Held) (seen opened : DotValue → Bool) where
   -- what a page makes that fits, with the values that came for its names
   abbrev pub took : Fetch → List ℕ → PageValue → Option (List (List ℕ × FieldsValue)) → Taken
   took f p page None = Mismatch
   took f p page (Some es) = Took (record {
-    waiting = put_children p (to_ask p (children_of page)) (finite.remove f.waiting p);
-    built = put_entries es (finite.retain_keys f.built (stays p page));
+    waiting = put_children p (to_ask hash_of own p (children_of page)) (finite.remove f.waiting p);
+    built = put_entries es (finite.retain_keys f.built (stays hash_of p page));
   })
 
   -- a page that came where this digest was promised
   abbrev pub promised : Fetch → List ℕ → PageValue → List (List ℕ) → Option (List ℕ) → Taken
   promised f p page sent None = Ignored
-  promised f p page sent (Some d) = cond (bytes_eq d (digest_of page) && fits p page) (took f p page (filled seen own (entries_of page) sent)) Mismatch
+  promised f p page sent (Some d) =
+      cond (bytes_eq d (digest_of page) && fits hash_of own opened p page) (took f p page (filled seen own (entries_of page) sent)) Mismatch
 
-  -- A page that came, with its values
+  -- a page that came, with its values
   abbrev pub take_page : Fetch → List ℕ → PageValue → List (List ℕ) → Taken
   take_page f p page sent = promised f p page sent (finite.get f.waiting p)
 

@@ -3,3 +3,4 @@ pub mod Opened
 pub mod Filled
 pub mod Differ
 pub mod Fetch
+pub mod Laws
