@@ -84,7 +84,7 @@ module _ (hash_of : List ℕ → ℕ) (own : Held) (seen opened : DotValue → B
 
 -- ---- what the page at a prefix shows, by what is put of it and by its children
 
-same_or_not : (q p : List ℕ) → (q ≡ p) ⊎ (q ≢ p)
+pub same_or_not : (q p : List ℕ) → (q ≡ p) ⊎ (q ≢ p)
 same_or_not q p = step (eq_by_cmp bytes_cmp q p) refl
   where
     step : (b : Bool) → eq_by_cmp bytes_cmp q p ≡ b → (q ≡ p) ⊎ (q ≢ p)
@@ -94,8 +94,10 @@ same_or_not q p = step (eq_by_cmp bytes_cmp q p) refl
 module _ (hash_of : List ℕ → ℕ) (theirs : Held) (p : List ℕ) where
   -- entries that stand there, and no children, or children and no entries
   pub data Shown (page : PageValue) : Type 0 where
-    Leaf : children_of page ≡ [] → entries_of page ≡ named_entries (walk_under hash_of p theirs) → ¬ IsBranchAt hash_of theirs p → Shown page
-    Parts : length p < 7 → (cs : List (ℕ × List ℕ)) → page ≡ Branch cs → cs ≡ present 0 32 (λ i. digest_at hash_of theirs (p ++ i ∷ [])) → Shown page
+    Leaf : children_of page ≡ [] → entries_of page ≡ named_entries (walk_under hash_of p theirs) → ¬ IsBranchAt hash_of theirs p
+        → ((seen : DotValue → Bool) → unknown_at seen hash_of theirs p ≡ unknown_in seen (walk_under hash_of p theirs)) → Shown page
+    Parts : length p < 7 → (cs : List (ℕ × List ℕ)) → page ≡ Branch cs → cs ≡ present 0 32 (λ i. digest_at hash_of theirs (p ++ i ∷ []))
+        → ((seen : DotValue → Bool) → unknown_at seen hash_of theirs p ≡ []) → Shown page
 
   not_branch : (page : PageValue) → page_at hash_of theirs p ≡ Some page → ((cs : List (ℕ × List ℕ)) → page ≡ Branch cs → ⊥) → ¬ IsBranchAt hash_of theirs p
   not_branch page is off branch = off branch.0 (same_Some page (Branch branch.0) (sym is ∙ branch.1))
@@ -109,26 +111,16 @@ module _ (hash_of : List ℕ → ℕ) (theirs : Held) (p : List ℕ) where
   pub shown : (page : PageValue) → page_at hash_of theirs p ≡ Some page → Shown page
   shown page is = step (paged hash_of theirs p)
     where
-      leaf : (other : PageValue) → page_at hash_of theirs p ≡ Some other → children_of other ≡ [] → entries_of other ≡ named_entries (walk_under hash_of p theirs) → ((cs : List (ℕ × List ℕ)) → other ≡ Branch cs → ⊥) → Shown page
-      leaf other t none es off =
+      leaf : (other : PageValue) → page_at hash_of theirs p ≡ Some other → children_of other ≡ [] → entries_of other ≡ named_entries (walk_under hash_of p theirs) → ((cs : List (ℕ × List ℕ)) → other ≡ Branch cs → ⊥)
+          → ((seen : DotValue → Bool) → unknown_at seen hash_of theirs p ≡ unknown_in seen (walk_under hash_of p theirs)) → Shown page
+      leaf other t none es off sent =
           let same = same_Some page other (sym is ∙ t) in
-          Leaf (ap children_of same ∙ none) (ap entries_of same ∙ es) (not_branch other t off)
+          Leaf (ap children_of same ∙ none) (ap entries_of same ∙ es) (not_branch other t off) sent
 
       step : Paged hash_of theirs p → Shown page
       step (Past long e) = absurd (let none : None ≡ Some page = sym e ∙ is in cc)
       step (Nothing short none e) = absurd (let none : None ≡ Some page = sym e ∙ is in cc)
-      step (One short e one t) = leaf (OneKey (named_entry e)) t refl (ap named_entries (sym one)) (one_is_none (named_entry e))
-      step (Several deep many t) = leaf (Keys (named_entries (walk_under hash_of p theirs))) t refl refl (keys_are_none (named_entries (walk_under hash_of p theirs)))
-      step (Parted less many t) = Parts less (present 0 32 (λ i. digest_at hash_of theirs (p ++ i ∷ []))) (same_Some page _ (sym is ∙ t)) refl
+      step (One short e one t) = leaf (OneKey (named_entry e)) t refl (ap named_entries (sym one)) (one_is_none (named_entry e)) (λ seen. values_of_one seen hash_of theirs p e.0 e.1 short one)
+      step (Several deep many t) = leaf (Keys (named_entries (walk_under hash_of p theirs))) t refl refl (keys_are_none (named_entries (walk_under hash_of p theirs))) (λ seen. values_of_list seen hash_of theirs p deep many)
+      step (Parted less many t) = Parts less (present 0 32 (λ i. digest_at hash_of theirs (p ++ i ∷ []))) (same_Some page _ (sym is ∙ t)) refl (λ seen. values_of_branch seen hash_of theirs p less many)
 
-  -- the values that are missing of it
-  pub missing : (seen : DotValue → Bool) → (page : PageValue) → page_at hash_of theirs p ≡ Some page
-      → ((children_of page ≡ []) × (unknown_at seen hash_of theirs p ≡ unknown_in seen (walk_under hash_of p theirs))) ⊎ (unknown_at seen hash_of theirs p ≡ [])
-  missing seen page is = step (paged hash_of theirs p)
-    where
-      step : Paged hash_of theirs p → ((children_of page ≡ []) × (unknown_at seen hash_of theirs p ≡ unknown_in seen (walk_under hash_of p theirs))) ⊎ (unknown_at seen hash_of theirs p ≡ [])
-      step (Past long e) = absurd (let none : None ≡ Some page = sym e ∙ is in cc)
-      step (Nothing short none e) = absurd (let none : None ≡ Some page = sym e ∙ is in cc)
-      step (One short e one t) = inl (ap children_of (same_Some page (OneKey (named_entry e)) (sym is ∙ t)), values_of_one seen hash_of theirs p e.0 e.1 short one)
-      step (Several deep many t) = inl (ap children_of (same_Some page _ (sym is ∙ t)), values_of_list seen hash_of theirs p deep many)
-      step (Parted less many t) = inr (values_of_branch seen hash_of theirs p less many)

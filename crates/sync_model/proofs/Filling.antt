@@ -84,6 +84,11 @@ module _ (P : List ℕ → Type 0) where
       step None e = tt
       step (Some fs) e = all key fs e
 
+-- what is open of each entry
+abbrev pub open_entries : (DotValue → Bool) → Held → List (List ℕ × FieldsValue) → List (List ℕ × FieldsValue)
+open_entries seen own [] = []
+open_entries seen own (e ∷ es) = (e.0, open_fields seen (fields_or_none (finite.get own e.0)) e.1) ∷ open_entries seen own es
+
 abbrev behind_first : List (List ℕ) → List (List ℕ)
 behind_first [] = []
 behind_first (x ∷ xs) = xs
@@ -182,13 +187,8 @@ module _ (MetHere MetThere : List ℕ → Type 0) (no_clash : (a b : List ℕ) �
           here.1 ∙ ap (λ l. unknown_in_values seen vs ++ l) further.1 ∙ sym (append_assoc (unknown_in_values seen vs) (unknown_in_fields seen fs) rest),
         )
 
-    -- what is open of each entry
-    abbrev pub open_entries : Held → List (List ℕ × FieldsValue) → List (List ℕ × FieldsValue)
-    open_entries own [] = []
-    open_entries own (e ∷ es) = (e.0, open_fields seen (fields_or_none (finite.get own e.0)) e.1) ∷ open_entries own es
-
     pub entries_filled : (own : Held) (es : List (List ℕ × FieldsValue)) (sent : List (List ℕ)) (made : List (List ℕ × FieldsValue)) (rest : List (List ℕ)) → EachHeld MetHere own → EachEntry MetThere es → EachSent MetHere sent
-        → fill_entries seen own (named_entries es) sent ≡ Some (made, rest) → IsFilled made (open_entries own es) sent (unknown_in seen es) rest
+        → fill_entries seen own (named_entries es) sent ≡ Some (made, rest) → IsFilled made (open_entries seen own es) sent (unknown_in seen es) rest
     entries_filled own [] sent made rest own_met met sent_met e =
         let both = same_Some ([], sent) (made, rest) e in
         (sym (ap (λ c. c.0) both), ap (λ c. c.1) both)

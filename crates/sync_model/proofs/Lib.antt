@@ -7,3 +7,4 @@ pub mod Filling
 pub mod Stepping
 pub mod Keeping
 pub mod Fetching
+pub mod Fetched

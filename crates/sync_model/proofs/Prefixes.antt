@@ -1,5 +1,6 @@
 -- Prefixes of one path: which of them begins which.
-use Rattle.std.proofs.Common.{◌≡◌, ◌≢◌, ◌⊎◌, inl, inr, ℕ, zero, suc, ◌+◌, ◌<◌, List, [], ◌∷◌, ◌++◌, length, drop, get_or, Bool, true, false, cond, nat_eq, T, arith, refl, sym, ◌∙◌, ap, subst, eqb-true, eq-eqb}
+use Rattle.std.proofs.Common.{◌≡◌, ◌≢◌, ◌⊎◌, inl, inr, ℕ, zero, suc, ◌+◌, ◌<◌, List, [], ◌∷◌, ◌++◌, length, drop, get_or, Bool, true, false, cond, nat_eq, T, arith, refl, sym, ◌∙◌, ap, subst, eqb-true, eq-eqb, append_assoc}
+use Rattle.std.proofs.lemmas.List.{length-append}
 use Rattle.std.specs.Prelude.{◌&&◌}
 use Rattle.hash_path.specs.Word.{word, begins}
 use Rattle.hash_path.specs.Map.{path}
@@ -54,3 +55,40 @@ index_below (suc below) hash (suc n) key h = index_below below hash n key (omega
 
 pub next_below : (hash_of : List ℕ → ℕ) (p key : List ℕ) → length p < 7 → get_or (path hash_of key) (length p) 0 < 32
 next_below hash_of p key short = index_below 7 (hash_of key) (length p) key short
+
+-- ---- what is above a prefix
+
+pub snoc : (q : List ℕ) → (q ≡ []) ⊎ ((r : List ℕ) × (i : ℕ) × (q ≡ r ++ i ∷ []))
+snoc [] = inl refl
+snoc (x ∷ q) = step (snoc q)
+  where
+    step : (q ≡ []) ⊎ ((r : List ℕ) × (i : ℕ) × (q ≡ r ++ i ∷ [])) → (x ∷ q ≡ []) ⊎ ((r : List ℕ) × (i : ℕ) × (x ∷ q ≡ r ++ i ∷ []))
+    step (inl none) = inr ([], x, ap (λ l. x ∷ l) none)
+    step (inr (r, i, is)) = inr (x ∷ r, i, ap (λ l. x ∷ l) is)
+
+-- the prefix itself is above what is one index on, and what else is above that is above the prefix
+pub above_child : (p : List ℕ) (i : ℕ) → IsAbove p (p ++ i ∷ [])
+above_child p i = (i, [], refl)
+
+pub above_further : (q p : List ℕ) (i : ℕ) → IsAbove q (p ++ i ∷ []) → (q ≡ p) ⊎ IsAbove q p
+above_further [] [] i h = inl refl
+above_further [] (x ∷ p) i h = inr (x, p, refl)
+above_further (y ∷ q) [] i h = absurd (let long = ap length h.2 in let more = length-append q (h.0 ∷ h.1) in omega (arith, long, more))
+above_further (y ∷ q) (x ∷ p) i h = step (above_further q p i (h.0, h.1, ap behind h.2))
+  where
+    behind : List ℕ → List ℕ
+    behind [] = []
+    behind (x ∷ xs) = xs
+
+    first : y ≡ x
+    first = ap (λ l. get_or l 0 y) (sym h.2)
+
+    step : (q ≡ p) ⊎ IsAbove q p → (y ∷ q ≡ x ∷ p) ⊎ IsAbove (y ∷ q) (x ∷ p)
+    step (inl same) = inl (λ k. first k ∷ same k)
+    step (inr (j, rest, is)) = inr (j, rest, λ k. sym first k ∷ is k)
+
+pub above_all : (r q p : List ℕ) → IsAbove r q → IsAbove q p → IsAbove r p
+above_all r q p (i, s, a) (j, t, b) = (i, s ++ j ∷ t, b ∙ ap (λ l. l ++ j ∷ t) a ∙ append_assoc r (i ∷ s) (j ∷ t))
+
+pub not_above_itself : (p : List ℕ) → ¬ IsAbove p p
+not_above_itself p (i, rest, is) = let long = ap length is in let more = length-append p (i ∷ rest) in omega (arith, long, more)
