@@ -31,7 +31,7 @@ use Rattle.sync_model.proofs.Alike.{names_at, none_there, same_names}
 use Rattle.sync_model.proofs.Filling.{EachSent, EachField, EachEntry, EachHeld, open_entries, entries_filled}
 use Rattle.sync_model.proofs.Stepping.{same_last, from_children, child_waits, not_child, no_entry, one_entry, if_stays, removed_there, removed_elsewhere}
 use Rattle.sync_model.proofs.Keeping.{fields_same, own_open}
-use Rattle.sync_model.proofs.Fetching.{Step, stepped, same_or_not, Shown, Leaf, Parts, shown}
+use Rattle.sync_model.proofs.Fetching.{both_true, Step, stepped, same_or_not, Shown, Leaf, Parts, shown}
 
 -- the values of all entries of the part of a map were met
 each_entry : (P : List ℕ → Type 0) (es : List (List ℕ × FieldsValue)) → ((key : List ℕ) (fs : FieldsValue) → In es (key, fs) → EachField P fs) → EachEntry P es
@@ -246,7 +246,7 @@ module _ (hash_of : List ℕ → ℕ) (own theirs : Held) (seen opened : DotValu
 
       -- ---- what is waited for then
 
-      TakenThen : List ℕ → Type 0
+      abbrev pub TakenThen : List ℕ → Type 0
       TakenThen q = TakenAt q ⊎ (q ≡ p)
 
       get_waiting : (q : List ℕ) → finite.get g.waiting q ≡ finite.get (put_children p (to_ask hash_of own p (children_of page)) (finite.remove f.waiting p)) q
@@ -261,12 +261,10 @@ module _ (hash_of : List ℕ → ℕ) (own theirs : Held) (seen opened : DotValu
           step (inr off) = (off, sym (removed_elsewhere f.waiting p q off) ∙ e)
 
       not_taken_then : (q : List ℕ) → ¬ TakenAt q → q ≢ p → ¬ TakenThen q
-      unfolding TakenThen
       not_taken_then q a b (inl h) = a h
       not_taken_then q a b (inr h) = b h
 
       child_waits_there : (i : ℕ) (d : List ℕ) → In (to_ask hash_of own p (children_of page)) (i, d) → Waits hash_of own theirs TakenThen (p ++ i ∷ []) d
-      unfolding TakenThen
       child_waits_there i d h =
           let asked = asked_from i d h in
           let from = child_from i d asked.0 in
@@ -285,7 +283,6 @@ module _ (hash_of : List ℕ → ℕ) (own theirs : Held) (seen opened : DotValu
           taken q (inr up) = inl (here.2 q up)
 
       waits_then : (q d : List ℕ) → finite.get g.waiting q ≡ Some d → Waits hash_of own theirs TakenThen q d
-      unfolding TakenThen
       waits_then q d e =
           step (from_children p (to_ask hash_of own p (children_of page)) (finite.remove f.waiting p) q d (sym (get_waiting q) ∙ e))
         where
@@ -302,7 +299,6 @@ module _ (hash_of : List ℕ → ℕ) (own theirs : Held) (seen opened : DotValu
           get_waiting q ∙ not_child p (to_ask hash_of own p (children_of page)) (finite.remove f.waiting p) q (λ i d h. none i) ∙ removed_elsewhere f.waiting p q off
 
       waited_then : (q d : List ℕ) → Waits hash_of own theirs TakenThen q d → finite.get g.waiting q ≡ Some d
-      unfolding TakenThen
       waited_then q d w = step (snoc q)
         where
           not_p : q ≢ p
@@ -338,11 +334,156 @@ module _ (hash_of : List ℕ → ℕ) (own theirs : Held) (seen opened : DotValu
           step (inr (r, i, e)) = by_parent r i e (w.2 r (subst (IsAbove r) (sym e) (above_child r i)))
 
       closed_then : (r q : List ℕ) → TakenThen q → IsAbove r q → TakenThen r
-      unfolding TakenThen
       closed_then r q (inl t) up = inl (kept.closed r q t up)
       closed_then r q (inr same) up = inl (here.2 r (subst (IsAbove r) same up))
 
       differ_then : (q : List ℕ) → TakenThen q → (d : List ℕ) × Differ hash_of own theirs q d
-      unfolding TakenThen
       differ_then q (inl t) = kept.differ q t
       differ_then q (inr same) = (s.digest, subst (λ r. Differ hash_of own theirs r s.digest) (sym same) here.0)
+
+      -- ---- what is built then
+
+      get_built : (key : List ℕ) → finite.get g.built key ≡ finite.get (put_entries s.made (finite.retain_keys f.built (stays hash_of p page))) key
+      get_built key = ap (λ m. finite.get m key) s.built
+
+      retained : (key : List ℕ) (b : Bool) → stays hash_of p page key ≡ b → finite.get (finite.retain_keys f.built (stays hash_of p page)) key ≡ cond b (finite.get f.built key) None
+      retained key b e = if_stays f.built (stays hash_of p page) key ∙ ap (λ b. cond b (finite.get f.built key) None) e
+
+      -- a key elsewhere stays
+      elsewhere : (key : List ℕ) → begins p (path hash_of key) ≡ false → finite.get g.built key ≡ finite.get f.built key
+      elsewhere key off =
+          get_built key
+          ∙ no_entry s.made (finite.retain_keys f.built (stays hash_of p page)) key (λ gs h. let on : true ≡ false = sym (put_under key gs h) ∙ off in absurd cc)
+          ∙ retained key true (ap (λ b. not b || list_any (λ c. nat_eq c.0 (get_or (path hash_of key) (length p) 0)) (children_of page)) off)
+
+      -- a key below stays where its index goes on, and where nothing is put
+      abbrev next : List ℕ → ℕ
+      next key = get_or (path hash_of key) (length p) 0
+
+      on_path : (key : List ℕ) → begins p (path hash_of key) ≡ true → begins (p ++ next key ∷ []) (path hash_of key) ≡ true
+      on_path key under = begins_further p (path hash_of key) (next key) ∙ (λ t. under t && eq-eqb (next key) (next key) refl t)
+
+      below_listed : (cs : List (ℕ × List ℕ)) → page ≡ Branch cs → (key : List ℕ) (d : List ℕ) → begins p (path hash_of key) ≡ true → In (children_of page) (next key, d) → finite.get g.built key ≡ finite.get f.built key
+      below_listed cs is key d under h =
+          get_built key
+          ∙ ap (λ es. finite.get (put_entries es (finite.retain_keys f.built (stays hash_of p page))) key) (none_filled cs is).0
+          ∙ retained key true ((λ t. not (under t) || list_any (λ c. nat_eq c.0 (next key)) (children_of page)) ∙ listed (children_of page) (next key) d h)
+
+      below_unlisted : (cs : List (ℕ × List ℕ)) → page ≡ Branch cs → (key : List ℕ) → begins p (path hash_of key) ≡ true → ((d : List ℕ) → ¬ In (children_of page) (next key, d)) → finite.get g.built key ≡ None
+      below_unlisted cs is key under off =
+          get_built key
+          ∙ ap (λ es. finite.get (put_entries es (finite.retain_keys f.built (stays hash_of p page))) key) (none_filled cs is).0
+          ∙ retained key false ((λ t. not (under t) || list_any (λ c. nat_eq c.0 (next key)) (children_of page)) ∙ unlisted (children_of page) (next key) off)
+
+      -- a key of a page that tells its entries
+      leaf_built : children_of page ≡ [] → entries_of page ≡ named_entries (walk_under hash_of p theirs) → (key : List ℕ) → begins p (path hash_of key) ≡ true
+          → finite.get g.built key ≡ opened_at seen (finite.get own key) (finite.get theirs key)
+      leaf_built none is key under =
+          get_built key ∙ ap (λ es. finite.get (put_entries es left) key) (leaf_filled is).0 ∙ by_theirs (finite.get theirs key) refl
+        where
+          ws : List (List ℕ × FieldsValue)
+          ws = walk_under hash_of p theirs
+
+          left : Held
+          left = finite.retain_keys f.built (stays hash_of p page)
+
+          gone : finite.get left key ≡ None
+          gone = retained key false ((λ t. not (under t) || list_any (λ c. nat_eq c.0 (next key)) (none t)))
+
+          each : (gs : FieldsValue) → In (open_entries seen own ws) (key, gs) → (fs : FieldsValue) × (finite.get theirs key ≡ Some fs) × (gs ≡ open_fields seen (fields_or_none (finite.get own key)) fs)
+          each gs h = let from = open_from seen own ws key gs h in (from.0, (part_found hash_of theirs p key from.0 from.1).0, from.2)
+
+          by_theirs : (o : Option FieldsValue) → finite.get theirs key ≡ o → finite.get (put_entries (open_entries seen own ws) left) key ≡ opened_at seen (finite.get own key) o
+          by_theirs None e = no_entry (open_entries seen own ws) left key (λ gs h. let from = each gs h in let some : None ≡ Some from.0 = sym e ∙ from.1 in absurd cc) ∙ gone
+          by_theirs (Some fs) e =
+              one_entry (open_entries seen own ws) left key (open_fields seen (fields_or_none (finite.get own key)) fs)
+              (λ gs h. let from = each gs h in from.2 ∙ ap (open_fields seen (fields_or_none (finite.get own key))) (same_Some from.0 fs (sym from.1 ∙ e)))
+              (open_has seen own ws key fs (part_has hash_of theirs p key fs e under)) gone
+
+      -- two that wait on one path are one
+      one_on_path : (q d key : List ℕ) → finite.get f.waiting q ≡ Some d → q ≢ p → begins q (path hash_of key) ≡ true → begins p (path hash_of key) ≡ false
+      one_on_path q d key w off on = step (begins p (path hash_of key)) refl
+        where
+          either : (p ≡ q) ⊎ (IsAbove p q ⊎ IsAbove q p) → ⊥
+          either (inl same) = off (sym same)
+          either (inr (inl up)) = here.1 ((kept.waits q d w).2 p up)
+          either (inr (inr up)) = (kept.waits q d w).1 (here.2 q up)
+
+          step : (b : Bool) → begins p (path hash_of key) ≡ b → b ≡ false
+          step true e = absurd (either (comparable p q (path hash_of key) e on))
+          step false e = refl
+
+      own_below_then : (key q d : List ℕ) → finite.get g.waiting q ≡ Some d → begins q (path hash_of key) ≡ true → finite.get g.built key ≡ finite.get own key
+      own_below_then key q d e on =
+          step (from_children p (to_ask hash_of own p (children_of page)) (finite.remove f.waiting p) q d (sym (get_waiting q) ∙ e))
+        where
+          child : (i : ℕ) → In (children_of page) (i, d) → begins p (path hash_of key) ≡ true → i ≡ next key → finite.get g.built key ≡ finite.get own key
+          child i h under same = by_page what
+            where
+              by_page : Shown hash_of theirs p page → finite.get g.built key ≡ finite.get own key
+              by_page (Leaf none is off missing) = absurd (subst (λ l. In l (i, d)) none h)
+              by_page (Parts less cs is are missing) =
+                  below_listed cs is key d under (subst (λ i. In (children_of page) (i, d)) same h) ∙ kept.own_below key p s.digest s.waited under
+
+          split : (i : ℕ) → begins (p ++ i ∷ []) (path hash_of key) ≡ true → (begins p (path hash_of key) ≡ true) × (i ≡ next key)
+          split i b =
+              let both = both_true (begins p (path hash_of key)) (nat_eq i (next key)) (sym (begins_further p (path hash_of key) i) ∙ b) in
+              (both.0, eqb-true i (next key) both.1)
+
+          step : ((i : ℕ) × In (to_ask hash_of own p (children_of page)) (i, d) × (q ≡ p ++ i ∷ [])) ⊎ (finite.get (finite.remove f.waiting p) q ≡ Some d) → finite.get g.built key ≡ finite.get own key
+          step (inl h) = let at = split h.0 (ap (λ r. begins r (path hash_of key)) (sym h.2) ∙ on) in child h.0 (asked_from h.0 d h.1).0 at.0 at.1
+          step (inr h) =
+              let old = other_waited q d h in
+              elsewhere key (one_on_path q d key old.1 old.0 on) ∙ kept.own_below key q d old.1 on
+
+      opened_then : (key : List ℕ) → ((q d : List ℕ) → finite.get g.waiting q ≡ Some d → begins q (path hash_of key) ≡ true → ⊥) → finite.get g.built key ≡ opened_at seen (finite.get own key) (finite.get theirs key)
+      opened_then key nothing = step (begins p (path hash_of key)) refl
+        where
+          -- elsewhere what waited still waits
+          still : begins p (path hash_of key) ≡ false → (q d : List ℕ) → finite.get f.waiting q ≡ Some d → begins q (path hash_of key) ≡ true → ⊥
+          still off q d w on =
+              nothing q d
+              (as_before q (λ e. let turned : true ≡ false = sym on ∙ ap (λ r. begins r (path hash_of key)) e ∙ off in absurd cc)
+              (λ i e. let turned : true ≡ false && nat_eq i (get_or (path hash_of key) (length p) 0) = sym on ∙ ap (λ r. begins r (path hash_of key)) e ∙ begins_further p (path hash_of key) i ∙ ap (λ b. b && nat_eq i (get_or (path hash_of key) (length p) 0)) off in absurd cc)
+              ∙ w) on
+
+          branch : (cs : List (ℕ × List ℕ)) → page ≡ Branch cs → length p < 7 → begins p (path hash_of key) ≡ true → finite.get g.built key ≡ opened_at seen (finite.get own key) (finite.get theirs key)
+          branch cs is less under = by_digest (digest_at hash_of theirs (p ++ next key ∷ [])) refl
+            where
+              q : List ℕ
+              q = p ++ next key ∷ []
+
+              short : length q ≤ 7
+              short = let long = length-further p (next key) in omega (arith, long, less)
+
+              listed_same : (d : List ℕ) → digest_at hash_of theirs q ≡ Some d → In (children_of page) (next key, d) → finite.get g.built key ≡ opened_at seen (finite.get own key) (finite.get theirs key)
+              listed_same d e h = by_own (is_digest (digest_at hash_of own q) d) refl
+                where
+                  by_own : (b : Bool) → is_digest (digest_at hash_of own q) d ≡ b → finite.get g.built key ≡ opened_at seen (finite.get own key) (finite.get theirs key)
+                  by_own true t =
+                      below_listed cs is key d under h ∙ kept.own_below key p s.digest s.waited under
+                      ∙ sym (same_below q short (own_digest (digest_at hash_of own q) d t ∙ sym e) key (on_path key under))
+                  by_own false t =
+                      let waits = child_waits p (λ j. digest_at hash_of theirs (p ++ j ∷ [])) (to_ask hash_of own p (children_of page)) (finite.remove f.waiting p) (next key) d (λ j x h. (child_from j x (asked_from j x h).0).1) (asked_of (next key) d h (other_digest (digest_at hash_of own q) d t)) in
+                      absurd (nothing q d (get_waiting q ∙ waits) (on_path key under))
+
+              by_digest : (o : Option (List ℕ)) → digest_at hash_of theirs q ≡ o → finite.get g.built key ≡ opened_at seen (finite.get own key) (finite.get theirs key)
+              by_digest (Some d) e = listed_same d e (child_of (next key) d (cs, theirs_is ∙ ap Some is) e)
+              by_digest None e =
+                  below_unlisted cs is key under (λ d h. let some : None ≡ Some d = sym e ∙ (child_from (next key) d h).1 in absurd cc)
+                  ∙ ap (opened_at seen (finite.get own key)) (sym (none_there hash_of theirs q (no_digest (page_at hash_of theirs q) e) short key (on_path key under)))
+                where
+                  no_digest : (o : Option PageValue) → option_map digest_of o ≡ None → o ≡ None
+                  no_digest None e = refl
+                  no_digest (Some b) e = absurd cc
+
+          by_page : Shown hash_of theirs p page → begins p (path hash_of key) ≡ true → finite.get g.built key ≡ opened_at seen (finite.get own key) (finite.get theirs key)
+          by_page (Leaf none is off missing) under = leaf_built none is key under
+          by_page (Parts less cs is are missing) under = branch cs is less under
+
+          step : (b : Bool) → begins p (path hash_of key) ≡ b → finite.get g.built key ≡ opened_at seen (finite.get own key) (finite.get theirs key)
+          step true under = by_page what under
+          step false off = elsewhere key off ∙ kept.opened_else key (still off)
+
+      pub kept_then : Kept TakenThen g
+      kept_then = record { waits = waits_then; waited = waited_then; closed = closed_then; differ = differ_then; own_below = own_below_then; opened_else = opened_then }

@@ -47,7 +47,7 @@ ignored g e = cc
 refused : (g : Fetch) → Mismatch ≡ Took g → ⊥
 refused g e = cc
 
-both_true : (a b : Bool) → a && b ≡ true → (a ≡ true) × (b ≡ true)
+pub both_true : (a b : Bool) → a && b ≡ true → (a ≡ true) × (b ≡ true)
 both_true true b e = (refl, e)
 both_true false b e = absurd cc
 
