@@ -61,11 +61,11 @@ module _ (seen : DotValue → Bool) (own : Held) where
 
 -- ---- children
 
-own_digest : (o : Option (List ℕ)) (d : List ℕ) → is_digest o d ≡ true → o ≡ Some d
+pub own_digest : (o : Option (List ℕ)) (d : List ℕ) → is_digest o d ≡ true → o ≡ Some d
 own_digest None d e = absurd cc
 own_digest (Some c) d e = ap Some ((bytes_eq-Decides c d).0 e)
 
-other_digest : (o : Option (List ℕ)) (d : List ℕ) → is_digest o d ≡ false → o ≢ Some d
+pub other_digest : (o : Option (List ℕ)) (d : List ℕ) → is_digest o d ≡ false → o ≢ Some d
 other_digest None d e s = absurd cc
 other_digest (Some c) d e s = let on : true ≡ false = sym ((bytes_eq-Decides c d).1 (same_Some c d s)) ∙ e in absurd cc
 
@@ -145,7 +145,7 @@ module _ (hash_of : List ℕ → ℕ) (own theirs : Held) (seen opened : DotValu
     (own_met : EachHeld MetHere own) (theirs_met : EachHeld MetThere theirs)
     (lawful : (key : List ℕ) (fs : FieldsValue) → finite.get own key ≡ Some fs → IsLawful fs) where
     -- where digests are equal, what is to be is what the asker held
-    same_below : (p : List ℕ) → length p ≤ 7 → digest_at hash_of own p ≡ digest_at hash_of theirs p → (key : List ℕ) → begins p (path hash_of key) ≡ true
+    pub same_below : (p : List ℕ) → length p ≤ 7 → digest_at hash_of own p ≡ digest_at hash_of theirs p → (key : List ℕ) → begins p (path hash_of key) ≡ true
         → opened_at seen (finite.get own key) (finite.get theirs key) ≡ finite.get own key
     same_below p short e key under =
         step (finite.get own key) (finite.get theirs key) refl refl (same_names hash_of own theirs (λ p q a b x y s. no_page_clash a b q (own_pages p a x) y s) p short e key under)

@@ -38,13 +38,13 @@ fetch_or f Ignored = f
 fetch_or f Mismatch = f
 fetch_or f (Took g) = g
 
-same_fetch : (f g : Fetch) → Took f ≡ Took g → f ≡ g
+pub same_fetch : (f g : Fetch) → Took f ≡ Took g → f ≡ g
 same_fetch f g e = ap (fetch_or f) e
 
 ignored : (g : Fetch) → Ignored ≡ Took g → ⊥
 ignored g e = cc
 
-refused : (g : Fetch) → Mismatch ≡ Took g → ⊥
+pub refused : (g : Fetch) → Mismatch ≡ Took g → ⊥
 refused g e = cc
 
 pub both_true : (a b : Bool) → a && b ≡ true → (a ≡ true) × (b ≡ true)

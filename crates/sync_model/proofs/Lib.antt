@@ -8,3 +8,4 @@ pub mod Stepping
 pub mod Keeping
 pub mod Fetching
 pub mod Fetched
+pub mod Fetches

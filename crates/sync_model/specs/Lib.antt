@@ -1,4 +1,3 @@
-pub mod Clash
 pub mod Opened
 pub mod Filled
 pub mod Differ

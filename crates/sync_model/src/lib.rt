@@ -2,3 +2,6 @@
 // Offered to the crates above: what an asker does with the pages that it takes, and that it comes to hold what its peer held.
 #![tactic(auto)]
 
+mod laws;
+
+pub use laws::pages_are_fetched;
