@@ -12,7 +12,7 @@ use Rattle.dots.specs.Bytes.{bytes_cmp}
 use Rattle.dots.specs.Dot.{DotValue}
 use Rattle.hash_path.specs.Path.{prefix_cmp}
 use Rattle.hash_path.specs.Word.{begins}
-use Rattle.hash_path.specs.Map.{path}
+use Rattle.hash_path.specs.Map.{path, walk_under}
 use Rattle.hash_path.proofs.Words.{tied_same, same_tied}
 use Rattle.sha2.specs.Sha256.{sha256}
 use Rattle.causal_join.specs.OrMap.{ValuesValue, FieldsValue}
@@ -53,16 +53,16 @@ each_held : (P : List ℕ → Type 0) (m : Held) → ((v : List ℕ) → HoldsVa
 each_held P m all key fs e = each_field P fs (λ field vs h. each_value P vs (λ d v g. all v (key, fs, e, (field, vs, h, (d, g)))))
 
 module _ (hash_of : List ℕ → ℕ) (own theirs : Held) (seen opened : DotValue → Bool) (lawful : IsLawfulMap own) where
-  None_taken : List ℕ → Type 0
+  abbrev None_taken : List ℕ → Type 0
   None_taken p = ⊥
 
   -- ---- the opening
 
   module _ (ts : List Taking) (no_clash : NoClash hash_of own theirs ts) where
-    own_page : (p : List ℕ) (a : PageValue) → page_at hash_of own p ≡ Some a → MetPage hash_of own theirs ts a
+    pub own_page : (p : List ℕ) (a : PageValue) → page_at hash_of own p ≡ Some a → MetPage hash_of own theirs ts a
     own_page p a e = inl (inl (p, e))
 
-    page_clash : (a b : PageValue) (q : List ℕ) → MetPage hash_of own theirs ts a → page_at hash_of theirs q ≡ Some b → digest_of a ≡ digest_of b → a ≡ b
+    pub page_clash : (a b : PageValue) (q : List ℕ) → MetPage hash_of own theirs ts a → page_at hash_of theirs q ≡ Some b → digest_of a ≡ digest_of b → a ≡ b
     page_clash a b q met e d = no_clash.pages a b met (inl (inr (q, e))) d
 
     own_values : EachHeld (MetValue hash_of own theirs ts) own
@@ -83,7 +83,6 @@ module _ (hash_of : List ℕ → ℕ) (own theirs : Held) (seen opened : DotValu
     -- an asker that waits for nothing, where the maps differ nowhere
     at_once : (f : Fetch) → f.waiting ≡ finite.empty → ((p d : List ℕ) → Differ hash_of own theirs p d → ⊥)
         → ((key : List ℕ) → finite.get f.built key ≡ opened_at seen (finite.get own key) (finite.get theirs key)) → Kept hash_of own theirs seen opened None_taken f
-    unfolding None_taken
     at_once f none same built = record {
       waits = λ p d e. absurd (nothing p d e);
       waited = λ p d w. absurd (same p d w.0);
@@ -101,7 +100,6 @@ module _ (hash_of : List ℕ → ℕ) (own theirs : Held) (seen opened : DotValu
     no_digest (Some b) e = absurd cc
 
     kept_opening : (f : Fetch) → take_opening hash_of own seen opened (digest_at hash_of theirs []) ≡ Took f → Kept hash_of own theirs seen opened None_taken f
-    unfolding None_taken
     kept_opening f e = by_root (digest_at hash_of theirs []) refl e
       where
         empty : (g : Fetch) → g.waiting ≡ finite.empty → g.built ≡ finite.empty → Took g ≡ Took f → digest_at hash_of theirs [] ≡ None → Kept hash_of own theirs seen opened None_taken f
@@ -169,11 +167,11 @@ module _ (hash_of : List ℕ → ℕ) (own theirs : Held) (seen opened : DotValu
 
         by_root : (o : Option (List ℕ)) → digest_at hash_of theirs [] ≡ o → take_opening hash_of own seen opened o ≡ Took f → Kept hash_of own theirs seen opened None_taken f
         by_root None s t = empty (record { waiting = finite.empty; built = finite.empty }) refl refl t s
-        by_root (Some d) s t = by_own d s (is_digest (digest_at hash_of own []) d) (within opened (finite.entries own)) refl t
+        by_root (Some d) s t = by_own d s (is_digest (digest_at hash_of own []) d) (within opened (walk_under hash_of [] own)) refl t
 
     -- ---- and each page
 
-    Among : List Taking → Type 0
+    abbrev pub Among : List Taking → Type 0
     Among older = (t : Taking) → In older t → Contains ts t
 
     met_page : (t : Taking) → Contains ts t → MetPage hash_of own theirs ts t.page
@@ -182,18 +180,16 @@ module _ (hash_of : List ℕ → ℕ) (own theirs : Held) (seen opened : DotValu
     met_sent : (t : Taking) → Contains ts t → EachSent (MetValue hash_of own theirs ts) t.sent
     met_sent t h = each_sent (MetValue hash_of own theirs ts) t.sent (λ v g. inr (t, h, g))
 
-    kept_pages : (older : List Taking) (f : Fetch) → Among older → Fetched hash_of own seen opened (digest_at hash_of theirs []) older f → Kept hash_of own theirs seen opened (TakenAt older) f
-    unfolding Among None_taken
+    pub kept_pages : (older : List Taking) (f : Fetch) → Among older → Fetched hash_of own seen opened (digest_at hash_of theirs []) older f → Kept hash_of own theirs seen opened (TakenAt older) f
     kept_pages [] f among e = kept_opening f e
     kept_pages (t ∷ older) f among (g, before, e) =
         kept_then hash_of own theirs seen opened (MetPage hash_of own theirs ts) (MetValue hash_of own theirs ts) (MetValue hash_of own theirs ts) own_page page_clash no_clash.values own_values their_values lawful
         (TakenAt older) g f t.prefix t.page t.sent (met_page t (among t (inl refl))) (met_sent t (among t (inl refl))) (kept_pages older g (λ u h. among u (inr h)) before) (stepped hash_of own seen opened g f t.prefix t.page t.sent e)
 
-    IsTheirs : Taking → Type 0
+    abbrev IsTheirs : Taking → Type 0
     IsTheirs t = (page_at hash_of theirs t.prefix ≡ Some t.page) × (t.sent ≡ unknown_at seen hash_of theirs t.prefix)
 
     each_theirs : (older : List Taking) (f : Fetch) → Among older → Fetched hash_of own seen opened (digest_at hash_of theirs []) older f → (t : Taking) → In older t → IsTheirs t
-    unfolding Among IsTheirs
     each_theirs [] f among e t h = absurd h
     each_theirs (u ∷ older) f among (g, before, e) t (inl same) =
         subst IsTheirs same (
@@ -206,7 +202,6 @@ module _ (hash_of : List ℕ → ℕ) (own theirs : Held) (seen opened : DotValu
 
     -- none is taken twice
     taken_once : (newer older : List Taking) (f : Fetch) (t : Taking) → Among (newer ++ t ∷ older) → Fetched hash_of own seen opened (digest_at hash_of theirs []) (newer ++ t ∷ older) f → ¬ TakenAt older t.prefix
-    unfolding Among
     taken_once [] older f t among (g, before, e) =
         let step = stepped hash_of own seen opened g f t.prefix t.page t.sent e in
         ((kept_pages older g (λ v h. among v (inr h)) before).waits t.prefix step.digest step.waited).1
@@ -243,7 +238,6 @@ module _ (hash_of : List ℕ → ℕ) (own theirs : Held) (seen opened : DotValu
         step (inr off) all = absurd (let some : None ≡ Some d = sym (none p) ∙ kept.waited p d (differ, off, all) in cc)
 
 pub fetching : (hash_of : List ℕ → ℕ) (own theirs : Held) (seen opened : DotValue → Bool) → Fetching hash_of own theirs seen opened
-unfolding Among IsTheirs
 fetching hash_of own theirs seen opened ts f lawful no_clash e =
     let kept = kept_pages hash_of own theirs seen opened lawful ts no_clash ts f (λ t h. Contains-In ts t h) e in
     record {

@@ -9,3 +9,5 @@ pub mod Keeping
 pub mod Fetching
 pub mod Fetched
 pub mod Fetches
+pub mod Fits
+pub mod Fitted

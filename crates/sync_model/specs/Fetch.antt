@@ -116,5 +116,5 @@ module _ (hash_of : List ℕ → ℕ) (own : Held) (seen opened : DotValue → B
   take_opening None = Took (record { waiting = finite.empty; built = finite.empty })
   take_opening (Some d) =
       cond (is_digest (digest_at hash_of own []) d)
-      (cond (within opened (finite.entries own)) (Took (record { waiting = finite.empty; built = own })) Mismatch)
+      (cond (within opened (walk_under hash_of [] own)) (Took (record { waiting = finite.empty; built = own })) Mismatch)
       (Took (record { waiting = finite.insert finite.empty [] d; built = own }))

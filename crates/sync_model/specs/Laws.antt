@@ -1,5 +1,5 @@
 -- What a synchronisation by pages comes to, for an asker with one map and a peer with another. Of this project.
-use Rattle.std.specs.Prelude.{◌≡◌, ◌≢◌, ◌⊎◌, ◌↔◌, ℕ, Bool, List, [], ◌∷◌, ◌++◌, Option, Some, None}
+use Rattle.std.specs.Prelude.{◌≡◌, ◌≢◌, ◌⊎◌, ◌↔◌, ℕ, Bool, true, List, [], ◌∷◌, ◌++◌, Option, Some, None}
 use Rattle.std.specs.List.{Contains}
 use Rattle.std.specs.FinMap as finite
 use Rattle.std.specs.FinMap.Entries.{find}
@@ -10,9 +10,10 @@ use Rattle.wire_form.specs.Page.{PageValue}
 use Rattle.prefix_digest.specs.Page.{page_at, digest_of, digest_at}
 use Rattle.prefix_digest.specs.Values.{unknown_at}
 use Rattle.sha2.specs.Sha256.{sha256}
-use Rattle.sync_model.specs.Opened.{opened_at}
+use Rattle.causal_context.specs.Dots.{dot_cmp}
+use Rattle.sync_model.specs.Opened.{values_of_field, opened_at}
 use Rattle.sync_model.specs.Differ.{Held, Differ, Waits}
-use Rattle.sync_model.specs.Fetch.{Fetch, Took, take_opening, take_page}
+use Rattle.sync_model.specs.Fetch.{Fetch, Took, within_fields, take_opening, take_page}
 
 -- the fields of a key as a map holds them: some, each with a value, and each once
 pub record IsLawful (fs : FieldsValue) : Type 0 where
@@ -77,3 +78,28 @@ module _ (hash_of : List ℕ → ℕ) (own theirs : Held) (seen opened : DotValu
 
   abbrev pub Fetching : Type 0
   Fetching = (ts : List Taking) (f : Fetch) → IsLawfulMap own → NoClash hash_of own theirs ts → Fetched hash_of own seen opened (digest_at hash_of theirs []) ts f → IsFetched ts f
+
+-- ---- the law of fitting
+
+-- the opening knows each dot of a map
+abbrev pub IsWithin : (DotValue → Bool) → Held → Type 0
+IsWithin opened m = (key : List ℕ) (fs : FieldsValue) → finite.get m key ≡ Some fs → within_fields opened fs ≡ true
+
+-- a dot that stands at one place of both maps has one value there
+abbrev pub OneValue : Held → Held → Type 0
+OneValue own theirs = (key : List ℕ) (fs gs : FieldsValue) → finite.get own key ≡ Some fs → finite.get theirs key ≡ Some gs
+    → (field : List ℕ) (vs : ValuesValue) → Contains gs (field, vs) → (d : DotValue) (o v : List ℕ) → find dot_cmp d (values_of_field fs field) ≡ Some o → Contains vs (d, v) → o ≡ v
+
+-- Where the opening is one that the peer's map and the dots that it knows gave, it is taken, and so is at each prefix that is waited for
+-- the peer's page with the values that the asker had not seen.
+module _ (hash_of : List ℕ → ℕ) (own theirs : Held) (seen opened : DotValue → Bool) where
+  abbrev pub Fitting : Type 0
+  Fitting = (ts : List Taking) (f : Fetch) → IsLawfulMap own → NoClash hash_of own theirs ts → IsWithin opened theirs → OneValue own theirs
+      → Fetched hash_of own seen opened (digest_at hash_of theirs []) ts f
+      → (p d : List ℕ) → finite.get f.waiting p ≡ Some d
+      → (page : PageValue) × (page_at hash_of theirs p ≡ Some page)
+      × ((g : Fetch) × (take_page hash_of own seen opened f p page (unknown_at seen hash_of theirs p) ≡ Took g))
+
+  abbrev pub Opening : Type 0
+  Opening = IsLawfulMap own → NoClash hash_of own theirs [] → IsWithin opened theirs
+      → (f : Fetch) × (take_opening hash_of own seen opened (digest_at hash_of theirs []) ≡ Took f)

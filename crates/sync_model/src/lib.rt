@@ -4,4 +4,4 @@
 
 mod laws;
 
-pub use laws::pages_are_fetched;
+pub use laws::{openings_fit, pages_are_fetched, pages_fit};
