@@ -1,5 +1,5 @@
 -- Where the digests of two maps are equal at a prefix and no two pages clash, each key there has the same names.
-use Rattle.std.proofs.Common.{◌≡◌, ◌≢◌, ◌⊎◌, inl, inr, ℕ, zero, suc, ◌+◌, ◌-◌, ◌<◌, ◌≤◌, List, [], ◌∷◌, ◌++◌, map, length, get_or, nat_eq, Bool, true, false, cond, Some, None, arith, refl, sym, ◌∙◌, ap, subst, eq-eqb}
+use Rattle.std.proofs.Common.{◌≡◌, ℕ, zero, suc, ◌+◌, ◌-◌, ◌<◌, ◌≤◌, List, [], ◌∷◌, ◌++◌, length, get_or, true, Some, None, arith, refl, sym, ◌∙◌, ap, subst, eq-eqb}
 use Rattle.std.specs.Prelude.{Option, ◌&&◌}
 use Rattle.std.specs.Option.{option_map}
 use Rattle.std.specs.FinMap as finite
@@ -9,7 +9,7 @@ use Rattle.hash_path.specs.Word.{begins}
 use Rattle.hash_path.specs.Map.{path, walk_under}
 use Rattle.hash_path.specs.Summary.{present}
 use Rattle.causal_join.specs.OrMap.{FieldsValue}
-use Rattle.wire_form.specs.Page.{NamedValue, EntryValue, PageValue, OneKey, Keys, Branch}
+use Rattle.wire_form.specs.Page.{NamedValue, PageValue, OneKey, Keys, Branch}
 use Rattle.prefix_digest.specs.Page.{named_fields, named_entry, named_entries, page_at, digest_of, digest_at}
 use Rattle.sync_model.specs.Differ.{Held}
 use Rattle.sync_model.specs.Fetch.{entries_of}
@@ -108,7 +108,7 @@ digest_apart page e = absurd cc
 -- ---- equal digests
 
 module _ (hash_of : List ℕ → ℕ) (own theirs : Held)
-  (no_clash : (p q : List ℕ) (a b : PageValue) → page_at hash_of own p ≡ Some a → page_at hash_of theirs q ≡ Some b → digest_of a ≡ digest_of b → a ≡ b) where
+    (no_clash : (p q : List ℕ) (a b : PageValue) → page_at hash_of own p ≡ Some a → page_at hash_of theirs q ≡ Some b → digest_of a ≡ digest_of b → a ≡ b) where
   pub same_page : (p : List ℕ) → digest_at hash_of own p ≡ digest_at hash_of theirs p → page_at hash_of own p ≡ page_at hash_of theirs p
   same_page p e = step (page_at hash_of own p) (page_at hash_of theirs p) refl refl (sym (ap (option_map digest_of) refl) ∙ e)
     where

@@ -1,37 +1,34 @@
 -- What is kept from page to page: just the prefixes are waited for where the maps differ, which were not taken and all above
 -- which were; a key below one of them is built as the asker held it, and any other as it is to be.
-use Rattle.std.proofs.Common.{◌≡◌, ◌≢◌, ◌⊎◌, inl, inr, ℕ, zero, suc, ◌+◌, ◌<◌, ◌≤◌, List, [], ◌∷◌, ◌++◌, map, length, get_or, nat_eq, Bool, true, false, cond, not, Some, None, arith, refl, sym, ◌∙◌, ap, subst, eqb-true, eq-eqb}
+use Rattle.std.proofs.Common.{◌≡◌, ◌≢◌, ◌⊎◌, inl, inr, ℕ, ◌<◌, ◌≤◌, List, [], ◌∷◌, ◌++◌, length, get_or, nat_eq, Bool, true, false, cond, not, Some, None, arith, refl, sym, ◌∙◌, ap, subst, eqb-true, eq-eqb}
 use Rattle.std.specs.Prelude.{Option, ◌&&◌, ◌||◌}
 use Rattle.std.specs.Option.{option_map}
-use Rattle.std.specs.List.{filter, list_any}
-use Rattle.std.specs.Str.{bytes_eq}
+use Rattle.std.specs.List.{list_any}
 use Rattle.std.proofs.lemmas.Slice.Eq.{bytes_eq-Decides}
 use Rattle.std.proofs.lemmas.List.{append-nil, length-append}
 use Rattle.std.specs.FinMap as finite
-use Rattle.dots.specs.Bytes.{bytes_cmp}
 use Rattle.dots.specs.Dot.{DotValue}
 use Rattle.hash_path.specs.Word.{begins}
 use Rattle.hash_path.specs.Map.{path, walk_under}
-use Rattle.hash_path.specs.Summary.{present}
 use Rattle.sha2.specs.Sha256.{sha256}
 use Rattle.causal_join.specs.OrMap.{FieldsValue}
-use Rattle.wire_form.specs.Page.{EntryValue, PageValue, OneKey, Keys, Branch}
-use Rattle.prefix_digest.specs.Page.{named_fields, named_entry, named_entries, page_at, digest_of, digest_at}
+use Rattle.wire_form.specs.Page.{PageValue, Branch}
+use Rattle.prefix_digest.specs.Page.{named_fields, named_entries, page_at, digest_of, digest_at}
 use Rattle.prefix_digest.specs.Values.{unknown_in, unknown_at}
-use Rattle.sync_model.specs.Opened.{fields_or_none, some_if_any, open_fields, opened_at}
+use Rattle.sync_model.specs.Opened.{fields_or_none, open_fields, opened_at}
 use Rattle.sync_model.specs.Filled.{fill_entries, all_used, filled, Made}
 use Rattle.sync_model.specs.Differ.{Held, IsAbove, IsBranchAt, HasOther, Differ, Waits}
-use Rattle.sync_model.specs.Fetch.{Fetch, Taken, Took, Waiting, entries_of, children_of, is_digest, is_own, to_ask, fits, stays, put_children, put_entries, take_page}
+use Rattle.sync_model.specs.Fetch.{Fetch, entries_of, children_of, is_digest, is_own, to_ask, stays, put_children, put_entries}
 use Rattle.sync_model.specs.Laws.{IsLawful}
-use Rattle.sync_model.proofs.Prefixes.{begins_further, comparable, length-further, next_below, snoc, above_child, above_further, above_all, not_above_itself}
-use Rattle.sync_model.proofs.Members.{In, In-filter, filter-In, In-mapped, In-map, part_has, part_found}
+use Rattle.sync_model.proofs.Prefixes.{begins_further, comparable, length-further, next_below, snoc, above_child, above_further, not_above_itself}
+use Rattle.sync_model.proofs.Members.{In, In-filter, filter-In, part_has, part_found}
 use Rattle.sync_model.proofs.Paged.{Paged, Past, Nothing, One, Several, Parted, paged, in_present, present_in}
 use Rattle.sync_model.proofs.Found.{same_Some}
-use Rattle.sync_model.proofs.Alike.{names_at, none_there, same_names}
+use Rattle.sync_model.proofs.Alike.{none_there, same_names}
 use Rattle.sync_model.proofs.Filling.{EachSent, EachField, EachEntry, EachHeld, open_entries, entries_filled}
-use Rattle.sync_model.proofs.Stepping.{same_last, from_children, child_waits, not_child, no_entry, one_entry, if_stays, removed_there, removed_elsewhere}
+use Rattle.sync_model.proofs.Stepping.{from_children, child_waits, not_child, no_entry, one_entry, if_stays, removed_there, removed_elsewhere}
 use Rattle.sync_model.proofs.Keeping.{fields_same, own_open}
-use Rattle.sync_model.proofs.Fetching.{both_true, Step, stepped, same_or_not, Shown, Leaf, Parts, shown}
+use Rattle.sync_model.proofs.Fetching.{both_true, Step, same_or_not, Shown, Leaf, Parts, shown}
 
 -- the values of all entries of the part of a map were met
 each_entry : (P : List ℕ → Type 0) (es : List (List ℕ × FieldsValue)) → ((key : List ℕ) (fs : FieldsValue) → In es (key, fs) → EachField P fs) → EachEntry P es
@@ -139,11 +136,11 @@ module _ (hash_of : List ℕ → ℕ) (own theirs : Held) (seen opened : DotValu
         → finite.get f.built key ≡ opened_at seen (finite.get own key) (finite.get theirs key)
 
   module _ (MetPage : PageValue → Type 0) (MetHere MetThere : List ℕ → Type 0)
-    (own_pages : (p : List ℕ) (a : PageValue) → page_at hash_of own p ≡ Some a → MetPage a)
-    (no_page_clash : (a b : PageValue) (q : List ℕ) → MetPage a → page_at hash_of theirs q ≡ Some b → digest_of a ≡ digest_of b → a ≡ b)
-    (no_value_clash : (a b : List ℕ) → MetHere a → MetThere b → sha256 a ≡ sha256 b → a ≡ b)
-    (own_met : EachHeld MetHere own) (theirs_met : EachHeld MetThere theirs)
-    (lawful : (key : List ℕ) (fs : FieldsValue) → finite.get own key ≡ Some fs → IsLawful fs) where
+      (own_pages : (p : List ℕ) (a : PageValue) → page_at hash_of own p ≡ Some a → MetPage a)
+      (no_page_clash : (a b : PageValue) (q : List ℕ) → MetPage a → page_at hash_of theirs q ≡ Some b → digest_of a ≡ digest_of b → a ≡ b)
+      (no_value_clash : (a b : List ℕ) → MetHere a → MetThere b → sha256 a ≡ sha256 b → a ≡ b)
+      (own_met : EachHeld MetHere own) (theirs_met : EachHeld MetThere theirs)
+      (lawful : (key : List ℕ) (fs : FieldsValue) → finite.get own key ≡ Some fs → IsLawful fs) where
     -- where digests are equal, what is to be is what the asker held
     pub same_below : (p : List ℕ) → length p ≤ 7 → digest_at hash_of own p ≡ digest_at hash_of theirs p → (key : List ℕ) → begins p (path hash_of key) ≡ true
         → opened_at seen (finite.get own key) (finite.get theirs key) ≡ finite.get own key
@@ -168,7 +165,7 @@ module _ (hash_of : List ℕ → ℕ) (own theirs : Held) (seen opened : DotValu
 
     -- one page taken
     module _ (TakenAt : List ℕ → Type 0) (f g : Fetch) (p : List ℕ) (page : PageValue) (sent : List (List ℕ)) (met : MetPage page) (sent_met : EachSent MetHere sent)
-      (kept : Kept TakenAt f) (s : Step hash_of own seen opened f p page sent g) where
+        (kept : Kept TakenAt f) (s : Step hash_of own seen opened f p page sent g) where
       here : Waits hash_of own theirs TakenAt p s.digest
       here = kept.waits p s.digest s.waited
 
@@ -267,8 +264,7 @@ module _ (hash_of : List ℕ → ℕ) (own theirs : Held) (seen opened : DotValu
       child_waits_there : (i : ℕ) (d : List ℕ) → In (to_ask hash_of own p (children_of page)) (i, d) → Waits hash_of own theirs TakenThen (p ++ i ∷ []) d
       child_waits_there i d h =
           let asked = asked_from i d h in
-          let from = child_from i d asked.0 in
-          (
+          let from = child_from i d asked.0 in (
             ((from.1, asked.1), λ q up. above q (above_further q p i up) from.2),
             not_taken_then (p ++ i ∷ []) (λ t. here.1 (kept.closed p (p ++ i ∷ []) t (above_child p i))) (λ e. not_above_itself p (subst (IsAbove p) e (above_child p i))),
             λ q up. taken q (above_further q p i up),

@@ -1,5 +1,5 @@
 -- The law of fetching: from the opening on, and over all pages taken.
-use Rattle.std.proofs.Common.{◌≡◌, ◌≢◌, ◌⊎◌, inl, inr, ℕ, zero, suc, ◌+◌, ◌<◌, ◌≤◌, ◌↔◌, List, [], ◌∷◌, ◌++◌, length, Bool, true, false, cond, Some, None, arith, refl, sym, ◌∙◌, ap, subst}
+use Rattle.std.proofs.Common.{◌≡◌, ◌≢◌, ◌⊎◌, inl, inr, ℕ, zero, suc, ◌<◌, List, [], ◌∷◌, ◌++◌, length, Bool, true, false, cond, Some, None, arith, refl, sym, ◌∙◌, ap, subst}
 use Rattle.std.specs.Prelude.{Option}
 use Rattle.std.specs.Option.{option_map}
 use Rattle.std.specs.List.{Contains}
@@ -11,25 +11,23 @@ use Rattle.std.proofs.lemmas.List.{length-append}
 use Rattle.dots.specs.Bytes.{bytes_cmp}
 use Rattle.dots.specs.Dot.{DotValue}
 use Rattle.hash_path.specs.Path.{prefix_cmp}
-use Rattle.hash_path.specs.Word.{begins}
-use Rattle.hash_path.specs.Map.{path, walk_under}
-use Rattle.hash_path.proofs.Words.{tied_same, same_tied}
-use Rattle.sha2.specs.Sha256.{sha256}
+use Rattle.hash_path.specs.Map.{walk_under}
+use Rattle.hash_path.proofs.Words.{tied_same}
 use Rattle.causal_join.specs.OrMap.{ValuesValue, FieldsValue}
 use Rattle.wire_form.specs.Page.{PageValue}
 use Rattle.prefix_digest.specs.Page.{page_at, digest_of, digest_at}
 use Rattle.prefix_digest.specs.Values.{unknown_at}
 use Rattle.sync_model.specs.Opened.{opened_at}
-use Rattle.sync_model.specs.Differ.{Held, IsAbove, IsBranchAt, HasOther, Differ, Waits}
-use Rattle.sync_model.specs.Fetch.{Fetch, Taken, Mismatch, Took, Waiting, is_digest, within, take_opening, take_page}
-use Rattle.sync_model.specs.Laws.{IsLawful, IsLawfulMap, Taking, TakenAt, Fetched, HoldsValue, MetPage, MetValue, NoClash, IsFetched, Fetching}
-use Rattle.sync_model.proofs.Prefixes.{above_all, not_above_itself}
+use Rattle.sync_model.specs.Differ.{Held, IsAbove, Differ, Waits}
+use Rattle.sync_model.specs.Fetch.{Fetch, Mismatch, Took, is_digest, within, take_opening}
+use Rattle.sync_model.specs.Laws.{IsLawfulMap, Taking, TakenAt, Fetched, HoldsValue, MetPage, MetValue, NoClash, Fetching}
+use Rattle.sync_model.proofs.Prefixes.{above_all}
 use Rattle.sync_model.proofs.Members.{In, Contains-In, In-Contains}
 use Rattle.sync_model.proofs.Found.{same_Some}
 use Rattle.sync_model.proofs.Alike.{none_there}
 use Rattle.sync_model.proofs.Filling.{EachSent, EachValue, EachField, EachHeld}
-use Rattle.sync_model.proofs.Fetching.{same_fetch, refused, Step, stepped, same_or_not}
-use Rattle.sync_model.proofs.Fetched.{own_digest, other_digest, Kept, same_below, TakenThen, theirs_is, sent_is, kept_then}
+use Rattle.sync_model.proofs.Fetching.{same_fetch, refused, stepped, same_or_not}
+use Rattle.sync_model.proofs.Fetched.{own_digest, other_digest, Kept, same_below, theirs_is, sent_is, kept_then}
 
 nothing_above : (q : List ℕ) → IsAbove q [] → ⊥
 nothing_above q up = let long = ap length up.2 in let more = length-append q (up.0 ∷ up.1) in omega (arith, long, more)
@@ -194,9 +192,9 @@ module _ (hash_of : List ℕ → ℕ) (own theirs : Held) (seen opened : DotValu
     each_theirs (u ∷ older) f among (g, before, e) t (inl same) =
         subst IsTheirs same (
           theirs_is hash_of own theirs seen opened (MetPage hash_of own theirs ts) (MetValue hash_of own theirs ts) (MetValue hash_of own theirs ts) own_page page_clash no_clash.values own_values their_values lawful
-          (TakenAt older) g f u.prefix u.page u.sent (met_page u (among u (inl refl))) (met_sent u (among u (inl refl))) (kept_pages older g (λ v h. among v (inr h)) before) (stepped hash_of own seen opened g f u.prefix u.page u.sent e),
+              (TakenAt older) g f u.prefix u.page u.sent (met_page u (among u (inl refl))) (met_sent u (among u (inl refl))) (kept_pages older g (λ v h. among v (inr h)) before) (stepped hash_of own seen opened g f u.prefix u.page u.sent e),
           sent_is hash_of own theirs seen opened (MetPage hash_of own theirs ts) (MetValue hash_of own theirs ts) (MetValue hash_of own theirs ts) own_page page_clash no_clash.values own_values their_values lawful
-          (TakenAt older) g f u.prefix u.page u.sent (met_page u (among u (inl refl))) (met_sent u (among u (inl refl))) (kept_pages older g (λ v h. among v (inr h)) before) (stepped hash_of own seen opened g f u.prefix u.page u.sent e),
+              (TakenAt older) g f u.prefix u.page u.sent (met_page u (among u (inl refl))) (met_sent u (among u (inl refl))) (kept_pages older g (λ v h. among v (inr h)) before) (stepped hash_of own seen opened g f u.prefix u.page u.sent e),
         )
     each_theirs (u ∷ older) f among (g, before, e) t (inr h) = each_theirs older g (λ v h. among v (inr h)) before t h
 

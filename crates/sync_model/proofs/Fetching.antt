@@ -1,35 +1,26 @@
 -- One page taken: it is theirs, its values are those that were missing, and what is waited for and what is built stay what they are
 -- to be.
-use Rattle.std.proofs.Common.{◌≡◌, ◌≢◌, ◌⊎◌, inl, inr, ℕ, zero, suc, ◌+◌, ◌<◌, ◌≤◌, List, [], ◌∷◌, ◌++◌, map, length, get_or, nat_eq, Bool, true, false, cond, not, Some, None, arith, refl, sym, ◌∙◌, ap, subst, eqb-true, eq-eqb}
-use Rattle.std.specs.Prelude.{Option, ◌&&◌, ◌||◌}
-use Rattle.std.specs.Option.{option_map}
-use Rattle.std.specs.List.{filter, list_any}
+use Rattle.std.proofs.Common.{◌≡◌, ◌≢◌, ◌⊎◌, inl, inr, ℕ, ◌<◌, List, [], ◌∷◌, ◌++◌, length, Bool, true, false, cond, Some, None, refl, sym, ◌∙◌, ap}
+use Rattle.std.specs.Prelude.{Option, ◌&&◌}
 use Rattle.std.specs.Ordering.{eq_by_cmp}
 use Rattle.hash_path.proofs.Words.{tied_same, same_tied}
 use Rattle.std.specs.Str.{bytes_eq}
 use Rattle.std.proofs.lemmas.Slice.Eq.{bytes_eq-Decides}
-use Rattle.std.proofs.lemmas.List.{append-nil}
 use Rattle.std.specs.FinMap as finite
 use Rattle.dots.specs.Bytes.{bytes_cmp}
 use Rattle.dots.specs.Dot.{DotValue}
-use Rattle.hash_path.specs.Word.{begins}
-use Rattle.hash_path.specs.Map.{path, walk_under}
+use Rattle.hash_path.specs.Map.{walk_under}
 use Rattle.hash_path.specs.Summary.{present}
-use Rattle.sha2.specs.Sha256.{sha256}
 use Rattle.causal_join.specs.OrMap.{FieldsValue}
 use Rattle.wire_form.specs.Page.{EntryValue, PageValue, OneKey, Keys, Branch}
 use Rattle.prefix_digest.specs.Page.{named_entry, named_entries, page_at, digest_of, digest_at}
 use Rattle.prefix_digest.specs.Values.{unknown_in, unknown_at}
 use Rattle.prefix_digest.proofs.UnknownValues.{values_of_one, values_of_list, values_of_branch}
-use Rattle.sync_model.specs.Opened.{fields_or_none, open_fields, opened_at}
-use Rattle.sync_model.specs.Filled.{fill_entries, all_used, filled, Made}
-use Rattle.sync_model.specs.Differ.{Held, IsAbove, IsBranchAt, HasOther, Differ, Waits}
-use Rattle.sync_model.specs.Fetch.{Fetch, Taken, Ignored, Mismatch, Took, Waiting, entries_of, children_of, is_digest, is_own, to_ask, fits, stays, put_children, put_entries, took, promised, take_page}
-use Rattle.sync_model.proofs.Prefixes.{begins_further, comparable, length-further, next_below}
-use Rattle.sync_model.proofs.Members.{In, In-filter, filter-In, part_has, part_found}
-use Rattle.sync_model.proofs.Paged.{Paged, Past, Nothing, One, Several, Parted, paged, in_present, present_in}
+use Rattle.sync_model.specs.Filled.{filled}
+use Rattle.sync_model.specs.Differ.{Held, IsBranchAt}
+use Rattle.sync_model.specs.Fetch.{Fetch, Taken, Ignored, Mismatch, Took, entries_of, children_of, to_ask, fits, stays, put_children, put_entries, took, promised, take_page}
+use Rattle.sync_model.proofs.Paged.{Paged, Past, Nothing, One, Several, Parted, paged}
 use Rattle.sync_model.proofs.Found.{same_Some}
-use Rattle.sync_model.proofs.Filling.{EachSent, EachField, EachEntry, EachHeld, open_entries, entries_filled}
 
 -- ---- what a step was made of
 
@@ -123,4 +114,3 @@ module _ (hash_of : List ℕ → ℕ) (theirs : Held) (p : List ℕ) where
       step (One short e one t) = leaf (OneKey (named_entry e)) t refl (ap named_entries (sym one)) (one_is_none (named_entry e)) (λ seen. values_of_one seen hash_of theirs p e.0 e.1 short one)
       step (Several deep many t) = leaf (Keys (named_entries (walk_under hash_of p theirs))) t refl refl (keys_are_none (named_entries (walk_under hash_of p theirs))) (λ seen. values_of_list seen hash_of theirs p deep many)
       step (Parted less many t) = Parts less (present 0 32 (λ i. digest_at hash_of theirs (p ++ i ∷ []))) (same_Some page _ (sym is ∙ t)) refl (λ seen. values_of_branch seen hash_of theirs p less many)
-

@@ -1,8 +1,7 @@
 -- What the names of their entries are filled to: just the values that are left open, from just the values that were missing.
-use Rattle.std.proofs.Common.{◌≡◌, ◌≢◌, ◌⊎◌, inl, inr, ℕ, List, [], ◌∷◌, ◌++◌, map, Bool, true, false, cond, not, Some, None, refl, sym, ◌∙◌, ap, subst, append_assoc}
+use Rattle.std.proofs.Common.{◌≡◌, ℕ, List, [], ◌∷◌, ◌++◌, map, Bool, true, false, cond, not, Some, None, refl, sym, ◌∙◌, ap, subst, append_assoc}
 use Rattle.std.specs.Prelude.{Option, ◌||◌, is_some}
-use Rattle.std.specs.Option.{option_map}
-use Rattle.std.specs.List.{filter, flat_map}
+use Rattle.std.specs.List.{filter}
 use Rattle.std.specs.Ordering.{eq_by_cmp}
 use Rattle.std.specs.Str.{bytes_eq}
 use Rattle.std.specs.FinMap as finite
@@ -13,11 +12,10 @@ use Rattle.dots.specs.Dot.{DotValue}
 use Rattle.causal_context.specs.Dots.{dot_cmp}
 use Rattle.sha2.specs.Sha256.{sha256}
 use Rattle.causal_join.specs.OrMap.{ValuesValue, FieldsValue}
-use Rattle.wire_form.specs.Page.{NamesValue, NamedValue, EntryValue}
-use Rattle.prefix_digest.specs.Page.{named_values, named_fields, named_entry, named_entries}
+use Rattle.prefix_digest.specs.Page.{named_values, named_fields, named_entries}
 use Rattle.prefix_digest.specs.Values.{unknown_in_values, unknown_in_fields, unknown_in}
 use Rattle.sync_model.specs.Opened.{fields_or_none, values_or_none, values_of_field, with_values, without_ended, open_fields}
-use Rattle.sync_model.specs.Filled.{Made, made_map, checked, fill_unseen, fill_seen, fill_values, then_fields, fill_fields, then_entries, fill_entries, all_used, filled}
+use Rattle.sync_model.specs.Filled.{Made, made_map, checked, fill_unseen, fill_seen, fill_values, then_fields, fill_fields, then_entries, fill_entries}
 use Rattle.sync_model.specs.Differ.{Held}
 use Rattle.sync_model.proofs.Found.{same_Some}
 
@@ -110,27 +108,24 @@ module _ (MetHere MetThere : List ℕ → Type 0) (no_clash : (a b : List ℕ) �
     -- one value is left out, is the own one, or is sent
     ended : (d : DotValue) (v : List ℕ) (own vs made : ValuesValue) (sent rest : List (List ℕ)) → seen d ≡ true → find dot_cmp d own ≡ None
         → IsFilled made (without_ended seen own vs) sent (unknown_in_values seen vs) rest → IsFilled made (without_ended seen own ((d, v) ∷ vs)) sent (unknown_in_values seen ((d, v) ∷ vs)) rest
-    ended d v own vs made sent rest s none h =
-        (
-          h.0 ∙ (λ t. cond (not (sym s t) || is_some (sym none t)) ((d, v) ∷ without_ended seen own vs) (without_ended seen own vs)),
-          h.1 ∙ (λ t. map (λ v. v.1) (cond (not (sym s t)) ((d, v) ∷ filter (λ v. not (seen v.0)) vs) (filter (λ v. not (seen v.0)) vs)) ++ rest),
-        )
+    ended d v own vs made sent rest s none h = (
+      h.0 ∙ (λ t. cond (not (sym s t) || is_some (sym none t)) ((d, v) ∷ without_ended seen own vs) (without_ended seen own vs)),
+      h.1 ∙ (λ t. map (λ v. v.1) (cond (not (sym s t)) ((d, v) ∷ filter (λ v. not (seen v.0)) vs) (filter (λ v. not (seen v.0)) vs)) ++ rest),
+    )
 
     kept : (d : DotValue) (v o : List ℕ) (own vs made : ValuesValue) (sent rest : List (List ℕ)) → seen d ≡ true → find dot_cmp d own ≡ Some o → o ≡ v
         → IsFilled made (without_ended seen own vs) sent (unknown_in_values seen vs) rest → IsFilled ((d, o) ∷ made) (without_ended seen own ((d, v) ∷ vs)) sent (unknown_in_values seen ((d, v) ∷ vs)) rest
-    kept d v o own vs made sent rest s some same h =
-        (
-          (λ t. (d, same t) ∷ h.0 t) ∙ (λ t. cond (not (sym s t) || is_some (sym some t)) ((d, v) ∷ without_ended seen own vs) (without_ended seen own vs)),
-          h.1 ∙ (λ t. map (λ v. v.1) (cond (not (sym s t)) ((d, v) ∷ filter (λ v. not (seen v.0)) vs) (filter (λ v. not (seen v.0)) vs)) ++ rest),
-        )
+    kept d v o own vs made sent rest s some same h = (
+      (λ t. (d, same t) ∷ h.0 t) ∙ (λ t. cond (not (sym s t) || is_some (sym some t)) ((d, v) ∷ without_ended seen own vs) (without_ended seen own vs)),
+      h.1 ∙ (λ t. map (λ v. v.1) (cond (not (sym s t)) ((d, v) ∷ filter (λ v. not (seen v.0)) vs) (filter (λ v. not (seen v.0)) vs)) ++ rest),
+    )
 
     fresh : (d : DotValue) (v o : List ℕ) (own vs made : ValuesValue) (sent rest : List (List ℕ)) → seen d ≡ false → o ≡ v
         → IsFilled made (without_ended seen own vs) sent (unknown_in_values seen vs) rest → IsFilled ((d, o) ∷ made) (without_ended seen own ((d, v) ∷ vs)) (o ∷ sent) (unknown_in_values seen ((d, v) ∷ vs)) rest
-    fresh d v o own vs made sent rest s same h =
-        (
-          (λ t. (d, same t) ∷ h.0 t) ∙ (λ t. cond (not (sym s t) || is_some (find dot_cmp d own)) ((d, v) ∷ without_ended seen own vs) (without_ended seen own vs)),
-          (λ t. same t ∷ h.1 t) ∙ (λ t. map (λ v. v.1) (cond (not (sym s t)) ((d, v) ∷ filter (λ v. not (seen v.0)) vs) (filter (λ v. not (seen v.0)) vs)) ++ rest),
-        )
+    fresh d v o own vs made sent rest s same h = (
+      (λ t. (d, same t) ∷ h.0 t) ∙ (λ t. cond (not (sym s t) || is_some (find dot_cmp d own)) ((d, v) ∷ without_ended seen own vs) (without_ended seen own vs)),
+      (λ t. same t ∷ h.1 t) ∙ (λ t. map (λ v. v.1) (cond (not (sym s t)) ((d, v) ∷ filter (λ v. not (seen v.0)) vs) (filter (λ v. not (seen v.0)) vs)) ++ rest),
+    )
 
     pub values_filled : (own vs : ValuesValue) (sent : List (List ℕ)) (made : ValuesValue) (rest : List (List ℕ)) → EachValue MetHere own → EachValue MetThere vs → EachSent MetHere sent
         → fill_values seen own (named_values vs) sent ≡ Some (made, rest) → IsFilled made (without_ended seen own vs) sent (unknown_in_values seen vs) rest
@@ -181,8 +176,7 @@ module _ (MetHere MetThere : List ℕ → Type 0) (no_clash : (a b : List ℕ) �
     fields_filled own ((f, vs) ∷ fs) sent made rest own_met met sent_met e =
         let from = then_from (with_values f) (fill_values seen (values_of_field own f) (named_values vs) sent) (fill_fields seen own (named_fields fs)) (then_fields f (fill_fields seen own (named_fields fs))) refl (λ x left. refl) made rest e in
         let here = values_filled (values_of_field own f) vs sent from.0 from.1 (field_found MetHere own f own_met) met.0 sent_met from.3 in
-        let further = fields_filled own fs from.1 from.2 rest own_met met.1 (left_met sent (unknown_in_values seen vs) from.1 here.1 sent_met) from.4 in
-        (
+        let further = fields_filled own fs from.1 from.2 rest own_met met.1 (left_met sent (unknown_in_values seen vs) from.1 here.1 sent_met) from.4 in (
           from.5 ∙ (λ t. with_values f (here.0 t) (further.0 t)),
           here.1 ∙ ap (λ l. unknown_in_values seen vs ++ l) further.1 ∙ sym (append_assoc (unknown_in_values seen vs) (unknown_in_fields seen fs) rest),
         )
@@ -196,8 +190,7 @@ module _ (MetHere MetThere : List ℕ → Type 0) (no_clash : (a b : List ℕ) �
         let held = fields_or_none (finite.get own k) in
         let from = then_from (λ fs es. (k, fs) ∷ es) (fill_fields seen held (named_fields fs) sent) (fill_entries seen own (named_entries es)) (then_entries k (fill_entries seen own (named_entries es))) refl (λ x left. refl) made rest e in
         let here = fields_filled held fs sent from.0 from.1 (held_found MetHere own own_met k) met.0 sent_met from.3 in
-        let further = entries_filled own es from.1 from.2 rest own_met met.1 (left_met sent (unknown_in_fields seen fs) from.1 here.1 sent_met) from.4 in
-        (
+        let further = entries_filled own es from.1 from.2 rest own_met met.1 (left_met sent (unknown_in_fields seen fs) from.1 here.1 sent_met) from.4 in (
           from.5 ∙ (λ t. (k, here.0 t) ∷ further.0 t),
           here.1 ∙ ap (λ l. unknown_in_fields seen fs ++ l) further.1 ∙ sym (append_assoc (unknown_in_fields seen fs) (unknown_in seen es) rest),
         )

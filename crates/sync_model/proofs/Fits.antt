@@ -1,31 +1,28 @@
 -- The peer's page at a prefix that is waited for is taken: it fits, and its names are filled by the values that come with it.
-use Rattle.std.proofs.Common.{◌≡◌, ◌≢◌, ◌⊎◌, inl, inr, ℕ, zero, suc, ◌+◌, ◌<◌, ◌≤◌, ◌↔◌, List, [], ◌∷◌, ◌++◌, map, length, Bool, true, false, cond, not, Some, None, arith, refl, sym, ◌∙◌, ap, subst, append_assoc}
+use Rattle.std.proofs.Common.{◌≡◌, inl, inr, ℕ, List, [], ◌∷◌, ◌++◌, map, Bool, true, false, cond, not, Some, None, refl, sym, ◌∙◌, ap, append_assoc}
 use Rattle.std.specs.Prelude.{Option, ◌&&◌, ◌||◌, is_some}
 use Rattle.std.specs.Option.{option_map}
-use Rattle.std.specs.List.{Contains, filter, list_all}
+use Rattle.std.specs.List.{filter, list_all}
 use Rattle.std.specs.Str.{bytes_eq}
 use Rattle.std.specs.FinMap as finite
 use Rattle.std.specs.FinMap.Entries.{find}
 use Rattle.std.proofs.lemmas.Slice.Eq.{bytes_eq-Decides}
 use Rattle.std.proofs.lemmas.List.{append-nil}
-use Rattle.dots.specs.Bytes.{bytes_cmp}
 use Rattle.dots.specs.Dot.{DotValue}
 use Rattle.causal_context.specs.Dots.{dot_cmp}
 use Rattle.hash_path.specs.Word.{begins}
 use Rattle.hash_path.specs.Map.{path, walk_under}
-use Rattle.hash_path.specs.Summary.{present}
 use Rattle.sha2.specs.Sha256.{sha256}
 use Rattle.causal_join.specs.OrMap.{ValuesValue, FieldsValue}
-use Rattle.wire_form.specs.Page.{EntryValue, PageValue, OneKey, Keys, Branch}
-use Rattle.prefix_digest.specs.Page.{named_values, named_fields, named_entry, named_entries, page_at, digest_of, digest_at}
-use Rattle.prefix_digest.specs.Values.{unknown_in_values, unknown_in_fields, unknown_in, unknown_at}
+use Rattle.wire_form.specs.Page.{EntryValue}
+use Rattle.prefix_digest.specs.Page.{named_values, named_fields, named_entry, named_entries, digest_at}
+use Rattle.prefix_digest.specs.Values.{unknown_in_values, unknown_in_fields, unknown_in}
 use Rattle.sync_model.specs.Opened.{fields_or_none, values_of_field, with_values, without_ended, open_fields}
 use Rattle.sync_model.specs.Filled.{Made, made_map, checked, fill_unseen, fill_seen, fill_values, then_fields, fill_fields, then_entries, fill_entries, all_used, filled}
 use Rattle.sync_model.specs.Differ.{Held}
-use Rattle.sync_model.specs.Fetch.{Fetch, Taken, Took, Mismatch, entries_of, children_of, is_digest, is_own, fits, took, promised, take_page, take_opening, within_values, within_fields, within}
-use Rattle.sync_model.specs.Laws.{IsLawfulMap, IsWithin, OneValue}
-use Rattle.sync_model.proofs.Members.{In, In-filter, In-mapped, Contains-In, In-Contains, part_found}
-use Rattle.sync_model.proofs.Paged.{in_present}
+use Rattle.sync_model.specs.Fetch.{is_own, within_values, within_fields, within}
+use Rattle.sync_model.specs.Laws.{IsWithin}
+use Rattle.sync_model.proofs.Members.{In, In-mapped, part_found}
 use Rattle.sync_model.proofs.Found.{same_Some}
 use Rattle.sync_model.proofs.Alike.{names_at}
 use Rattle.sync_model.proofs.Filling.{open_entries}

@@ -1,35 +1,33 @@
 -- The law of fitting: the peer's pages are taken, and its opening is.
-use Rattle.std.proofs.Common.{◌≡◌, ◌≢◌, ◌⊎◌, inl, inr, ℕ, zero, suc, ◌+◌, ◌<◌, ◌≤◌, ◌↔◌, List, [], ◌∷◌, ◌++◌, map, length, Bool, true, false, cond, not, Some, None, arith, refl, sym, ◌∙◌, ap, subst, append_assoc}
+use Rattle.std.proofs.Common.{◌≡◌, ℕ, ◌≤◌, List, [], ◌∷◌, ◌++◌, length, Bool, true, false, cond, not, Some, None, arith, refl, sym, ◌∙◌, ap, subst}
 use Rattle.std.specs.Prelude.{Option, ◌&&◌, ◌||◌}
 use Rattle.std.specs.Option.{option_map}
-use Rattle.std.specs.List.{Contains, list_all}
+use Rattle.std.specs.List.{list_all}
 use Rattle.std.specs.Str.{bytes_eq}
 use Rattle.std.specs.FinMap as finite
 use Rattle.std.specs.FinMap.Entries.{find}
 use Rattle.std.proofs.lemmas.Slice.Eq.{bytes_eq-Decides}
-use Rattle.dots.specs.Bytes.{bytes_cmp}
 use Rattle.dots.specs.Dot.{DotValue}
 use Rattle.causal_context.specs.Dots.{dot_cmp}
 use Rattle.hash_path.specs.Word.{begins}
 use Rattle.hash_path.specs.Map.{path, walk_under}
-use Rattle.hash_path.specs.Summary.{present}
 use Rattle.causal_join.specs.OrMap.{ValuesValue, FieldsValue}
-use Rattle.wire_form.specs.Page.{EntryValue, PageValue, Branch}
-use Rattle.prefix_digest.specs.Page.{named_fields, named_entries, page_at, digest_of, digest_at}
-use Rattle.prefix_digest.specs.Values.{unknown_in, unknown_at}
+use Rattle.wire_form.specs.Page.{PageValue}
+use Rattle.prefix_digest.specs.Page.{named_entries, page_at, digest_of, digest_at}
+use Rattle.prefix_digest.specs.Values.{unknown_at}
 use Rattle.sync_model.specs.Opened.{fields_or_none, values_of_field}
 use Rattle.sync_model.specs.Filled.{filled}
 use Rattle.sync_model.specs.Differ.{Held}
-use Rattle.sync_model.specs.Fetch.{Fetch, Taken, Took, Mismatch, entries_of, children_of, is_digest, is_own, fits, took, promised, take_page, take_opening, within_fields, within}
-use Rattle.sync_model.specs.Laws.{IsLawfulMap, Taking, TakenAt, NoClash, IsWithin, OneValue, Fitting, Opening}
+use Rattle.sync_model.specs.Fetch.{Fetch, Took, Mismatch, entries_of, is_digest, is_own, fits, took, promised, take_page, take_opening, within_fields, within}
+use Rattle.sync_model.specs.Laws.{IsLawfulMap, Taking, NoClash, IsWithin, OneValue, Fitting, Opening}
 use Rattle.sync_model.proofs.Prefixes.{length-further}
-use Rattle.sync_model.proofs.Members.{In, In-Contains, Contains-In, part_found}
+use Rattle.sync_model.proofs.Members.{In, Contains-In, part_found}
 use Rattle.sync_model.proofs.Paged.{in_present}
 use Rattle.sync_model.proofs.Found.{same_Some}
 use Rattle.sync_model.proofs.Alike.{names_at, same_names}
 use Rattle.sync_model.proofs.Filling.{open_entries}
 use Rattle.sync_model.proofs.Fetching.{Shown, Leaf, Parts, shown}
-use Rattle.sync_model.proofs.Fetched.{own_digest, Kept}
+use Rattle.sync_model.proofs.Fetched.{own_digest}
 use Rattle.sync_model.proofs.Fetches.{own_page, page_clash, kept_pages}
 use Rattle.sync_model.proofs.Fits.{and_true, fills, entries_fit, children_fit, kept_known, all_pass}
 
@@ -81,12 +79,11 @@ module _ (hash_of : List ℕ → ℕ) (own theirs : Held) (seen opened : DotValu
     page_taken one f d w there =
         let made = page_filled one in
         let right : d ≡ digest_of page = same_Some d (digest_of page) (sym there ∙ ap (option_map digest_of) is) in
-        let test : bytes_eq d (digest_of page) && fits hash_of own opened p page ≡ true = and_true (bytes_eq d (digest_of page)) (fits hash_of own opened p page) ((bytes_eq-Decides d (digest_of page)).1 right) page_fits in
-        (
+        let test : bytes_eq d (digest_of page) && fits hash_of own opened p page ≡ true = and_true (bytes_eq d (digest_of page)) (fits hash_of own opened p page) ((bytes_eq-Decides d (digest_of page)).1 right) page_fits in (
           _,
           ap (promised hash_of own seen opened f p page (unknown_at seen hash_of theirs p)) w
-          ∙ ap (λ b. cond b (took hash_of own seen opened f p page (filled seen own (entries_of page) (unknown_at seen hash_of theirs p))) Mismatch) test
-          ∙ ap (took hash_of own seen opened f p page) made.1,
+              ∙ ap (λ b. cond b (took hash_of own seen opened f p page (filled seen own (entries_of page) (unknown_at seen hash_of theirs p))) Mismatch) test
+              ∙ ap (took hash_of own seen opened f p page) made.1,
         )
 
   page_there : (p d : List ℕ) → digest_at hash_of theirs p ≡ Some d → (page : PageValue) × (page_at hash_of theirs p ≡ Some page)
@@ -114,16 +111,14 @@ opening hash_of own theirs seen opened lawful no_clash known = by_root (digest_a
         kept_known hash_of own theirs seen opened known x.0 x.1 found.0 (same_below_names hash_of own theirs seen opened lawful [] no_clash known [] (omega arith) same x.0 refl))
 
     by_own : (d : List ℕ) → digest_at hash_of theirs [] ≡ Some d → (b : Bool) → is_digest (digest_at hash_of own []) d ≡ b → (f : Fetch) × (take_opening hash_of own seen opened (Some d) ≡ Took f)
-    by_own d there true e =
-        (
-          record { waiting = finite.empty; built = own },
-          (λ k. cond (e k) (cond (kept d there e k) (Took (record { waiting = finite.empty; built = own })) Mismatch) (Took (record { waiting = finite.insert finite.empty [] d; built = own }))),
-        )
-    by_own d there false e =
-        (
-          record { waiting = finite.insert finite.empty [] d; built = own },
-          ap (λ b. cond b (cond (within opened (walk_under hash_of [] own)) (Took (record { waiting = finite.empty; built = own })) Mismatch) (Took (record { waiting = finite.insert finite.empty [] d; built = own }))) e,
-        )
+    by_own d there true e = (
+      record { waiting = finite.empty; built = own },
+      (λ k. cond (e k) (cond (kept d there e k) (Took (record { waiting = finite.empty; built = own })) Mismatch) (Took (record { waiting = finite.insert finite.empty [] d; built = own }))),
+    )
+    by_own d there false e = (
+      record { waiting = finite.insert finite.empty [] d; built = own },
+      ap (λ b. cond b (cond (within opened (walk_under hash_of [] own)) (Took (record { waiting = finite.empty; built = own })) Mismatch) (Took (record { waiting = finite.insert finite.empty [] d; built = own }))) e,
+    )
 
     by_root : (o : Option (List ℕ)) → digest_at hash_of theirs [] ≡ o → (f : Fetch) × (take_opening hash_of own seen opened o ≡ Took f)
     by_root None s = (record { waiting = finite.empty; built = finite.empty }, refl)

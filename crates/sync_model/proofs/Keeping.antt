@@ -1,10 +1,7 @@
 -- Where the names of two keys are the same, so is what stands there; and what is open of one's own is the whole of it.
-use Rattle.std.proofs.Common.{◌≡◌, ◌≢◌, ◌⊎◌, inl, inr, ℕ, List, [], ◌∷◌, map, Bool, true, false, cond, not, Some, None, refl, sym, ◌∙◌, ap, subst}
-use Rattle.std.specs.Prelude.{Option, ◌||◌, is_some}
-use Rattle.std.specs.Option.{option_map}
-use Rattle.std.specs.List.{filter}
-use Rattle.std.specs.Ordering.{is_eq, eq_by_cmp}
-use Rattle.std.specs.FinMap as finite
+use Rattle.std.proofs.Common.{◌≡◌, ◌≢◌, inl, inr, ℕ, List, [], ◌∷◌, Bool, true, false, cond, not, Some, refl, ◌∙◌, ap}
+use Rattle.std.specs.Prelude.{◌||◌, is_some}
+use Rattle.std.specs.Ordering.{eq_by_cmp}
 use Rattle.std.specs.FinMap.Entries.{find}
 use Rattle.dots.specs.Bytes.{bytes_cmp}
 use Rattle.dots.specs.Dot.{DotValue}
@@ -13,9 +10,8 @@ use Rattle.causal_context.proofs.Dots.{dot_cmp_total}
 use Rattle.std.specs.Cmp.{eq_by_cmp_equiv}
 use Rattle.sha2.specs.Sha256.{sha256}
 use Rattle.causal_join.specs.OrMap.{ValuesValue, FieldsValue}
-use Rattle.wire_form.specs.Page.{NamesValue, NamedValue}
 use Rattle.prefix_digest.specs.Page.{named_values, named_fields}
-use Rattle.sync_model.specs.Opened.{values_or_none, values_of_field, with_values, some_if_any, without_ended, open_fields, opened_at}
+use Rattle.sync_model.specs.Opened.{values_or_none, with_values, some_if_any, without_ended, open_fields, opened_at}
 use Rattle.sync_model.specs.Laws.{IsLawful}
 use Rattle.sync_model.proofs.Members.{In, Contains-In}
 use Rattle.sync_model.proofs.Filling.{EachValue, EachField}

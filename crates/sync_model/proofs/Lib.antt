@@ -11,3 +11,4 @@ pub mod Fetched
 pub mod Fetches
 pub mod Fits
 pub mod Fitted
+pub mod Closings

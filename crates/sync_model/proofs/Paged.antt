@@ -1,20 +1,16 @@
 -- What the page of a map at a prefix tells: none where no key stands there, one key, or its keys, or the digests one index on.
-use Rattle.std.proofs.Common.{◌≡◌, ◌≢◌, ◌⊎◌, inl, inr, ℕ, zero, suc, ◌+◌, ◌-◌, ◌<◌, ◌≤◌, List, [], ◌∷◌, ◌++◌, map, length, Bool, true, false, cond, Some, None, arith, refl, sym, ◌∙◌, ap, subst}
+use Rattle.std.proofs.Common.{◌≡◌, ◌⊎◌, inl, inr, ℕ, zero, suc, ◌+◌, ◌<◌, ◌≤◌, List, [], ◌∷◌, ◌++◌, length, Some, None, arith, refl, sym, ◌∙◌, ap, subst}
 use Rattle.std.specs.Prelude.{Option}
 use Rattle.std.proofs.Math.Nat.{eq-or-lt_of_le}
 use Rattle.std.proofs.lemmas.Bool.{cases_lt}
-use Rattle.std.specs.Option.{option_map}
-use Rattle.std.specs.FinMap as finite
-use Rattle.dots.specs.Bytes.{bytes_cmp}
-use Rattle.hash_path.specs.Word.{begins}
-use Rattle.hash_path.specs.Map.{path, walk_under, by_path}
+use Rattle.hash_path.specs.Map.{walk_under, by_path}
 use Rattle.hash_path.specs.Summary.{one_present, present, under_index}
 use Rattle.causal_join.specs.OrMap.{FieldsValue}
-use Rattle.wire_form.specs.Page.{EntryValue, PageValue, OneKey, Keys, Branch}
-use Rattle.prefix_digest.specs.Page.{named_fields, named_entry, named_entries, page_under, page_at, digest_of, digest_at}
+use Rattle.wire_form.specs.Page.{EntryValue, OneKey, Keys, Branch}
+use Rattle.prefix_digest.specs.Page.{named_entry, named_entries, page_under, page_at, digest_at}
 use Rattle.prefix_digest.proofs.Parted.{page_none, page_one, page_list, page_branch}
 use Rattle.sync_model.specs.Differ.{Held}
-use Rattle.sync_model.proofs.Members.{In, part_has, part_found}
+use Rattle.sync_model.proofs.Members.{In}
 
 -- ---- children that are present
 

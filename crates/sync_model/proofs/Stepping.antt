@@ -1,10 +1,10 @@
 -- What is looked up in the two maps of a step: in what is waited for, and in what is built.
-use Rattle.std.proofs.Common.{◌≡◌, ◌≢◌, ◌⊎◌, inl, inr, ℕ, List, [], ◌∷◌, ◌++◌, map, Bool, true, false, cond, not, Some, None, refl, sym, ◌∙◌, ap, subst}
+use Rattle.std.proofs.Common.{◌≡◌, ◌≢◌, ◌⊎◌, inl, inr, ℕ, List, [], ◌∷◌, ◌++◌, Bool, true, false, cond, Some, None, refl, sym, ◌∙◌, ap}
 use Rattle.std.specs.Prelude.{Option}
 use Rattle.std.specs.Ordering.{is_eq, eq_by_cmp}
 use Rattle.std.specs.Cmp.Lexicographic.{nat_list_cmp_total}
 use Rattle.std.specs.FinMap as finite
-use Rattle.std.specs.FinMap.{get-insert, get-remove, get-retain_keys, get-empty}
+use Rattle.std.specs.FinMap.{get-insert, get-remove, get-retain_keys}
 use Rattle.dots.specs.Bytes.{bytes_cmp}
 use Rattle.hash_path.proofs.Words.{tied_same, same_tied}
 use Rattle.causal_join.specs.OrMap.{ValuesValue, FieldsValue}

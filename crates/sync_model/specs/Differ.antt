@@ -1,9 +1,9 @@
 -- Where two maps differ, by the pages of their hash paths, and what an asker of the one waits for of the other. Of this project.
-use Rattle.std.specs.Prelude.{◌≡◌, ◌≢◌, ℕ, Bool, List, [], ◌∷◌, ◌++◌, Option, Some, None, cond, not}
+use Rattle.std.specs.Prelude.{◌≡◌, ◌≢◌, ℕ, List, ◌∷◌, ◌++◌, Some}
 use Rattle.std.specs.FinMap as finite
 use Rattle.dots.specs.Bytes.{bytes_cmp}
 use Rattle.causal_join.specs.OrMap.{FieldsValue}
-use Rattle.wire_form.specs.Page.{PageValue, OneKey, Keys, Branch}
+use Rattle.wire_form.specs.Page.{Branch}
 use Rattle.prefix_digest.specs.Page.{page_at, digest_at}
 
 abbrev pub Held : Type 0

@@ -1,18 +1,16 @@
 -- What an asker does with an opening and with the pages that it takes: a step of two finite maps, the digests that it was
 -- promised at the prefixes that it waits for, and what it has built so far, which is its own map at first. Of this project.
-use Rattle.std.specs.Prelude.{ℕ, Bool, true, false, ◌&&◌, ◌||◌, not, List, [], ◌∷◌, ◌++◌, map, length, get_or, Option, Some, None, cond, nat_eq, is_some}
+use Rattle.std.specs.Prelude.{ℕ, Bool, false, ◌&&◌, ◌||◌, not, List, [], ◌∷◌, ◌++◌, length, get_or, Option, Some, None, cond, nat_eq}
 use Rattle.std.specs.List.{filter, list_all, list_any}
 use Rattle.std.specs.Str.{bytes_eq}
 use Rattle.std.specs.FinMap as finite
-use Rattle.dots.specs.Bytes.{bytes_cmp}
 use Rattle.dots.specs.Dot.{DotValue}
-use Rattle.causal_join.specs.OrMap.{ValuesValue, FieldsValue}
+use Rattle.causal_join.specs.OrMap.{FieldsValue}
 use Rattle.hash_path.specs.Path.{prefix_cmp}
 use Rattle.hash_path.specs.Word.{begins}
 use Rattle.hash_path.specs.Map.{path, walk_under}
 use Rattle.wire_form.specs.Page.{EntryValue, PageValue, OneKey, Keys, Branch}
 use Rattle.prefix_digest.specs.Page.{digest_of, digest_at}
-use Rattle.sync_model.specs.Opened.{with_values}
 use Rattle.sync_model.specs.Filled.{filled}
 use Rattle.sync_model.specs.Differ.{Held}
 

@@ -3,3 +3,4 @@ pub mod Filled
 pub mod Differ
 pub mod Fetch
 pub mod Laws
+pub mod Closing

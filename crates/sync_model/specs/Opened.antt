@@ -1,6 +1,6 @@
 -- What an asker comes to hold at a key by a session: what its peer held there when it opened, but for the values that the
 -- asker had seen and no longer holds, which it saw end. Of this project.
-use Rattle.std.specs.Prelude.{ℕ, Bool, ◌||◌, not, List, [], ◌∷◌, Option, Some, None, cond, is_some}
+use Rattle.std.specs.Prelude.{ℕ, Bool, ◌||◌, not, List, [], ◌∷◌, Option, Some, None, is_some}
 use Rattle.std.specs.List.{filter}
 use Rattle.dots.specs.Bytes.{bytes_cmp}
 use Rattle.dots.specs.Dot.{DotValue}

@@ -4,4 +4,4 @@
 
 mod laws;
 
-pub use laws::{openings_fit, pages_are_fetched, pages_fit};
+pub use laws::{openings_fit, pages_are_fetched, pages_fit, what_was_built_is_what_the_peer_had};
