@@ -41,13 +41,25 @@ pub fn put<A: Allocator + Copy>(
     map.insert(Key::new(alloc, key)?, set)
 }
 
-// The pair of the map and the context of these dots. BadLine stands for a dot that is outside.
+// The pair of the map and the context. BadLine stands for a dot that is outside.
+fn pair_of<A: Allocator + Copy>(
+    map: Sets<A>,
+    known: Context<A>,
+) -> Result<Causal<Sets<A>, A>, Refusal> {
+    match Causal::from_parts(map, known) {
+        Some(pair) => Ok(pair),
+        None => Err(Refusal::BadLine),
+    }
+}
+
+// The pair of the map and the context of these dots.
 pub fn pair<A: Allocator + Copy>(
     alloc: A,
     map: Sets<A>,
     known: &[Dot],
 ) -> Result<Causal<Sets<A>, A>, Refusal> {
-    Causal::from_parts(map, context_of(alloc, known)?).ok_or(Refusal::BadLine)
+    let known = context_of(alloc, known)?;
+    pair_of(map, known)
 }
 
 // The delta of a write of the dot at the key, which observed these.
@@ -81,4 +93,26 @@ pub fn stands<H: PathHash, A: Allocator + Copy>(
         Some(set) => Ok(set.contains(dot)),
         None => Ok(false),
     }
+}
+
+// Joins the delta of a write of the dot at the key in, which observed these.
+pub fn write_at<H: PathHash, A: Allocator + Copy>(
+    alloc: A,
+    live: &mut LiveSets<H, A>,
+    key: &[u8],
+    dot: Dot,
+    known: &[Dot],
+) -> Result<(), Refusal> {
+    let delta = written(alloc, key, dot, known)?;
+    live.join_delta(alloc, &delta)
+}
+
+// Joins the delta of a remove in that observed these dots.
+pub fn remove_all<H: PathHash, A: Allocator + Copy>(
+    alloc: A,
+    live: &mut LiveSets<H, A>,
+    known: &[Dot],
+) -> Result<(), Refusal> {
+    let delta = removed(alloc, known)?;
+    live.join_delta(alloc, &delta)
 }

@@ -120,38 +120,63 @@ fn a_clear_takes_all_keys(rt: HostRuntime) -> Result<(), Fail> {
     Ok(())
 }
 
+// Puts w at the key b with no field, by the name 2, and answers the number of its dot.
+fn put_plainly(rt: &impl Abort, alloc: Global, live: &mut LiveOrMap) -> Result<u64, Refusal> {
+    let name = Name::new(2).expect(rt, "a name");
+    let key = Key::new(alloc, b"b")?;
+    let value = Value::new(alloc, b"w")?;
+    let (delta, dot) = put(alloc, name, live, &key, &value)?;
+    live.join_delta(alloc, &delta)?;
+    Ok(dot.number())
+}
+
+// How many values stand at the empty field of the key b, if the key has fields and the field has values.
+fn standing(alloc: Global, live: &LiveOrMap) -> Result<Option<usize>, Refusal> {
+    let key = Key::new(alloc, b"b")?;
+    if fields_of(live.store(), &key).is_none() {
+        return Ok(None);
+    }
+    match values_at(live.store(), &key, &Field::empty()) {
+        Some(values) => Ok(Some(values.entries().len())),
+        None => Ok(None),
+    }
+}
+
 #[test]
 fn a_put_with_no_field_is_at_the_empty_one(rt: HostRuntime) -> Result<(), Fail> {
     let alloc = rt.alloc();
     let mut live = of_three(&rt, alloc)?;
-    let (key, name) = (Key::new(alloc, b"b")?, Name::new(2).ok_or("a name")?);
-    let (delta, dot) = put(alloc, name, &live, &key, &Value::new(alloc, b"w")?)?;
-    live.join_delta(alloc, &delta)?;
-    let standing = values_at(live.store(), &key, &Field::empty()).ok_or("a value")?;
-    assert_eq!(rt; (dot.number(), standing.entries().len()), (1, 1));
-    assert!(rt; fields_of(live.store(), &key).is_some());
+    assert_eq!(rt; put_plainly(&rt, alloc, &mut live)?, 1);
+    assert_eq!(rt; standing(alloc, &live)?, Some(1));
     Ok(())
+}
+
+// How many keys are listed of a pair of forty, and how many are counted.
+fn forty_listed(rt: &impl Abort, alloc: Global) -> Result<(usize, u64), Refusal> {
+    let mut live: LiveOrMap = Live::new(alloc, Fnv1a);
+    for byte in 0..40u8 {
+        write(rt, alloc, &mut live, &[byte], b"", b"x")?;
+    }
+    let all = keys(alloc, live.store())?;
+    Ok((all.len(), live.store().size()))
 }
 
 #[test]
 fn each_of_forty_keys_is_listed(rt: HostRuntime) -> Result<(), Fail> {
-    let alloc = rt.alloc();
-    let mut live: LiveOrMap = Live::new(alloc, Fnv1a);
-    for byte in 0..40u8 {
-        write(&rt, alloc, &mut live, &[byte], b"", b"x")?;
-    }
-    assert_eq!(rt;
-        (keys(alloc, live.store())?.len(), live.store().size()),
-        (40, 40)
-    );
+    assert_eq!(rt; forty_listed(&rt, rt.alloc())?, (40, 40));
     Ok(())
 }
 
-// How many writes a remove of an absent key observes, and whether its delta knows none.
+// How many writes a remove of the key observes, and whether its delta knows none.
+fn removed(alloc: Global, live: &LiveOrMap, key: &Key) -> Result<(u64, bool), Refusal> {
+    let (delta, number) = remove(alloc, live, key)?;
+    Ok((number, delta.context().is_empty()))
+}
+
 fn removed_absent(alloc: Global) -> Result<(u64, bool), Refusal> {
     let live: LiveOrMap = Live::new(alloc, Fnv1a);
-    let (delta, number) = remove(alloc, &live, &Key::new(alloc, b"a")?)?;
-    Ok((number, delta.context().is_empty()))
+    let key = Key::new(alloc, b"a")?;
+    removed(alloc, &live, &key)
 }
 
 #[test]

@@ -1,5 +1,5 @@
 // Live pairs, by deltas that are joined in.
-use crate::made::{LiveSets, context_of, dot, pair, put, removed, stands, written};
+use crate::made::{LiveSets, dot, pair, put, remove_all, removed, stands, write_at};
 use causal_context::Context;
 use dot_store::{DotMap, DotStore};
 use dots::{Dot, Name, Refusal};
@@ -13,7 +13,7 @@ use std::test::Fail;
 fn with_one(rt: &impl Abort, alloc: Global) -> Result<LiveSets<Fnv1a, Global>, Refusal> {
     let one = dot(rt, 1, 1);
     let mut live = Live::new(alloc, Fnv1a);
-    live.join_delta(alloc, &written(alloc, b"a", one, &[one])?)?;
+    write_at(alloc, &mut live, b"a", one, &[one])?;
     Ok(live)
 }
 
@@ -29,7 +29,7 @@ fn a_write_stands_at_its_key_and_is_known(rt: HostRuntime) -> Result<(), Fail> {
 #[test]
 fn a_remove_that_names_no_key_finds_the_key(rt: HostRuntime) -> Result<(), Fail> {
     let mut live = with_one(&rt, rt.alloc())?;
-    live.join_delta(rt.alloc(), &removed(rt.alloc(), &[dot(&rt, 1, 1)])?)?;
+    remove_all(rt.alloc(), &mut live, &[dot(&rt, 1, 1)])?;
     assert_eq!(rt; live.store().size(), 0);
     assert!(rt; live.context().contains(dot(&rt, 1, 1)));
     Ok(())
@@ -39,8 +39,8 @@ fn a_remove_that_names_no_key_finds_the_key(rt: HostRuntime) -> Result<(), Fail>
 fn a_dot_that_was_removed_stays_removed(rt: HostRuntime) -> Result<(), Fail> {
     let one = dot(&rt, 1, 1);
     let mut live: LiveSets<Fnv1a, Global> = Live::new(rt.alloc(), Fnv1a);
-    live.join_delta(rt.alloc(), &removed(rt.alloc(), &[one])?)?;
-    live.join_delta(rt.alloc(), &written(rt.alloc(), b"a", one, &[one])?)?;
+    remove_all(rt.alloc(), &mut live, &[one])?;
+    write_at(rt.alloc(), &mut live, b"a", one, &[one])?;
     assert_eq!(rt; live.store().size(), 0);
     Ok(())
 }
@@ -49,7 +49,7 @@ fn a_dot_that_was_removed_stays_removed(rt: HostRuntime) -> Result<(), Fail> {
 fn a_write_over_another_takes_its_dot_away(rt: HostRuntime) -> Result<(), Fail> {
     let (one, two) = (dot(&rt, 1, 1), dot(&rt, 2, 1));
     let mut live = with_one(&rt, rt.alloc())?;
-    live.join_delta(rt.alloc(), &written(rt.alloc(), b"a", two, &[one, two])?)?;
+    write_at(rt.alloc(), &mut live, b"a", two, &[one, two])?;
     assert!(rt; stands(rt.alloc(), &live, b"a", two)?);
     assert!(rt; !stands(rt.alloc(), &live, b"a", one)?);
     Ok(())
@@ -62,7 +62,8 @@ fn forged(rt: &impl Abort, alloc: Global) -> Result<LiveSets<Fnv1a, Global>, Ref
     put(alloc, &mut map, b"a", &[one])?;
     put(alloc, &mut map, b"b", &[one])?;
     let mut live: LiveSets<Fnv1a, Global> = Live::new(alloc, Fnv1a);
-    live.join_delta(alloc, &pair(alloc, map, &[one])?)?;
+    let delta = pair(alloc, map, &[one])?;
+    live.join_delta(alloc, &delta)?;
     Ok(live)
 }
 
@@ -70,7 +71,7 @@ fn forged(rt: &impl Abort, alloc: Global) -> Result<LiveSets<Fnv1a, Global>, Ref
 fn a_dot_at_two_keys_goes_from_both(rt: HostRuntime) -> Result<(), Fail> {
     let mut live = forged(&rt, rt.alloc())?;
     assert_eq!(rt; live.store().size(), 2);
-    live.join_delta(rt.alloc(), &removed(rt.alloc(), &[dot(&rt, 1, 1)])?)?;
+    remove_all(rt.alloc(), &mut live, &[dot(&rt, 1, 1)])?;
     assert_eq!(rt; live.store().size(), 0);
     Ok(())
 }
@@ -79,10 +80,7 @@ fn a_dot_at_two_keys_goes_from_both(rt: HostRuntime) -> Result<(), Fail> {
 fn a_write_at_one_of_two_keys_ends_the_dot_at_the_other(rt: HostRuntime) -> Result<(), Fail> {
     let two = dot(&rt, 1, 2);
     let mut live = forged(&rt, rt.alloc())?;
-    live.join_delta(
-        rt.alloc(),
-        &written(rt.alloc(), b"a", two, &[dot(&rt, 1, 1), two])?,
-    )?;
+    write_at(rt.alloc(), &mut live, b"a", two, &[dot(&rt, 1, 1), two])?;
     assert_eq!(rt; live.store().size(), 1);
     assert!(rt; stands(rt.alloc(), &live, b"a", two)?);
     Ok(())
@@ -112,8 +110,8 @@ fn a_long_run_of_dots_costs_what_stands_there(rt: HostRuntime) -> Result<(), Fai
 fn the_last_number_of_the_last_name_can_be_removed(rt: HostRuntime) -> Result<(), Fail> {
     let last = dot(&rt, u64::MAX, u64::MAX);
     let mut live = with_one(&rt, rt.alloc())?;
-    live.join_delta(rt.alloc(), &written(rt.alloc(), b"b", last, &[last])?)?;
-    live.join_delta(rt.alloc(), &removed(rt.alloc(), &[last])?)?;
+    write_at(rt.alloc(), &mut live, b"b", last, &[last])?;
+    remove_all(rt.alloc(), &mut live, &[last])?;
     assert_eq!(rt; live.store().size(), 1);
     assert!(rt; stands(rt.alloc(), &live, b"a", dot(&rt, 1, 1))?);
     Ok(())
@@ -122,7 +120,8 @@ fn the_last_number_of_the_last_name_can_be_removed(rt: HostRuntime) -> Result<()
 #[test]
 fn a_prepared_pair_changes_nothing_before_it_is_put_in_place(rt: HostRuntime) -> Result<(), Fail> {
     let mut live = with_one(&rt, rt.alloc())?;
-    let next = live.prepare(rt.alloc(), &removed(rt.alloc(), &[dot(&rt, 1, 1)])?)?;
+    let delta = removed(rt.alloc(), &[dot(&rt, 1, 1)])?;
+    let next = live.prepare(rt.alloc(), &delta)?;
     assert_eq!(rt; live.store().size(), 1);
     live.commit(next);
     assert_eq!(rt; live.store().size(), 0);
@@ -134,7 +133,7 @@ fn a_share_stays_what_it_was(rt: HostRuntime) -> Result<(), Fail> {
     let two = dot(&rt, 2, 1);
     let mut live = with_one(&rt, rt.alloc())?;
     let share = live.store().share()?;
-    live.join_delta(rt.alloc(), &written(rt.alloc(), b"b", two, &[two])?)?;
+    write_at(rt.alloc(), &mut live, b"b", two, &[two])?;
     assert_eq!(rt; share.size(), 1);
     assert_eq!(rt; live.store().size(), 2);
     Ok(())

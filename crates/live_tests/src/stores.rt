@@ -1,5 +1,6 @@
 // A store that is kept as a trie, through the calls of every dot store.
-use crate::made::{context_of, dot, written};
+use crate::made::{context_of, dot, write_at};
+use causal_context::Context;
 use dot_store::{DotSet, DotStore};
 use dots::{Dot, Refusal};
 use gen_trie::NoSummary;
@@ -16,9 +17,28 @@ type Sets<H> = TrieMap<DotSet, NoSummary, H>;
 fn of_two(rt: &impl Abort, alloc: Global) -> Result<Sets<Fnv1a>, Refusal> {
     let (one, two) = (dot(rt, 1, 1), dot(rt, 1, 2));
     let mut live: Live<DotSet> = Live::new(alloc, Fnv1a);
-    live.join_delta(alloc, &written(alloc, b"a", one, &[one])?)?;
-    live.join_delta(alloc, &written(alloc, b"b", two, &[two])?)?;
+    write_at(alloc, &mut live, b"a", one, &[one])?;
+    write_at(alloc, &mut live, b"b", two, &[two])?;
     live.store().share()
+}
+
+// Whether the dots of the store are these.
+fn are_its_dots<S: DotStore<Global>>(
+    alloc: Global,
+    store: &S,
+    context: &Context<Global>,
+) -> Result<bool, Refusal> {
+    let all = store.dots(alloc)?;
+    Ok(all == *context)
+}
+
+// Whether the store has each of the dots, and not the other.
+fn contains_just<S: DotStore<Global>>(store: &S, dots: &[Dot], other: Dot) -> bool {
+    let mut all = !store.contains(other);
+    for dot in dots {
+        all = all && store.contains(*dot);
+    }
+    all
 }
 
 // Whether the store has just these dots, none of which is the other.
@@ -29,11 +49,8 @@ fn has_just<S: DotStore<Global>>(
     other: Dot,
 ) -> Result<bool, Refusal> {
     let context = context_of(alloc, dots)?;
-    let mut all = store.is_inside(&context) && store.dots(alloc)? == context;
-    for dot in dots {
-        all = all && store.contains(*dot);
-    }
-    Ok(all && !store.contains(other) && !store.is_empty())
+    let inside = store.is_inside(&context) && !store.is_empty();
+    Ok(are_its_dots(alloc, store, &context)? && inside && contains_just(store, dots, other))
 }
 
 #[test]
@@ -59,23 +76,34 @@ fn a_copy_is_the_same_store(rt: HostRuntime) -> Result<(), Fail> {
     Ok(())
 }
 
-// The join of the store, which knows these dots, with an empty one that knows those.
+// The join of the store, which knows the first dots, with an empty one that knows the others.
 fn joined<S: DotStore<Global>>(
     alloc: Global,
     store: &S,
+    own: &Context<Global>,
+    theirs: &Context<Global>,
+) -> Result<S, Refusal> {
+    let empty = S::empty(alloc);
+    store.join(alloc, own, &empty, theirs)
+}
+
+// The same of one store, by the dots.
+fn joined_with(
+    alloc: Global,
+    store: &Sets<Fnv1a>,
     own: &[Dot],
     theirs: &[Dot],
-) -> Result<S, Refusal> {
+) -> Result<Sets<Fnv1a>, Refusal> {
     let own = context_of(alloc, own)?;
     let theirs = context_of(alloc, theirs)?;
-    store.join(alloc, &own, &S::empty(alloc), &theirs)
+    joined(alloc, store, &own, &theirs)
 }
 
 #[test]
 fn a_join_takes_out_what_the_other_side_removed(rt: HostRuntime) -> Result<(), Fail> {
     let store = of_two(&rt, rt.alloc())?;
     let dots = [dot(&rt, 1, 1), dot(&rt, 1, 2)];
-    let left = joined(rt.alloc(), &store, &dots, &[dot(&rt, 1, 1)])?;
+    let left = joined_with(rt.alloc(), &store, &dots, &[dot(&rt, 1, 1)])?;
     assert_eq!(rt; left.size(), 1);
     assert!(rt; has_just(rt.alloc(), &left, &[dot(&rt, 1, 2)], dot(&rt, 1, 1))?);
     Ok(())
@@ -85,7 +113,7 @@ fn a_join_takes_out_what_the_other_side_removed(rt: HostRuntime) -> Result<(), F
 fn a_join_keeps_what_the_other_side_never_knew(rt: HostRuntime) -> Result<(), Fail> {
     let store = of_two(&rt, rt.alloc())?;
     let dots = [dot(&rt, 1, 1), dot(&rt, 1, 2)];
-    let left = joined(rt.alloc(), &store, &dots, &[])?;
+    let left = joined_with(rt.alloc(), &store, &dots, &[])?;
     assert!(rt; left.same(&store));
     Ok(())
 }
@@ -107,7 +135,7 @@ fn of_forty(rt: &impl Abort, alloc: Global) -> Result<Live<DotSet>, Refusal> {
     let mut live: Live<DotSet> = Live::new(alloc, Fnv1a);
     for number in 0..40u8 {
         let one = dot(rt, 1, number as u64 + 1);
-        live.join_delta(alloc, &written(alloc, &[number], one, &[one])?)?;
+        write_at(alloc, &mut live, &[number], one, &[one])?;
     }
     Ok(live)
 }
