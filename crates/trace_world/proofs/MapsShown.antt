@@ -4,7 +4,6 @@ use Rattle.std.specs.FinMap as finite
 use Rattle.causal_join.specs.OrMap.{FieldsValue, fields_at, path_of}
 use Rattle.delta_ops.specs.LiveMap.{live_state}
 use Rattle.delta_ops.proofs.AsOrMap.{as_entries}
-use Rattle.dot_store.specs.Store.{HasNothing}
 use Rattle.dots.specs.Bytes.{bytes_cmp}
 use Rattle.op_model.specs.Operation.{Operation, NoReuse}
 use Rattle.prefix_digest.specs.MapOf.{map_of, IsInOrder, IsMapOf}

@@ -1,5 +1,5 @@
 -- Pins: what a pin shows, and that pins stay as more events come.
-use Rattle.std.specs.Prelude.{◌≡◌, ◌≤◌, ◌<◌, ◌+◌, ◌-◌, ◌⊎◌, ℕ, zero, suc, Bool, true, false, cond, List, [], ◌∷◌, ◌++◌, map, take, length, refl, Option, Some, None, Result, Ok, Err, Contains, slice_get, slice_index_or, nat_lt, nat_le, ◌↔◌, is_ok, IfOk, IsOkUnless}
+use Rattle.std.specs.Prelude.{◌≡◌, ◌≤◌, ◌<◌, ◌-◌, ℕ, zero, suc, true, cond, List, [], ◌∷◌, ◌++◌, map, take, length, refl, Option, Some, None, Result, Ok, Err, Contains, slice_get, slice_index_or, nat_lt, nat_le, ◌↔◌, is_ok, IfOk, IsOkUnless}
 use Rattle.std.specs.List.{All}
 use Rattle.std.specs.Option.{option_map}
 use Rattle.std.proofs.lemmas.Option.{none-some, slice_get_within, get_or_from_slice_get}

@@ -1,4 +1,4 @@
-use Rattle.std.proofs.Common.{◌≡◌, ◌∙◌, ap}
+use Rattle.std.proofs.Common.{◌∙◌}
 use Rattle.hash_path.specs.Fnv1a.{fnv1a}
 use Rattle.prefix_digest.specs.MapOf.{root_digest}
 use Rattle.prefix_digest.specs.Page.{digest_at}
