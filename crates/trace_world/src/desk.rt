@@ -16,8 +16,8 @@ use prefix_digest::ShaSummary;
 use std::alloc::{Allocator, Global};
 use std::marker::Model;
 use trace_words::{
-    Command, digest_answer, erased_answer, fields_answer, flush_answer, get_answer, map_answer, push_entry,
-    put_answer, size_answer,
+    Command, digest_answer, erased_answer, fields_answer, flush_answer, get_answer, map_answer,
+    push_entry, put_answer, size_answer,
 };
 
 /// The replicas with the text of each command at them. It is seen as the events that it accepted.

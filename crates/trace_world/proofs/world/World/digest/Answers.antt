@@ -14,5 +14,5 @@ returns-in-Some-clause-ok g c =
     rw (← c.self.view_is) (
       found_node _ _ _ keeps c.args.name c.in-Some.replica.now found,
       c.root_digest.ensures ((after past).seen c.args.name) (seen-NoReuse past c.args.name)
-      (subst (λ store. StandsFor store ((after past).seen c.args.name)) (sym c.store.ensures.value) (store_stands _ _ _ keeps c.args.name c.in-Some.replica.now found)),
+          (subst (λ store. StandsFor store ((after past).seen c.args.name)) (sym c.store.ensures.value) (store_stands _ _ _ keeps c.args.name c.in-Some.replica.now found)),
     )
