@@ -9,6 +9,15 @@ unsafe extern "C" {
     fn measure_trie(keys: *const u64, count: usize, step: u32, times: u32) -> u64;
     fn measure_decode(bytes: *const u8, length: usize, times: u32) -> u64;
     fn measure_encode(bytes: *const u8, length: usize, times: u32) -> u64;
+    fn measure_digests(
+        keys: *const u64,
+        count: usize,
+        some: *const u64,
+        some_count: usize,
+        step: u32,
+        every: u64,
+    ) -> u64;
+    fn measure_hash(keys: *const u64, count: usize) -> u64;
     fn measure_live(keys: *const u64, count: usize, step: u32, times: u32) -> u64;
     fn measure_stores(keys: *const u64, count: usize, step: u32, times: u32) -> u64;
     fn clock_gettime(clock: i32, time: *mut Time) -> i32;
@@ -352,7 +361,55 @@ fn live(count: usize) {
     );
 }
 
+/// Digests that nodes keep, of so many keys, and SHA-256 alone of as many values and pages of one key.
+fn digests(count: usize) {
+    let keys = random_keys(count);
+    let some = &keys[..10_000];
+    let ours = |step, some: &[u64], every| {
+        seconds(|| {
+            let number = unsafe {
+                measure_digests(
+                    keys.as_ptr(),
+                    keys.len(),
+                    some.as_ptr(),
+                    some.len(),
+                    step,
+                    every,
+                )
+            };
+            assert_ne!(number, u64::MAX, "want of memory");
+        })
+    };
+    let (filled, sealed, put) = (ours(0, some, 0), ours(1, some, 0), ours(2, some, 0));
+    let each = 1e6 / some.len() as f64;
+    println!("digests of {count} keys of 8 bytes, values of 16 at the empty field: microseconds");
+    println!("  first seal             {:10.1}", (sealed - filled) * 1e6);
+    let hash = seconds(|| {
+        drop(black_box(unsafe {
+            measure_hash(keys.as_ptr(), keys.len())
+        }))
+    });
+    println!("  SHA-256 of its keys    {:10.1}", hash * 1e6);
+    for every in [1, 100, 10_000] {
+        let seals = (ours(3, some, every) - put) * each * every as f64;
+        println!("  seal after {every:6} puts {seals:10.1}");
+    }
+    let alone = (put - sealed) * each;
+    println!("  put with no seal       {alone:10.2}");
+    println!(
+        "  put with one           {:10.2}",
+        alone + (ours(3, some, 1) - put) * each
+    );
+    println!(
+        "  root digest, read      {:10.3}",
+        (ours(4, &keys, 0) - sealed) * 1e6 / count as f64
+    );
+}
+
 fn main() {
+    for count in [10_000, 100_000] {
+        digests(count);
+    }
     for count in [1_000, 10_000, 100_000] {
         live(count);
     }

@@ -2,6 +2,7 @@
 // depends on the work, or 2^64 - 1 where memory ran out or the bytes are no message.
 #![tactic(auto)]
 
+mod digests;
 mod live;
 mod stores;
 mod tries;

@@ -5,3 +5,4 @@ pub mod Digests
 pub mod Parted
 pub mod Going
 pub mod UnknownValues
+pub mod MapsOf

@@ -3,3 +3,4 @@ pub mod Values
 pub mod Told
 pub mod Taking
 pub mod Summary
+pub mod MapOf

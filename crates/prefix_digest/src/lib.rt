@@ -4,6 +4,7 @@
 #![tactic(auto)]
 
 mod feeding;
+mod laws;
 mod naming;
 mod page_feeding;
 mod pages;
@@ -11,6 +12,7 @@ mod sha_summary;
 mod told;
 mod values;
 
+pub use laws::{a_state_has_one_map, same_operations_have_same_digests};
 pub use naming::value_digest;
 pub use page_feeding::digest_of;
 pub use pages::{FrozenMap, check, digest, page, page_value};

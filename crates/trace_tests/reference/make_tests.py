@@ -97,7 +97,7 @@ def generated():
             maker.add("deliver", number, name)
     maker.looks([1, 2, 3])
     for name in REPLICAS:
-        for words in [["context", name], ["show", name], ["get", name, "absent"], ["fields", name, KEYS[name]]]:
+        for words in [["context", name], ["show", name], ["get", name, "absent"], ["fields", name, KEYS[name]], ["digest", name]]:
             maker.add(*words)
     return "\n".join(maker.lines) + "\n"
 

@@ -5,6 +5,9 @@ import re
 import sys
 from collections import namedtuple
 
+sys.dont_write_bytecode = True
+from digest_of_map import root_digest
+
 # A dot is a pair of a name and a number. An erasure has no dot, key, field or value.
 Operation = namedtuple("Operation", "dot key field value observed")
 # The operations that it has seen, and those of its own that it has not sent yet.
@@ -13,7 +16,7 @@ Replica = namedtuple("Replica", "seen unsent")
 # The form of each command's words: n is a number, t a text.
 FORMS = {
     "node": "n", "put": "ntt", "putf": "nttt", "get": "nt", "getf": "ntt", "fields": "nt", "remove": "nt", "removef": "ntt",
-    "clear": "n", "show": "n", "size": "n", "context": "n", "pin": "n", "look": "nt", "flush": "n", "deliver": "nn",
+    "clear": "n", "show": "n", "size": "n", "context": "n", "digest": "n", "pin": "n", "look": "nt", "flush": "n", "deliver": "nn",
 }
 ITSELF = rb"[!-\"$-~][!-~]*"  # a word that stands for its own bytes
 
@@ -72,6 +75,13 @@ def context(seen):
     return " ".join(["context", *vector, *cloud])
 
 
+def digest(seen):
+    entries = {}
+    for write in shown(seen):
+        entries.setdefault(write.key, {}).setdefault(write.field, {})[write.dot] = write.value
+    return root_digest(entries)
+
+
 class World:
     def __init__(self):
         self.replicas, self.messages, self.pins = {}, [], []
@@ -104,8 +114,10 @@ class World:
             return told("=", shown(seen, key, b"" if command == "get" else field))
         if command in ("fields", "show"):
             return listed("fields", shown(seen, key), "field") if key is not None else listed("map", shown(seen), "key")
-        if command in ("size", "context"):
-            return context(seen) if command == "context" else f"size {len({write.key for write in shown(seen)})}"
+        if command in ("context", "digest"):
+            return context(seen) if command == "context" else digest(seen)
+        if command == "size":
+            return f"size {len({write.key for write in shown(seen)})}"
         if command == "flush" and not unsent:
             return "empty"
         kept = self.pins if command == "pin" else self.messages

@@ -2,6 +2,7 @@
 
 mod answering;
 mod contexts;
+mod digests;
 mod examples;
 mod faults;
 mod fields;

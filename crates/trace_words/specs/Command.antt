@@ -19,6 +19,7 @@ pub data CommandValue : Type 0 where
   Size : ℕ → CommandValue
   Context : ℕ → CommandValue
   Pin : ℕ → CommandValue
+  Digest : ℕ → CommandValue
   Look : ℕ → List ℕ → CommandValue
 
 -- the command that takes one number, where the word is one
@@ -62,7 +63,8 @@ one_word_command verb first =
     (cond (bytes_eq verb (codes "show")) (with_number Show (number_of first))
     (cond (bytes_eq verb (codes "size")) (with_number Size (number_of first))
     (cond (bytes_eq verb (codes "context")) (with_number Context (number_of first))
-    (cond (bytes_eq verb (codes "pin")) (with_number Pin (number_of first)) None))))))
+    (cond (bytes_eq verb (codes "pin")) (with_number Pin (number_of first))
+    (cond (bytes_eq verb (codes "digest")) (with_number Digest (number_of first)) None)))))))
 
 abbrev pub two_word_command : List ℕ → List ℕ → List ℕ → Option CommandValue
 two_word_command verb first second =

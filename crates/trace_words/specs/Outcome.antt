@@ -15,7 +15,10 @@ use Rattle.op_model.specs.Shown.{values, values_of_key, fields, keys, size}
 use Rattle.op_model.specs.Made.{dot_at, removed_at, field_removed_at, cleared_at}
 use Rattle.op_model.specs.World.{World, Event, is_node, is_message}
 use Rattle.op_model.specs.World as world
-use Rattle.trace_words.specs.Command.{CommandValue, Node, Put, Get, Flush, Deliver, Remove, RemoveField, Clear, Fields, Show, Size, Context, Pin, Look}
+use Rattle.hash_path.specs.Fnv1a.{fnv1a}
+use Rattle.hex.specs.Hex.{encode_lower}
+use Rattle.prefix_digest.specs.MapOf.{root_digest}
+use Rattle.trace_words.specs.Command.{CommandValue, Node, Put, Get, Flush, Deliver, Remove, RemoveField, Clear, Fields, Show, Size, Context, Pin, Digest, Look}
 use Rattle.trace_words.specs.Compressed.{vector_of, cloud_of}
 use Rattle.trace_words.specs.Word.{shown_as}
 
@@ -137,6 +140,15 @@ size_outcome w name = at_replica w name (Done (size_text (size (w.seen name))) [
 abbrev pub context_outcome : World → ℕ → Outcome
 context_outcome w name = at_replica w name (Done (context_text (vector_of (known (w.seen name))) (cloud_of (known (w.seen name)))) [])
 
+-- the digest in lower-case hexadecimal, or "-" where there is none
+abbrev pub digest_text : Option (List ℕ) → List ℕ
+digest_text None = codes "-"
+digest_text (Some digest) = encode_lower digest
+
+-- the root digest of the map that stands for what the replica has seen, the paths of its keys by FNV-1a
+abbrev pub digest_outcome : World → ℕ → Outcome
+digest_outcome w name = at_replica w name (Done (digest_text (root_digest fnv1a (w.seen name))) [])
+
 -- "pin <number>"
 abbrev pub pin_text : ℕ → List ℕ
 pin_text number = codes "pin " ++ decimal number
@@ -170,6 +182,7 @@ outcome_of w pins (Show name) = show_outcome w name
 outcome_of w pins (Size name) = size_outcome w name
 outcome_of w pins (Context name) = context_outcome w name
 outcome_of w pins (Pin name) = pin_outcome w pins name
+outcome_of w pins (Digest name) = digest_outcome w name
 outcome_of w pins (Look pin key) = look_outcome (pin_at pins pin) key
 
 -- whether a command speaks of the replicas alone, and of no pin

@@ -6,7 +6,7 @@ ghost use Rattle.trace_words.specs.Word.{shown_as};
 ghost use Rattle.trace_words.specs.Does.{Brings};
 ghost use Rattle.trace_words.specs.Fault.{is_fault};
 ghost use Rattle.trace_words.specs.Machine.{Past, answer_by, past_by};
-ghost use Rattle.trace_words.specs.Outcome.{Outcome, Refused, put_text, values_text, sent_text, erased_text, size_text, pin_text, entry_text};
+ghost use Rattle.trace_words.specs.Outcome.{Outcome, Refused, put_text, values_text, sent_text, erased_text, size_text, pin_text, digest_text, entry_text};
 ghost use Rattle.trace_words.specs.Reply.{answer_of, TellsFaults};
 
 use crate::reply::Reply;
@@ -68,6 +68,20 @@ pub fn pin_answer<A: Allocator + Copy>(alloc: A, number: u64) -> Result<String<A
     ensures err { IsOkUnless result Refusal.OutOfMemory }
 {
     Ok(format!(in alloc; "pin {number}")?)
+}
+
+/// The answer to a look at the root digest: its 64 hexadecimal digits, or `-` where there is none.
+pub fn digest_answer<A: Allocator + Copy>(
+    alloc: A,
+    digest: Option<[u8; 32]>,
+) -> Result<String<A>, Refusal>
+    ensures ok { IfOk result (λ text. string_bytes text ≡ digest_text digest) }
+    ensures err { IsOkUnless result Refusal.OutOfMemory }
+{
+    match digest {
+        Some(digest) => Ok(hex::encode(alloc, digest)?),
+        None => Ok(String::from_str(alloc, "-")?),
+    }
 }
 
 /// The beginning of the answer to a look at all keys: `map <number of keys>`.

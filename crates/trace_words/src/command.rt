@@ -59,6 +59,8 @@ pub enum Command<A: Allocator = Global> {
     Context(Name),
     /// The map as it is, kept under the next pin's number.
     Pin(Name),
+    /// The root digest of the map.
+    Digest(Name),
     /// The values of a key in a map that was kept.
     Look {
         pin: u64,
@@ -106,6 +108,9 @@ fn with_one_word<A: Allocator + Copy>(verb: &[u8], first: &[u8]) -> Option<Comma
     }
     if verb == b"pin".as_slice() {
         return Some(Command::Pin(name(first)?));
+    }
+    if verb == b"digest".as_slice() {
+        return Some(Command::Digest(name(first)?));
     }
     None
 }

@@ -8,8 +8,8 @@ mod reply;
 mod word;
 
 pub use answer::{
-    erased_answer, fields_answer, flush_answer, get_answer, is_fault, map_answer, pin_answer,
-    push_entry, put_answer, reply_of, size_answer,
+    digest_answer, erased_answer, fields_answer, flush_answer, get_answer, is_fault, map_answer,
+    pin_answer, push_entry, put_answer, reply_of, size_answer,
 };
 pub use command::{Command, parse};
 pub use reply::Reply;

@@ -5,3 +5,4 @@ pub mod Own
 pub mod WorldLemmas
 pub mod Pinning
 mod Compressing
+pub mod MapsShown

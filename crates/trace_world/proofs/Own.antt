@@ -1,21 +1,20 @@
 -- The operations that a replica makes, in a world that keeps its events: over plain variables.
-use Rattle.std.proofs.Common.{◌≡◌, ℕ, ◌+◌, ◌-◌, ◌^◌, ◌≤◌, List, [], ◌∷◌, length, Some, is_some, true, refl, sym, ◌∙◌, ap, arith}
+use Rattle.std.proofs.Common.{◌≡◌, ℕ, ◌-◌, ◌^◌, ◌≤◌, List, [], ◌∷◌, length, Some, is_some, true, refl, sym, ◌∙◌, ap, arith}
 use Rattle.std.specs.List.{IsDistinct}
 use Rattle.std.specs.BTreeMap.{BTreeMap, get}
 use Rattle.std.specs.Ordering.{nat_cmp}
 use Rattle.std.specs.declared.vec.Vec.{Vec}
 use Rattle.causal_context.specs.Context.{IsGreatest, has}
-use Rattle.causal_join.specs.OrMap.{or_map_state}
 use Rattle.delta_ops.proofs.Puts.{next_is}
 use Rattle.dots.specs.declared.dot.Dot.{Dot}
 use Rattle.dots.specs.Dot.{same_dot}
 use Rattle.delta_ops.specs.LiveMap.{live_state}
 use Rattle.op_model.specs.Made.{IsPutAt, IsRemoveAt, IsFieldRemoveAt, IsClearAt, put_at, remove_at, remove_field_at, clear_at, erasure, dot_at, removed_at, field_removed_at, cleared_at}
 use Rattle.op_model.specs.Meaning.{MapState, state}
-use Rattle.op_model.specs.Operation.{Operation, Write, Wrote}
+use Rattle.op_model.specs.Operation.{Write, Wrote}
 use Rattle.op_model.specs.Place.{Place}
 use Rattle.op_model.specs.State.{Same}
-use Rattle.op_model.specs.World.{Event, Put, Remove, RemoveField, Clear, after, is_node, Means}
+use Rattle.op_model.specs.World.{Event, Put, Remove, RemoveField, Clear, after, is_node}
 use Rattle.op_model.proofs.Events.{after_put, after_remove, after_remove_field, after_clear, messages_after}
 use Rattle.op_model.proofs.Fresh.{after-push}
 use Rattle.op_model.proofs.Joins.{same-chain}

@@ -6,7 +6,6 @@ use Rattle.causal_join.specs.Causal.{state_of}
 use Rattle.causal_join.specs.OrMap.{FieldsValue, OrMapValue, fields_at, or_map_at, or_map_state, path_of}
 use Rattle.delta_ops.specs.LiveMap.{live_state}
 use Rattle.delta_ops.proofs.AsOrMap.{as_entries}
-use Rattle.dots.specs.Dot.{DotValue}
 use Rattle.dot_store.specs.Store.{HasNothing}
 use Rattle.op_model.specs.Meaning.{MapState, greater, state}
 use Rattle.live_map.specs.Live.{PairValue}

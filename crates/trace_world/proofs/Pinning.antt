@@ -1,5 +1,5 @@
 -- Pins: what a pin shows, and that pins stay as more events come.
-use Rattle.std.specs.Prelude.{◌≡◌, ◌≤◌, ◌<◌, ◌+◌, ◌-◌, ◌⊎◌, ℕ, zero, suc, Bool, true, false, cond, List, [], ◌∷◌, ◌++◌, map, take, length, refl, Option, Some, None, Result, Ok, Err, Contains, slice_get, slice_index_or, nat_lt, nat_le, ◌↔◌, is_ok, IfOk, IsOkUnless}
+use Rattle.std.specs.Prelude.{◌≡◌, ◌≤◌, ◌<◌, ◌-◌, ℕ, zero, suc, true, cond, List, [], ◌∷◌, ◌++◌, map, take, length, refl, Option, Some, None, Result, Ok, Err, Contains, slice_get, slice_index_or, nat_lt, nat_le, ◌↔◌, is_ok, IfOk, IsOkUnless}
 use Rattle.std.specs.List.{All}
 use Rattle.std.specs.Option.{option_map}
 use Rattle.std.proofs.lemmas.Option.{none-some, slice_get_within, get_or_from_slice_get}
@@ -23,7 +23,7 @@ use Rattle.trace_words.specs.declared.command.Command.TheVariants as parsed_comm
 use Rattle.std.proofs.lemmas.Bool.Decides.{nat_tests}
 use Rattle.std.proofs.lemmas.List.{take_all, map-append}
 use Rattle.std.proofs.lemmas.List.Elements.{All-tail, All-append}
-use Rattle.trace_words.specs.Command.{CommandValue, Node, Put, Get, Flush, Deliver, Remove, RemoveField, Clear, Fields, Show, Size, Context, Look}
+use Rattle.trace_words.specs.Command.{CommandValue, Node, Put, Get, Flush, Deliver, Remove, RemoveField, Clear, Fields, Show, Size, Context, Digest, Look}
 use Rattle.trace_words.specs.Command as command
 use Rattle.trace_words.specs.Does.{Does, Brings}
 use Rattle.trace_words.specs.Machine.{Past, Told, answer_by, past_by}
@@ -56,6 +56,7 @@ world_only w pins (Fields name key) h = refl
 world_only w pins (Show name) h = refl
 world_only w pins (Size name) h = refl
 world_only w pins (Context name) h = refl
+world_only w pins (Digest name) h = refl
 world_only w pins (command.Pin name) h = absurd (false≢true h)
 world_only w pins (Look pin key) h = absurd (false≢true h)
 
@@ -177,6 +178,7 @@ module _ {A : Type 0} where
   at_world_command (parsed_command.Show name) no_pin_is no_look = refl
   at_world_command (parsed_command.Size name) no_pin_is no_look = refl
   at_world_command (parsed_command.Context name) no_pin_is no_look = refl
+  at_world_command (parsed_command.Digest name) no_pin_is no_look = refl
   at_world_command (parsed_command.Pin name) no_pin_is no_look = absurd (no_pin_is name refl)
   at_world_command (parsed_command.Look pin key) no_pin_is no_look = absurd (no_look pin key refl)
 

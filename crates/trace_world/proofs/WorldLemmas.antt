@@ -1,5 +1,5 @@
 -- What a world that keeps its events answers: over plain variables.
-use Rattle.std.proofs.Common.{◌≡◌, ◌≢◌, ℕ, ◌+◌, ◌-◌, ◌^◌, ◌<◌, ◌≤◌, nat_lt, Bool, true, false, cond, List, [], ◌∷◌, ◌++◌, length, Contains, ◌↔◌, Option, Some, None, is_some, IfSome, Result, Ok, Err, IfOk, OnErr, ◌⊎◌, inl, inr, get_or, refl, sym, ◌∙◌, ap, arith, length-append}
+use Rattle.std.proofs.Common.{◌≡◌, ◌≢◌, ℕ, ◌+◌, ◌-◌, ◌<◌, ◌≤◌, nat_lt, Bool, true, false, cond, List, [], ◌∷◌, ◌++◌, length, Contains, ◌↔◌, Option, Some, None, is_some, IfSome, Result, Ok, Err, IfOk, OnErr, ◌⊎◌, inl, inr, get_or, refl, sym, ◌∙◌, ap, arith, length-append}
 use Rattle.std.proofs.lemmas.Bool.Decides.{nat_tests}
 use Rattle.std.proofs.lemmas.Option.{slice_get_within, slice_get_cases}
 use Rattle.std.specs.BTreeMap.{BTreeMap, get}

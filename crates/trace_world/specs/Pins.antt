@@ -1,6 +1,6 @@
 -- How the pins are kept: each with its replica's name, how many events had been accepted, and the replica's store. Of this
 -- project.
-use Rattle.std.specs.Prelude.{◌≡◌, ◌≤◌, ℕ, List, map, take, length, ◌++◌}
+use Rattle.std.specs.Prelude.{◌≡◌, ◌≤◌, List, map, take, length, ◌++◌}
 use Rattle.std.specs.List.{All}
 use Rattle.causal_context.specs.Context.{ContextValue}
 use Rattle.causal_join.specs.OrMap.{FieldsValue}

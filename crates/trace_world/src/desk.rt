@@ -3,7 +3,7 @@ ghost use Rattle.std.specs.List.{flat_map};
 ghost use Rattle.op_model.specs.Place.{place_of};
 ghost use Rattle.op_model.specs.Shown.{values, values_of_key, fields};
 ghost use Rattle.op_model.specs.World.{after, is_node};
-ghost use Rattle.trace_words.specs.Outcome.{Done, Refused, outcome_of, is_at_world, put_text, values_text, node_outcome, put_outcome, get_outcome, flush_outcome, deliver_outcome, remove_outcome, remove_field_outcome, clear_outcome, fields_outcome, show_outcome, size_outcome, context_outcome, entry_text};
+ghost use Rattle.trace_words.specs.Outcome.{Done, Refused, outcome_of, is_at_world, put_text, values_text, node_outcome, put_outcome, get_outcome, flush_outcome, deliver_outcome, remove_outcome, remove_field_outcome, clear_outcome, fields_outcome, show_outcome, size_outcome, context_outcome, digest_outcome, entry_text};
 ghost use Rattle.trace_world.specs.Pins.{Grows, StandsFor};
 ghost use Rattle.trace_words.specs.Word.{shown_as};
 
@@ -11,13 +11,13 @@ use crate::known::context_answer;
 use crate::world::World;
 use delta_ops::LiveStore;
 use dots::{Field, Key, Name, Refusal, Value};
-use gen_trie::NoSummary;
 use hash_path::Fnv1a;
+use prefix_digest::ShaSummary;
 use std::alloc::{Allocator, Global};
 use std::marker::Model;
 use trace_words::{
-    Command, erased_answer, fields_answer, flush_answer, get_answer, map_answer, push_entry,
-    put_answer, size_answer,
+    Command, digest_answer, erased_answer, fields_answer, flush_answer, get_answer, map_answer,
+    push_entry, put_answer, size_answer,
 };
 
 /// The replicas with the text of each command at them. It is seen as the events that it accepted.
@@ -83,12 +83,13 @@ impl<A: Allocator + Copy> Desk<A> {
             Command::Show(name) => self.show(name),
             Command::Size(name) => self.size(name),
             Command::Context(name) => self.context(name),
+            Command::Digest(name) => self.digest(name),
             Command::Pin(_) | Command::Look { .. } => unreachable!(),
         }
     }
 
     /// The store of the replica of this name as it is, which stays so. UnknownReplica exactly where no replica has the name.
-    pub fn store(&self, name: Name) -> Result<LiveStore<NoSummary, Fnv1a, A>, Refusal>
+    pub fn store(&self, name: Name) -> Result<LiveStore<ShaSummary, Fnv1a, A>, Refusal>
         ensures ok { IfOk result (λ store. (is_node (after self.now) name ≡ true) × StandsFor store ((after self.now).seen name)) }
         ensures refused { IfErr result (λ refusal. (refusal ≡ Refusal.OutOfMemory) ⊎
             ((refusal ≡ Refusal.UnknownReplica) × (is_node (after self.now) name ≡ false))) }
@@ -233,6 +234,13 @@ impl<A: Allocator + Copy> Desk<A> {
         };
         let text = context_answer(self.alloc, context)?;
         Ok(text)
+    }
+
+    fn digest(&self, name: Name) -> Result<Vec<u8, A>, Refusal>
+        ensures { Does (digest_outcome (after self.now) name) self.now self.now result }
+    {
+        let digest = self.world.digest(name)?;
+        Ok(digest_answer(self.alloc, digest)?.into_bytes())
     }
 
     /// Appends each key with its values over all its fields, at a replica that is there. A refusal may leave a part of it there.

@@ -3,6 +3,7 @@
 #![tactic(auto)]
 
 mod desk;
+mod digesting;
 mod event;
 mod known;
 mod machine;

@@ -1,7 +1,7 @@
 use delta_ops::LiveStore;
 use dots::Name;
-use gen_trie::NoSummary;
 use hash_path::Fnv1a;
+use prefix_digest::ShaSummary;
 use std::alloc::{Allocator, Global};
 
 /// A map that is kept as it was: it shares its nodes with the replica's.
@@ -12,5 +12,5 @@ pub(crate) struct Pin<A: Allocator + Copy = Global> {
     /// How many events had been accepted then.
     pub age: usize,
     /// What the replica held.
-    pub store: LiveStore<NoSummary, Fnv1a, A>,
+    pub store: LiveStore<ShaSummary, Fnv1a, A>,
 }

@@ -9,9 +9,9 @@ ghost use Rattle.op_model.specs.Meaning.{state, greater};
 use causal_join::OrMap;
 use delta_ops::{LiveOrMap, Outgoing};
 use dots::Refusal;
-use gen_trie::NoSummary;
 use hash_path::Fnv1a;
 use live_map::Live;
+use prefix_digest::ShaSummary;
 use std::alloc::{Allocator, Global};
 use wire_form::{Message, encode};
 
@@ -19,7 +19,7 @@ use wire_form::{Message, encode};
 /// change, times the logarithm of the map, and in the names of the context.
 #[derive(Drop)]
 pub(crate) struct Replica<A: Allocator + Copy = Global> {
-    pub live: LiveOrMap<NoSummary, Fnv1a, A>,
+    pub live: LiveOrMap<ShaSummary, Fnv1a, A>,
     pub group: Outgoing<A>,
 }
 

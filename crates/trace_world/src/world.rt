@@ -20,7 +20,10 @@ ghost use Rattle.trace_world.specs.Pins.{StandsFor};
 ghost use Rattle.causal_join.specs.OrMap.{OrMapValue};
 ghost use Rattle.wire_form.specs.Message.{message_of, Delta};
 ghost use Rattle.trace_words.specs.Outcome.{sent_number};
+ghost use Rattle.hash_path.specs.Fnv1a.{fnv1a};
+ghost use Rattle.prefix_digest.specs.MapOf.{root_digest};
 
+use crate::digesting::root_digest;
 use crate::event::Event;
 use crate::replica::Replica;
 use causal_context::Context;
@@ -29,8 +32,8 @@ use delta_ops::{
     LiveStore, clear, fields, keys, put_field, remove, remove_field, size, values, values_of_key,
 };
 use dots::{Dot, Field, Key, Name, Refusal, Value};
-use gen_trie::NoSummary;
 use hash_path::Fnv1a;
+use prefix_digest::ShaSummary;
 use std::alloc::{Allocator, Global};
 use std::collections::BTreeMap;
 use std::marker::Model;
@@ -275,7 +278,7 @@ impl<A: Allocator + Copy> World<A> {
 
     /// The store of a replica as it is, which stays so. Copies nothing: it takes a reference count. UnknownReplica exactly
     /// where no replica has the name.
-    pub fn store(&self, name: Name) -> Result<LiveStore<NoSummary, Fnv1a, A>, Refusal>
+    pub fn store(&self, name: Name) -> Result<LiveStore<ShaSummary, Fnv1a, A>, Refusal>
         ensures ok { IfOk result (λ store. (is_node (after self.now) name ≡ true) ×
             StandsFor store ((after self.now).seen name)) }
         ensures refused { IfErr result (λ refusal. (refusal ≡ Refusal.OutOfMemory) ⊎
@@ -283,6 +286,19 @@ impl<A: Allocator + Copy> World<A> {
     {
         match self.replicas.get(&name) {
             Some(replica) => replica.live.store().share(),
+            None => Err(Refusal::UnknownReplica),
+        }
+    }
+
+    /// The root digest of a replica's map, or None where it has no key. UnknownReplica exactly where no replica has the name.
+    pub fn digest(&self, name: Name) -> Result<Option<[u8; 32]>, Refusal>
+        ensures ok { IfOk result (λ found. (is_node (after self.now) name ≡ true) ×
+            (found ≡ root_digest fnv1a ((after self.now).seen name))) }
+        ensures refused { IfErr result (λ refusal.
+            (refusal ≡ Refusal.UnknownReplica) × (is_node (after self.now) name ≡ false)) }
+    {
+        match self.replicas.get(&name) {
+            Some(replica) => Ok(root_digest(replica.live.store())),
             None => Err(Refusal::UnknownReplica),
         }
     }

@@ -52,6 +52,67 @@ fn basket_has_its_text(rt: HostRuntime) {
     answers(&rt, rt.alloc(), BASKET, BASKET_TEXT);
 }
 
+const DEPOTS: &str = "node 1
+node 2
+digest 1
+put 1 milk 12
+putf 1 bread price 3
+flush 1
+digest 1
+digest 2
+deliver 1 2
+digest 2
+put 1 milk 11
+put 2 milk 10
+digest 1
+digest 2
+flush 1
+flush 2
+deliver 2 2
+deliver 3 1
+digest 1
+digest 2
+put 1 eggs 6
+remove 1 eggs
+context 1
+context 2
+digest 1
+digest 2
+";
+
+const DEPOTS_TEXT: &str = "ok
+ok
+-
+ok 1:1
+ok 1:2
+sent 1:delta
+ae45ec9fdde8cb6b5881fb96a9f5b8761e7c08ab5d3c34afef8f9ae0392eedc5
+-
+joined
+ae45ec9fdde8cb6b5881fb96a9f5b8761e7c08ab5d3c34afef8f9ae0392eedc5
+ok 1:3
+ok 2:1
+15affc2654a334504cc74271a2b772f600cc1b426b82d9a746660760c4dd78cd
+4b17f85ff04d6e42745de5e3a4d2573ce912394271707990ceafcbbb47fe6375
+sent 2:delta
+sent 3:delta
+joined
+joined
+af90962e71e6fe4e81326ba82021d0fe36977f3b9653c1461f64a8ce4e565084
+af90962e71e6fe4e81326ba82021d0fe36977f3b9653c1461f64a8ce4e565084
+ok 1:4
+ok 1
+context 1:4 2:1
+context 1:3 2:1
+af90962e71e6fe4e81326ba82021d0fe36977f3b9653c1461f64a8ce4e565084
+af90962e71e6fe4e81326ba82021d0fe36977f3b9653c1461f64a8ce4e565084
+";
+
+#[test]
+fn depots_has_its_text(rt: HostRuntime) {
+    answers(&rt, rt.alloc(), DEPOTS, DEPOTS_TEXT);
+}
+
 const REGISTRY: &str = "node 1
 node 2
 node 3

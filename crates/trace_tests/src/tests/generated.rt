@@ -261,26 +261,32 @@ context 1
 show 1
 get 1 absent
 fields 1 #00ff
+digest 1
 context 2
 show 2
 get 2 absent
 fields 2 k1
+digest 2
 context 3
 show 3
 get 3 absent
 fields 3 k2
+digest 3
 context 4
 show 4
 get 4 absent
 fields 4 k3
+digest 4
 context 5
 show 5
 get 5 absent
 fields 5 k4
+digest 5
 context 6
 show 6
 get 6 absent
 fields 6 k5
+digest 6
 ";
 
 const FORTY_KEYS_TEXT: &str = "ok
@@ -541,26 +547,32 @@ context 1:14 2:17 3:20 4:4 5:15 6:20 +4:9 +4:10 +4:11 +4:12 +4:13
 map 32 # 5 v34 v51 v53 v69 v71 #00ff 7 v10 v12 v56 v64 v8 v81 v88 k1 1 v43 k10 1 w11 k11 1 w12 k12 1 v55 k14 1 w15 k15 1 w16 k16 1 w17 k17 1 w18 k18 1 w19 k2 6 v16 v19 v56 v82 v84 v88 k20 1 w21 k21 1 w22 k22 2 v54 w23 k23 1 w24 k24 1 w25 k27 1 v73 k28 1 w29 k29 1 w30 k3 5 v13 v49 v50 v64 v8 k30 1 w31 k33 1 w34 k34 1 w35 k35 1 w36 k36 1 w37 k4 4 v35 v5 v69 v88 k5 4 v13 v35 v55 v77 k6 1 v83 k7 1 v68 k8 2 v60 w9 k9 2 v39 w10
 =
 fields 3 # 4 v12 v56 v64 v81 f 1 v10 port 2 v8 v88
+a28822a8a4231c9f0e03002cc965df58a7abf49df81a98b6623c9c6d3ab26bc5
 context 1:14 2:17 3:20 4:4 5:15 6:20 +4:9 +4:10 +4:11 +4:12 +4:13
 map 32 # 5 v34 v51 v53 v69 v71 #00ff 7 v10 v12 v56 v64 v8 v81 v88 k1 1 v43 k10 1 w11 k11 1 w12 k12 1 v55 k14 1 w15 k15 1 w16 k16 1 w17 k17 1 w18 k18 1 w19 k2 6 v16 v19 v56 v82 v84 v88 k20 1 w21 k21 1 w22 k22 2 v54 w23 k23 1 w24 k24 1 w25 k27 1 v73 k28 1 w29 k29 1 w30 k3 5 v13 v49 v50 v64 v8 k30 1 w31 k33 1 w34 k34 1 w35 k35 1 w36 k36 1 w37 k4 4 v35 v5 v69 v88 k5 4 v13 v35 v55 v77 k6 1 v83 k7 1 v68 k8 2 v60 w9 k9 2 v39 w10
 =
 fields 2 # 1 v43 g 1 v43
+a28822a8a4231c9f0e03002cc965df58a7abf49df81a98b6623c9c6d3ab26bc5
 context 1:1 2:7 3:20 4:4
 map 11 #00ff 1 v64 k12 1 v55 k14 1 w15 k18 1 w19 k2 2 v19 w3 k20 1 w21 k24 1 w25 k30 1 w31 k36 1 w37 k8 1 w9 k9 1 v39
 =
 fields 1 # 2 v19 w3
+b9eee11423cc6b20f3bee0bd094f41122cf5dbcf954933b3111b3210d2d3c04c
 context 4:13 6:6 +3:4 +3:5 +3:6 +3:7 +3:8 +3:9 +3:10 +3:11 +3:12 +3:13 +5:6 +5:7
 map 20 #00ff 1 v43 k10 1 w11 k12 1 v40 k14 1 w15 k16 1 w17 k19 1 v8 k2 2 v84 v88 k20 1 w21 k22 1 w23 k25 1 w26 k26 1 w27 k28 1 w29 k31 1 w32 k32 1 w33 k33 1 w34 k34 1 w35 k37 1 w38 k38 1 w39 k4 2 v23 v5 k8 1 w9
 =
 fields 0
+066f0d6c29022fce41dc35a1b75d1189d15521101b9b4b7a19a12df9d867dfd1
 context 4:4 5:15 +1:11 +2:3 +2:4 +2:5 +2:6 +2:7 +3:4 +3:5 +3:6 +3:7 +3:8 +3:9 +3:10 +3:11 +3:12 +3:13 +4:10
 map 25 #00ff 2 v10 v56 k1 1 v17 k12 2 v40 w13 k14 1 w15 k15 1 w16 k18 1 w19 k19 1 v8 k2 1 v16 k20 1 w21 k21 1 w22 k24 1 w25 k25 1 w26 k27 1 v73 k3 1 v13 k30 1 w31 k31 1 w32 k33 1 w34 k36 1 w37 k37 1 w38 k4 1 v35 k5 1 v13 k6 3 v18 v24 v69 k7 1 v68 k8 2 v60 w9 k9 1 w10
 =
 fields 1 port 1 v35
+5a821fdb5a0e3a27363c894a0aabd36f7316c8617c23c81a0b9f2d967938dfbd
 context 1:1 6:20
 map 12 # 3 v34 v51 v71 #00ff 1 v8 k1 1 v43 k10 1 w11 k16 1 w17 k2 2 v56 v82 k22 1 w23 k28 1 w29 k3 2 v49 v50 k34 1 w35 k4 1 v69 k5 2 v35 v55
 =
 fields 2 f 1 v35 g 1 v55
+98bbef0775b2654ee64de9130f7912d7f3b215a5f30fd51a2d373875c1622cc4
 ";
 
 #[test]

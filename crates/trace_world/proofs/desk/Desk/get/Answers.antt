@@ -2,7 +2,7 @@ use Rattle.std.proofs.Common.{length, sym, ◌∙◌, ap, [], List, ℕ}
 use Rattle.op_model.specs.Place.{place_of}
 use Rattle.op_model.specs.Shown.{values}
 use Rattle.op_model.specs.World.{after}
-use Rattle.trace_words.specs.Outcome.{Outcome, Done, values_text, at_replica, with_bytes}
+use Rattle.trace_words.specs.Outcome.{Outcome, Done, values_text, with_bytes}
 use Rattle.trace_words.proofs.Answering.{at_there, with_short, looked}
 use Rattle.trace_world.proofs.Pinning.{short_enough}
 use Rattle.trace_world.proofs.desk.Desk.get.Goals as goal

@@ -1,5 +1,3 @@
-use Rattle.std.proofs.Common.{◌∙◌}
-use Rattle.op_model.specs.Place.{place_of}
 use Rattle.trace_world.proofs.Own.{found_node, own_clear, cleared_of_all}
 use Rattle.trace_world.proofs.world.World.clear.Goals as goal
 

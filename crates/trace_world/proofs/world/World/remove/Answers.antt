@@ -1,5 +1,3 @@
-use Rattle.std.proofs.Common.{◌∙◌}
-use Rattle.op_model.specs.Place.{place_of}
 use Rattle.trace_world.proofs.Own.{found_node, own_remove, removed_of_key}
 use Rattle.trace_world.proofs.world.World.remove.Goals as goal
 

@@ -1,4 +1,3 @@
-use Rattle.std.proofs.Common.{◌∙◌}
 use Rattle.op_model.specs.Place.{place_of}
 use Rattle.trace_world.proofs.Own.{found_node, own_remove_field, removed_of_field}
 use Rattle.trace_world.proofs.world.World.remove_field.Goals as goal

@@ -1,0 +1,118 @@
+use dot_store::{DotFun, DotMap, DotStore};
+use dots::{Dot, Field, Key, Name, Refusal, Value};
+use gen_trie::GenTrie;
+use hash_path::{Fnv1a, Prefix};
+use prefix_digest::{ShaSummary, digest};
+use sha2::{Digest, Sha256};
+use std::alloc::Global;
+use wire_form::Fields;
+
+type Trie = GenTrie<Fields, ShaSummary, Fnv1a>;
+
+// The empty field with a value of 16 bytes.
+fn fields_of(alloc: Global, number: u64) -> Result<Fields, Refusal> {
+    let name = Name::new(1).ok_or(Refusal::BadLine)?;
+    let dot = Dot::new(name, number.max(1)).ok_or(Refusal::BadLine)?;
+    let mut values = DotFun::empty(alloc);
+    values.insert(dot, Value::new(alloc, &[118; 16])?)?;
+    let mut fields = DotMap::empty(alloc);
+    fields.insert(Field::empty(), values)?;
+    Ok(fields)
+}
+
+fn put(alloc: Global, trie: &mut Trie, number: u64) -> Result<(), Refusal> {
+    let fields = fields_of(alloc, number)?;
+    trie.insert(Key::new(alloc, &number.to_be_bytes())?, fields)
+}
+
+fn put_all(alloc: Global, trie: &mut Trie, keys: &[u64]) -> Result<(), Refusal> {
+    for number in keys {
+        put(alloc, trie, *number)?;
+    }
+    Ok(())
+}
+
+// Puts each, with a seal after so many and at the end.
+fn put_sealed(alloc: Global, trie: &mut Trie, keys: &[u64], every: u64) -> Result<(), Refusal> {
+    let mut left = every;
+    for number in keys {
+        put(alloc, trie, *number)?;
+        left = left.saturating_sub(1);
+        if left == 0 {
+            trie.seal()?;
+            left = every;
+        }
+    }
+    trie.seal()
+}
+
+// Reads the root digest as often as there are keys.
+fn digest_often(trie: &mut Trie, keys: &[u64]) -> Result<u64, Refusal> {
+    let frozen = trie.share()?;
+    let mut found: u64 = 0;
+    for _ in keys {
+        if digest(&frozen, Prefix::root()).is_some() {
+            found = found.wrapping_add(1);
+        }
+    }
+    Ok(found)
+}
+
+// One step on a trie that is sealed, with these keys.
+fn step_once(
+    alloc: Global,
+    trie: &mut Trie,
+    keys: &[u64],
+    step: u32,
+    every: u64,
+) -> Result<u64, Refusal> {
+    match step {
+        2 => put_all(alloc, trie, keys)?,
+        3 => put_sealed(alloc, trie, keys, every)?,
+        4 => return digest_often(trie, keys),
+        _ => {}
+    }
+    Ok(trie.size())
+}
+
+fn steps(alloc: Global, keys: &[u64], some: &[u64], step: u32, every: u64) -> Result<u64, Refusal> {
+    let mut trie: Trie = GenTrie::new(alloc, Fnv1a);
+    put_all(alloc, &mut trie, keys)?;
+    if step == 0 {
+        return Ok(trie.size());
+    }
+    trie.seal()?;
+    step_once(alloc, &mut trie, some, step, every)
+}
+
+/// Puts the keys, eight bytes each, into a new trie, with a value of 16 bytes at the empty field of each, and then: 0 no more,
+/// 1 seals it, and from 2 on seals it and with some of the keys 2 puts each again, 3 puts each again with a seal after so many,
+/// 4 reads the root digest once for each.
+#[unsafe(no_mangle)]
+pub extern "C" fn measure_digests(
+    alloc: Global,
+    keys: &[u64],
+    some: &[u64],
+    step: u32,
+    every: u64,
+) -> u64 {
+    match steps(alloc, keys, some, step, every) {
+        Ok(number) => number,
+        Err(_) => u64::MAX,
+    }
+}
+
+/// Hashes for each key the 16 bytes of a value and the 77 bytes of a page of one key.
+#[unsafe(no_mangle)]
+pub extern "C" fn measure_hash(keys: &[u64]) -> u64 {
+    let mut sum: u64 = 0;
+    for number in keys {
+        let byte = (*number % 0x100) as u8;
+        let value = Sha256::digest([byte; 16]);
+        let page = Sha256::digest([byte; 77]);
+        sum = sum
+            .wrapping_add(u64::from(value[0]))
+            .wrapping_add(u64::from(page[0]));
+    }
+    sum
+}
