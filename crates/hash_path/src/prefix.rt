@@ -2,7 +2,7 @@ ghost use Rattle.std.specs.Prelude.{◌≡◌, ◌+◌, ◌<◌, ◌≤◌, ◌�
 ghost use Rattle.std.specs.Cmp.{eq_by_cmp_equiv, partial_equiv_from_equiv, partial_order_from_total};
 ghost use Rattle.std.specs.Cmp.Lexicographic.{nat_list_cmp_total};
 ghost use Rattle.std.specs.Ordering.{eq_by_cmp, as_partial_cmp};
-ghost use Rattle.hash_path.specs.Path.{index_in, indices, last_index, prefix_cmp};
+ghost use Rattle.hash_path.specs.Path.{AreIndices, index_in, indices, last_index, prefix_cmp};
 
 use std::cmp::Ordering;
 use std::marker::Model;
@@ -95,6 +95,7 @@ impl Prefix {
     pub fn depth(self) -> u32
         ensures length { result ≡ length self }
         ensures bound { result ≤ 7 }
+        ensures indices { AreIndices 0 self }
     {
         self.depth
     }
