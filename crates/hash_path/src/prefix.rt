@@ -75,6 +75,16 @@ impl Prefix {
         })
     }
 
+    /// The greatest index that a child can have: 31, and 3 at the depth 6. None exactly at the depth 7, which has no child.
+    pub fn last_child(self) -> Option<u32>
+        ensures { MatchOption result (length self ≡ 7) (λ last. (length self < 7) × (last ≡ last_index (length self))) }
+    {
+        if self.depth >= DEPTHS {
+            return None;
+        }
+        Some(last_at(self.depth))
+    }
+
     /// The first index, and the prefix of those after it. None at the root.
     pub fn split_first(self) -> Option<(u32, Prefix)>
         ensures parts { MatchOption result (self ≡ []) (λ parts. self ≡ parts.0 ∷ parts.1) }
