@@ -32,6 +32,10 @@ fn take_in(alloc: Global, live: &mut LiveOrMap, bytes: &[u8]) -> Result<(), Refu
     match decode(alloc, bytes)? {
         Message::Delta(delta) => live.join_delta(alloc, &delta),
         Message::Hello(..) => Err(Refusal::BadLine),
+        Message::Opening(..) => Err(Refusal::BadLine),
+        Message::Ask(..) => Err(Refusal::BadLine),
+        Message::Page(..) => Err(Refusal::BadLine),
+        Message::Gone(_) => Err(Refusal::BadLine),
     }
 }
 

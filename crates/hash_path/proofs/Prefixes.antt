@@ -1,9 +1,9 @@
 -- What the calls of a prefix do to its bits, and so to its indices.
-use Rattle.std.proofs.Common.{◌≡◌, ◌≢◌, ℕ, zero, suc, ◌+◌, ◌-◌, ◌*◌, ◌/◌, ◌%◌, ◌^◌, ◌<◌, ◌≤◌, ◌++◌, ◌∷◌, [], IsTrue, nat_eq, ◌↔◌, arith, refl, sym, ◌∙◌, ap, subst, add-one, eq-eqb, eqb-true}
+use Rattle.std.proofs.Common.{◌≡◌, ◌≢◌, length, ℕ, zero, suc, ◌+◌, ◌-◌, ◌*◌, ◌/◌, ◌%◌, ◌^◌, ◌<◌, ◌≤◌, ◌++◌, ◌∷◌, [], IsTrue, nat_eq, ◌↔◌, arith, refl, sym, ◌∙◌, ap, subst, add-one, eq-eqb, eqb-true}
 use Rattle.std.proofs.lemmas.Nat.{one_shl, pow-add}
 use Rattle.std.proofs.Math.Nat.{mod-eq_of_lt}
-use Rattle.hash_path.specs.Path.{indices, last_index}
-use Rattle.hash_path.specs.PathLaws.{same_indices, same_bits, child_fits, child_below, indices-child}
+use Rattle.hash_path.specs.Path.{AreIndices, indices, last_index}
+use Rattle.hash_path.specs.PathLaws.{length-indices, same_indices, same_bits, child_fits, child_below, indices-child}
 
 -- the test of a prefix's bits, at a mask or at the whole hash
 pub test_is : (a b : ℕ) (P : Type 0) → (a ≡ b → P) → (P → a ≡ b) → IsTrue (nat_eq a b) ↔ P
@@ -64,3 +64,35 @@ first_and_rest (suc d) bits n = ap (λ k. bits % 32 ∷ indices k (bits / 32)) (
   where
     less_one : (k : ℕ) → k ≡ suc k - 1
     less_one k = omega arith
+
+-- ---- the indices of a prefix are lawful, as its bits are those of a hash
+
+-- a depth from 0 to 6, and so many indices from there on
+first_lawful : (at bits : ℕ) → at < 7 → bits * 2 ^ (5 * at) < 2 ^ 32 → bits % 32 ≤ last_index at
+first_lawful zero bits h b = omega arith
+first_lawful (suc zero) bits h b = omega arith
+first_lawful (suc (suc zero)) bits h b = omega arith
+first_lawful (suc (suc (suc zero))) bits h b = omega arith
+first_lawful (suc (suc (suc (suc zero)))) bits h b = omega arith
+first_lawful (suc (suc (suc (suc (suc zero))))) bits h b = omega arith
+first_lawful (suc (suc (suc (suc (suc (suc zero)))))) bits h b = omega arith
+first_lawful (suc (suc (suc (suc (suc (suc (suc at))))))) bits h b = absurd (omega arith)
+
+others_below : (at bits : ℕ) → at < 7 → bits * 2 ^ (5 * at) < 2 ^ 32 → (bits / 32) * 2 ^ (5 * suc at) < 2 ^ 32
+others_below zero bits h b = omega arith
+others_below (suc zero) bits h b = omega arith
+others_below (suc (suc zero)) bits h b = omega arith
+others_below (suc (suc (suc zero))) bits h b = omega arith
+others_below (suc (suc (suc (suc zero)))) bits h b = omega arith
+others_below (suc (suc (suc (suc (suc zero))))) bits h b = omega arith
+others_below (suc (suc (suc (suc (suc (suc zero)))))) bits h b = omega arith
+others_below (suc (suc (suc (suc (suc (suc (suc at))))))) bits h b = absurd (omega arith)
+
+pub are_indices : (at depth bits : ℕ) → at + depth ≤ 7 → bits * 2 ^ (5 * at) < 2 ^ 32 → AreIndices at (indices depth bits)
+are_indices at zero bits h b = tt
+are_indices at (suc depth) bits h b =
+    (first_lawful at bits (omega arith) b, are_indices (suc at) depth (bits / 32) (omega arith) (others_below at bits (omega arith) b))
+
+-- the greatest index of a child, by the indices
+pub last_is : (depth bits last : ℕ) → depth < 7 → last ≡ last_index depth → (length (indices depth bits) < 7) × (last ≡ last_index (length (indices depth bits)))
+last_is depth bits last h e = let long = length-indices depth bits in (omega arith, e ∙ ap last_index (sym long))

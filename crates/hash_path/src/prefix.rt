@@ -2,7 +2,7 @@ ghost use Rattle.std.specs.Prelude.{◌≡◌, ◌+◌, ◌<◌, ◌≤◌, ◌�
 ghost use Rattle.std.specs.Cmp.{eq_by_cmp_equiv, partial_equiv_from_equiv, partial_order_from_total};
 ghost use Rattle.std.specs.Cmp.Lexicographic.{nat_list_cmp_total};
 ghost use Rattle.std.specs.Ordering.{eq_by_cmp, as_partial_cmp};
-ghost use Rattle.hash_path.specs.Path.{index_in, indices, last_index, prefix_cmp};
+ghost use Rattle.hash_path.specs.Path.{AreIndices, index_in, indices, last_index, prefix_cmp};
 
 use std::cmp::Ordering;
 use std::marker::Model;
@@ -75,6 +75,16 @@ impl Prefix {
         })
     }
 
+    /// The greatest index that a child can have: 31, and 3 at the depth 6. None exactly at the depth 7, which has no child.
+    pub fn last_child(self) -> Option<u32>
+        ensures { MatchOption result (length self ≡ 7) (λ last. (length self < 7) × (last ≡ last_index (length self))) }
+    {
+        if self.depth >= DEPTHS {
+            return None;
+        }
+        Some(last_at(self.depth))
+    }
+
     /// The first index, and the prefix of those after it. None at the root.
     pub fn split_first(self) -> Option<(u32, Prefix)>
         ensures parts { MatchOption result (self ≡ []) (λ parts. self ≡ parts.0 ∷ parts.1) }
@@ -95,6 +105,7 @@ impl Prefix {
     pub fn depth(self) -> u32
         ensures length { result ≡ length self }
         ensures bound { result ≤ 7 }
+        ensures indices { AreIndices 0 self }
     {
         self.depth
     }

@@ -2,4 +2,6 @@
 #![tactic(auto)]
 
 #[cfg(test)]
+mod sessions;
+#[cfg(test)]
 mod tests;

@@ -59,18 +59,18 @@ const FIRST_HELLO: [u8; 42] = [
     0, 0, 0, 0, 0, 0, 0, 0, 0, 0,
 ];
 
-fn dot(rt: &impl Abort, of: u64, number: u64) -> Dot {
+pub(crate) fn dot(rt: &impl Abort, of: u64, number: u64) -> Dot {
     let name = Name::new(of).expect(rt, "a name");
     Dot::new(name, number).expect(rt, "a number")
 }
 
-fn session(rt: &impl Abort, asker: u64, answerer: u64, number: u64) -> Session {
+pub(crate) fn session(rt: &impl Abort, asker: u64, answerer: u64, number: u64) -> Session {
     let asker = Name::new(asker).expect(rt, "a name");
     let answerer = Name::new(answerer).expect(rt, "a name");
     Session::new(asker, answerer, number).expect(rt, "a number")
 }
 
-fn is_message(alloc: Global, bytes: &[u8]) -> Result<bool, Refusal> {
+pub(crate) fn is_message(alloc: Global, bytes: &[u8]) -> Result<bool, Refusal> {
     match decode(alloc, bytes) {
         Ok(_) => Ok(true),
         Err(Refusal::NotAMessage) => Ok(false),
@@ -79,14 +79,14 @@ fn is_message(alloc: Global, bytes: &[u8]) -> Result<bool, Refusal> {
 }
 
 // Whether the bytes are decoded, and the message that they spell is encoded as these bytes.
-fn is_encoded_again(alloc: Global, bytes: &[u8]) -> Result<bool, Refusal> {
+pub(crate) fn is_encoded_again(alloc: Global, bytes: &[u8]) -> Result<bool, Refusal> {
     let message = decode(alloc, bytes)?;
     let again = encode(alloc, &message)?;
     Ok(again.as_slice() == bytes)
 }
 
 // Whether each beginning of the bytes is no message, and they are none with a byte behind them.
-fn is_whole_alone(alloc: Global, bytes: &[u8]) -> Result<bool, Refusal> {
+pub(crate) fn is_whole_alone(alloc: Global, bytes: &[u8]) -> Result<bool, Refusal> {
     for length in 0..bytes.len() {
         if is_message(alloc, &bytes[..length])? {
             return Ok(false);
@@ -98,7 +98,7 @@ fn is_whole_alone(alloc: Global, bytes: &[u8]) -> Result<bool, Refusal> {
 }
 
 // The bytes with another one at this place.
-fn changed(alloc: Global, bytes: &[u8], at: usize, byte: u8) -> Result<Vec<u8>, Refusal>
+pub(crate) fn changed(alloc: Global, bytes: &[u8], at: usize, byte: u8) -> Result<Vec<u8>, Refusal>
     requires { at < length bytes.now }
 {
     let mut changed = Vec::from_slice(alloc, &bytes[..at])?;
@@ -144,7 +144,7 @@ fn one_value(rt: &impl Abort, alloc: Global, field: &[u8]) -> Result<OrMapStore,
     holding(alloc, field, dot(rt, 1, 1), b"x")
 }
 
-fn first_dot(rt: &impl Abort, alloc: Global) -> Result<Context, Refusal> {
+pub(crate) fn first_dot(rt: &impl Abort, alloc: Global) -> Result<Context, Refusal> {
     let mut context = Context::new(alloc);
     context.add(dot(rt, 1, 1))?;
     Ok(context)

@@ -399,6 +399,10 @@ fn carried_by<A: Allocator + Copy>(message: Message<A>) -> Option<OrMap<A>>
     match message {
         Message::Delta(delta) => Some(delta),
         Message::Hello(..) => None,
+        Message::Opening(..) => None,
+        Message::Ask(..) => None,
+        Message::Page(..) => None,
+        Message::Gone(_) => None,
     }
 }
 

@@ -7,6 +7,12 @@ pub mod Plains
 pub mod Bodies
 pub mod Stores
 pub mod Sessions
+pub mod Wholes
+pub mod Said
+pub mod Naming
+pub mod Routes
+pub mod Shown
+pub mod Alls
 pub mod Deltas
 pub mod Messages
 pub mod Writes

@@ -1,7 +1,7 @@
 -- What the writers of a page leave.
 use Rattle.std.proofs.Common.{◌≡◌, ℕ, List, [], ◌∷◌, ◌++◌, ◌<◌, ◌+◌, ◌≤◌, length, take, get_or, sym, ap, ◌∙◌, subst}
-use Rattle.std.specs.List.{flat_map}
-use Rattle.std.proofs.lemmas.List.{take_more, take_all, flat_map_more}
+use Rattle.std.specs.List.{flat_map, AllByRecursion}
+use Rattle.std.proofs.lemmas.List.{append-nil, take_more, take_all, flat_map_more}
 use Rattle.std.specs.List.Sorted.{IsStrictlySortedBy}
 use Rattle.std.specs.Map.{keys_of}
 use Rattle.dots.specs.Bytes.{bytes_cmp}
@@ -21,18 +21,31 @@ named_appended old now fs made p e s = subst (λ (m : NamedValue). Appends named
 
 -- ---- items behind one another, with no count
 
-module _ {X Y : Type 0} (item : X → List Y) where
-  pub next_behind : (old now new : List Y) (xs : List X) (i : ℕ) (x : X) → now ≡ old ++ flat_map item (take i xs) → i < length xs → x ≡ get_or xs i x → new ≡ now ++ item x
-      → new ≡ old ++ flat_map item (take (i + 1) xs)
+module _ {X : Type 0} (item : X → List ℕ) (Item : X → Type 0) where
+  all_push : (xs : List X) (x : X) → AllByRecursion Item xs → Item x → AllByRecursion Item (xs ++ x ∷ [])
+  all_push [] x p q = (q, tt)
+  all_push (y ∷ ys) x p q = (p.0, all_push ys x p.1 q)
+
+  pub none_behind : (old : List ℕ) → Appends (flat_map item) (AllByRecursion Item) old old []
+  none_behind old = record { fits = tt; parts = sym (append-nil old) }
+
+  one_behind : (old now new : List ℕ) (xs : List X) (x : X) → Appends (flat_map item) (AllByRecursion Item) old now xs → Appends item Item now new x
+      → Appends (flat_map item) (AllByRecursion Item) old new (xs ++ x ∷ [])
+  one_behind old now new xs x p q = record {
+    fits = all_push xs x p.fits q.fits;
+    parts = q.parts ∙ ap (λ (t : List ℕ). t ++ item x) p.parts ∙ flat_map_more item old xs x;
+  }
+
+  pub next_behind : (old now new : List ℕ) (xs : List X) (i : ℕ) (x : X) → Appends (flat_map item) (AllByRecursion Item) old now (take i xs) → i < length xs → x ≡ get_or xs i x → Appends item Item now new x
+      → Appends (flat_map item) (AllByRecursion Item) old new (take (i + 1) xs)
   next_behind old now new xs i x p h is q =
-      q ∙ ap (λ (t : List Y). t ++ item x) p ∙ flat_map_more item old (take i xs) x
-      ∙ ap (λ (ys : List X). old ++ flat_map item ys) (ap (λ (y : X). take i xs ++ y ∷ []) is ∙ sym (take_more xs i x h))
+      let e : take (i + 1) xs ≡ take i xs ++ x ∷ [] = take_more xs i x h ∙ ap (λ (y : X). take i xs ++ y ∷ []) (sym is) in
+      subst (Appends (flat_map item) (AllByRecursion Item) old new) (sym e) (one_behind old now new (take i xs) x p q)
 
-  pub all_behind : (old now : List Y) (xs : List X) (i : ℕ) → now ≡ old ++ flat_map item (take i xs) → length xs ≤ i → now ≡ old ++ flat_map item xs
-  all_behind old now xs i p h = p ∙ ap (λ (ys : List X). old ++ flat_map item ys) (take_all i xs h)
+  pub all_behind : (old now : List ℕ) (xs : List X) (i : ℕ) → Appends (flat_map item) (AllByRecursion Item) old now (take i xs) → length xs ≤ i → Appends (flat_map item) (AllByRecursion Item) old now xs
+  all_behind old now xs i p h = subst (Appends (flat_map item) (AllByRecursion Item) old now) (take_all i xs h) p
 
-  pub next_read : (old now new : List Y) (xs : List X) (i : ℕ) (d : X) → now ≡ old ++ flat_map item (take i xs) → i < length xs → new ≡ now ++ item (get_or xs i d)
-      → new ≡ old ++ flat_map item (take (i + 1) xs)
+  pub next_read : (old now new : List ℕ) (xs : List X) (i : ℕ) (d : X) → Appends (flat_map item) (AllByRecursion Item) old now (take i xs) → i < length xs → Appends item Item now new (get_or xs i d)
+      → Appends (flat_map item) (AllByRecursion Item) old new (take (i + 1) xs)
   next_read old now new xs i d p h q =
-      q ∙ ap (λ (t : List Y). t ++ item (get_or xs i d)) p ∙ flat_map_more item old (take i xs) (get_or xs i d)
-      ∙ ap (λ (ys : List X). old ++ flat_map item ys) (sym (take_more xs i d h))
+      subst (Appends (flat_map item) (AllByRecursion Item) old new) (sym (take_more xs i d h)) (one_behind old now new (take i xs) (get_or xs i d) p q)

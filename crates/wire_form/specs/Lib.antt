@@ -2,9 +2,12 @@ pub mod Spelling
 pub mod Parts
 pub mod Store
 pub mod Session
-pub mod Message
+pub mod Prefix
 pub mod Page
+pub mod Sent
+pub mod Message
 pub mod Unique
+pub mod UniquePages
 pub mod Reading
 pub mod Writing
 pub mod Laws

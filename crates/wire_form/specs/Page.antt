@@ -8,7 +8,7 @@
 -- Example: the page of the key a alone, with x under the dot 1:1 at the empty field, has 70 bytes: 00, the text a, the
 -- count 1, the text of no bytes, the count 1, the dot 1:1, and the SHA-256 of x.
 use Rattle.std.specs.Prelude.{◌≡◌, ℕ, List, ◌∷◌, length}
-use Rattle.std.specs.List.{flat_map}
+use Rattle.std.specs.List.{flat_map, AllByRecursion}
 use Rattle.std.specs.List.Sorted.{IsStrictlySortedBy}
 use Rattle.std.specs.Map.{keys_of}
 use Rattle.dots.specs.Bytes.{bytes_cmp}
@@ -16,7 +16,7 @@ use Rattle.dots.specs.Dot.{DotValue}
 use Rattle.causal_context.specs.Dots.{dot_cmp}
 use Rattle.wire_form.specs.declared.page.Page.{Page}
 use Rattle.wire_form.specs.declared.page.Page.TheVariants as variants
-use Rattle.wire_form.specs.Spelling.{pair, IsPair, counted, AreCounted}
+use Rattle.wire_form.specs.Spelling.{byte, IsByte, pair, IsPair, counted, AreCounted}
 use Rattle.wire_form.specs.Parts.{text, IsText, dot, IsDot}
 
 -- what a contract sees of the names in a field, of the fields of a key, and of a key with its fields
@@ -73,10 +73,19 @@ IsEntry = IsPair IsText AreNamed
 
 -- a child of a branch: its index in one byte, and its digest
 abbrev pub child : ℕ × List ℕ → List ℕ
-child c = c.0 ∷ digest c.1
+child = pair byte digest
+
+abbrev pub IsChild : ℕ × List ℕ → Type 0
+IsChild = IsPair IsByte IsDigest
 
 -- the bytes of a page
 abbrev pub spelled : PageValue → List ℕ
 spelled (OneKey e) = 0 ∷ entry e
 spelled (Keys es) = 1 ∷ flat_map entry es
 spelled (Branch cs) = 2 ∷ flat_map child cs
+
+-- which pages have a spelling
+abbrev pub ArePartsOf : PageValue → Type 0
+ArePartsOf (OneKey e) = IsEntry e
+ArePartsOf (Keys es) = AllByRecursion IsEntry es
+ArePartsOf (Branch cs) = AllByRecursion IsChild cs

@@ -1,6 +1,6 @@
 -- Spellings in general: a field of a message is spelled by bytes, and what begins with a spelling is read off. Of this
 -- project.
-use Rattle.std.specs.Prelude.{◌≡◌, ℕ, ◌<◌, ◌^◌, List, ◌++◌, length}
+use Rattle.std.specs.Prelude.{◌≡◌, ℕ, ◌<◌, ◌^◌, List, [], ◌∷◌, ◌++◌, length}
 use Rattle.std.specs.Int.{w64, to_be_bytes}
 use Rattle.std.specs.List.{flat_map, AllByRecursion}
 
@@ -11,6 +11,13 @@ number n = to_be_bytes w64 n
 -- which numbers have a spelling
 abbrev pub IsNumber : ℕ → Type 0
 IsNumber n = n < 2 ^ 64
+
+-- a byte, as it is
+abbrev pub byte : ℕ → List ℕ
+byte n = n ∷ []
+
+abbrev pub IsByte : ℕ → Type 0
+IsByte n = n < 256
 
 module _ {X Y : Type 0} where
   -- one field, and another right after it
@@ -33,6 +40,11 @@ module _ {X : Type 0} where
 pub record Begins {V : Type 0} (spell : V → List ℕ) (Fits : V → Type 0) (bytes : List ℕ) (value : V) (rest : List ℕ) : Type 0 where
   pub fits : Fits value
   pub parts : bytes ≡ spell value ++ rest
+
+-- the bytes are the spelling of the value, and nothing more
+pub record IsWhole {V : Type 0} (spell : V → List ℕ) (Fits : V → Type 0) (bytes : List ℕ) (value : V) : Type 0 where
+  pub fits : Fits value
+  pub spelling : bytes ≡ spell value
 
 -- no spelling stands at the front of the bytes
 abbrev pub HasNone : {V : Type 0} → (V → List ℕ) → (V → Type 0) → List ℕ → Type 0

@@ -1,12 +1,11 @@
 ghost use Rattle.std.specs.Prelude.{◌≡◌, ◌⊎◌, ◌∷◌, IfOk, IfErr, IsErrOf, MatchResult};
-ghost use Rattle.wire_form.specs.Message.{MessageValue, message_of, Spells, SpellsNone, SpellsBody, SpellsContext, VERSION, HELLO};
+ghost use Rattle.wire_form.specs.Message.{MessageValue, message_of, Spells, SpellsNone, SpellsBody, VERSION};
 ghost use Rattle.wire_form.specs.Reading.{ReadsAll};
 
 use crate::context::read_context;
 use crate::message::Message;
-use crate::session::read_session;
+use crate::session_reading::{read_ask, read_gone, read_hello, read_opening, read_page_message};
 use crate::store::read_store;
-use causal_context::Context;
 use causal_join::{Causal, OrMap};
 use dots::Refusal;
 use std::alloc::Allocator;
@@ -33,8 +32,22 @@ fn read_message<A: Allocator + Copy>(alloc: A, bytes: &[u8]) -> Result<Message<A
 {
     match bytes {
         [1, 1, body @ ..] => Ok(Message::Delta(read_delta(alloc, true, body)?)),
-        [3, 1, body @ ..] => Ok(Message::Delta(read_delta(alloc, false, body)?)),
-        [3, 3, body @ ..] => read_hello(alloc, body),
+        [3, kind, body @ ..] => read_kind(alloc, *kind, body),
+        _ => Err(Refusal::NotAMessage),
+    }
+}
+
+// The message of this kind, in the version of the format, whose body is all the bytes.
+fn read_kind<A: Allocator + Copy>(alloc: A, kind: u8, bytes: &[u8]) -> Result<Message<A>, Refusal>
+    ensures { ReadsAll message_of (Spells (VERSION ∷ kind ∷ bytes.now)) result }
+{
+    match kind {
+        1 => Ok(Message::Delta(read_delta(alloc, false, bytes)?)),
+        3 => read_hello(alloc, bytes),
+        4 => read_opening(alloc, bytes),
+        5 => read_ask(alloc, bytes),
+        6 => read_page_message(alloc, bytes),
+        7 => read_gone(alloc, bytes),
         _ => Err(Refusal::NotAMessage),
     }
 }
@@ -52,25 +65,4 @@ fn read_delta<A: Allocator + Copy>(alloc: A, plain: bool, bytes: &[u8]) -> Resul
         Some(delta) => Ok(delta),
         None => Err(Refusal::NotAMessage),
     }
-}
-
-// The hello whose body is all the bytes. Its front is the session, with the bytes behind it.
-fn read_hello<A: Allocator + Copy>(alloc: A, bytes: &[u8]) -> Result<Message<A>, Refusal>
-    ensures { ReadsAll message_of (Spells (VERSION ∷ HELLO ∷ bytes.now)) result }
-{
-    match read_session(alloc, bytes) {
-        Ok(front) => Ok(Message::Hello(front.0, read_known(alloc, front.1)?)),
-        Err(refusal) => Err(refusal),
-    }
-}
-
-// The context that all the bytes spell.
-fn read_known<A: Allocator + Copy>(alloc: A, bytes: &[u8]) -> Result<Context<A>, Refusal>
-    ensures { ReadsAll (λ context. context) (SpellsContext bytes.now) result }
-{
-    let (context, rest) = read_context(alloc, bytes)?;
-    if !rest.is_empty() {
-        return Err(Refusal::NotAMessage);
-    }
-    Ok(context)
 }

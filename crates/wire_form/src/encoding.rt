@@ -4,14 +4,15 @@ ghost use Rattle.causal_context.specs.Canonical.{IsCanonical};
 ghost use Rattle.wire_form.specs.Spelling.{number, IsNumber, counted, AreCounted};
 ghost use Rattle.wire_form.specs.Parts as part;
 ghost use Rattle.wire_form.specs.Store as form;
-ghost use Rattle.wire_form.specs.Message.{message_of, Spells, SpellsDelta, SpellsHello};
-ghost use Rattle.wire_form.specs.Session as part_session;
+ghost use Rattle.wire_form.specs.Message.{message_of, Spells, SpellsDelta};
 ghost use Rattle.wire_form.specs.Writing.{Appends};
 
 use crate::fields::Fields;
 use crate::message::Message;
 use crate::plain::{is_plain_store, values_alone};
-use crate::session::Session;
+use crate::session_writing::{
+    write_ask, write_gone, write_hello, write_opening, write_page_message,
+};
 use causal_context::Context;
 use causal_join::{OrMap, OrMapStore};
 use dot_store::DotFun;
@@ -26,6 +27,10 @@ pub fn encode<A: Allocator + Copy>(alloc: A, message: &Message<A>) -> Result<Vec
     match message {
         Message::Delta(delta) => write_delta(alloc, delta),
         Message::Hello(session, context) => write_hello(alloc, *session, context),
+        Message::Opening(session, context, root) => write_opening(alloc, *session, context, root),
+        Message::Ask(session, prefix) => write_ask(alloc, *session, *prefix),
+        Message::Page(session, sent) => write_page_message(alloc, *session, sent),
+        Message::Gone(session) => write_gone(alloc, *session),
     }
 }
 
@@ -41,30 +46,7 @@ fn write_delta<A: Allocator + Copy>(alloc: A, delta: &OrMap<A>) -> Result<Vec<u8
     Ok(out)
 }
 
-fn write_hello<A: Allocator + Copy>(
-    alloc: A,
-    session: Session,
-    context: &Context<A>,
-) -> Result<Vec<u8, A>, Refusal>
-    ensures ok { IfOk result (λ bytes. SpellsHello bytes.items session context.now) }
-    ensures err { IsOkUnless result Refusal.OutOfMemory }
-{
-    let mut out = Vec::from_slice(alloc, &[3, 3])?;
-    write_session(&mut out, session)?;
-    write_context(&mut out, context)?;
-    Ok(out)
-}
-
-fn write_session<A: Allocator + Copy>(out: &mut Vec<u8, A>, session: Session) -> Result<(), Refusal>
-    ensures ok { OnOk result (Appends part_session.session part_session.IsSession out.old.items out.new.items session) }
-    ensures err { IsOkUnless result Refusal.OutOfMemory }
-{
-    write_name(out, session.asker())?;
-    write_name(out, session.answerer())?;
-    write_number(out, session.number())
-}
-
-fn write_context<A: Allocator + Copy>(
+pub(crate) fn write_context<A: Allocator + Copy>(
     out: &mut Vec<u8, A>,
     context: &Context<A>,
 ) -> Result<(), Refusal>
@@ -222,7 +204,10 @@ pub(crate) fn write_dot<A: Allocator + Copy>(out: &mut Vec<u8, A>, dot: Dot) -> 
     write_number(out, dot.number())
 }
 
-fn write_name<A: Allocator + Copy>(out: &mut Vec<u8, A>, name: Name) -> Result<(), Refusal>
+pub(crate) fn write_name<A: Allocator + Copy>(
+    out: &mut Vec<u8, A>,
+    name: Name,
+) -> Result<(), Refusal>
     ensures ok { OnOk result (Appends number part.IsName out.old.items out.new.items name) }
     ensures err { IsOkUnless result Refusal.OutOfMemory }
 {

@@ -1,6 +1,6 @@
 // The bytes of a page, part by part.
-ghost use Rattle.std.specs.Prelude.{◌≡◌, ◌++◌, OnOk, IsOkUnless};
-ghost use Rattle.std.specs.List.{flat_map};
+ghost use Rattle.std.specs.Prelude.{OnOk, IsOkUnless};
+ghost use Rattle.std.specs.List.{flat_map, AllByRecursion};
 ghost use Rattle.wire_form.specs.Page as form;
 ghost use Rattle.wire_form.specs.Writing.{Appends};
 
@@ -14,7 +14,7 @@ pub(crate) fn write_page<A: Allocator + Copy>(
     out: &mut Vec<u8, A>,
     page: &Page<A>,
 ) -> Result<(), Refusal>
-    ensures ok { OnOk result (out.new.items ≡ out.old.items ++ form.spelled (form.value_of page.now)) }
+    ensures ok { OnOk result (Appends form.spelled form.ArePartsOf out.old.items out.new.items (form.value_of page.now)) }
     ensures err { IsOkUnless result Refusal.OutOfMemory }
 {
     match page {
@@ -78,7 +78,7 @@ fn write_entries<A: Allocator + Copy>(
     out: &mut Vec<u8, A>,
     entries: &[(Key<A>, NamedFields<A>)],
 ) -> Result<(), Refusal>
-    ensures ok { OnOk result (out.new.items ≡ out.old.items ++ flat_map form.entry entries.now) }
+    ensures ok { OnOk result (Appends (flat_map form.entry) (AllByRecursion form.IsEntry) out.old.items out.new.items entries.now) }
     ensures err { IsOkUnless result Refusal.OutOfMemory }
 {
     for (key, fields) in entries {
@@ -91,7 +91,7 @@ fn write_children<A: Allocator + Copy>(
     out: &mut Vec<u8, A>,
     children: &[(u8, [u8; 32])],
 ) -> Result<(), Refusal>
-    ensures ok { OnOk result (out.new.items ≡ out.old.items ++ flat_map form.child children.now) }
+    ensures ok { OnOk result (Appends (flat_map form.child) (AllByRecursion form.IsChild) out.old.items out.new.items children.now) }
     ensures err { IsOkUnless result Refusal.OutOfMemory }
 {
     for (index, digest) in children {
@@ -105,14 +105,17 @@ fn write_child<A: Allocator + Copy>(
     index: u8,
     digest: &[u8; 32],
 ) -> Result<(), Refusal>
-    ensures ok { OnOk result (out.new.items ≡ out.old.items ++ form.child (index, digest.now)) }
+    ensures ok { OnOk result (Appends form.child form.IsChild out.old.items out.new.items (index, digest.now)) }
     ensures err { IsOkUnless result Refusal.OutOfMemory }
 {
     out.push(index)?;
     write_digest(out, digest)
 }
 
-fn write_digest<A: Allocator + Copy>(out: &mut Vec<u8, A>, digest: &[u8; 32]) -> Result<(), Refusal>
+pub(crate) fn write_digest<A: Allocator + Copy>(
+    out: &mut Vec<u8, A>,
+    digest: &[u8; 32],
+) -> Result<(), Refusal>
     ensures ok { OnOk result (Appends form.digest form.IsDigest out.old.items out.new.items digest.now) }
     ensures err { IsOkUnless result Refusal.OutOfMemory }
 {
