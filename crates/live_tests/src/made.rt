@@ -41,25 +41,19 @@ pub fn put<A: Allocator + Copy>(
     map.insert(Key::new(alloc, key)?, set)
 }
 
-// The pair of the map and the context. BadLine stands for a dot that is outside.
-fn pair_of<A: Allocator + Copy>(
-    map: Sets<A>,
-    known: Context<A>,
-) -> Result<Causal<Sets<A>, A>, Refusal> {
-    match Causal::from_parts(map, known) {
-        Some(pair) => Ok(pair),
-        None => Err(Refusal::BadLine),
-    }
+// The pair of the map and the context, if no dot is outside.
+fn pair_of<A: Allocator + Copy>(map: Sets<A>, known: Context<A>) -> Option<Causal<Sets<A>, A>> {
+    Causal::from_parts(map, known)
 }
 
-// The pair of the map and the context of these dots.
+// The pair of the map and the context of these dots. BadLine stands for a dot that is outside.
 pub fn pair<A: Allocator + Copy>(
     alloc: A,
     map: Sets<A>,
     known: &[Dot],
 ) -> Result<Causal<Sets<A>, A>, Refusal> {
     let known = context_of(alloc, known)?;
-    pair_of(map, known)
+    pair_of(map, known).ok_or(Refusal::BadLine)
 }
 
 // The delta of a write of the dot at the key, which observed these.
