@@ -385,9 +385,7 @@ fn digests(count: usize) {
     println!("digests of {count} keys of 8 bytes, values of 16 at the empty field: microseconds");
     println!("  first seal             {:10.1}", (sealed - filled) * 1e6);
     let hash = seconds(|| {
-        drop(black_box(unsafe {
-            measure_hash(keys.as_ptr(), keys.len())
-        }))
+        black_box(unsafe { measure_hash(keys.as_ptr(), keys.len()) });
     });
     println!("  SHA-256 of its keys    {:10.1}", hash * 1e6);
     for every in [1, 100, 10_000] {
@@ -400,9 +398,10 @@ fn digests(count: usize) {
         "  put with one           {:10.2}",
         alone + (ours(3, some, 1) - put) * each
     );
+    let reads = vec![0; 5_000_000];
     println!(
         "  root digest, read      {:10.3}",
-        (ours(4, &keys, 0) - sealed) * 1e6 / count as f64
+        (ours(4, &reads, 0) - sealed) * 1e6 / reads.len() as f64
     );
 }
 
