@@ -15,7 +15,7 @@ use Rattle.causal_join.specs.OrMap.{FieldsValue}
 use Rattle.wire_form.specs.Page.{PageValue, Branch}
 use Rattle.prefix_digest.specs.Page.{named_fields, named_entries, page_at, digest_of, digest_at}
 use Rattle.prefix_digest.specs.Values.{unknown_in, unknown_at}
-use Rattle.sync_model.specs.Opened.{fields_or_none, open_fields, opened_at}
+use Rattle.sync_model.specs.Opened.{held_in, some_if_any, open_fields, opened_at}
 use Rattle.sync_model.specs.Filled.{fill_entries, all_used, filled, Made}
 use Rattle.sync_model.specs.Differ.{Held, IsAbove, IsBranchAt, HasOther, Differ, Waits}
 use Rattle.sync_model.specs.Fetch.{Fetch, entries_of, children_of, is_digest, is_own, to_ask, stays, put_children, put_entries}
@@ -43,17 +43,17 @@ used_from (Some (xs, v ∷ sent)) es e = absurd cc
 -- ---- what is open of each entry
 
 module _ (seen : DotValue → Bool) (own : Held) where
-  open_has : (es : List (List ℕ × FieldsValue)) (key : List ℕ) (fs : FieldsValue) → In es (key, fs) → In (open_entries seen own es) (key, open_fields seen (fields_or_none (finite.get own key)) fs)
+  open_has : (es : List (List ℕ × FieldsValue)) (key : List ℕ) (fs : FieldsValue) → In es (key, fs) → In (open_entries seen own es) (key, open_fields seen (held_in (finite.get own key)) fs)
   open_has [] key fs h = absurd h
-  open_has (e ∷ es) key fs (inl same) = inl (λ k. ((same k).0, open_fields seen (fields_or_none (finite.get own (same k).0)) (same k).1))
+  open_has (e ∷ es) key fs (inl same) = inl (λ k. ((same k).0, open_fields seen (held_in (finite.get own (same k).0)) (same k).1))
   open_has (e ∷ es) key fs (inr h) = inr (open_has es key fs h)
 
   open_from : (es : List (List ℕ × FieldsValue)) (key : List ℕ) (gs : FieldsValue) → In (open_entries seen own es) (key, gs)
-      → (fs : FieldsValue) × In es (key, fs) × (gs ≡ open_fields seen (fields_or_none (finite.get own key)) fs)
+      → (fs : FieldsValue) × In es (key, fs) × (gs ≡ open_fields seen (held_in (finite.get own key)) fs)
   open_from [] key gs h = absurd h
   open_from (e ∷ es) key gs (inl same) =
       let here : e.0 ≡ key = ap (λ x. x.0) same in
-      (e.1, inl (λ k. (here k, e.1)), sym (ap (λ x. x.1) same) ∙ ap (λ k. open_fields seen (fields_or_none (finite.get own k)) e.1) here)
+      (e.1, inl (λ k. (here k, e.1)), sym (ap (λ x. x.1) same) ∙ ap (λ k. open_fields seen (held_in (finite.get own k)) e.1) here)
   open_from (e ∷ es) key gs (inr h) = let rest = open_from es key gs h in (rest.0, inr rest.1, rest.2)
 
 -- ---- children
@@ -386,14 +386,14 @@ module _ (hash_of : List ℕ → ℕ) (own theirs : Held) (seen opened : DotValu
           gone : finite.get left key ≡ None
           gone = retained key false ((λ t. not (under t) || list_any (λ c. nat_eq c.0 (next key)) (none t)))
 
-          each : (gs : FieldsValue) → In (open_entries seen own ws) (key, gs) → (fs : FieldsValue) × (finite.get theirs key ≡ Some fs) × (gs ≡ open_fields seen (fields_or_none (finite.get own key)) fs)
+          each : (gs : FieldsValue) → In (open_entries seen own ws) (key, gs) → (fs : FieldsValue) × (finite.get theirs key ≡ Some fs) × (gs ≡ open_fields seen (held_in (finite.get own key)) fs)
           each gs h = let from = open_from seen own ws key gs h in (from.0, (part_found hash_of theirs p key from.0 from.1).0, from.2)
 
           by_theirs : (o : Option FieldsValue) → finite.get theirs key ≡ o → finite.get (put_entries (open_entries seen own ws) left) key ≡ opened_at seen (finite.get own key) o
           by_theirs None e = no_entry (open_entries seen own ws) left key (λ gs h. let from = each gs h in let some : None ≡ Some from.0 = sym e ∙ from.1 in absurd cc) ∙ gone
           by_theirs (Some fs) e =
-              one_entry (open_entries seen own ws) left key (open_fields seen (fields_or_none (finite.get own key)) fs)
-              (λ gs h. let from = each gs h in from.2 ∙ ap (open_fields seen (fields_or_none (finite.get own key))) (same_Some from.0 fs (sym from.1 ∙ e)))
+              one_entry (open_entries seen own ws) left key (open_fields seen (held_in (finite.get own key)) fs)
+              (λ gs h. let from = each gs h in from.2 ∙ ap (open_fields seen (held_in (finite.get own key))) (same_Some from.0 fs (sym from.1 ∙ e)))
               (open_has seen own ws key fs (part_has hash_of theirs p key fs e under)) gone
 
       -- two that wait on one path are one

@@ -14,7 +14,8 @@ use Rattle.sha2.specs.Sha256.{sha256}
 use Rattle.causal_join.specs.OrMap.{ValuesValue, FieldsValue}
 use Rattle.prefix_digest.specs.Page.{named_values, named_fields, named_entries}
 use Rattle.prefix_digest.specs.Values.{unknown_in_values, unknown_in_fields, unknown_in}
-use Rattle.sync_model.specs.Opened.{fields_or_none, values_or_none, values_of_field, with_values, without_ended, open_fields}
+use Rattle.sync_model.specs.Opened.{held_in, with_values, without_ended, open_fields}
+use Rattle.sync_model.proofs.Held.{fields_or_none, values_or_none, values_of_field, there, held_there}
 use Rattle.sync_model.specs.Filled.{Made, made_map, checked, fill_unseen, fill_seen, fill_values, then_fields, fill_fields, then_entries, fill_entries}
 use Rattle.sync_model.specs.Differ.{Held}
 use Rattle.sync_model.proofs.Found.{same_Some}
@@ -75,17 +76,18 @@ module _ (P : List ℕ → Type 0) where
       step true further = all.0
       step false further = further
 
-  held_found : (m : Held) → EachHeld m → (key : List ℕ) → EachField (fields_or_none (finite.get m key))
-  held_found m all key = step (finite.get m key) refl
-    where
-      step : (o : Option FieldsValue) → finite.get m key ≡ o → EachField (fields_or_none o)
-      step None e = tt
-      step (Some fs) e = all key fs e
+  held_met : (o : Option FieldsValue) → ((fs : FieldsValue) → o ≡ Some fs → EachField fs) → (f : List ℕ) (d : DotValue) (v : List ℕ) → held_in o f d ≡ Some v → P v
+  held_met None all f d v e = absurd (let none : None ≡ Some v = sym (held_there None f d) ∙ e in cc)
+  held_met (Some fs) all f d v e = value_found (values_of_field fs f) d v (field_found fs f (all fs refl)) (sym (held_there (Some fs) f d) ∙ e)
+
+  -- what stands at a dot was met
+  abbrev pub MetAt : (DotValue → Option (List ℕ)) → Type 0
+  MetAt held = (d : DotValue) (v : List ℕ) → held d ≡ Some v → P v
 
 -- what is open of each entry
 abbrev pub open_entries : (DotValue → Bool) → Held → List (List ℕ × FieldsValue) → List (List ℕ × FieldsValue)
 open_entries seen own [] = []
-open_entries seen own (e ∷ es) = (e.0, open_fields seen (fields_or_none (finite.get own e.0)) e.1) ∷ open_entries seen own es
+open_entries seen own (e ∷ es) = (e.0, open_fields seen (held_in (finite.get own e.0)) e.1) ∷ open_entries seen own es
 
 abbrev behind_first : List (List ℕ) → List (List ℕ)
 behind_first [] = []
@@ -106,57 +108,57 @@ module _ (MetHere MetThere : List ℕ → Type 0) (no_clash : (a b : List ℕ) �
     IsFilled made opened sent missing rest = (made ≡ opened) × (sent ≡ missing ++ rest)
 
     -- one value is left out, is the own one, or is sent
-    ended : (d : DotValue) (v : List ℕ) (own vs made : ValuesValue) (sent rest : List (List ℕ)) → seen d ≡ true → find dot_cmp d own ≡ None
-        → IsFilled made (without_ended seen own vs) sent (unknown_in_values seen vs) rest → IsFilled made (without_ended seen own ((d, v) ∷ vs)) sent (unknown_in_values seen ((d, v) ∷ vs)) rest
-    ended d v own vs made sent rest s none h = (
-      h.0 ∙ (λ t. cond (not (sym s t) || is_some (sym none t)) ((d, v) ∷ without_ended seen own vs) (without_ended seen own vs)),
+    ended : (d : DotValue) (v : List ℕ) (held : DotValue → Option (List ℕ)) (vs made : ValuesValue) (sent rest : List (List ℕ)) → seen d ≡ true → held d ≡ None
+        → IsFilled made (without_ended seen held vs) sent (unknown_in_values seen vs) rest → IsFilled made (without_ended seen held ((d, v) ∷ vs)) sent (unknown_in_values seen ((d, v) ∷ vs)) rest
+    ended d v held vs made sent rest s none h = (
+      h.0 ∙ (λ t. cond (not (sym s t) || is_some (sym none t)) ((d, v) ∷ without_ended seen held vs) (without_ended seen held vs)),
       h.1 ∙ (λ t. map (λ v. v.1) (cond (not (sym s t)) ((d, v) ∷ filter (λ v. not (seen v.0)) vs) (filter (λ v. not (seen v.0)) vs)) ++ rest),
     )
 
-    kept : (d : DotValue) (v o : List ℕ) (own vs made : ValuesValue) (sent rest : List (List ℕ)) → seen d ≡ true → find dot_cmp d own ≡ Some o → o ≡ v
-        → IsFilled made (without_ended seen own vs) sent (unknown_in_values seen vs) rest → IsFilled ((d, o) ∷ made) (without_ended seen own ((d, v) ∷ vs)) sent (unknown_in_values seen ((d, v) ∷ vs)) rest
-    kept d v o own vs made sent rest s some same h = (
-      (λ t. (d, same t) ∷ h.0 t) ∙ (λ t. cond (not (sym s t) || is_some (sym some t)) ((d, v) ∷ without_ended seen own vs) (without_ended seen own vs)),
+    kept : (d : DotValue) (v o : List ℕ) (held : DotValue → Option (List ℕ)) (vs made : ValuesValue) (sent rest : List (List ℕ)) → seen d ≡ true → held d ≡ Some o → o ≡ v
+        → IsFilled made (without_ended seen held vs) sent (unknown_in_values seen vs) rest → IsFilled ((d, o) ∷ made) (without_ended seen held ((d, v) ∷ vs)) sent (unknown_in_values seen ((d, v) ∷ vs)) rest
+    kept d v o held vs made sent rest s some same h = (
+      (λ t. (d, same t) ∷ h.0 t) ∙ (λ t. cond (not (sym s t) || is_some (sym some t)) ((d, v) ∷ without_ended seen held vs) (without_ended seen held vs)),
       h.1 ∙ (λ t. map (λ v. v.1) (cond (not (sym s t)) ((d, v) ∷ filter (λ v. not (seen v.0)) vs) (filter (λ v. not (seen v.0)) vs)) ++ rest),
     )
 
-    fresh : (d : DotValue) (v o : List ℕ) (own vs made : ValuesValue) (sent rest : List (List ℕ)) → seen d ≡ false → o ≡ v
-        → IsFilled made (without_ended seen own vs) sent (unknown_in_values seen vs) rest → IsFilled ((d, o) ∷ made) (without_ended seen own ((d, v) ∷ vs)) (o ∷ sent) (unknown_in_values seen ((d, v) ∷ vs)) rest
-    fresh d v o own vs made sent rest s same h = (
-      (λ t. (d, same t) ∷ h.0 t) ∙ (λ t. cond (not (sym s t) || is_some (find dot_cmp d own)) ((d, v) ∷ without_ended seen own vs) (without_ended seen own vs)),
+    fresh : (d : DotValue) (v o : List ℕ) (held : DotValue → Option (List ℕ)) (vs made : ValuesValue) (sent rest : List (List ℕ)) → seen d ≡ false → o ≡ v
+        → IsFilled made (without_ended seen held vs) sent (unknown_in_values seen vs) rest → IsFilled ((d, o) ∷ made) (without_ended seen held ((d, v) ∷ vs)) (o ∷ sent) (unknown_in_values seen ((d, v) ∷ vs)) rest
+    fresh d v o held vs made sent rest s same h = (
+      (λ t. (d, same t) ∷ h.0 t) ∙ (λ t. cond (not (sym s t) || is_some (held d)) ((d, v) ∷ without_ended seen held vs) (without_ended seen held vs)),
       (λ t. same t ∷ h.1 t) ∙ (λ t. map (λ v. v.1) (cond (not (sym s t)) ((d, v) ∷ filter (λ v. not (seen v.0)) vs) (filter (λ v. not (seen v.0)) vs)) ++ rest),
     )
 
-    pub values_filled : (own vs : ValuesValue) (sent : List (List ℕ)) (made : ValuesValue) (rest : List (List ℕ)) → EachValue MetHere own → EachValue MetThere vs → EachSent MetHere sent
-        → fill_values seen own (named_values vs) sent ≡ Some (made, rest) → IsFilled made (without_ended seen own vs) sent (unknown_in_values seen vs) rest
-    values_filled own [] sent made rest own_met met sent_met e =
+    pub values_filled : (held : DotValue → Option (List ℕ)) (vs : ValuesValue) (sent : List (List ℕ)) (made : ValuesValue) (rest : List (List ℕ)) → MetAt MetHere held → EachValue MetThere vs → EachSent MetHere sent
+        → fill_values seen held (named_values vs) sent ≡ Some (made, rest) → IsFilled made (without_ended seen held vs) sent (unknown_in_values seen vs) rest
+    values_filled held [] sent made rest own_met met sent_met e =
         let both = same_Some ([], sent) (made, rest) e in
         (sym (ap (λ c. c.0) both), ap (λ c. c.1) both)
-    values_filled own ((d, v) ∷ vs) sent made rest own_met met sent_met e =
-        step (seen d) (find dot_cmp d own) refl refl e (λ sent made. values_filled own vs sent made rest own_met met.1)
+    values_filled held ((d, v) ∷ vs) sent made rest own_met met sent_met e =
+        step (seen d) (held d) refl refl e (λ sent made. values_filled held vs sent made rest own_met met.1)
       where
         Further : Type 0
-        Further = (sent : List (List ℕ)) (made : ValuesValue) → EachSent MetHere sent → fill_values seen own (named_values vs) sent ≡ Some (made, rest) → IsFilled made (without_ended seen own vs) sent (unknown_in_values seen vs) rest
+        Further = (sent : List (List ℕ)) (made : ValuesValue) → EachSent MetHere sent → fill_values seen held (named_values vs) sent ≡ Some (made, rest) → IsFilled made (without_ended seen held vs) sent (unknown_in_values seen vs) rest
 
-        unseen : (sent : List (List ℕ)) → EachSent MetHere sent → seen d ≡ false → fill_unseen d (sha256 v) (fill_values seen own (named_values vs)) sent ≡ Some (made, rest) → Further
-            → IsFilled made (without_ended seen own ((d, v) ∷ vs)) sent (unknown_in_values seen ((d, v) ∷ vs)) rest
+        unseen : (sent : List (List ℕ)) → EachSent MetHere sent → seen d ≡ false → fill_unseen d (sha256 v) (fill_values seen held (named_values vs)) sent ≡ Some (made, rest) → Further
+            → IsFilled made (without_ended seen held ((d, v) ∷ vs)) sent (unknown_in_values seen ((d, v) ∷ vs)) rest
         unseen [] m s f further = absurd cc
         unseen (o ∷ sent) m s f further =
-            let from = checked_from d (sha256 v) o (fill_values seen own (named_values vs) sent) made rest f in
+            let from = checked_from d (sha256 v) o (fill_values seen held (named_values vs) sent) made rest f in
             let same = same_value o v from.0 m.0 met.0 in
-            subst (λ x. IsFilled x (without_ended seen own ((d, v) ∷ vs)) (o ∷ sent) (unknown_in_values seen ((d, v) ∷ vs)) rest) (sym from.1.2)
-            (fresh d v o own vs from.1.0 sent rest s same (further sent from.1.0 m.1 from.1.1))
+            subst (λ x. IsFilled x (without_ended seen held ((d, v) ∷ vs)) (o ∷ sent) (unknown_in_values seen ((d, v) ∷ vs)) rest) (sym from.1.2)
+            (fresh d v o held vs from.1.0 sent rest s same (further sent from.1.0 m.1 from.1.1))
 
-        step : (b : Bool) (held : Option (List ℕ)) → seen d ≡ b → find dot_cmp d own ≡ held
-            → cond b (fill_seen d (sha256 v) held (fill_values seen own (named_values vs)) sent) (fill_unseen d (sha256 v) (fill_values seen own (named_values vs)) sent) ≡ Some (made, rest) → Further
-            → IsFilled made (without_ended seen own ((d, v) ∷ vs)) sent (unknown_in_values seen ((d, v) ∷ vs)) rest
-        step true None s t f further = ended d v own vs made sent rest s t (further sent made sent_met f)
+        step : (b : Bool) (there : Option (List ℕ)) → seen d ≡ b → held d ≡ there
+            → cond b (fill_seen d (sha256 v) there (fill_values seen held (named_values vs)) sent) (fill_unseen d (sha256 v) (fill_values seen held (named_values vs)) sent) ≡ Some (made, rest) → Further
+            → IsFilled made (without_ended seen held ((d, v) ∷ vs)) sent (unknown_in_values seen ((d, v) ∷ vs)) rest
+        step true None s t f further = ended d v held vs made sent rest s t (further sent made sent_met f)
         step true (Some o) s t f further =
-            let from = checked_from d (sha256 v) o (fill_values seen own (named_values vs) sent) made rest f in
-            let same = same_value o v from.0 (value_found MetHere own d o own_met t) met.0 in
-            subst (λ x. IsFilled x (without_ended seen own ((d, v) ∷ vs)) sent (unknown_in_values seen ((d, v) ∷ vs)) rest) (sym from.1.2)
-            (kept d v o own vs from.1.0 sent rest s t same (further sent from.1.0 sent_met from.1.1))
-        step false held s t f further = unseen sent sent_met s f further
+            let from = checked_from d (sha256 v) o (fill_values seen held (named_values vs) sent) made rest f in
+            let same = same_value o v from.0 (own_met d o t) met.0 in
+            subst (λ x. IsFilled x (without_ended seen held ((d, v) ∷ vs)) sent (unknown_in_values seen ((d, v) ∷ vs)) rest) (sym from.1.2)
+            (kept d v o held vs from.1.0 sent rest s t same (further sent from.1.0 sent_met from.1.1))
+        step false there s t f further = unseen sent sent_met s f further
 
     -- ---- fields, and entries
 
@@ -168,15 +170,15 @@ module _ (MetHere MetThere : List ℕ → Type 0) (no_clash : (a b : List ℕ) �
         let from = mapped_from (f x) (rest_of left) z rest (sym (s x left) ∙ e) in
         (x, left, from.0, refl, from.1, from.2)
 
-    pub fields_filled : (own fs : FieldsValue) (sent : List (List ℕ)) (made : FieldsValue) (rest : List (List ℕ)) → EachField MetHere own → EachField MetThere fs → EachSent MetHere sent
-        → fill_fields seen own (named_fields fs) sent ≡ Some (made, rest) → IsFilled made (open_fields seen own fs) sent (unknown_in_fields seen fs) rest
-    fields_filled own [] sent made rest own_met met sent_met e =
+    pub fields_filled : (held : List ℕ → DotValue → Option (List ℕ)) (fs : FieldsValue) (sent : List (List ℕ)) (made : FieldsValue) (rest : List (List ℕ)) → ((field : List ℕ) → MetAt MetHere (held field)) → EachField MetThere fs → EachSent MetHere sent
+        → fill_fields seen held (named_fields fs) sent ≡ Some (made, rest) → IsFilled made (open_fields seen held fs) sent (unknown_in_fields seen fs) rest
+    fields_filled held [] sent made rest own_met met sent_met e =
         let both = same_Some ([], sent) (made, rest) e in
         (sym (ap (λ c. c.0) both), ap (λ c. c.1) both)
-    fields_filled own ((f, vs) ∷ fs) sent made rest own_met met sent_met e =
-        let from = then_from (with_values f) (fill_values seen (values_of_field own f) (named_values vs) sent) (fill_fields seen own (named_fields fs)) (then_fields f (fill_fields seen own (named_fields fs))) refl (λ x left. refl) made rest e in
-        let here = values_filled (values_of_field own f) vs sent from.0 from.1 (field_found MetHere own f own_met) met.0 sent_met from.3 in
-        let further = fields_filled own fs from.1 from.2 rest own_met met.1 (left_met sent (unknown_in_values seen vs) from.1 here.1 sent_met) from.4 in (
+    fields_filled held ((f, vs) ∷ fs) sent made rest own_met met sent_met e =
+        let from = then_from (with_values f) (fill_values seen (held f) (named_values vs) sent) (fill_fields seen held (named_fields fs)) (then_fields f (fill_fields seen held (named_fields fs))) refl (λ x left. refl) made rest e in
+        let here = values_filled (held f) vs sent from.0 from.1 (own_met f) met.0 sent_met from.3 in
+        let further = fields_filled held fs from.1 from.2 rest own_met met.1 (left_met sent (unknown_in_values seen vs) from.1 here.1 sent_met) from.4 in (
           from.5 ∙ (λ t. with_values f (here.0 t) (further.0 t)),
           here.1 ∙ ap (λ l. unknown_in_values seen vs ++ l) further.1 ∙ sym (append_assoc (unknown_in_values seen vs) (unknown_in_fields seen fs) rest),
         )
@@ -187,9 +189,9 @@ module _ (MetHere MetThere : List ℕ → Type 0) (no_clash : (a b : List ℕ) �
         let both = same_Some ([], sent) (made, rest) e in
         (sym (ap (λ c. c.0) both), ap (λ c. c.1) both)
     entries_filled own ((k, fs) ∷ es) sent made rest own_met met sent_met e =
-        let held = fields_or_none (finite.get own k) in
+        let held = held_in (finite.get own k) in
         let from = then_from (λ fs es. (k, fs) ∷ es) (fill_fields seen held (named_fields fs) sent) (fill_entries seen own (named_entries es)) (then_entries k (fill_entries seen own (named_entries es))) refl (λ x left. refl) made rest e in
-        let here = fields_filled held fs sent from.0 from.1 (held_found MetHere own own_met k) met.0 sent_met from.3 in
+        let here = fields_filled held fs sent from.0 from.1 (λ f d v. held_met MetHere (finite.get own k) (own_met k) f d v) met.0 sent_met from.3 in
         let further = entries_filled own es from.1 from.2 rest own_met met.1 (left_met sent (unknown_in_fields seen fs) from.1 here.1 sent_met) from.4 in (
           from.5 ∙ (λ t. (k, here.0 t) ∷ further.0 t),
           here.1 ∙ ap (λ l. unknown_in_fields seen fs ++ l) further.1 ∙ sym (append_assoc (unknown_in_fields seen fs) (unknown_in seen es) rest),

@@ -17,7 +17,7 @@ use Rattle.causal_join.specs.OrMap.{ValuesValue, FieldsValue}
 use Rattle.wire_form.specs.Page.{EntryValue}
 use Rattle.prefix_digest.specs.Page.{named_values, named_fields, named_entry, named_entries, digest_at}
 use Rattle.prefix_digest.specs.Values.{unknown_in_values, unknown_in_fields, unknown_in}
-use Rattle.sync_model.specs.Opened.{fields_or_none, values_of_field, with_values, without_ended, open_fields}
+use Rattle.sync_model.specs.Opened.{held_in, with_values, without_ended, open_fields}
 use Rattle.sync_model.specs.Filled.{Made, made_map, checked, fill_unseen, fill_seen, fill_values, then_fields, fill_fields, then_entries, fill_entries, all_used, filled}
 use Rattle.sync_model.specs.Differ.{Held}
 use Rattle.sync_model.specs.Fetch.{is_own, within_values, within_fields, within}
@@ -52,40 +52,40 @@ checks : (d : DotValue) (name v : List ℕ) (vs : ValuesValue) (rest : List (Lis
 checks d name v vs rest m t e = (λ k. cond (t k) (made_map (λ vs. (d, v) ∷ vs) (e k)) None)
 
 module _ (seen : DotValue → Bool) where
-  fills_values : (own vs : ValuesValue) (rest : List (List ℕ)) → ((d : DotValue) (o v : List ℕ) → find dot_cmp d own ≡ Some o → In vs (d, v) → o ≡ v)
-      → fill_values seen own (named_values vs) (unknown_in_values seen vs ++ rest) ≡ Some (without_ended seen own vs, rest)
-  fills_values own [] rest one = refl
-  fills_values own ((d, v) ∷ vs) rest one =
-      step (seen d) (find dot_cmp d own) refl (fills_values own vs rest (λ c o w e h. one c o w e (inr h)))
+  fills_values : (held : DotValue → Option (List ℕ)) (vs : ValuesValue) (rest : List (List ℕ)) → ((d : DotValue) (o v : List ℕ) → held d ≡ Some o → In vs (d, v) → o ≡ v)
+      → fill_values seen held (named_values vs) (unknown_in_values seen vs ++ rest) ≡ Some (without_ended seen held vs, rest)
+  fills_values held [] rest one = refl
+  fills_values held ((d, v) ∷ vs) rest one =
+      step (seen d) (held d) refl (fills_values held vs rest (λ c o w e h. one c o w e (inr h)))
     where
-      step : (b : Bool) (held : Option (List ℕ)) → find dot_cmp d own ≡ held → fill_values seen own (named_values vs) (unknown_in_values seen vs ++ rest) ≡ Some (without_ended seen own vs, rest)
-          → cond b (fill_seen d (sha256 v) held (fill_values seen own (named_values vs)) (map (λ v. v.1) (cond (not b) ((d, v) ∷ filter (λ v. not (seen v.0)) vs) (filter (λ v. not (seen v.0)) vs)) ++ rest))
-          (fill_unseen d (sha256 v) (fill_values seen own (named_values vs)) (map (λ v. v.1) (cond (not b) ((d, v) ∷ filter (λ v. not (seen v.0)) vs) (filter (λ v. not (seen v.0)) vs)) ++ rest))
-          ≡ Some (cond (not b || is_some held) ((d, v) ∷ without_ended seen own vs) (without_ended seen own vs), rest)
+      step : (b : Bool) (there : Option (List ℕ)) → held d ≡ there → fill_values seen held (named_values vs) (unknown_in_values seen vs ++ rest) ≡ Some (without_ended seen held vs, rest)
+          → cond b (fill_seen d (sha256 v) there (fill_values seen held (named_values vs)) (map (λ v. v.1) (cond (not b) ((d, v) ∷ filter (λ v. not (seen v.0)) vs) (filter (λ v. not (seen v.0)) vs)) ++ rest))
+          (fill_unseen d (sha256 v) (fill_values seen held (named_values vs)) (map (λ v. v.1) (cond (not b) ((d, v) ∷ filter (λ v. not (seen v.0)) vs) (filter (λ v. not (seen v.0)) vs)) ++ rest))
+          ≡ Some (cond (not b || is_some there) ((d, v) ∷ without_ended seen held vs) (without_ended seen held vs), rest)
       step true None e further = further
-      step true (Some o) e further = let same = one d o v e (inl refl) in checks d (sha256 v) o (without_ended seen own vs) rest _ (tested o v same) further ∙ (λ k. Some ((d, same k) ∷ without_ended seen own vs, rest))
-      step false held e further = checks d (sha256 v) v (without_ended seen own vs) rest _ (tested v v refl) further
+      step true (Some o) e further = let same = one d o v e (inl refl) in checks d (sha256 v) o (without_ended seen held vs) rest _ (tested o v same) further ∙ (λ k. Some ((d, same k) ∷ without_ended seen held vs, rest))
+      step false there e further = checks d (sha256 v) v (without_ended seen held vs) rest _ (tested v v refl) further
 
-  fills_fields : (own fs : FieldsValue) (rest : List (List ℕ))
-      → ((field : List ℕ) (vs : ValuesValue) → In fs (field, vs) → (d : DotValue) (o v : List ℕ) → find dot_cmp d (values_of_field own field) ≡ Some o → In vs (d, v) → o ≡ v)
-      → fill_fields seen own (named_fields fs) (unknown_in_fields seen fs ++ rest) ≡ Some (open_fields seen own fs, rest)
-  fills_fields own [] rest one = refl
-  fills_fields own ((f, vs) ∷ fs) rest one =
-      ap (λ l. then_fields f (fill_fields seen own (named_fields fs)) (fill_values seen (values_of_field own f) (named_values vs) l)) (append_assoc (unknown_in_values seen vs) (unknown_in_fields seen fs) rest)
-      ∙ ap (then_fields f (fill_fields seen own (named_fields fs))) (fills_values (values_of_field own f) vs (unknown_in_fields seen fs ++ rest) (one f vs (inl refl)))
-      ∙ ap (made_map (with_values f (without_ended seen (values_of_field own f) vs))) (fills_fields own fs rest (λ g ws h. one g ws (inr h)))
+  fills_fields : (held : List ℕ → DotValue → Option (List ℕ)) (fs : FieldsValue) (rest : List (List ℕ))
+      → ((field : List ℕ) (vs : ValuesValue) → In fs (field, vs) → (d : DotValue) (o v : List ℕ) → held field d ≡ Some o → In vs (d, v) → o ≡ v)
+      → fill_fields seen held (named_fields fs) (unknown_in_fields seen fs ++ rest) ≡ Some (open_fields seen held fs, rest)
+  fills_fields held [] rest one = refl
+  fills_fields held ((f, vs) ∷ fs) rest one =
+      ap (λ l. then_fields f (fill_fields seen held (named_fields fs)) (fill_values seen (held f) (named_values vs) l)) (append_assoc (unknown_in_values seen vs) (unknown_in_fields seen fs) rest)
+      ∙ ap (then_fields f (fill_fields seen held (named_fields fs))) (fills_values (held f) vs (unknown_in_fields seen fs ++ rest) (one f vs (inl refl)))
+      ∙ ap (made_map (with_values f (without_ended seen (held f) vs))) (fills_fields held fs rest (λ g ws h. one g ws (inr h)))
 
   fills_entries : (own : Held) (es : List (List ℕ × FieldsValue)) (rest : List (List ℕ))
-      → ((key : List ℕ) (fs : FieldsValue) → In es (key, fs) → (field : List ℕ) (vs : ValuesValue) → In fs (field, vs) → (d : DotValue) (o v : List ℕ) → find dot_cmp d (values_of_field (fields_or_none (finite.get own key)) field) ≡ Some o → In vs (d, v) → o ≡ v)
+      → ((key : List ℕ) (fs : FieldsValue) → In es (key, fs) → (field : List ℕ) (vs : ValuesValue) → In fs (field, vs) → (d : DotValue) (o v : List ℕ) → held_in (finite.get own key) field d ≡ Some o → In vs (d, v) → o ≡ v)
       → fill_entries seen own (named_entries es) (unknown_in seen es ++ rest) ≡ Some (open_entries seen own es, rest)
   fills_entries own [] rest one = refl
   fills_entries own ((k, fs) ∷ es) rest one =
-      ap (λ l. then_entries k (fill_entries seen own (named_entries es)) (fill_fields seen (fields_or_none (finite.get own k)) (named_fields fs) l)) (append_assoc (unknown_in_fields seen fs) (unknown_in seen es) rest)
-      ∙ ap (then_entries k (fill_entries seen own (named_entries es))) (fills_fields (fields_or_none (finite.get own k)) fs (unknown_in seen es ++ rest) (one k fs (inl refl)))
-      ∙ ap (made_map (λ xs. (k, open_fields seen (fields_or_none (finite.get own k)) fs) ∷ xs)) (fills_entries own es rest (λ q gs h. one q gs (inr h)))
+      ap (λ l. then_entries k (fill_entries seen own (named_entries es)) (fill_fields seen (held_in (finite.get own k)) (named_fields fs) l)) (append_assoc (unknown_in_fields seen fs) (unknown_in seen es) rest)
+      ∙ ap (then_entries k (fill_entries seen own (named_entries es))) (fills_fields (held_in (finite.get own k)) fs (unknown_in seen es ++ rest) (one k fs (inl refl)))
+      ∙ ap (made_map (λ xs. (k, open_fields seen (held_in (finite.get own k)) fs) ∷ xs)) (fills_entries own es rest (λ q gs h. one q gs (inr h)))
 
   pub fills : (own : Held) (es : List (List ℕ × FieldsValue))
-      → ((key : List ℕ) (fs : FieldsValue) → In es (key, fs) → (field : List ℕ) (vs : ValuesValue) → In fs (field, vs) → (d : DotValue) (o v : List ℕ) → find dot_cmp d (values_of_field (fields_or_none (finite.get own key)) field) ≡ Some o → In vs (d, v) → o ≡ v)
+      → ((key : List ℕ) (fs : FieldsValue) → In es (key, fs) → (field : List ℕ) (vs : ValuesValue) → In fs (field, vs) → (d : DotValue) (o v : List ℕ) → held_in (finite.get own key) field d ≡ Some o → In vs (d, v) → o ≡ v)
       → filled seen own (named_entries es) (unknown_in seen es) ≡ Some (open_entries seen own es)
   fills own es one =
       ap all_used (ap (fill_entries seen own (named_entries es)) (sym (append-nil (unknown_in seen es))) ∙ fills_entries own es [] one)

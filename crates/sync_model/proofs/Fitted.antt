@@ -15,7 +15,7 @@ use Rattle.causal_join.specs.OrMap.{ValuesValue, FieldsValue}
 use Rattle.wire_form.specs.Page.{PageValue}
 use Rattle.prefix_digest.specs.Page.{named_entries, page_at, digest_of, digest_at}
 use Rattle.prefix_digest.specs.Values.{unknown_at}
-use Rattle.sync_model.specs.Opened.{fields_or_none, values_of_field}
+use Rattle.sync_model.specs.Opened.{held_in}
 use Rattle.sync_model.specs.Filled.{filled}
 use Rattle.sync_model.specs.Differ.{Held}
 use Rattle.sync_model.specs.Fetch.{Fetch, Took, Mismatch, entries_of, is_digest, is_own, fits, took, promised, take_page, take_opening, within_fields, within}
@@ -63,12 +63,8 @@ module _ (hash_of : List ℕ → ℕ) (own theirs : Held) (seen opened : DotValu
         ws = walk_under hash_of p theirs
 
         one_there : (key : List ℕ) (gs : FieldsValue) → In ws (key, gs) → (field : List ℕ) (vs : ValuesValue) → In gs (field, vs) → (d : DotValue) (o v : List ℕ)
-            → find dot_cmp d (values_of_field (fields_or_none (finite.get own key)) field) ≡ Some o → In vs (d, v) → o ≡ v
-        one_there key gs h field vs g d o v e i = by_own (finite.get own key) refl e
-          where
-            by_own : (held : Option FieldsValue) → finite.get own key ≡ held → find dot_cmp d (values_of_field (fields_or_none held) field) ≡ Some o → o ≡ v
-            by_own None s t = absurd cc
-            by_own (Some fs) s t = one key fs gs s (part_found hash_of theirs p key gs h).0 field vs (Contains-In gs (field, vs) g) d o v t (Contains-In vs (d, v) i)
+            → held_in (finite.get own key) field d ≡ Some o → In vs (d, v) → o ≡ v
+        one_there key gs h field vs g d o v e i = one key gs (part_found hash_of theirs p key gs h).0 field vs (Contains-In gs (field, vs) g) d o v e (Contains-In vs (d, v) i)
 
         step : Shown hash_of theirs p page → (es : List (List ℕ × FieldsValue)) × (filled seen own (entries_of page) (unknown_at seen hash_of theirs p) ≡ Some es)
         step (Leaf none es off missing) =

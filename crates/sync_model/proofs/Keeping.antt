@@ -1,6 +1,6 @@
 -- Where the names of two keys are the same, so is what stands there; and what is open of one's own is the whole of it.
 use Rattle.std.proofs.Common.{◌≡◌, ◌≢◌, inl, inr, ℕ, List, [], ◌∷◌, Bool, true, false, cond, not, Some, refl, ◌∙◌, ap}
-use Rattle.std.specs.Prelude.{◌||◌, is_some}
+use Rattle.std.specs.Prelude.{Option, ◌||◌, is_some}
 use Rattle.std.specs.Ordering.{eq_by_cmp}
 use Rattle.std.specs.FinMap.Entries.{find}
 use Rattle.dots.specs.Bytes.{bytes_cmp}
@@ -11,8 +11,9 @@ use Rattle.std.specs.Cmp.{eq_by_cmp_equiv}
 use Rattle.sha2.specs.Sha256.{sha256}
 use Rattle.causal_join.specs.OrMap.{ValuesValue, FieldsValue}
 use Rattle.prefix_digest.specs.Page.{named_values, named_fields}
-use Rattle.sync_model.specs.Opened.{values_or_none, with_values, some_if_any, without_ended, open_fields, opened_at}
+use Rattle.sync_model.specs.Opened.{held_in, with_values, some_if_any, without_ended, open_fields, opened_at}
 use Rattle.sync_model.specs.Laws.{IsLawful}
+use Rattle.sync_model.proofs.Held.{values_or_none, values_of_field, held_there}
 use Rattle.sync_model.proofs.Members.{In, Contains-In}
 use Rattle.sync_model.proofs.Filling.{EachValue, EachField}
 
@@ -75,24 +76,24 @@ or_true true = refl
 or_true false = refl
 
 module _ (seen : DotValue → Bool) where
-  values_kept : (own vs : ValuesValue) → ((d : DotValue) (v : List ℕ) → In vs (d, v) → In own (d, v)) → without_ended seen own vs ≡ vs
-  values_kept own [] among = refl
-  values_kept own ((d, v) ∷ vs) among =
-      ap (λ b. cond (not (seen d) || b) ((d, v) ∷ without_ended seen own vs) (without_ended seen own vs)) (dot_there own d v (among d v (inl refl)))
-      ∙ ap (λ b. cond b ((d, v) ∷ without_ended seen own vs) (without_ended seen own vs)) (or_true (not (seen d)))
-      ∙ ap (λ l. (d, v) ∷ l) (values_kept own vs (λ c w h. among c w (inr h)))
+  values_kept : (held : DotValue → Option (List ℕ)) (vs : ValuesValue) → ((d : DotValue) (v : List ℕ) → In vs (d, v) → is_some (held d) ≡ true) → without_ended seen held vs ≡ vs
+  values_kept held [] among = refl
+  values_kept held ((d, v) ∷ vs) among =
+      ap (λ b. cond (not (seen d) || b) ((d, v) ∷ without_ended seen held vs) (without_ended seen held vs)) (among d v (inl refl))
+      ∙ ap (λ b. cond b ((d, v) ∷ without_ended seen held vs) (without_ended seen held vs)) (or_true (not (seen d)))
+      ∙ ap (λ l. (d, v) ∷ l) (values_kept held vs (λ c w h. among c w (inr h)))
 
   some_values : (field : List ℕ) (vs : ValuesValue) (rest : FieldsValue) → vs ≢ [] → with_values field vs rest ≡ (field, vs) ∷ rest
   some_values field [] rest some = absurd (some refl)
   some_values field (v ∷ vs) rest some = refl
 
-  fields_kept : (own fs : FieldsValue) → ((f : List ℕ) (vs : ValuesValue) → In fs (f, vs) → (vs ≢ []) × (find bytes_cmp f own ≡ Some vs)) → open_fields seen own fs ≡ fs
+  fields_kept : (own fs : FieldsValue) → ((f : List ℕ) (vs : ValuesValue) → In fs (f, vs) → (vs ≢ []) × (find bytes_cmp f own ≡ Some vs)) → open_fields seen (held_in (Some own)) fs ≡ fs
   fields_kept own [] among = refl
   fields_kept own ((f, vs) ∷ fs) among =
       let here = among f vs (inl refl) in
-      ap (λ o. with_values f (without_ended seen (values_or_none o) vs) (open_fields seen own fs)) here.1
-      ∙ ap (λ l. with_values f l (open_fields seen own fs)) (values_kept vs vs (λ d v h. h))
-      ∙ some_values f vs (open_fields seen own fs) here.0
+      let kept = values_kept (held_in (Some own) f) vs (λ d v h. ap is_some (held_there (Some own) f d ∙ ap (λ o. find dot_cmp d (values_or_none o)) here.1) ∙ dot_there vs d v h) in
+      ap (λ l. with_values f l (open_fields seen (held_in (Some own)) fs)) kept
+      ∙ some_values f vs (open_fields seen (held_in (Some own)) fs) here.0
       ∙ ap (λ l. (f, vs) ∷ l) (fields_kept own fs (λ g ws h. among g ws (inr h)))
 
   any_fields : (fs : FieldsValue) → fs ≢ [] → some_if_any fs ≡ Some fs

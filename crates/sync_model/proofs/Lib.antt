@@ -2,6 +2,7 @@ pub mod Prefixes
 pub mod Members
 pub mod Paged
 pub mod Found
+pub mod Held
 pub mod Alike
 pub mod Filling
 pub mod Stepping

@@ -8,13 +8,13 @@ use Rattle.causal_join.specs.OrMap.{fields_at}
 use Rattle.dot_store.specs.Stores.{held_by}
 use Rattle.op_model.specs.Meaning.{MapState, greater}
 use Rattle.op_model.specs.State.{Same, join}
-use Rattle.sync_model.specs.Opened.{opened_at}
+use Rattle.sync_model.specs.Opened.{held_in, opened_at}
 use Rattle.sync_model.specs.Differ.{Held}
 use Rattle.sync_model.specs.Laws.{IsLawfulMap}
 
 -- the state of a map and the dots that are known with it
 abbrev pub state_of : Held → (Dot → Bool) → MapState
-state_of m known = record { at = λ place dot. held_by fields_at (finite.get m place.key) (place.field, tt) dot; has = known }
+state_of m known = record { at = λ place dot. held_in (finite.get m place.key) place.field dot; has = known }
 
 -- joining the first state into the second gives the second
 abbrev pub IsBelow : MapState → MapState → Type 0

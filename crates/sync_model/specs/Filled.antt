@@ -6,12 +6,10 @@ use Rattle.std.specs.Str.{bytes_eq}
 use Rattle.std.specs.FinMap as finite
 use Rattle.dots.specs.Bytes.{bytes_cmp}
 use Rattle.dots.specs.Dot.{DotValue}
-use Rattle.causal_context.specs.Dots.{dot_cmp}
 use Rattle.causal_join.specs.OrMap.{ValuesValue, FieldsValue}
-use Rattle.std.specs.FinMap.Entries.{find}
 use Rattle.sha2.specs.Sha256.{sha256}
 use Rattle.wire_form.specs.Page.{NamesValue, NamedValue, EntryValue}
-use Rattle.sync_model.specs.Opened.{fields_or_none, values_of_field, with_values}
+use Rattle.sync_model.specs.Opened.{held_in, with_values}
 
 -- what was made, and the values that are left of those sent
 abbrev pub Made : Type 0 → Type 0
@@ -51,21 +49,20 @@ all_used (Some (es, [])) = Some es
 all_used (Some (es, v ∷ sent)) = None
 
 module _ (seen : DotValue → Bool) where
-  -- the values of a field
-  abbrev pub fill_values : ValuesValue → NamesValue → List (List ℕ) → Made ValuesValue
-  fill_values own [] sent = Some ([], sent)
-  fill_values own (n ∷ ns) sent =
-      cond (seen n.0) (fill_seen n.0 n.1 (find dot_cmp n.0 own) (fill_values own ns) sent) (fill_unseen n.0 n.1 (fill_values own ns) sent)
+  -- the values of a field, by what the asker holds there
+  abbrev pub fill_values : (DotValue → Option (List ℕ)) → NamesValue → List (List ℕ) → Made ValuesValue
+  fill_values held [] sent = Some ([], sent)
+  fill_values held (n ∷ ns) sent = cond (seen n.0) (fill_seen n.0 n.1 (held n.0) (fill_values held ns) sent) (fill_unseen n.0 n.1 (fill_values held ns) sent)
 
   -- the fields of a key that hold a value then
-  abbrev pub fill_fields : FieldsValue → NamedValue → List (List ℕ) → Made FieldsValue
-  fill_fields own [] sent = Some ([], sent)
-  fill_fields own (f ∷ fs) sent = then_fields f.0 (fill_fields own fs) (fill_values (values_of_field own f.0) f.1 sent)
+  abbrev pub fill_fields : (List ℕ → DotValue → Option (List ℕ)) → NamedValue → List (List ℕ) → Made FieldsValue
+  fill_fields held [] sent = Some ([], sent)
+  fill_fields held (f ∷ fs) sent = then_fields f.0 (fill_fields held fs) (fill_values (held f.0) f.1 sent)
 
-  -- the entries of a page, by what the asker holds
+  -- the entries of a page
   abbrev pub fill_entries : finite.FinMap bytes_cmp FieldsValue → List EntryValue → List (List ℕ) → Made (List (List ℕ × FieldsValue))
   fill_entries own [] sent = Some ([], sent)
-  fill_entries own (e ∷ es) sent = then_entries e.0 (fill_entries own es) (fill_fields (fields_or_none (finite.get own e.0)) e.1 sent)
+  fill_entries own (e ∷ es) sent = then_entries e.0 (fill_entries own es) (fill_fields (held_in (finite.get own e.0)) e.1 sent)
 
   -- and that of just the values sent
   abbrev pub filled : finite.FinMap bytes_cmp FieldsValue → List EntryValue → List (List ℕ) → Option (List (List ℕ × FieldsValue))

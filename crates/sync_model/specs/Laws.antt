@@ -10,8 +10,7 @@ use Rattle.wire_form.specs.Page.{PageValue}
 use Rattle.prefix_digest.specs.Page.{page_at, digest_of, digest_at}
 use Rattle.prefix_digest.specs.Values.{unknown_at}
 use Rattle.sha2.specs.Sha256.{sha256}
-use Rattle.causal_context.specs.Dots.{dot_cmp}
-use Rattle.sync_model.specs.Opened.{values_of_field, opened_at}
+use Rattle.sync_model.specs.Opened.{held_in, opened_at}
 use Rattle.sync_model.specs.Differ.{Held, Differ, Waits}
 use Rattle.sync_model.specs.Fetch.{Fetch, Took, within_fields, take_opening, take_page}
 
@@ -87,8 +86,8 @@ IsWithin opened m = (key : List ℕ) (fs : FieldsValue) → finite.get m key ≡
 
 -- a dot that stands at one place of both maps has one value there
 abbrev pub OneValue : Held → Held → Type 0
-OneValue own theirs = (key : List ℕ) (fs gs : FieldsValue) → finite.get own key ≡ Some fs → finite.get theirs key ≡ Some gs
-    → (field : List ℕ) (vs : ValuesValue) → Contains gs (field, vs) → (d : DotValue) (o v : List ℕ) → find dot_cmp d (values_of_field fs field) ≡ Some o → Contains vs (d, v) → o ≡ v
+OneValue own theirs = (key : List ℕ) (gs : FieldsValue) → finite.get theirs key ≡ Some gs → (field : List ℕ) (vs : ValuesValue) → Contains gs (field, vs)
+    → (d : DotValue) (o v : List ℕ) → held_in (finite.get own key) field d ≡ Some o → Contains vs (d, v) → o ≡ v
 
 -- Where the opening is one that the peer's map and the dots that it knows gave, it is taken, and so is at each prefix that is waited for
 -- the peer's page with the values that the asker had not seen.
