@@ -4,3 +4,4 @@ pub mod Differ
 pub mod Fetch
 pub mod Laws
 pub mod Closing
+pub mod Sets
