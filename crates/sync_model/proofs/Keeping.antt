@@ -59,7 +59,7 @@ module _ (MetHere MetThere : List ℕ → Type 0) (no_clash : (a b : List ℕ) �
 
 -- ---- all of one's own is open
 
-dot_tied : (d : DotValue) → eq_by_cmp dot_cmp d d ≡ true
+pub dot_tied : (d : DotValue) → eq_by_cmp dot_cmp d d ≡ true
 dot_tied d = (eq_by_cmp_equiv dot_cmp_total).refl d
 
 dot_there : (vs : ValuesValue) (d : DotValue) (v : List ℕ) → In vs (d, v) → is_some (find dot_cmp d vs) ≡ true

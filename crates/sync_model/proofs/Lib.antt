@@ -13,4 +13,4 @@ pub mod Fetches
 pub mod Fits
 pub mod Fitted
 pub mod Closings
-pub mod Sessions
+pub mod Ended

@@ -3,5 +3,9 @@
 #![tactic(auto)]
 
 mod laws;
+mod sessions;
 
 pub use laws::{openings_fit, pages_are_fetched, pages_fit, what_was_built_is_what_the_peer_had};
+pub use sessions::{
+    a_session_goes_on, a_session_opens, a_session_that_ends_adds_what_its_peer_had_seen,
+};
