@@ -5,3 +5,4 @@ pub mod Fetch
 pub mod Laws
 pub mod Closing
 pub mod Sets
+pub mod Examples
