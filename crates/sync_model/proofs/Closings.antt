@@ -2,17 +2,14 @@
 use Rattle.std.proofs.Common.{◌≡◌, inl, inr, ℕ, List, [], ◌∷◌, Bool, true, false, cond, not, Some, None, refl, sym, ◌∙◌, ap}
 use Rattle.std.specs.Prelude.{Option, ◌||◌, is_some}
 use Rattle.std.specs.Ordering.{eq_by_cmp}
-use Rattle.std.specs.BTreeMap.{is_at}
-use Rattle.std.specs.Map.{lookup}
 use Rattle.std.specs.FinMap as finite
 use Rattle.std.specs.FinMap.Entries.{find}
 use Rattle.dots.specs.Bytes.{bytes_cmp}
-use Rattle.dots.specs.Dot.{DotValue, same_dot}
+use Rattle.dots.specs.Dot.{DotValue}
 use Rattle.causal_context.specs.Dots.{dot_cmp}
 use Rattle.causal_context.proofs.Dots.{is_eq-dot_cmp, same_from_test}
 use Rattle.hash_path.proofs.Words.{tied_same}
-use Rattle.causal_join.specs.OrMap.{ValuesValue, FieldsValue, fields_at}
-use Rattle.dot_store.specs.Stores.{at_values, at_stores, held_by}
+use Rattle.causal_join.specs.OrMap.{ValuesValue, FieldsValue}
 use Rattle.op_model.specs.Meaning.{greater}
 use Rattle.op_model.specs.Place.{Place}
 use Rattle.op_model.specs.State.{joined}

@@ -1,11 +1,11 @@
 -- Sessions between replicas that have seen sets of operations.
-use Rattle.std.proofs.Common.{◌≡◌, ◌≢◌, ◌⊎◌, inl, inr, ℕ, List, [], ◌∷◌, ◌++◌, map, Bool, true, false, cond, Option, Some, None, refl, sym, ◌∙◌, ap, subst}
-use Rattle.std.specs.Prelude.{◌||◌, ◌&&◌, IsTrue, IsSome, is_some}
-use Rattle.std.specs.List.{All, AllByRecursion, Contains, list_all, filter}
+use Rattle.std.proofs.Common.{◌≡◌, inl, inr, ℕ, List, [], ◌∷◌, ◌++◌, Bool, true, false, cond, Some, None, refl, sym, ◌∙◌, ap, subst}
+use Rattle.std.specs.Prelude.{◌||◌, IsSome}
+use Rattle.std.specs.List.{AllByRecursion, Contains, filter}
 use Rattle.std.specs.List.Sorted.{IsStrictlySortedBy}
 use Rattle.std.specs.Map.{keys_of, values_of}
 use Rattle.std.specs.declared.cmp.Ordering.{Ordering}
-use Rattle.std.specs.declared.cmp.Ordering.TheVariants.{Less, Equal, Greater}
+use Rattle.std.specs.declared.cmp.Ordering.TheVariants.{Less}
 use Rattle.std.specs.Ordering.{is_eq, eq_by_cmp}
 use Rattle.std.specs.FinMap as finite
 use Rattle.std.specs.FinMap.Entries.{find}
@@ -17,11 +17,11 @@ use Rattle.prefix_digest.specs.Values.{unknown_at}
 use Rattle.hash_path.proofs.Words.{tied_same, same_tied}
 use Rattle.causal_join.specs.OrMap.{ValuesValue, FieldsValue, fields_at}
 use Rattle.dot_store.specs.Store.{HasNothing}
-use Rattle.dot_store.specs.Stores.{at_values, at_stores, held_by, NoKeyIsEmpty}
-use Rattle.op_model.specs.Meaning.{MapState, greater, state, value_under}
+use Rattle.dot_store.specs.Stores.{at_values, at_stores}
+use Rattle.op_model.specs.Meaning.{greater, state, value_under}
 use Rattle.op_model.specs.Place.{Place, place_of}
 use Rattle.op_model.specs.Shown.{is_on}
-use Rattle.op_model.specs.Operation.{Write, Operation, writes, observed, has, known, NoReuse, IsPartOf, IsSameSet}
+use Rattle.op_model.specs.Operation.{Write, Operation, writes, observed, has, known, NoReuse, IsPartOf}
 use Rattle.op_model.specs.State.{Same, join, joined, IsInside}
 use Rattle.std.proofs.lemmas.List.Elements.{Contains-append_right}
 use Rattle.op_model.proofs.Fresh.{NoReuse-part, part_left, part_both, itself_part}
@@ -29,14 +29,13 @@ use Rattle.op_model.proofs.Making.{state-inside}
 use Rattle.op_model.proofs.SameSets.{state-same}
 use Rattle.op_model.proofs.Members.{from_filter}
 use Rattle.op_model.proofs.Union.{at-state, found_under, in_writes_left, in_writes_right, join-states}
-use Rattle.prefix_digest.specs.MapOf.{map_of, root_digest, IsInOrder, IsMapOf}
+use Rattle.prefix_digest.specs.MapOf.{map_of, root_digest, IsMapOf}
 use Rattle.prefix_digest.proofs.MapsOf.{stands_for}
 use Rattle.sync_model.specs.Opened.{held_in}
-use Rattle.sync_model.specs.Differ.{Held}
-use Rattle.sync_model.specs.Fetch.{Fetch, within_values, within_fields}
-use Rattle.sync_model.specs.Laws.{IsLawful, IsLawfulMap, IsWithin, OneValue, Taking, NoClash, Fetched}
+use Rattle.sync_model.specs.Fetch.{within_values}
+use Rattle.sync_model.specs.Laws.{IsLawfulMap, IsWithin, OneValue}
 use Rattle.sync_model.specs.Closing.{state_of, IsBelow}
-use Rattle.sync_model.specs.Sets.{Done, GoesOn, Opens, FetchedOf, NoClashOf}
+use Rattle.sync_model.specs.Sets.{Done, GoesOn, Opens}
 use Rattle.sync_model.proofs.Members.{In, In-Contains, Contains-In, In-All, In-map}
 use Rattle.sync_model.proofs.Held.{values_or_none, held_there}
 use Rattle.sync_model.proofs.Keeping.{dot_tied}

@@ -15,7 +15,7 @@ use Rattle.causal_join.specs.OrMap.{FieldsValue}
 use Rattle.wire_form.specs.Page.{PageValue, Branch}
 use Rattle.prefix_digest.specs.Page.{named_fields, named_entries, page_at, digest_of, digest_at}
 use Rattle.prefix_digest.specs.Values.{unknown_in, unknown_at}
-use Rattle.sync_model.specs.Opened.{held_in, some_if_any, open_fields, opened_at}
+use Rattle.sync_model.specs.Opened.{held_in, open_fields, opened_at}
 use Rattle.sync_model.specs.Filled.{fill_entries, all_used, filled, Made}
 use Rattle.sync_model.specs.Differ.{Held, IsAbove, IsBranchAt, HasOther, Differ, Waits}
 use Rattle.sync_model.specs.Fetch.{Fetch, entries_of, children_of, is_digest, is_own, to_ask, stays, put_children, put_entries}

@@ -15,7 +15,7 @@ use Rattle.causal_join.specs.OrMap.{ValuesValue, FieldsValue}
 use Rattle.prefix_digest.specs.Page.{named_values, named_fields, named_entries}
 use Rattle.prefix_digest.specs.Values.{unknown_in_values, unknown_in_fields, unknown_in}
 use Rattle.sync_model.specs.Opened.{held_in, with_values, without_ended, open_fields}
-use Rattle.sync_model.proofs.Held.{fields_or_none, values_or_none, values_of_field, there, held_there}
+use Rattle.sync_model.proofs.Held.{values_or_none, values_of_field, there, held_there}
 use Rattle.sync_model.specs.Filled.{Made, made_map, checked, fill_unseen, fill_seen, fill_values, then_fields, fill_fields, then_entries, fill_entries}
 use Rattle.sync_model.specs.Differ.{Held}
 use Rattle.sync_model.proofs.Found.{same_Some}

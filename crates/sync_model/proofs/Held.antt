@@ -1,5 +1,5 @@
 -- What stands at a field of a key and at a dot, by look-ups in lists.
-use Rattle.std.proofs.Common.{◌≡◌, ℕ, List, [], ◌∷◌, Bool, true, false, cond, Some, None, refl, sym, ◌∙◌, ap, subst}
+use Rattle.std.proofs.Common.{◌≡◌, ℕ, List, [], ◌∷◌, cond, Some, None, refl, sym, ◌∙◌, ap}
 use Rattle.std.specs.Prelude.{Option}
 use Rattle.std.specs.Ordering.{eq_by_cmp}
 use Rattle.std.specs.BTreeMap.{is_at}
@@ -9,7 +9,7 @@ use Rattle.dots.specs.Bytes.{bytes_cmp}
 use Rattle.dots.specs.Dot.{DotValue, same_dot}
 use Rattle.causal_context.specs.Dots.{dot_cmp}
 use Rattle.causal_context.proofs.Dots.{is_eq-dot_cmp}
-use Rattle.causal_join.specs.OrMap.{ValuesValue, FieldsValue, fields_at}
+use Rattle.causal_join.specs.OrMap.{ValuesValue, FieldsValue}
 use Rattle.dot_store.specs.Stores.{at_values, at_stores, held_by}
 use Rattle.sync_model.specs.Opened.{held_in}
 

@@ -13,7 +13,7 @@ use Rattle.causal_join.specs.OrMap.{ValuesValue, FieldsValue}
 use Rattle.prefix_digest.specs.Page.{named_values, named_fields}
 use Rattle.sync_model.specs.Opened.{held_in, with_values, some_if_any, without_ended, open_fields, opened_at}
 use Rattle.sync_model.specs.Laws.{IsLawful}
-use Rattle.sync_model.proofs.Held.{values_or_none, values_of_field, held_there}
+use Rattle.sync_model.proofs.Held.{values_or_none, held_there}
 use Rattle.sync_model.proofs.Members.{In, Contains-In}
 use Rattle.sync_model.proofs.Filling.{EachValue, EachField}
 

@@ -4,8 +4,6 @@
 use Rattle.std.specs.Prelude.{◌≡◌, ℕ, Bool, List}
 use Rattle.std.specs.FinMap as finite
 use Rattle.dots.specs.declared.dot.Dot.{Dot}
-use Rattle.causal_join.specs.OrMap.{fields_at}
-use Rattle.dot_store.specs.Stores.{held_by}
 use Rattle.op_model.specs.Meaning.{MapState, greater}
 use Rattle.op_model.specs.State.{Same, join}
 use Rattle.sync_model.specs.Opened.{held_in, opened_at}

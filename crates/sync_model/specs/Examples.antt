@@ -1,5 +1,5 @@
 -- A worked example of what an asker comes to hold at a key, of this project. What is said of it stands in src/examples.rt.
-use Rattle.std.specs.Prelude.{ℕ, Bool, List, [], ◌∷◌, codes}
+use Rattle.std.specs.Prelude.{ℕ, Bool, [], ◌∷◌, codes}
 use Rattle.dots.specs.declared.dot.Dot.{Dot}
 use Rattle.causal_join.specs.OrMap.{FieldsValue}
 use Rattle.op_model.specs.Operation.{has}

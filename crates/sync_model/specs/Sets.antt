@@ -9,7 +9,7 @@ use Rattle.op_model.specs.State.{Same, join}
 use Rattle.prefix_digest.specs.MapOf.{map_of, root_digest}
 use Rattle.prefix_digest.specs.Page.{page_at}
 use Rattle.prefix_digest.specs.Values.{unknown_at}
-use Rattle.sync_model.specs.Fetch.{Fetch, Took, take_opening, take_page}
+use Rattle.sync_model.specs.Fetch.{Fetch}
 use Rattle.sync_model.specs.Laws.{Taking, NoClash, Fetched}
 use Rattle.sync_model.specs.Closing.{state_of}
 
