@@ -67,6 +67,16 @@ fn a_seal_copies_nodes_that_are_shared(rt: HostRuntime) -> Result<(), Fail> {
     Ok(())
 }
 
+// What a share takes over keeps its summaries: as few nodes are sealed then as after a freeze, which seals and shares.
+#[test]
+fn a_share_keeps_the_summaries(rt: HostRuntime) -> Result<(), Fail> {
+    let mut trie = thousand(rt.alloc())?;
+    trie.seal()?;
+    let _shared = trie.share()?;
+    assert_eq!(rt; stamped_with_one_more(rt.alloc(), &mut trie)?, 3);
+    Ok(())
+}
+
 // Puts a value at the key of a number, and nothing else there.
 fn put<A: Allocator + Copy>(alloc: A, trie: &mut Digested<A>, number: u64) -> Result<(), Refusal> {
     let name = Name::new(1).ok_or(Refusal::BadLine)?;
