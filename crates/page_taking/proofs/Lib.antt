@@ -1,0 +1,4 @@
+pub mod Loops
+pub mod Picks
+pub mod Dots
+pub mod Adds

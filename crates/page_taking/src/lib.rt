@@ -1,0 +1,7 @@
+// What an asker makes of a page that it takes: its names become values again, and what is built is changed at the keys of the page.
+// Offered to the crates above: the parts of a step of a session, each of which is that of the definitions in sync_model.
+#![tactic(auto)]
+
+mod filling;
+
+pub use filling::fill_page;
