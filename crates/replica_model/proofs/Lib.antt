@@ -1,0 +1,6 @@
+pub mod States
+pub mod Found
+pub mod Rows
+pub mod One
+pub mod Deciding
+pub mod Sound
