@@ -1,13 +1,12 @@
 -- Events decide the world, and a list of events goes on by one.
-use Rattle.std.proofs.Common.{◌≡◌, ◌⊎◌, inl, inr, ℕ, List, [], ◌∷◌, ◌++◌, Bool, true, false, Option, Some, None, refl, sym, ap, ◌∙◌, subst}
+use Rattle.std.proofs.Common.{◌≡◌, inl, inr, ℕ, List, [], ◌∷◌, ◌++◌, Option, Some, None, refl, sym, ap, ◌∙◌, subst}
 use Rattle.std.proofs.lemmas.Bool.{false≢true}
-use Rattle.dots.specs.declared.refusal.Refusal.{Refusal}
 use Rattle.replica_model.specs.Mail.{Mail}
 use Rattle.replica_model.specs.Replica.{Replica}
 use Rattle.replica_model.specs.Delivery.{Outcome}
 use Rattle.replica_model.specs.Step.{Call, Do, Take, Answer, Came, IsStep}
-use Rattle.replica_model.specs.World.{World, Event, Node, At, Deliver, Message, message_at, nothing, calls, takes, goes, Happens, RefusesEvent, Runs}
-use Rattle.replica_model.specs.Laws.{IsOneTurn, EventsAreOne, WorldsAreOne, RefusedDoesNotHappen, GoesOn}
+use Rattle.replica_model.specs.World.{World, Event, Node, At, Deliver, Message, message_at, nothing, calls, takes, goes, Happens, Runs}
+use Rattle.replica_model.specs.Laws.{EventsAreOne, WorldsAreOne, RefusedDoesNotHappen, GoesOn}
 use Rattle.replica_model.proofs.One.{steps_one, refused_none}
 
 -- what comes of a message that is delivered

@@ -1,21 +1,17 @@
 -- A step decides the new replica, the answer and what is sent; and a call that is refused makes none.
-use Rattle.std.proofs.Common.{◌≡◌, ◌⊎◌, inl, inr, ℕ, ◌^◌, ◌<◌, ◌≤◌, List, [], ◌∷◌, Bool, true, false, Option, Some, None, refl, sym, ap, ◌∙◌, subst, arith}
-use Rattle.std.specs.Prelude.{◌↔◌, IsTrue}
+use Rattle.std.proofs.Common.{◌≡◌, inl, inr, ℕ, ◌^◌, ◌<◌, ◌≤◌, List, [], ◌∷◌, Option, Some, None, sym, ap, ◌∙◌, subst, arith}
 use Rattle.dots.specs.declared.dot.Dot.{Dot}
-use Rattle.dots.specs.declared.refusal.Refusal.{Refusal}
-use Rattle.op_model.specs.Made.{erasure, IsPutAt, Counts}
+use Rattle.op_model.specs.Made.{erasure}
 use Rattle.op_model.specs.Meaning.{state}
-use Rattle.op_model.specs.Operation.{Write, Wrote, has}
-use Rattle.op_model.specs.Place.{Place}
+use Rattle.op_model.specs.Operation.{Wrote, has}
 use Rattle.op_model.specs.State.{Same}
 use Rattle.op_model.proofs.Making.{IsNext-one, write-same, erasure-same}
 use Rattle.op_model.proofs.SameSets.{both_ways}
 use Rattle.prefix_digest.proofs.MapsOf.{maps_one}
-use Rattle.sync_model.specs.Differ.{Held}
 use Rattle.replica_model.specs.Mail.{Mail}
 use Rattle.replica_model.specs.Replica.{Replica, Open, open_numbered, makes, opens}
 use Rattle.replica_model.specs.Delivery.{Turn, turn, delivered}
-use Rattle.replica_model.specs.Step.{Call, Put, Remove, RemoveField, Clear, Flush, Ask, Retry, Abandon, Act, Do, Take, Answer, Made, Counted, Came, Removes, Abandons, IsCall, IsStep, Refuses, IsDelivery}
+use Rattle.replica_model.specs.Step.{Call, Put, Remove, RemoveField, Clear, Flush, Ask, Retry, Abandon, Do, Take, Answer, Made, Counted, Came, Removes, Abandons, IsCall}
 use Rattle.replica_model.specs.Laws.{IsOneTurn, StepsAreOne, RefusedMakesNone}
 use Rattle.replica_model.proofs.States.{same_is, counts_one}
 

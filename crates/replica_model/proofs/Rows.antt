@@ -12,7 +12,7 @@ use Rattle.sync_model.specs.Fetch.{Fetch, take_opening, take_page}
 use Rattle.sync_model.specs.Fetch as fetch
 use Rattle.replica_model.specs.Mail.{Mail, Delta, Hello, Opening, Ask, Page, Gone, is_for}
 use Rattle.replica_model.specs.Replica.{Replica, Open, Accepted, Kept, open_at, kept_at, joins, advances, closes, keeps}
-use Rattle.replica_model.specs.Delivery.{Turn, turn, ignored, Joined, Sent, Done, Mismatch, Ended, is_complete, asks_for, asks_of, fetching, went_on, took_gone, opening_of, took_hello, page_for, answered, took_ask, opening_taken, took_first, took_opening, child_prefixes, page_taken, took_further, took_page, taken, delivered}
+use Rattle.replica_model.specs.Delivery.{Turn, turn, ignored, Joined, Sent, Done, Mismatch, Ended, is_complete, asks_for, asks_of, fetching, took_gone, opening_of, took_hello, page_for, answered, took_ask, opening_taken, took_first, took_opening, child_prefixes, page_taken, took_further, took_page, taken, delivered}
 
 -- the snapshot that is kept of a replica
 abbrev pub snapshot : Held → Replica → SessionValue → (DotValue → Bool) → Kept

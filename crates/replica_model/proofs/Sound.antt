@@ -1,15 +1,12 @@
 -- What holds of the sets of a world after every list of events, whatever clashes.
-use Rattle.std.proofs.Common.{◌≡◌, ◌⊎◌, inl, inr, ℕ, zero, suc, List, [], ◌∷◌, ◌++◌, map, Bool, true, false, Option, Some, None, cond, refl, sym, ap, ◌∙◌, subst}
-use Rattle.std.specs.Prelude.{◌==◌, Contains, slice_get}
-use Rattle.std.proofs.lemmas.Bool.{false≢true}
-use Rattle.std.proofs.lemmas.List.Elements.{Contains-append_left, Contains-append_right}
-use Rattle.op_model.specs.Operation.{Operation, IsPartOf, NoReuse}
-use Rattle.op_model.specs.Made.{put_at, erasure, remove_at, remove_field_at, clear_at}
+use Rattle.std.proofs.Common.{◌≡◌, ℕ, zero, suc, List, [], ◌∷◌, ◌++◌, map, Bool, true, false, Option, Some, None, cond, refl, sym, ap, subst}
+use Rattle.std.specs.Prelude.{◌==◌, slice_get}
+use Rattle.op_model.specs.Operation.{Operation, IsPartOf}
+use Rattle.op_model.specs.Made.{put_at, remove_at, remove_field_at, clear_at}
 use Rattle.op_model.specs.Operation.{ids}
 use Rattle.op_model.specs.Shown.{shown_within, shown_anywhere}
-use Rattle.op_model.specs.World.{grown, emptied, message}
-use Rattle.op_model.specs.World as sets
-use Rattle.op_model.proofs.Fresh.{IsNew, put-new, erasure-new, part_left, part_both, nothing_part, itself_part, message-append, sound-makes, sound-learns, sound-nothing}
+use Rattle.op_model.specs.World.{emptied, message}
+use Rattle.op_model.proofs.Fresh.{IsNew, put-new, erasure-new, part_left, nothing_part, message-append, sound-makes, sound-learns, sound-nothing}
 use Rattle.wire_form.specs.Session.{SessionValue}
 use Rattle.replica_model.specs.Mail.{Mail, Delta, Hello, Opening, Ask, Page, Gone}
 use Rattle.replica_model.specs.Replica.{Replica, Kept, same_session, open_at, kept_at}

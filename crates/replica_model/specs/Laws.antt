@@ -3,17 +3,17 @@ use Rattle.std.specs.Prelude.{◌≡◌, ◌≢◌, ◌⊎◌, ◌↔◌, ℕ, �
 use Rattle.std.specs.List.{Contains}
 use Rattle.dots.specs.declared.refusal.Refusal.{Refusal}
 use Rattle.op_model.specs.Meaning.{state}
-use Rattle.op_model.specs.Operation.{Operation, IsPartOf, IsSameSet, has, known, NoReuse}
+use Rattle.op_model.specs.Operation.{Operation, IsPartOf, IsSameSet, has, known}
 use Rattle.op_model.specs.World as sets
 use Rattle.wire_form.specs.Session.{SessionValue}
-use Rattle.prefix_digest.specs.MapOf.{IsMapOf, map_of, root_digest}
+use Rattle.prefix_digest.specs.MapOf.{IsMapOf, root_digest}
 use Rattle.prefix_digest.specs.Page.{digest_at}
 use Rattle.sync_model.specs.Differ.{Held}
 use Rattle.replica_model.specs.Mail.{Mail, Delta, Hello, Opening, Ask, Page, Gone}
-use Rattle.replica_model.specs.Replica.{Replica, Open, LIMIT, fresh}
+use Rattle.replica_model.specs.Replica.{Replica, Open}
 use Rattle.replica_model.specs.Delivery.{Done}
-use Rattle.replica_model.specs.Step.{Call, Do, Take, Act, Answer, Came, IsStep, Refuses}
-use Rattle.replica_model.specs.World.{World, Event, At, Deliver, Message, Snapshot, sets_of, is_node, message_at, nothing, Happens, RefusesEvent, Runs, Unclashed}
+use Rattle.replica_model.specs.Step.{Call, Do, Act, Answer, Came, IsStep, Refuses}
+use Rattle.replica_model.specs.World.{World, Event, Deliver, Message, sets_of, message_at, nothing, Happens, RefusesEvent, Runs, Unclashed}
 use Rattle.replica_model.specs.Sessions.{IsTakenOf, IsSession, IsEnd}
 
 -- ---- one

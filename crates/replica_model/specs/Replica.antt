@@ -1,6 +1,6 @@
 -- What one replica is: its live state and what it is to send, its own sessions that are open, and the snapshots that it keeps for the
 -- sessions of others. Of this project.
-use Rattle.std.specs.Prelude.{◌≡◌, ℕ, ◌+◌, Bool, ◌==◌, ◌&&◌, not, nat_lt, List, [], ◌∷◌, ◌++◌, map, length, Option, Some, None, cond}
+use Rattle.std.specs.Prelude.{ℕ, ◌+◌, Bool, ◌==◌, ◌&&◌, not, nat_lt, List, [], ◌∷◌, ◌++◌, map, length, Option, Some, None, cond}
 use Rattle.std.specs.List.{filter}
 use Rattle.dots.specs.Dot.{DotValue}
 use Rattle.op_model.specs.Meaning.{MapState, greater, state}

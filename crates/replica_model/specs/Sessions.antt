@@ -1,19 +1,17 @@
 -- What the sessions of a world stand for, by fronts of its events: a front is the world before one of them. Of this project.
 use Rattle.std.specs.Prelude.{◌≡◌, ℕ, ◌+◌, Bool, List, [], ◌∷◌, ◌++◌, Option, Some}
-use Rattle.std.specs.List.{Contains}
 use Rattle.dots.specs.Dot.{DotValue}
 use Rattle.op_model.specs.Meaning.{greater}
-use Rattle.op_model.specs.Operation.{Operation, IsPartOf}
+use Rattle.op_model.specs.Operation.{Operation}
 use Rattle.op_model.specs.State.{join}
 use Rattle.wire_form.specs.Session.{SessionValue}
 use Rattle.prefix_digest.specs.MapOf.{IsMapOf}
 use Rattle.prefix_digest.specs.Page.{digest_at}
 use Rattle.sync_model.specs.Closing.{state_of, IsBelow}
 use Rattle.sync_model.specs.Differ.{Held}
-use Rattle.sync_model.specs.Fetch.{Fetch}
 use Rattle.sync_model.specs.Laws.{Taking, Fetched, NoClash}
-use Rattle.replica_model.specs.Mail.{Mail, Hello}
-use Rattle.replica_model.specs.Replica.{Replica, Open, Accepted}
+use Rattle.replica_model.specs.Mail.{Hello}
+use Rattle.replica_model.specs.Replica.{Open, Accepted}
 use Rattle.replica_model.specs.Step.{Ask}
 use Rattle.replica_model.specs.World.{World, Event, At, Deliver, Message, Snapshot, message_at, nothing, Runs}
 

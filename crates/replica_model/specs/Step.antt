@@ -4,7 +4,7 @@ use Rattle.std.specs.Prelude.{◌≡◌, ◌⊎◌, ◌↔◌, ℕ, ◌+◌, ◌
 use Rattle.dots.specs.declared.dot.Dot.{Dot}
 use Rattle.dots.specs.declared.refusal.Refusal.{Refusal}
 use Rattle.dots.specs.declared.refusal.Refusal.TheVariants.{NumbersSpent, SessionsFull}
-use Rattle.op_model.specs.Made.{erasure, IsNext, IsPutAt, IsRemoveAt, IsFieldRemoveAt, IsClearAt, IsWithin, IsAnywhere, Counts}
+use Rattle.op_model.specs.Made.{erasure, IsNext, IsPutAt, IsWithin, IsAnywhere, Counts}
 use Rattle.op_model.specs.Meaning.{MapState, state}
 use Rattle.op_model.specs.Operation.{Write, Wrote}
 use Rattle.op_model.specs.Place.{Place}
