@@ -4,3 +4,4 @@ pub mod Rows
 pub mod One
 pub mod Deciding
 pub mod Sound
+pub mod Ties
