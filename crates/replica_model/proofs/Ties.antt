@@ -5,7 +5,7 @@ use Rattle.std.specs.Prelude.{◌==◌, Contains}
 use Rattle.dots.specs.Dot.{DotValue}
 use Rattle.op_model.specs.Meaning.{MapState}
 use Rattle.op_model.specs.Operation.{Operation}
-use Rattle.op_model.proofs.Members.{nothing_in}
+use Rattle.op_model.proofs.Members.{nothing_in, from_map}
 use Rattle.wire_form.specs.Page.{PageValue}
 use Rattle.wire_form.specs.Sent.{SentValue}
 use Rattle.wire_form.specs.Session.{SessionValue}
@@ -175,3 +175,57 @@ module _ (hash_of : List ℕ → ℕ) (Snap : SessionValue → List Operation �
         old_or_new : (x : List Operation) (k : Kept) → KeptTie (changed w.kept s x) name k → (j : Kept) → kept_at r.kept s ≡ None → Contains r.kept j ⊎ (j ≡ k) → KeptTie (changed w.kept s x) name j
         old_or_new x k tie j e (inl there) = kept_stays w.kept (changed w.kept s x) name j (changed_elsewhere w.kept s x j.session (none_kept r.kept s j e there)) (kept name j there)
         old_or_new x k tie j e (inr new) = subst (KeptTie (changed w.kept s x) name) (sym new) tie
+
+    -- a session that goes on
+    ask_tie : (g : SessionValue → List Operation) (ks : List Kept) (u : SessionValue) (prefixes : List (List ℕ)) → AllSent [] g ks (asks_for u prefixes)
+    ask_tie g ks u prefixes mail h =
+        let found = from_map (Ask u) prefixes mail h in
+        subst (λ y. MailTie y (shown [] g ks y)) found.2 tt
+
+    accepted_is : (a x : Accepted) (P : Accepted → Type 0) → Some a ≡ Some x → P a → P x
+    accepted_is a x P e p = let one : a ≡ x = cc in subst P one p
+
+    opening_goes : (s : SessionValue) (c : DotValue → Bool) (root : Option (List ℕ)) (o : Open) (f : Fetch) → open_at r.sessions s ≡ Some o →
+        take_opening hash_of o.own o.seen c root ≡ fetch.Took f → (of : Snapshot) → MailTie (Opening s c root) of → GoesOn (Opening s c root) of (turn (advances r (fetching o c f)) Sent (asks_of o.session f))
+    opening_goes s c root o f there took of tie =
+        let found = found_open r.sessions s o there in
+        let old = open_ones name o found.0 in
+        let a2 = changed w.accepted s of in
+        let t2 = changed w.taken s [] in
+        let next = fetching o c f in
+        let a : Accepted = record { context = c; fetch = f } in
+        let now : a2 o.session ≡ of = changed_here w.accepted s of o.session found.1 in
+        let none : t2 o.session ≡ [] = changed_here w.taken s [] o.session found.1 in
+        let snap : Snap o.session (a2 o.session).seen (a2 o.session).map c =
+        subst (λ (x : Snapshot). Snap o.session x.seen x.map c) (sym now) (subst (λ u. Snap u of.seen of.map c) (sym found.1) tie.0) in
+        let got : Fetched hash_of o.own o.seen c (digest_at hash_of (a2 o.session).map []) (t2 o.session) f =
+        subst (λ (x : Snapshot). Fetched hash_of o.own o.seen c (digest_at hash_of x.map []) (t2 o.session) f) (sym now)
+        (subst (λ ts. Fetched hash_of o.own o.seen c (digest_at hash_of of.map []) ts f) (sym none) (subst (λ d. take_opening hash_of o.own o.seen c d ≡ fetch.Took f) tie.1 took)) in
+        let tied : SessionTie a2 t2 name next = record {
+          asker = old.asker;
+          asked = old.asked;
+          fetched = λ x is. accepted_is a x (λ y. Snap o.session (a2 o.session).seen (a2 o.session).map y.context × Fetched hash_of o.own o.seen y.context (digest_at hash_of (a2 o.session).map []) (t2 o.session) y.fetch) is (snap, got);
+        } in
+        record {
+          name_stays = named;
+          kept_here = kept name;
+          kept_there = λ n a. kept n;
+          open_here = λ x h. went next tied x (in_advanced next r.sessions x h) (ap (λ u. same_session x.session u) found.1);
+          open_there = λ n apart x h. other x n apart (open_ones n x h) (sym (ap (λ (u : SessionValue). u.asker) found.1) ∙ old.asker);
+          replies = asks_tie w.kept r.kept o.session f;
+        }
+      where
+        asks_tie : (g : SessionValue → List Operation) (ks : List Kept) (u : SessionValue) (f : Fetch) → AllSent [] g ks (asks_of u f)
+        asks_tie g ks u f mail h = ask_tie g ks u _ mail h
+
+        went : (next : Open) → SessionTie (changed w.accepted s of) (changed w.taken s []) name next → (x : Open) → (x ≡ next) ⊎ (Contains r.sessions x × (same_session x.session next.session ≡ false)) →
+            same_session x.session next.session ≡ same_session x.session s → SessionTie (changed w.accepted s of) (changed w.taken s []) name x
+        went next tied x (inl e) same = subst (SessionTie (changed w.accepted s of) (changed w.taken s []) name) (sym e) tied
+        went next tied x (inr (there, apart)) same =
+            let off : same_session x.session s ≡ false = sym same ∙ apart in
+            open_stays w.accepted (changed w.accepted s of) w.taken (changed w.taken s []) name x (changed_elsewhere w.accepted s of x.session off) (changed_elsewhere w.taken s [] x.session off) (open_ones name x there)
+
+        other : (x : Open) (n : ℕ) → n ≢ name → SessionTie w.accepted w.taken n x → s.asker ≡ name → SessionTie (changed w.accepted s of) (changed w.taken s []) n x
+        other x n apart tie here =
+            let off : same_session x.session s ≡ false = askers_apart x.session s (λ e. apart (sym tie.asker ∙ e ∙ here)) in
+            open_stays w.accepted (changed w.accepted s of) w.taken (changed w.taken s []) n x (changed_elsewhere w.accepted s of x.session off) (changed_elsewhere w.taken s [] x.session off) tie
