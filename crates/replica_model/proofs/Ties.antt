@@ -229,3 +229,62 @@ module _ (hash_of : List ℕ → ℕ) (Snap : SessionValue → List Operation �
         other x n apart tie here =
             let off : same_session x.session s ≡ false = askers_apart x.session s (λ e. apart (sym tie.asker ∙ e ∙ here)) in
             open_stays w.accepted (changed w.accepted s of) w.taken (changed w.taken s []) n x (changed_elsewhere w.accepted s of x.session off) (changed_elsewhere w.taken s [] x.session off) tie
+
+    page_goes : (s : SessionValue) (sent : SentValue) (o : Open) (a : Accepted) (f : Fetch) → open_at r.sessions s ≡ Some o → o.accepted ≡ Some a →
+        take_page hash_of o.own o.seen a.context a.fetch sent.prefix sent.page sent.values ≡ fetch.Took f → (of : Snapshot) →
+        GoesOn (Page s sent) of (turn (advances r (fetching o a.context f)) Sent (asks_for o.session (child_prefixes hash_of o sent)))
+    page_goes s sent o a f there is_accepted took of =
+        let found = found_open r.sessions s o there in
+        let old = open_ones name o found.0 in
+        let taken_before = old.fetched a is_accepted in
+        let next = fetching o a.context f in
+        let b : Accepted = record { context = a.context; fetch = f } in
+        let more = taking_of sent ∷ w.taken s in
+        let t2 = changed w.taken s more in
+        let now : t2 o.session ≡ more = changed_here w.taken s more o.session found.1 in
+        let before : Fetched hash_of o.own o.seen a.context (digest_at hash_of (w.accepted o.session).map []) (w.taken s) a.fetch =
+        subst (λ u. Fetched hash_of o.own o.seen a.context (digest_at hash_of (w.accepted o.session).map []) (w.taken u) a.fetch) found.1 taken_before.1 in
+        let got : Fetched hash_of o.own o.seen a.context (digest_at hash_of (w.accepted o.session).map []) (t2 o.session) f =
+        subst (λ ts. Fetched hash_of o.own o.seen a.context (digest_at hash_of (w.accepted o.session).map []) ts f) (sym now) (a.fetch, before, took) in
+        let tied : SessionTie w.accepted t2 name next = record {
+          asker = old.asker;
+          asked = old.asked;
+          fetched = λ x is. accepted_is b x (λ y. Snap o.session (w.accepted o.session).seen (w.accepted o.session).map y.context × Fetched hash_of o.own o.seen y.context (digest_at hash_of (w.accepted o.session).map []) (t2 o.session) y.fetch) is (taken_before.0, got);
+        } in
+        record {
+          name_stays = named;
+          kept_here = kept name;
+          kept_there = λ n a. kept n;
+          open_here = λ x h. went next tied x (in_advanced next r.sessions x h) (ap (λ u. same_session x.session u) found.1);
+          open_there = λ n apart x h. other x n apart (open_ones n x h) (sym (ap (λ (u : SessionValue). u.asker) found.1) ∙ old.asker);
+          replies = ask_tie w.kept r.kept o.session (child_prefixes hash_of o sent);
+        }
+      where
+        went : (next : Open) → SessionTie w.accepted (changed w.taken s (taking_of sent ∷ w.taken s)) name next → (x : Open) → (x ≡ next) ⊎ (Contains r.sessions x × (same_session x.session next.session ≡ false)) →
+            same_session x.session next.session ≡ same_session x.session s → SessionTie w.accepted (changed w.taken s (taking_of sent ∷ w.taken s)) name x
+        went next tied x (inl e) same = subst (SessionTie w.accepted (changed w.taken s (taking_of sent ∷ w.taken s)) name) (sym e) tied
+        went next tied x (inr (there, apart)) same =
+            let off : same_session x.session s ≡ false = sym same ∙ apart in
+            open_stays w.accepted w.accepted w.taken (changed w.taken s (taking_of sent ∷ w.taken s)) name x refl (changed_elsewhere w.taken s (taking_of sent ∷ w.taken s) x.session off) (open_ones name x there)
+
+        other : (x : Open) (n : ℕ) → n ≢ name → SessionTie w.accepted w.taken n x → s.asker ≡ name → SessionTie w.accepted (changed w.taken s (taking_of sent ∷ w.taken s)) n x
+        other x n apart tie here =
+            let off : same_session x.session s ≡ false = askers_apart x.session s (λ e. apart (sym tie.asker ∙ e ∙ here)) in
+            open_stays w.accepted w.accepted w.taken (changed w.taken s (taking_of sent ∷ w.taken s)) n x refl (changed_elsewhere w.taken s (taking_of sent ∷ w.taken s) x.session off) tie
+
+    -- so does each delivery
+    pub delivery_goes : (mail : Mail) (of : Snapshot) → MailTie mail of → GoesOn mail of (delivered hash_of own r mail)
+    delivery_goes = each_row hash_of own r Holds (record {
+      ignoring = λ mail of tie. unmoved mail of;
+      mismatch = λ mail of tie. mismatched mail of;
+      delta = λ d of tie. joined d of;
+      told_again = λ s seen k e of tie. hello_again s seen k e of;
+      kept = λ s seen here none of tie. hello_kept s seen here none of;
+      gone = λ s p of tie. told_gone s p of;
+      page = λ s p k page of tie. told_page s p k page of;
+      opening_done = λ s c root o f there first took complete of tie. opening_closes s c root o f of;
+      opening_sent = λ s c root o f there first took of tie. opening_goes s c root o f there took of tie;
+      page_done = λ s sent o a f there accepted took complete of tie. page_closes s sent o a f of;
+      page_sent = λ s sent o a f there accepted took of tie. page_goes s sent o a f there accepted took of;
+      ended = λ s o there of tie. gone_closes s o of;
+    })
