@@ -5,3 +5,4 @@ pub mod One
 pub mod Deciding
 pub mod Sound
 pub mod Ties
+pub mod Carried

@@ -1,7 +1,7 @@
 -- What ties the sessions, the kept snapshots and the messages of a world to what they stand for, whatever is said of a snapshot, of an ask and of a
 -- delta: each delivery keeps it.
-use Rattle.std.proofs.Common.{◌≡◌, ◌≢◌, ◌⊎◌, inl, inr, ℕ, List, [], ◌∷◌, ◌++◌, Bool, true, false, Option, Some, None, cond, refl, sym, ap, ◌∙◌, subst}
-use Rattle.std.specs.Prelude.{◌==◌, Contains}
+use Rattle.std.proofs.Common.{◌≡◌, ◌≢◌, ◌⊎◌, inl, inr, ℕ, List, [], ◌∷◌, Bool, false, Option, Some, None, refl, sym, ap, ◌∙◌, subst}
+use Rattle.std.specs.Prelude.{Contains}
 use Rattle.dots.specs.Dot.{DotValue}
 use Rattle.op_model.specs.Meaning.{MapState}
 use Rattle.op_model.specs.Operation.{Operation}
@@ -10,7 +10,6 @@ use Rattle.wire_form.specs.Page.{PageValue}
 use Rattle.wire_form.specs.Sent.{SentValue}
 use Rattle.wire_form.specs.Session.{SessionValue}
 use Rattle.prefix_digest.specs.Page.{digest_at}
-use Rattle.prefix_digest.specs.MapOf.{IsMapOf}
 use Rattle.sync_model.specs.Closing.{state_of}
 use Rattle.sync_model.specs.Differ.{Held}
 use Rattle.sync_model.specs.Fetch.{Fetch, take_opening, take_page}
@@ -18,10 +17,10 @@ use Rattle.sync_model.specs.Fetch as fetch
 use Rattle.sync_model.specs.Laws.{Taking, Fetched}
 use Rattle.replica_model.specs.Mail.{Mail, Delta, Hello, Opening, Ask, Page, Gone}
 use Rattle.replica_model.specs.Replica.{Replica, Open, Accepted, Kept, same_session, open_at, kept_at, joins, advances, closes, keeps}
-use Rattle.replica_model.specs.Delivery.{Turn, turn, ignored, Joined, Sent, Done, Mismatch, Ended, is_complete, asks_for, asks_of, fetching, opening_of, page_for, child_prefixes, delivered}
+use Rattle.replica_model.specs.Delivery.{Turn, turn, ignored, Joined, Sent, Done, Mismatch, Ended, asks_for, asks_of, fetching, opening_of, page_for, child_prefixes, delivered}
 use Rattle.replica_model.specs.World.{World, Snapshot, changed, first_kept, takes, taking_of, shown, map_of_kept}
-use Rattle.replica_model.proofs.Found.{same_is_one, askers_apart, answerers_apart, found_open, found_kept, none_kept, in_advanced, in_without, in_one, in_keeping, kept_new, changed_here, changed_elsewhere, changed_to_same}
-use Rattle.replica_model.proofs.Rows.{snapshot, Rows, each_row}
+use Rattle.replica_model.proofs.Found.{askers_apart, answerers_apart, found_open, found_kept, none_kept, in_advanced, in_without, in_one, in_keeping, kept_new, changed_here, changed_elsewhere, changed_to_same}
+use Rattle.replica_model.proofs.Rows.{snapshot, each_row}
 
 module _ (hash_of : List ℕ → ℕ) (Snap : SessionValue → List Operation → Held → (DotValue → Bool) → Type 0) (Asked : ℕ → SessionValue → Held → (DotValue → Bool) → Type 0) (Sends : MapState → List Operation → Type 0) where
   pub record KeptTie (kept : SessionValue → List Operation) (name : ℕ) (k : Kept) : Type 0 where
@@ -67,7 +66,7 @@ module _ (hash_of : List ℕ → ℕ) (Snap : SessionValue → List Operation �
     fetched = λ x is. (
       subst (λ (s : Snapshot). Snap o.session s.seen s.map x.context) (sym e) (tie.fetched x is).0,
       subst (λ (s : Snapshot). Fetched hash_of o.own o.seen x.context (digest_at hash_of s.map []) (u o.session) x.fetch) (sym e)
-      (subst (λ ts. Fetched hash_of o.own o.seen x.context (digest_at hash_of (a o.session).map []) ts x.fetch) (sym f) (tie.fetched x is).1),
+          (subst (λ ts. Fetched hash_of o.own o.seen x.context (digest_at hash_of (a o.session).map []) ts x.fetch) (sym f) (tie.fetched x is).1),
     );
   }
 

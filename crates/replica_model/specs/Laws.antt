@@ -1,4 +1,5 @@
--- The laws of one replica's step, and of worlds over all lists of events. Of this project.
+-- The laws of one replica's step, and of worlds over all lists of events. Of this project. A law is proved where a function of src/
+-- names it; those that none names yet are open: Sessions, Openings, Ends, Headline, SameSeen.
 use Rattle.std.specs.Prelude.{◌≡◌, ◌≢◌, ◌⊎◌, ◌↔◌, ℕ, ◌≤◌, ◌<◌, List, [], ◌∷◌, ◌++◌, Option, Some, length}
 use Rattle.std.specs.List.{Contains}
 use Rattle.dots.specs.declared.refusal.Refusal.{Refusal}
