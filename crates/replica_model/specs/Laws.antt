@@ -1,0 +1,119 @@
+-- The laws of one replica's step, and of worlds over all lists of events. Of this project. A law is proved where a function of src/
+-- names it; those that none names yet are open: Sessions, Openings, Ends, Headline, SameSeen.
+use Rattle.std.specs.Prelude.{◌≡◌, ◌≢◌, ◌⊎◌, ◌↔◌, ℕ, ◌≤◌, ◌<◌, List, [], ◌∷◌, ◌++◌, Option, Some, length}
+use Rattle.std.specs.List.{Contains}
+use Rattle.dots.specs.declared.refusal.Refusal.{Refusal}
+use Rattle.op_model.specs.Meaning.{state}
+use Rattle.op_model.specs.Operation.{Operation, IsPartOf, IsSameSet, has, known}
+use Rattle.op_model.specs.World as sets
+use Rattle.wire_form.specs.Session.{SessionValue}
+use Rattle.prefix_digest.specs.MapOf.{IsMapOf, root_digest}
+use Rattle.prefix_digest.specs.Page.{digest_at}
+use Rattle.sync_model.specs.Differ.{Held}
+use Rattle.replica_model.specs.Mail.{Mail, Delta, Hello, Opening, Ask, Page, Gone}
+use Rattle.replica_model.specs.Replica.{Replica, Open}
+use Rattle.replica_model.specs.Delivery.{Done}
+use Rattle.replica_model.specs.Step.{Call, Do, Act, Answer, Came, IsStep, Refuses}
+use Rattle.replica_model.specs.World.{World, Event, Deliver, Message, sets_of, message_at, nothing, Happens, RefusesEvent, Runs, Unclashed}
+use Rattle.replica_model.specs.Sessions.{IsTakenOf, IsSession, IsEnd}
+
+-- ---- one
+
+-- the new replica, the answer and what is sent are the only ones
+pub record IsOneTurn (new new' : Replica) (answer answer' : Answer) (out out' : List Mail) : Type 0 where
+  pub replica : new ≡ new'
+  pub answers : answer ≡ answer'
+  pub sent : out ≡ out'
+
+-- a step decides them
+abbrev pub StepsAreOne : Type 0
+StepsAreOne = (hash_of : List ℕ → ℕ) (old new new' : Replica) (act : Act) (answer answer' : Answer) (out out' : List Mail)
+    → IsStep hash_of old act new answer out → IsStep hash_of old act new' answer' out' → IsOneTurn new new' answer answer' out out'
+
+-- a call that is refused makes no step
+abbrev pub RefusedMakesNone : Type 0
+RefusedMakesNone = (hash_of : List ℕ → ℕ) (old new : Replica) (c : Call) (answer : Answer) (out : List Mail) (refusal : Refusal)
+    → Refuses old c refusal → ¬ IsStep hash_of old (Do c) new answer out
+
+-- events decide the world
+abbrev pub WorldsAreOne : Type 0
+WorldsAreOne = (hash_of : List ℕ → ℕ) (events : List Event) (w v : World) → Runs hash_of nothing events w → Runs hash_of nothing events v → w ≡ v
+
+abbrev pub EventsAreOne : Type 0
+EventsAreOne = (hash_of : List ℕ → ℕ) (w v v' : World) (e : Event) (answer answer' : Answer)
+    → Happens hash_of w e answer v → Happens hash_of w e answer' v' → (answer ≡ answer') × (v ≡ v')
+
+-- an event that is refused does not happen
+abbrev pub RefusedDoesNotHappen : Type 0
+RefusedDoesNotHappen = (hash_of : List ℕ → ℕ) (w v : World) (e : Event) (answer : Answer) (refusal : Refusal)
+    → RefusesEvent w e refusal → ¬ Happens hash_of w e answer v
+
+-- a list of events goes on by one
+abbrev pub GoesOn : Type 0
+GoesOn = (hash_of : List ℕ → ℕ) (events : List Event) (w v : World) (e : Event) (answer : Answer)
+    → Runs hash_of nothing events w → Happens hash_of w e answer v → Runs hash_of nothing (events ++ e ∷ []) v
+
+-- ---- sound, whatever clashes
+
+-- what was seen, is to be sent or is in a message was made, and so was what was kept and accepted; no dot was used twice
+pub record IsSound (w : World) : Type 0 where
+  pub sets : sets.IsSound (sets_of w)
+  pub kept : (s : SessionValue) → IsPartOf (w.kept s) w.made
+  pub accepted : (s : SessionValue) → IsPartOf (w.accepted s).seen w.made
+
+abbrev pub Sound : Type 0
+Sound = (hash_of : List ℕ → ℕ) (events : List Event) (w : World) → Runs hash_of nothing events w → IsSound w
+
+-- ---- sessions, each by itself
+
+-- whatever clashes: each open session of a replica stands for an ask, and for the snapshot of its peer
+abbrev pub Sessions : Type 0
+Sessions = (hash_of : List ℕ → ℕ) (events : List Event) (w : World) → Runs hash_of nothing events w
+    → (name : ℕ) (o : Open) → Contains (w.replica name).sessions o → IsSession hash_of events w name o
+
+-- each opening is that of a snapshot, and carries what its answerer had seen then
+pub record IsOpening (hash_of : List ℕ → ℕ) (events : List Event) (m : Message) (s : SessionValue) (context : Rattle.dots.specs.Dot.DotValue → Rattle.std.specs.Prelude.Bool) (root : Option (List ℕ)) : Type 0 where
+  pub snapshot : IsTakenOf hash_of events s m.of.seen m.of.map context
+  pub digest : root ≡ digest_at hash_of m.of.map []
+
+abbrev pub Openings : Type 0
+Openings = (hash_of : List ℕ → ℕ) (events : List Event) (w : World) → Runs hash_of nothing events w
+    → (number : ℕ) (m : Message) → message_at w.messages number ≡ Some m
+    → (s : SessionValue) (context : Rattle.dots.specs.Dot.DotValue → Rattle.std.specs.Prelude.Bool) (root : Option (List ℕ)) → m.mail ≡ Opening s context root
+    → IsOpening hash_of events m s context root
+
+-- a synchronisation that ends adds just what its peer had seen when it opened
+abbrev pub Ends : Type 0
+Ends = (hash_of : List ℕ → ℕ) (events : List Event) (w v : World) (number name : ℕ) → Runs hash_of nothing events w
+    → (answer : Answer) → Happens hash_of w (Deliver number name) answer v → answer ≡ Came Done → IsEnd hash_of events w v name
+
+-- ---- what replicas hold
+
+-- what a message means: a delta its operations, an opening what was seen of its snapshot
+abbrev pub MeansMail : (List ℕ → ℕ) → Mail → List Operation → Type 0
+MeansMail hash_of (Delta d) S = d ≡ state S
+MeansMail hash_of (Hello s seen) S = Unit {0}
+MeansMail hash_of (Opening s context root) S = (context ≡ has (known S)) × (root ≡ root_digest hash_of S)
+MeansMail hash_of (Ask s prefix) S = Unit {0}
+MeansMail hash_of (Page s sent) S = Unit {0}
+MeansMail hash_of (Gone s) S = Unit {0}
+
+-- each replica holds the state of what it has seen and is to send that of what it made since it last sent, and each message carries its set
+pub record IsMeant (hash_of : List ℕ → ℕ) (w : World) : Type 0 where
+  pub live : (name : ℕ) → (w.replica name).live ≡ state (w.seen name)
+  pub group : (name : ℕ) → (w.replica name).group ≡ state (w.outgoing name)
+  pub messages : (number : ℕ) (m : Message) → message_at w.messages number ≡ Some m → MeansMail hash_of m.mail m.of.seen
+
+-- the headline, over all lists of events: unless pages or values met clash
+abbrev pub Headline : Type 0
+Headline = (hash_of : List ℕ → ℕ) (events : List Event) (w : World) → Runs hash_of nothing events w → Unclashed hash_of w → IsMeant hash_of w
+
+-- replicas that have seen the same hold the same
+pub record HoldTheSame (hash_of : List ℕ → ℕ) (r q : Replica) : Type 0 where
+  pub live : r.live ≡ q.live
+  pub one_map : (m n : Held) → IsMapOf m r.live → IsMapOf n q.live → m ≡ n
+  pub digests : (m n : Held) → IsMapOf m r.live → IsMapOf n q.live → (prefix : List ℕ) → digest_at hash_of m prefix ≡ digest_at hash_of n prefix
+
+abbrev pub SameSeen : Type 0
+SameSeen = (hash_of : List ℕ → ℕ) (events : List Event) (w : World) → Runs hash_of nothing events w → Unclashed hash_of w
+    → (a b : ℕ) → IsSameSet (w.seen a) (w.seen b) → HoldTheSame hash_of (w.replica a) (w.replica b)

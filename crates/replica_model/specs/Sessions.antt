@@ -1,0 +1,75 @@
+-- What the sessions of a world stand for, by fronts of its events: a front is the world before one of them. Of this project.
+use Rattle.std.specs.Prelude.{◌≡◌, ℕ, ◌+◌, Bool, List, [], ◌∷◌, ◌++◌, Option, Some}
+use Rattle.dots.specs.Dot.{DotValue}
+use Rattle.op_model.specs.Meaning.{greater}
+use Rattle.op_model.specs.Operation.{Operation}
+use Rattle.op_model.specs.State.{join}
+use Rattle.wire_form.specs.Session.{SessionValue}
+use Rattle.prefix_digest.specs.MapOf.{IsMapOf}
+use Rattle.prefix_digest.specs.Page.{digest_at}
+use Rattle.sync_model.specs.Closing.{state_of, IsBelow}
+use Rattle.sync_model.specs.Differ.{Held}
+use Rattle.sync_model.specs.Laws.{Taking, Fetched, NoClash}
+use Rattle.replica_model.specs.Mail.{Hello}
+use Rattle.replica_model.specs.Replica.{Open, Accepted}
+use Rattle.replica_model.specs.Step.{Ask}
+use Rattle.replica_model.specs.World.{World, Event, At, Deliver, Message, Snapshot, message_at, nothing, Runs}
+
+module _ (hash_of : List ℕ → ℕ) where
+  -- The snapshot of a session was taken of what its answerer was just before one of the events, in which it took the hello of the session: so
+  -- much had it seen, for its live state this map stood, and it knew these dots.
+  pub record IsTakenOf (events : List Event) (s : SessionValue) (seen : List Operation) (map : Held) (context : DotValue → Bool) : Type 0 where
+    pub front : List Event
+    pub number : ℕ
+    pub later : List Event
+    pub split : events ≡ front ++ Deliver number s.answerer ∷ later
+    pub before : World
+    pub runs : Runs hash_of nothing front before
+    pub message : Message
+    pub there : message_at before.messages number ≡ Some message
+    pub known : DotValue → Bool
+    pub hello : message.mail ≡ Hello s known
+    pub seen_then : seen ≡ before.seen s.answerer
+    pub map_then : IsMapOf map (before.replica s.answerer).live
+    pub known_then : context ≡ (before.replica s.answerer).live.has
+
+  -- A session was opened by an ask, which was one of the events: this map stood for the live state of its asker just before, and it knew these dots.
+  pub record IsAskOf (events : List Event) (s : SessionValue) (own : Held) (known : DotValue → Bool) : Type 0 where
+    pub front : List Event
+    pub later : List Event
+    pub split : events ≡ front ++ At s.asker (Ask s.answerer) ∷ later
+    pub before : World
+    pub runs : Runs hash_of nothing front before
+    pub numbered : s.number ≡ (before.replica s.asker).opened + 1
+    pub own_then : IsMapOf own (before.replica s.asker).live
+    pub known_then : known ≡ (before.replica s.asker).live.has
+
+  -- What an open session is: its asker's own, opened by an ask, of a map that is below the live state ever since; and where it accepted
+  -- an opening, it is that of a snapshot, and what is built was fetched from it.
+  abbrev pub IsFetching : List Event → World → Open → Option Accepted → Type 0
+  IsFetching events w o accepted =
+      (a : Accepted) → accepted ≡ Some a
+      → IsTakenOf events o.session (w.accepted o.session).seen (w.accepted o.session).map a.context
+      × Fetched hash_of o.own o.seen a.context (digest_at hash_of (w.accepted o.session).map []) (w.taken o.session) a.fetch
+
+  pub record IsSession (events : List Event) (w : World) (name : ℕ) (o : Open) : Type 0 where
+    pub asker : o.session.asker ≡ name
+    pub asked : IsAskOf events o.session o.own o.seen
+    pub below : IsBelow (state_of o.own o.seen) (w.replica name).live
+    pub fetching : IsFetching events w o o.accepted
+
+  -- How a session ends with Done: it adds to its asker just what its answerer had seen when the snapshot was taken; and unless two pages or values
+  -- that it met have one SHA-256, whatever other sessions met, it joins into the asker's live state what that of the answerer was then.
+  pub record IsEnd (events : List Event) (w v : World) (name : ℕ) : Type 0 where
+    pub session : SessionValue
+    pub asker : session.asker ≡ name
+    pub own : Held
+    pub known : DotValue → Bool
+    pub asked : IsAskOf events session own known
+    pub of : Snapshot
+    pub context : DotValue → Bool
+    pub snapshot : IsTakenOf events session of.seen of.map context
+    pub adds : v.seen name ≡ w.seen name ++ of.seen
+    pub takings : List Taking
+    pub met : v.closed ≡ w.closed ++ record { own = own; theirs = of.map; takings = takings } ∷ []
+    pub joins : NoClash hash_of own of.map takings → (v.replica name).live ≡ join greater (w.replica name).live (snapshot.before.replica session.answerer).live

@@ -1,0 +1,9 @@
+// The definitions of one replica's step and of worlds of replicas, and their laws. No product code.
+// Offered to the crates above: what a replica and a world have to do, and what holds over all lists of events.
+#![tactic(auto)]
+
+mod steps;
+mod worlds;
+
+pub use steps::steps_are_one;
+pub use worlds::{worlds_are_one, worlds_are_sound};
