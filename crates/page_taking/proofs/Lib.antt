@@ -1,4 +1,5 @@
 pub mod Loops
+pub mod Tests
 pub mod Picks
 pub mod Dots
 pub mod Adds

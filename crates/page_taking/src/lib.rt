@@ -3,5 +3,7 @@
 #![tactic(auto)]
 
 mod filling;
+mod known;
 
 pub use filling::fill_page;
+pub use known::{knows_page, knows_under};
