@@ -3,3 +3,4 @@ pub mod Tests
 pub mod Picks
 pub mod Dots
 pub mod Adds
+pub mod Under

@@ -3,7 +3,9 @@
 #![tactic(auto)]
 
 mod filling;
+mod fitting;
 mod known;
 
 pub use filling::fill_page;
+pub use fitting::{fits, keys_are_under, to_ask};
 pub use known::{knows_page, knows_under};
