@@ -5,7 +5,9 @@
 mod filling;
 mod fitting;
 mod known;
+mod waiting;
 
 pub use filling::fill_page;
 pub use fitting::{fits, keys_are_under, to_ask};
 pub use known::{knows_page, knows_under};
+pub use waiting::{Waiting, promised};
