@@ -4,3 +4,4 @@ pub mod Picks
 pub mod Dots
 pub mod Adds
 pub mod Under
+pub mod Children

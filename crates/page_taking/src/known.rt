@@ -41,10 +41,7 @@ fn knows_fields<V: Drop, A: Allocator + Copy>(
 }
 
 // Whether the dots of several keys on a page are known.
-fn knows_keys<A: Allocator + Copy>(
-    known: &Context<A>,
-    entries: &[(Key<A>, NamedFields<A>)],
-) -> bool
+fn knows_keys<A: Allocator + Copy>(known: &Context<A>, entries: &[(Key<A>, NamedFields<A>)]) -> bool
     ensures { result ≡ within (has known.now) entries.now }
 {
     for (_, named) in entries {

@@ -10,4 +10,4 @@ mod waiting;
 pub use filling::fill_page;
 pub use fitting::{fits, keys_are_under, to_ask};
 pub use known::{knows_page, knows_under};
-pub use waiting::{Waiting, promised};
+pub use waiting::{Waiting, next_waiting, promised};

@@ -2,9 +2,10 @@
 ghost use Rattle.std.specs.Prelude.{◌≡◌, ◌<◌, ◌≤◌, ◌++◌, ◌∷◌, [], length, IfOk, OnOk, IsOkUnless};
 ghost use Rattle.std.specs.Option.{option_map};
 ghost use Rattle.std.specs.FinMap as finite;
+ghost use Rattle.sync_model.specs.Fetch.{put_children};
 
 use dots::{Key, Refusal};
-use gen_trie::{Frozen, NoSummary};
+use gen_trie::{Frozen, GenTrie, NoSummary};
 use hash_path::{PathHash, Prefix};
 use std::alloc::{Allocator, Global};
 
@@ -55,4 +56,58 @@ pub fn promised<H: PathHash, A: Allocator + Copy>(
         Some(digest) => Ok(Some(*digest)),
         None => Ok(None),
     }
+}
+
+// The key of a prefix and one index more.
+fn child_key<A: Allocator + Copy>(alloc: A, prefix: Prefix, index: u8) -> Result<Key<A>, Refusal>
+    ensures ok { IfOk result (λ key. key ≡ prefix ++ index ∷ []) }
+    ensures err { IsOkUnless result Refusal.OutOfMemory }
+{
+    let depth = prefix.depth();
+    let mut bytes = indices_of(alloc, prefix)?;
+    bytes.push(index)?;
+    match Key::new(alloc, &bytes) {
+        Ok(key) => Ok(key),
+        Err(_) if depth <= 7 => Err(Refusal::OutOfMemory),
+        Err(refusal) => Err(refusal),
+    }
+}
+
+// Puts the children of a prefix to what is waited for, the last of them first.
+fn put_asks<H: PathHash, A: Allocator + Copy>(
+    alloc: A,
+    draft: &mut GenTrie<[u8; 32], NoSummary, H, A>,
+    prefix: Prefix,
+    asks: &[(u8, [u8; 32])],
+) -> Result<(), Refusal>
+    ensures ok { OnOk result (draft.new.map ≡ put_children prefix asks.now draft.old.map) }
+    ensures err { IsOkUnless result Refusal.OutOfMemory }
+{
+    let mut left = asks;
+    while let Some((last, rest)) = left.split_last() {
+        let key = child_key(alloc, prefix, last.0)?;
+        draft.insert(key, last.1)?;
+        left = rest;
+    }
+    Ok(())
+}
+
+/// What is waited for once the page at a prefix was taken: the prefix no more, and these children of it, each with the digest that the
+/// page told of it. What was waited for before stays as it is. Takes time and memory in the children, and the logarithm of the
+/// prefixes that are waited for.
+/// Its only refusal is OutOfMemory.
+pub fn next_waiting<H: PathHash, A: Allocator + Copy>(
+    alloc: A,
+    waiting: &Waiting<H, A>,
+    prefix: Prefix,
+    asks: &[(u8, [u8; 32])],
+) -> Result<Waiting<H, A>, Refusal>
+    ensures ok { IfOk result (λ next. next.map ≡ put_children prefix asks.now (finite.remove waiting.now.map prefix)) }
+    ensures err { IsOkUnless result Refusal.OutOfMemory }
+{
+    let key = prefix_key(alloc, prefix)?;
+    let mut draft = waiting.thaw()?;
+    draft.remove(&key)?;
+    put_asks(alloc, &mut draft, prefix, asks)?;
+    draft.share()
 }

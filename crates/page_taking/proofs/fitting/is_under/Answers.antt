@@ -1,4 +1,4 @@
-use Rattle.std.proofs.Common.{◌≡◌, ◌≤◌, length, arith, ◌∙◌, ap}
+use Rattle.std.proofs.Common.{arith, ◌∙◌, ap}
 use Rattle.page_taking.proofs.Under.{under_is}
 use Rattle.page_taking.proofs.fitting.is_under.Goals as goal
 

@@ -1,4 +1,4 @@
-use Rattle.std.proofs.Common.{◌≡◌, sym, ◌∙◌, ap}
+use Rattle.std.proofs.Common.{sym, ◌∙◌, ap}
 use Rattle.std.specs.List.{list_all}
 use Rattle.hash_path.specs.Word.{begins}
 use Rattle.hash_path.specs.Map.{path}
