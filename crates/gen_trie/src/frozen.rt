@@ -61,6 +61,13 @@ impl<V, M: Summary<V>, H: PathHash, A: Allocator + Copy> Frozen<V, M, H, A> {
         }
     }
 
+    /// The hash that the keys' paths are by.
+    pub fn hash(&self) -> H
+        ensures { result ≡ self.now.hash }
+    {
+        self.hash
+    }
+
     /// The value of the key. Touches eight nodes at most, and takes no memory.
     /// None exactly where the key is not there.
     pub fn lookup(&self, key: &Key<A>) -> Option<&V>

@@ -84,6 +84,17 @@ impl<S: DotStore<A>, M: Summary<S>, H: PathHash, A: Allocator + Copy> Live<S, M,
         &self.context
     }
 
+    /// Gives the nodes of the store that keep no summary theirs. The pair stays as it is, also where it is refused; a further
+    /// call goes on from there. Takes time in the nodes that were written since the last seal, copies those of them that
+    /// another map shares, and takes no other memory.
+    /// Its only refusal is OutOfMemory.
+    pub fn seal(&mut self) -> Result<(), Refusal>
+        ensures same { self.new ≡ self.old }
+        ensures err { IsOkUnless result Refusal.OutOfMemory }
+    {
+        self.store.seal()
+    }
+
     /// What the pair will be once the delta is joined in. The pair stays as it is, also where the call is refused: only the
     /// index may name more. Takes time and memory in the keys and dots of the delta and in the dots that stand here and are
     /// known there, each times the logarithm of the map, and in the names of both contexts.

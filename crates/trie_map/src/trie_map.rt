@@ -103,6 +103,16 @@ impl<S: DotStore<A>, M: Summary<S>, H: PathHash, A: Allocator + Copy> TrieMap<S,
         Ok(TrieMap { entries })
     }
 
+    /// Gives the nodes that keep no summary, as after a join, theirs. The map stays as it is, also where it is refused; a further
+    /// call goes on from there. Takes time in those nodes, copies those of them that another map shares, and takes no other memory.
+    /// Its only refusal is OutOfMemory.
+    pub fn seal(&mut self) -> Result<(), Refusal>
+        ensures same { self.new ≡ self.old }
+        ensures err { IsOkUnless result Refusal.OutOfMemory }
+    {
+        self.entries.seal()
+    }
+
     /// The same stores in a map in the order of the keys. Takes time and memory in all stores, and time in the logarithm of
     /// their number.
     /// Its only refusal is OutOfMemory.
