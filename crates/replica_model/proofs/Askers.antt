@@ -1,19 +1,19 @@
 -- A kept snapshot is for the hello of its session, and a hello tells what its asker knew when it asked.
-use Rattle.std.proofs.Common.{◌≡◌, ◌≢◌, ◌⊎◌, inl, inr, ℕ, zero, suc, ◌==◌, List, [], ◌∷◌, ◌++◌, map, Bool, true, false, Option, Some, None, cond, refl, sym, ap, ◌∙◌, subst}
+use Rattle.std.proofs.Common.{◌≡◌, ◌⊎◌, inl, inr, ℕ, zero, suc, ◌==◌, List, [], ◌∷◌, ◌++◌, map, Bool, true, false, Option, Some, None, cond, refl, sym, ap, ◌∙◌, subst}
 use Rattle.std.specs.Prelude.{Contains, slice_get}
 use Rattle.dots.specs.Dot.{DotValue}
 use Rattle.op_model.specs.Operation.{Operation}
 use Rattle.op_model.proofs.Members.{nothing_in, at_head, in_tail, from_map}
 use Rattle.wire_form.specs.Session.{SessionValue}
 use Rattle.sync_model.specs.Differ.{Held}
-use Rattle.replica_model.specs.Mail.{Mail, Delta, Hello, Opening, Ask, Page, Gone}
+use Rattle.replica_model.specs.Mail.{Mail, Delta, Hello, Ask}
 use Rattle.replica_model.specs.Replica.{Replica, Open, Accepted, Kept, open_numbered, next_session}
 use Rattle.replica_model.specs.Delivery.{Turn, asks_for, delivered}
 use Rattle.replica_model.specs.Step.{Call, Put, Remove, RemoveField, Clear, Flush, Retry, Abandon, Answer, Abandons, IsCall, again, retried}
 use Rattle.replica_model.specs.Step as call
 use Rattle.replica_model.specs.World.{World, Event, Node, At, Deliver, Message, message_at, nothing, calls, takes, sent_as, goes, Happens, Runs}
 use Rattle.replica_model.specs.Sessions.{IsAskOf}
-use Rattle.replica_model.specs.Laws.{SnapshotsAreFor, IsKeptFor}
+use Rattle.replica_model.specs.Laws.{SnapshotsAreFor}
 use Rattle.replica_model.proofs.Found.{in_one, in_keeping}
 use Rattle.replica_model.proofs.Rows.{each_row}
 use Rattle.replica_model.proofs.Carried.{at_either, by_name, same_replicas, same_messages}

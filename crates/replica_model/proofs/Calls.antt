@@ -1,6 +1,6 @@
 -- What ties a world to what it stands for is kept by each call.
-use Rattle.std.proofs.Common.{◌≡◌, ◌≢◌, ◌⊎◌, inl, inr, ℕ, List, [], ◌∷◌, ◌++◌, map, Bool, Option, Some, None, cond, refl, sym, ap, ◌∙◌, subst}
-use Rattle.std.specs.Prelude.{◌==◌, Contains}
+use Rattle.std.proofs.Common.{◌≡◌, ◌⊎◌, inl, inr, ℕ, List, [], ◌∷◌, map, Bool, Option, Some, None, refl, sym, subst}
+use Rattle.std.specs.Prelude.{Contains}
 use Rattle.std.proofs.lemmas.List.Elements.{Contains-append_cases}
 use Rattle.dots.specs.Dot.{DotValue}
 use Rattle.op_model.specs.Meaning.{MapState}
@@ -10,11 +10,11 @@ use Rattle.wire_form.specs.Session.{SessionValue}
 use Rattle.prefix_digest.specs.MapOf.{IsMapOf}
 use Rattle.sync_model.specs.Differ.{Held}
 use Rattle.replica_model.specs.Mail.{Mail, Delta, Hello, Opening, Ask, Page, Gone}
-use Rattle.replica_model.specs.Replica.{Replica, Open, Accepted, Kept, open_numbered, makes, flushed, next_session, opens, closes}
+use Rattle.replica_model.specs.Replica.{Replica, Open, Accepted, Kept, open_numbered, flushed, next_session, opens, closes}
 use Rattle.replica_model.specs.Delivery.{asks_for}
 use Rattle.replica_model.specs.Step.{Call, Put, Remove, RemoveField, Clear, Flush, Retry, Abandon, Answer, Removes, Abandons, IsCall, again, retried}
 use Rattle.replica_model.specs.Step as call
-use Rattle.replica_model.specs.World.{World, Message, Snapshot, message_at, shown, sent_as, calls, goes}
+use Rattle.replica_model.specs.World.{World, Message, Snapshot, shown, sent_as, calls, goes}
 use Rattle.replica_model.proofs.Found.{in_one, in_without}
 use Rattle.replica_model.proofs.Ties.{MailTie, SessionTie, AllKept, AllOpen, AllSent}
 use Rattle.replica_model.proofs.Carried.{Ties, at_either, by_name}

@@ -1,28 +1,25 @@
 -- A session that ends adds what its peer had seen when it opened.
-use Rattle.std.proofs.Common.{◌≡◌, inl, inr, ℕ, ◌==◌, List, [], ◌∷◌, ◌++◌, Bool, cond, refl, sym, ap, ◌∙◌, subst, eq-eqb}
+use Rattle.std.proofs.Common.{◌≡◌, inl, inr, ℕ, ◌==◌, List, Bool, cond, refl, sym, ap, ◌∙◌, subst, eq-eqb}
 use Rattle.dots.specs.Dot.{DotValue}
 use Rattle.op_model.specs.Meaning.{MapState, greater}
-use Rattle.op_model.specs.Operation.{Operation}
 use Rattle.op_model.specs.State.{join}
 use Rattle.op_model.proofs.Pairs.{grown-here}
 use Rattle.prefix_digest.specs.MapOf.{IsMapOf}
 use Rattle.sync_model.specs.Closing.{state_of}
 use Rattle.sync_model.specs.Differ.{Held}
-use Rattle.sync_model.specs.Laws.{NoClash}
 use Rattle.sync_model.proofs.Closings.{closing}
 use Rattle.sync_model.proofs.Fetches.{fetching}
-use Rattle.replica_model.specs.Mail.{Mail}
 use Rattle.replica_model.specs.Replica.{Replica}
-use Rattle.replica_model.specs.Delivery.{Done, Turn, turn}
-use Rattle.replica_model.specs.Step.{Answer, Came}
-use Rattle.replica_model.specs.World.{World, Event, Deliver, takes, nothing, Runs}
+use Rattle.replica_model.specs.Delivery.{Done, turn}
+use Rattle.replica_model.specs.Step.{Answer}
+use Rattle.replica_model.specs.World.{World, Event, nothing, Runs}
 use Rattle.replica_model.specs.Sessions.{IsTakenOf, IsEnd}
 use Rattle.replica_model.specs.Laws.{Ends}
 use Rattle.replica_model.proofs.Deciding.{came_one}
 use Rattle.replica_model.proofs.States.{same_is}
 use Rattle.replica_model.proofs.Growing.{map_state}
 use Rattle.replica_model.proofs.Lawful.{map_lawful}
-use Rattle.replica_model.proofs.Ending.{Learns, Ending, Stays, Comes, comes}
+use Rattle.replica_model.proofs.Ending.{Ending, Comes, comes}
 use Rattle.replica_model.proofs.Fronts.{Delivered, delivery, AskedIn, SendsAny, told}
 
 -- a replica that changed is the new one

@@ -1,5 +1,5 @@
 -- What a delivery comes to: it learns what a delta carries, it ends a session, or it leaves what was seen and the live state.
-use Rattle.std.proofs.Common.{◌≡◌, ◌≢◌, ◌⊎◌, inl, inr, ℕ, List, [], ◌∷◌, length, Bool, true, false, Option, Some, None, refl, sym, ap, ◌∙◌, subst, arith}
+use Rattle.std.proofs.Common.{◌≡◌, ◌≢◌, ◌⊎◌, inl, inr, ℕ, List, [], ◌∷◌, length, Bool, true, Option, Some, None, refl, sym, ap, ◌∙◌, subst, arith}
 use Rattle.std.specs.Prelude.{Contains, nat_lt}
 use Rattle.std.specs.FinMap as finite
 use Rattle.std.specs.FinMap.{get-entries}
@@ -20,7 +20,7 @@ use Rattle.sync_model.specs.Fetch as fetch
 use Rattle.sync_model.specs.Laws.{Taking, Fetched}
 use Rattle.replica_model.specs.Mail.{Mail, Delta, Hello, Opening, Ask, Page, Gone}
 use Rattle.replica_model.specs.Replica.{Replica, Open, Accepted, open_at, closes, joins}
-use Rattle.replica_model.specs.Delivery.{Outcome, Joined, Sent, Done, Ignored, Mismatch, Ended, Turn, turn, is_complete, ignored, delivered}
+use Rattle.replica_model.specs.Delivery.{Joined, Done, Mismatch, Turn, turn, is_complete, ignored, delivered}
 use Rattle.replica_model.specs.World.{World, Snapshot, learns, own_of, ends, taking_of, takes}
 use Rattle.replica_model.proofs.Found.{found_open}
 use Rattle.replica_model.proofs.Rows.{each_row}

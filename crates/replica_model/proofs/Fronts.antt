@@ -1,6 +1,5 @@
 -- What holds by fronts of the events: each open session is of an ask, and each snapshot of a hello that was taken.
 use Rattle.std.proofs.Common.{◌≡◌, ◌≢◌, inl, inr, ℕ, ◌+◌, ◌==◌, List, [], ◌∷◌, ◌++◌, Bool, true, false, Option, Some, None, cond, refl, sym, ap, ◌∙◌, subst, append_assoc}
-use Rattle.std.specs.Prelude.{Contains}
 use Rattle.std.proofs.lemmas.List.{append-nil}
 use Rattle.dots.specs.Dot.{DotValue}
 use Rattle.op_model.specs.Meaning.{MapState}
@@ -9,13 +8,13 @@ use Rattle.wire_form.specs.Session.{SessionValue}
 use Rattle.prefix_digest.specs.MapOf.{IsMapOf}
 use Rattle.sync_model.specs.Closing.{state_of, IsBelow}
 use Rattle.sync_model.specs.Differ.{Held}
-use Rattle.replica_model.specs.Mail.{Mail, Delta, Hello, Opening, Page, Gone}
-use Rattle.replica_model.specs.Replica.{Replica, Open, next_session}
+use Rattle.replica_model.specs.Mail.{Mail, Hello}
+use Rattle.replica_model.specs.Replica.{Replica, next_session}
 use Rattle.replica_model.specs.Delivery.{Outcome, turn, delivered}
 use Rattle.replica_model.specs.Step.{Call, Ask, Do, Take, Answer, Came, IsCall, IsStep}
-use Rattle.replica_model.specs.World.{World, Event, Node, At, Deliver, Message, Snapshot, message_at, nothing, calls, takes, goes, Happens, Runs}
-use Rattle.replica_model.specs.Sessions.{IsTakenOf, IsAskOf, IsSession}
-use Rattle.replica_model.specs.Laws.{Sessions, Openings, IsOpening}
+use Rattle.replica_model.specs.World.{World, Event, Node, At, Deliver, Message, message_at, nothing, calls, takes, goes, Happens, Runs}
+use Rattle.replica_model.specs.Sessions.{IsTakenOf, IsAskOf}
+use Rattle.replica_model.specs.Laws.{Sessions, Openings}
 use Rattle.replica_model.proofs.Deciding.{goes_on, came_one}
 use Rattle.replica_model.proofs.Growing.{below_below, map_below, call_grows, delivery_grows}
 use Rattle.replica_model.proofs.Ties.{MailTie}

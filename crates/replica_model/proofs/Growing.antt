@@ -1,7 +1,7 @@
 -- The live state of a replica only grows, and what is below it stays below it.
 use Rattle.std.proofs.Common.{◌≡◌, inl, inr, ℕ, List, refl, sym, ap, ◌∙◌, subst, Option, Some, None}
 use Rattle.op_model.specs.Meaning.{MapState, greater}
-use Rattle.op_model.specs.State.{Same, join}
+use Rattle.op_model.specs.State.{join}
 use Rattle.op_model.proofs.Greater.{greater-comm, greater-idem, greater-assoc}
 use Rattle.op_model.proofs.Joins.{join-comm, join-assoc, join-idem}
 use Rattle.prefix_digest.specs.MapOf.{IsMapOf}

@@ -19,8 +19,8 @@ use Rattle.prefix_digest.proofs.MapsOf.{stands_for}
 use Rattle.replica_model.specs.Mail.{Mail, Delta, Hello}
 use Rattle.replica_model.specs.Replica.{Replica, Open, LIMIT, open_numbered, makes, flushed, next_session, opens, closes}
 use Rattle.replica_model.specs.Delivery.{delivered}
-use Rattle.replica_model.specs.Step.{Call, Put, Remove, RemoveField, Clear, Flush, Ask, Retry, Abandon, Answer, Nothing, Made, Counted, Numbered, Came, Closed, KnowsNone, Removes, Abandons, IsCall, Refuses, retried}
-use Rattle.replica_model.specs.World.{World, Event, Node, At, Deliver, Message, message_at, is_node, has_peer, nothing, calls, takes, goes, Happens, Runs, RefusesEvent, Unclashed}
+use Rattle.replica_model.specs.Step.{Call, Put, Remove, RemoveField, Clear, Flush, Ask, Retry, Abandon, Answer, Nothing, Made, Counted, Numbered, Came, Closed, Removes, Abandons, IsCall, Refuses, retried}
+use Rattle.replica_model.specs.World.{World, Event, Node, At, Deliver, Message, message_at, is_node, has_peer, calls, takes, goes, Happens, RefusesEvent}
 use Rattle.replica_model.specs.Laws.{HappenOrAreRefused}
 use Rattle.replica_model.proofs.States.{is_same}
 use Rattle.replica_model.proofs.Sound.{sound}
@@ -108,9 +108,12 @@ module _ (old : Replica) (S T : List Operation) (once : NoReuse S) (live : old.l
 
   flush : (ds : List Dot) → known T ≡ ds → Calls old Flush
   flush [] e = (old, Nothing, [], (refl, inl (λ dot. ap (λ (p : MapState). p.has dot) group ∙ ap (λ x. has x dot) e, refl, refl)))
-  flush (d ∷ ds) e =
-      (flushed old, Nothing, Delta old.group ∷ [],
-        (refl, inr (λ none. false≢true (sym (none d) ∙ ap (λ (p : MapState). p.has d) group ∙ ap (λ x. has x d) e ∙ or_left (same_dot d d) (has ds d) (same_dot-self d)), refl, refl)))
+  flush (d ∷ ds) e = (
+    flushed old,
+    Nothing,
+    Delta old.group ∷ [],
+    (refl, inr (λ none. false≢true (sym (none d) ∙ ap (λ (p : MapState). p.has d) group ∙ ap (λ x. has x d) e ∙ or_left (same_dot d d) (has ds d) (same_dot-self d)), refl, refl)),
+  )
 
   pub call_or : (c : Call) → CallsOrNot old c
   call_or (Put place value) = put_or place value (cases_lt (write place value).id.number (2 ^ 64))

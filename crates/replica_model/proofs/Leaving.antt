@@ -1,13 +1,12 @@
 -- An event at one replica leaves all others, and adds to the messages.
-use Rattle.std.proofs.Common.{◌≡◌, ◌≢◌, ℕ, ◌==◌, List, [], ◌∷◌, ◌++◌, map, cond, refl, sym, ap, ◌∙◌}
+use Rattle.std.proofs.Common.{◌≡◌, ◌≢◌, ℕ, ◌==◌, [], ◌∷◌, ◌++◌, map, cond, refl, sym, ap, ◌∙◌}
 use Rattle.std.proofs.lemmas.Bool.{ne_eqb}
 use Rattle.std.proofs.lemmas.List.{append-nil}
-use Rattle.replica_model.specs.Mail.{Mail}
 use Rattle.replica_model.specs.Replica.{Replica}
 use Rattle.replica_model.specs.Step.{Call, Put, Remove, RemoveField, Clear, Flush, Retry, Abandon, Answer}
 use Rattle.replica_model.specs.Step as call
-use Rattle.replica_model.specs.World.{World, Event, Node, At, Deliver, calls, takes, sent_as, goes, Happens}
-use Rattle.replica_model.specs.Laws.{EventsLeave, Leaves, replica_of}
+use Rattle.replica_model.specs.World.{World, Node, At, Deliver, calls, takes, sent_as}
+use Rattle.replica_model.specs.Laws.{EventsLeave}
 use Rattle.replica_model.proofs.Carried.{left_as_is, same_replicas, same_messages}
 use Rattle.replica_model.proofs.Fronts.{same_after_calls, delivery}
 use Rattle.replica_model.proofs.Meant.{seen_elsewhere, seen_stays, outgoing_stays}
@@ -57,7 +56,7 @@ leaves hash_of w v (Deliver number name) answer happens =
       nodes = (
         [],
         ap (λ (x : World). x.nodes) d.after
-        ∙ left_as_is name (λ x. x.nodes) (λ x m. refl) (λ x o s. refl) (λ x s o. refl) (λ x s t. refl) (λ x o f t. refl) w old d.message.mail d.message.of d.outcome
-        ∙ sym (append-nil w.nodes),
+            ∙ left_as_is name (λ x. x.nodes) (λ x m. refl) (λ x o s. refl) (λ x s o. refl) (λ x s t. refl) (λ x o f t. refl) w old d.message.mail d.message.of d.outcome
+            ∙ sym (append-nil w.nodes),
       );
     }

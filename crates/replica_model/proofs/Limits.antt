@@ -1,7 +1,6 @@
 -- A replica stays within its limits.
-use Rattle.std.proofs.Common.{◌≡◌, inl, inr, ℕ, suc, ◌+◌, ◌==◌, ◌<◌, ◌≤◌, ◌^◌, List, [], ◌∷◌, ◌++◌, map, length, Bool, true, false, Option, Some, None, cond, not, refl, sym, ap, ◌∙◌, subst, arith, length-append}
+use Rattle.std.proofs.Common.{◌≡◌, inl, inr, ℕ, ◌+◌, ◌==◌, ◌<◌, ◌≤◌, ◌^◌, List, [], ◌∷◌, ◌++◌, length, Bool, true, false, Option, Some, None, cond, not, refl, sym, ap, subst, arith, length-append}
 use Rattle.std.specs.Prelude.{nat_lt}
-use Rattle.std.specs.List.{filter}
 use Rattle.std.proofs.lemmas.Bool.{ltb-true}
 use Rattle.std.proofs.lemmas.List.{length-map}
 use Rattle.sync_model.specs.Differ.{Held}
@@ -9,7 +8,7 @@ use Rattle.replica_model.specs.Mail.{Mail}
 use Rattle.replica_model.specs.Replica.{Replica, Open, Kept, same_session, open_numbered, advanced, without, LIMIT, all_but_first, keeping}
 use Rattle.replica_model.specs.Delivery.{Turn, delivered}
 use Rattle.replica_model.specs.Step.{Call, Put, Remove, RemoveField, Clear, Flush, Ask, Retry, Abandon, Answer, Abandons, IsCall}
-use Rattle.replica_model.specs.World.{World, Event, Node, At, Deliver, nothing, Happens, Runs, calls, takes}
+use Rattle.replica_model.specs.World.{World, Event, Node, At, Deliver, nothing, Happens, Runs}
 use Rattle.replica_model.specs.Laws.{AreNumbered, IsWithinLimits, StayWithinLimits}
 use Rattle.replica_model.proofs.Found.{same_is_one}
 use Rattle.replica_model.proofs.Rows.{each_row}

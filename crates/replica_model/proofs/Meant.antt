@@ -1,13 +1,13 @@
 -- Each replica holds the state of what it has seen, unless pages or values met clash.
-use Rattle.std.proofs.Common.{◌≡◌, ◌≢◌, ◌⊎◌, inl, inr, ℕ, ◌==◌, List, [], ◌∷◌, ◌++◌, map, Bool, true, false, Option, Some, None, cond, refl, sym, ap, ◌∙◌, subst, eqb-true, ◌||◌}
+use Rattle.std.proofs.Common.{◌≡◌, ◌≢◌, ◌⊎◌, inl, inr, ℕ, ◌==◌, List, [], ◌∷◌, ◌++◌, Bool, true, false, Option, Some, None, cond, refl, sym, ap, ◌∙◌, subst}
 use Rattle.std.specs.Prelude.{Contains}
 use Rattle.std.proofs.lemmas.Bool.{false≢true, or_left, or_right}
 use Rattle.std.specs.FinMap as finite
 use Rattle.std.proofs.lemmas.List.Elements.{Contains-append_left, Contains-append_right}
 use Rattle.dots.specs.Dot.{DotValue, same_dot}
-use Rattle.op_model.specs.Made.{put_at, remove_at, remove_field_at, clear_at, erasure, IsPutAt, IsRemoveAt, IsClearAt}
+use Rattle.op_model.specs.Made.{put_at, remove_at, remove_field_at, clear_at, erasure, IsPutAt}
 use Rattle.op_model.specs.Meaning.{MapState, greater, state}
-use Rattle.op_model.specs.Operation.{Operation, Write, Wrote, Erased, NoReuse, IsPartOf, IsSameSet, has, ids, known, writes, observed}
+use Rattle.op_model.specs.Operation.{Operation, Wrote, Erased, NoReuse, IsPartOf, has, ids, known, writes, observed}
 use Rattle.op_model.specs.Shown.{shown_within, shown_anywhere}
 use Rattle.op_model.specs.State.{Same, join}
 use Rattle.op_model.specs.World.{grown, emptied}
@@ -15,7 +15,6 @@ use Rattle.op_model.specs.World as sets
 use Rattle.op_model.proofs.Dots.{same_dot-self, has-append}
 use Rattle.op_model.proofs.Members.{at_head, nothing_in}
 use Rattle.op_model.proofs.Fresh.{IsNew, put-new, erasure-new, NoReuse-part, part_left, part_both, itself_part}
-use Rattle.op_model.proofs.Joins.{same-chain}
 use Rattle.op_model.proofs.Making.{put_made, remove_made, field_remove_made, clear_made}
 use Rattle.op_model.proofs.Pairs.{makes_live, makes_group, learns_live, grown-there, emptied-here, emptied-there, grown-here}
 use Rattle.op_model.proofs.SameSets.{both_ways, state-same}
@@ -29,21 +28,20 @@ use Rattle.sync_model.specs.Fetch.{Fetch}
 use Rattle.sync_model.specs.Laws.{Taking, NoClash, Fetched}
 use Rattle.sync_model.proofs.Ended.{done}
 use Rattle.replica_model.specs.Mail.{Mail, Delta, Hello, Opening, Ask, Page, Gone}
-use Rattle.replica_model.specs.Replica.{Replica, Open, open_numbered, makes, next_session, open_at}
+use Rattle.replica_model.specs.Replica.{Replica, Open, open_numbered, makes, open_at}
 use Rattle.replica_model.specs.Delivery.{Outcome, Turn, turn, delivered}
 use Rattle.replica_model.specs.Step.{Call, Put, Remove, RemoveField, Clear, Flush, Retry, Abandon, Answer, Abandons, KnowsNone, IsCall}
 use Rattle.replica_model.specs.Step as call
 use Rattle.replica_model.specs.World.{World, Event, Node, At, Deliver, Message, Snapshot, Met, sets_of, message_at, nothing, learns, calls, own_of, ends, takes, taking_of, accepts, takes_page, is_joined, is_sent, is_done, goes, Happens, Runs, Unclashed}
 use Rattle.replica_model.specs.World as world
-use Rattle.replica_model.specs.Laws.{IsSound, MeansMail, IsMeant, Headline, HoldTheSame, SameSeen}
+use Rattle.replica_model.specs.Laws.{IsSound, MeansMail, Headline, SameSeen}
 use Rattle.replica_model.proofs.States.{same_is, is_same}
 use Rattle.replica_model.proofs.Rows.{each_row}
 use Rattle.replica_model.proofs.Sound.{sound, carried}
 use Rattle.replica_model.proofs.Ties.{MailTie}
-use Rattle.replica_model.proofs.Carried.{Ties, by_name, delivered_ties, left_as_is, same_replicas, if_both}
+use Rattle.replica_model.proofs.Carried.{Ties, by_name, delivered_ties, left_as_is, same_replicas}
 use Rattle.replica_model.proofs.Calls.{more_ties, called_ties}
-use Rattle.replica_model.proofs.Ending.{Learns, Ending, Stays, Comes, comes}
-use Rattle.replica_model.proofs.Ended.{here_new}
+use Rattle.replica_model.proofs.Ending.{Learns, Ending, Comes, comes}
 use Rattle.replica_model.proofs.Fronts.{Delivered, delivery, by_events, same_after_calls, none_at}
 
 -- ---- what is said of a snapshot, of an ask and of a delta

@@ -1,6 +1,5 @@
 -- What an open session takes, and what an ask is told.
-use Rattle.std.proofs.Common.{◌≡◌, ◌⊎◌, inl, inr, ℕ, ◌==◌, List, [], ◌∷◌, ◌++◌, map, Bool, true, false, Option, Some, None, cond, refl, sym, ap, ◌∙◌, subst, eq-eqb}
-use Rattle.std.specs.Prelude.{Contains}
+use Rattle.std.proofs.Common.{◌≡◌, ◌⊎◌, inl, inr, ℕ, List, [], ◌∷◌, ◌++◌, map, Bool, true, false, Option, Some, None, cond, refl, sym, ap, ◌∙◌, subst, eq-eqb}
 use Rattle.std.specs.FinMap as finite
 use Rattle.dots.specs.Dot.{DotValue}
 use Rattle.op_model.specs.Operation.{Operation, NoReuse, IsPartOf, has, known}
@@ -22,13 +21,13 @@ use Rattle.replica_model.specs.Mail.{Mail, Opening, Ask, Page, is_for}
 use Rattle.replica_model.specs.Replica.{Replica, Open, Accepted, Kept, open_at, kept_at}
 use Rattle.replica_model.specs.Delivery.{Outcome, Sent, Done, Turn, turn, ignored, is_complete, asks_of, asks_for, child_prefixes, went_on, opening_taken, page_taken, took_first, took_further, took_opening, took_page, took_ask, answered, page_for, taken, delivered}
 use Rattle.replica_model.specs.Step.{Answer, Came}
-use Rattle.replica_model.specs.World.{World, Event, Deliver, Message, Snapshot, message_at, no_snapshot, sent_as, takes, goes, nothing, Happens, Runs, Unclashed}
+use Rattle.replica_model.specs.World.{World, Deliver, Message, message_at, no_snapshot, sent_as, takes, Happens}
 use Rattle.replica_model.specs.Laws.{IsSound, IsTaken, TakesOpenings, TakesPages, TellsPages}
 use Rattle.replica_model.proofs.Found.{found_open, found_kept}
 use Rattle.replica_model.proofs.Sound.{sound, carried}
 use Rattle.replica_model.proofs.Ties.{MailTie}
 use Rattle.replica_model.proofs.Carried.{same_messages}
-use Rattle.replica_model.proofs.Meant.{SnapOf, AskedOf, SendsOf, Meant, meant_all}
+use Rattle.replica_model.proofs.Meant.{SnapOf, AskedOf, SendsOf, meant_all}
 use Rattle.replica_model.proofs.Fronts.{Delivered, delivery, told}
 
 -- ---- where a step of a session was taken, the delivery is
@@ -207,6 +206,6 @@ tells_pages hash_of events w runs number name m s p k page there mail kept_there
         let u = takes name (w.replica name) d.message.mail d.message.of d.outcome w in (
           d.answers ∙ ap (λ (t : Turn). Came t.outcome) all,
           ap (λ (x : World). x.messages) d.after
-          ∙ ap (λ (t : Turn). u.messages ++ map (sent_as [] u.kept t.new.kept) t.replies) all
-          ∙ ap (λ ms. ms ++ record { mail = page_for hash_of s k p page; of = no_snapshot } ∷ []) (same_messages w name (w.replica name) d.message.mail d.message.of d.outcome),
+              ∙ ap (λ (t : Turn). u.messages ++ map (sent_as [] u.kept t.new.kept) t.replies) all
+              ∙ ap (λ ms. ms ++ record { mail = page_for hash_of s k p page; of = no_snapshot } ∷ []) (same_messages w name (w.replica name) d.message.mail d.message.of d.outcome),
         )

@@ -1,6 +1,6 @@
 -- The laws of one replica's step, and of worlds over all lists of events. Of this project. A law is proved where a function of src/
 -- names it.
-use Rattle.std.specs.Prelude.{◌≡◌, ◌≢◌, ◌⊎◌, ◌↔◌, ℕ, ◌≤◌, ◌<◌, ◌^◌, Bool, List, [], ◌∷◌, ◌++◌, Option, Some, None, length}
+use Rattle.std.specs.Prelude.{◌≡◌, ◌≢◌, ◌⊎◌, ℕ, ◌≤◌, ◌<◌, ◌^◌, Bool, List, [], ◌∷◌, ◌++◌, Option, Some, None, length}
 use Rattle.std.specs.FinMap as finite
 use Rattle.dots.specs.Dot.{DotValue}
 use Rattle.std.specs.List.{Contains}
@@ -77,7 +77,8 @@ Sessions = (hash_of : List ℕ → ℕ) (events : List Event) (w : World) → Ru
     → (name : ℕ) (o : Open) → Contains (w.replica name).sessions o → IsSession hash_of events w name o
 
 -- each opening is that of a snapshot, and carries what its answerer had seen then
-pub record IsOpening (hash_of : List ℕ → ℕ) (events : List Event) (m : Message) (s : SessionValue) (context : DotValue → Bool) (root : Option (List ℕ)) : Type 0 where
+pub record IsOpening (hash_of : List ℕ → ℕ) (events : List Event) (m : Message) (s : SessionValue) (context : DotValue → Bool)
+    (root : Option (List ℕ)) : Type 0 where
   pub snapshot : IsTakenOf hash_of events s m.of.seen m.of.map context
   pub digest : root ≡ digest_at hash_of m.of.map []
 
@@ -136,7 +137,8 @@ replica_of (Node name) = name
 replica_of (At name c) = name
 replica_of (Deliver number name) = name
 
--- what an event at a replica leaves: each other replica, with what it has seen and is to send; and it adds to the messages, at the end, and to the names
+-- what an event at a replica leaves: each other replica, with what it has seen and is to send; and it adds to the messages and the names,
+-- at their end
 pub record Leaves (w v : World) (name : ℕ) : Type 0 where
   pub replicas : (n : ℕ) → n ≢ name → v.replica n ≡ w.replica n
   pub seen : (n : ℕ) → n ≢ name → v.seen n ≡ w.seen n
@@ -161,7 +163,8 @@ pub record IsWithinLimits (r : Replica) : Type 0 where
   pub opened : r.opened < 2 ^ 64
 
 abbrev pub StayWithinLimits : Type 0
-StayWithinLimits = (hash_of : List ℕ → ℕ) (events : List Event) (w : World) → Runs hash_of nothing events w → (name : ℕ) → IsWithinLimits (w.replica name)
+StayWithinLimits = (hash_of : List ℕ → ℕ) (events : List Event) (w : World) → Runs hash_of nothing events w
+    → (name : ℕ) → IsWithinLimits (w.replica name)
 
 -- ---- snapshots, openings and pages
 
@@ -191,8 +194,8 @@ TakesOpenings = (hash_of : List ℕ → ℕ) (events : List Event) (w : World) �
     → message_at w.messages number ≡ Some m → m.mail ≡ Opening s context root → open_at (w.replica name).sessions s ≡ Some o → o.accepted ≡ None
     → NoClash hash_of o.own m.of.map [] → (answer : Answer) (v : World) → Happens hash_of w (Deliver number name) answer v → IsTaken answer
 
--- one that accepted an opening takes, at each prefix that it waits for, the page of that snapshot with the values that it had not seen, unless pages
--- or values met clash; and the snapshot has such a page
+-- one that accepted an opening takes, at each prefix that it waits for, the page of that snapshot with the values that it had not seen,
+-- unless pages or values met clash; and the snapshot has such a page
 abbrev pub TakesPages : Type 0
 TakesPages = (hash_of : List ℕ → ℕ) (events : List Event) (w : World) → Runs hash_of nothing events w → Unclashed hash_of w
     → (name : ℕ) (s : SessionValue) (o : Open) (a : Accepted) → open_at (w.replica name).sessions s ≡ Some o → o.accepted ≡ Some a

@@ -1,9 +1,9 @@
 // What replicas hold, over all lists of events: the headline.
 ghost use Rattle.replica_model.specs.Laws.{Headline, SameSeen};
 
-/// After every list of events, unless two pages or two values that one session met have one SHA-256: each replica's live state is that of the set
-/// of operations that it has seen, what it is to send is that of what it made since it last sent, and each delta and each opening is
-/// that of the set that its message stands for.
+/// After every list of events, unless two pages or two values that one session met have one SHA-256: each replica's live state is that of
+/// the set of operations that it has seen, what it is to send is that of what it made since it last sent, and each delta and each opening
+/// is that of the set that its message stands for.
 pub fn replicas_hold_what_they_have_seen()
     ensures { Headline }
 {}

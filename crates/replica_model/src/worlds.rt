@@ -1,8 +1,9 @@
 // The laws of worlds of replicas, over all lists of events.
-ghost use Rattle.replica_model.specs.Laws.{EventsAreOne, WorldsAreOne, RefusedDoesNotHappen, GoesOn, Sound, EventsLeave, StayWithinLimits, HappenOrAreRefused};
+ghost use Rattle.replica_model.specs.Laws.{EventsAreOne, WorldsAreOne, RefusedDoesNotHappen, GoesOn, Sound};
+ghost use Rattle.replica_model.specs.Laws.{EventsLeave, StayWithinLimits, HappenOrAreRefused};
 
-/// An event decides its answer and the world after it, and so does a list of events; an event that is refused does not happen; and a list goes
-/// on by each event that happens.
+/// An event decides its answer and the world after it, and so does a list of events; an event that is refused does not happen; and a list
+/// goes on by each event that happens.
 pub fn worlds_are_one()
     ensures events { EventsAreOne }
     ensures one { WorldsAreOne }
@@ -10,25 +11,26 @@ pub fn worlds_are_one()
     ensures goes_on { GoesOn }
 {}
 
-/// After every list of events, whatever pages and values clash: no dot is used twice, and what each replica has seen, is to send, keeps and
-/// accepted, and each message carries, is part of what was made.
+/// After every list of events, whatever pages and values clash: no dot is used twice, and what each replica has seen, is to send, keeps
+/// and accepted, and each message carries, is part of what was made.
 pub fn worlds_are_sound()
     ensures { Sound }
 {}
 
-/// An event at one replica leaves each other replica, with what it has seen and is to send, and adds to the messages and to the names alone.
+/// An event at one replica leaves each other replica, with what it has seen and is to send, and adds to the messages and to the names
+/// alone.
 pub fn events_leave_all_else()
     ensures { EventsLeave }
 {}
 
-/// A replica has at most eight own sessions open and keeps at most eight snapshots. The numbers of its open sessions ascend from 1 on, and none is
-/// above that of the last that it opened, which is below 2^64.
+/// A replica has at most eight own sessions open and keeps at most eight snapshots. The numbers of its open sessions ascend from 1 on,
+/// and none is above that of the last that it opened, which is below 2^64.
 pub fn replicas_stay_within_limits()
     ensures { StayWithinLimits }
 {}
 
-/// Where no two pages and no two values that one session met have one SHA-256, each event happens or is refused; and, whatever clashes, none does
-/// both.
+/// Where no two pages and no two values that one session met have one SHA-256, each event happens or is refused; and, whatever clashes,
+/// none does both.
 pub fn each_event_happens_or_is_refused()
     ensures either { HappenOrAreRefused }
     ensures not_both { RefusedDoesNotHappen }
