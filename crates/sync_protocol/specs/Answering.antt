@@ -28,8 +28,11 @@ module _ {Hash : Type 0} where
   all_but_first [] = []
   all_but_first (k ∷ ks) = ks
 
+  abbrev pub with_place : KeptValue Hash → KeptValue Hash
+  with_place kept = cond (nat_lt (length kept) LIMIT) kept (all_but_first kept)
+
   abbrev pub keeping : SessionValue → SnapshotValue Hash → KeptValue Hash → KeptValue Hash
-  keeping s new kept = cond (nat_lt (length kept) LIMIT) kept (all_but_first kept) ++ (s, new) ∷ []
+  keeping s new kept = with_place kept ++ (s, new) ∷ []
 
   -- A hello: the snapshots that are kept after it, and the one that it is told of. Where its session is kept these are as they were, and it is
   -- told of the one that is kept; else of a new one, which is kept from then on.

@@ -54,7 +54,7 @@ module _ {Hash : Type 0} (hash_of : Hash → List ℕ → ℕ) where
 
 -- ---- what stays
 
-module _ {Hash : Type 0} where
+module _ (Hash : Type 0) where
   -- all keys' paths are by one hash
   abbrev pub AreHashedBy : Hash → KeptValue Hash → Type 0
   AreHashedBy hash kept = All (λ e. e.1.hash ≡ hash) kept

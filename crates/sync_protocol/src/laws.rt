@@ -16,20 +16,20 @@ pub fn asks_are_taken<H: PathHash>()
 
 /// Where the paths of all snapshots and of the store are by one hash, those of all snapshots are after a hello, and of the one that it is told of.
 pub fn hashes_stay<H: PathHash>()
-    ensures { HashesStay {Hash = H} }
+    ensures { HashesStay H }
 {}
 
 /// There are never more than eight snapshots.
 pub fn few_stay<H: PathHash>()
-    ensures { FewStay {Hash = H} }
+    ensures { FewStay H }
 {}
 
 /// The snapshot that a hello is told of is the one that is kept of its session afterwards.
 pub fn hellos_are_kept<H: PathHash>()
-    ensures { HellosAreKept {Hash = H} }
+    ensures { HellosAreKept H }
 {}
 
 /// A hello that is repeated moves nothing and is told the same, whatever the replica holds by then.
 pub fn repeats_move_nothing<H: PathHash>()
-    ensures { RepeatsMoveNothing {Hash = H} }
+    ensures { RepeatsMoveNothing H }
 {}

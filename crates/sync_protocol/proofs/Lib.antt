@@ -1,0 +1,5 @@
+pub mod Kept
+pub mod Told
+pub mod NamedFields
+pub mod Sorted
+pub mod Standing
