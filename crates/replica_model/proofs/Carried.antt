@@ -32,31 +32,39 @@ at_either ms more zero m e = inl e
 at_either ms more (suc n) m e = either_sent ms more n m e
 
 -- the sets that follow a delivery leave the replicas and the messages
-if_both : {X : Type 0} (f : World → X) (b : Bool) (u w : World) (x : X) → f u ≡ x → f w ≡ x → f (cond b u w) ≡ x
+pub if_both : {X : Type 0} (f : World → X) (b : Bool) (u w : World) (x : X) → f u ≡ x → f w ≡ x → f (cond b u w) ≡ x
 if_both f true u w x e g = e
 if_both f false u w x e g = g
 
-left_as_is : {X : Type 0} (f : World → X) → ((u : World) (name : ℕ) (more : List Operation) → f (learns name more u) ≡ f u) → ((u : World) (name : ℕ) (old : Replica) (s : SessionValue) → f (keeps name old s u) ≡ f u)
+pub left_as_is : {X : Type 0} (name : ℕ) (f : World → X) → ((u : World) (more : List Operation) → f (learns name more u) ≡ f u) → ((u : World) (old : Replica) (s : SessionValue) → f (keeps name old s u) ≡ f u)
     → ((u : World) (s : SessionValue) (of : Snapshot) → f (accepts s of u) ≡ f u) → ((u : World) (s : SessionValue) (sent : SentValue) → f (takes_page s sent u) ≡ f u)
-    → ((u : World) (name : ℕ) (own : Held) (of : Snapshot) (ts : List Taking) → f (ends name own of ts u) ≡ f u)
-    → (w : World) (name : ℕ) (old : Replica) (mail : Mail) (of : Snapshot) (outcome : Outcome) → f (takes name old mail of outcome w) ≡ f w
-left_as_is f l k a t e w name old (Delta d) of outcome = if_both f (is_joined outcome) (learns name of.seen w) w (f w) (l w name of.seen) refl
-left_as_is f l k a t e w name old (Hello s seen) of outcome = if_both f (is_sent outcome) (keeps name old s w) w (f w) (k w name old s) refl
-left_as_is f l k a t e w name old (Opening s c root) of outcome =
-    if_both f (is_done outcome) (ends name (own_of (open_at old.sessions s)) of [] w) (cond (is_sent outcome) (accepts s of w) w) (f w) (e w name (own_of (open_at old.sessions s)) of [])
+    → ((u : World) (own : Held) (of : Snapshot) (ts : List Taking) → f (ends name own of ts u) ≡ f u)
+    → (w : World) (old : Replica) (mail : Mail) (of : Snapshot) (outcome : Outcome) → f (takes name old mail of outcome w) ≡ f w
+left_as_is name f l k a t e w old (Delta d) of outcome = if_both f (is_joined outcome) (learns name of.seen w) w (f w) (l w of.seen) refl
+left_as_is name f l k a t e w old (Hello s seen) of outcome = if_both f (is_sent outcome) (keeps name old s w) w (f w) (k w old s) refl
+left_as_is name f l k a t e w old (Opening s c root) of outcome =
+    if_both f (is_done outcome) (ends name (own_of (open_at old.sessions s)) of [] w) (cond (is_sent outcome) (accepts s of w) w) (f w) (e w (own_of (open_at old.sessions s)) of [])
     (if_both f (is_sent outcome) (accepts s of w) w (f w) (a w s of) refl)
-left_as_is f l k a t e w name old (Ask s p) of outcome = refl
-left_as_is f l k a t e w name old (Page s sent) of outcome =
+left_as_is name f l k a t e w old (Ask s p) of outcome = refl
+left_as_is name f l k a t e w old (Page s sent) of outcome =
     if_both f (is_done outcome) (ends name (own_of (open_at old.sessions s)) (w.accepted s) (taking_of sent ∷ w.taken s) w) (cond (is_sent outcome) (takes_page s sent w) w) (f w)
-    (e w name (own_of (open_at old.sessions s)) (w.accepted s) (taking_of sent ∷ w.taken s))
+    (e w (own_of (open_at old.sessions s)) (w.accepted s) (taking_of sent ∷ w.taken s))
     (if_both f (is_sent outcome) (takes_page s sent w) w (f w) (t w s sent) refl)
-left_as_is f l k a t e w name old (Gone s) of outcome = refl
+left_as_is name f l k a t e w old (Gone s) of outcome = refl
 
-same_replicas : (w : World) (name : ℕ) (old : Replica) (mail : Mail) (of : Snapshot) (outcome : Outcome) → (takes name old mail of outcome w).replica ≡ w.replica
-same_replicas = left_as_is (λ u. u.replica) (λ u n m. refl) (λ u n o s. refl) (λ u s o. refl) (λ u s t. refl) (λ u n o f t. refl)
+pub same_replicas : (w : World) (name : ℕ) (old : Replica) (mail : Mail) (of : Snapshot) (outcome : Outcome) → (takes name old mail of outcome w).replica ≡ w.replica
+same_replicas w name = left_as_is name (λ u. u.replica) (λ u m. refl) (λ u o s. refl) (λ u s o. refl) (λ u s t. refl) (λ u o f t. refl) w
 
-same_messages : (w : World) (name : ℕ) (old : Replica) (mail : Mail) (of : Snapshot) (outcome : Outcome) → (takes name old mail of outcome w).messages ≡ w.messages
-same_messages = left_as_is (λ u. u.messages) (λ u n m. refl) (λ u n o s. refl) (λ u s o. refl) (λ u s t. refl) (λ u n o f t. refl)
+pub same_messages : (w : World) (name : ℕ) (old : Replica) (mail : Mail) (of : Snapshot) (outcome : Outcome) → (takes name old mail of outcome w).messages ≡ w.messages
+same_messages w name = left_as_is name (λ u. u.messages) (λ u m. refl) (λ u o s. refl) (λ u s o. refl) (λ u s t. refl) (λ u o f t. refl) w
+
+-- one replica goes on, and each other stays, where the sets followed
+pub by_name : (P : ℕ → Replica → Type 0) (name : ℕ) (new : Replica) (old : ℕ → Replica) → P name new → ((n : ℕ) → n ≢ name → P n (old n)) → (n : ℕ) → P n (cond (n == name) new (old n))
+by_name P name new old here there n = step (n == name) refl
+  where
+    step : (b : Bool) → (n == name) ≡ b → P n (cond b new (old n))
+    step true e = subst (λ k. P k new) (sym (eqb-true n name e)) here
+    step false e = there n (λ same. false≢true (sym e ∙ Rattle.std.proofs.Common.eq-eqb n name same))
 
 module _ (hash_of : List ℕ → ℕ) (Snap : SessionValue → List Operation → Held → (DotValue → Bool) → Type 0) (Asked : ℕ → SessionValue → Held → (DotValue → Bool) → Type 0) (Sends : MapState → List Operation → Type 0) where
   pub record Ties (w : World) : Type 0 where
@@ -65,20 +73,12 @@ module _ (hash_of : List ℕ → ℕ) (Snap : SessionValue → List Operation �
     pub sessions : (n : ℕ) → AllOpen hash_of Snap Asked Sends w.accepted w.taken n (w.replica n)
     pub messages : (number : ℕ) (m : Message) → message_at w.messages number ≡ Some m → MailTie hash_of Snap Asked Sends m.mail m.of
 
-  -- one replica goes on, and each other stays, where the sets followed
-  by_name : (P : ℕ → Replica → Type 0) (name : ℕ) (new : Replica) (old : ℕ → Replica) → P name new → ((n : ℕ) → n ≢ name → P n (old n)) → (n : ℕ) → P n (cond (n == name) new (old n))
-  by_name P name new old here there n = step (n == name) refl
-    where
-      step : (b : Bool) → (n == name) ≡ b → P n (cond b new (old n))
-      step true e = subst (λ k. P k new) (sym (eqb-true n name e)) here
-      step false e = there n (λ same. false≢true (sym e ∙ Rattle.std.proofs.Common.eq-eqb n name same))
-
   pub delivered_ties : (w : World) (name : ℕ) (own : Held) (m : Message) (number : ℕ) → Ties w → message_at w.messages number ≡ Some m →
-      ((s : SessionValue) → s.answerer ≡ name → Snap s (w.seen name) own (w.replica name).live.has) → (new : Replica) (outcome : Outcome) (out : List Mail) → delivered hash_of own (w.replica name) m.mail ≡ turn new outcome out →
+      ((s : SessionValue) (seen : DotValue → Bool) → m.mail ≡ Hello s seen → s.answerer ≡ name → Snap s (w.seen name) own (w.replica name).live.has) → (new : Replica) (outcome : Outcome) (out : List Mail) → delivered hash_of own (w.replica name) m.mail ≡ turn new outcome out →
       Ties (goes name new out [] (takes name (w.replica name) m.mail m.of outcome w))
   delivered_ties w name own m number t there fresh new outcome out e =
-      let on : GoesOn hash_of Snap Asked Sends w name (t.named name) t.kept t.sessions own fresh m.mail m.of (turn new outcome out) =
-      subst (GoesOn hash_of Snap Asked Sends w name (t.named name) t.kept t.sessions own fresh m.mail m.of) e (delivery_goes hash_of Snap Asked Sends w name (t.named name) t.kept t.sessions own fresh m.mail m.of (t.messages number m there)) in
+      let on : GoesOn hash_of Snap Asked Sends w name (t.named name) t.kept t.sessions own m.mail m.of (turn new outcome out) =
+      subst (GoesOn hash_of Snap Asked Sends w name (t.named name) t.kept t.sessions own m.mail m.of) e (delivery_goes hash_of Snap Asked Sends w name (t.named name) t.kept t.sessions own m.mail m.of (t.messages number m there) fresh) in
       let u = takes name (w.replica name) m.mail m.of outcome w in
       let replicas : u.replica ≡ w.replica = same_replicas w name (w.replica name) m.mail m.of outcome in
       record {

@@ -6,3 +6,5 @@ pub mod Deciding
 pub mod Sound
 pub mod Ties
 pub mod Carried
+pub mod Growing
+pub mod Calls

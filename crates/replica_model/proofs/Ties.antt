@@ -71,7 +71,7 @@ module _ (hash_of : List ℕ → ℕ) (Snap : SessionValue → List Operation �
   }
 
   module _ (w : World) (name : ℕ) (named : (w.replica name).name ≡ name) (kept : (n : ℕ) → AllKept w.kept n (w.replica n)) (open_ones : (n : ℕ) → AllOpen w.accepted w.taken n (w.replica n))
-      (own : Held) (fresh : (s : SessionValue) → s.answerer ≡ name → Snap s (w.seen name) own (w.replica name).live.has) where
+      (own : Held) where
     abbrev pub r : Replica
     r = w.replica name
 
@@ -84,8 +84,12 @@ module _ (hash_of : List ℕ → ℕ) (Snap : SessionValue → List Operation �
       pub open_there : (n : ℕ) → n ≢ name → AllOpen (takes name (w.replica name) mail of t.outcome w).accepted (takes name (w.replica name) mail of t.outcome w).taken n (w.replica n)
       pub replies : AllSent [] (takes name (w.replica name) mail of t.outcome w).kept t.new.kept t.replies
 
+    -- where the message is the hello of a session for this replica, what the replica is now is a snapshot for it
+    abbrev pub IsFresh : Mail → Type 0
+    IsFresh mail = (s : SessionValue) (seen : DotValue → Bool) → mail ≡ Hello s seen → s.answerer ≡ name → Snap s (w.seen name) own (w.replica name).live.has
+
     abbrev pub Holds : Mail → Turn → Type 0
-    Holds mail t = (of : Snapshot) → MailTie mail of → GoesOn mail of t
+    Holds mail t = (of : Snapshot) → MailTie mail of → IsFresh mail → GoesOn mail of t
 
     nothing_sent : (f : SessionValue → List Operation) (ks : List Kept) → AllSent [] f ks []
     nothing_sent f ks mail h = nothing_in mail h
@@ -152,13 +156,13 @@ module _ (hash_of : List ℕ → ℕ) (Snap : SessionValue → List Operation �
               (opening_tie (changed w.kept s x) r.kept k (ap (kept_at r.kept) found.1 ∙ e) (kept_stays w.kept (changed w.kept s x) name k (stays k.session) (kept name k found.0)).snap);
         }
 
-    hello_kept : (s : SessionValue) (seen : DotValue → Bool) → s.answerer ≡ r.name → kept_at r.kept s ≡ None → (of : Snapshot) →
+    hello_kept : (s : SessionValue) (seen : DotValue → Bool) → s.answerer ≡ r.name → kept_at r.kept s ≡ None → IsFresh (Hello s seen) → (of : Snapshot) →
         GoesOn (Hello s seen) of (turn (keeps r (snapshot own r s seen)) Sent (opening_of hash_of (snapshot own r s seen) ∷ []))
-    hello_kept s seen here none of =
+    hello_kept s seen here none fresh of =
         let x = first_kept (kept_at r.kept s) (w.kept s) (w.seen name) in
         let k = snapshot own r s seen in
         let now : changed w.kept s x s ≡ w.seen name = changed_here w.kept s x s refl ∙ ap (λ o. first_kept o (w.kept s) (w.seen name)) none in
-        let snap : Snap s (changed w.kept s x s) own r.live.has = subst (λ S. Snap s S own r.live.has) (sym now) (fresh s (here ∙ named)) in
+        let snap : Snap s (changed w.kept s x s) own r.live.has = subst (λ S. Snap s S own r.live.has) (sym now) (fresh s seen refl (here ∙ named)) in
         let tie : KeptTie (changed w.kept s x) name k = record { answerer = here ∙ named; snap = snap } in
         record {
           name_stays = named;
@@ -272,18 +276,18 @@ module _ (hash_of : List ℕ → ℕ) (Snap : SessionValue → List Operation �
             open_stays w.accepted w.accepted w.taken (changed w.taken s (taking_of sent ∷ w.taken s)) n x refl (changed_elsewhere w.taken s (taking_of sent ∷ w.taken s) x.session off) tie
 
     -- so does each delivery
-    pub delivery_goes : (mail : Mail) (of : Snapshot) → MailTie mail of → GoesOn mail of (delivered hash_of own r mail)
+    pub delivery_goes : (mail : Mail) (of : Snapshot) → MailTie mail of → IsFresh mail → GoesOn mail of (delivered hash_of own r mail)
     delivery_goes = each_row hash_of own r Holds (record {
-      ignoring = λ mail of tie. unmoved mail of;
-      mismatch = λ mail of tie. mismatched mail of;
-      delta = λ d of tie. joined d of;
-      told_again = λ s seen k e of tie. hello_again s seen k e of;
-      kept = λ s seen here none of tie. hello_kept s seen here none of;
-      gone = λ s p of tie. told_gone s p of;
-      page = λ s p k page of tie. told_page s p k page of;
-      opening_done = λ s c root o f there first took complete of tie. opening_closes s c root o f of;
-      opening_sent = λ s c root o f there first took of tie. opening_goes s c root o f there took of tie;
-      page_done = λ s sent o a f there accepted took complete of tie. page_closes s sent o a f of;
-      page_sent = λ s sent o a f there accepted took of tie. page_goes s sent o a f there accepted took of;
-      ended = λ s o there of tie. gone_closes s o of;
+      ignoring = λ mail of tie fresh. unmoved mail of;
+      mismatch = λ mail of tie fresh. mismatched mail of;
+      delta = λ d of tie fresh. joined d of;
+      told_again = λ s seen k e of tie fresh. hello_again s seen k e of;
+      kept = λ s seen here none of tie fresh. hello_kept s seen here none fresh of;
+      gone = λ s p of tie fresh. told_gone s p of;
+      page = λ s p k page of tie fresh. told_page s p k page of;
+      opening_done = λ s c root o f there first took complete of tie fresh. opening_closes s c root o f of;
+      opening_sent = λ s c root o f there first took of tie fresh. opening_goes s c root o f there took of tie;
+      page_done = λ s sent o a f there accepted took complete of tie fresh. page_closes s sent o a f of;
+      page_sent = λ s sent o a f there accepted took of tie fresh. page_goes s sent o a f there accepted took of;
+      ended = λ s o there of tie fresh. gone_closes s o of;
     })
