@@ -27,6 +27,10 @@ outcome_of o (Rattle.replica_model.specs.Step.Counted n) = o
 outcome_of o (Rattle.replica_model.specs.Step.Numbered n) = o
 outcome_of o (Rattle.replica_model.specs.Step.Closed b) = o
 
+pub came_one : (o p : Outcome) → Came o ≡ Came p → o ≡ p
+unfolding outcome_of
+came_one o p e = ap (outcome_of o) e
+
 comes_one : (hash_of : List ℕ → ℕ) (w v v' : World) (name : ℕ) (answer answer' : Answer) (m : Message) → Comes hash_of w name answer v m → Comes hash_of w name answer' v' m → (answer ≡ answer') × (v ≡ v')
 unfolding Comes outcome_of
 comes_one hash_of w v v' name answer answer' m (new, outcome, out, a, step, e) (new', outcome', out', a', step', e') =

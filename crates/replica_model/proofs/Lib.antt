@@ -8,3 +8,4 @@ pub mod Ties
 pub mod Carried
 pub mod Growing
 pub mod Calls
+pub mod Fronts

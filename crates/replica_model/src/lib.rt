@@ -2,8 +2,10 @@
 // Offered to the crates above: what a replica and a world have to do, and what holds over all lists of events.
 #![tactic(auto)]
 
+mod sessions;
 mod steps;
 mod worlds;
 
+pub use sessions::{openings_are_of_snapshots, sessions_are_of_asks_and_snapshots};
 pub use steps::steps_are_one;
 pub use worlds::{worlds_are_one, worlds_are_sound};
