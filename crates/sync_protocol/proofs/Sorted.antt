@@ -80,7 +80,6 @@ module _ {V : Type 0} (f : List ℕ → ℕ) (bounded : (key : List ℕ) → f k
       rest = filter (λ e. begins p (path f e.0)) (by_key 7 es)
 
       step : (b : Bool) → begins p (path f (key_of e.0)) ≡ b → IsStrictlySortedBy bytes_cmp (keys_of rest) → IsStrictlySortedBy bytes_cmp (keys_of (cond b ((key_of e.0, e.1) ∷ rest) rest))
-      unfolding IsStrictlySortedBy
       step true here further = (below_rest (key_of e.0) e.0 es hashed.0 here hashed.1 (front (below_all bytes_cmp e.0 es) (is_sorted bytes_cmp es) sorted), further)
       step false here further = further
 
@@ -105,6 +104,5 @@ module _ {M : Type 0} where
   present_sorted i (suc n) g = step (g i) (present_sorted (suc i) n g)
     where
       step : (o : Option M) → IsStrictlySortedBy nat_cmp (keys_of (present (suc i) n g)) → IsStrictlySortedBy nat_cmp (keys_of (one_present i o (present (suc i) n g)))
-      unfolding IsStrictlySortedBy
       step None rest = rest
       step (Some x) rest = (above_all i (suc i) n g (omega arith), rest)

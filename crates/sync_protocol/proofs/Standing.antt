@@ -125,3 +125,9 @@ module _ (f : List ℕ → ℕ) (bounded : (key : List ℕ) → f key < 2 ^ 32) 
             of_page page (OneKey (named_entry e)) is at (record { stands = filled e.0 e.1 (part_found f m p e.0 e.1 (subst (λ es. In es e) (sym one) (inl refl))).0; carries = tt })
         step (Several deep several at) = of_page page (Keys (named_entries (walk_under f p m))) is at (record { stands = keys_stand p deep several; carries = tt })
         step (Parted less several at) = of_page page _ is at (record { stands = branch_stands p less several; carries = values_of_branch known f m p less several })
+
+    -- the same of a map that is known to be that one, and of values and a page that are known to be these
+    pub sendable : (n : Held) (values : List (List ℕ)) (page : PageValue) → n ≡ m → values ≡ unknown_at known f n p → Some page ≡ page_at f n p
+        → CanBeSent (record { prefix = p; values = values; page = page })
+    sendable n values page same are is =
+        subst (λ vs. CanBeSent (record { prefix = p; values = vs; page = page })) (sym (are ∙ ap (λ n. unknown_at known f n p) same)) (can_be_sent page (sym (is ∙ ap (λ n. page_at f n p) same)))
