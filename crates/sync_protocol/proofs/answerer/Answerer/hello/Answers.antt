@@ -9,7 +9,7 @@ pub returns-in-Some-clause-opening : goal.returns-in-Some-clause-opening
 returns-in-Some-clause-opening g c =
     let s = c.args.session in
     let found : snapshot_of c.args.self.now s ≡ Some c.in-Some.snapshot.now =
-        ap (λ kept. snapshot_of kept s) (sym c.self.view_is) ∙ sym c.get.ensures.value ∙ ap option_copied c.in-Some.is in
+    ap (λ kept. snapshot_of kept s) (sym c.self.view_is) ∙ sym c.get.ensures.value ∙ ap option_copied c.in-Some.is in
     told_is (λ k. IfOk c.opening.result (λ m. message_of m ≡ opening_of g.H.PathHash.hash_of s k)) c.args.self.now s
     (record { seen = c.args.seen.now; hash = c.args.store.now.0; map = c.args.store.now.1; context = c.args.context.now }) c.in-Some.snapshot.now found c.opening.ensures.ok
 
