@@ -5,11 +5,12 @@ use Rattle.std.specs.List.{All}
 use Rattle.std.specs.Map.{lookup}
 use Rattle.std.proofs.lemmas.Bool.{ltb-true, eq-eqb}
 use Rattle.std.proofs.lemmas.List.Elements.{All-nil, All-cons, All-tail, All-append}
+use Rattle.wire_form.specs.Message.{MessageValue}
 use Rattle.wire_form.specs.Session.{SessionValue}
 use Rattle.sync_protocol.specs.Snapshot.{SnapshotValue, KeptValue}
-use Rattle.sync_protocol.specs.Answering.{same_session, LIMIT, snapshot_of, all_but_first, with_place, keeping, kept_with, kept_after, told_with, told_of}
+use Rattle.sync_protocol.specs.Answering.{same_session, LIMIT, snapshot_of, all_but_first, with_place, keeping, kept_with, kept_after, told_with, told_of, page_of, answer_with, answer_of}
 
-same_itself : (s : SessionValue) → same_session s s ≡ true
+pub same_itself : (s : SessionValue) → same_session s s ≡ true
 same_itself s = (λ i. eq-eqb s.asker s.asker refl i && (eq-eqb s.answerer s.answerer refl i && eq-eqb s.number s.number refl i))
 
 -- ---- who is found
@@ -111,3 +112,12 @@ module _ {Hash : Type 0} where
         step : (o : Option (SnapshotValue Hash)) → snapshot_of kept s ≡ o → All (λ e. P e.1) (kept_with s new kept o) × P (told_with new o)
         step None none = (all_kept kept s new all here, here)
         step (Some k) found = (all, found_has kept s k all found)
+
+  -- what holds of the snapshot that is found holds of the one that is told of
+  pub told_is : (P : SnapshotValue Hash → Type 0) (kept : KeptValue Hash) (s : SessionValue) (new k : SnapshotValue Hash) → snapshot_of kept s ≡ Some k → P k → P (told_of kept s new)
+  told_is P kept s new k found h = subst P (sym (ap (told_with new) found)) h
+
+  -- and what holds of its page, of the answer
+  pub answer_is : (hash_of : Hash → List ℕ → ℕ) (P : Option MessageValue → Type 0) (kept : KeptValue Hash) (s : SessionValue) (prefix : List ℕ) (k : SnapshotValue Hash) → snapshot_of kept s ≡ Some k
+      → P (page_of hash_of s k prefix) → P (answer_of hash_of kept s prefix)
+  answer_is hash_of P kept s prefix k found h = subst P (sym (ap (answer_with hash_of s prefix) found)) h

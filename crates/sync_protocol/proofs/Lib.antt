@@ -1,4 +1,5 @@
 pub mod Kept
+pub mod Copied
 pub mod Told
 pub mod NamedFields
 pub mod Sorted

@@ -87,8 +87,7 @@ module _ (f : List ℕ → ℕ) (bounded : (key : List ℕ) → f key < 2 ^ 32) 
       let there = part_found f m p key one.0.1 one.1 in
       let child = child_there p key one.0.1 less there.0 there.1 in
       let g : ℕ → Option (List ℕ) = λ i. digest_at f m (p ++ i ∷ []) in
-      let next : ℕ = get_or (path f key) (length p) 0 in
-      (
+      let next : ℕ = get_or (path f key) (length p) 0 in (
         less,
         some_in (present 0 32 g) (next, child.0) (present_in 0 32 g next child.0 (omega arith) (next_below f p key less) child.1),
         each_of (λ c. c.0 ≤ last_index (length p)) (present 0 32 g) (λ c h. not_past p c.0 c.1 less (in_present 0 32 g c.0 c.1 h).2),
@@ -96,17 +95,16 @@ module _ (f : List ℕ → ℕ) (bounded : (key : List ℕ) → f key < 2 ^ 32) 
       )
 
   keys_stand : (p : List ℕ) → length p ≡ 7 → 2 ≤ length (walk_under f p m) → CanStand (length p) (Keys (named_entries (walk_under f p m)))
-  keys_stand p deep several =
-      (
-        deep,
-        subst (λ n. 2 ≤ n) (sym (length-map (walk_under f p m) named_entry)) several,
-        each_of (λ e. IsFilled e.1) (named_entries (walk_under f p m)) (entries_filled p),
-        subst (IsStrictlySortedBy bytes_cmp) (sym (keys_kept named_fields (walk_under f p m))) (keys_sorted f bounded p deep m),
-      )
+  keys_stand p deep several = (
+    deep,
+    subst (λ n. 2 ≤ n) (sym (length-map (walk_under f p m) named_entry)) several,
+    each_of (λ e. IsFilled e.1) (named_entries (walk_under f p m)) (entries_filled p),
+    subst (IsStrictlySortedBy bytes_cmp) (sym (keys_kept named_fields (walk_under f p m))) (keys_sorted f bounded p deep m),
+  )
 
   -- the page that is there, with the values that are missing, can be sent
   module _ (known : DotValue → Bool) (p : List ℕ) where
-    Sends : PageValue → Type 0
+    abbrev Sends : PageValue → Type 0
     Sends page = CanBeSent (record { prefix = p; values = unknown_at known f m p; page = page })
 
     of_page : (page there : PageValue) → page_at f m p ≡ Some page → page_at f m p ≡ Some there → Sends there → Sends page
@@ -125,3 +123,9 @@ module _ (f : List ℕ → ℕ) (bounded : (key : List ℕ) → f key < 2 ^ 32) 
             of_page page (OneKey (named_entry e)) is at (record { stands = filled e.0 e.1 (part_found f m p e.0 e.1 (subst (λ es. In es e) (sym one) (inl refl))).0; carries = tt })
         step (Several deep several at) = of_page page (Keys (named_entries (walk_under f p m))) is at (record { stands = keys_stand p deep several; carries = tt })
         step (Parted less several at) = of_page page _ is at (record { stands = branch_stands p less several; carries = values_of_branch known f m p less several })
+
+    -- the same of a map that is known to be that one, and of values and a page that are known to be these
+    pub sendable : (n : Held) (values : List (List ℕ)) (page : PageValue) → n ≡ m → values ≡ unknown_at known f n p → Some page ≡ page_at f n p
+        → CanBeSent (record { prefix = p; values = values; page = page })
+    sendable n values page same are is =
+        subst (λ vs. CanBeSent (record { prefix = p; values = vs; page = page })) (sym (are ∙ ap (λ n. unknown_at known f n p) same)) (can_be_sent page (sym (is ∙ ap (λ n. page_at f n p) same)))

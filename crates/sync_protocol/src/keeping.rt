@@ -12,8 +12,12 @@ use std::hash::{BuildHasherDefault, FoldHasher};
 use wire_form::Session;
 
 // The snapshots by session, in the order in which the sessions opened.
-pub(crate) type Snapshots<H, A> =
-    IndexMap<Session, Snapshot<H, A>, BuildHasherDefault<FoldHasher>, A>;
+pub(crate) type Snapshots<H, A> = IndexMap<
+    Session,
+    Snapshot<H, A>,
+    BuildHasherDefault<FoldHasher>,
+    A,
+>;
 
 // At most so many are kept.
 const LIMIT: usize = 8;

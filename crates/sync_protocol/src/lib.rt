@@ -9,5 +9,7 @@ mod laws;
 mod snapshot;
 
 pub use answerer::Answerer;
-pub use laws::{asks_are_taken, few_stay, hashes_stay, hellos_are_kept, hellos_are_taken, repeats_move_nothing};
+pub use laws::{
+    asks_are_taken, few_stay, hashes_stay, hellos_are_kept, hellos_are_taken, repeats_move_nothing,
+};
 pub use snapshot::FieldStore;

@@ -87,7 +87,6 @@ impl<H: PathHash, A: Allocator + Copy> Snapshot<H, A> {
         };
         let values = values_for(alloc, frozen, prefix, &self.seen)?;
         prove!(are_filled(&self.store));
-        prove!(prefix.depth() <= 7);
         match Message::page(session, prefix, values, page) {
             Some(message) => Ok(Some(message)),
             None => unreachable!(),
