@@ -35,6 +35,11 @@ module _ (hash_of : List ℕ → ℕ) (P : List Event → World → Type 0) (fir
   pub by_events : (events : List Event) (w : World) → Runs hash_of nothing events w → P events w
   by_events events w runs = further [] events nothing w refl first runs
 
+-- no message is there at first
+pub none_at : (number : ℕ) (m : Message) → message_at [] number ≡ Some m → ⊥
+none_at Rattle.std.proofs.Common.zero m is = absurd cc
+none_at (Rattle.std.proofs.Common.suc n) m is = absurd cc
+
 -- ---- a delivery, taken apart
 
 pub record Delivered (hash_of : List ℕ → ℕ) (w : World) (number name : ℕ) (answer : Answer) (v : World) : Type 0 where
@@ -204,10 +209,6 @@ module _ (hash_of : List ℕ → ℕ) where
     sessions = λ n o h. Rattle.op_model.proofs.Members.nothing_in o h;
     messages = λ number m is. absurd (none_at number m is);
   }
-    where
-      none_at : (number : ℕ) (m : Message) → message_at [] number ≡ Some m → ⊥
-      none_at Rattle.std.proofs.Common.zero m is = absurd cc
-      none_at (Rattle.std.proofs.Common.suc n) m is = absurd cc
 
   pub told : (events : List Event) (w : World) → Runs hash_of nothing events w → Told events w
   told = by_events hash_of Told told_first told_next

@@ -27,7 +27,7 @@ set_at [] n m e = absurd cc
 set_at (x ∷ ms) zero m e = let one : x ≡ m = cc in ap (λ (y : Message). y.of.seen) one
 set_at (x ∷ ms) (suc n) m e = set_at ms n m e
 
-carried : (ms : List Message) (number : ℕ) (m : Message) → message_at ms number ≡ Some m → message (map (λ x. x.of.seen) ms) number ≡ m.of.seen
+pub carried : (ms : List Message) (number : ℕ) (m : Message) → message_at ms number ≡ Some m → message (map (λ x. x.of.seen) ms) number ≡ m.of.seen
 carried ms zero m e = absurd cc
 carried ms (suc n) m e = set_at ms n m e
 

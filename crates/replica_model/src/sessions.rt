@@ -1,5 +1,5 @@
 // The laws of the sessions of a world, over all lists of events, whatever pages and values clash.
-ghost use Rattle.replica_model.specs.Laws.{Sessions, Openings};
+ghost use Rattle.replica_model.specs.Laws.{Sessions, Openings, Ends};
 
 /// Each open session of a replica is its own, and was opened by an ask, of a map that stood for its live state then, which is below the live
 /// state ever since. Where it accepted an opening, that is of a snapshot that its peer took of what it was when it got the hello,
@@ -11,4 +11,10 @@ pub fn sessions_are_of_asks_and_snapshots()
 /// Each opening is that of a snapshot, and carries what its answerer had seen then, which dots it knew, and the root digest of its map.
 pub fn openings_are_of_snapshots()
     ensures { Openings }
+{}
+
+/// A session that ends adds to its asker just what its answerer had seen when the snapshot was taken; and unless two pages or two values that it met
+/// have one SHA-256, whatever other sessions met, it joins into the asker's live state what that of the answerer was then.
+pub fn a_session_that_ends_joins_what_its_peer_had()
+    ensures { Ends }
 {}
