@@ -13,3 +13,5 @@ pub mod Lawful
 pub mod Ending
 pub mod Ended
 pub mod Meant
+pub mod Leaving
+pub mod Limits

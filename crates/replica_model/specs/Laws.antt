@@ -1,6 +1,6 @@
 -- The laws of one replica's step, and of worlds over all lists of events. Of this project. A law is proved where a function of src/
--- names it; those that none names yet are open: Sessions, Openings, Ends, Headline, SameSeen.
-use Rattle.std.specs.Prelude.{◌≡◌, ◌≢◌, ◌⊎◌, ◌↔◌, ℕ, ◌≤◌, ◌<◌, List, [], ◌∷◌, ◌++◌, Option, Some, length}
+-- names it.
+use Rattle.std.specs.Prelude.{◌≡◌, ◌≢◌, ◌⊎◌, ◌↔◌, ℕ, ◌≤◌, ◌<◌, ◌^◌, List, [], ◌∷◌, ◌++◌, Option, Some, length}
 use Rattle.std.specs.List.{Contains}
 use Rattle.dots.specs.declared.refusal.Refusal.{Refusal}
 use Rattle.op_model.specs.Meaning.{state}
@@ -11,10 +11,10 @@ use Rattle.prefix_digest.specs.MapOf.{IsMapOf, root_digest}
 use Rattle.prefix_digest.specs.Page.{digest_at}
 use Rattle.sync_model.specs.Differ.{Held}
 use Rattle.replica_model.specs.Mail.{Mail, Delta, Hello, Opening, Ask, Page, Gone}
-use Rattle.replica_model.specs.Replica.{Replica, Open}
+use Rattle.replica_model.specs.Replica.{Replica, Open, LIMIT}
 use Rattle.replica_model.specs.Delivery.{Done}
 use Rattle.replica_model.specs.Step.{Call, Do, Act, Answer, Came, IsStep, Refuses}
-use Rattle.replica_model.specs.World.{World, Event, Deliver, Message, sets_of, message_at, nothing, Happens, RefusesEvent, Runs, Unclashed}
+use Rattle.replica_model.specs.World.{World, Event, Node, At, Deliver, Message, sets_of, message_at, nothing, Happens, RefusesEvent, Runs, Unclashed}
 use Rattle.replica_model.specs.Sessions.{IsTakenOf, IsSession, IsEnd}
 
 -- ---- one
@@ -117,3 +117,43 @@ pub record HoldTheSame (hash_of : List ℕ → ℕ) (r q : Replica) : Type 0 whe
 abbrev pub SameSeen : Type 0
 SameSeen = (hash_of : List ℕ → ℕ) (events : List Event) (w : World) → Runs hash_of nothing events w → Unclashed hash_of w
     → (a b : ℕ) → IsSameSet (w.seen a) (w.seen b) → HoldTheSame hash_of (w.replica a) (w.replica b)
+
+-- ---- each event
+
+-- In a world where nothing clashed each event happens, or is refused. (That none does both is RefusedDoesNotHappen.)
+abbrev pub HappenOrAreRefused : Type 0
+HappenOrAreRefused = (hash_of : List ℕ → ℕ) (events : List Event) (w : World) → Runs hash_of nothing events w → Unclashed hash_of w
+    → (e : Event) → ((answer : Answer) × (v : World) × Happens hash_of w e answer v) ⊎ ((refusal : Refusal) × RefusesEvent w e refusal)
+
+-- the name of the replica at which an event happens
+abbrev pub replica_of : Event → ℕ
+replica_of (Node name) = name
+replica_of (At name c) = name
+replica_of (Deliver number name) = name
+
+-- what an event at a replica leaves: each other replica, with what it has seen and is to send; and it adds to the messages, at the end, and to the names
+pub record Leaves (w v : World) (name : ℕ) : Type 0 where
+  pub replicas : (n : ℕ) → n ≢ name → v.replica n ≡ w.replica n
+  pub seen : (n : ℕ) → n ≢ name → v.seen n ≡ w.seen n
+  pub outgoing : (n : ℕ) → n ≢ name → v.outgoing n ≡ w.outgoing n
+  pub messages : (more : List Message) × (v.messages ≡ w.messages ++ more)
+  pub nodes : (more : List ℕ) × (v.nodes ≡ w.nodes ++ more)
+
+abbrev pub EventsLeave : Type 0
+EventsLeave = (hash_of : List ℕ → ℕ) (w v : World) (e : Event) (answer : Answer) → Happens hash_of w e answer v → Leaves w v (replica_of e)
+
+-- ---- limits
+
+-- the numbers of these sessions ascend, all above the first number and none above the last
+abbrev pub AreNumbered : ℕ → List Open → ℕ → Type 0
+AreNumbered above [] last = above ≤ last
+AreNumbered above (o ∷ os) last = (above < o.session.number) × AreNumbered o.session.number os last
+
+pub record IsWithinLimits (r : Replica) : Type 0 where
+  pub sessions : length r.sessions ≤ LIMIT
+  pub kept : length r.kept ≤ LIMIT
+  pub numbered : AreNumbered 0 r.sessions r.opened
+  pub opened : r.opened < 2 ^ 64
+
+abbrev pub StayWithinLimits : Type 0
+StayWithinLimits = (hash_of : List ℕ → ℕ) (events : List Event) (w : World) → Runs hash_of nothing events w → (name : ℕ) → IsWithinLimits (w.replica name)

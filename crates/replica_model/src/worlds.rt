@@ -1,5 +1,5 @@
 // The laws of worlds of replicas, over all lists of events.
-ghost use Rattle.replica_model.specs.Laws.{EventsAreOne, WorldsAreOne, RefusedDoesNotHappen, GoesOn, Sound};
+ghost use Rattle.replica_model.specs.Laws.{EventsAreOne, WorldsAreOne, RefusedDoesNotHappen, GoesOn, Sound, EventsLeave, StayWithinLimits};
 
 /// An event decides its answer and the world after it, and so does a list of events; an event that is refused does not happen; and a list goes
 /// on by each event that happens.
@@ -14,4 +14,15 @@ pub fn worlds_are_one()
 /// accepted, and each message carries, is part of what was made.
 pub fn worlds_are_sound()
     ensures { Sound }
+{}
+
+/// An event at one replica leaves each other replica, with what it has seen and is to send, and adds to the messages and to the names alone.
+pub fn events_leave_all_else()
+    ensures { EventsLeave }
+{}
+
+/// A replica has at most eight own sessions open and keeps at most eight snapshots. The numbers of its open sessions ascend from 1 on, and none is
+/// above that of the last that it opened, which is below 2^64.
+pub fn replicas_stay_within_limits()
+    ensures { StayWithinLimits }
 {}
