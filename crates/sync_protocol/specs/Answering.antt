@@ -34,8 +34,8 @@ module _ {Hash : Type 0} where
   abbrev pub keeping : SessionValue → SnapshotValue Hash → KeptValue Hash → KeptValue Hash
   keeping s new kept = with_place kept ++ (s, new) ∷ []
 
-  -- A hello: the snapshots that are kept after it, and the one that it is told of. Where its session is kept these are as they were, and it is
-  -- told of the one that is kept; else of a new one, which is kept from then on.
+  -- A hello: the snapshots that are kept after it, and the one that it is told of. Where its session is kept these are as they
+  -- were, and it is told of the one that is kept; else of a new one, which is kept from then on.
   abbrev pub kept_with : SessionValue → SnapshotValue Hash → KeptValue Hash → Option (SnapshotValue Hash) → KeptValue Hash
   kept_with s new kept None = keeping s new kept
   kept_with s new kept (Some k) = kept

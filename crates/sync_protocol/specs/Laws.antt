@@ -34,15 +34,16 @@ TakesPage hash_of own seen opened f (Ask s prefix) g = ⊥
 TakesPage hash_of own seen opened f (Gone s) g = ⊥
 
 module _ {Hash : Type 0} (hash_of : Hash → List ℕ → ℕ) where
-  -- What a hello is answered is taken, where no two of the pages and values of both maps have one digest, and the dots of the snapshot's map are
-  -- among those that were known with it.
+  -- What a hello is answered is taken, where no two of the pages and values of both maps have one digest, and the dots of the
+  -- snapshot's map are among those that were known with it.
   abbrev pub HellosAreTaken : Type 0
   HellosAreTaken = (kept : KeptValue Hash) (s : SessionValue) (new : SnapshotValue Hash) (own : Held)
       → let k = told_of kept s new in
       IsLawfulMap own → NoClash (hash_of k.hash) own k.map [] → IsWithin (has k.context) k.map
       → (f : Fetch) × TakesOpening (hash_of k.hash) own (has k.seen) (opening_of hash_of s k) f
 
-  -- Whatever was taken since of a session that is kept: the ask for each prefix that is then waited for is answered, and what it is answered is taken.
+  -- Whatever was taken since of a session that is kept: the ask for each prefix that is then waited for is answered, and what it
+  -- is answered is taken.
   abbrev pub AsksAreTaken : Type 0
   AsksAreTaken = (kept : KeptValue Hash) (s : SessionValue) (k : SnapshotValue Hash) (own : Held) (ts : List Taking) (f : Fetch)
       → snapshot_of kept s ≡ Some k
@@ -67,8 +68,8 @@ module _ (Hash : Type 0) where
   abbrev pub FewStay : Type 0
   FewStay = (kept : KeptValue Hash) (s : SessionValue) (new : SnapshotValue Hash) → length kept ≤ LIMIT → length (kept_after kept s new) ≤ LIMIT
 
-  -- The snapshot that a hello is told of is the one that is kept of its session afterwards; so the same hello, repeated, moves nothing and is told the same,
-  -- whatever the replica holds by then.
+  -- The snapshot that a hello is told of is the one that is kept of its session afterwards; so the same hello, repeated, moves
+  -- nothing and is told the same, whatever the replica holds by then.
   abbrev pub HellosAreKept : Type 0
   HellosAreKept = (kept : KeptValue Hash) (s : SessionValue) (new : SnapshotValue Hash) → snapshot_of (kept_after kept s new) s ≡ Some (told_of kept s new)
 

@@ -8,7 +8,8 @@ use Rattle.dots.specs.Dot.{DotValue}
 use Rattle.wire_form.specs.Session.{SessionValue}
 use Rattle.sync_model.specs.Differ.{Held}
 
--- a snapshot: the dots that the asker of its session knew, the map as it was, with the hash of its keys' paths, and the dots that were known with it
+-- a snapshot: the dots that the asker of its session knew, the map as it was, with the hash of its keys' paths, and the dots that
+-- were known with it
 pub record SnapshotValue (Hash : Type 0) : Type 0 where
   pub seen : ContextValue
   pub hash : Hash

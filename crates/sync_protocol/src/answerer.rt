@@ -43,12 +43,14 @@ impl<H: PathHash, A: Allocator + Copy> Answerer<H, A> {
         }
     }
 
-    /// The answer to a hello of this session, whose asker knows the dots of `seen`, at a replica that holds this store and knows the dots of
-    /// this context: the opening of the session's snapshot. Where the session is kept that is the snapshot that is kept, and nothing moves; else it
-    /// is a new one, which is kept from then on, and of eight that are kept the oldest is dropped. A refused call changes nothing.
+    /// The answer to a hello of this session, whose asker knows the dots of `seen`, at a replica that holds this store and knows
+    /// the dots of this context: the opening of the session's snapshot. Where the session is kept that is the snapshot that is
+    /// kept, and nothing moves; else it is a new one, which is kept from then on, and of eight that are kept the oldest is dropped.
+    /// A refused call changes nothing.
     ///
-    /// The store is to be sealed, so that its digest is there: else the call takes time in all entries under nodes that were written since
-    /// the last seal. Besides, it takes time and memory in the two contexts, and none in the store, whose nodes the snapshot shares.
+    /// The store is to be sealed, so that its digest is there: else the call takes time in the nodes that were written since the
+    /// last seal, and in what is below them. Besides, it takes time and memory in the two contexts, and none in the store, whose
+    /// nodes the snapshot shares.
     /// Its only refusal is OutOfMemory.
     pub fn hello(
         &mut self,
@@ -76,8 +78,9 @@ impl<H: PathHash, A: Allocator + Copy> Answerer<H, A> {
         Ok(opening)
     }
 
-    /// The answer to an ask of this session for the page at a prefix: the page of the session's snapshot, with just the values of those of its dots that
-    /// the asker did not know, or None where the snapshot has no key under the prefix; and where the session is not kept, that it is gone.
+    /// The answer to an ask of this session for the page at a prefix: the page of the session's snapshot, with just the values of
+    /// those of its dots that the asker did not know, or None where the snapshot has no key under the prefix; and where the session
+    /// is not kept, that it is gone.
     /// Takes time and memory in the page and its values, and time in up to 32 digests.
     /// Its only refusal is OutOfMemory.
     pub fn ask(

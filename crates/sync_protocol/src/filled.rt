@@ -1,5 +1,5 @@
-// That a store holds something wherever it has a key or a field, as pages have to tell something of each: a fact of every store, which is asked
-// in a proof alone.
+// That a store holds something wherever it has a key or a field, as pages have to tell something of each: a fact of every store,
+// which is asked in a proof alone.
 ghost use Rattle.std.specs.Prelude.{◌≡◌, true, ℕ, List, Some};
 ghost use Rattle.std.specs.FinMap as finite;
 ghost use Rattle.causal_join.specs.OrMap.{FieldsValue};

@@ -9,12 +9,14 @@ pub fn hellos_are_taken<H: PathHash>()
     ensures { HellosAreTaken H.hash_of }
 {}
 
-/// Whatever pages an asker took of a session that is kept: each prefix that it then waits for can be asked for, and the page that is answered is taken.
+/// Whatever pages an asker took of a session that is kept: each prefix that it then waits for can be asked for, and the page that
+/// is answered is taken.
 pub fn asks_are_taken<H: PathHash>()
     ensures { AsksAreTaken H.hash_of }
 {}
 
-/// Where the paths of all snapshots and of the store are by one hash, those of all snapshots are after a hello, and of the one that it is told of.
+/// Where the paths of all snapshots and of the store are by one hash, those of all snapshots are after a hello, and of the one
+/// that it is told of.
 pub fn hashes_stay<H: PathHash>()
     ensures { HashesStay H }
 {}

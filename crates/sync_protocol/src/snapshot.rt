@@ -16,7 +16,8 @@ use wire_form::{Fields, Message, Session};
 /// The store of a replica: what stands at each key, kept as a trie whose nodes keep digests once it is sealed.
 pub type FieldStore<H, A = Global> = TrieMap<Fields<A>, ShaSummary, H, A>;
 
-// What is kept for a session of an asker: the dots that the asker knew, and the store as it was then, with the dots that were known with it.
+// What is kept for a session of an asker: the dots that the asker knew, and the store as it was then, with the dots that were
+// known with it.
 #[derive(Drop)]
 pub(crate) struct Snapshot<H: PathHash, A: Allocator + Copy = Global> {
     seen: Context<A>,

@@ -13,6 +13,12 @@ returns-in-Some-clause-opening g c =
     told_is (λ k. IfOk c.opening.result (λ m. message_of m ≡ opening_of g.H.PathHash.hash_of s k)) c.args.self.now s
     (record { seen = c.args.seen.now; hash = c.args.store.now.0; map = c.args.store.now.1; context = c.args.context.now }) c.in-Some.snapshot.now found c.opening.ensures.ok
 
+pub returns-in-Some-clause-few : goal.returns-in-Some-clause-few
+returns-in-Some-clause-few g c = subst (λ kept. length kept ≤ LIMIT) c.self.view_is c.self.invariant
+
+pub returns-in_err-snapshot-clause-few : goal.returns-in_err-snapshot-clause-few
+returns-in_err-snapshot-clause-few g c = subst (λ kept. length kept ≤ LIMIT) c.self.view_is c.self.invariant
+
 pub returns-in_err-opening-clause-few : goal.returns-in_err-opening-clause-few
 returns-in_err-opening-clause-few g c = subst (λ kept. length kept ≤ LIMIT) c.self.view_is c.self.invariant
 
