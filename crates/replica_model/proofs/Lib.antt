@@ -15,3 +15,4 @@ pub mod Ended
 pub mod Meant
 pub mod Leaving
 pub mod Limits
+pub mod Happening

@@ -75,7 +75,7 @@ grown_part : (b : Bool) (S more : List Operation) → IsPartOf S (grown b S more
 grown_part true S more = part_left S S more (itself_part S)
 grown_part false S more = itself_part S
 
-seen_once : (w : World) → IsSound w → (name : ℕ) → NoReuse (w.seen name)
+pub seen_once : (w : World) → IsSound w → (name : ℕ) → NoReuse (w.seen name)
 seen_once w s name = NoReuse-part (w.seen name) w.made (s.sets.seen name) s.sets.no_reuse
 
 -- ---- calls

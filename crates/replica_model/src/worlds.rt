@@ -1,5 +1,5 @@
 // The laws of worlds of replicas, over all lists of events.
-ghost use Rattle.replica_model.specs.Laws.{EventsAreOne, WorldsAreOne, RefusedDoesNotHappen, GoesOn, Sound, EventsLeave, StayWithinLimits};
+ghost use Rattle.replica_model.specs.Laws.{EventsAreOne, WorldsAreOne, RefusedDoesNotHappen, GoesOn, Sound, EventsLeave, StayWithinLimits, HappenOrAreRefused};
 
 /// An event decides its answer and the world after it, and so does a list of events; an event that is refused does not happen; and a list goes
 /// on by each event that happens.
@@ -25,4 +25,11 @@ pub fn events_leave_all_else()
 /// above that of the last that it opened, which is below 2^64.
 pub fn replicas_stay_within_limits()
     ensures { StayWithinLimits }
+{}
+
+/// Where no two pages and no two values that one session met have one SHA-256, each event happens or is refused; and, whatever clashes, none does
+/// both.
+pub fn each_event_happens_or_is_refused()
+    ensures either { HappenOrAreRefused }
+    ensures not_both { RefusedDoesNotHappen }
 {}
