@@ -130,7 +130,7 @@ module _ (hash_of : List ℕ → ℕ) where
       record { named = u.named; kept = u.kept; sessions = u.sessions; messages = u.messages }
 
   -- an ask that was just made
-  asked_now : (events : List Event) (w : World) (name peer : ℕ) (own : Held) → Runs hash_of nothing events w → (w.replica name).name ≡ name → IsMapOf own (w.replica name).live
+  pub asked_now : (events : List Event) (w : World) (name peer : ℕ) (own : Held) → Runs hash_of nothing events w → (w.replica name).name ≡ name → IsMapOf own (w.replica name).live
       → IsAskOf hash_of (events ++ At name (Ask peer) ∷ []) (next_session (w.replica name) peer) own (w.replica name).live.has
   asked_now events w name peer own runs named is = record {
     front = events;

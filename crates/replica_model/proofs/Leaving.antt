@@ -15,7 +15,7 @@ use Rattle.replica_model.proofs.Meant.{seen_elsewhere, seen_stays, outgoing_stay
 there : (n name : ℕ) → n ≢ name → (new old : Replica) → cond (n == name) new old ≡ old
 there n name apart new old = ap (λ b. cond b new old) (ne_eqb n name apart)
 
-same_calls : (w : World) (name : ℕ) (c : Call) → ((calls name c w).messages ≡ w.messages) × ((calls name c w).nodes ≡ w.nodes)
+pub same_calls : (w : World) (name : ℕ) (c : Call) → ((calls name c w).messages ≡ w.messages) × ((calls name c w).nodes ≡ w.nodes)
 same_calls w name (Put place value) = (refl, refl)
 same_calls w name (Remove key) = (refl, refl)
 same_calls w name (RemoveField place) = (refl, refl)

@@ -16,3 +16,5 @@ pub mod Meant
 pub mod Leaving
 pub mod Limits
 pub mod Happening
+pub mod Askers
+pub mod Taking

@@ -1,6 +1,8 @@
 -- The laws of one replica's step, and of worlds over all lists of events. Of this project. A law is proved where a function of src/
 -- names it.
-use Rattle.std.specs.Prelude.{◌≡◌, ◌≢◌, ◌⊎◌, ◌↔◌, ℕ, ◌≤◌, ◌<◌, ◌^◌, List, [], ◌∷◌, ◌++◌, Option, Some, length}
+use Rattle.std.specs.Prelude.{◌≡◌, ◌≢◌, ◌⊎◌, ◌↔◌, ℕ, ◌≤◌, ◌<◌, ◌^◌, Bool, List, [], ◌∷◌, ◌++◌, Option, Some, None, length}
+use Rattle.std.specs.FinMap as finite
+use Rattle.dots.specs.Dot.{DotValue}
 use Rattle.std.specs.List.{Contains}
 use Rattle.dots.specs.declared.refusal.Refusal.{Refusal}
 use Rattle.op_model.specs.Meaning.{state}
@@ -8,14 +10,17 @@ use Rattle.op_model.specs.Operation.{Operation, IsPartOf, IsSameSet, has, known}
 use Rattle.op_model.specs.World as sets
 use Rattle.wire_form.specs.Session.{SessionValue}
 use Rattle.prefix_digest.specs.MapOf.{IsMapOf, root_digest}
-use Rattle.prefix_digest.specs.Page.{digest_at}
+use Rattle.wire_form.specs.Page.{PageValue}
+use Rattle.prefix_digest.specs.Page.{page_at, digest_at}
+use Rattle.prefix_digest.specs.Values.{unknown_at}
+use Rattle.sync_model.specs.Laws.{NoClash}
 use Rattle.sync_model.specs.Differ.{Held}
 use Rattle.replica_model.specs.Mail.{Mail, Delta, Hello, Opening, Ask, Page, Gone}
-use Rattle.replica_model.specs.Replica.{Replica, Open, LIMIT}
-use Rattle.replica_model.specs.Delivery.{Done}
+use Rattle.replica_model.specs.Replica.{Replica, Open, Accepted, Kept, LIMIT, open_at, kept_at}
+use Rattle.replica_model.specs.Delivery.{Sent, Done}
 use Rattle.replica_model.specs.Step.{Call, Do, Act, Answer, Came, IsStep, Refuses}
-use Rattle.replica_model.specs.World.{World, Event, Node, At, Deliver, Message, sets_of, message_at, nothing, Happens, RefusesEvent, Runs, Unclashed}
-use Rattle.replica_model.specs.Sessions.{IsTakenOf, IsSession, IsEnd}
+use Rattle.replica_model.specs.World.{World, Event, Node, At, Deliver, Message, sets_of, message_at, no_snapshot, nothing, Happens, RefusesEvent, Runs, Unclashed}
+use Rattle.replica_model.specs.Sessions.{IsTakenOf, IsAskOf, IsSession, IsEnd}
 
 -- ---- one
 
@@ -72,14 +77,14 @@ Sessions = (hash_of : List ℕ → ℕ) (events : List Event) (w : World) → Ru
     → (name : ℕ) (o : Open) → Contains (w.replica name).sessions o → IsSession hash_of events w name o
 
 -- each opening is that of a snapshot, and carries what its answerer had seen then
-pub record IsOpening (hash_of : List ℕ → ℕ) (events : List Event) (m : Message) (s : SessionValue) (context : Rattle.dots.specs.Dot.DotValue → Rattle.std.specs.Prelude.Bool) (root : Option (List ℕ)) : Type 0 where
+pub record IsOpening (hash_of : List ℕ → ℕ) (events : List Event) (m : Message) (s : SessionValue) (context : DotValue → Bool) (root : Option (List ℕ)) : Type 0 where
   pub snapshot : IsTakenOf hash_of events s m.of.seen m.of.map context
   pub digest : root ≡ digest_at hash_of m.of.map []
 
 abbrev pub Openings : Type 0
 Openings = (hash_of : List ℕ → ℕ) (events : List Event) (w : World) → Runs hash_of nothing events w
     → (number : ℕ) (m : Message) → message_at w.messages number ≡ Some m
-    → (s : SessionValue) (context : Rattle.dots.specs.Dot.DotValue → Rattle.std.specs.Prelude.Bool) (root : Option (List ℕ)) → m.mail ≡ Opening s context root
+    → (s : SessionValue) (context : DotValue → Bool) (root : Option (List ℕ)) → m.mail ≡ Opening s context root
     → IsOpening hash_of events m s context root
 
 -- a synchronisation that ends adds just what its peer had seen when it opened
@@ -157,3 +162,50 @@ pub record IsWithinLimits (r : Replica) : Type 0 where
 
 abbrev pub StayWithinLimits : Type 0
 StayWithinLimits = (hash_of : List ℕ → ℕ) (events : List Event) (w : World) → Runs hash_of nothing events w → (name : ℕ) → IsWithinLimits (w.replica name)
+
+-- ---- snapshots, openings and pages
+
+-- a snapshot is kept for the hello of its session, which told what the asker knew when it asked
+pub record IsKeptFor (hash_of : List ℕ → ℕ) (events : List Event) (w : World) (name : ℕ) (k : Kept) : Type 0 where
+  pub answerer : k.session.answerer ≡ name
+  pub number : ℕ
+  pub message : Message
+  pub there : message_at w.messages number ≡ Some message
+  pub hello : message.mail ≡ Hello k.session k.seen
+  pub own : Held
+  pub asked : IsAskOf hash_of events k.session own k.seen
+
+abbrev pub SnapshotsAreFor : Type 0
+SnapshotsAreFor = (hash_of : List ℕ → ℕ) (events : List Event) (w : World) → Runs hash_of nothing events w
+    → (name : ℕ) (k : Kept) → Contains (w.replica name).kept k → IsKeptFor hash_of events w name k
+
+-- a delivery was taken
+abbrev pub IsTaken : Answer → Type 0
+IsTaken answer = (answer ≡ Came Sent) ⊎ (answer ≡ Came Done)
+
+-- In a world where nothing clashed: an open session that accepted no opening takes each opening of it, unless pages or values of
+-- the two maps clash.
+abbrev pub TakesOpenings : Type 0
+TakesOpenings = (hash_of : List ℕ → ℕ) (events : List Event) (w : World) → Runs hash_of nothing events w → Unclashed hash_of w
+    → (number name : ℕ) (m : Message) (s : SessionValue) (context : DotValue → Bool) (root : Option (List ℕ)) (o : Open)
+    → message_at w.messages number ≡ Some m → m.mail ≡ Opening s context root → open_at (w.replica name).sessions s ≡ Some o → o.accepted ≡ None
+    → NoClash hash_of o.own m.of.map [] → (answer : Answer) (v : World) → Happens hash_of w (Deliver number name) answer v → IsTaken answer
+
+-- one that accepted an opening takes, at each prefix that it waits for, the page of that snapshot with the values that it had not seen, unless pages
+-- or values met clash; and the snapshot has such a page
+abbrev pub TakesPages : Type 0
+TakesPages = (hash_of : List ℕ → ℕ) (events : List Event) (w : World) → Runs hash_of nothing events w → Unclashed hash_of w
+    → (name : ℕ) (s : SessionValue) (o : Open) (a : Accepted) → open_at (w.replica name).sessions s ≡ Some o → o.accepted ≡ Some a
+    → NoClash hash_of o.own (w.accepted s).map (w.taken s) → (p digest : List ℕ) → finite.get a.fetch.waiting p ≡ Some digest
+    → (page : PageValue) × (page_at hash_of (w.accepted s).map p ≡ Some page)
+    × ((number : ℕ) (m : Message) → message_at w.messages number ≡ Some m → m.mail ≡ Page s (record { prefix = p; values = unknown_at o.seen hash_of (w.accepted s).map p; page = page })
+    → (answer : Answer) (v : World) → Happens hash_of w (Deliver number name) answer v → IsTaken answer)
+
+-- an ask is told the page of the kept snapshot, with the values that the asker had not seen, by what its hello told
+abbrev pub TellsPages : Type 0
+TellsPages = (hash_of : List ℕ → ℕ) (events : List Event) (w : World) → Runs hash_of nothing events w
+    → (number name : ℕ) (m : Message) (s : SessionValue) (p : List ℕ) (k : Kept) (page : PageValue)
+    → message_at w.messages number ≡ Some m → m.mail ≡ Ask s p → kept_at (w.replica name).kept s ≡ Some k → page_at hash_of k.map p ≡ Some page
+    → (answer : Answer) (v : World) → Happens hash_of w (Deliver number name) answer v
+    → (answer ≡ Came Sent)
+    × (v.messages ≡ w.messages ++ record { mail = Page s (record { prefix = p; values = unknown_at k.seen hash_of k.map p; page = page }); of = no_snapshot } ∷ [])

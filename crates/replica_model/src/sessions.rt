@@ -1,5 +1,5 @@
 // The laws of the sessions of a world, over all lists of events, whatever pages and values clash.
-ghost use Rattle.replica_model.specs.Laws.{Sessions, Openings, Ends};
+ghost use Rattle.replica_model.specs.Laws.{Sessions, Openings, Ends, SnapshotsAreFor, TakesOpenings, TakesPages, TellsPages};
 
 /// Each open session of a replica is its own, and was opened by an ask, of a map that stood for its live state then, which is below the live
 /// state ever since. Where it accepted an opening, that is of a snapshot that its peer took of what it was when it got the hello,
@@ -17,4 +17,18 @@ pub fn openings_are_of_snapshots()
 /// have one SHA-256, whatever other sessions met, it joins into the asker's live state what that of the answerer was then.
 pub fn a_session_that_ends_joins_what_its_peer_had()
     ensures { Ends }
+{}
+
+/// Each kept snapshot is for a hello of its session that was sent, and the dots that it goes by are those that the asker knew when it asked.
+pub fn snapshots_are_for_what_askers_knew()
+    ensures { SnapshotsAreFor }
+{}
+
+/// Where nothing clashed, an open session takes what it waits for: an opening of it where it accepted none, and at each prefix that it waits for the
+/// page of the snapshot that it accepted, with the values that it had not seen; and the snapshot has such a page. An ask is told the page of the
+/// kept snapshot with the values that the asker had not seen.
+pub fn sessions_take_what_they_wait_for()
+    ensures openings { TakesOpenings }
+    ensures pages { TakesPages }
+    ensures told { TellsPages }
 {}
