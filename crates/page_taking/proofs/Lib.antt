@@ -5,3 +5,5 @@ pub mod Dots
 pub mod Adds
 pub mod Under
 pub mod Children
+pub mod Removing
+pub mod Going

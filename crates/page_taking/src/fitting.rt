@@ -8,6 +8,7 @@ ghost use Rattle.hash_path.specs.Map.{path, walk_under};
 ghost use Rattle.wire_form.specs.Page as form;
 ghost use Rattle.sync_model.specs.Fetch.{entries_of, children_of, within};
 ghost use Rattle.sync_model.specs.Fetch as model;
+ghost use Rattle.sync_model.specs.Laws.{IsWithin};
 
 use crate::known::{knows_page, knows_under};
 use causal_context::Context;
@@ -175,21 +176,42 @@ fn knows_children<H: PathHash, A: Allocator + Copy>(
     true
 }
 
-/// Whether a page can be that of the peer, whose opening knows these dots: its keys stand under its prefix, and the dots that it
-/// tells are known, and those that are kept of the own map for it. Takes time in the page, and in the entries of the own
-/// map under the children whose digests are its own, and no memory.
-pub fn fits<H: PathHash, A: Allocator + Copy>(
-    hash: H,
+// The same, where all that the own map holds was seen: what was seen is known as a rule, and then no entry is looked at.
+fn keeps_known<H: PathHash, A: Allocator + Copy>(
     own: &FrozenMap<H, A>,
+    seen: &Context<A>,
+    known: &Context<A>,
+    prefix: Prefix,
+    children: &[(u8, [u8; 32])],
+) -> bool
+    requires depth { length prefix < 7 }
+    requires indices { AllByRecursion (λ c. c.0 ≤ last_index (length prefix)) children.now }
+    requires within { IsWithin (has seen.now) own.now.map }
+    ensures { result ≡ list_all (λ c. not (model.is_own (H.hash_of own.now.hash) own.now.map prefix c)
+        || within (has known.now) (walk_under (H.hash_of own.now.hash) (prefix ++ c.0 ∷ []) own.now.map)) children.now }
+{
+    if known.includes(seen) {
+        return true;
+    }
+    knows_children(known, own, prefix, children)
+}
+
+/// Whether a page can be that of the peer, whose opening knows these dots: its keys stand under its prefix, and the dots that it
+/// tells are known, and those that are kept of the own map for it, whose dots were all seen. Takes time in the page and in the
+/// names and single dots of both contexts, and no memory; where the opening does not know all that was seen, also in the entries of
+/// the own map under the children whose digests are its own.
+pub fn fits<H: PathHash, A: Allocator + Copy>(
+    own: &FrozenMap<H, A>,
+    seen: &Context<A>,
     known: &Context<A>,
     sent: &SentPage<A>,
 ) -> bool
-    requires { own.now.hash ≡ hash }
+    requires { IsWithin (has seen.now) own.now.map }
     ensures { result ≡ model.fits (H.hash_of own.now.hash) own.now.map (has known.now) sent.now.prefix sent.now.page }
 {
     let prefix = sent.prefix();
     let page = sent.page();
-    if !keys_are_under(hash, prefix, page) {
+    if !keys_are_under(own.hash(), prefix, page) {
         return false;
     }
     if !knows_page(known, page) {
@@ -198,6 +220,6 @@ pub fn fits<H: PathHash, A: Allocator + Copy>(
     match page {
         Page::OneKey(_, _) => true,
         Page::Keys(_) => true,
-        Page::Branch(children) => knows_children(known, own, prefix, children),
+        Page::Branch(children) => keeps_known(own, seen, known, prefix, children),
     }
 }

@@ -2,11 +2,16 @@
 // Offered to the crates above: the parts of a step of a session, each of which is that of the definitions in sync_model.
 #![tactic(auto)]
 
+mod built;
+mod clearing;
+mod draft;
 mod filling;
 mod fitting;
 mod known;
+mod putting;
 mod waiting;
 
+pub use built::{Built, KeySet};
 pub use filling::fill_page;
 pub use fitting::{fits, keys_are_under, to_ask};
 pub use known::{knows_page, knows_under};

@@ -1,0 +1,20 @@
+use Rattle.std.proofs.Common.{◌∙◌, ap}
+use Rattle.std.specs.FinMap as finite
+use Rattle.page_taking.proofs.Going.{puts, nothing_put, something_put, is_nothing, is_something}
+use Rattle.page_taking.proofs.draft.Draft.put.Goals as goal
+
+pub returns-then-is_empty-clause-entries : goal.returns-then-is_empty-clause-entries
+returns-then-is_empty-clause-entries g c =
+    nothing_put c.args.key c.args.fields c.args.self.now.entries (is_nothing c.args.fields c.entries.result.now c.is_empty.result c.entries.ensures.rest c.is_empty.ensures c.if-is_empty.true)
+
+pub returns-clause-entries : goal.returns-clause-entries
+returns-clause-entries g c =
+    something_put c.args.key c.args.fields c.args.self.now.entries c.insert-2.new.self.map (is_something c.args.fields c.entries.result.now c.is_empty.result c.entries.ensures.rest c.is_empty.ensures c.if-is_empty.false)
+    (ap (λ t. t.map) c.in_ok-insert-2.ensures.ok ∙ ap (λ b. finite.insert b.entries c.args.key c.args.fields) c.self.view_is)
+
+pub returns-clause-further : goal.returns-clause-further
+returns-clause-further g c =
+    puts c.args.self.now c.insert-2.new.self.hash c.insert-2.new.self.map c.insert.new.self.map c.args.key c.args.fields
+    (ap (λ t. t.hash) c.in_ok-insert-2.ensures.ok ∙ ap (λ b. b.hash) c.self.view_is)
+    (ap (λ t. t.map) c.in_ok-insert.ensures.ok ∙ ap (λ b. finite.insert b.touched c.in_ok-copy.field-0 tt) c.self.view_is ∙ ap (λ k. finite.insert c.args.self.now.touched k tt) c.in_ok-copy.ensures.ok)
+    (ap (λ t. t.map) c.in_ok-insert-2.ensures.ok ∙ ap (λ b. finite.insert b.entries c.args.key c.args.fields) c.self.view_is)

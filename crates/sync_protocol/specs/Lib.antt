@@ -1,0 +1,3 @@
+pub mod Snapshot
+pub mod Answering
+pub mod Laws

@@ -1,0 +1,87 @@
+// The snapshots that are kept, by session.
+ghost use Rattle.std.specs.Prelude.{◌≡◌, ◌<◌, ◌≤◌, ◌++◌, ◌∷◌, [], None, IfOk, IsOkUnless};
+ghost use Rattle.indexmap.specs.IndexMap.{spare};
+ghost use Rattle.sync_protocol.specs.Answering.{snapshot_of, all_but_first, with_place, keeping};
+
+use crate::snapshot::Snapshot;
+use dots::Refusal;
+use hash_path::PathHash;
+use indexmap::IndexMap;
+use std::alloc::Allocator;
+use std::hash::{BuildHasherDefault, FoldHasher};
+use wire_form::Session;
+
+// The snapshots by session, in the order in which the sessions opened.
+pub(crate) type Snapshots<H, A> = IndexMap<
+    Session,
+    Snapshot<H, A>,
+    BuildHasherDefault<FoldHasher>,
+    A,
+>;
+
+// At most so many are kept.
+const LIMIT: usize = 8;
+
+// Takes the oldest out, if there is one.
+fn drop_oldest<H: PathHash, A: Allocator + Copy>(kept: &mut Snapshots<H, A>)
+    ensures entries { kept.new.entries ≡ all_but_first kept.old.entries }
+    ensures room { spare kept.old ≤ spare kept.new }
+{
+    kept.shift_remove_index(0);
+}
+
+// Makes a place among eight: where there is none the oldest is taken out.
+fn make_place<H: PathHash, A: Allocator + Copy>(kept: &mut Snapshots<H, A>)
+    ensures entries { kept.new.entries ≡ with_place kept.old.entries }
+    ensures room { spare kept.old ≤ spare kept.new }
+{
+    if kept.len() >= LIMIT {
+        drop_oldest(kept);
+    }
+}
+
+// Puts the snapshot of a new session behind the others. There has to be room for it.
+fn add<H: PathHash, A: Allocator + Copy>(
+    kept: &mut Snapshots<H, A>,
+    session: Session,
+    snapshot: Snapshot<H, A>,
+)
+    requires new { snapshot_of kept.old.entries session ≡ None }
+    requires room { 0 < spare kept.old }
+    ensures { kept.new.entries ≡ kept.old.entries ++ (session, snapshot) ∷ [] }
+{
+    match kept.insert(session, snapshot) {
+        Ok(_) => {}
+        Err(_) => unreachable!(),
+    }
+}
+
+// Keeps the snapshot of a new session, the last of eight: where there are as many the oldest is dropped. There has to be room for it.
+pub(crate) fn keep<H: PathHash, A: Allocator + Copy>(
+    kept: &mut Snapshots<H, A>,
+    session: Session,
+    snapshot: Snapshot<H, A>,
+)
+    requires new { snapshot_of kept.old.entries session ≡ None }
+    requires room { 0 < spare kept.old }
+    ensures { kept.new.entries ≡ keeping session snapshot kept.old.entries }
+{
+    make_place(kept);
+    add(kept, session, snapshot);
+}
+
+// The same snapshots, which share the nodes of their stores.
+pub(crate) fn copy_all<H: PathHash, A: Allocator + Copy>(
+    alloc: A,
+    kept: &Snapshots<H, A>,
+) -> Result<Snapshots<H, A>, Refusal>
+    ensures ok { IfOk result (λ copies. copies.entries ≡ kept.now.entries) }
+    ensures err { IsOkUnless result Refusal.OutOfMemory }
+{
+    let mut copies = IndexMap::new(alloc);
+    for (session, snapshot) in kept.iter() {
+        let copy = snapshot.copy(alloc)?;
+        copies.insert(*session, copy)?;
+    }
+    Ok(copies)
+}
