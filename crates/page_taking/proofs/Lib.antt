@@ -7,3 +7,6 @@ pub mod Under
 pub mod Children
 pub mod Removing
 pub mod Going
+pub mod Knowing
+pub mod Asks
+pub mod Took

@@ -1,2 +1,4 @@
 pub mod Adding
 pub mod Building
+pub mod Taken
+pub mod Taking

@@ -1,15 +1,18 @@
 // Whether all dots of what a page tells, and of what is kept of the own map for it, are known.
-ghost use Rattle.std.specs.Prelude.{◌≡◌};
+ghost use Rattle.std.specs.Prelude.{◌≡◌, []};
 ghost use Rattle.causal_context.specs.Context.{has};
 ghost use Rattle.hash_path.specs.Map.{walk_under};
 ghost use Rattle.wire_form.specs.Page as form;
 ghost use Rattle.sync_model.specs.Fetch.{entries_of, within_values, within_fields, within};
+ghost use Rattle.sync_model.specs.Fetch as model;
+ghost use Rattle.sync_model.specs.Laws.{IsWithin};
+ghost use Rattle.prefix_digest.specs.Page.{digest_at};
 
 use causal_context::Context;
 use dot_store::DotFun;
 use dots::{Field, Key};
 use hash_path::{PathHash, Prefix};
-use prefix_digest::FrozenMap;
+use prefix_digest::{FrozenMap, digest};
 use std::alloc::Allocator;
 use wire_form::{NamedFields, Page};
 
@@ -77,4 +80,33 @@ pub fn knows_under<H: PathHash, A: Allocator + Copy>(
         }
     }
     true
+}
+
+/// Whether all dots of the own map are known, where all of them were seen. Takes time in the names and single dots of both
+/// contexts, and no memory; where not all that was seen is known, also in the entries of the map.
+pub fn knows_all<H: PathHash, A: Allocator + Copy>(
+    own: &FrozenMap<H, A>,
+    seen: &Context<A>,
+    known: &Context<A>,
+) -> bool
+    requires { IsWithin (has seen.now) own.now.map }
+    ensures { result ≡ within (has known.now) (walk_under (H.hash_of own.now.hash) [] own.now.map) }
+{
+    if known.includes(seen) {
+        return true;
+    }
+    knows_under(known, own, Prefix::root())
+}
+
+// Whether the digest of the map is this one.
+pub(crate) fn is_digest<H: PathHash, A: Allocator + Copy>(
+    own: &FrozenMap<H, A>,
+    root: &[u8; 32],
+) -> bool
+    ensures { result ≡ model.is_digest (digest_at (H.hash_of own.now.hash) own.now.map []) root.now }
+{
+    match digest(own, Prefix::root()) {
+        Some(digest) => digest == *root,
+        None => false,
+    }
 }

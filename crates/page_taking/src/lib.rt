@@ -2,17 +2,23 @@
 // Offered to the crates above: the parts of a step of a session, each of which is that of the definitions in sync_model.
 #![tactic(auto)]
 
+mod asking;
 mod built;
 mod clearing;
 mod draft;
+mod fetching;
 mod filling;
 mod fitting;
 mod known;
 mod putting;
+mod taken;
+mod taking;
 mod waiting;
 
 pub use built::{Built, KeySet};
+pub use fetching::Fetching;
 pub use filling::fill_page;
 pub use fitting::{fits, keys_are_under, to_ask};
-pub use known::{knows_page, knows_under};
+pub use known::{knows_all, knows_page, knows_under};
+pub use taken::Taken;
 pub use waiting::{Waiting, next_waiting, promised};

@@ -111,3 +111,25 @@ pub fn next_waiting<H: PathHash, A: Allocator + Copy>(
     put_asks(alloc, &mut draft, prefix, asks)?;
     draft.share()
 }
+
+// Nothing is waited for.
+pub(crate) fn no_waiting<H: PathHash, A: Allocator + Copy>(alloc: A, hash: H) -> Waiting<H, A>
+    ensures { result.map ≡ finite.empty }
+{
+    Frozen::new(alloc, hash)
+}
+
+// The root is waited for, by this digest.
+pub(crate) fn first_waiting<H: PathHash, A: Allocator + Copy>(
+    alloc: A,
+    hash: H,
+    root: &[u8; 32],
+) -> Result<Waiting<H, A>, Refusal>
+    ensures ok { IfOk result (λ waiting. waiting.map ≡ finite.insert finite.empty [] root.now) }
+    ensures err { IsOkUnless result Refusal.OutOfMemory }
+{
+    let key = prefix_key(alloc, Prefix::root())?;
+    let mut draft = GenTrie::new(alloc, hash);
+    draft.insert(key, *root)?;
+    draft.share()
+}

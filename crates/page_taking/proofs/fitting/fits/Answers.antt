@@ -14,5 +14,5 @@ returns-in-Branch g c =
     let kept : List ℕ → ℕ × List ℕ → Bool =
     λ p child. not (model.is_own f c.args.own.now.map p child) || within (has c.args.known.now) (walk_under f (p ++ child.0 ∷ []) c.args.own.now.map) in
     let page = ap form.value_of (sym c.in-Branch.is) ∙ c.page-page.ensures.page in
-    c.knows_children.ensures ∙ ap (list_all (kept c.prefix-prefix.result)) c.deref.ensures.value ∙ ap (λ p. list_all (kept p) c.in-Branch.children.items) c.prefix-prefix.ensures
+    c.keeps_known.ensures ∙ ap (list_all (kept c.prefix-prefix.result)) c.deref.ensures.value ∙ ap (λ p. list_all (kept p) c.in-Branch.children.items) c.prefix-prefix.ensures
     ∙ ap (model.fits f c.args.own.now.map (has c.args.known.now) c.args.sent.now.prefix) page
