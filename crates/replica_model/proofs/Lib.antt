@@ -18,3 +18,4 @@ pub mod Limits
 pub mod Happening
 pub mod Askers
 pub mod Taking
+pub mod Histories

@@ -5,3 +5,4 @@ pub mod Step
 pub mod World
 pub mod Sessions
 pub mod Laws
+pub mod History
