@@ -22,6 +22,7 @@ use Rattle.op_model.specs.State.{joined, join}
 use Rattle.ordered_list.proofs.Places.{entry_found}
 use Rattle.trie_map.specs.Keyed.{TrieMapValue, at_keys}
 use Rattle.trie_map.specs.Joined.{IsJoinedAt, IsEitherAt}
+use Rattle.live_map.specs.Closing.{ChangesOnlyAt}
 use Rattle.live_map.specs.Index.{PlaceValue, place_cmp, names, has_key, IsIndexed, IsTouched, AreAllTouched}
 
 module _ {S P H : Type 0} (at : S → P → DotValue → Option H) where
@@ -59,17 +60,22 @@ module _ {P H : Type 0} (mine yours : List ℕ × P → DotValue → Option H) (
 
 -- ---- so a draft that is joined at these keys holds the join
 module _ {S P H Hash : Type 0} (at : S → P → DotValue → Option H) (greater : H → H → H) (mine : TrieMapValue Hash S) (own : DotValue → Bool) (yours : List ℕ × P → DotValue → Option H) (theirs : DotValue → Bool)
-    (keys : List (List ℕ)) (all : AreAllTouched (at_keys at mine) yours theirs keys) where
-  joined_by : (draft : finite.FinMap bytes_cmp S) (q : List ℕ) (b : Bool) → has_key keys q ≡ b → IsEitherAt at greater (at_keys at mine) own yours theirs draft q
+    (keys : List (List ℕ)) where
+  joined_by : ChangesOnlyAt greater (at_keys at mine) own yours theirs keys → (draft : finite.FinMap bytes_cmp S) (q : List ℕ) (b : Bool) → has_key keys q ≡ b → IsEitherAt at greater (at_keys at mine) own yours theirs draft q
       → (IsTrue (has_key keys q) → IsJoinedAt at greater (at_keys at mine) own yours theirs draft q) → IsJoinedAt at greater (at_keys at mine) own yours theirs draft q
-  joined_by draft q true e either there = there e
-  joined_by draft q false e either there = ⊎_elim (λ same place d. same place d ∙ left_alone (at_keys at mine) yours theirs keys all greater own q e place d) (λ j. j) either
+  joined_by only draft q true e either there = there e
+  joined_by only draft q false e either there = ⊎_elim (λ same place d. same place d ∙ only q e place d) (λ j. j) either
 
-  pub touched_joined : (both : TrieMapValue Hash S) → ((q : List ℕ) → IsEitherAt at greater (at_keys at mine) own yours theirs both.1 q)
+  pub only_joined : ChangesOnlyAt greater (at_keys at mine) own yours theirs keys → (both : TrieMapValue Hash S) → ((q : List ℕ) → IsEitherAt at greater (at_keys at mine) own yours theirs both.1 q)
       → ((q : List ℕ) → IsTrue (has_key keys q) → IsJoinedAt at greater (at_keys at mine) own yours theirs both.1 q)
       → HoldsSame (at_keys at both) (join greater (state_with (at_keys at mine) own) (state_with yours theirs)).at
   unfolding at_keys
-  touched_joined both either there place d = joined_by both.1 place.0 (has_key keys place.0) refl (either place.0) (there place.0) place.1 d
+  only_joined only both either there place d = joined_by only both.1 place.0 (has_key keys place.0) refl (either place.0) (there place.0) place.1 d
+
+  pub touched_joined : AreAllTouched (at_keys at mine) yours theirs keys → (both : TrieMapValue Hash S) → ((q : List ℕ) → IsEitherAt at greater (at_keys at mine) own yours theirs both.1 q)
+      → ((q : List ℕ) → IsTrue (has_key keys q) → IsJoinedAt at greater (at_keys at mine) own yours theirs both.1 q)
+      → HoldsSame (at_keys at both) (join greater (state_with (at_keys at mine) own) (state_with yours theirs)).at
+  touched_joined all both either there = only_joined (left_alone (at_keys at mine) yours theirs keys all greater own) both either there
 
 -- ---- what is touched, by the parts of a context
 and_first : (a b : Bool) → IsTrue (a && b) → IsTrue a
@@ -110,7 +116,7 @@ module _ (d : DotValue) (R : Type 0) where
       (by_entry vector (lookup (is_at (nat_cmp d.name)) vector) refl entries one) (by_cloud cloud dots)
 
 -- ---- the index, once the delta is joined in
-held_in : {H : Type 0} (greater : H → H → H) (x : Option H) (own : Bool) (y : Option H) (theirs : Bool) (R : Type 0) → IsSome (joined greater x own y theirs) → (IsSome x → R) → (IsSome y → R) → R
+pub held_in : {H : Type 0} (greater : H → H → H) (x : Option H) (own : Bool) (y : Option H) (theirs : Bool) (R : Type 0) → IsSome (joined greater x own y theirs) → (IsSome x → R) → (IsSome y → R) → R
 held_in greater (Some x) own y theirs R h mine yours = mine refl
 held_in greater None own (Some y) theirs R h mine yours = yours refl
 held_in greater None own None theirs R h mine yours = absurd (cc h)

@@ -2,3 +2,4 @@ pub mod Members
 pub mod Passing
 pub mod Places
 pub mod Changing
+pub mod Unchanged

@@ -1,2 +1,3 @@
 pub mod Index
 pub mod Live
+pub mod Closing

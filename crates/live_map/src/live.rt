@@ -1,13 +1,16 @@
-ghost use Rattle.std.specs.Prelude.{◌≡◌, IfOk, OnOk, OnErr, IsOkUnless};
+ghost use Rattle.std.specs.Prelude.{◌≡◌, ℕ, List, None, IfOk, OnOk, OnErr, IsOkUnless};
+ghost use Rattle.std.specs.FinMap as finite;
 ghost use Rattle.causal_context.specs.Context.{has, HasNone};
 ghost use Rattle.causal_join.specs.Causal.{state_of};
 ghost use Rattle.dot_store.specs.Store.{HasNothing, HoldsSame, state_with};
 ghost use Rattle.dot_store.specs.Stores.{at_stores};
 ghost use Rattle.dots.specs.Bytes.{bytes_cmp};
 ghost use Rattle.op_model.specs.State.{join, Same, IsInside};
+ghost use Rattle.live_map.specs.Closing.{entries_of};
 ghost use Rattle.live_map.specs.Index.{AreAllTouched, IsIndexed};
 ghost use Rattle.trie_map.specs.Keyed.{at_keys};
 
+use crate::closing::{closed, name_built, touched_since};
 use crate::index::Index;
 use crate::prepared::Prepared;
 use crate::touching::{cut_all, join_at_keys, name_all, touched_by};
@@ -15,7 +18,7 @@ use causal_context::Context;
 use causal_join::Causal;
 use dot_store::{DotMap, DotStore};
 use dots::{Key, Refusal};
-use gen_trie::{NoSummary, Summary};
+use gen_trie::{Frozen, NoSummary, Summary};
 use hash_path::{Fnv1a, PathHash};
 use std::alloc::{Allocator, Global};
 use std::collections::BTreeSet;
@@ -120,6 +123,54 @@ impl<S: DotStore<A>, M: Summary<S>, H: PathHash, A: Allocator + Copy> Live<S, M,
             store,
             context,
             places: touched.into_places(),
+        })
+    }
+
+    /// What the pair will be once a store is joined in that was built from a base: it is the base but at the keys that were
+    /// touched, and the context knows its dots. The base under the dots that were seen was joined into this pair before. The
+    /// pair stays as it is, also where the call is refused: only the index may name more. Takes time and memory in the touched
+    /// keys, and in the dots that stand here, that the context knows and that lie above the entries that were seen, each times
+    /// the logarithm of the map, and in the names and clouds of the contexts. Neither store is walked.
+    /// Its only refusal is OutOfMemory.
+    pub fn prepare_opened(
+        &mut self,
+        alloc: A,
+        base: &Frozen<S, M, H, A>,
+        seen: &Context<A>,
+        built: &Frozen<S, M, H, A>,
+        touched: &Frozen<(), NoSummary, H, A>,
+        context: &Context<A>,
+    ) -> Result<Prepared<S, M, H, A>, Refusal>
+        requires below { Same (join S.greater (state_of (at_keys S.at) self.old.0)
+            (state_of (at_keys S.at) (entries_of base.now, seen.now))) (state_of (at_keys S.at) self.old.0) }
+        requires rest { (key : List ℕ) → finite.get touched.now.map key ≡ None
+            → finite.get built.now.map key ≡ finite.get base.now.map key }
+        requires inside { IsInside (state_of (at_keys S.at) (entries_of built.now, context.now)) }
+        ensures hash { IfOk result (λ next. next.0.0 ≡ self.old.0.0.0) }
+        ensures ok { IfOk result (λ next. Same (state_of (at_keys S.at) next) (join S.greater
+            (state_of (at_keys S.at) self.old.0) (state_of (at_keys S.at) (entries_of built.now, context.now)))) }
+        ensures fits { IfOk result (λ next. IsIndexed (at_keys S.at next.0) self.new.1) }
+        ensures unchanged { self.new.0 ≡ self.old.0 }
+        ensures err { IsOkUnless result Refusal.OutOfMemory }
+    {
+        // The base is spoken of in the contract alone.
+        let _ = base;
+        let changed = touched_since(alloc, &self.index, seen, touched, context)?;
+        let store = closed(
+            alloc,
+            &self.store,
+            &self.context,
+            built,
+            context,
+            changed.keys(),
+        )?;
+        let mut next = self.context.copy(alloc)?;
+        next.union(context)?;
+        name_built(alloc, &mut self.index, built, changed.keys())?;
+        Ok(Prepared {
+            store,
+            context: next,
+            places: changed.into_places(),
         })
     }
 

@@ -1,0 +1,22 @@
+use Rattle.std.proofs.Common.{sym, subst}
+use Rattle.causal_context.specs.Context.{has}
+use Rattle.trie_map.specs.Keyed.{at_keys}
+use Rattle.trie_map.specs.Joined.{IsJoinedAt, IsEitherAt}
+use Rattle.trie_map.proofs.Written.{if_ok}
+use Rattle.live_map.specs.Closing.{entries_of}
+use Rattle.live_map.proofs.Changing.{only_joined}
+use Rattle.live_map.proofs.closing.closed.Goals as goal
+
+pub returns-clause-ok : goal.returns-clause-ok
+returns-clause-ok g c =
+    let at = g.S.DotStore.at in
+    let greater = g.S.DotStore.greater in
+    let mine = c.args.mine.now in
+    let own = has c.args.own.now in
+    let yours = at_keys at (entries_of c.args.built.now) in
+    let theirs = has c.args.theirs.now in
+    if_ok c.finish.result
+    (λ both is. only_joined at greater mine own yours theirs c.args.keys.now.keys c.requires both
+    (λ q. subst (λ m. IsEitherAt at greater (at_keys at mine) own yours theirs m.1 q) (sym is) (c.in_ok-join_built_at.ensures.either q))
+    (λ q h. subst (λ m. IsJoinedAt at greater (at_keys at mine) own yours theirs m.1 q) (sym is) (c.in_ok-join_built_at.ensures.there q h)))
+    c.finish.ensures.ok
