@@ -4,3 +4,4 @@ pub mod Told
 pub mod NamedFields
 pub mod Sorted
 pub mod Standing
+pub mod Turned
