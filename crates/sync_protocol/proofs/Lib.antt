@@ -5,3 +5,4 @@ pub mod NamedFields
 pub mod Sorted
 pub mod Standing
 pub mod Turned
+pub mod KnownStores

@@ -16,10 +16,10 @@ use Rattle.page_taking.proofs.Asks.{complete_is}
 use Rattle.page_taking.proofs.Going.{goes_on_itself}
 use Rattle.page_taking.proofs.Loops.{stands_at, is_past}
 use Rattle.sync_protocol.specs.Asking as asking
-use Rattle.sync_protocol.specs.Asking.{AskerValue, State, Stage, Waits, Fetches, Has, stage_with, state_of, start}
-use Rattle.sync_protocol.specs.Turning.{Sent, Done, Outcome, goes_on, comes_to, page_at_stage}
+use Rattle.sync_protocol.specs.Asking.{AskerValue, StageValue, State, Stage, is_asked, is_fetching, Waits, Fetches, Has, stage_with, state_of, start}
+use Rattle.sync_protocol.specs.Turning.{Sent, Done, Outcome, again, goes_on, comes_to, page_at_stage}
 use Rattle.sync_protocol.specs.Answering.{same_session}
-use Rattle.wire_form.specs.Message.{Ask}
+use Rattle.wire_form.specs.Message.{Ask, Hello}
 use Rattle.wire_form.specs.Session.{SessionValue}
 use Rattle.sync_model.specs.Fetch as model
 use Rattle.sync_model.specs.Fetch.{children_of, to_ask, take_opening, take_page}
@@ -120,8 +120,28 @@ module _ {Hash : Type 0} where
   turn_page hash_of view a context f out taken sent same is made came =
       came
       ∙ (λ k. comes_to a.session a.own a.seen context (stage_with a.own a.seen (is k)) (map (Ask a.session) (map (λ c. sent.prefix ++ c.0 ∷ []) (to_ask (hash_of (same k).hash) (same k).own sent.prefix (children_of sent.page))))
-          ((made ∙ ap (λ v. take_page (hash_of v.hash) v.own (has v.seen) (has context) (fetch_of f) sent.prefix sent.page sent.values) same) k))
+      ((made ∙ ap (λ v. take_page (hash_of v.hash) v.own (has v.seen) (has context) (fetch_of f) sent.prefix sent.page sent.values) same) k))
       ∙ ap (λ st. page_at_stage (hash_of a.hash) a.session (stage_with a.own a.seen st) sent) (sym is)
+
+  -- ---- what is sent again
+
+  pub again_asked : (a : AskerValue Hash) (stage : StageValue Hash) (ms : List MessageValue) (b : Bool) → b ≡ is_asked stage → b ≡ true → ms ≡ Hello a.session a.seen ∷ []
+      → ms ≡ again a.session (stage_with a.own a.seen stage)
+  again_asked a asking.Asked ms b is on told = told
+  again_asked a (asking.Fetching c f) ms b is on told = absurd cc
+  again_asked a (asking.Complete c f) ms b is on told = absurd cc
+  again_asked a asking.Over ms b is on told = absurd cc
+
+  pub again_none : (a : AskerValue Hash) (stage : StageValue Hash) (ms : List MessageValue) (b : Bool) → b ≡ is_asked stage → b ≡ false → is_fetching stage ≡ false → ms ≡ []
+      → ms ≡ again a.session (stage_with a.own a.seen stage)
+  again_none a asking.Asked ms b is off out told = absurd cc
+  again_none a (asking.Fetching c f) ms b is off out told = absurd cc
+  again_none a (asking.Complete c f) ms b is off out told = told
+  again_none a asking.Over ms b is off out told = told
+
+  pub again_asks : (a : AskerValue Hash) (stage : StageValue Hash) (context : ContextValue) (f : FetchingValue Hash) (ms : List MessageValue) (ps : List (List ℕ)) (s : SessionValue)
+      → stage ≡ asking.Fetching context f → ms ≡ map (Ask s) ps → s ≡ a.session → ps ≡ map (λ e. e.0) (finite.entries f.waiting) → ms ≡ again a.session (stage_with a.own a.seen stage)
+  again_asks a stage context f ms ps s is told same those = told ∙ (λ k. map (Ask (same k)) (those k)) ∙ ap (λ st. again a.session (stage_with a.own a.seen st)) (sym is)
 
 -- a session of one name is tested first
 pub by_session : (s t : SessionValue) (b : Bool) (x y : Outcome) → b ≡ same_session s t → b ≡ true → x ≡ cond (same_session s t) x y

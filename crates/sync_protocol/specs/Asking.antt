@@ -21,7 +21,7 @@ pub data StageValue (Hash : Type 0) : Type 0 where
   Complete : ContextValue → BuiltValue Hash → StageValue Hash
   Over : StageValue Hash
 
--- whether it asked, and accepted no opening; whether it fetches; whether no message changes it any more
+-- whether it asked, and accepted no opening; whether it fetches; whether all is there; whether no message changes it any more
 abbrev pub is_asked : {Hash : Type 0} → StageValue Hash → Bool
 is_asked Asked = true
 is_asked (Fetching c f) = false
@@ -33,6 +33,12 @@ is_fetching Asked = false
 is_fetching (Fetching c f) = true
 is_fetching (Complete c b) = false
 is_fetching Over = false
+
+abbrev pub is_complete : {Hash : Type 0} → StageValue Hash → Bool
+is_complete Asked = false
+is_complete (Fetching c f) = false
+is_complete (Complete c b) = true
+is_complete Over = false
 
 abbrev pub is_over : {Hash : Type 0} → StageValue Hash → Bool
 is_over Asked = false

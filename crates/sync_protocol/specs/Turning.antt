@@ -86,6 +86,6 @@ module _ (hash_of : List ℕ → ℕ) (state : State) where
 -- the messages that are sent again: the hello, or an ask for each prefix that is waited for, in ascending order
 abbrev pub again : SessionValue → Stage → List MessageValue
 again s (Waits own seen) = Hello s seen ∷ []
-again s (Fetches own seen context f) = map (λ e. Ask s e.0) (finite.entries f.waiting)
+again s (Fetches own seen context f) = map (Ask s) (map (λ e. e.0) (finite.entries f.waiting))
 again s (Has known built) = []
 again s Ended = []

@@ -1,14 +1,15 @@
-ghost use Rattle.std.specs.Prelude.{◌≡◌, false, IfSome, IsNone, IfOk, IsOkUnless};
+ghost use Rattle.std.specs.Prelude.{◌≡◌, false, IfSome, IsNone, IfOk, IfErr, IsOkUnless};
 ghost use Rattle.std.specs.FinMap as finite;
 ghost use Rattle.causal_context.specs.Context.{has};
 ghost use Rattle.wire_form.specs.Message.{Hello, message_of};
 ghost use Rattle.sync_model.specs.Laws.{IsWithin};
 ghost use Rattle.page_taking.specs.Building.{GoesOn};
 ghost use Rattle.sync_protocol.specs.Answering.{same_session};
-ghost use Rattle.sync_protocol.specs.Asking.{Asked, Has, is_asked, is_fetching, is_over, start, state_of, GoesOnFrom};
+ghost use Rattle.sync_protocol.specs.Asking.{Asked, Has, is_asked, is_complete, is_fetching, is_over, start, state_of, GoesOnFrom};
 ghost use Rattle.sync_protocol.specs.Asking as asking;
 ghost use Rattle.sync_protocol.specs.Staged.{staged};
 
+use crate::opened::Opened;
 use crate::snapshot::FieldStore;
 use crate::stage::Stage;
 use causal_context::Context;
@@ -93,12 +94,50 @@ impl<H: PathHash, A: Allocator + Copy> Asker<H, A> {
         })
     }
 
+    /// What a session gives that is done, or the asker back where it is not.
+    pub fn result(self) -> Result<Opened<H, A>, Asker<H, A>>
+        ensures done { IfOk result (λ opened. self.stage ≡ asking.Complete opened.context opened.built) }
+        ensures base { IfOk result (λ opened. (opened.base.hash ≡ self.hash) × (opened.base.map ≡ self.own) × (opened.seen ≡ self.seen)) }
+        ensures stays { IfOk result (λ opened. GoesOn (record { hash = opened.base.hash; entries = opened.base.map; touched = finite.empty }) opened.built) }
+        ensures within { IfOk result (λ opened. IsWithin (has opened.seen) opened.base.map) }
+        ensures back { IfErr result (λ asker. (asker ≡ self) × (is_complete self.stage ≡ false)) }
+    {
+        let Asker {
+            session,
+            own,
+            seen,
+            stage,
+        } = self;
+        match stage {
+            Stage::Complete(context, built) => Ok(Opened {
+                base: own,
+                seen,
+                built,
+                context,
+            }),
+            Stage::Asked => Err(Asker {
+                session,
+                own,
+                seen,
+                stage: Stage::Asked,
+            }),
+            Stage::Fetching(context, fetching) => Err(Asker {
+                session,
+                own,
+                seen,
+                stage: Stage::Fetching(context, fetching),
+            }),
+            Stage::Over => Err(Asker {
+                session,
+                own,
+                seen,
+                stage: Stage::Over,
+            }),
+        }
+    }
+
     // The same session at another stage.
-    pub(crate) fn with_stage(
-        &self,
-        alloc: A,
-        stage: Stage<H, A>,
-    ) -> Result<Asker<H, A>, Refusal>
+    pub(crate) fn with_stage(&self, alloc: A, stage: Stage<H, A>) -> Result<Asker<H, A>, Refusal>
         requires { GoesOnFrom self.now (staged stage) }
         ensures ok { IfOk result (λ asker. asker ≡ record self.now { stage = staged stage }) }
         ensures err { IsOkUnless result Refusal.OutOfMemory }

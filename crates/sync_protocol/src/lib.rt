@@ -4,6 +4,7 @@
 
 mod answerer;
 mod asker;
+mod covering;
 mod filled;
 mod keeping;
 mod laws;
@@ -16,6 +17,7 @@ mod turning;
 
 pub use answerer::Answerer;
 pub use asker::Asker;
+pub use covering::knows_store;
 pub use laws::{
     asks_are_taken, few_stay, hashes_stay, hellos_are_kept, hellos_are_taken, repeats_move_nothing,
 };

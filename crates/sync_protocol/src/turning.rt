@@ -4,9 +4,9 @@ ghost use Rattle.causal_context.specs.Context.{has};
 ghost use Rattle.page_taking.specs.Building.{GoesOn};
 ghost use Rattle.page_taking.specs.Taken.{taken_of, asked_of};
 ghost use Rattle.page_taking.specs.Taking.{fetch_of};
-ghost use Rattle.wire_form.specs.Message.{Ask, message_of};
+ghost use Rattle.wire_form.specs.Message.{Ask, Hello, message_of};
 ghost use Rattle.sync_protocol.specs.Asking.{Asked, Waits, stage_with, state_of, start};
-ghost use Rattle.sync_protocol.specs.Turning.{Ignored, goes_on, comes_to, opening_at, page_at_stage, gone_at};
+ghost use Rattle.sync_protocol.specs.Turning.{Ignored, again, goes_on, comes_to, opening_at, page_at_stage, gone_at};
 ghost use Rattle.sync_protocol.specs.Turning as turning;
 ghost use Rattle.sync_protocol.specs.Turns.{step_of, turn_of, GoesOnBy};
 ghost use Rattle.sync_protocol.specs.Answering.{same_session};
@@ -225,7 +225,40 @@ fn gone<H: PathHash, A: Allocator + Copy>(
     })
 }
 
+// The hello of a session once more.
+fn hello_again<H: PathHash, A: Allocator + Copy>(
+    alloc: A,
+    asker: &Asker<H, A>,
+) -> Result<Vec<Message<A>, A>, Refusal>
+    ensures ok { IfOk result (λ messages. map message_of messages.items ≡ Hello asker.now.session asker.now.seen ∷ []) }
+    ensures err { IsOkUnless result Refusal.OutOfMemory }
+{
+    let mut messages = Vec::with_capacity(alloc, 1)?;
+    messages.push(Message::hello(asker.session, asker.seen.copy(alloc)?))?;
+    Ok(messages)
+}
+
 impl<H: PathHash, A: Allocator + Copy> Asker<H, A> {
+    /// The messages that are sent again where they may be lost: the hello, where no opening was accepted; else an ask for each prefix
+    /// that is waited for, in ascending order; and none where the session is done or gone. Takes time and memory in the context, or in
+    /// the prefixes, times the logarithm of their number.
+    /// Its only refusal is OutOfMemory.
+    pub fn retry(&self, alloc: A) -> Result<Vec<Message<A>, A>, Refusal>
+        ensures ok { IfOk result (λ messages. map message_of messages.items ≡ again self.now.session (stage_with self.now.own self.now.seen self.now.stage)) }
+        ensures err { IsOkUnless result Refusal.OutOfMemory }
+    {
+        if self.is_asked() {
+            let messages = hello_again(alloc, self)?;
+            return Ok(messages);
+        }
+        let Some((_, fetching)) = self.fetching() else {
+            return Ok(Vec::new(alloc));
+        };
+        let prefixes = fetching.prefixes(alloc)?;
+        let messages = asks_for(alloc, self.session, &prefixes)?;
+        Ok(messages)
+    }
+
     /// What an opening comes to. Where the session is another one, an opening was accepted before, or the message is of another
     /// kind, it is ignored. With no root digest the session is done, with the empty map. With the own one it is done with
     /// the own map, if the opening knows all of its dots; else it is a mismatch. With any other the root is asked for.

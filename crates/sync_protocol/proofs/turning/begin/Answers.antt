@@ -13,7 +13,7 @@ pub go_on-requires : goal.go_on-requires
 go_on-requires g c =
     starts_there (start c.args.asker.now) c.in-Some.fetching.built
     (begun_built c.in_ok-begun.begun c.in-Some.fetching (record { hash = c.asker.inside.own.hash; entries = c.asker.inside.own.map; touched = finite.empty }) c.in-Some.is c.in_ok-begun.ensures.built
-     ∙ ap start c.asker.view_is)
+    ∙ ap start c.asker.view_is)
 
 pub returns-clause-ok : goal.returns-clause-ok
 returns-clause-ok g c told is =
