@@ -85,4 +85,5 @@ same_waiting v w h = same_map nat_list_cmp_total (slice_cmp-IsAntisymmetric nat_
 pub complete_is : (w : Waiting) (n : ℕ) → n ≡ finite.len w → (IsTrue (nat_eq n 0) → (p : List ℕ) → finite.get w p ≡ None) × (((p : List ℕ) → finite.get w p ≡ None) → IsTrue (nat_eq n 0))
 complete_is w n is = (
   (λ t p. ap (λ v. finite.get v p) (empty_of_len w (sym is ∙ eqb-true n 0 t)) ∙ get-empty bytes_cmp p),
-  λ none. eq-eqb n 0 (is ∙ ap finite.len (same_waiting w finite.empty (λ q. none q ∙ sym (get-empty bytes_cmp q))) ∙ len-empty bytes_cmp (List ℕ)))
+  λ none. eq-eqb n 0 (is ∙ ap finite.len (same_waiting w finite.empty (λ q. none q ∙ sym (get-empty bytes_cmp q))) ∙ len-empty bytes_cmp (List ℕ)),
+)

@@ -10,3 +10,4 @@ pub mod Going
 pub mod Knowing
 pub mod Asks
 pub mod Took
+pub mod Ascending

@@ -196,7 +196,7 @@ module _ (f : List ℕ → ℕ) (p : List ℕ) (page : PageValue) (before new : 
 
   pub listed_stays : (cs : List (ℕ × List ℕ)) → children_of page ≡ cs → GoesWhere (is_unlisted f p cs) before before new → new ≡ finite.retain_keys before (stays f p page)
   listed_stays cs is h = stay (is_unlisted f p cs) (λ key. step (begins p (path f key)) (list_any (λ c. nat_eq c.0 (next_index f p key)) cs)
-          ∙ ap (λ ds. not (begins p (path f key)) || list_any (λ c. nat_eq c.0 (next_index f p key)) ds) (sym is)) h
+      ∙ ap (λ ds. not (begins p (path f key)) || list_any (λ c. nat_eq c.0 (next_index f p key)) ds) (sym is)) h
     where
       step : (a b : Bool) → not (a && not b) ≡ not a || b
       step true true = refl

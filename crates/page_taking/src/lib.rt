@@ -10,6 +10,7 @@ mod fetching;
 mod filling;
 mod fitting;
 mod known;
+mod prefixes;
 mod putting;
 mod taken;
 mod taking;

@@ -4,3 +4,5 @@ pub mod Told
 pub mod NamedFields
 pub mod Sorted
 pub mod Standing
+pub mod Turned
+pub mod KnownStores

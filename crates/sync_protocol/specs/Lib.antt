@@ -1,3 +1,7 @@
 pub mod Snapshot
 pub mod Answering
 pub mod Laws
+pub mod Asking
+pub mod Turning
+pub mod Turns
+pub mod Staged

@@ -3,13 +3,25 @@
 #![tactic(auto)]
 
 mod answerer;
+mod asker;
+mod covering;
 mod filled;
 mod keeping;
 mod laws;
+mod opened;
 mod snapshot;
+mod stage;
+mod step;
+mod turn;
+mod turning;
 
 pub use answerer::Answerer;
+pub use asker::Asker;
+pub use covering::knows_store;
 pub use laws::{
     asks_are_taken, few_stay, hashes_stay, hellos_are_kept, hellos_are_taken, repeats_move_nothing,
 };
+pub use opened::Opened;
 pub use snapshot::FieldStore;
+pub use step::Step;
+pub use turn::Turn;

@@ -1,0 +1,23 @@
+use Rattle.std.proofs.Common.{[], ◌∷◌, ◌∙◌, ap}
+use Rattle.std.specs.Prelude.{map}
+use Rattle.std.specs.FinMap as finite
+use Rattle.causal_context.specs.Context.{has}
+use Rattle.wire_form.specs.Message.{Ask, message_of}
+use Rattle.sync_model.specs.Fetch.{take_opening}
+use Rattle.sync_protocol.specs.Asking.{start}
+use Rattle.sync_protocol.specs.Turns.{turn_of}
+use Rattle.sync_protocol.proofs.Turned.{starts_there, begun_built, turn_begun}
+use Rattle.sync_protocol.proofs.turning.begin.Goals as goal
+
+pub go_on-requires : goal.go_on-requires
+go_on-requires g c =
+    starts_there (start c.args.asker.now) c.in-Some.fetching.built
+    (begun_built c.in_ok-begun.begun c.in-Some.fetching (record { hash = c.asker.inside.own.hash; entries = c.asker.inside.own.map; touched = finite.empty }) c.in-Some.is c.in_ok-begun.ensures.built
+    ∙ ap start c.asker.view_is)
+
+pub returns-clause-ok : goal.returns-clause-ok
+returns-clause-ok g c told is =
+    turn_begun c.args.asker.now (turn_of c.in_ok-turn-2.turn) c.args.context.now (map message_of c.in_ok-asks.asks.items) c.in-Some.fetching c.in_ok-begun.begun
+    (take_opening (g.H.PathHash.hash_of c.args.asker.now.hash) c.args.asker.now.own (has c.args.asker.now.seen) (has c.args.context.now) told)
+    c.in_ok-turn-2.ensures.ok (c.in_ok-asks.ensures.ok ∙ (λ k. Ask (c.asker.view_is k).session (c.root.ensures k) ∷ [])) c.in-Some.is
+    (c.in_ok-begun.ensures.ok told is ∙ ap (λ a. take_opening (g.H.PathHash.hash_of a.hash) a.own (has a.seen) (has c.args.context.now) told) c.asker.view_is)

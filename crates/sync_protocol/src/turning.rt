@@ -1,0 +1,305 @@
+// What an asker makes of a message.
+ghost use Rattle.std.specs.Prelude.{◌≡◌, ℕ, List, [], ◌∷◌, map, cond, Option, Some, IfOk, IsOkUnless};
+ghost use Rattle.causal_context.specs.Context.{has};
+ghost use Rattle.page_taking.specs.Building.{GoesOn};
+ghost use Rattle.page_taking.specs.Taken.{taken_of, asked_of};
+ghost use Rattle.page_taking.specs.Taking.{fetch_of};
+ghost use Rattle.wire_form.specs.Message.{Ask, Hello, message_of};
+ghost use Rattle.sync_protocol.specs.Asking.{Asked, Waits, stage_with, state_of, start};
+ghost use Rattle.sync_protocol.specs.Turning.{Ignored, again, goes_on, comes_to, opening_at, page_at_stage, gone_at};
+ghost use Rattle.sync_protocol.specs.Turning as turning;
+ghost use Rattle.sync_protocol.specs.Turns.{step_of, turn_of, GoesOnBy};
+ghost use Rattle.sync_protocol.specs.Answering.{same_session};
+
+use crate::asker::Asker;
+use crate::stage::Stage;
+use crate::step::Step;
+use crate::turn::Turn;
+use causal_context::Context;
+use dots::Refusal;
+use hash_path::{PathHash, Prefix};
+use page_taking::{Fetching, Taken};
+use std::alloc::Allocator;
+use wire_form::{Message, SentPage, Session};
+
+// The asks for these prefixes.
+fn asks_for<A: Allocator + Copy>(
+    alloc: A,
+    session: Session,
+    prefixes: &[Prefix],
+) -> Result<Vec<Message<A>, A>, Refusal>
+    ensures ok { IfOk result (λ asks. map message_of asks.items ≡ map (Ask session) prefixes.now) }
+    ensures err { IsOkUnless result Refusal.OutOfMemory }
+{
+    let mut asks = Vec::with_capacity(alloc, prefixes.len())?;
+    for prefix in prefixes {
+        asks.push(Message::ask(session, *prefix))?;
+    }
+    Ok(asks)
+}
+
+// Nothing changes by a message.
+fn stays<H: PathHash, A: Allocator + Copy>(
+    alloc: A,
+    asker: &Asker<H, A>,
+    step: Step<A>,
+) -> Result<Turn<H, A>, Refusal>
+    ensures ok { IfOk result (λ turn. turn_of turn ≡ (state_of asker.now, step_of step)) }
+    ensures err { IsOkUnless result Refusal.OutOfMemory }
+{
+    let next = asker.copy(alloc)?;
+    Ok(Turn { next, step })
+}
+
+// All is there, or the rest is asked for.
+fn go_on<H: PathHash, A: Allocator + Copy>(
+    alloc: A,
+    asker: &Asker<H, A>,
+    context: &Context<A>,
+    fetching: Fetching<H, A>,
+    asks: Vec<Message<A>, A>,
+) -> Result<Turn<H, A>, Refusal>
+    requires { GoesOn (start asker.now) fetching.built }
+    ensures ok { IfOk result (λ turn. turn_of turn ≡ goes_on asker.now.session asker.now.own asker.now.seen context.now (map message_of asks.items) (fetch_of fetching)) }
+    ensures err { IsOkUnless result Refusal.OutOfMemory }
+{
+    let known = context.copy(alloc)?;
+    if fetching.is_complete() {
+        let next = asker.with_stage(alloc, Stage::Complete(known, fetching.into_built()))?;
+        return Ok(Turn {
+            next,
+            step: Step::Done,
+        });
+    }
+    let next = asker.with_stage(alloc, Stage::Fetching(known, fetching))?;
+    Ok(Turn {
+        next,
+        step: Step::Sent(asks),
+    })
+}
+
+// An opening with this root digest.
+fn begin<H: PathHash, A: Allocator + Copy>(
+    alloc: A,
+    asker: &Asker<H, A>,
+    context: &Context<A>,
+    root: &[u8; 32],
+) -> Result<Turn<H, A>, Refusal>
+    requires { asker.now.stage ≡ Asked }
+    ensures ok { (told : Option (List ℕ)) → told ≡ Some root.now → IfOk result (λ turn. turn_of turn
+        ≡ opening_at (H.hash_of asker.now.hash) asker.now.session (Waits asker.now.own asker.now.seen) context.now told) }
+    ensures err { IsOkUnless result Refusal.OutOfMemory }
+{
+    let begun = Fetching::begin(alloc, &asker.own, &asker.seen, context, root)?;
+    let Some(fetching) = begun else {
+        let turn = stays(alloc, asker, Step::Mismatch)?;
+        return Ok(turn);
+    };
+    let asks = asks_for(alloc, asker.session, &[Prefix::root()])?;
+    let turn = go_on(alloc, asker, context, fetching, asks)?;
+    Ok(turn)
+}
+
+// An opening, where none was accepted yet.
+fn open_with<H: PathHash, A: Allocator + Copy>(
+    alloc: A,
+    asker: &Asker<H, A>,
+    context: &Context<A>,
+    root: &Option<[u8; 32]>,
+) -> Result<Turn<H, A>, Refusal>
+    requires { asker.now.stage ≡ Asked }
+    ensures ok { IfOk result (λ turn. turn_of turn
+        ≡ opening_at (H.hash_of asker.now.hash) asker.now.session (Waits asker.now.own asker.now.seen) context.now root.now) }
+    ensures err { IsOkUnless result Refusal.OutOfMemory }
+{
+    let Some(root) = root else {
+        let next = asker.with_nothing(alloc, context)?;
+        return Ok(Turn {
+            next,
+            step: Step::Done,
+        });
+    };
+    let turn = begin(alloc, asker, context, root)?;
+    Ok(turn)
+}
+
+// An opening of a session.
+fn opening<H: PathHash, A: Allocator + Copy>(
+    alloc: A,
+    asker: &Asker<H, A>,
+    session: Session,
+    context: &Context<A>,
+    root: &Option<[u8; 32]>,
+) -> Result<Turn<H, A>, Refusal>
+    ensures ok { IfOk result (λ turn. turn_of turn ≡ cond (same_session asker.now.session session)
+        (opening_at (H.hash_of asker.now.hash) asker.now.session (stage_with asker.now.own asker.now.seen asker.now.stage) context.now root.now) (state_of asker.now, Ignored)) }
+    ensures err { IsOkUnless result Refusal.OutOfMemory }
+{
+    if !asker.is_of(session) {
+        let turn = stays(alloc, asker, Step::Ignored)?;
+        return Ok(turn);
+    }
+    if !asker.is_asked() {
+        let turn = stays(alloc, asker, Step::Ignored)?;
+        return Ok(turn);
+    }
+    let turn = open_with(alloc, asker, context, root)?;
+    Ok(turn)
+}
+
+// What came of a page that was looked at while these dots are known.
+fn taken<H: PathHash, A: Allocator + Copy>(
+    alloc: A,
+    asker: &Asker<H, A>,
+    context: &Context<A>,
+    taken: Taken<H, A>,
+) -> Result<Turn<H, A>, Refusal>
+    requires { GoesOnBy (start asker.now) taken }
+    ensures ok { (asks : List (List ℕ)) → asked_of taken asks → IfOk result (λ turn. turn_of turn
+        ≡ comes_to asker.now.session asker.now.own asker.now.seen context.now (stage_with asker.now.own asker.now.seen asker.now.stage) (map (Ask asker.now.session) asks) (taken_of taken)) }
+    ensures err { IsOkUnless result Refusal.OutOfMemory }
+{
+    match taken {
+        Taken::Ignored => {
+            let turn = stays(alloc, asker, Step::Ignored)?;
+            Ok(turn)
+        }
+        Taken::Mismatch => {
+            let turn = stays(alloc, asker, Step::Mismatch)?;
+            Ok(turn)
+        }
+        Taken::Took(fetching, prefixes) => {
+            let asks = asks_for(alloc, asker.session, &prefixes)?;
+            let turn = go_on(alloc, asker, context, fetching, asks)?;
+            Ok(turn)
+        }
+    }
+}
+
+// A page of a session.
+fn page<H: PathHash, A: Allocator + Copy>(
+    alloc: A,
+    asker: &Asker<H, A>,
+    session: Session,
+    sent: &SentPage<A>,
+) -> Result<Turn<H, A>, Refusal>
+    ensures ok { IfOk result (λ turn. turn_of turn ≡ cond (same_session asker.now.session session)
+        (page_at_stage (H.hash_of asker.now.hash) asker.now.session (stage_with asker.now.own asker.now.seen asker.now.stage) sent.now) (state_of asker.now, Ignored)) }
+    ensures err { IsOkUnless result Refusal.OutOfMemory }
+{
+    if !asker.is_of(session) {
+        let turn = stays(alloc, asker, Step::Ignored)?;
+        return Ok(turn);
+    }
+    let Some((context, fetching)) = asker.fetching() else {
+        let turn = stays(alloc, asker, Step::Ignored)?;
+        return Ok(turn);
+    };
+    let came = fetching.take(alloc, &asker.own, &asker.seen, context, sent)?;
+    let turn = taken(alloc, asker, context, came)?;
+    Ok(turn)
+}
+
+// That the answerer does not keep a session.
+fn gone<H: PathHash, A: Allocator + Copy>(
+    alloc: A,
+    asker: &Asker<H, A>,
+    session: Session,
+) -> Result<Turn<H, A>, Refusal>
+    ensures ok { IfOk result (λ turn. turn_of turn ≡ cond (same_session asker.now.session session)
+        (gone_at asker.now.session (stage_with asker.now.own asker.now.seen asker.now.stage)) (state_of asker.now, Ignored)) }
+    ensures err { IsOkUnless result Refusal.OutOfMemory }
+{
+    if !asker.is_of(session) {
+        let turn = stays(alloc, asker, Step::Ignored)?;
+        return Ok(turn);
+    }
+    if asker.is_over() {
+        let turn = stays(alloc, asker, Step::Ignored)?;
+        return Ok(turn);
+    }
+    let next = asker.with_stage(alloc, Stage::Over)?;
+    Ok(Turn {
+        next,
+        step: Step::Gone,
+    })
+}
+
+// The hello of a session once more.
+fn hello_again<H: PathHash, A: Allocator + Copy>(
+    alloc: A,
+    asker: &Asker<H, A>,
+) -> Result<Vec<Message<A>, A>, Refusal>
+    ensures ok { IfOk result (λ messages. map message_of messages.items ≡ Hello asker.now.session asker.now.seen ∷ []) }
+    ensures err { IsOkUnless result Refusal.OutOfMemory }
+{
+    let mut messages = Vec::with_capacity(alloc, 1)?;
+    messages.push(Message::hello(asker.session, asker.seen.copy(alloc)?))?;
+    Ok(messages)
+}
+
+impl<H: PathHash, A: Allocator + Copy> Asker<H, A> {
+    /// The messages that are sent again where they may be lost: the hello, where no opening was accepted; else an ask for each prefix
+    /// that is waited for, in ascending order; and none where the session is done or gone. Takes time and memory in the context, or in
+    /// the prefixes, times the logarithm of their number.
+    /// Its only refusal is OutOfMemory.
+    pub fn retry(&self, alloc: A) -> Result<Vec<Message<A>, A>, Refusal>
+        ensures ok { IfOk result (λ messages. map message_of messages.items ≡ again self.now.session (stage_with self.now.own self.now.seen self.now.stage)) }
+        ensures err { IsOkUnless result Refusal.OutOfMemory }
+    {
+        if self.is_asked() {
+            let messages = hello_again(alloc, self)?;
+            return Ok(messages);
+        }
+        let Some((_, fetching)) = self.fetching() else {
+            return Ok(Vec::new(alloc));
+        };
+        let prefixes = fetching.prefixes(alloc)?;
+        let messages = asks_for(alloc, self.session, &prefixes)?;
+        Ok(messages)
+    }
+
+    /// What an opening comes to. Where the session is another one, an opening was accepted before, or the message is of another
+    /// kind, it is ignored. With no root digest the session is done, with the empty map. With the own one it is done with
+    /// the own map, if the opening knows all of its dots; else it is a mismatch. With any other the root is asked for.
+    /// The asker stays as it is, also where the call is refused. Takes time and memory in the names and single dots of the
+    /// contexts; where the opening does not know all that was seen, and has the own root digest, time in the own map.
+    /// Its only refusal is OutOfMemory.
+    pub fn on_opening(&self, alloc: A, message: &Message<A>) -> Result<Turn<H, A>, Refusal>
+        ensures ok { IfOk result (λ turn. turn_of turn ≡ turning.on_opening (H.hash_of self.now.hash) (state_of self.now) (message_of message.now)) }
+        ensures err { IsOkUnless result Refusal.OutOfMemory }
+    {
+        match message {
+            Message::Opening(session, context, root) => {
+                opening(alloc, self, *session, context, root)
+            }
+            Message::Delta(_) => stays(alloc, self, Step::Ignored),
+            Message::Hello(_, _) => stays(alloc, self, Step::Ignored),
+            Message::Ask(_, _) => stays(alloc, self, Step::Ignored),
+            Message::Page(_, _) => stays(alloc, self, Step::Ignored),
+            Message::Gone(_) => stays(alloc, self, Step::Ignored),
+        }
+    }
+
+    /// What a page comes to, or that the answerer does not keep the session. A page is taken where its prefix is waited for, its
+    /// digest is the promised one, it fits, and its values are just those of the dots that the asker had not seen: then the
+    /// children are asked for whose digests are not those of the own map, or the session is done. It is ignored where its
+    /// prefix is not waited for, and else a mismatch. A gone ends the session, if it is not done. Of another session, or of
+    /// another kind, a message is ignored.
+    /// The asker stays as it is, also where the call is refused. Takes time and memory in the page, in the keys that it takes away and
+    /// in the contexts, each times the logarithm of the map.
+    /// Its only refusal is OutOfMemory.
+    pub fn on_page(&self, alloc: A, message: &Message<A>) -> Result<Turn<H, A>, Refusal>
+        ensures ok { IfOk result (λ turn. turn_of turn ≡ turning.on_page (H.hash_of self.now.hash) (state_of self.now) (message_of message.now)) }
+        ensures err { IsOkUnless result Refusal.OutOfMemory }
+    {
+        match message {
+            Message::Page(session, sent) => page(alloc, self, *session, sent),
+            Message::Gone(session) => gone(alloc, self, *session),
+            Message::Delta(_) => stays(alloc, self, Step::Ignored),
+            Message::Hello(_, _) => stays(alloc, self, Step::Ignored),
+            Message::Opening(_, _, _) => stays(alloc, self, Step::Ignored),
+            Message::Ask(_, _) => stays(alloc, self, Step::Ignored),
+        }
+    }
+}
