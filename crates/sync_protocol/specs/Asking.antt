@@ -4,7 +4,7 @@ use Rattle.std.proofs.Common.{inl, inr}
 use Rattle.std.specs.Coded.{Coded, code_by, coded×, coded_list, coded_ℕ}
 use base.Stored.{coded⊎, coded_unit}
 use Rattle.std.specs.FinMap as finite
-use Rattle.causal_context.specs.Context.{ContextValue, has}
+use Rattle.causal_context.specs.Context.{ContextValue, has, HasNone}
 use Rattle.wire_form.specs.Session.{SessionValue}
 use Rattle.sync_model.specs.Differ.{Held}
 use Rattle.sync_model.specs.Fetch.{Fetch}
@@ -102,6 +102,12 @@ module _ {Hash : Type 0} where
   -- all dots of the own map had been seen, and what is built goes on from it
   abbrev pub IsAsker : AskerValue Hash → Type 0
   IsAsker a = IsWithin (has a.seen) a.own × GoesOnFrom a a.stage
+
+-- An asker after a message: it goes on from the own map of the first with the dots seen with it, or from the empty map with none seen, as where
+-- its peer had no key.
+pub record IsFrom {Hash : Type 0} (old new : AskerValue Hash) : Type 0 where
+  pub hash : new.hash ≡ old.hash
+  pub base : ((new.own ≡ old.own) × (new.seen ≡ old.seen)) ⊎ ((new.own ≡ finite.empty) × HasNone new.seen)
 
 -- A session in the words of its step: the own map and the dots seen with it count until all is there, and then what was built, with the
 -- dots that the opening knows.

@@ -5,7 +5,7 @@ ghost use Rattle.wire_form.specs.Message.{Hello, message_of};
 ghost use Rattle.sync_model.specs.Laws.{IsWithin};
 ghost use Rattle.page_taking.specs.Building.{GoesOn};
 ghost use Rattle.sync_protocol.specs.Answering.{same_session};
-ghost use Rattle.sync_protocol.specs.Asking.{Asked, Has, is_asked, is_complete, is_fetching, is_over, start, state_of, GoesOnFrom};
+ghost use Rattle.sync_protocol.specs.Asking.{Asked, Has, is_asked, is_complete, is_fetching, is_over, start, state_of, GoesOnFrom, IsFrom};
 ghost use Rattle.sync_protocol.specs.Asking as asking;
 ghost use Rattle.sync_protocol.specs.Staged.{staged};
 
@@ -159,6 +159,7 @@ impl<H: PathHash, A: Allocator + Copy> Asker<H, A> {
         context: &Context<A>,
     ) -> Result<Asker<H, A>, Refusal>
         ensures ok { IfOk result (λ asker. state_of asker ≡ record { session = self.now.session; stage = Has context.now finite.empty }) }
+        ensures from { IfOk result (λ asker. IsFrom self.now asker) }
         ensures err { IsOkUnless result Refusal.OutOfMemory }
     {
         let hash = self.own.hash();

@@ -5,7 +5,7 @@ ghost use Rattle.page_taking.specs.Building.{GoesOn};
 ghost use Rattle.page_taking.specs.Taken.{taken_of, asked_of};
 ghost use Rattle.page_taking.specs.Taking.{fetch_of};
 ghost use Rattle.wire_form.specs.Message.{Ask, Hello, message_of};
-ghost use Rattle.sync_protocol.specs.Asking.{Asked, Waits, stage_with, state_of, start};
+ghost use Rattle.sync_protocol.specs.Asking.{Asked, IsFrom, Waits, stage_with, state_of, start};
 ghost use Rattle.sync_protocol.specs.Turning.{Ignored, again, goes_on, comes_to, opening_at, page_at_stage, gone_at};
 ghost use Rattle.sync_protocol.specs.Turning as turning;
 ghost use Rattle.sync_protocol.specs.Turns.{step_of, turn_of, GoesOnBy};
@@ -45,6 +45,7 @@ fn stays<H: PathHash, A: Allocator + Copy>(
     step: Step<A>,
 ) -> Result<Turn<H, A>, Refusal>
     ensures ok { IfOk result (λ turn. turn_of turn ≡ (state_of asker.now, step_of step)) }
+    ensures from { IfOk result (λ turn. IsFrom asker.now turn.next) }
     ensures err { IsOkUnless result Refusal.OutOfMemory }
 {
     let next = asker.copy(alloc)?;
@@ -61,6 +62,7 @@ fn go_on<H: PathHash, A: Allocator + Copy>(
 ) -> Result<Turn<H, A>, Refusal>
     requires { GoesOn (start asker.now) fetching.built }
     ensures ok { IfOk result (λ turn. turn_of turn ≡ goes_on asker.now.session asker.now.own asker.now.seen context.now (map message_of asks.items) (fetch_of fetching)) }
+    ensures from { IfOk result (λ turn. IsFrom asker.now turn.next) }
     ensures err { IsOkUnless result Refusal.OutOfMemory }
 {
     let known = context.copy(alloc)?;
@@ -88,6 +90,7 @@ fn begin<H: PathHash, A: Allocator + Copy>(
     requires { asker.now.stage ≡ Asked }
     ensures ok { (told : Option (List ℕ)) → told ≡ Some root.now → IfOk result (λ turn. turn_of turn
         ≡ opening_at (H.hash_of asker.now.hash) asker.now.session (Waits asker.now.own asker.now.seen) context.now told) }
+    ensures from { IfOk result (λ turn. IsFrom asker.now turn.next) }
     ensures err { IsOkUnless result Refusal.OutOfMemory }
 {
     let begun = Fetching::begin(alloc, &asker.own, &asker.seen, context, root)?;
@@ -110,6 +113,7 @@ fn open_with<H: PathHash, A: Allocator + Copy>(
     requires { asker.now.stage ≡ Asked }
     ensures ok { IfOk result (λ turn. turn_of turn
         ≡ opening_at (H.hash_of asker.now.hash) asker.now.session (Waits asker.now.own asker.now.seen) context.now root.now) }
+    ensures from { IfOk result (λ turn. IsFrom asker.now turn.next) }
     ensures err { IsOkUnless result Refusal.OutOfMemory }
 {
     let Some(root) = root else {
@@ -133,6 +137,7 @@ fn opening<H: PathHash, A: Allocator + Copy>(
 ) -> Result<Turn<H, A>, Refusal>
     ensures ok { IfOk result (λ turn. turn_of turn ≡ cond (same_session asker.now.session session)
         (opening_at (H.hash_of asker.now.hash) asker.now.session (stage_with asker.now.own asker.now.seen asker.now.stage) context.now root.now) (state_of asker.now, Ignored)) }
+    ensures from { IfOk result (λ turn. IsFrom asker.now turn.next) }
     ensures err { IsOkUnless result Refusal.OutOfMemory }
 {
     if !asker.is_of(session) {
@@ -157,6 +162,7 @@ fn taken<H: PathHash, A: Allocator + Copy>(
     requires { GoesOnBy (start asker.now) taken }
     ensures ok { (asks : List (List ℕ)) → asked_of taken asks → IfOk result (λ turn. turn_of turn
         ≡ comes_to asker.now.session asker.now.own asker.now.seen context.now (stage_with asker.now.own asker.now.seen asker.now.stage) (map (Ask asker.now.session) asks) (taken_of taken)) }
+    ensures from { IfOk result (λ turn. IsFrom asker.now turn.next) }
     ensures err { IsOkUnless result Refusal.OutOfMemory }
 {
     match taken {
@@ -185,6 +191,7 @@ fn page<H: PathHash, A: Allocator + Copy>(
 ) -> Result<Turn<H, A>, Refusal>
     ensures ok { IfOk result (λ turn. turn_of turn ≡ cond (same_session asker.now.session session)
         (page_at_stage (H.hash_of asker.now.hash) asker.now.session (stage_with asker.now.own asker.now.seen asker.now.stage) sent.now) (state_of asker.now, Ignored)) }
+    ensures from { IfOk result (λ turn. IsFrom asker.now turn.next) }
     ensures err { IsOkUnless result Refusal.OutOfMemory }
 {
     if !asker.is_of(session) {
@@ -208,6 +215,7 @@ fn gone<H: PathHash, A: Allocator + Copy>(
 ) -> Result<Turn<H, A>, Refusal>
     ensures ok { IfOk result (λ turn. turn_of turn ≡ cond (same_session asker.now.session session)
         (gone_at asker.now.session (stage_with asker.now.own asker.now.seen asker.now.stage)) (state_of asker.now, Ignored)) }
+    ensures from { IfOk result (λ turn. IsFrom asker.now turn.next) }
     ensures err { IsOkUnless result Refusal.OutOfMemory }
 {
     if !asker.is_of(session) {
@@ -267,6 +275,7 @@ impl<H: PathHash, A: Allocator + Copy> Asker<H, A> {
     /// Its only refusal is OutOfMemory.
     pub fn on_opening(&self, alloc: A, message: &Message<A>) -> Result<Turn<H, A>, Refusal>
         ensures ok { IfOk result (λ turn. turn_of turn ≡ turning.on_opening (H.hash_of self.now.hash) (state_of self.now) (message_of message.now)) }
+        ensures from { IfOk result (λ turn. IsFrom self.now turn.next) }
         ensures err { IsOkUnless result Refusal.OutOfMemory }
     {
         match message {
@@ -291,6 +300,7 @@ impl<H: PathHash, A: Allocator + Copy> Asker<H, A> {
     /// Its only refusal is OutOfMemory.
     pub fn on_page(&self, alloc: A, message: &Message<A>) -> Result<Turn<H, A>, Refusal>
         ensures ok { IfOk result (λ turn. turn_of turn ≡ turning.on_page (H.hash_of self.now.hash) (state_of self.now) (message_of message.now)) }
+        ensures from { IfOk result (λ turn. IsFrom self.now turn.next) }
         ensures err { IsOkUnless result Refusal.OutOfMemory }
     {
         match message {

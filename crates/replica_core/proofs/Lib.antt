@@ -1,0 +1,16 @@
+pub mod Pairs
+pub mod Firsts
+pub mod Growth
+pub mod Meant
+pub mod Opened
+pub mod Sent
+pub mod Steps
+pub mod KnownFetch
+pub mod Gained
+pub mod Tied
+pub mod TiedKept
+pub mod TiedLists
+pub mod MappedPair
+pub mod Changing
+pub mod Turns
+pub mod Delivered

@@ -1,0 +1,26 @@
+use Rattle.std.proofs.Common.{refl}
+use Rattle.causal_join.specs.OrMap.{or_map_state}
+use Rattle.replica_model.specs.Replica.{joins}
+use Rattle.replica_core.specs.Meaning.{ReplicaValue, meaning}
+use Rattle.replica_core.proofs.Delivered.{delta_came}
+use Rattle.replica_core.proofs.Growth.{same_grown, joined_grown}
+use Rattle.replica_core.proofs.MappedPair.{mapped}
+use Rattle.replica_core.proofs.Meant.{meaning_by}
+use Rattle.replica_core.proofs.Pairs.{live_joined}
+use Rattle.replica_core.proofs.replica.Replica.deliver_delta.Goals as goal
+
+pub invariant_of-self : goal.invariant_of-self
+invariant_of-self g c = same_grown g.H.PathHash.hash_of _ _ c.self.invariant refl refl refl refl c.in_err-join_delta.ensures.unchanged
+
+pub invariant_of-self-2 : goal.invariant_of-self-2
+invariant_of-self-2 g c =
+    joined_grown g.H.PathHash.hash_of _ _ (or_map_state c.args.delta.now) c.self.invariant refl refl refl refl c.join_delta.ensures.hash
+    (live_joined c.join_delta.new.self.0 c.self.inside.live.0 c.args.delta.now c.in_ok-join_delta.ensures.ok)
+
+pub returns-clause-ok : goal.returns-clause-ok
+returns-clause-ok g c =
+    let old : ReplicaValue _ = record { name = c.self.inside.name; live = c.self.inside.live; group = c.self.inside.group; opened = c.self.inside.opened; sessions = c.self.inside.sessions.items; kept = c.self.inside.answerer } in
+    let new : ReplicaValue _ = record { name = c.self.inside.name; live = c.join_delta.new.self; group = c.self.inside.group; opened = c.self.inside.opened; sessions = c.self.inside.sessions.items; kept = c.self.inside.answerer } in
+    rw (← c.self.view_is) (delta_came g.H.PathHash.hash_of old (mapped c.self.inside.live.0 c.store.result.now c.store.ensures.value c.is_mapped.ensures.map) new (or_map_state c.args.delta.now)
+    (meaning_by new (joins (meaning old) (or_map_state c.args.delta.now)) refl (live_joined c.join_delta.new.self.0 c.self.inside.live.0 c.args.delta.now c.in_ok-join_delta.ensures.ok) refl refl refl refl)
+    c.join_delta.ensures.hash)

@@ -1,0 +1,32 @@
+-- The steps of a replica: what each call makes of it, in the words of the model. Of this project.
+use Rattle.std.specs.Prelude.{◌≡◌, ◌⊎◌, ℕ, List, [], ◌∷◌, map, Option, Some, None}
+use Rattle.dots.specs.declared.refusal.Refusal.{Refusal}
+use Rattle.dots.specs.declared.refusal.Refusal.TheVariants.{OutOfMemory}
+use Rattle.wire_form.specs.declared.message.Message.{Message}
+use Rattle.wire_form.specs.Message.{message_of}
+use Rattle.replica_model.specs.Mail.{Mail, mail_of}
+use Rattle.replica_model.specs.Step.{Act, Call, Answer, IsStep, Refuses}
+use Rattle.replica_core.specs.Meaning.{ReplicaValue, hash_in, meaning}
+
+-- the messages, by what they mean
+abbrev pub mails_of : {A : Type 0} → List (Message A) → List Mail
+mails_of messages = map (λ m. mail_of (message_of m)) messages
+
+abbrev pub mail_or_none : {A : Type 0} → Option (Message A) → List Mail
+mail_or_none None = []
+mail_or_none (Some m) = mail_of (message_of m) ∷ []
+
+module _ {Hash : Type 0} where
+  -- the act makes the second replica of the first, is answered this, and sends these; the hash of the keys' paths stays
+  pub record Steps (hash_of : Hash → List ℕ → ℕ) (old new : ReplicaValue Hash) (act : Act) (answer : Answer) (out : List Mail) : Type 0 where
+    pub step : IsStep (hash_of (hash_in old)) (meaning old) act (meaning new) answer out
+    pub hash : hash_in new ≡ hash_in old
+
+  -- nothing changed
+  pub record Stays (old new : ReplicaValue Hash) : Type 0 where
+    pub same : meaning new ≡ meaning old
+    pub hash : hash_in new ≡ hash_in old
+
+  -- a call is refused for want of memory, or as the model refuses it
+  abbrev pub IsRefused : ReplicaValue Hash → Call → Refusal → Type 0
+  IsRefused old call refusal = (refusal ≡ OutOfMemory) ⊎ Refuses (meaning old) call refusal

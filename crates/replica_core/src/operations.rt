@@ -1,0 +1,140 @@
+// The own operations of a replica, and what it is to send of them.
+ghost use Rattle.std.specs.Prelude.{◌≡◌, ◌<◌, ◌^◌, true, ℕ, List, [], IfOk, IfErr, OnOk, OnErr, IsOkUnless};
+ghost use Rattle.causal_join.specs.OrMap.{or_map_state};
+ghost use Rattle.op_model.specs.Place.{place_of, plain};
+ghost use Rattle.replica_model.specs.Replica.{makes};
+ghost use Rattle.replica_model.specs.Step.{Do, Put, Remove, RemoveField, Clear, Flush, Made, Counted, Nothing};
+ghost use Rattle.replica_core.specs.Meaning.{hash_in, meaning};
+ghost use Rattle.replica_core.specs.Stepping.{Steps, Stays, IsRefused, mail_or_none};
+
+use crate::replica::Replica;
+use causal_join::OrMap;
+use delta_ops::{clear, put_field, remove, remove_field};
+use dots::{Dot, Field, Key, Refusal, Value};
+use hash_path::PathHash;
+use std::alloc::Allocator;
+use wire_form::Message;
+
+impl<H: PathHash, A: Allocator + Copy> Replica<H, A> {
+    /// Writes the value on the key, at its empty field, in the place of the values that stand there; those of its other fields stay. The
+    /// dot of the write.
+    ///
+    /// Its refusals are NumbersSpent, exactly where no number is left for the dot, and OutOfMemory; a refused call changes nothing.
+    /// Takes time and memory in what stands there, times the logarithm of the map, and in the names of the context.
+    pub fn put(&mut self, key: &Key<A>, value: &Value<A>) -> Result<Dot, Refusal>
+        ensures ok { IfOk result (λ dot. Steps H.hash_of self.old self.new (Do (Put (plain key.now) value.now)) (Made dot) []) }
+        ensures refused { IfErr result (IsRefused self.old (Put (plain key.now) value.now)) }
+        ensures unchanged { OnErr result (Stays self.old self.new) }
+    {
+        let dot = self.put_field(key, &Field::empty(), value)?;
+        Ok(dot)
+    }
+
+    /// Writes the value on the field of the key, in the place of the values that stand there; those of its other fields stay. The dot of
+    /// the write.
+    ///
+    /// Its refusals are NumbersSpent, exactly where no number is left for the dot, and OutOfMemory; a refused call changes nothing.
+    /// Takes time and memory in what stands there, times the logarithm of the map, and in the names of the context.
+    pub fn put_field(
+        &mut self,
+        key: &Key<A>,
+        field: &Field<A>,
+        value: &Value<A>,
+    ) -> Result<Dot, Refusal>
+        ensures ok { IfOk result (λ dot. Steps H.hash_of self.old self.new (Do (Put (place_of key.now field.now) value.now)) (Made dot) []) }
+        ensures refused { IfErr result (IsRefused self.old (Put (place_of key.now field.now) value.now)) }
+        ensures unchanged { OnErr result (Stays self.old self.new) }
+    {
+        let (delta, dot) = match put_field(self.alloc, self.name, &self.live, key, field, value) {
+            Ok(made) => made,
+            Err(refusal) => return Err(refusal),
+        };
+        prove!(has_number(dot));
+        self.make(delta)?;
+        Ok(dot)
+    }
+
+    /// Takes the key away with all its fields, and says how many writes it observed there; where there is none it changes nothing.
+    ///
+    /// Its only refusal is OutOfMemory; a refused call changes nothing. Takes time and memory in what stands at the key, times the
+    /// logarithm of the map, and in the names of the context.
+    pub fn remove(&mut self, key: &Key<A>) -> Result<u64, Refusal>
+        ensures ok { IfOk result (λ number. Steps H.hash_of self.old self.new (Do (Remove key.now)) (Counted number) []) }
+        ensures refused { IsOkUnless result Refusal.OutOfMemory }
+        ensures unchanged { OnErr result (Stays self.old self.new) }
+    {
+        let (delta, number) = remove(self.alloc, &self.live, key)?;
+        self.make(delta)?;
+        Ok(number)
+    }
+
+    /// Takes the field of the key away, and says how many writes it observed there; where there is none it changes nothing. The key's
+    /// other fields stay.
+    ///
+    /// Its only refusal is OutOfMemory; a refused call changes nothing. Takes time and memory in what stands there, times the logarithm
+    /// of the map, and in the names of the context.
+    pub fn remove_field(&mut self, key: &Key<A>, field: &Field<A>) -> Result<u64, Refusal>
+        ensures ok { IfOk result (λ number. Steps H.hash_of self.old self.new (Do (RemoveField (place_of key.now field.now))) (Counted number) []) }
+        ensures refused { IsOkUnless result Refusal.OutOfMemory }
+        ensures unchanged { OnErr result (Stays self.old self.new) }
+    {
+        let (delta, number) = remove_field(self.alloc, &self.live, key, field)?;
+        self.make(delta)?;
+        Ok(number)
+    }
+
+    /// Takes all keys away, and says how many writes it observed; where there is none it changes nothing.
+    ///
+    /// Its only refusal is OutOfMemory; a refused call changes nothing. Takes time and memory in the whole map.
+    pub fn clear(&mut self) -> Result<u64, Refusal>
+        ensures ok { IfOk result (λ number. Steps H.hash_of self.old self.new (Do Clear) (Counted number) []) }
+        ensures refused { IsOkUnless result Refusal.OutOfMemory }
+        ensures unchanged { OnErr result (Stays self.old self.new) }
+    {
+        let (delta, number) = clear(self.alloc, &self.live)?;
+        self.make(delta)?;
+        Ok(number)
+    }
+
+    /// The delta of all that it made since the last flush, to be sent, or None where it made nothing.
+    ///
+    /// Its only refusal is OutOfMemory; a refused call changes nothing. Takes time and memory in these operations, times the logarithm
+    /// of their number.
+    pub fn flush(&mut self) -> Result<Option<Message<A>>, Refusal>
+        ensures ok { IfOk result (λ sent. Steps H.hash_of self.old self.new (Do Flush) Nothing (mail_or_none sent)) }
+        ensures refused { IsOkUnless result Refusal.OutOfMemory }
+        ensures unchanged { OnErr result (Stays self.old self.new) }
+    {
+        let Some(whole) = self.group.whole(self.alloc)? else {
+            return Ok(None);
+        };
+        self.group.clear();
+        Ok(Some(Message::Delta(whole)))
+    }
+
+    // Joins the delta of an own operation into what the replica holds and into what it is to send. One that knows no dot, as of a remove
+    // that found nothing, changes nothing and costs nothing.
+    fn make(&mut self, delta: OrMap<A>) -> Result<(), Refusal>
+        ensures ok { OnOk result (meaning self.new ≡ makes (meaning self.old) (or_map_state delta)) }
+        ensures hash { hash_in self.new ≡ hash_in self.old }
+        ensures refused { IsOkUnless result Refusal.OutOfMemory }
+        ensures unchanged { OnErr result (meaning self.new ≡ meaning self.old) }
+    {
+        if delta.context().is_empty() {
+            return Ok(());
+        }
+        let next = self.live.prepare(self.alloc, &delta)?;
+        self.group.push(self.alloc, delta)?;
+        self.live.commit(next);
+        Ok(())
+    }
+}
+
+// That the number of a dot is one of 64 bits, which is so always: it is asked in a proof alone.
+fn has_number(dot: Dot) -> bool
+    ensures always { result ≡ true }
+    ensures bounded { dot.number < 2 ^ 64 }
+{
+    let _ = dot.number();
+    true
+}

@@ -1,0 +1,88 @@
+// What a replica shows.
+ghost use Rattle.std.specs.Prelude.{◌≡◌, ◌↔◌, ℕ, List, [], length, IfOk, IsOkUnless};
+ghost use Rattle.op_model.specs.Meaning.{Stands, HoldsField, HoldsKey};
+ghost use Rattle.op_model.specs.Place.{place_of, plain};
+ghost use Rattle.prefix_digest.specs.MapOf.{IsMapOf};
+ghost use Rattle.prefix_digest.specs.Page.{digest_at};
+ghost use Rattle.sync_model.specs.Differ.{Held};
+ghost use Rattle.replica_core.specs.Meaning.{hash_in, meaning};
+ghost use Rattle.replica_core.specs.Reading.{Lists};
+
+use crate::mapped::is_mapped;
+use crate::replica::Replica;
+use delta_ops::{fields, keys, size, values};
+use dots::{Field, Key, Refusal, Value};
+use hash_path::{PathHash, Prefix};
+use prefix_digest::{FrozenMap, digest};
+use std::alloc::Allocator;
+
+impl<H: PathHash, A: Allocator + Copy> Replica<H, A> {
+    /// The distinct values of the key at its empty field, ascending by bytes: those that were written concurrently and were neither
+    /// overwritten nor removed. Takes two look-ups, and time and memory in them.
+    /// Its only refusal is OutOfMemory.
+    pub fn get(&self, key: &Key<A>) -> Result<Vec<Value<A>, A>, Refusal>
+        ensures ok { IfOk result (λ found. Lists (Stands (meaning self.now).live (plain key.now)) found.items) }
+        ensures refused { IsOkUnless result Refusal.OutOfMemory }
+    {
+        let found = self.get_field(key, &Field::empty())?;
+        Ok(found)
+    }
+
+    /// The distinct values of the field of the key, ascending by bytes. Takes two look-ups, and time and memory in them.
+    /// Its only refusal is OutOfMemory.
+    pub fn get_field(&self, key: &Key<A>, field: &Field<A>) -> Result<Vec<Value<A>, A>, Refusal>
+        ensures ok { IfOk result (λ found. Lists (Stands (meaning self.now).live (place_of key.now field.now)) found.items) }
+        ensures refused { IsOkUnless result Refusal.OutOfMemory }
+    {
+        let found = values(self.alloc, self.live.store(), key, field)?;
+        Ok(found)
+    }
+
+    /// The fields of the key that hold a value, ascending by bytes. Takes a look-up, and time and memory in their number.
+    /// Its only refusal is OutOfMemory.
+    pub fn fields(&self, key: &Key<A>) -> Result<Vec<Field<A>, A>, Refusal>
+        ensures ok { IfOk result (λ found. Lists (HoldsField (meaning self.now).live key.now) found.items) }
+        ensures refused { IsOkUnless result Refusal.OutOfMemory }
+    {
+        let found = fields(self.alloc, self.live.store(), key)?;
+        Ok(found)
+    }
+
+    /// The keys that hold a value at some field, ascending by bytes. Takes memory in their number, and time in it and its logarithm.
+    /// Its only refusal is OutOfMemory.
+    pub fn keys(&self) -> Result<Vec<Key<A>, A>, Refusal>
+        ensures ok { IfOk result (λ found. Lists (HoldsKey (meaning self.now).live) found.items) }
+        ensures refused { IsOkUnless result Refusal.OutOfMemory }
+    {
+        let found = keys(self.alloc, self.live.store())?;
+        Ok(found)
+    }
+
+    /// How many keys hold a value at some field. Takes constant time.
+    pub fn size(&self) -> u64
+        ensures { (listed : List (List ℕ)) × Lists (HoldsKey (meaning self.now).live) listed × (result ≡ length listed) }
+    {
+        size(self.live.store())
+    }
+
+    /// The root digest of the map, or None where it has no key: replicas that hold the same have the same. Takes no memory, and time in
+    /// all entries, as no call gives the nodes their digests yet.
+    pub fn digest(&self) -> Option<[u8; 32]>
+        ensures { (map : Held) × IsMapOf map (meaning self.now).live × (result ≡ digest_at (H.hash_of (hash_in self.now)) map []) }
+    {
+        prove!(is_mapped(self.live.store()));
+        digest(self.live.store().frozen(), Prefix::root())
+    }
+
+    /// The map as it is, which stays so whatever is written. Copies nothing: it takes a reference count.
+    /// Its only refusal is OutOfMemory.
+    pub fn snapshot(&self) -> Result<FrozenMap<H, A>, Refusal>
+        ensures hash { IfOk result (λ frozen. frozen.hash ≡ hash_in self.now) }
+        ensures map { IfOk result (λ frozen. IsMapOf frozen.map (meaning self.now).live) }
+        ensures refused { IsOkUnless result Refusal.OutOfMemory }
+    {
+        prove!(is_mapped(self.live.store()));
+        let frozen = self.live.store().frozen().copy()?;
+        Ok(frozen)
+    }
+}

@@ -1,0 +1,78 @@
+ghost use Rattle.std.specs.Prelude.{◌≡◌, IfOk, IsOkUnless};
+ghost use Rattle.std.specs.FinMap as finite;
+ghost use Rattle.causal_context.specs.Context.{has};
+ghost use Rattle.op_model.specs.Meaning.{HoldsKey};
+ghost use Rattle.replica_model.specs.Replica.{fresh};
+ghost use Rattle.replica_core.specs.Meaning.{hash_in, meaning};
+
+use causal_context::Context;
+use delta_ops::{LiveOrMap, LiveStore, Outgoing};
+use dots::{Name, Refusal};
+use hash_path::{Fnv1a, PathHash};
+use live_map::Live;
+use prefix_digest::ShaSummary;
+use std::alloc::{Allocator, Global};
+use std::marker::Model;
+use sync_protocol::{Answerer, Asker};
+
+/// One replica of the map: what it holds, what it made since it last sent, its own synchronisations that are open, and the snapshots
+/// that it keeps for those of others.
+///
+/// A write, a delivery and a flush cost what they change, times the logarithm of the map, and the names of the context. No call goes
+/// through the map but `keys` and `clear`.
+#[derive(Drop)]
+pub struct Replica<H: PathHash = Fnv1a, A: Allocator + Copy = Global> {
+    pub(crate) alloc: A,
+    pub(crate) name: Name,
+    pub(crate) live: LiveOrMap<ShaSummary, H, A>,
+    pub(crate) group: Outgoing<A>,
+    pub(crate) opened: u64,
+    pub(crate) sessions: Vec<Asker<H, A>, A>,
+    pub(crate) answerer: Answerer<H, A>,
+}
+
+impl<H: PathHash, A: Allocator + Copy> Model for Replica<H, A> {
+    ghost use Rattle.replica_core.specs.Meaning.{ReplicaValue, replica_code};
+    ghost use Rattle.replica_core.specs.Own.{IsReplica};
+
+    ghost Value = { ReplicaValue H };
+
+    ghost coded = { replica_code H.code };
+
+    ghost view = { λ r. record { name = r.name; live = r.live; group = r.group; opened = r.opened; sessions = r.sessions.items; kept = r.answerer } };
+
+    ghost invariant = { λ r. IsReplica H.hash_of (record { name = r.name; live = r.live; group = r.group; opened = r.opened; sessions = r.sessions.items; kept = r.answerer }) };
+}
+
+impl<H: PathHash, A: Allocator + Copy> Replica<H, A> {
+    /// The replica of this name to which nothing happened yet, whose keys' paths are by this hash: all replicas that exchange messages
+    /// are to use one. Its memory is taken from `alloc`. Takes none by itself.
+    pub fn new(alloc: A, name: Name, hash: H) -> Replica<H, A>
+        ensures fresh { meaning result ≡ fresh name }
+        ensures hash { hash_in result ≡ hash }
+    {
+        Replica {
+            alloc,
+            name,
+            live: Live::new(alloc, hash),
+            group: Outgoing::new(alloc),
+            opened: 0,
+            sessions: Vec::new(alloc),
+            answerer: Answerer::new(alloc),
+        }
+    }
+
+    /// Its name.
+    pub fn name(&self) -> Name
+        ensures { result ≡ (meaning self.now).name }
+    {
+        self.name
+    }
+
+    /// The dots that it has seen: those of the writes, and those that operations observed.
+    pub fn context(&self) -> &Context<A>
+        ensures { has result.now ≡ (meaning self.now).live.has }
+    {
+        self.live.context()
+    }
+}

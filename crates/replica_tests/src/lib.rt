@@ -1,0 +1,10 @@
+// Tests of replicas, through public calls alone: what goes from one to another as bytes, and what they show. They stand in a crate of
+// their own, so that a check of them proves no other crate a second time.
+#![tactic(auto)]
+
+#[cfg(test)]
+mod calls;
+#[cfg(test)]
+mod exchange;
+#[cfg(test)]
+mod made;
