@@ -30,6 +30,13 @@ pub record StaysBut {Hash : Type 0} (old new : ReplicaValue Hash) : Type 0 where
   pub kept : new.kept ≡ old.kept
   pub hash : hash_in new ≡ hash_in old
 
+-- the same where a session is opened, and what it holds stays
+pub record StaysButOpened {Hash : Type 0} (old new : ReplicaValue Hash) : Type 0 where
+  pub name : new.name ≡ old.name
+  pub live : new.live.0 ≡ old.live.0
+  pub group : new.group ≡ old.group
+  pub kept : new.kept ≡ old.kept
+
 module _ {Hash : Type 0} (hash_of : Hash → List ℕ → ℕ) (old new : ReplicaValue Hash) (is : IsReplica hash_of old) (rest : StaysBut old new) (place : ℕ) (a : AskerValue Hash) (there : slice_get old.sessions place ≡ Some a) where
   -- the session at a place is closed
   module _ (sessions : new.sessions ≡ remove old.sessions place) where

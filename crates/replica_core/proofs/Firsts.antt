@@ -1,6 +1,8 @@
 -- The first of a list that passes a test, as a search goes along it.
 use Rattle.std.proofs.Common.{◌≡◌, ◌<◌, ◌≤◌, ◌+◌, ◌⊎◌, inl, inr, ℕ, List, Bool, true, false, Some, length, get_or, refl, sym, ◌∙◌, subst, arith}
+use Rattle.std.specs.Prelude.{◌==◌}
 use Rattle.std.specs.List.{slice_get}
+use Rattle.std.proofs.lemmas.Bool.Decides.{eqb_tells}
 use Rattle.std.proofs.lemmas.Option.{slice_get_read, slice_get_within}
 
 module _ {X : Type 0} (test : X → Bool) (xs : List X) where
@@ -30,3 +32,11 @@ module _ {X : Type 0} (test : X → Bool) (xs : List X) where
 
   pub none_anywhere : (i : ℕ) → length xs ≤ i → NoneBefore i → (j : ℕ) (b : X) → slice_get xs j ≡ Some b → test b ≡ false
   none_anywhere i all before j b there = let within = slice_get_within xs j b there in before j b (omega (arith, within, all)) there
+
+-- numbers that differ are told apart
+pub apart_test : (n m : ℕ) → (n ≡ m → ⊥) → (n == m) ≡ false
+apart_test n m apart = either (eqb_tells n m)
+  where
+    either : (((n == m) ≡ true) × (n ≡ m)) ⊎ (((n == m) ≡ false) × (n ≡ m → ⊥)) → (n == m) ≡ false
+    either (inl (same, e)) = absurd (apart e)
+    either (inr (other, e)) = other

@@ -13,4 +13,11 @@ pub mod TiedLists
 pub mod MappedPair
 pub mod Changing
 pub mod Turns
-pub mod Delivered
+pub mod Came
+pub mod WithinLive
+pub mod Opens
+pub mod Asks
+pub mod Takes
+pub mod Goes
+pub mod Keeps
+pub mod Contained

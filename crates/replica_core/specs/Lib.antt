@@ -2,6 +2,7 @@ pub mod Meaning
 pub mod Turned
 pub mod Known
 pub mod Own
+pub mod Answered
 pub mod Stepping
 pub mod Reading
 pub mod Turning

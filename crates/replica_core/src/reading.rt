@@ -1,5 +1,5 @@
 // What a replica shows.
-ghost use Rattle.std.specs.Prelude.{◌≡◌, ◌↔◌, ℕ, List, [], length, IfOk, IsOkUnless};
+ghost use Rattle.std.specs.Prelude.{◌≡◌, ◌↔◌, ℕ, List, [], length, IfOk, IsOkUnless, IsTrue};
 ghost use Rattle.op_model.specs.Meaning.{Stands, HoldsField, HoldsKey};
 ghost use Rattle.op_model.specs.Place.{place_of, plain};
 ghost use Rattle.prefix_digest.specs.MapOf.{IsMapOf};
@@ -46,6 +46,14 @@ impl<H: PathHash, A: Allocator + Copy> Replica<H, A> {
     {
         let found = fields(self.alloc, self.live.store(), key)?;
         Ok(found)
+    }
+
+    /// Whether the key holds a value at some field. Takes a look-up, and no memory.
+    pub fn contains(&self, key: &Key<A>) -> bool
+        ensures { IsTrue result ↔ HoldsKey (meaning self.now).live key.now }
+    {
+        prove!(is_mapped(self.live.store()));
+        self.live.store().get(key).is_some()
     }
 
     /// The keys that hold a value at some field, ascending by bytes. Takes memory in their number, and time in it and its logarithm.

@@ -8,3 +8,7 @@ mod calls;
 mod exchange;
 #[cfg(test)]
 mod made;
+#[cfg(test)]
+mod session_bytes;
+#[cfg(test)]
+mod sessions;

@@ -67,7 +67,10 @@ pub(crate) fn sent(alloc: Global, from: &mut Replica) -> Result<Vec<u8, Global>,
 // Takes the bytes of a delta in; those of another message are left.
 pub(crate) fn take(alloc: Global, to: &mut Replica, bytes: &[u8]) -> Result<(), Refusal> {
     match decode(alloc, bytes)? {
-        Message::Delta(delta) => to.deliver_delta(&delta),
+        Message::Delta(_) => {
+            to.deliver_bytes(bytes)?;
+            Ok(())
+        }
         _ => Ok(()),
     }
 }

@@ -2,12 +2,12 @@ use Rattle.std.proofs.Common.{refl}
 use Rattle.causal_join.specs.OrMap.{or_map_state}
 use Rattle.replica_model.specs.Replica.{joins}
 use Rattle.replica_core.specs.Meaning.{ReplicaValue, meaning}
-use Rattle.replica_core.proofs.Delivered.{delta_came}
+use Rattle.replica_core.proofs.Came.{delta_came}
 use Rattle.replica_core.proofs.Growth.{same_grown, joined_grown}
 use Rattle.replica_core.proofs.MappedPair.{mapped}
 use Rattle.replica_core.proofs.Meant.{meaning_by}
 use Rattle.replica_core.proofs.Pairs.{live_joined}
-use Rattle.replica_core.proofs.replica.Replica.deliver_delta.Goals as goal
+use Rattle.replica_core.proofs.replica.Replica.take_delta.Goals as goal
 
 pub invariant_of-self : goal.invariant_of-self
 invariant_of-self g c = same_grown g.H.PathHash.hash_of _ _ c.self.invariant refl refl refl refl c.in_err-join_delta.ensures.unchanged

@@ -1,0 +1,13 @@
+use Rattle.std.proofs.Common.{ap, length, arith}
+use Rattle.replica_core.specs.Meaning.{ReplicaValue}
+use Rattle.replica_core.proofs.Asks.{asked_stepped}
+use Rattle.replica_core.proofs.replica.Replica.ask.Goals as goal
+
+pub returns-in-Ok-clause-ok : goal.returns-in-Ok-clause-ok
+returns-in-Ok-clause-ok g c =
+    let few = c.if-len-ge-LIMIT.false in
+    let count = c.len.ensures in
+    let items = c.self.inside.sessions.ok.0 in
+    let same = ap (λ (r : ReplicaValue _). length r.sessions) c.self.view_is in
+    rw c.number.ensures.value (asked_stepped g.H.PathHash.hash_of c.args.self.now c.open.new.self c.args.peer c.in-Some.session c.in-Some.ensures.next _ c.in-Some.ensures.left
+    (omega (arith, few, count, items, same)) c.in-Ok.ensures.map c.in-Ok.ensures.ok c.in-Ok.ensures.hello c.in-Ok.ensures.hash)

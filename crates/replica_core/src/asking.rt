@@ -1,0 +1,132 @@
+// The own sessions of a replica: one is opened, asked again, and given up.
+ghost use Rattle.std.specs.Prelude.{◌≡◌, ◌<◌, ◌≤◌, ◌+◌, ◌++◌, ◌^◌, ◌↔◌, [], ◌∷◌, ℕ, List, IfSome, IsNone, IfOk, IfErr, OnOk, OnErr, IsOkUnless};
+ghost use Rattle.std.specs.Vec.{vec_len, vec_capacity};
+ghost use Rattle.wire_form.specs.Message.{message_of};
+ghost use Rattle.wire_form.specs.Message as message;
+ghost use Rattle.prefix_digest.specs.MapOf.{IsMapOf};
+ghost use Rattle.replica_model.specs.Mail.{mail_of};
+ghost use Rattle.replica_model.specs.Replica as model;
+ghost use Rattle.replica_model.specs.Replica.{opens};
+ghost use Rattle.replica_model.specs.Step.{Do, Ask, Retry, Abandon, Came, Closed, Numbered};
+ghost use Rattle.sync_protocol.specs.Asking.{Asked};
+ghost use Rattle.replica_core.specs.Meaning.{hash_in, meaning};
+ghost use Rattle.replica_core.specs.Answered.{outcome_of};
+ghost use Rattle.replica_core.specs.Stepping.{Steps, Stays, IsRefused, mails_of};
+
+use crate::delivered::Delivered;
+use crate::mapped::is_mapped;
+use crate::outcome::Outcome;
+use crate::replica::Replica;
+use crate::sessions::place_numbered;
+use dots::{Name, Refusal};
+use hash_path::PathHash;
+use std::alloc::Allocator;
+use sync_protocol::Asker;
+use wire_form::{Message, Session};
+
+// At most so many own synchronisations are open.
+const LIMIT: usize = 8;
+
+impl<H: PathHash, A: Allocator + Copy> Replica<H, A> {
+    /// Opens a synchronisation with a peer: its number, and the hello that is to be sent to that peer. What it adds in the end is what
+    /// the peer had when it answered; meanwhile the replica may be written and read as ever.
+    ///
+    /// Its refusals are SessionsFull, exactly where eight of them are open; then NumbersSpent, exactly where 2^64 - 1 were opened; and
+    /// OutOfMemory. A refused call changes nothing. Takes time in the nodes that were written since the last synchronisation or
+    /// snapshot, and time and memory in the context; not in the map, whose nodes the session shares.
+    pub fn ask(&mut self, peer: Name) -> Result<(u64, Message<A>), Refusal>
+        ensures ok { IfOk result (λ asked. Steps H.hash_of self.old self.new (Do (Ask peer)) (Numbered asked.0) (mail_of (message_of asked.1) ∷ [])) }
+        ensures refused { IfErr result (IsRefused self.old (Ask peer)) }
+        ensures unchanged { OnErr result (Stays self.old self.new) }
+    {
+        if self.sessions.len() >= LIMIT {
+            return Err(Refusal::SessionsFull);
+        }
+        let Some(session) = self.next_session(peer) else {
+            return Err(Refusal::NumbersSpent);
+        };
+        match self.open(session) {
+            Ok(hello) => Ok((session.number(), hello)),
+            Err(refusal) => Err(refusal),
+        }
+    }
+
+    /// What is to be sent again for the own synchronisation of this number, where messages may have been lost: its hello, where nothing
+    /// was accepted yet, else an ask for each page that is waited for. Where none of this number is open it is ignored.
+    ///
+    /// Its only refusal is OutOfMemory. Takes time and memory in the context, or in the pages that are waited for.
+    pub fn retry(&self, number: u64) -> Result<Delivered<A>, Refusal>
+        ensures ok { IfOk result (λ sent. Steps H.hash_of self.now self.now (Do (Retry number)) (Came (outcome_of sent.outcome)) (mails_of sent.replies.items)) }
+        ensures refused { IsOkUnless result Refusal.OutOfMemory }
+    {
+        let Some(place) = place_numbered(&self.sessions, number) else {
+            return Ok(Delivered::silent(self.alloc, Outcome::Ignored));
+        };
+        let replies = self.sessions[place].retry(self.alloc)?;
+        Ok(Delivered {
+            outcome: Outcome::Sent,
+            replies,
+        })
+    }
+
+    /// Gives up the own synchronisation of this number, which adds nothing then, and tells whether it was open. Takes no memory.
+    pub fn abandon(&mut self, number: u64) -> bool
+        ensures { Steps H.hash_of self.old self.new (Do (Abandon number)) (Closed result) [] }
+    {
+        let Some(place) = place_numbered(&self.sessions, number) else {
+            return false;
+        };
+        self.end(place);
+        true
+    }
+
+    // The session that is opened next with this peer, or None where no number is left.
+    fn next_session(&self, peer: Name) -> Option<Session>
+        ensures next { IfSome result (λ session. session ≡ model.next_session (meaning self.now) peer) }
+        ensures left { IfSome result (λ session. session.number + 1 ≤ 2 ^ 64) }
+        ensures spent { IsNone result → 2 ^ 64 ≤ self.now.opened + 1 }
+    {
+        let number = self.opened.checked_add(1)?;
+        Session::new(self.name, peer, number)
+    }
+
+    // Opens this session, which is the next: its hello.
+    fn open(&mut self, session: Session) -> Result<Message<A>, Refusal>
+        requires { session ≡ model.next_session (meaning self.old) session.answerer }
+        ensures ok { OnOk result (meaning self.new ≡ opens (meaning self.old) session.answerer self.old.live.0.0.1) }
+        ensures hello { IfOk result (λ hello. message_of hello ≡ message.Hello session self.old.live.0.1) }
+        ensures map { OnOk result (IsMapOf self.old.live.0.0.1 (meaning self.old).live) }
+        ensures hash { hash_in self.new ≡ hash_in self.old }
+        ensures refused { IsOkUnless result Refusal.OutOfMemory }
+        ensures unchanged { OnErr result (meaning self.new ≡ meaning self.old) }
+    {
+        self.live.seal()?;
+        self.sessions.reserve(1)?;
+        let (asker, hello) = self.begin(session)?;
+        add(&mut self.sessions, asker);
+        self.opened = session.number();
+        Ok(hello)
+    }
+
+    // A session of what the replica holds, and its hello.
+    fn begin(&self, session: Session) -> Result<(Asker<H, A>, Message<A>), Refusal>
+        ensures asker { IfOk result (λ begun. begun.0 ≡ record { session = session; hash = hash_in self.now; own = self.now.live.0.0.1; seen = self.now.live.0.1; stage = Asked }) }
+        ensures hello { IfOk result (λ begun. message_of begun.1 ≡ message.Hello session self.now.live.0.1) }
+        ensures map { IsMapOf self.now.live.0.0.1 (meaning self.now).live }
+        ensures refused { IsOkUnless result Refusal.OutOfMemory }
+    {
+        prove!(is_mapped(self.live.store()));
+        Asker::open(self.alloc, session, self.live.store(), self.live.context())
+    }
+}
+
+// Puts a session behind the others, for which there is room.
+fn add<H: PathHash, A: Allocator + Copy>(sessions: &mut Vec<Asker<H, A>, A>, asker: Asker<H, A>)
+    requires { vec_len sessions.old < vec_capacity sessions.old }
+    ensures { sessions.new.items ≡ sessions.old.items ++ asker ∷ [] }
+{
+    match sessions.push(asker) {
+        Ok(()) => {}
+        Err(_) => unreachable!(),
+    }
+}

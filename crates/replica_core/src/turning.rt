@@ -1,0 +1,182 @@
+// How an own session of a replica goes on.
+ghost use Rattle.std.specs.Prelude.{◌≡◌, ◌⊎◌, ℕ, List, [], true, Option, Some, OnOk, IfOk, OnErr, IsOkUnless};
+ghost use Rattle.std.specs.FinMap as finite;
+ghost use Rattle.std.specs.List.{slice_get};
+ghost use Rattle.causal_context.specs.Context.{ContextValue, has};
+ghost use Rattle.wire_form.specs.Message.{message_of};
+ghost use Rattle.wire_form.specs.Message as form;
+ghost use Rattle.wire_form.specs.Sent.{SentValue};
+ghost use Rattle.sync_model.specs.Closing.{IsBelow};
+ghost use Rattle.sync_model.specs.Closing as closing;
+ghost use Rattle.sync_model.specs.Laws.{IsWithin};
+ghost use Rattle.page_taking.specs.Building.{BuiltValue, GoesOn};
+ghost use Rattle.sync_protocol.specs.Asking.{AskerValue, Complete, IsFrom, state_of};
+ghost use Rattle.sync_protocol.specs.Turning as turning;
+ghost use Rattle.sync_protocol.specs.Turns.{step_of};
+ghost use Rattle.replica_model.specs.Delivery as model;
+ghost use Rattle.replica_model.specs.Mail.{mail_of};
+ghost use Rattle.replica_model.specs.Replica.{advances, closes, joins};
+ghost use Rattle.replica_model.specs.Step.{Take, Came};
+ghost use Rattle.replica_core.specs.Answered.{outcome_of};
+ghost use Rattle.replica_core.specs.Meaning.{hash_in, meaning, open_of};
+ghost use Rattle.replica_core.specs.Own.{IsOwn, IsReplica};
+ghost use Rattle.replica_core.specs.Stepping.{Steps, Stays, mails_of};
+ghost use Rattle.replica_core.specs.Turned.{turned};
+ghost use Rattle.replica_core.specs.Turning.{CanTake, IsGoingOn};
+
+use crate::delivered::Delivered;
+use crate::mapped::is_mapped;
+use crate::outcome::Outcome;
+use crate::replica::Replica;
+use crate::sessions::place_of;
+use dots::Refusal;
+use hash_path::PathHash;
+use std::alloc::Allocator;
+use sync_protocol::{Asker, Opened, Step, Turn};
+use wire_form::{Message, Session};
+
+impl<H: PathHash, A: Allocator + Copy> Replica<H, A> {
+    // Takes an opening of this session.
+    pub(crate) fn take_opening(
+        &mut self,
+        session: Session,
+        message: &Message<A>,
+    ) -> Result<Delivered<A>, Refusal>
+        requires { (context : ContextValue) × (root : Option (List ℕ)) × (message_of message.now ≡ form.Opening session context root) }
+        ensures ok { IfOk result (λ told. Steps H.hash_of self.old self.new (Take (mail_of (message_of message.now))) (Came (outcome_of told.outcome)) (mails_of told.replies.items)) }
+        ensures refused { IsOkUnless result Refusal.OutOfMemory }
+        ensures unchanged { OnErr result (Stays self.old self.new) }
+    {
+        prove!(is_mapped(self.live.store()));
+        let Some(place) = place_of(&self.sessions, session) else {
+            return Ok(Delivered::silent(self.alloc, Outcome::Ignored));
+        };
+        let turn = self.sessions[place].on_opening(self.alloc, message)?;
+        self.take_turn(place, turn)
+    }
+
+    // Takes a page of this session, or that its answerer does not keep it.
+    pub(crate) fn take_page(
+        &mut self,
+        session: Session,
+        message: &Message<A>,
+    ) -> Result<Delivered<A>, Refusal>
+        requires { ((sent : SentValue) × (message_of message.now ≡ form.Page session sent)) ⊎ (message_of message.now ≡ form.Gone session) }
+        ensures ok { IfOk result (λ told. Steps H.hash_of self.old self.new (Take (mail_of (message_of message.now))) (Came (outcome_of told.outcome)) (mails_of told.replies.items)) }
+        ensures refused { IsOkUnless result Refusal.OutOfMemory }
+        ensures unchanged { OnErr result (Stays self.old self.new) }
+    {
+        prove!(is_mapped(self.live.store()));
+        let Some(place) = place_of(&self.sessions, session) else {
+            return Ok(Delivered::silent(self.alloc, Outcome::Ignored));
+        };
+        let turn = self.sessions[place].on_page(self.alloc, message)?;
+        self.take_turn(place, turn)
+    }
+
+    // Puts the session at this place where its turn leads.
+    fn take_turn(&mut self, place: usize, turn: Turn<H, A>) -> Result<Delivered<A>, Refusal>
+        requires { (a : AskerValue H) × (slice_get self.old.sessions place ≡ Some a) × CanTake H.hash_of a turn.next (step_of turn.step) }
+        ensures ok { IfOk result (λ told. turned (meaning self.old) (state_of turn.next) (step_of turn.step) ≡ model.turn (meaning self.new) (outcome_of told.outcome) (mails_of told.replies.items)) }
+        ensures hash { hash_in self.new ≡ hash_in self.old }
+        ensures refused { IsOkUnless result Refusal.OutOfMemory }
+        ensures unchanged { OnErr result (meaning self.new ≡ meaning self.old) }
+    {
+        let Turn { next, step } = turn;
+        match step {
+            Step::Sent(replies) => {
+                self.advance(place, next);
+                Ok(Delivered {
+                    outcome: Outcome::Sent,
+                    replies,
+                })
+            }
+            Step::Done => self.close(place, next),
+            Step::Ignored => Ok(Delivered::silent(self.alloc, Outcome::Ignored)),
+            Step::Mismatch => Ok(Delivered::silent(self.alloc, Outcome::Mismatch)),
+            Step::Gone => {
+                self.end(place);
+                Ok(Delivered::silent(self.alloc, Outcome::Gone))
+            }
+        }
+    }
+
+    // The session at this place goes on as this one.
+    fn advance(&mut self, place: usize, next: Asker<H, A>)
+        requires { (a : AskerValue H) × (slice_get self.old.sessions place ≡ Some a) × (next.session ≡ a.session) × IsFrom a next × IsGoingOn H.hash_of a next }
+        ensures step { meaning self.new ≡ advances (meaning self.old) (open_of next) }
+        ensures hash { hash_in self.new ≡ hash_in self.old }
+    {
+        self.sessions[place] = next;
+    }
+
+    // Takes the session at this place out.
+    pub(crate) fn end(&mut self, place: usize)
+        requires { (a : AskerValue H) × (slice_get self.old.sessions place ≡ Some a) }
+        ensures step { (a : AskerValue H) → slice_get self.old.sessions place ≡ Some a → meaning self.new ≡ closes (meaning self.old) a.session }
+        ensures hash { hash_in self.new ≡ hash_in self.old }
+    {
+        drop(self.sessions.remove(place));
+    }
+
+    // Closes the session at this place, which is done: what it built is joined in.
+    fn close(&mut self, place: usize, next: Asker<H, A>) -> Result<Delivered<A>, Refusal>
+        requires { (a : AskerValue H) × (slice_get self.old.sessions place ≡ Some a) × CanTake H.hash_of a next turning.Done }
+        ensures ok { IfOk result (λ told. turned (meaning self.old) (state_of next) turning.Done ≡ model.turn (meaning self.new) (outcome_of told.outcome) (mails_of told.replies.items)) }
+        ensures hash { hash_in self.new ≡ hash_in self.old }
+        ensures refused { IsOkUnless result Refusal.OutOfMemory }
+        ensures unchanged { OnErr result (meaning self.new ≡ meaning self.old) }
+    {
+        prove!(self.is_replica());
+        self.join_session(next)?;
+        self.end(place);
+        Ok(Delivered::silent(self.alloc, Outcome::Done))
+    }
+
+    // What is always so of a replica, which is asked in a proof alone.
+    fn is_replica(&self) -> bool
+        ensures always { result ≡ true }
+        ensures replica { IsReplica H.hash_of self.now }
+    {
+        let _ = self.sessions.len();
+        true
+    }
+
+    // Joins in what a session gives that is done.
+    fn join_session(&mut self, next: Asker<H, A>) -> Result<(), Refusal>
+        requires { (a : AskerValue H) × IsOwn H.hash_of self.old.name (hash_in self.old) (meaning self.old).live a × CanTake H.hash_of a next turning.Done }
+        ensures ok { OnOk result ((c : ContextValue) → (b : BuiltValue H) → next.stage ≡ Complete c b → meaning self.new ≡ joins (meaning self.old) (closing.state_of b.entries (has c))) }
+        ensures sessions { self.new.sessions ≡ self.old.sessions }
+        ensures hash { hash_in self.new ≡ hash_in self.old }
+        ensures refused { IsOkUnless result Refusal.OutOfMemory }
+        ensures unchanged { OnErr result (meaning self.new ≡ meaning self.old) }
+    {
+        match next.result() {
+            Ok(opened) => self.join_opened(&opened),
+            Err(_) => unreachable!(),
+        }
+    }
+
+    // Joins in what a session has built.
+    fn join_opened(&mut self, opened: &Opened<H, A>) -> Result<(), Refusal>
+        requires below { IsBelow (closing.state_of opened.now.base.map (has opened.now.seen)) (meaning self.old).live }
+        requires rest { GoesOn (record { hash = opened.now.base.hash; entries = opened.now.base.map; touched = finite.empty }) opened.now.built }
+        requires known { IsWithin (has opened.now.context) opened.now.built.entries }
+        ensures ok { OnOk result (meaning self.new ≡ joins (meaning self.old) (closing.state_of opened.now.built.entries (has opened.now.context))) }
+        ensures sessions { self.new.sessions ≡ self.old.sessions }
+        ensures hash { hash_in self.new ≡ hash_in self.old }
+        ensures refused { IsOkUnless result Refusal.OutOfMemory }
+        ensures unchanged { OnErr result (meaning self.new ≡ meaning self.old) }
+    {
+        let next = self.live.prepare_opened(
+            self.alloc,
+            &opened.base,
+            &opened.seen,
+            opened.built.entries(),
+            opened.built.touched(),
+            &opened.context,
+        )?;
+        self.live.commit(next);
+        Ok(())
+    }
+}
