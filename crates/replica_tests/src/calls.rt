@@ -89,6 +89,12 @@ fn are_a_and_b(keys: &[Key]) -> bool {
     }
 }
 
+// Whether the key is there.
+fn contains(alloc: Global, one: &Replica, key: &[u8]) -> Result<bool, Refusal> {
+    let key = Key::new(alloc, key)?;
+    Ok(one.contains(&key))
+}
+
 // Whether its keys are a and b.
 fn lists_a_and_b(one: &Replica) -> Result<bool, Refusal> {
     let keys = one.keys()?;
@@ -107,6 +113,8 @@ fn keys_are_listed_and_cleared(rt: HostRuntime) {
     assert!(rt; put(rt.alloc(), &mut one, b"b", b"x") == Ok(1));
     assert!(rt; put(rt.alloc(), &mut one, b"a", b"y") == Ok(2));
     assert!(rt; lists_a_and_b(&one) == Ok(true));
+    assert!(rt; contains(rt.alloc(), &one, b"a") == Ok(true));
+    assert!(rt; contains(rt.alloc(), &one, b"c") == Ok(false));
     assert!(rt; pinned(&one) == Ok(2));
     assert!(rt; one.context().entry(one.name()) == 2);
     assert!(rt; one.digest().is_some());
