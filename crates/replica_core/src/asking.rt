@@ -2,7 +2,7 @@
 ghost use Rattle.std.specs.Prelude.{◌≡◌, ◌<◌, ◌≤◌, ◌+◌, ◌++◌, ◌^◌, ◌↔◌, [], ◌∷◌, ℕ, List, IfSome, IsNone, IfOk, IfErr, OnOk, OnErr, IsOkUnless};
 ghost use Rattle.std.specs.Vec.{vec_len, vec_capacity};
 ghost use Rattle.wire_form.specs.Message.{message_of};
-ghost use Rattle.wire_form.specs.Message as message;
+ghost use Rattle.wire_form.specs.Message as form;
 ghost use Rattle.prefix_digest.specs.MapOf.{IsMapOf};
 ghost use Rattle.replica_model.specs.Mail.{mail_of};
 ghost use Rattle.replica_model.specs.Replica as model;
@@ -94,7 +94,7 @@ impl<H: PathHash, A: Allocator + Copy> Replica<H, A> {
     fn open(&mut self, session: Session) -> Result<Message<A>, Refusal>
         requires { session ≡ model.next_session (meaning self.old) session.answerer }
         ensures ok { OnOk result (meaning self.new ≡ opens (meaning self.old) session.answerer self.old.live.0.0.1) }
-        ensures hello { IfOk result (λ hello. message_of hello ≡ message.Hello session self.old.live.0.1) }
+        ensures hello { IfOk result (λ hello. message_of hello ≡ form.Hello session self.old.live.0.1) }
         ensures map { OnOk result (IsMapOf self.old.live.0.0.1 (meaning self.old).live) }
         ensures hash { hash_in self.new ≡ hash_in self.old }
         ensures refused { IsOkUnless result Refusal.OutOfMemory }
@@ -111,7 +111,7 @@ impl<H: PathHash, A: Allocator + Copy> Replica<H, A> {
     // A session of what the replica holds, and its hello.
     fn begin(&self, session: Session) -> Result<(Asker<H, A>, Message<A>), Refusal>
         ensures asker { IfOk result (λ begun. begun.0 ≡ record { session = session; hash = hash_in self.now; own = self.now.live.0.0.1; seen = self.now.live.0.1; stage = Asked }) }
-        ensures hello { IfOk result (λ begun. message_of begun.1 ≡ message.Hello session self.now.live.0.1) }
+        ensures hello { IfOk result (λ begun. message_of begun.1 ≡ form.Hello session self.now.live.0.1) }
         ensures map { IsMapOf self.now.live.0.0.1 (meaning self.now).live }
         ensures refused { IsOkUnless result Refusal.OutOfMemory }
     {

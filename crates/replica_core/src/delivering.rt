@@ -30,7 +30,8 @@ impl<H: PathHash, A: Allocator + Copy> Replica<H, A> {
     ///
     /// Its only refusal is OutOfMemory; a refused call changes nothing. Takes time and memory in the message and in what stands here that
     /// it touches, times the logarithm of the map, and in the names of the contexts; for a hello also time in the nodes that were
-    /// written since the last one; where a synchronisation ends, time and memory in what differs, times the logarithm of the map.
+    /// written since the last one; where a synchronisation ends, time and memory in what differs, times the logarithm of the map; and for
+    /// an opening that has the digest of the own map, of a peer that had not seen all that was seen here, time in the map.
     pub fn deliver(&mut self, message: &Message<A>) -> Result<Delivered<A>, Refusal>
         ensures ok { IfOk result (λ told. Steps H.hash_of self.old self.new (Take (mail_of (message_of message.now))) (Came (outcome_of told.outcome)) (mails_of told.replies.items)) }
         ensures refused { IsOkUnless result Refusal.OutOfMemory }

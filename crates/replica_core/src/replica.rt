@@ -19,7 +19,8 @@ use sync_protocol::{Answerer, Asker};
 /// that it keeps for those of others.
 ///
 /// A write, a delivery and a flush cost what they change, times the logarithm of the map, and the names of the context. No call goes
-/// through the map but `keys` and `clear`.
+/// through the map but `keys` and `clear`, and the delivery of an opening that has the digest of the own map from a peer that had
+/// not seen all that was seen here: each dot of the map is looked up then.
 #[derive(Drop)]
 pub struct Replica<H: PathHash = Fnv1a, A: Allocator + Copy = Global> {
     pub(crate) alloc: A,

@@ -87,6 +87,7 @@ fn pages_are_asked_for_down_to_the_value_that_is_missing(rt: HostRuntime) {
             UNDER_ASK_ROOT.as_slice()
         )
     );
+    assert!(rt; retries(rt.alloc(), &one, 1, UNDER_ASK_ROOT.as_slice()) == Ok(true));
     assert!(rt;
         answers(
             rt.alloc(),
