@@ -1,18 +1,16 @@
 // Messages of a session, byte for byte, as an independent program wrote them.
-ghost use Rattle.std.specs.Prelude.{◌≤◌};
-
 use crate::tests::{
-    changed, dot, first_dot, is_encoded_again, is_message, is_whole_alone, session,
+    Form, dot, is_changed, is_cut, is_encoded_again, is_message, is_of, is_read_as, is_sent,
+    is_spelled, is_there, is_whole_alone, known, session,
 };
-use causal_context::Context;
-use dot_store::{DotFun, DotStore};
+use dot_store::DotFun;
 use dots::{Field, Key, Refusal, Value};
 use hash_path::Prefix;
 use ordered_list::OrderedList;
 use std::alloc::Global;
 use std::process::Abort;
 use std::test::Fail;
-use wire_form::{Message, NamedFields, Names, Page, decode, encode};
+use wire_form::{Message, NamedFields, Names, Page};
 
 // The opening of asker 1, answerer 2 and number 1, whose answerer knows the dot 1:1 and holds no key.
 const OPENING: [u8; 59] = [
@@ -111,84 +109,111 @@ fn at_empty_field(alloc: Global, names: Names) -> Result<NamedFields, Refusal> {
     Ok(fields)
 }
 
+// The page of the key b with these fields.
+fn page_of_b(alloc: Global, fields: NamedFields) -> Result<Page, Refusal> {
+    let key = Key::new(alloc, b"b")?;
+    Ok(Page::OneKey(key, fields))
+}
+
 // The page of the key b with w under the dot 2:2.
-fn page_of_b(rt: &impl Abort, alloc: Global) -> Result<Page, Refusal> {
-    let fields = at_empty_field(alloc, name_of_w(rt, alloc)?)?;
-    Ok(Page::OneKey(Key::new(alloc, b"b")?, fields))
+fn page_of_w(rt: &impl Abort, alloc: Global) -> Result<Page, Refusal> {
+    let names = name_of_w(rt, alloc)?;
+    let fields = at_empty_field(alloc, names)?;
+    page_of_b(alloc, fields)
 }
 
 // The value w alone.
 fn only_w(alloc: Global) -> Result<Vec<Value>, Refusal> {
+    let value = Value::new(alloc, b"w")?;
     let mut values = Vec::new(alloc);
-    values.push(Value::new(alloc, b"w")?)?;
+    values.push(value)?;
     Ok(values)
 }
 
-// Whether this message is encoded as these bytes.
-fn has_bytes(alloc: Global, message: &Message, bytes: &[u8]) -> Result<bool, Refusal> {
-    let encoded = encode(alloc, message)?;
-    Ok(encoded.as_slice() == bytes)
-}
-
-// What replica 2 knows after its first two writes.
-fn two_dots(rt: &impl Abort, alloc: Global) -> Result<Context, Refusal> {
-    let mut context = Context::new(alloc);
-    context.add(dot(rt, 2, 1))?;
-    context.add(dot(rt, 2, 2))?;
-    Ok(context)
+// Whether the opening that tells these dots and this digest has these bytes.
+fn opens(
+    rt: &impl Abort,
+    alloc: Global,
+    dots: &[(u64, u64)],
+    root: Option<[u8; 32]>,
+    bytes: &[u8],
+) -> Result<bool, Refusal> {
+    let session = session(rt, 1, 2, 1);
+    let context = known(rt, alloc, dots)?;
+    is_sent(
+        alloc,
+        Some(Message::opening(session, context, root)),
+        Some(session),
+        bytes,
+    )
 }
 
 #[test]
 fn openings_have_these_bytes(rt: HostRuntime) -> Result<(), Fail> {
     let alloc = rt.alloc();
-    let session = session(&rt, 1, 2, 1);
-    let empty = Message::opening(session, first_dot(&rt, alloc)?, None);
-    assert!(rt; has_bytes(alloc, &empty, &OPENING)?);
-    assert!(rt; empty.session() == Some(session));
+    assert!(rt; opens(&rt, alloc, &[(1, 1)], None, &OPENING)?);
     let root = *OPENING_WITH_ROOT[59..].first_chunk::<32>().ok_or("32")?;
-    let full = Message::opening(session, two_dots(&rt, alloc)?, Some(root));
-    assert!(rt; has_bytes(alloc, &full, &OPENING_WITH_ROOT)?);
+    assert!(rt;
+        opens(
+            &rt,
+            alloc,
+            &[(2, 1), (2, 2)],
+            Some(root),
+            &OPENING_WITH_ROOT
+        )?
+    );
     Ok(())
+}
+
+// Whether the ask for the page at these indices has these bytes.
+fn asks_at(rt: &impl Abort, alloc: Global, indices: &[u32], bytes: &[u8]) -> Result<bool, Refusal> {
+    let session = session(rt, 1, 2, 1);
+    is_sent(
+        alloc,
+        Some(Message::ask(session, prefix(rt, indices))),
+        Some(session),
+        bytes,
+    )
+}
+
+// Whether the message that the session is gone has its bytes.
+fn is_gone(rt: &impl Abort, alloc: Global) -> Result<bool, Refusal> {
+    let session = session(rt, 1, 2, 1);
+    is_sent(alloc, Some(Message::gone(session)), Some(session), &GONE)
 }
 
 #[test]
-fn asks_have_these_bytes(rt: HostRuntime) -> Result<(), Fail> {
+fn asks_and_the_message_of_a_session_that_is_gone_have_these_bytes(
+    rt: HostRuntime,
+) -> Result<(), Fail> {
     let alloc = rt.alloc();
-    let session = session(&rt, 1, 2, 1);
-    let first = Message::ask(session, Prefix::root());
-    assert!(rt; has_bytes(alloc, &first, &ASK_ROOT)?);
-    assert!(rt; first.session() == Some(session));
-    let third = Message::ask(session, prefix(&rt, &[5, 15]));
-    assert!(rt; has_bytes(alloc, &third, &ASK)?);
+    assert!(rt; asks_at(&rt, alloc, &[], &ASK_ROOT)?);
+    assert!(rt; asks_at(&rt, alloc, &[5, 15], &ASK)?);
+    assert!(rt; is_gone(&rt, alloc)?);
     Ok(())
 }
 
-#[test]
-fn the_message_of_a_session_that_is_gone_has_these_bytes(rt: HostRuntime) -> Result<(), Fail> {
-    let alloc = rt.alloc();
-    let session = session(&rt, 1, 2, 1);
-    let gone = Message::gone(session);
-    assert!(rt; has_bytes(alloc, &gone, &GONE)?);
-    assert!(rt; gone.session() == Some(session));
-    Ok(())
+// The message of this page at these indices with the value w, if there is one.
+fn with_w(
+    rt: &impl Abort,
+    alloc: Global,
+    indices: &[u32],
+    page: Page,
+) -> Result<Option<Message>, Refusal> {
+    let values = only_w(alloc)?;
+    Ok(Message::page(session(rt, 1, 2, 1), prefix(rt, indices), values, page))
 }
 
-// Whether the page of b at 5, 15 is made with the value w, has these bytes and belongs to the session.
+// Whether the page of b at 5, 15 is made with the value w, has its bytes and belongs to the session.
 fn sends_b(rt: &impl Abort, alloc: Global) -> Result<bool, Refusal> {
     let session = session(rt, 1, 2, 1);
-    let page = page_of_b(rt, alloc)?;
-    match Message::page(session, prefix(rt, &[5, 15]), only_w(alloc)?, page) {
-        Some(message) => {
-            Ok(message.session() == Some(session) && has_bytes(alloc, &message, &KEY)?)
-        }
-        None => Ok(false),
-    }
-}
-
-#[test]
-fn the_page_of_one_key_has_these_bytes(rt: HostRuntime) -> Result<(), Fail> {
-    assert!(rt; sends_b(&rt, rt.alloc())?);
-    Ok(())
+    let page = page_of_w(rt, alloc)?;
+    is_sent(
+        alloc,
+        with_w(rt, alloc, &[5, 15], page)?,
+        Some(session),
+        &KEY,
+    )
 }
 
 // The branch of the children 14 and 15 with these digests.
@@ -199,107 +224,109 @@ fn branch(alloc: Global, first: [u8; 32], second: [u8; 32]) -> Result<Page, Refu
     Ok(Page::Branch(children))
 }
 
-// Whether this branch is sent at 5 with these bytes.
-fn sends_branch(rt: &impl Abort, alloc: Global, page: Page) -> Result<bool, Refusal> {
-    match Message::page(
-        session(rt, 1, 2, 1),
-        prefix(rt, &[5]),
-        Vec::new(alloc),
-        page,
-    ) {
-        Some(message) => has_bytes(alloc, &message, &BRANCH),
-        None => Ok(false),
-    }
+// Whether the branch of these digests is sent at 5 with its bytes.
+fn sends_branch(
+    rt: &impl Abort,
+    alloc: Global,
+    first: [u8; 32],
+    second: [u8; 32],
+) -> Result<bool, Refusal> {
+    let session = session(rt, 1, 2, 1);
+    let at = prefix(rt, &[5]);
+    let page = branch(alloc, first, second)?;
+    is_sent(
+        alloc,
+        Message::page(session, at, Vec::new(alloc), page),
+        Some(session),
+        &BRANCH,
+    )
 }
 
 #[test]
-fn the_page_of_a_branch_has_these_bytes(rt: HostRuntime) -> Result<(), Fail> {
+fn pages_have_these_bytes(rt: HostRuntime) -> Result<(), Fail> {
     let alloc = rt.alloc();
+    assert!(rt; sends_b(&rt, alloc)?);
     let first = *BRANCH[38..].first_chunk::<32>().ok_or("32")?;
     let second = *BRANCH[71..].first_chunk::<32>().ok_or("32")?;
-    assert!(rt; sends_branch(&rt, alloc, branch(alloc, first, second)?)?);
+    assert!(rt; sends_branch(&rt, alloc, first, second)?);
     Ok(())
 }
 
 // Whether a message is made of this page at the root with the value w.
 fn is_made(rt: &impl Abort, alloc: Global, page: Page) -> Result<bool, Refusal> {
-    let made = Message::page(session(rt, 1, 2, 1), Prefix::root(), only_w(alloc)?, page);
-    Ok(made.is_some())
+    Ok(is_there(with_w(rt, alloc, &[], page)?))
+}
+
+// Whether one is made of the page of b.
+fn is_made_of_b(rt: &impl Abort, alloc: Global) -> Result<bool, Refusal> {
+    let page = page_of_w(rt, alloc)?;
+    is_made(rt, alloc, page)
+}
+
+// Whether one is made of b with no field.
+fn is_made_of_no_field(rt: &impl Abort, alloc: Global) -> Result<bool, Refusal> {
+    let page = page_of_b(alloc, OrderedList::new(alloc))?;
+    is_made(rt, alloc, page)
+}
+
+// Whether one is made of a branch, which goes with no value.
+fn is_made_of_branch(rt: &impl Abort, alloc: Global) -> Result<bool, Refusal> {
+    let page = branch(alloc, [0; 32], [0; 32])?;
+    is_made(rt, alloc, page)
 }
 
 #[test]
 fn a_page_that_cannot_stand_there_makes_no_message(rt: HostRuntime) -> Result<(), Fail> {
     let alloc = rt.alloc();
-    assert!(rt; is_made(&rt, alloc, page_of_b(&rt, alloc)?)?);
-    assert!(rt; !is_made(&rt, alloc, branch(alloc, [0; 32], [0; 32])?)?);
+    assert!(rt; is_made_of_b(&rt, alloc)?);
+    assert!(rt; !is_made_of_branch(&rt, alloc)?);
     assert!(rt; !is_made(&rt, alloc, Page::Keys(Vec::new(alloc)))?);
-    assert!(rt;
-        !is_made(
-            &rt,
-            alloc,
-            Page::OneKey(Key::new(alloc, b"b")?, OrderedList::new(alloc))
-        )?
-    );
+    assert!(rt; !is_made_of_no_field(&rt, alloc)?);
     Ok(())
-}
-
-// Whether the bytes are decoded to the page at 5, 15 of one key, with one value.
-fn is_read_as_b(rt: &impl Abort, alloc: Global) -> Result<bool, Refusal> {
-    match decode(alloc, &KEY)? {
-        Message::Page(_, sent) => Ok(
-            sent.prefix() == prefix(rt, &[5, 15])
-                && sent.values().len() == 1
-                && matches!(sent.page(), Page::OneKey(..)),
-        ),
-        _ => Ok(false),
-    }
 }
 
 #[test]
 fn a_page_is_read_with_its_prefix_and_its_values(rt: HostRuntime) -> Result<(), Fail> {
-    assert!(rt; is_read_as_b(&rt, rt.alloc())?);
+    let form = Form::OneKey(prefix(&rt, &[5, 15]));
+    assert!(rt; is_read_as(rt.alloc(), &KEY, form)?);
     Ok(())
 }
 
 #[test]
 fn what_is_decoded_in_a_session_is_encoded_again(rt: HostRuntime) -> Result<(), Fail> {
-    let alloc = rt.alloc();
-    assert!(rt; is_encoded_again(alloc, &OPENING)?);
-    assert!(rt; is_encoded_again(alloc, &OPENING_WITH_ROOT)?);
-    assert!(rt; is_encoded_again(alloc, &ASK_ROOT)?);
-    assert!(rt; is_encoded_again(alloc, &ASK)?);
-    assert!(rt; is_encoded_again(alloc, &GONE)?);
-    Ok(())
-}
-
-#[test]
-fn a_page_that_is_decoded_is_encoded_again(rt: HostRuntime) -> Result<(), Fail> {
-    let alloc = rt.alloc();
-    assert!(rt; is_encoded_again(alloc, &BRANCH)?);
-    assert!(rt; is_encoded_again(alloc, &BRANCH[..70])?);
-    assert!(rt; is_encoded_again(alloc, &KEY)?);
-    assert!(rt; is_encoded_again(alloc, &KNOWN_KEY)?);
-    assert!(rt; is_encoded_again(alloc, &TWO_DOTS)?);
+    for bytes in [
+        OPENING.as_slice(),
+        OPENING_WITH_ROOT.as_slice(),
+        ASK_ROOT.as_slice(),
+        ASK.as_slice(),
+        GONE.as_slice(),
+        BRANCH.as_slice(),
+        &BRANCH[..70],
+        KEY.as_slice(),
+        KNOWN_KEY.as_slice(),
+        TWO_DOTS.as_slice(),
+    ] {
+        let length = bytes.len();
+        assert!(rt; is_encoded_again(rt.alloc(), bytes)?, "{length} bytes");
+    }
     Ok(())
 }
 
 #[test]
 fn a_part_of_a_message_in_a_session_or_a_longer_one_is_none(rt: HostRuntime) -> Result<(), Fail> {
-    let alloc = rt.alloc();
-    assert!(rt; is_whole_alone(alloc, &OPENING)?);
-    assert!(rt; is_whole_alone(alloc, &OPENING_WITH_ROOT)?);
-    assert!(rt; is_whole_alone(alloc, &ASK_ROOT)?);
-    assert!(rt; is_whole_alone(alloc, &ASK)?);
-    assert!(rt; is_whole_alone(alloc, &GONE)?);
-    Ok(())
-}
-
-#[test]
-fn a_part_of_a_page_of_one_key_or_a_longer_one_is_none(rt: HostRuntime) -> Result<(), Fail> {
-    let alloc = rt.alloc();
-    assert!(rt; is_whole_alone(alloc, &KEY)?);
-    assert!(rt; is_whole_alone(alloc, &KNOWN_KEY)?);
-    assert!(rt; is_whole_alone(alloc, &TWO_DOTS)?);
+    for bytes in [
+        OPENING.as_slice(),
+        OPENING_WITH_ROOT.as_slice(),
+        ASK_ROOT.as_slice(),
+        ASK.as_slice(),
+        GONE.as_slice(),
+        KEY.as_slice(),
+        KNOWN_KEY.as_slice(),
+        TWO_DOTS.as_slice(),
+    ] {
+        let length = bytes.len();
+        assert!(rt; is_whole_alone(rt.alloc(), bytes)?, "{length} bytes");
+    }
     Ok(())
 }
 
@@ -307,20 +334,12 @@ fn a_part_of_a_page_of_one_key_or_a_longer_one_is_none(rt: HostRuntime) -> Resul
 #[test]
 fn a_part_of_a_branch_is_a_message_where_a_child_ends(rt: HostRuntime) -> Result<(), Fail> {
     for length in 0..103 {
-        assert_eq!(rt;
-            is_message(rt.alloc(), &BRANCH[..length])?,
-            length == 70,
+        assert!(rt;
+            is_message(rt.alloc(), &BRANCH[..length])? == (length == 70),
             "cut to {length}"
         );
     }
     Ok(())
-}
-
-// Whether these bytes behind this version and this kind are a message.
-fn is_of(alloc: Global, version: u8, kind: u8, body: &[u8]) -> Result<bool, Refusal> {
-    let mut bytes = Vec::from_slice(alloc, &[version, kind])?;
-    bytes.extend_from_slice(body)?;
-    is_message(alloc, &bytes)
 }
 
 #[test]
@@ -332,129 +351,133 @@ fn a_message_of_a_session_has_one_version_and_one_kind(rt: HostRuntime) -> Resul
         assert!(rt; !is_of(alloc, version, 6, &KEY[2..])?, "{version}");
         assert!(rt; !is_of(alloc, version, 7, &GONE[2..])?, "{version}");
     }
-    for kind in [0, 2, 8, 255] {
-        assert!(rt; !is_of(alloc, 3, kind, &OPENING[2..])?, "{kind}");
-        assert!(rt; !is_of(alloc, 3, kind, &GONE[2..])?, "{kind}");
-    }
     Ok(())
 }
 
 #[test]
-fn an_opening_tells_no_digest_or_one(rt: HostRuntime) -> Result<(), Fail> {
-    let alloc = rt.alloc();
-    assert!(rt; !is_message(alloc, &changed(alloc, &OPENING, 58, 1)?)?);
-    assert!(rt; !is_message(alloc, &changed(alloc, &OPENING_WITH_ROOT, 58, 0)?)?);
-    assert!(rt; !is_message(alloc, &changed(alloc, &OPENING_WITH_ROOT, 58, 2)?)?);
-    assert!(rt; is_message(alloc, &changed(alloc, &OPENING_WITH_ROOT, 59, 2)?)?);
+fn a_message_of_a_session_has_no_other_kind(rt: HostRuntime) -> Result<(), Fail> {
+    for kind in [0, 2, 8, 255] {
+        assert!(rt; !is_of(rt.alloc(), 3, kind, &OPENING[2..])?, "{kind}");
+        assert!(rt; !is_of(rt.alloc(), 3, kind, &GONE[2..])?, "{kind}");
+    }
+    Ok(())
+}
+
+// The rows give the bytes, the place, the byte that is put there, and whether they then are a message: an opening tells no
+// digest or one, a page is of one of three kinds, names and numbers are not 0, dots ascend and each is there once, and
+// there are as many values as are counted.
+#[test]
+fn a_changed_byte_can_make_no_message(rt: HostRuntime) -> Result<(), Fail> {
+    for (bytes, at, byte, wanted) in [
+        (OPENING.as_slice(), 58, 1, false),
+        (OPENING_WITH_ROOT.as_slice(), 58, 0, false),
+        (OPENING_WITH_ROOT.as_slice(), 58, 2, false),
+        (OPENING_WITH_ROOT.as_slice(), 59, 2, true),
+        (KEY.as_slice(), 40, 3, false),
+        (KEY.as_slice(), 69, 0, false),
+        (KEY.as_slice(), 77, 0, false),
+        (KEY.as_slice(), 77, 3, true),
+        (TWO_DOTS.as_slice(), 123, 9, true),
+        (TWO_DOTS.as_slice(), 115, 1, false),
+        (TWO_DOTS.as_slice(), 67, 2, false),
+        (TWO_DOTS.as_slice(), 67, 3, false),
+        (KEY.as_slice(), 29, 255, false),
+        (KEY.as_slice(), 36, 2, false),
+    ] {
+        assert!(rt;
+            is_changed(rt.alloc(), bytes, at, byte)? == wanted,
+            "{byte} at {at}"
+        );
+    }
     Ok(())
 }
 
 // Whether an ask with these bytes behind its session is a message.
 fn asks(alloc: Global, prefix: &[u8]) -> Result<bool, Refusal> {
-    let mut bytes = Vec::from_slice(alloc, &ASK[..26])?;
-    bytes.extend_from_slice(prefix)?;
-    is_message(alloc, &bytes)
+    is_spelled(alloc, &[&ASK[..26], prefix])
 }
 
 #[test]
 fn a_prefix_has_at_most_seven_indices_that_can_be(rt: HostRuntime) -> Result<(), Fail> {
-    let alloc = rt.alloc();
-    assert!(rt; asks(alloc, &[6, 31, 31, 31, 31, 31, 31])?);
-    assert!(rt; asks(alloc, &[7, 31, 31, 31, 31, 31, 31, 3])?);
-    assert!(rt; !asks(alloc, &[7, 31, 31, 31, 31, 31, 31, 4])?);
-    assert!(rt; !asks(alloc, &[6, 31, 31, 31, 31, 31, 32])?);
-    assert!(rt; !asks(alloc, &[8, 0, 0, 0, 0, 0, 0, 0, 0])?);
+    for (prefix, wanted) in [
+        ([6, 31, 31, 31, 31, 31, 31].as_slice(), true),
+        ([7, 31, 31, 31, 31, 31, 31, 3].as_slice(), true),
+        ([7, 31, 31, 31, 31, 31, 31, 4].as_slice(), false),
+        ([6, 31, 31, 31, 31, 31, 32].as_slice(), false),
+        ([8, 0, 0, 0, 0, 0, 0, 0, 0].as_slice(), false),
+    ] {
+        assert!(rt; asks(rt.alloc(), prefix)? == wanted, "{prefix:?}");
+    }
     Ok(())
 }
 
 // Whether a message with this page at this prefix, and with no value, is one.
 fn is_page(alloc: Global, prefix: &[u8], page: &[u8]) -> Result<bool, Refusal> {
-    let mut bytes = Vec::from_slice(alloc, &BRANCH[..26])?;
-    bytes.extend_from_slice(prefix)?;
-    bytes.extend_from_slice(&[0; 8])?;
-    bytes.extend_from_slice(page)?;
-    is_message(alloc, &bytes)
-}
-
-// The page of a branch of these two children.
-fn of_children(alloc: Global, first: u8, second: u8) -> Result<Vec<u8>, Refusal> {
-    let mut page = Vec::from_slice(alloc, &[2, first])?;
-    page.extend_from_slice(&NAME_OF_W)?;
-    page.push(second)?;
-    page.extend_from_slice(&NAME_OF_W)?;
-    Ok(page)
+    is_spelled(alloc, &[&BRANCH[..26], prefix, [0; 8].as_slice(), page])
 }
 
 // Whether a branch of these two children is a message at this prefix.
 fn is_branch(alloc: Global, prefix: &[u8], first: u8, second: u8) -> Result<bool, Refusal> {
-    is_page(alloc, prefix, &of_children(alloc, first, second)?)
+    is_spelled(
+        alloc,
+        &[
+            &BRANCH[..26],
+            prefix,
+            [0; 8].as_slice(),
+            [2, first].as_slice(),
+            NAME_OF_W.as_slice(),
+            [second].as_slice(),
+            NAME_OF_W.as_slice(),
+        ],
+    )
 }
 
 #[test]
 fn children_ascend_and_can_be_at_their_depth(rt: HostRuntime) -> Result<(), Fail> {
-    let alloc = rt.alloc();
-    assert!(rt; is_branch(alloc, &[0], 0, 31)?);
-    assert!(rt; !is_branch(alloc, &[0], 0, 32)?);
-    assert!(rt; !is_branch(alloc, &[0], 5, 5)?);
-    assert!(rt; !is_branch(alloc, &[0], 6, 5)?);
-    assert!(rt; is_branch(alloc, &[6, 0, 0, 0, 0, 0, 0], 0, 3)?);
-    assert!(rt; !is_branch(alloc, &[6, 0, 0, 0, 0, 0, 0], 0, 4)?);
-    assert!(rt; !is_branch(alloc, &[7, 0, 0, 0, 0, 0, 0, 0], 0, 3)?);
+    for (prefix, first, second, wanted) in [
+        ([0].as_slice(), 0, 31, true),
+        ([0].as_slice(), 0, 32, false),
+        ([0].as_slice(), 5, 5, false),
+        ([0].as_slice(), 6, 5, false),
+        ([6, 0, 0, 0, 0, 0, 0].as_slice(), 0, 3, true),
+        ([6, 0, 0, 0, 0, 0, 0].as_slice(), 0, 4, false),
+        ([7, 0, 0, 0, 0, 0, 0, 0].as_slice(), 0, 3, false),
+    ] {
+        assert!(rt;
+            is_branch(rt.alloc(), prefix, first, second)? == wanted,
+            "{prefix:?} with {first}, {second}"
+        );
+    }
     Ok(())
 }
 
 #[test]
-fn a_page_is_not_empty_and_has_one_of_three_kinds(rt: HostRuntime) -> Result<(), Fail> {
-    let alloc = rt.alloc();
-    assert!(rt; is_page(alloc, &[0], &KEY[40..])?);
-    assert!(rt; !is_page(alloc, &[0], &[])?);
-    assert!(rt; !is_page(alloc, &[0], &[2])?);
-    assert!(rt; !is_page(alloc, &[7, 0, 0, 0, 0, 0, 0, 0], &[1])?);
-    assert!(rt; !is_message(alloc, &changed(alloc, &KEY, 40, 3)?)?);
+fn a_page_is_not_empty(rt: HostRuntime) -> Result<(), Fail> {
+    for (prefix, page, wanted) in [
+        ([0].as_slice(), &KEY[40..], true),
+        ([0].as_slice(), [].as_slice(), false),
+        ([0].as_slice(), [2].as_slice(), false),
+        ([7, 0, 0, 0, 0, 0, 0, 0].as_slice(), [1].as_slice(), false),
+    ] {
+        assert!(rt;
+            is_page(rt.alloc(), prefix, page)? == wanted,
+            "{page:?} at {prefix:?}"
+        );
+    }
     Ok(())
 }
 
 // Whether the branch with one value is a message.
 fn is_branch_with_a_value(alloc: Global) -> Result<bool, Refusal> {
-    let mut bytes = Vec::from_slice(alloc, &BRANCH[..28])?;
-    bytes.extend_from_slice(&KEY[29..40])?;
-    bytes.extend_from_slice(&BRANCH[36..])?;
-    is_message(alloc, &bytes)
+    is_spelled(alloc, &[&BRANCH[..28], &KEY[29..40], &BRANCH[36..]])
 }
 
+// A key without a field, a field without a dot, and a branch with a value.
 #[test]
-fn a_branch_goes_with_no_value(rt: HostRuntime) -> Result<(), Fail> {
+fn what_a_page_cannot_have_makes_no_message(rt: HostRuntime) -> Result<(), Fail> {
+    assert!(rt; !is_cut(rt.alloc(), &KEY, 44, &[0; 8])?);
+    assert!(rt; !is_cut(rt.alloc(), &KEY, 54, &[0; 8])?);
     assert!(rt; !is_branch_with_a_value(rt.alloc())?);
-    Ok(())
-}
-
-// The page of the key b up to here, and the count 0 in the place of the next one.
-fn is_cut_with_zero(alloc: Global, at: usize) -> Result<bool, Refusal>
-    requires { at ≤ 110 }
-{
-    let mut bytes = Vec::from_slice(alloc, &KEY[..at])?;
-    bytes.extend_from_slice(&[0; 8])?;
-    is_message(alloc, &bytes)
-}
-
-#[test]
-fn a_key_of_a_page_has_a_field_and_a_field_has_a_dot(rt: HostRuntime) -> Result<(), Fail> {
-    let alloc = rt.alloc();
-    assert!(rt; !is_cut_with_zero(alloc, 44)?);
-    assert!(rt; !is_cut_with_zero(alloc, 54)?);
-    assert!(rt; !is_message(alloc, &changed(alloc, &KEY, 69, 0)?)?);
-    assert!(rt; !is_message(alloc, &changed(alloc, &KEY, 77, 0)?)?);
-    assert!(rt; is_message(alloc, &changed(alloc, &KEY, 77, 3)?)?);
-    Ok(())
-}
-
-#[test]
-fn dots_of_a_page_ascend_and_each_is_there_once(rt: HostRuntime) -> Result<(), Fail> {
-    let alloc = rt.alloc();
-    assert!(rt; is_message(alloc, &changed(alloc, &TWO_DOTS, 123, 9)?)?);
-    assert!(rt; !is_message(alloc, &changed(alloc, &TWO_DOTS, 115, 1)?)?);
-    assert!(rt; !is_message(alloc, &changed(alloc, &TWO_DOTS, 67, 2)?)?);
-    assert!(rt; !is_message(alloc, &changed(alloc, &TWO_DOTS, 67, 3)?)?);
     Ok(())
 }
 
@@ -465,51 +488,44 @@ fn push_entry(bytes: &mut Vec<u8>, key: u8) -> Result<(), Refusal> {
     Ok(())
 }
 
-// The page of these keys.
-fn of_keys(alloc: Global, keys: &[u8]) -> Result<Vec<u8>, Refusal> {
+// Whether the page of these keys is a message at this prefix.
+fn is_list(alloc: Global, prefix: &[u8], keys: &[u8]) -> Result<bool, Refusal> {
     let mut page = Vec::from_slice(alloc, &[1])?;
     for key in keys {
         push_entry(&mut page, *key)?;
     }
-    Ok(page)
-}
-
-// Whether the page of these keys is a message at this prefix.
-fn is_list(alloc: Global, prefix: &[u8], keys: &[u8]) -> Result<bool, Refusal> {
-    is_page(alloc, prefix, &of_keys(alloc, keys)?)
+    is_page(alloc, prefix, &page)
 }
 
 #[test]
 fn keys_of_a_page_ascend_past_the_last_index(rt: HostRuntime) -> Result<(), Fail> {
-    let alloc = rt.alloc();
     let last = [7, 0, 0, 0, 0, 0, 0, 0];
-    assert!(rt; is_list(alloc, &last, b"ab")?);
-    assert!(rt; !is_list(alloc, &last, b"a")?);
-    assert!(rt; !is_list(alloc, &last, b"ba")?);
-    assert!(rt; !is_list(alloc, &last, b"aa")?);
-    assert!(rt; !is_list(alloc, &[6, 0, 0, 0, 0, 0, 0], b"ab")?);
+    for (keys, wanted) in [
+        (b"ab".as_slice(), true),
+        (b"a".as_slice(), false),
+        (b"ba".as_slice(), false),
+        (b"aa".as_slice(), false),
+    ] {
+        assert!(rt; is_list(rt.alloc(), &last, keys)? == wanted, "{keys:?}");
+    }
+    assert!(rt; !is_list(rt.alloc(), &[6, 0, 0, 0, 0, 0, 0], b"ab")?);
     Ok(())
 }
 
 // The message of the page of keys from 0 on, so many.
 fn many_keys(alloc: Global, number: u8) -> Result<Vec<u8>, Refusal> {
     let mut bytes = Vec::from_slice(alloc, &BRANCH[..26])?;
-    bytes.extend_from_slice(&[7, 0, 0, 0, 0, 0, 0, 0])?;
-    bytes.extend_from_slice(&[0; 8])?;
-    bytes.push(1)?;
+    bytes.extend_from_slice(&[7, 0, 0, 0, 0, 0, 0, 0, 0, 0, 0, 0, 0, 0, 0, 0, 1])?;
     for key in 0..number {
         push_entry(&mut bytes, key)?;
     }
     Ok(bytes)
 }
 
-#[test]
-fn forty_keys_are_read_and_encoded_again(rt: HostRuntime) -> Result<(), Fail> {
-    let alloc = rt.alloc();
-    let bytes = many_keys(alloc, 40)?;
-    assert_eq!(rt; bytes.len(), 43 + 40 * 69);
-    assert!(rt; is_encoded_again(alloc, &bytes)?);
-    Ok(())
+// Whether the message of so many keys has this length, and is read and encoded again.
+fn are_keys(alloc: Global, number: u8, length: usize) -> Result<bool, Refusal> {
+    let bytes = many_keys(alloc, number)?;
+    Ok(bytes.len() == length && is_encoded_again(alloc, &bytes)?)
 }
 
 // The page of b with so many values.
@@ -523,18 +539,16 @@ fn many_values(alloc: Global, number: u8) -> Result<Vec<u8>, Refusal> {
     Ok(bytes)
 }
 
-#[test]
-fn forty_values_are_read_and_encoded_again(rt: HostRuntime) -> Result<(), Fail> {
-    let alloc = rt.alloc();
-    assert!(rt; is_encoded_again(alloc, &many_values(alloc, 40)?)?);
-    assert!(rt; is_encoded_again(alloc, &many_values(alloc, 0)?)?);
-    Ok(())
+// Whether the page of b with so many values is read and encoded again.
+fn are_values(alloc: Global, number: u8) -> Result<bool, Refusal> {
+    let bytes = many_values(alloc, number)?;
+    is_encoded_again(alloc, &bytes)
 }
 
 #[test]
-fn a_count_of_values_past_the_end_makes_no_message(rt: HostRuntime) -> Result<(), Fail> {
-    let alloc = rt.alloc();
-    assert!(rt; !is_message(alloc, &changed(alloc, &KEY, 29, 255)?)?);
-    assert!(rt; !is_message(alloc, &changed(alloc, &KEY, 36, 2)?)?);
+fn forty_keys_and_forty_values_are_read_and_encoded_again(rt: HostRuntime) -> Result<(), Fail> {
+    assert!(rt; are_keys(rt.alloc(), 40, 43 + 40 * 69)?);
+    assert!(rt; are_values(rt.alloc(), 40)?);
+    assert!(rt; are_values(rt.alloc(), 0)?);
     Ok(())
 }
