@@ -1,4 +1,5 @@
 pub mod Pairs
+pub mod Posted
 pub mod Firsts
 pub mod Growth
 pub mod Meant

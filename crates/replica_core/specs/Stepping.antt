@@ -3,7 +3,7 @@ use Rattle.std.specs.Prelude.{◌≡◌, ◌⊎◌, ℕ, List, [], ◌∷◌, ma
 use Rattle.dots.specs.declared.refusal.Refusal.{Refusal}
 use Rattle.dots.specs.declared.refusal.Refusal.TheVariants.{OutOfMemory}
 use Rattle.wire_form.specs.declared.message.Message.{Message}
-use Rattle.wire_form.specs.Message.{message_of}
+use Rattle.wire_form.specs.Message.{MessageValue, message_of}
 use Rattle.replica_model.specs.Mail.{Mail, mail_of}
 use Rattle.replica_model.specs.Step.{Act, Call, Answer, IsStep, Refuses}
 use Rattle.replica_core.specs.Meaning.{ReplicaValue, hash_in, meaning}
@@ -11,6 +11,10 @@ use Rattle.replica_core.specs.Meaning.{ReplicaValue, hash_in, meaning}
 -- the messages, by what they mean
 abbrev pub mails_of : {A : Type 0} → List (Message A) → List Mail
 mails_of messages = map (λ m. mail_of (message_of m)) messages
+
+abbrev pub message_or_none : {A : Type 0} → Option (Message A) → List MessageValue
+message_or_none None = []
+message_or_none (Some m) = message_of m ∷ []
 
 abbrev pub mail_or_none : {A : Type 0} → Option (Message A) → List Mail
 mail_or_none None = []

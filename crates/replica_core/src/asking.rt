@@ -21,7 +21,7 @@ use crate::sessions::place_numbered;
 use dots::{Name, Refusal};
 use hash_path::PathHash;
 use std::alloc::Allocator;
-use sync_protocol::Asker;
+use sync_protocol::{Asker, Outbox, Unposted};
 use wire_form::{Message, Session};
 
 // At most so many own synchronisations are open.
@@ -39,13 +39,33 @@ impl<H: PathHash, A: Allocator + Copy> Replica<H, A> {
         ensures refused { IfErr result (IsRefused self.old (Ask peer)) }
         ensures unchanged { OnErr result (Stays self.old self.new) }
     {
+        let mut outbox = Unposted;
+        match self.ask_to(peer, &mut outbox) {
+            Ok(asked) => Ok(asked),
+            Err(refusal) => Err(refusal),
+        }
+    }
+
+    /// Opens a synchronisation with a peer, as `ask` does, and posts its hello in this outbox before it is open: where the outbox refuses
+    /// it, the call is refused, and neither is changed.
+    pub fn ask_to<O: Outbox<A>>(
+        &mut self,
+        peer: Name,
+        outbox: &mut O,
+    ) -> Result<(u64, Message<A>), Refusal>
+        ensures ok { IfOk result (λ asked. Steps H.hash_of self.old self.new (Do (Ask peer)) (Numbered asked.0) (mail_of (message_of asked.1) ∷ [])) }
+        ensures posted { IfOk result (λ asked. O.gains outbox.old outbox.new (message_of asked.1 ∷ [])) }
+        ensures unposted { OnErr result (outbox.new ≡ outbox.old) }
+        ensures refused { IfErr result (IsRefused self.old (Ask peer)) }
+        ensures unchanged { OnErr result (Stays self.old self.new) }
+    {
         if self.sessions.len() >= LIMIT {
             return Err(Refusal::SessionsFull);
         }
         let Some(session) = self.next_session(peer) else {
             return Err(Refusal::NumbersSpent);
         };
-        match self.open(session) {
+        match self.open(session, outbox) {
             Ok(hello) => Ok((session.number(), hello)),
             Err(refusal) => Err(refusal),
         }
@@ -91,10 +111,16 @@ impl<H: PathHash, A: Allocator + Copy> Replica<H, A> {
     }
 
     // Opens this session, which is the next: its hello.
-    fn open(&mut self, session: Session) -> Result<Message<A>, Refusal>
+    fn open<O: Outbox<A>>(
+        &mut self,
+        session: Session,
+        outbox: &mut O,
+    ) -> Result<Message<A>, Refusal>
         requires { session ≡ model.next_session (meaning self.old) session.answerer }
         ensures ok { OnOk result (meaning self.new ≡ opens (meaning self.old) session.answerer self.old.live.0.0.1) }
         ensures hello { IfOk result (λ hello. message_of hello ≡ form.Hello session self.old.live.0.1) }
+        ensures posted { IfOk result (λ hello. O.gains outbox.old outbox.new (message_of hello ∷ [])) }
+        ensures unposted { OnErr result (outbox.new ≡ outbox.old) }
         ensures map { OnOk result (IsMapOf self.old.live.0.0.1 (meaning self.old).live) }
         ensures hash { hash_in self.new ≡ hash_in self.old }
         ensures refused { IsOkUnless result Refusal.OutOfMemory }
@@ -103,6 +129,7 @@ impl<H: PathHash, A: Allocator + Copy> Replica<H, A> {
         self.live.seal()?;
         self.sessions.reserve(1)?;
         let (asker, hello) = self.begin(session)?;
+        outbox.post(self.alloc, &hello)?;
         add(&mut self.sessions, asker);
         self.opened = session.number();
         Ok(hello)

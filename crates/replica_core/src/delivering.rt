@@ -1,8 +1,9 @@
 // What a replica takes in: messages of any kind, from any sender.
-ghost use Rattle.std.specs.Prelude.{◌≡◌, ◌⊎◌, [], OnOk, IfOk, IfErr, OnErr, IsOkUnless};
+ghost use Rattle.std.specs.Prelude.{◌≡◌, ◌⊎◌, [], map, OnOk, IfOk, IfErr, OnErr, IsOkUnless};
 ghost use Rattle.causal_context.specs.Context.{has};
 ghost use Rattle.causal_join.specs.OrMap.{or_map_state};
 ghost use Rattle.wire_form.specs.Message.{MessageValue, Spells, SpellsNone, message_of};
+ghost use Rattle.sync_protocol.specs.Posting.{IsPosted};
 ghost use Rattle.replica_model.specs.Delivery.{Joined};
 ghost use Rattle.replica_model.specs.Mail.{Delta, Hello, Ask, mail_of};
 ghost use Rattle.replica_model.specs.Step.{Take, Came};
@@ -18,6 +19,7 @@ use causal_join::OrMap;
 use dots::Refusal;
 use hash_path::{PathHash, Prefix};
 use std::alloc::Allocator;
+use sync_protocol::{Outbox, Unposted};
 use wire_form::{Message, Session, decode};
 
 impl<H: PathHash, A: Allocator + Copy> Replica<H, A> {
@@ -37,16 +39,36 @@ impl<H: PathHash, A: Allocator + Copy> Replica<H, A> {
         ensures refused { IsOkUnless result Refusal.OutOfMemory }
         ensures unchanged { OnErr result (Stays self.old self.new) }
     {
+        let mut outbox = Unposted;
+        match self.deliver_to(message, &mut outbox) {
+            Ok(told) => Ok(told),
+            Err(refusal) => Err(refusal),
+        }
+    }
+
+    /// Takes a message in, as `deliver` does, and posts what is to be sent for it in this outbox before it changes anything: where the
+    /// outbox refuses that, the call is refused, and neither is changed.
+    pub fn deliver_to<O: Outbox<A>>(
+        &mut self,
+        message: &Message<A>,
+        outbox: &mut O,
+    ) -> Result<Delivered<A>, Refusal>
+        ensures ok { IfOk result (λ told. Steps H.hash_of self.old self.new (Take (mail_of (message_of message.now))) (Came (outcome_of told.outcome)) (mails_of told.replies.items)) }
+        ensures posted { IfOk result (λ told. IsPosted O.gains outbox.old outbox.new (map message_of told.replies.items)) }
+        ensures unposted { OnErr result (outbox.new ≡ outbox.old) }
+        ensures refused { IsOkUnless result Refusal.OutOfMemory }
+        ensures unchanged { OnErr result (Stays self.old self.new) }
+    {
         match message {
             Message::Delta(delta) => {
                 self.take_delta(delta)?;
                 Ok(Delivered::silent(self.alloc, Outcome::Joined))
             }
-            Message::Hello(session, seen) => self.take_hello(*session, seen),
-            Message::Ask(session, prefix) => self.take_ask(*session, *prefix),
-            Message::Opening(session, _, _) => self.take_opening(*session, message),
-            Message::Page(session, _) => self.take_page(*session, message),
-            Message::Gone(session) => self.take_page(*session, message),
+            Message::Hello(session, seen) => self.take_hello(*session, seen, outbox),
+            Message::Ask(session, prefix) => self.take_ask(*session, *prefix, outbox),
+            Message::Opening(session, _, _) => self.take_opening(*session, message, outbox),
+            Message::Page(session, _) => self.take_page(*session, message, outbox),
+            Message::Gone(session) => self.take_page(*session, message, outbox),
         }
     }
 
@@ -82,8 +104,15 @@ impl<H: PathHash, A: Allocator + Copy> Replica<H, A> {
     }
 
     // Answers a hello with the opening of its session's snapshot.
-    fn take_hello(&mut self, session: Session, seen: &Context<A>) -> Result<Delivered<A>, Refusal>
+    fn take_hello<O: Outbox<A>>(
+        &mut self,
+        session: Session,
+        seen: &Context<A>,
+        outbox: &mut O,
+    ) -> Result<Delivered<A>, Refusal>
         ensures ok { IfOk result (λ told. Steps H.hash_of self.old self.new (Take (Hello session (has seen.now))) (Came (outcome_of told.outcome)) (mails_of told.replies.items)) }
+        ensures posted { IfOk result (λ told. IsPosted O.gains outbox.old outbox.new (map message_of told.replies.items)) }
+        ensures unposted { OnErr result (outbox.new ≡ outbox.old) }
         ensures refused { IsOkUnless result Refusal.OutOfMemory }
         ensures unchanged { OnErr result (Stays self.old self.new) }
     {
@@ -99,13 +128,21 @@ impl<H: PathHash, A: Allocator + Copy> Replica<H, A> {
             seen,
             self.live.store(),
             self.live.context(),
+            outbox,
         )?;
         Ok(Delivered::answered(room, opening))
     }
 
     // Answers an ask with the page of its session's snapshot, if there is one, or with a gone.
-    fn take_ask(&mut self, session: Session, prefix: Prefix) -> Result<Delivered<A>, Refusal>
+    fn take_ask<O: Outbox<A>>(
+        &mut self,
+        session: Session,
+        prefix: Prefix,
+        outbox: &mut O,
+    ) -> Result<Delivered<A>, Refusal>
         ensures ok { IfOk result (λ told. Steps H.hash_of self.old self.new (Take (Ask session prefix)) (Came (outcome_of told.outcome)) (mails_of told.replies.items)) }
+        ensures posted { IfOk result (λ told. IsPosted O.gains outbox.old outbox.new (map message_of told.replies.items)) }
+        ensures unposted { OnErr result (outbox.new ≡ outbox.old) }
         ensures refused { IsOkUnless result Refusal.OutOfMemory }
         ensures unchanged { OnErr result (Stays self.old self.new) }
     {
@@ -117,6 +154,7 @@ impl<H: PathHash, A: Allocator + Copy> Replica<H, A> {
             return Ok(Delivered::silent(self.alloc, Outcome::Ignored));
         };
         let room = Vec::with_capacity(self.alloc, 1)?;
+        outbox.post(self.alloc, &answer)?;
         Ok(Delivered::answered(room, answer))
     }
 }

@@ -5,7 +5,8 @@ ghost use Rattle.op_model.specs.Place.{place_of, plain};
 ghost use Rattle.replica_model.specs.Replica.{makes};
 ghost use Rattle.replica_model.specs.Step.{Do, Put, Remove, RemoveField, Clear, Flush, Made, Counted, Nothing};
 ghost use Rattle.replica_core.specs.Meaning.{hash_in, meaning};
-ghost use Rattle.replica_core.specs.Stepping.{Steps, Stays, IsRefused, mail_or_none};
+ghost use Rattle.sync_protocol.specs.Posting.{IsPosted};
+ghost use Rattle.replica_core.specs.Stepping.{Steps, Stays, IsRefused, mail_or_none, message_or_none};
 
 use crate::replica::Replica;
 use causal_join::OrMap;
@@ -13,6 +14,7 @@ use delta_ops::{clear, put_field, remove, remove_field};
 use dots::{Dot, Field, Key, Refusal, Value};
 use hash_path::PathHash;
 use std::alloc::Allocator;
+use sync_protocol::{Outbox, Unposted};
 use wire_form::Message;
 
 impl<H: PathHash, A: Allocator + Copy> Replica<H, A> {
@@ -105,11 +107,29 @@ impl<H: PathHash, A: Allocator + Copy> Replica<H, A> {
         ensures refused { IsOkUnless result Refusal.OutOfMemory }
         ensures unchanged { OnErr result (Stays self.old self.new) }
     {
+        let mut outbox = Unposted;
+        match self.flush_to(&mut outbox) {
+            Ok(sent) => Ok(sent),
+            Err(refusal) => Err(refusal),
+        }
+    }
+
+    /// The delta of all that it made since the last flush, as `flush` gives it, which is posted in this outbox before it counts as sent:
+    /// where the outbox refuses it, the call is refused, and neither is changed.
+    pub fn flush_to<O: Outbox<A>>(&mut self, outbox: &mut O) -> Result<Option<Message<A>>, Refusal>
+        ensures ok { IfOk result (λ sent. Steps H.hash_of self.old self.new (Do Flush) Nothing (mail_or_none sent)) }
+        ensures posted { IfOk result (λ sent. IsPosted O.gains outbox.old outbox.new (message_or_none sent)) }
+        ensures unposted { OnErr result (outbox.new ≡ outbox.old) }
+        ensures refused { IsOkUnless result Refusal.OutOfMemory }
+        ensures unchanged { OnErr result (Stays self.old self.new) }
+    {
         let Some(whole) = self.group.whole(self.alloc)? else {
             return Ok(None);
         };
+        let delta = Message::Delta(whole);
+        outbox.post(self.alloc, &delta)?;
         self.group.clear();
-        Ok(Some(Message::Delta(whole)))
+        Ok(Some(delta))
     }
 
     // Joins the delta of an own operation into what the replica holds and into what it is to send. One that knows no dot, as of a remove

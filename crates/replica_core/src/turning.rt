@@ -1,5 +1,5 @@
 // How an own session of a replica goes on.
-ghost use Rattle.std.specs.Prelude.{◌≡◌, ◌⊎◌, ℕ, List, [], true, Option, Some, OnOk, IfOk, OnErr, IsOkUnless};
+ghost use Rattle.std.specs.Prelude.{◌≡◌, ◌⊎◌, ℕ, List, [], map, true, Option, Some, OnOk, IfOk, OnErr, IsOkUnless};
 ghost use Rattle.std.specs.FinMap as finite;
 ghost use Rattle.std.specs.List.{slice_get};
 ghost use Rattle.causal_context.specs.Context.{ContextValue, has};
@@ -11,6 +11,7 @@ ghost use Rattle.sync_model.specs.Closing as closing;
 ghost use Rattle.sync_model.specs.Laws.{IsWithin};
 ghost use Rattle.page_taking.specs.Building.{BuiltValue, GoesOn};
 ghost use Rattle.sync_protocol.specs.Asking.{AskerValue, Complete, IsFrom, state_of};
+ghost use Rattle.sync_protocol.specs.Posting.{IsPosted};
 ghost use Rattle.sync_protocol.specs.Turning as turning;
 ghost use Rattle.sync_protocol.specs.Turns.{step_of};
 ghost use Rattle.replica_model.specs.Delivery as model;
@@ -32,18 +33,21 @@ use crate::sessions::place_of;
 use dots::Refusal;
 use hash_path::PathHash;
 use std::alloc::Allocator;
-use sync_protocol::{Asker, Opened, Step, Turn};
+use sync_protocol::{Asker, Opened, Outbox, Step, Turn};
 use wire_form::{Message, Session};
 
 impl<H: PathHash, A: Allocator + Copy> Replica<H, A> {
     // Takes an opening of this session.
-    pub(crate) fn take_opening(
+    pub(crate) fn take_opening<O: Outbox<A>>(
         &mut self,
         session: Session,
         message: &Message<A>,
+        outbox: &mut O,
     ) -> Result<Delivered<A>, Refusal>
         requires { (context : ContextValue) × (root : Option (List ℕ)) × (message_of message.now ≡ form.Opening session context root) }
         ensures ok { IfOk result (λ told. Steps H.hash_of self.old self.new (Take (mail_of (message_of message.now))) (Came (outcome_of told.outcome)) (mails_of told.replies.items)) }
+        ensures posted { IfOk result (λ told. IsPosted O.gains outbox.old outbox.new (map message_of told.replies.items)) }
+        ensures unposted { OnErr result (outbox.new ≡ outbox.old) }
         ensures refused { IsOkUnless result Refusal.OutOfMemory }
         ensures unchanged { OnErr result (Stays self.old self.new) }
     {
@@ -52,17 +56,20 @@ impl<H: PathHash, A: Allocator + Copy> Replica<H, A> {
             return Ok(Delivered::silent(self.alloc, Outcome::Ignored));
         };
         let turn = self.sessions[place].on_opening(self.alloc, message)?;
-        self.take_turn(place, turn)
+        self.take_turn(place, turn, outbox)
     }
 
     // Takes a page of this session, or that its answerer does not keep it.
-    pub(crate) fn take_page(
+    pub(crate) fn take_page<O: Outbox<A>>(
         &mut self,
         session: Session,
         message: &Message<A>,
+        outbox: &mut O,
     ) -> Result<Delivered<A>, Refusal>
         requires { ((sent : SentValue) × (message_of message.now ≡ form.Page session sent)) ⊎ (message_of message.now ≡ form.Gone session) }
         ensures ok { IfOk result (λ told. Steps H.hash_of self.old self.new (Take (mail_of (message_of message.now))) (Came (outcome_of told.outcome)) (mails_of told.replies.items)) }
+        ensures posted { IfOk result (λ told. IsPosted O.gains outbox.old outbox.new (map message_of told.replies.items)) }
+        ensures unposted { OnErr result (outbox.new ≡ outbox.old) }
         ensures refused { IsOkUnless result Refusal.OutOfMemory }
         ensures unchanged { OnErr result (Stays self.old self.new) }
     {
@@ -71,26 +78,27 @@ impl<H: PathHash, A: Allocator + Copy> Replica<H, A> {
             return Ok(Delivered::silent(self.alloc, Outcome::Ignored));
         };
         let turn = self.sessions[place].on_page(self.alloc, message)?;
-        self.take_turn(place, turn)
+        self.take_turn(place, turn, outbox)
     }
 
     // Puts the session at this place where its turn leads.
-    fn take_turn(&mut self, place: usize, turn: Turn<H, A>) -> Result<Delivered<A>, Refusal>
+    fn take_turn<O: Outbox<A>>(
+        &mut self,
+        place: usize,
+        turn: Turn<H, A>,
+        outbox: &mut O,
+    ) -> Result<Delivered<A>, Refusal>
         requires { (a : AskerValue H) × (slice_get self.old.sessions place ≡ Some a) × CanTake H.hash_of a turn.next (step_of turn.step) }
         ensures ok { IfOk result (λ told. turned (meaning self.old) (state_of turn.next) (step_of turn.step) ≡ model.turn (meaning self.new) (outcome_of told.outcome) (mails_of told.replies.items)) }
+        ensures posted { IfOk result (λ told. IsPosted O.gains outbox.old outbox.new (map message_of told.replies.items)) }
+        ensures unposted { OnErr result (outbox.new ≡ outbox.old) }
         ensures hash { hash_in self.new ≡ hash_in self.old }
         ensures refused { IsOkUnless result Refusal.OutOfMemory }
         ensures unchanged { OnErr result (meaning self.new ≡ meaning self.old) }
     {
         let Turn { next, step } = turn;
         match step {
-            Step::Sent(replies) => {
-                self.advance(place, next);
-                Ok(Delivered {
-                    outcome: Outcome::Sent,
-                    replies,
-                })
-            }
+            Step::Sent(replies) => self.send(place, next, replies, outbox),
             Step::Done => self.close(place, next),
             Step::Ignored => Ok(Delivered::silent(self.alloc, Outcome::Ignored)),
             Step::Mismatch => Ok(Delivered::silent(self.alloc, Outcome::Mismatch)),
@@ -99,6 +107,30 @@ impl<H: PathHash, A: Allocator + Copy> Replica<H, A> {
                 Ok(Delivered::silent(self.alloc, Outcome::Gone))
             }
         }
+    }
+
+    // Posts what the session at this place sends, and it goes on as this one.
+    fn send<O: Outbox<A>>(
+        &mut self,
+        place: usize,
+        next: Asker<H, A>,
+        replies: Vec<Message<A>, A>,
+        outbox: &mut O,
+    ) -> Result<Delivered<A>, Refusal>
+        requires { (a : AskerValue H) × (slice_get self.old.sessions place ≡ Some a) × CanTake H.hash_of a next (turning.Sent (map message_of replies.items)) }
+        ensures ok { IfOk result (λ told. turned (meaning self.old) (state_of next) (turning.Sent (map message_of replies.items)) ≡ model.turn (meaning self.new) (outcome_of told.outcome) (mails_of told.replies.items)) }
+        ensures posted { IfOk result (λ told. O.gains outbox.old outbox.new (map message_of told.replies.items)) }
+        ensures unposted { OnErr result (outbox.new ≡ outbox.old) }
+        ensures hash { hash_in self.new ≡ hash_in self.old }
+        ensures refused { IsOkUnless result Refusal.OutOfMemory }
+        ensures unchanged { OnErr result (meaning self.new ≡ meaning self.old) }
+    {
+        outbox.post_all(self.alloc, replies.as_slice())?;
+        self.advance(place, next);
+        Ok(Delivered {
+            outcome: Outcome::Sent,
+            replies,
+        })
     }
 
     // The session at this place goes on as this one.
@@ -123,6 +155,7 @@ impl<H: PathHash, A: Allocator + Copy> Replica<H, A> {
     fn close(&mut self, place: usize, next: Asker<H, A>) -> Result<Delivered<A>, Refusal>
         requires { (a : AskerValue H) × (slice_get self.old.sessions place ≡ Some a) × CanTake H.hash_of a next turning.Done }
         ensures ok { IfOk result (λ told. turned (meaning self.old) (state_of next) turning.Done ≡ model.turn (meaning self.new) (outcome_of told.outcome) (mails_of told.replies.items)) }
+        ensures silent { IfOk result (λ told. told.replies.items ≡ []) }
         ensures hash { hash_in self.new ≡ hash_in self.old }
         ensures refused { IsOkUnless result Refusal.OutOfMemory }
         ensures unchanged { OnErr result (meaning self.new ≡ meaning self.old) }

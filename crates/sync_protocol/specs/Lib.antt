@@ -1,5 +1,6 @@
 pub mod Snapshot
 pub mod Answering
+pub mod Posting
 pub mod Laws
 pub mod Asking
 pub mod Turning

@@ -1,9 +1,10 @@
-ghost use Rattle.std.specs.Prelude.{◌≡◌, ◌≤◌, [], length, IfOk, OnOk, OnErr, IsOkUnless};
+ghost use Rattle.std.specs.Prelude.{◌≡◌, ◌≤◌, [], ◌∷◌, length, IfOk, OnOk, OnErr, IsOkUnless};
 ghost use Rattle.std.specs.Option.{option_map};
 ghost use Rattle.wire_form.specs.Message.{message_of};
 ghost use Rattle.sync_protocol.specs.Answering.{LIMIT, kept_after, told_of, opening_of, answer_of};
 
 use crate::keeping::{Snapshots, copy_all, keep};
+use crate::outbox::Outbox;
 use crate::snapshot::{FieldStore, Snapshot};
 use causal_context::Context;
 use dots::Refusal;
@@ -44,36 +45,39 @@ impl<H: PathHash, A: Allocator + Copy> Answerer<H, A> {
     }
 
     /// The answer to a hello of this session, whose asker knows the dots of `seen`, at a replica that holds this store and knows
-    /// the dots of this context: the opening of the session's snapshot. Where the session is kept that is the snapshot that is
-    /// kept, and nothing moves; else it is a new one, which is kept from then on, and of eight that are kept the oldest is dropped.
-    /// A refused call changes nothing.
+    /// the dots of this context: the opening of the session's snapshot, which is posted before anything changes. Where the session is
+    /// kept that is the snapshot that is kept, and nothing moves; else it is a new one, which is kept from then on, and of eight that
+    /// are kept the oldest is dropped. A refused call changes nothing, and posted nothing.
     ///
     /// The store is to be sealed, so that its digest is there: else the call takes time in the nodes that were written since the
     /// last seal, and in what is below them. Besides, it takes time and memory in the two contexts, and none in the store, whose
     /// nodes the snapshot shares.
     /// Its only refusal is OutOfMemory.
-    pub fn hello(
+    pub fn hello<O: Outbox<A>>(
         &mut self,
         alloc: A,
         session: Session,
         seen: &Context<A>,
         store: &FieldStore<H, A>,
         context: &Context<A>,
+        outbox: &mut O,
     ) -> Result<Message<A>, Refusal>
         ensures kept { OnOk result (self.new ≡ kept_after self.old session
             (record { seen = seen.now; hash = store.now.0; map = store.now.1; context = context.now })) }
         ensures opening { IfOk result (λ opening. message_of opening ≡ opening_of H.hash_of session (told_of self.old session
             (record { seen = seen.now; hash = store.now.0; map = store.now.1; context = context.now }))) }
+        ensures posted { IfOk result (λ opening. O.gains outbox.old outbox.new (message_of opening ∷ [])) }
+        ensures unposted { OnErr result (outbox.new ≡ outbox.old) }
         ensures unchanged { OnErr result (self.new ≡ self.old) }
         ensures err { IsOkUnless result Refusal.OutOfMemory }
         ensures few { length self.new ≤ LIMIT }
     {
         if let Some(snapshot) = self.kept.get(&session) {
-            return snapshot.opening(alloc, session);
+            return post_opening(alloc, session, snapshot, outbox);
         }
         let snapshot = Snapshot::take(alloc, seen, store, context)?;
-        let opening = snapshot.opening(alloc, session)?;
         self.kept.reserve(1)?;
+        let opening = post_opening(alloc, session, &snapshot, outbox)?;
         keep(&mut self.kept, session, snapshot);
         Ok(opening)
     }
@@ -107,4 +111,21 @@ impl<H: PathHash, A: Allocator + Copy> Answerer<H, A> {
         let kept = copy_all(alloc, &self.kept)?;
         Ok(Answerer { kept })
     }
+}
+
+// The opening of a session's snapshot, which is posted.
+fn post_opening<O: Outbox<A>, H: PathHash, A: Allocator + Copy>(
+    alloc: A,
+    session: Session,
+    snapshot: &Snapshot<H, A>,
+    outbox: &mut O,
+) -> Result<Message<A>, Refusal>
+    ensures opening { IfOk result (λ opening. message_of opening ≡ opening_of H.hash_of session snapshot.now) }
+    ensures posted { IfOk result (λ opening. O.gains outbox.old outbox.new (message_of opening ∷ [])) }
+    ensures unposted { OnErr result (outbox.new ≡ outbox.old) }
+    ensures err { IsOkUnless result Refusal.OutOfMemory }
+{
+    let opening = snapshot.opening(alloc, session)?;
+    outbox.post(alloc, &opening)?;
+    Ok(opening)
 }

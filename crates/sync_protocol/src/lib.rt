@@ -9,11 +9,13 @@ mod filled;
 mod keeping;
 mod laws;
 mod opened;
+mod outbox;
 mod snapshot;
 mod stage;
 mod step;
 mod turn;
 mod turning;
+mod unposted;
 
 pub use answerer::Answerer;
 pub use asker::Asker;
@@ -22,6 +24,8 @@ pub use laws::{
     asks_are_taken, few_stay, hashes_stay, hellos_are_kept, hellos_are_taken, repeats_move_nothing,
 };
 pub use opened::Opened;
+pub use outbox::Outbox;
 pub use snapshot::FieldStore;
 pub use step::Step;
 pub use turn::Turn;
+pub use unposted::Unposted;

@@ -6,6 +6,7 @@ use Rattle.replica_core.specs.Meaning.{ReplicaValue}
 use Rattle.replica_core.proofs.Asks.{told_by, answered_by, is_away, is_here}
 use Rattle.replica_core.proofs.Came.{ask_came, ask_ignored, ignored_came}
 use Rattle.replica_core.proofs.MappedPair.{mapped}
+use Rattle.replica_core.proofs.Posted.{posted_none, posted_one}
 use Rattle.replica_core.proofs.replica.Replica.take_ask.Goals as goal
 
 pub returns-then-ne-clause-ok : goal.returns-then-ne-clause-ok
@@ -32,3 +33,14 @@ returns-clause-ok g c =
     c.in-Some.answer c.answered.ensures.replies
     (ask_came g.H.PathHash.hash_of old is c.self.invariant c.args.session c.args.prefix (message_of c.in-Some.answer)
     (is_here c.answerer.result c.args.session.answerer old.name c.answerer.ensures c.ne.result c.ne.ensures c.if-ne.false) (rw c.in-Some.is at c.in_ok-answer.ensures.ok)))
+
+pub returns-then-ne-clause-posted : goal.returns-then-ne-clause-posted
+returns-then-ne-clause-posted g c = posted_none g.O.Outbox.gains c.args.outbox.now c.silent.result.replies.items c.silent.ensures.replies
+
+pub returns-in_default-clause-posted : goal.returns-in_default-clause-posted
+returns-in_default-clause-posted g c =
+    posted_none g.O.Outbox.gains c.args.outbox.now c.silent-in_default.result.replies.items c.silent-in_default.ensures.replies
+
+pub returns-clause-posted : goal.returns-clause-posted
+returns-clause-posted g c =
+    posted_one g.O.Outbox.gains c.args.outbox.now c.post.new.self c.in-Some.answer c.answered.result.replies.items c.in_ok-post.ensures.ok c.answered.ensures.replies

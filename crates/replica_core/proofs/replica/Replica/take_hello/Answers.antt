@@ -16,6 +16,7 @@ use Rattle.replica_core.proofs.Came.{hello_came, ignored_came}
 use Rattle.replica_core.proofs.Keeps.{kept_is, kept_meaning}
 use Rattle.replica_core.proofs.MappedPair.{mapped}
 use Rattle.replica_core.proofs.Meant.{meaning_by, on_err}
+use Rattle.replica_core.proofs.Posted.{posted_none, posted_one}
 use Rattle.replica_core.proofs.replica.Replica.take_hello.Goals as goal
 
 pub returns-then-ne-clause-ok : goal.returns-then-ne-clause-ok
@@ -61,3 +62,10 @@ returns-clause-ok g c =
     c.in_ok-opening.ensures.opening
     (kept_meaning g.H.PathHash.hash_of old new refl live refl refl c.args.session k c.in_ok-opening.ensures.kept refl)
     (ap (λ (l : LiveValue _ FieldsValue). l.0.0.0) c.seal.ensures.same)))
+
+pub returns-then-ne-clause-posted : goal.returns-then-ne-clause-posted
+returns-then-ne-clause-posted g c = posted_none g.O.Outbox.gains c.args.outbox.now c.silent.result.replies.items c.silent.ensures.replies
+
+pub returns-clause-posted : goal.returns-clause-posted
+returns-clause-posted g c =
+    posted_one g.O.Outbox.gains c.args.outbox.now c.hello.new.outbox c.in_ok-opening.opening c.answered.result.replies.items c.in_ok-opening.ensures.posted c.answered.ensures.replies

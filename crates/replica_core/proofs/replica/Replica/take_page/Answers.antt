@@ -19,6 +19,7 @@ use Rattle.replica_core.proofs.Asks.{told_by}
 use Rattle.replica_core.proofs.MappedPair.{mapped}
 use Rattle.replica_core.proofs.Meant.{if_ok}
 use Rattle.replica_core.proofs.Takes.{no_page, page_can, page_stepped}
+use Rattle.replica_core.proofs.Posted.{posted_none}
 use Rattle.replica_core.proofs.replica.Replica.take_page.Goals as goal
 
 pub returns-in_default-clause-ok : goal.returns-in_default-clause-ok
@@ -59,3 +60,6 @@ returns-clause-ok g c =
     (c.in_ok-turn.ensures.ok ∙ ap (λ (a : AskerValue _). turning.on_page (g.H.PathHash.hash_of a.hash) (state_of a) (message_of c.args.message.now)) here)
     map_is c.take_turn.new.self (outcome_of told.outcome) (mails_of told.replies.items) came c.take_turn.ensures.hash)
     c.take_turn.ensures.ok
+
+pub returns-in_default-clause-posted : goal.returns-in_default-clause-posted
+returns-in_default-clause-posted g c = posted_none g.O.Outbox.gains c.args.outbox.now c.silent.result.replies.items c.silent.ensures.replies

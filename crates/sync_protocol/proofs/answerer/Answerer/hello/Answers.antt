@@ -10,20 +10,14 @@ returns-in-Some-clause-opening g c =
     let s = c.args.session in
     let found : snapshot_of c.args.self.now s ≡ Some c.in-Some.snapshot.now =
     ap (λ kept. snapshot_of kept s) (sym c.self.view_is) ∙ sym c.get.ensures.value ∙ ap option_copied c.in-Some.is in
-    told_is (λ k. IfOk c.opening.result (λ m. message_of m ≡ opening_of g.H.PathHash.hash_of s k)) c.args.self.now s
-    (record { seen = c.args.seen.now; hash = c.args.store.now.0; map = c.args.store.now.1; context = c.args.context.now }) c.in-Some.snapshot.now found c.opening.ensures.ok
-
-pub returns-in-Some-clause-few : goal.returns-in-Some-clause-few
-returns-in-Some-clause-few g c = subst (λ kept. length kept ≤ LIMIT) c.self.view_is c.self.invariant
-
-pub returns-in_err-snapshot-clause-few : goal.returns-in_err-snapshot-clause-few
-returns-in_err-snapshot-clause-few g c = subst (λ kept. length kept ≤ LIMIT) c.self.view_is c.self.invariant
-
-pub returns-in_err-opening-clause-few : goal.returns-in_err-opening-clause-few
-returns-in_err-opening-clause-few g c = subst (λ kept. length kept ≤ LIMIT) c.self.view_is c.self.invariant
+    told_is (λ k. IfOk c.post_opening.result (λ m. message_of m ≡ opening_of g.H.PathHash.hash_of s k)) c.args.self.now s
+    (record { seen = c.args.seen.now; hash = c.args.store.now.0; map = c.args.store.now.1; context = c.args.context.now }) c.in-Some.snapshot.now found c.post_opening.ensures.opening
 
 pub returns-in_err-reserve-clause-few : goal.returns-in_err-reserve-clause-few
-returns-in_err-reserve-clause-few g c = subst (λ kept. length kept ≤ LIMIT) (sym c.reserve.ensures.entries) c.self.invariant
+returns-in_err-reserve-clause-few g c = subst (λ kept. length kept ≤ LIMIT) (sym c.in_err-reserve.ensures.entries) c.self.invariant
+
+pub returns-in_err-opening-clause-few : goal.returns-in_err-opening-clause-few
+returns-in_err-opening-clause-few g c = subst (λ kept. length kept ≤ LIMIT) (sym c.reserve.ensures.entries) c.self.invariant
 
 pub invariant_of-self-2 : goal.invariant_of-self-2
 invariant_of-self-2 g c =

@@ -1,6 +1,6 @@
 use Rattle.std.proofs.Common.{refl, sym}
 use Rattle.replica_core.proofs.Sent.{nothing_sent, all_sent}
-use Rattle.replica_core.proofs.replica.Replica.flush.Goals as goal
+use Rattle.replica_core.proofs.replica.Replica.flush_to.Goals as goal
 
 pub returns-in_default-clause-ok : goal.returns-in_default-clause-ok
 returns-in_default-clause-ok g c = nothing_sent g.H.PathHash.hash_of c.args.self.now (rw (sym c.self.view_is) (rw c.in_default.is at c.in_ok-whole.ensures.none))

@@ -1,7 +1,7 @@
 use Rattle.std.proofs.Common.{ap, length, arith}
 use Rattle.replica_core.specs.Meaning.{ReplicaValue}
 use Rattle.replica_core.proofs.Asks.{asked_stepped}
-use Rattle.replica_core.proofs.replica.Replica.ask.Goals as goal
+use Rattle.replica_core.proofs.replica.Replica.ask_to.Goals as goal
 
 pub returns-in-Ok-clause-ok : goal.returns-in-Ok-clause-ok
 returns-in-Ok-clause-ok g c =
