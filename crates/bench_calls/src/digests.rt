@@ -2,19 +2,26 @@ use dot_store::{DotFun, DotMap, DotStore};
 use dots::{Dot, Field, Key, Name, Refusal, Value};
 use gen_trie::GenTrie;
 use hash_path::{Fnv1a, Prefix};
-use prefix_digest::{ShaSummary, digest};
+use prefix_digest::{FrozenMap, ShaSummary, digest};
 use sha2::{Digest, Sha256};
 use std::alloc::Global;
 use wire_form::Fields;
 
 type Trie = GenTrie<Fields, ShaSummary, Fnv1a>;
 
-// The empty field with a value of 16 bytes.
-fn fields_of(alloc: Global, number: u64) -> Result<Fields, Refusal> {
+// A value of 16 bytes.
+fn value_of(alloc: Global, number: u64) -> Result<DotFun<Value>, Refusal> {
     let name = Name::new(1).ok_or(Refusal::BadLine)?;
     let dot = Dot::new(name, number.max(1)).ok_or(Refusal::BadLine)?;
+    let value = Value::new(alloc, &[118; 16])?;
     let mut values = DotFun::empty(alloc);
-    values.insert(dot, Value::new(alloc, &[118; 16])?)?;
+    values.insert(dot, value)?;
+    Ok(values)
+}
+
+// The empty field with a value of 16 bytes.
+fn fields_of(alloc: Global, number: u64) -> Result<Fields, Refusal> {
+    let values = value_of(alloc, number)?;
     let mut fields = DotMap::empty(alloc);
     fields.insert(Field::empty(), values)?;
     Ok(fields)
@@ -22,7 +29,8 @@ fn fields_of(alloc: Global, number: u64) -> Result<Fields, Refusal> {
 
 fn put(alloc: Global, trie: &mut Trie, number: u64) -> Result<(), Refusal> {
     let fields = fields_of(alloc, number)?;
-    trie.insert(Key::new(alloc, &number.to_be_bytes())?, fields)
+    let key = Key::new(alloc, &number.to_be_bytes())?;
+    trie.insert(key, fields)
 }
 
 fn put_all(alloc: Global, trie: &mut Trie, keys: &[u64]) -> Result<(), Refusal> {
@@ -46,16 +54,21 @@ fn put_sealed(alloc: Global, trie: &mut Trie, keys: &[u64], every: u64) -> Resul
     trie.seal()
 }
 
-// Reads the root digest as often as there are keys.
-fn digest_often(trie: &mut Trie, keys: &[u64]) -> Result<u64, Refusal> {
-    let frozen = trie.share()?;
+// How often the root digest is there, of as many reads as there are keys.
+fn count_digests(frozen: &FrozenMap<Fnv1a>, keys: &[u64]) -> u64 {
     let mut found: u64 = 0;
     for _ in keys {
-        if digest(&frozen, Prefix::root()).is_some() {
+        if digest(frozen, Prefix::root()).is_some() {
             found = found.wrapping_add(1);
         }
     }
-    Ok(found)
+    found
+}
+
+// Reads the root digest as often as there are keys.
+fn digest_often(trie: &mut Trie, keys: &[u64]) -> Result<u64, Refusal> {
+    let frozen = trie.share()?;
+    Ok(count_digests(&frozen, keys))
 }
 
 // One step on a trie that is sealed, with these keys.
@@ -75,14 +88,26 @@ fn step_once(
     Ok(trie.size())
 }
 
-fn steps(alloc: Global, keys: &[u64], some: &[u64], step: u32, every: u64) -> Result<u64, Refusal> {
-    let mut trie: Trie = GenTrie::new(alloc, Fnv1a);
-    put_all(alloc, &mut trie, keys)?;
+// Puts the keys, and does the step.
+fn steps_on(
+    alloc: Global,
+    trie: &mut Trie,
+    keys: &[u64],
+    some: &[u64],
+    step: u32,
+    every: u64,
+) -> Result<u64, Refusal> {
+    put_all(alloc, trie, keys)?;
     if step == 0 {
         return Ok(trie.size());
     }
     trie.seal()?;
-    step_once(alloc, &mut trie, some, step, every)
+    step_once(alloc, trie, some, step, every)
+}
+
+fn steps(alloc: Global, keys: &[u64], some: &[u64], step: u32, every: u64) -> Result<u64, Refusal> {
+    let mut trie: Trie = GenTrie::new(alloc, Fnv1a);
+    steps_on(alloc, &mut trie, keys, some, step, every)
 }
 
 /// Puts the keys, eight bytes each, into a new trie, with a value of 16 bytes at the empty field of each, and then: 0 no more,

@@ -4,48 +4,81 @@ use dots::{Field, Key, Name, Refusal, Value};
 use hash_path::Fnv1a;
 use live_map::Live;
 use std::alloc::Global;
-use wire_form::{Message, decode, encode};
+use trie_map::TrieMap;
+use wire_form::{Fields, Message, decode, encode};
 
 fn key_of(alloc: Global, number: u64) -> Result<Key, Refusal> {
     Key::new(alloc, &number.to_be_bytes())
 }
 
-// Puts a value of 16 bytes on the key, and gives the delta.
-fn put_one(alloc: Global, name: Name, live: &mut LiveOrMap, number: u64) -> Result<OrMap, Refusal> {
+// The delta of a put of a value of 16 bytes on the key.
+fn delta_of_put(
+    alloc: Global,
+    name: Name,
+    live: &LiveOrMap,
+    number: u64,
+) -> Result<OrMap, Refusal> {
     let key = key_of(alloc, number)?;
     let value = Value::new(alloc, &[118; 16])?;
-    let (delta, _) = put(alloc, name, live, &key, &value)?;
+    Ok(put(alloc, name, live, &key, &value)?.0)
+}
+
+// Puts a value of 16 bytes on the key, and gives the delta.
+fn put_one(alloc: Global, name: Name, live: &mut LiveOrMap, number: u64) -> Result<OrMap, Refusal> {
+    let delta = delta_of_put(alloc, name, live, number)?;
     live.join_delta(alloc, &delta)?;
     Ok(delta)
 }
 
+// The delta of a remove of the key.
+fn delta_of_remove(alloc: Global, live: &LiveOrMap, number: u64) -> Result<OrMap, Refusal> {
+    let key = key_of(alloc, number)?;
+    Ok(remove(alloc, live, &key)?.0)
+}
+
 // Removes the key, and gives the delta.
 fn remove_one(alloc: Global, live: &mut LiveOrMap, number: u64) -> Result<OrMap, Refusal> {
-    let key = key_of(alloc, number)?;
-    let (delta, _) = remove(alloc, live, &key)?;
+    let delta = delta_of_remove(alloc, live, number)?;
     live.join_delta(alloc, &delta)?;
     Ok(delta)
 }
 
 // Joins in what the message holds. BadLine stands for one that holds no delta.
-fn take_in(alloc: Global, live: &mut LiveOrMap, bytes: &[u8]) -> Result<(), Refusal> {
-    match decode(alloc, bytes)? {
-        Message::Delta(delta) => live.join_delta(alloc, &delta),
-        Message::Hello(..) => Err(Refusal::BadLine),
-        Message::Opening(..) => Err(Refusal::BadLine),
-        Message::Ask(..) => Err(Refusal::BadLine),
-        Message::Page(..) => Err(Refusal::BadLine),
-        Message::Gone(_) => Err(Refusal::BadLine),
+fn join_in(alloc: Global, live: &mut LiveOrMap, message: &Message) -> Result<(), Refusal> {
+    match message {
+        Message::Delta(delta) => live.join_delta(alloc, delta),
+        _ => Err(Refusal::BadLine),
     }
+}
+
+// Joins in what the message of these bytes holds.
+fn take_in(alloc: Global, live: &mut LiveOrMap, bytes: &[u8]) -> Result<(), Refusal> {
+    let message = decode(alloc, bytes)?;
+    join_in(alloc, live, &message)
+}
+
+fn take_often(
+    alloc: Global,
+    live: &mut LiveOrMap,
+    bytes: &[u8],
+    times: u32,
+) -> Result<(), Refusal> {
+    for _ in 0..times {
+        take_in(alloc, live, bytes)?;
+    }
+    Ok(())
+}
+
+// The delta as the bytes of a message.
+fn spelled(alloc: Global, delta: OrMap) -> Result<Vec<u8>, Refusal> {
+    let message = Message::Delta(delta);
+    encode(alloc, &message)
 }
 
 // The delta as the bytes of a message, taken in so many times.
 fn send(alloc: Global, live: &mut LiveOrMap, delta: OrMap, times: u32) -> Result<(), Refusal> {
-    let bytes = encode(alloc, &Message::Delta(delta))?;
-    for _ in 0..times {
-        take_in(alloc, live, bytes.as_slice())?;
-    }
-    Ok(())
+    let bytes = spelled(alloc, delta)?;
+    take_often(alloc, live, &bytes, times)
 }
 
 fn put_all(alloc: Global, name: Name, live: &mut LiveOrMap, keys: &[u64]) -> Result<(), Refusal> {
@@ -62,24 +95,38 @@ fn remove_all(alloc: Global, live: &mut LiveOrMap, keys: &[u64]) -> Result<(), R
     Ok(())
 }
 
+// How many values stand at the empty field of the key.
+fn got_one(alloc: Global, live: &LiveOrMap, field: &Field, number: u64) -> Result<u64, Refusal> {
+    let key = key_of(alloc, number)?;
+    let found = values(alloc, live.store(), &key, field)?;
+    Ok(found.len() as u64)
+}
+
 // How many values stand at the empty fields of all keys.
 fn got(alloc: Global, live: &LiveOrMap, keys: &[u64]) -> Result<u64, Refusal> {
     let field = Field::empty();
     let mut count: u64 = 0;
     for number in keys {
-        let key = key_of(alloc, *number)?;
-        let found = values(alloc, live.store(), &key, &field)?;
-        count = count.wrapping_add(found.len() as u64);
+        count = count.wrapping_add(got_one(alloc, live, &field, *number)?);
     }
     Ok(count)
+}
+
+// How many keys the share of a store has.
+fn size_of(store: TrieMap<Fields>) -> u64 {
+    store.size()
+}
+
+fn share_once(live: &LiveOrMap) -> Result<u64, Refusal> {
+    let store = live.store().share()?;
+    Ok(size_of(store))
 }
 
 // Shares the store as often as there are keys.
 fn share_often(live: &LiveOrMap, keys: &[u64]) -> Result<u64, Refusal> {
     let mut sum: u64 = 0;
     for _ in keys {
-        let store = live.store().share()?;
-        sum = sum.wrapping_add(store.size());
+        sum = sum.wrapping_add(share_once(live)?);
     }
     Ok(sum)
 }
@@ -88,26 +135,67 @@ fn share_often(live: &LiveOrMap, keys: &[u64]) -> Result<u64, Refusal> {
 fn put_and_send(
     alloc: Global,
     name: Name,
+    here: &mut LiveOrMap,
+    there: &mut LiveOrMap,
     keys: &[u64],
     times: u32,
-) -> Result<(LiveOrMap, LiveOrMap), Refusal> {
-    let mut here: LiveOrMap = Live::new(alloc, Fnv1a);
-    let mut there: LiveOrMap = Live::new(alloc, Fnv1a);
+) -> Result<(), Refusal> {
     for number in keys {
-        let delta = put_one(alloc, name, &mut here, *number)?;
-        send(alloc, &mut there, delta, times)?;
+        send(alloc, there, put_one(alloc, name, here, *number)?, times)?;
     }
-    Ok((here, there))
+    Ok(())
 }
 
-// Puts and sends each key once, and then removes each here and sends that there so many times.
-fn remove_and_send(alloc: Global, name: Name, keys: &[u64], times: u32) -> Result<u64, Refusal> {
-    let (mut here, mut there) = put_and_send(alloc, name, keys, 1)?;
+// Removes each key here, and sends each delta there so many times.
+fn remove_and_send(
+    alloc: Global,
+    here: &mut LiveOrMap,
+    there: &mut LiveOrMap,
+    keys: &[u64],
+    times: u32,
+) -> Result<(), Refusal> {
     for number in keys {
-        let delta = remove_one(alloc, &mut here, *number)?;
-        send(alloc, &mut there, delta, times)?;
+        send(alloc, there, remove_one(alloc, here, *number)?, times)?;
     }
+    Ok(())
+}
+
+// Of two pairs: 5 puts each key and sends it so many times, else each is put and sent once, and then removed and that sent
+// so many times.
+fn step_with_two(
+    alloc: Global,
+    name: Name,
+    here: &mut LiveOrMap,
+    there: &mut LiveOrMap,
+    keys: &[u64],
+    step: u32,
+    times: u32,
+) -> Result<(), Refusal> {
+    if step == 5 {
+        return put_and_send(alloc, name, here, there, keys, times);
+    }
+    put_and_send(alloc, name, here, there, keys, 1)?;
+    remove_and_send(alloc, here, there, keys, times)
+}
+
+// The same of this one and a new one, and how many keys that then has.
+fn sent_from(
+    alloc: Global,
+    name: Name,
+    here: &mut LiveOrMap,
+    keys: &[u64],
+    step: u32,
+    times: u32,
+) -> Result<u64, Refusal> {
+    let mut there: LiveOrMap = Live::new(alloc, Fnv1a);
+    step_with_two(alloc, name, here, &mut there, keys, step, times)?;
     Ok(there.store().size())
+}
+
+// The same of two new ones.
+fn sent(alloc: Global, name: Name, keys: &[u64], step: u32, times: u32) -> Result<u64, Refusal> {
+    let mut here: LiveOrMap = Live::new(alloc, Fnv1a);
+    sent_from(alloc, name, &mut here, keys, step, times)
 }
 
 // One step with all keys of a pair that has them.
@@ -119,18 +207,20 @@ fn step_with(
     step: u32,
 ) -> Result<u64, Refusal> {
     match step {
-        0 => Ok(live.store().size()),
-        1 => {
-            put_all(alloc, name, live, keys)?;
-            Ok(live.store().size())
-        }
-        2 => {
-            remove_all(alloc, live, keys)?;
-            Ok(live.store().size())
-        }
-        3 => got(alloc, live, keys),
-        _ => share_often(live, keys),
+        0 => {}
+        1 => put_all(alloc, name, live, keys)?,
+        2 => remove_all(alloc, live, keys)?,
+        3 => return got(alloc, live, keys),
+        _ => return share_often(live, keys),
     }
+    Ok(live.store().size())
+}
+
+// Puts each key at a new pair, and does the step.
+fn stepped(alloc: Global, name: Name, keys: &[u64], step: u32) -> Result<u64, Refusal> {
+    let mut live: LiveOrMap = Live::new(alloc, Fnv1a);
+    put_all(alloc, name, &mut live, keys)?;
+    step_with(alloc, name, &mut live, keys, step)
 }
 
 fn steps(alloc: Global, keys: &[u64], step: u32, times: u32) -> Result<u64, Refusal> {
@@ -138,13 +228,8 @@ fn steps(alloc: Global, keys: &[u64], step: u32, times: u32) -> Result<u64, Refu
         return Ok(0);
     };
     match step {
-        5 => Ok(put_and_send(alloc, name, keys, times)?.1.store().size()),
-        6 => remove_and_send(alloc, name, keys, times),
-        _ => {
-            let mut live: LiveOrMap = Live::new(alloc, Fnv1a);
-            put_all(alloc, name, &mut live, keys)?;
-            step_with(alloc, name, &mut live, keys, step)
-        }
+        5 | 6 => sent(alloc, name, keys, step, times),
+        _ => stepped(alloc, name, keys, step),
     }
 }
 

@@ -11,7 +11,8 @@ fn key_of(alloc: Global, number: u64) -> Result<Key, Refusal> {
 
 fn insert_all(alloc: Global, trie: &mut Trie, keys: &[u64]) -> Result<(), Refusal> {
     for number in keys {
-        trie.insert(key_of(alloc, *number)?, *number)?;
+        let key = key_of(alloc, *number)?;
+        trie.insert(key, *number)?;
     }
     Ok(())
 }
@@ -50,12 +51,16 @@ fn write_beside(alloc: Global, trie: &mut Trie, keys: &[u64]) -> Result<u64, Ref
     Ok(frozen.size())
 }
 
+fn share_once(trie: &mut Trie) -> Result<u64, Refusal> {
+    let frozen: Frozen<u64, NoSummary, Fnv1a> = trie.share()?;
+    Ok(frozen.size())
+}
+
 // Shares as often as there are keys.
 fn share_often(trie: &mut Trie, keys: &[u64]) -> Result<u64, Refusal> {
     let mut sum: u64 = 0;
     for _ in keys {
-        let frozen: Frozen<u64, NoSummary, Fnv1a> = trie.share()?;
-        sum = sum.wrapping_add(frozen.size());
+        sum = sum.wrapping_add(share_once(trie)?);
     }
     Ok(sum)
 }
@@ -74,14 +79,25 @@ fn step_once(alloc: Global, trie: &mut Trie, keys: &[u64], step: u32) -> Result<
     }
 }
 
-fn steps(alloc: Global, keys: &[u64], step: u32, times: u32) -> Result<u64, Refusal> {
-    let mut trie: Trie = GenTrie::new(alloc, Fnv1a);
-    insert_all(alloc, &mut trie, keys)?;
+// Inserts the keys, and does the step so many times.
+fn steps_on(
+    alloc: Global,
+    trie: &mut Trie,
+    keys: &[u64],
+    step: u32,
+    times: u32,
+) -> Result<u64, Refusal> {
+    insert_all(alloc, trie, keys)?;
     let mut number = trie.size();
     for _ in 0..times {
-        number = step_once(alloc, &mut trie, keys, step)?;
+        number = step_once(alloc, trie, keys, step)?;
     }
     Ok(number)
+}
+
+fn steps(alloc: Global, keys: &[u64], step: u32, times: u32) -> Result<u64, Refusal> {
+    let mut trie: Trie = GenTrie::new(alloc, Fnv1a);
+    steps_on(alloc, &mut trie, keys, step, times)
 }
 
 /// Inserts the keys, eight bytes each, into a new trie, and then so many times does the step with all of them: 0 looks
