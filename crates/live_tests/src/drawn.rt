@@ -1,9 +1,8 @@
 // Random operations on a live pair, beside a plain ordered map.
 ghost use Rattle.std.specs.Prelude.{◌<◌};
 
-use crate::made::{LiveSets, dot, removed, written};
-use dot_store::DotStore;
-use dots::{Dot, Key, Refusal};
+use crate::made::{LiveSets, dot, is_absent, remove_all, stands, write_at};
+use dots::{Dot, Refusal};
 use hash_path::{Fnv1a, PathHash, SameHash};
 use live_map::Live;
 use std::alloc::Global;
@@ -42,11 +41,10 @@ fn write<H: PathHash>(
     key: u64,
     one: Dot,
 ) -> Result<(), Refusal> {
-    let delta = match plain.get(&key) {
-        Some(old) => written(alloc, &key.to_be_bytes(), one, &[*old, one])?,
-        None => written(alloc, &key.to_be_bytes(), one, &[one])?,
-    };
-    live.join_delta(alloc, &delta)?;
+    match plain.get(&key).copied() {
+        Some(old) => write_at(alloc, live, &key.to_be_bytes(), one, &[old, one])?,
+        None => write_at(alloc, live, &key.to_be_bytes(), one, &[one])?,
+    }
     plain.insert(key, one)?;
     Ok(())
 }
@@ -58,8 +56,8 @@ fn remove<H: PathHash>(
     plain: &mut Plain,
     key: u64,
 ) -> Result<(), Refusal> {
-    if let Some(old) = plain.get(&key) {
-        live.join_delta(alloc, &removed(alloc, &[*old])?)?;
+    if let Some(old) = plain.get(&key).copied() {
+        remove_all(alloc, live, &[old])?;
     }
     plain.remove(&key);
     Ok(())
@@ -72,13 +70,9 @@ fn agrees_at<H: PathHash>(
     plain: &Plain,
     key: u64,
 ) -> Result<bool, Refusal> {
-    match (
-        live.store().get(&Key::new(alloc, &key.to_be_bytes())?),
-        plain.get(&key),
-    ) {
-        (Some(set), Some(one)) => Ok(set.contains(*one)),
-        (None, None) => Ok(true),
-        _ => Ok(false),
+    match plain.get(&key).copied() {
+        Some(one) => stands(alloc, live, &key.to_be_bytes(), one),
+        None => is_absent(alloc, live, &key.to_be_bytes()),
     }
 }
 
@@ -95,42 +89,48 @@ fn agrees<H: PathHash>(
     Ok(all)
 }
 
-// So many writes and removes at 40 keys, each third of them a remove, and what they come to.
-fn run<H: PathHash>(rt: &impl Abort, alloc: Global, hash: H, count: u64) -> Result<bool, Refusal> {
+// So many writes and removes at 40 keys, each third of them a remove.
+fn steps<H: PathHash>(
+    rt: &impl Abort,
+    alloc: Global,
+    live: &mut LiveSets<H, Global>,
+    plain: &mut Plain,
+    count: u64,
+) -> Result<(), Refusal> {
     let mut draws = Draws { state: 7 };
-    let mut live: LiveSets<H, Global> = Live::new(alloc, hash);
-    let mut plain = BTreeMap::new(alloc);
     for number in 0..count {
         let key = draws.below(40);
         if draws.below(3) == 0 {
-            remove(alloc, &mut live, &mut plain, key)?;
+            remove(alloc, live, plain, key)?;
         } else {
-            write(
-                alloc,
-                &mut live,
-                &mut plain,
-                key,
-                dot(rt, 1 + key % 3, number + 1),
-            )?;
+            write(alloc, live, plain, key, dot(rt, 1 + key % 3, number + 1))?;
         }
     }
+    Ok(())
+}
+
+// Whether a pair and a plain map agree after 2,000 steps.
+fn run<H: PathHash>(rt: &impl Abort, alloc: Global, hash: H) -> Result<bool, Refusal> {
+    let mut live: LiveSets<H, Global> = Live::new(alloc, hash);
+    let mut plain = BTreeMap::new(alloc);
+    steps(rt, alloc, &mut live, &mut plain, 2_000)?;
     agrees(alloc, &live, &plain)
 }
 
 #[test]
 fn random_operations_agree_with_an_ordered_map(rt: HostRuntime) -> Result<(), Fail> {
-    assert!(rt; run(&rt, rt.alloc(), Fnv1a, 2_000)?);
+    assert!(rt; run(&rt, rt.alloc(), Fnv1a)?);
     Ok(())
 }
 
 #[test]
 fn they_agree_where_all_keys_have_one_hash(rt: HostRuntime) -> Result<(), Fail> {
-    assert!(rt; run(&rt, rt.alloc(), SameHash(0), 2_000)?);
+    assert!(rt; run(&rt, rt.alloc(), SameHash(0))?);
     Ok(())
 }
 
 #[test]
 fn they_agree_where_that_hash_is_the_greatest(rt: HostRuntime) -> Result<(), Fail> {
-    assert!(rt; run(&rt, rt.alloc(), SameHash(u32::MAX), 2_000)?);
+    assert!(rt; run(&rt, rt.alloc(), SameHash(u32::MAX))?);
     Ok(())
 }

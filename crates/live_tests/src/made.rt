@@ -27,6 +27,14 @@ pub fn context_of<A: Allocator + Copy>(alloc: A, dots: &[Dot]) -> Result<Context
     Ok(context)
 }
 
+fn set_of<A: Allocator + Copy>(alloc: A, dots: &[Dot]) -> Result<DotSet<A>, Refusal> {
+    let mut set = DotSet::empty(alloc);
+    for dot in dots {
+        set.insert(*dot)?;
+    }
+    Ok(set)
+}
+
 // The map with these dots at the key, besides what it has at other keys.
 pub fn put<A: Allocator + Copy>(
     alloc: A,
@@ -34,11 +42,9 @@ pub fn put<A: Allocator + Copy>(
     key: &[u8],
     dots: &[Dot],
 ) -> Result<(), Refusal> {
-    let mut set = DotSet::empty(alloc);
-    for dot in dots {
-        set.insert(*dot)?;
-    }
-    map.insert(Key::new(alloc, key)?, set)
+    let set = set_of(alloc, dots)?;
+    let key = Key::new(alloc, key)?;
+    map.insert(key, set)
 }
 
 // The pair of the map and the context, if no dot is outside.
@@ -83,10 +89,21 @@ pub fn stands<H: PathHash, A: Allocator + Copy>(
     key: &[u8],
     dot: Dot,
 ) -> Result<bool, Refusal> {
-    match live.store().get(&Key::new(alloc, key)?) {
+    let key = Key::new(alloc, key)?;
+    match live.store().get(&key) {
         Some(set) => Ok(set.contains(dot)),
         None => Ok(false),
     }
+}
+
+// Whether nothing stands at the key.
+pub fn is_absent<H: PathHash, A: Allocator + Copy>(
+    alloc: A,
+    live: &LiveSets<H, A>,
+    key: &[u8],
+) -> Result<bool, Refusal> {
+    let key = Key::new(alloc, key)?;
+    Ok(live.store().get(&key).is_none())
 }
 
 // Joins the delta of a write of the dot at the key in, which observed these.

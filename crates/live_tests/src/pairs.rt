@@ -1,140 +1,264 @@
 // Live pairs, by deltas that are joined in.
 use crate::made::{LiveSets, dot, pair, put, remove_all, removed, stands, write_at};
 use causal_context::Context;
+use causal_join::Causal;
 use dot_store::{DotMap, DotStore};
 use dots::{Dot, Name, Refusal};
-use hash_path::{Fnv1a, PathHash, SameHash};
+use hash_path::Fnv1a;
 use live_map::Live;
 use std::alloc::Global;
 use std::process::Abort;
 use std::test::Fail;
 
-// The pair with the first dot of the name 1 at the key a.
-fn with_one(rt: &impl Abort, alloc: Global) -> Result<LiveSets<Fnv1a, Global>, Refusal> {
-    let one = dot(rt, 1, 1);
+type LivePair = LiveSets<Fnv1a, Global>;
+
+// What is joined into a pair.
+#[derive(Clone, Copy)]
+enum Step {
+    // A write of the dot at the key of this byte, which observed that dot alone.
+    Write(u8, Dot),
+    // A write of the dot at the key, over the other one.
+    Over(u8, Dot, Dot),
+    // A remove that observed the dot.
+    Remove(Dot),
+    // A delta that no replica makes: the dot at the keys a and b.
+    Forged(Dot),
+    // All dots of the name 1 up to the number, and nothing that stands.
+    Known(u64),
+}
+
+// Joins a delta in that has the dot at two keys.
+fn forge(alloc: Global, live: &mut LivePair, one: Dot) -> Result<(), Refusal> {
+    let mut map = DotMap::empty(alloc);
+    put(alloc, &mut map, b"a", &[one])?;
+    put(alloc, &mut map, b"b", &[one])?;
+    let delta = pair(alloc, map, &[one])?;
+    live.join_delta(alloc, &delta)
+}
+
+// The context of the dots of the name 1 up to the number.
+fn up_to(rt: &impl Abort, alloc: Global, number: u64) -> Result<Context, Refusal> {
+    let name = Name::new(1).expect(rt, "a name");
+    let vector = Vec::from_slice(alloc, &[(name, number)])?;
+    Context::from_parts(alloc, vector, Vec::new(alloc)).ok_or(Refusal::BadLine)
+}
+
+// Joins a delta in that knows these dots and holds none.
+fn know(rt: &impl Abort, alloc: Global, live: &mut LivePair, number: u64) -> Result<(), Refusal> {
+    let context = up_to(rt, alloc, number)?;
+    let made = Causal::from_parts(DotMap::empty(alloc), context);
+    let known = made.ok_or(Refusal::BadLine)?;
+    live.join_delta(alloc, &known)
+}
+
+fn take(rt: &impl Abort, alloc: Global, live: &mut LivePair, step: Step) -> Result<(), Refusal> {
+    match step {
+        Step::Write(key, one) => write_at(alloc, live, &[key], one, &[one]),
+        Step::Over(key, one, other) => write_at(alloc, live, &[key], one, &[other, one]),
+        Step::Remove(one) => remove_all(alloc, live, &[one]),
+        Step::Forged(one) => forge(alloc, live, one),
+        Step::Known(number) => know(rt, alloc, live, number),
+    }
+}
+
+// The pair of these steps.
+fn made_by(rt: &impl Abort, alloc: Global, steps: &[Step]) -> Result<LivePair, Refusal> {
     let mut live = Live::new(alloc, Fnv1a);
-    write_at(alloc, &mut live, b"a", one, &[one])?;
+    for step in steps {
+        take(rt, alloc, &mut live, *step)?;
+    }
     Ok(live)
+}
+
+// What a pair is to have: so many keys, whether the dots stand at their keys, and whether the others are known.
+#[derive(Clone, Copy)]
+struct Wanted<'a> {
+    size: u64,
+    standing: &'a [(&'a [u8], Dot, bool)],
+    known: &'a [(Dot, bool)],
+}
+
+fn stand_as_wanted(alloc: Global, live: &LivePair, wanted: &Wanted) -> Result<bool, Refusal> {
+    let mut all = true;
+    for (key, one, is_there) in wanted.standing {
+        all = all && stands(alloc, live, key, *one)? == *is_there;
+    }
+    Ok(all)
+}
+
+fn are_known_as_wanted(live: &LivePair, wanted: &Wanted) -> bool {
+    let mut all = true;
+    for (one, is_known) in wanted.known {
+        all = all && live.context().contains(*one) == *is_known;
+    }
+    all
+}
+
+// Whether the pair of these steps is as wanted.
+fn gives(rt: &impl Abort, alloc: Global, steps: &[Step], wanted: &Wanted) -> Result<bool, Refusal> {
+    let live = made_by(rt, alloc, steps)?;
+    Ok(
+        live.store().size() == wanted.size
+            && are_known_as_wanted(&live, wanted)
+            && stand_as_wanted(alloc, &live, wanted)?,
+    )
+}
+
+// Whether the pair of these steps has so many keys.
+fn counts(rt: &impl Abort, alloc: Global, steps: &[Step], size: u64) -> Result<bool, Refusal> {
+    let wanted = Wanted {
+        size,
+        standing: &[],
+        known: &[],
+    };
+    gives(rt, alloc, steps, &wanted)
 }
 
 #[test]
 fn a_write_stands_at_its_key_and_is_known(rt: HostRuntime) -> Result<(), Fail> {
-    let live = with_one(&rt, rt.alloc())?;
-    assert!(rt; stands(rt.alloc(), &live, b"a", dot(&rt, 1, 1))?);
-    assert!(rt; live.context().contains(dot(&rt, 1, 1)));
-    assert_eq!(rt; live.store().size(), 1);
+    let one = dot(&rt, 1, 1);
+    let wanted = Wanted {
+        size: 1,
+        standing: &[(b"a", one, true)],
+        known: &[(one, true)],
+    };
+    assert!(rt; gives(&rt, rt.alloc(), &[Step::Write(b'a', one)], &wanted)?);
     Ok(())
 }
 
 #[test]
 fn a_remove_that_names_no_key_finds_the_key(rt: HostRuntime) -> Result<(), Fail> {
-    let mut live = with_one(&rt, rt.alloc())?;
-    remove_all(rt.alloc(), &mut live, &[dot(&rt, 1, 1)])?;
-    assert_eq!(rt; live.store().size(), 0);
-    assert!(rt; live.context().contains(dot(&rt, 1, 1)));
+    let one = dot(&rt, 1, 1);
+    let steps = [Step::Write(b'a', one), Step::Remove(one)];
+    let wanted = Wanted {
+        size: 0,
+        standing: &[],
+        known: &[(one, true)],
+    };
+    assert!(rt; gives(&rt, rt.alloc(), &steps, &wanted)?);
     Ok(())
 }
 
 #[test]
 fn a_dot_that_was_removed_stays_removed(rt: HostRuntime) -> Result<(), Fail> {
     let one = dot(&rt, 1, 1);
-    let mut live: LiveSets<Fnv1a, Global> = Live::new(rt.alloc(), Fnv1a);
-    remove_all(rt.alloc(), &mut live, &[one])?;
-    write_at(rt.alloc(), &mut live, b"a", one, &[one])?;
-    assert_eq!(rt; live.store().size(), 0);
+    let steps = [Step::Remove(one), Step::Write(b'a', one)];
+    assert!(rt; counts(&rt, rt.alloc(), &steps, 0)?);
     Ok(())
 }
 
 #[test]
 fn a_write_over_another_takes_its_dot_away(rt: HostRuntime) -> Result<(), Fail> {
     let (one, two) = (dot(&rt, 1, 1), dot(&rt, 2, 1));
-    let mut live = with_one(&rt, rt.alloc())?;
-    write_at(rt.alloc(), &mut live, b"a", two, &[one, two])?;
-    assert!(rt; stands(rt.alloc(), &live, b"a", two)?);
-    assert!(rt; !stands(rt.alloc(), &live, b"a", one)?);
+    let steps = [Step::Write(b'a', one), Step::Over(b'a', two, one)];
+    let wanted = Wanted {
+        size: 1,
+        standing: &[(b"a", two, true), (b"a", one, false)],
+        known: &[],
+    };
+    assert!(rt; gives(&rt, rt.alloc(), &steps, &wanted)?);
     Ok(())
-}
-
-// A delta that no replica makes: one dot at two keys.
-fn forged(rt: &impl Abort, alloc: Global) -> Result<LiveSets<Fnv1a, Global>, Refusal> {
-    let one = dot(rt, 1, 1);
-    let mut map = DotMap::empty(alloc);
-    put(alloc, &mut map, b"a", &[one])?;
-    put(alloc, &mut map, b"b", &[one])?;
-    let mut live: LiveSets<Fnv1a, Global> = Live::new(alloc, Fnv1a);
-    let delta = pair(alloc, map, &[one])?;
-    live.join_delta(alloc, &delta)?;
-    Ok(live)
 }
 
 #[test]
 fn a_dot_at_two_keys_goes_from_both(rt: HostRuntime) -> Result<(), Fail> {
-    let mut live = forged(&rt, rt.alloc())?;
-    assert_eq!(rt; live.store().size(), 2);
-    remove_all(rt.alloc(), &mut live, &[dot(&rt, 1, 1)])?;
-    assert_eq!(rt; live.store().size(), 0);
+    let one = dot(&rt, 1, 1);
+    assert!(rt; counts(&rt, rt.alloc(), &[Step::Forged(one)], 2)?);
+    assert!(rt; counts(&rt, rt.alloc(), &[Step::Forged(one), Step::Remove(one)], 0)?);
     Ok(())
 }
 
 #[test]
 fn a_write_at_one_of_two_keys_ends_the_dot_at_the_other(rt: HostRuntime) -> Result<(), Fail> {
-    let two = dot(&rt, 1, 2);
-    let mut live = forged(&rt, rt.alloc())?;
-    write_at(rt.alloc(), &mut live, b"a", two, &[dot(&rt, 1, 1), two])?;
-    assert_eq!(rt; live.store().size(), 1);
-    assert!(rt; stands(rt.alloc(), &live, b"a", two)?);
+    let (one, two) = (dot(&rt, 1, 1), dot(&rt, 1, 2));
+    let steps = [Step::Forged(one), Step::Over(b'a', two, one)];
+    let wanted = Wanted {
+        size: 1,
+        standing: &[(b"a", two, true)],
+        known: &[],
+    };
+    assert!(rt; gives(&rt, rt.alloc(), &steps, &wanted)?);
     Ok(())
-}
-
-// The pair that knows all dots of the name 1 up to the number.
-fn knowing(rt: &impl Abort, alloc: Global, number: u64) -> Result<LiveSets<Fnv1a, Global>, Fail> {
-    let name = Name::new(1).expect(rt, "a name");
-    let vector = Vec::from_slice(alloc, &[(name, number)])?;
-    let context = Context::from_parts(alloc, vector, Vec::new(alloc)).ok_or("a context")?;
-    let known = causal_join::Causal::from_parts(DotMap::empty(alloc), context).ok_or("a pair")?;
-    let mut live = with_one(rt, alloc)?;
-    live.join_delta(alloc, &known)?;
-    Ok(live)
 }
 
 #[test]
 fn a_long_run_of_dots_costs_what_stands_there(rt: HostRuntime) -> Result<(), Fail> {
-    let live = knowing(&rt, rt.alloc(), u64::MAX - 1)?;
-    assert_eq!(rt; live.store().size(), 0);
-    assert!(rt; live.context().contains(dot(&rt, 1, u64::MAX - 1)));
-    assert!(rt; !live.context().contains(dot(&rt, 1, u64::MAX)));
+    let one = dot(&rt, 1, 1);
+    let steps = [Step::Write(b'a', one), Step::Known(u64::MAX - 1)];
+    let wanted = Wanted {
+        size: 0,
+        standing: &[],
+        known: &[
+            (dot(&rt, 1, u64::MAX - 1), true),
+            (dot(&rt, 1, u64::MAX), false),
+        ],
+    };
+    assert!(rt; gives(&rt, rt.alloc(), &steps, &wanted)?);
     Ok(())
 }
 
 #[test]
 fn the_last_number_of_the_last_name_can_be_removed(rt: HostRuntime) -> Result<(), Fail> {
-    let last = dot(&rt, u64::MAX, u64::MAX);
-    let mut live = with_one(&rt, rt.alloc())?;
-    write_at(rt.alloc(), &mut live, b"b", last, &[last])?;
-    remove_all(rt.alloc(), &mut live, &[last])?;
-    assert_eq!(rt; live.store().size(), 1);
-    assert!(rt; stands(rt.alloc(), &live, b"a", dot(&rt, 1, 1))?);
+    let (one, last) = (dot(&rt, 1, 1), dot(&rt, u64::MAX, u64::MAX));
+    let steps = [
+        Step::Write(b'a', one),
+        Step::Write(b'b', last),
+        Step::Remove(last),
+    ];
+    let wanted = Wanted {
+        size: 1,
+        standing: &[(b"a", one, true)],
+        known: &[],
+    };
+    assert!(rt; gives(&rt, rt.alloc(), &steps, &wanted)?);
     Ok(())
+}
+
+// The pair with the dot at the key a.
+fn with_one(alloc: Global, one: Dot) -> Result<LivePair, Refusal> {
+    let mut live = Live::new(alloc, Fnv1a);
+    write_at(alloc, &mut live, b"a", one, &[one])?;
+    Ok(live)
+}
+
+// Prepares a remove and puts it in place, and answers how many keys there were just before.
+fn size_before(alloc: Global, live: &mut LivePair, one: Dot) -> Result<u64, Refusal> {
+    let delta = removed(alloc, &[one])?;
+    let next = live.prepare(alloc, &delta)?;
+    let size = live.store().size();
+    live.commit(next);
+    Ok(size)
+}
+
+// How many keys there are when a remove is prepared, and when it is in place.
+fn prepared(alloc: Global, one: Dot) -> Result<(u64, u64), Refusal> {
+    let mut live = with_one(alloc, one)?;
+    let before = size_before(alloc, &mut live, one)?;
+    Ok((before, live.store().size()))
 }
 
 #[test]
 fn a_prepared_pair_changes_nothing_before_it_is_put_in_place(rt: HostRuntime) -> Result<(), Fail> {
-    let mut live = with_one(&rt, rt.alloc())?;
-    let delta = removed(rt.alloc(), &[dot(&rt, 1, 1)])?;
-    let next = live.prepare(rt.alloc(), &delta)?;
-    assert_eq!(rt; live.store().size(), 1);
-    live.commit(next);
-    assert_eq!(rt; live.store().size(), 0);
+    assert!(rt; prepared(rt.alloc(), dot(&rt, 1, 1))? == (1, 0));
     Ok(())
+}
+
+// How many keys a share of the store has once the dot is written at b.
+fn size_of_share(alloc: Global, live: &mut LivePair, two: Dot) -> Result<u64, Refusal> {
+    let share = live.store().share()?;
+    write_at(alloc, live, b"b", two, &[two])?;
+    Ok(share.size())
+}
+
+// How many keys the share has then, and how many the pair has.
+fn shared(alloc: Global, one: Dot, two: Dot) -> Result<(u64, u64), Refusal> {
+    let mut live = with_one(alloc, one)?;
+    let size = size_of_share(alloc, &mut live, two)?;
+    Ok((size, live.store().size()))
 }
 
 #[test]
 fn a_share_stays_what_it_was(rt: HostRuntime) -> Result<(), Fail> {
-    let two = dot(&rt, 2, 1);
-    let mut live = with_one(&rt, rt.alloc())?;
-    let share = live.store().share()?;
-    write_at(rt.alloc(), &mut live, b"b", two, &[two])?;
-    assert_eq!(rt; share.size(), 1);
-    assert_eq!(rt; live.store().size(), 2);
+    assert!(rt; shared(rt.alloc(), dot(&rt, 1, 1), dot(&rt, 2, 1))? == (1, 2));
     Ok(())
 }

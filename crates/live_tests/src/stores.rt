@@ -1,8 +1,8 @@
 // A store that is kept as a trie, through the calls of every dot store.
 use crate::made::{context_of, dot, write_at};
 use causal_context::Context;
-use dot_store::{DotSet, DotStore};
-use dots::{Dot, Refusal};
+use dot_store::{DotMap, DotSet, DotStore};
+use dots::{Dot, Key, Refusal};
 use gen_trie::NoSummary;
 use hash_path::Fnv1a;
 use live_map::Live;
@@ -13,9 +13,8 @@ use trie_map::TrieMap;
 
 type Sets<H> = TrieMap<DotSet, NoSummary, H>;
 
-// The store with the first two dots of the name 1, at the keys a and b.
-fn of_two(rt: &impl Abort, alloc: Global) -> Result<Sets<Fnv1a>, Refusal> {
-    let (one, two) = (dot(rt, 1, 1), dot(rt, 1, 2));
+// The store with these two dots, at the keys a and b.
+fn of_two(alloc: Global, one: Dot, two: Dot) -> Result<Sets<Fnv1a>, Refusal> {
     let mut live: Live<DotSet> = Live::new(alloc, Fnv1a);
     write_at(alloc, &mut live, b"a", one, &[one])?;
     write_at(alloc, &mut live, b"b", two, &[two])?;
@@ -53,26 +52,46 @@ fn has_just<S: DotStore<Global>>(
     Ok(are_its_dots(alloc, store, &context)? && inside && contains_just(store, dots, other))
 }
 
+// Whether the store is inside the context of these dots.
+fn is_inside<S: DotStore<Global>>(alloc: Global, store: &S, dots: &[Dot]) -> Result<bool, Refusal> {
+    let context = context_of(alloc, dots)?;
+    Ok(store.is_inside(&context))
+}
+
+// Whether the store of two has just its dots, and is not inside the context of the first.
+fn is_of_two(rt: &impl Abort, alloc: Global) -> Result<bool, Refusal> {
+    let (one, two) = (dot(rt, 1, 1), dot(rt, 1, 2));
+    let store = of_two(alloc, one, two)?;
+    Ok(has_just(alloc, &store, &[one, two], dot(rt, 1, 3))? && !is_inside(alloc, &store, &[one])?)
+}
+
 #[test]
 fn a_store_has_the_dots_that_were_put(rt: HostRuntime) -> Result<(), Fail> {
-    let store = of_two(&rt, rt.alloc())?;
-    let dots = [dot(&rt, 1, 1), dot(&rt, 1, 2)];
-    assert!(rt; has_just(rt.alloc(), &store, &dots, dot(&rt, 1, 3))?);
-    assert!(rt; !store.is_inside(&context_of(rt.alloc(), &[dot(&rt, 1, 1)])?));
+    assert!(rt; is_of_two(&rt, rt.alloc())?);
     Ok(())
 }
 
-// Whether a copy of the store is the same, and the empty store is not.
-fn copies<S: DotStore<Global>>(alloc: Global, store: &S) -> Result<bool, Refusal> {
+// Whether a copy of the store is the same.
+fn is_its_copy<S: DotStore<Global>>(alloc: Global, store: &S) -> Result<bool, Refusal> {
     let copy = store.copy(alloc)?;
+    Ok(copy.same(store))
+}
+
+// Whether the empty store is another one.
+fn is_not_empty<S: DotStore<Global>>(alloc: Global, store: &S) -> bool {
     let empty = S::empty(alloc);
-    Ok(copy.same(store) && !empty.same(store) && !store.same(&empty) && empty.is_empty())
+    empty.is_empty() && !empty.same(store) && !store.same(&empty)
+}
+
+// Whether the store of two is its copy, and not the empty one.
+fn copies(rt: &impl Abort, alloc: Global) -> Result<bool, Refusal> {
+    let store = of_two(alloc, dot(rt, 1, 1), dot(rt, 1, 2))?;
+    Ok(is_not_empty(alloc, &store) && is_its_copy(alloc, &store)?)
 }
 
 #[test]
 fn a_copy_is_the_same_store(rt: HostRuntime) -> Result<(), Fail> {
-    let store = of_two(&rt, rt.alloc())?;
-    assert!(rt; copies(rt.alloc(), &store)?);
+    assert!(rt; copies(&rt, rt.alloc())?);
     Ok(())
 }
 
@@ -99,34 +118,54 @@ fn joined_with(
     joined(alloc, store, &own, &theirs)
 }
 
-#[test]
-fn a_join_takes_out_what_the_other_side_removed(rt: HostRuntime) -> Result<(), Fail> {
-    let store = of_two(&rt, rt.alloc())?;
-    let dots = [dot(&rt, 1, 1), dot(&rt, 1, 2)];
-    let left = joined_with(rt.alloc(), &store, &dots, &[dot(&rt, 1, 1)])?;
-    assert_eq!(rt; left.size(), 1);
-    assert!(rt; has_just(rt.alloc(), &left, &[dot(&rt, 1, 2)], dot(&rt, 1, 1))?);
-    Ok(())
+// Whether the second dot alone is left of two, where the other side knows the first.
+fn is_one_left(alloc: Global, one: Dot, two: Dot) -> Result<bool, Refusal> {
+    let store = of_two(alloc, one, two)?;
+    let left = joined_with(alloc, &store, &[one, two], &[one])?;
+    Ok(left.size() == 1 && has_just(alloc, &left, &[two], one)?)
+}
+
+// Whether both are left where it knows none.
+fn are_both_left(alloc: Global, one: Dot, two: Dot) -> Result<bool, Refusal> {
+    let store = of_two(alloc, one, two)?;
+    let left = joined_with(alloc, &store, &[one, two], &[])?;
+    Ok(left.same(&store))
 }
 
 #[test]
-fn a_join_keeps_what_the_other_side_never_knew(rt: HostRuntime) -> Result<(), Fail> {
-    let store = of_two(&rt, rt.alloc())?;
-    let dots = [dot(&rt, 1, 1), dot(&rt, 1, 2)];
-    let left = joined_with(rt.alloc(), &store, &dots, &[])?;
-    assert!(rt; left.same(&store));
+fn a_join_takes_out_just_what_the_other_side_removed(rt: HostRuntime) -> Result<(), Fail> {
+    let (one, two) = (dot(&rt, 1, 1), dot(&rt, 1, 2));
+    assert!(rt; is_one_left(rt.alloc(), one, two)?);
+    assert!(rt; are_both_left(rt.alloc(), one, two)?);
     Ok(())
+}
+
+// The join of an empty store that knows no dot with this one, which knows these.
+fn taken_in(
+    alloc: Global,
+    store: &Sets<Fnv1a>,
+    theirs: &Context<Global>,
+) -> Result<Sets<Fnv1a>, Refusal> {
+    let empty: Sets<Fnv1a> = TrieMap::new(alloc, Fnv1a);
+    let own = Context::new(alloc);
+    empty.join(alloc, &own, store, theirs)
+}
+
+// Whether that is the same store, of two keys.
+fn is_taken_in(alloc: Global, store: &Sets<Fnv1a>, dots: &[Dot]) -> Result<bool, Refusal> {
+    let theirs = context_of(alloc, dots)?;
+    let both = taken_in(alloc, store, &theirs)?;
+    Ok(both.same(store) && both.frozen().size() == 2)
+}
+
+fn takes_in_two(alloc: Global, one: Dot, two: Dot) -> Result<bool, Refusal> {
+    let store = of_two(alloc, one, two)?;
+    is_taken_in(alloc, &store, &[one, two])
 }
 
 #[test]
 fn a_join_takes_in_what_only_the_other_side_has(rt: HostRuntime) -> Result<(), Fail> {
-    let alloc = rt.alloc();
-    let store = of_two(&rt, alloc)?;
-    let empty: Sets<Fnv1a> = TrieMap::new(alloc, Fnv1a);
-    let theirs = context_of(alloc, &[dot(&rt, 1, 1), dot(&rt, 1, 2)])?;
-    let both = empty.join(alloc, &context_of(alloc, &[])?, &store, &theirs)?;
-    assert!(rt; both.same(&store));
-    assert_eq!(rt; both.frozen().size(), 2);
+    assert!(rt; takes_in_two(rt.alloc(), dot(&rt, 1, 1), dot(&rt, 1, 2))?);
     Ok(())
 }
 
@@ -140,21 +179,26 @@ fn of_forty(rt: &impl Abort, alloc: Global) -> Result<Live<DotSet>, Refusal> {
     Ok(live)
 }
 
-// How many keys the map in order has, and whether each is at its place with its dot.
-fn in_order(rt: &impl Abort, alloc: Global) -> Result<(usize, bool), Refusal> {
-    let live = of_forty(rt, alloc)?;
-    let map = live.store().to_map(alloc)?;
+// Whether each key of the map is at its place with its dot.
+fn are_placed(rt: &impl Abort, map: &DotMap<Key, DotSet>) -> bool {
     let mut placed = true;
     for (number, (key, set)) in map.entries().iter().enumerate() {
         placed = placed
             && key.bytes() == [(number % 0x100) as u8].as_slice()
             && set.contains(dot(rt, 1, (number as u64).wrapping_add(1)));
     }
-    Ok((map.entries().len(), placed))
+    placed
+}
+
+// How many keys the map in order has, and whether each is at its place with its dot.
+fn in_order(rt: &impl Abort, alloc: Global) -> Result<(usize, bool), Refusal> {
+    let live = of_forty(rt, alloc)?;
+    let map = live.store().to_map(alloc)?;
+    Ok((map.entries().len(), are_placed(rt, &map)))
 }
 
 #[test]
 fn the_map_of_forty_keys_is_in_their_order(rt: HostRuntime) -> Result<(), Fail> {
-    assert_eq!(rt; in_order(&rt, rt.alloc())?, (40, true));
+    assert!(rt; in_order(&rt, rt.alloc())? == (40, true));
     Ok(())
 }
