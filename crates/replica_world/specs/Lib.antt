@@ -1,0 +1,5 @@
+pub mod Spelled
+pub mod Happening
+pub mod Keeping
+pub mod Replaces
+pub mod Showing
