@@ -1,5 +1,1 @@
-pub mod Spelled
-pub mod Happening
-pub mod Keeping
-pub mod Replaces
 pub mod Showing
