@@ -1,14 +1,13 @@
 -- What a replica of a world shows.
-use Rattle.std.proofs.Common.{◌≡◌, ℕ, List, [], length, refl, ap, ◌∙◌, subst}
+use Rattle.std.proofs.Common.{◌≡◌, ℕ, List, [], length, ap}
 use Rattle.op_model.specs.Meaning.{MapState, state}
 use Rattle.op_model.specs.Operation.{Operation, NoReuse}
 use Rattle.op_model.specs.State.{Same}
 use Rattle.op_model.proofs.Fresh.{NoReuse-part}
-use Rattle.op_model.proofs.Showing.{values_standing, fields_standing, keys_standing}
+use Rattle.op_model.proofs.Showing.{values_standing, values_of_key_standing, fields_standing, keys_standing}
 use Rattle.prefix_digest.specs.MapOf.{root_digest}
 use Rattle.prefix_digest.specs.Page.{digest_at}
 use Rattle.prefix_digest.proofs.MapsOf.{map_is}
-use Rattle.replica_model.specs.World.{World, Event, nothing, Runs, Unclashed}
 use Rattle.replica_model.proofs.Meant.{headline}
 use Rattle.replica_model.proofs.Sound.{sound}
 use Rattle.replica_world.specs.Showing.{Shows, WorldsShow}
@@ -22,6 +21,7 @@ shows hash_of live S once is =
     let same = is_same live (state S) is in
     record {
       values = λ place found lists. values_standing S place live found once same lists.ascending lists.just;
+      values_of_key = λ key found lists. values_of_key_standing S key live found once same lists.ascending lists.just;
       fields = λ key found lists. fields_standing S key live found same lists.ascending lists.just;
       keys = λ found lists. keys_standing S live found same lists.ascending lists.just;
       size = λ found lists. ap length (keys_standing S live found same lists.ascending lists.just);

@@ -1,1 +1,6 @@
+pub mod Spelled
+pub mod Happening
+pub mod Keeping
+pub mod Replaces
 pub mod Showing
+pub mod Accepting

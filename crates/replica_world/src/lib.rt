@@ -1,7 +1,21 @@
-// What replicas of a world show.
-// Offered to the crates above: what is read off a replica is told by the operations that it has seen alone. No product code.
+// A world of replicas and of the messages between them.
+// Offered to the crates above: each event makes of the world what the model of worlds says.
 #![tactic(auto)]
 
+mod answer;
+mod call;
+mod calling;
+mod delivering;
+mod event;
+mod happening;
 mod laws;
+mod posted;
+mod told;
+mod world;
 
+pub use answer::Answer;
+pub use call::Call;
+pub use event::Event;
 pub use laws::replicas_show_what_they_have_seen;
+pub use told::Told;
+pub use world::World;

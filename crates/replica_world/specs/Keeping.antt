@@ -1,0 +1,59 @@
+-- How a world keeps what its events make: its replicas and the bytes of its messages are those of the model. Of this project.
+use Rattle.std.specs.Prelude.{◌≡◌, ◌⊎◌, ℕ, false, List, map, Some, is_some}
+use Rattle.std.specs.BTreeMap.{BTreeMap, get}
+use Rattle.std.specs.Ordering.{nat_cmp}
+use Rattle.dots.specs.declared.refusal.Refusal.{Refusal}
+use Rattle.dots.specs.declared.refusal.Refusal.TheVariants.{OutOfMemory}
+use Rattle.wire_form.specs.Message.{MessageValue}
+use Rattle.sync_protocol.specs.Posting.{IsPosted}
+use Rattle.replica_core.specs.Meaning.{ReplicaValue, hash_in, meaning}
+use Rattle.replica_core.specs.Stepping.{Steps}
+use Rattle.replica_model.specs.Mail.{Mail, mail_of}
+use Rattle.replica_model.specs.Replica.{fresh}
+use Rattle.replica_model.specs.Step.{Answer, Call, Do, Take}
+use Rattle.replica_model.specs.World.{World, Event, is_node, nothing, Happens, RefusesEvent, Runs}
+use Rattle.replica_world.specs.Spelled.{AreSpelled, Gains}
+
+-- a world, as it is seen: the hash of all keys' paths, and the events that it accepted
+pub record WorldValue (Hash : Type 0) : Type 0 where
+  pub hash : Hash
+  pub past : List Event
+
+module _ {Hash : Type 0} where
+  -- the replicas and the messages are those of the model's world
+  pub record Keeps (hash : Hash) (replicas : BTreeMap ℕ (ReplicaValue Hash)) (messages : List (List ℕ)) (w : World) : Type 0 where
+    pub there : (name : ℕ) → is_some (get nat_cmp replicas name) ≡ is_node w name
+    pub means : (name : ℕ) (r : ReplicaValue Hash) → get nat_cmp replicas name ≡ Some r → meaning r ≡ w.replica name
+    pub hashed : (name : ℕ) (r : ReplicaValue Hash) → get nat_cmp replicas name ≡ Some r → hash_in r ≡ hash
+    pub absent : (name : ℕ) → is_node w name ≡ false → w.replica name ≡ fresh name
+    pub spelled : AreSpelled messages (map (λ m. m.mail) w.messages)
+
+module _ {Hash : Type 0} (hash_of : Hash → List ℕ → ℕ) where
+  -- after this past they are those of its world
+  pub record IsWorld (hash : Hash) (replicas : BTreeMap ℕ (ReplicaValue Hash)) (messages : List (List ℕ)) (past : List Event) : Type 0 where
+    pub world : World
+    pub runs : Runs (hash_of hash) nothing past world
+    pub keeps : Keeps hash replicas messages world
+
+  -- the event made the second replicas and messages of the first, and was answered this
+  abbrev pub Makes : Hash → BTreeMap ℕ (ReplicaValue Hash) → List (List ℕ) → Event → Answer → BTreeMap ℕ (ReplicaValue Hash) → List (List ℕ) → Type 0
+  Makes hash old messages e answer new more =
+      (w : World) → Keeps hash old messages w → (v : World) × Happens (hash_of hash) w e answer v × Keeps hash new more v
+
+-- an event is refused, for want of memory or as the model refuses it
+abbrev pub IsRefusedEvent : {Hash : Type 0} → Hash → BTreeMap ℕ (ReplicaValue Hash) → List (List ℕ) → Event → Refusal → Type 0
+IsRefusedEvent hash replicas messages e refusal = (w : World) → Keeps hash replicas messages w → (refusal ≡ OutOfMemory) ⊎ RefusesEvent w e refusal
+
+-- what a refused event leaves
+abbrev pub Leaves : {Hash : Type 0} → Hash → BTreeMap ℕ (ReplicaValue Hash) → List (List ℕ) → BTreeMap ℕ (ReplicaValue Hash) → List (List ℕ) → Type 0
+Leaves hash old messages new more = (w : World) → Keeps hash old messages w → Keeps hash new more w
+
+-- a call of a replica was made and answered this, and what it sends is posted
+abbrev pub Calls : {Hash : Type 0} → (Hash → List ℕ → ℕ) → ReplicaValue Hash → ReplicaValue Hash → Call → Answer → List (List ℕ) → List (List ℕ) → Type 0
+Calls hash_of old new call answer messages more =
+    (out : List MessageValue) × Steps hash_of old new (Do call) answer (map mail_of out) × IsPosted Gains messages more out
+
+-- and a delivery
+abbrev pub Takes : {Hash : Type 0} → (Hash → List ℕ → ℕ) → ReplicaValue Hash → ReplicaValue Hash → Mail → Answer → List (List ℕ) → List (List ℕ) → Type 0
+Takes hash_of old new mail answer messages more =
+    (out : List MessageValue) × Steps hash_of old new (Take mail) answer (map mail_of out) × IsPosted Gains messages more out

@@ -1,0 +1,122 @@
+ghost use Rattle.std.specs.Prelude.{◌≡◌, ◌⊎◌, ◌+◌, ◌++◌, [], ◌∷◌, length, map, true, false, Some, None, IfOk, IfErr, OnOk, OnErr, IfSome, IsNone};
+ghost use Rattle.dots.specs.declared.refusal.Refusal.TheVariants.{OutOfMemory};
+ghost use Rattle.replica_model.specs.World as model;
+ghost use Rattle.replica_model.specs.World.{nothing, is_node, message_at, RefusesEvent, Runs, Unclashed};
+ghost use Rattle.replica_core.specs.Meaning.{hash_in, meaning};
+ghost use Rattle.replica_world.specs.Accepting.{IsTold};
+ghost use Rattle.replica_world.specs.Showing.{Shows};
+ghost use Rattle.replica_world.specs.Spelled.{IsSpelled};
+
+use crate::event::Event;
+use crate::happening::happen;
+use crate::posted::Posted;
+use crate::told::Told;
+use dots::{Name, Refusal};
+use hash_path::{Fnv1a, PathHash};
+use replica_core::Replica;
+use std::alloc::{Allocator, Global};
+use std::collections::BTreeMap;
+use std::marker::Model;
+
+/// A world of replicas and of the messages between them: what a program runs that tries what replicas do, or carries their messages itself.
+///
+/// Every message is kept as its bytes, from message 1 on, and may be delivered to any replica, any number of times or never. The accepted
+/// events are kept too, so that a past can be told: they take memory in what they say.
+#[derive(Drop)]
+pub struct World<H: PathHash = Fnv1a, A: Allocator + Copy = Global> {
+    alloc: A,
+    hash: H,
+    replicas: BTreeMap<Name, Replica<H, A>, A>,
+    posted: Posted<A>,
+    past: Vec<Event<A>, A>,
+}
+
+impl<H: PathHash, A: Allocator + Copy> Model for World<H, A> {
+    ghost use Rattle.std.specs.Prelude.{map};
+    ghost use Rattle.replica_world.specs.Happening.{event_value};
+    ghost use Rattle.replica_world.specs.Keeping.{WorldValue, IsWorld};
+
+    ghost Value = { WorldValue H };
+
+    ghost view = { λ w. record { hash = w.hash; past = map event_value w.past.items } };
+
+    ghost invariant = { λ w. IsWorld H.hash_of w.hash w.replicas w.posted (map event_value w.past.items) };
+}
+
+impl<H: PathHash, A: Allocator + Copy> World<H, A> {
+    ghost use Rattle.replica_world.specs.Happening.{answer_value, event_value};
+
+    /// The world with no replica and no message, whose replicas' keys have their paths by this hash. Takes no memory.
+    pub fn new(alloc: A, hash: H) -> World<H, A>
+        ensures { result ≡ record { hash = hash; past = [] } }
+    {
+        World {
+            alloc,
+            hash,
+            replicas: BTreeMap::new(alloc),
+            posted: Posted::new(alloc),
+            past: Vec::new(alloc),
+        }
+    }
+
+    /// Makes the event happen, and tells what it was answered and which messages it made; a retry and a delivery make at most one for each
+    /// page that is waited for, each other event at most one.
+    ///
+    /// Its refusals are NameTaken, exactly where a new replica has the name of one that is there; UnknownReplica, exactly where a call, its
+    /// peer, or a delivery is for one that is not there; UnknownMessage, exactly where no message has the number; those of the replica's
+    /// call; and OutOfMemory. A refused event changes nothing and is not kept in the past. Takes what the call takes, and the logarithm of the number of replicas.
+    pub fn event(&mut self, event: Event<A>) -> Result<Told, Refusal>
+        ensures ok { OnOk result (self.new ≡ record { hash = self.old.hash; past = self.old.past ++ event_value event ∷ [] }) }
+        ensures happened { IfOk result (λ told. (w : model.World) → Runs (H.hash_of self.old.hash) nothing self.old.past w
+            → IsTold (H.hash_of self.old.hash) self.old.past w (event_value event) (answer_value told.answer) told.made.start told.made.end) }
+        ensures refused { IfErr result (λ refusal. (w : model.World) → Runs (H.hash_of self.old.hash) nothing self.old.past w
+            → (refusal ≡ OutOfMemory) ⊎ RefusesEvent w (event_value event) refusal) }
+        ensures unchanged { OnErr result (self.new ≡ self.old) }
+    {
+        let first = self.posted.len() + 1;
+        self.past.reserve(1)?;
+        let answer = match happen(
+            self.alloc,
+            self.hash,
+            &mut self.replicas,
+            &mut self.posted,
+            &event,
+        ) {
+            Ok(answer) => answer,
+            Err(refusal) => return Err(refusal),
+        };
+        let made = first..self.posted.len() + 1;
+        self.past.push(event).unwrap();
+        Ok(Told { answer, made })
+    }
+
+    /// The replica of this name, if it is there. Takes the logarithm of the number of replicas.
+    ///
+    /// Unless two pages or two values that one session met have one SHA-256, what it shows is told by the operations that it has seen alone:
+    /// at each field of each key just the values of the writes that it has seen and that no operation that it has seen had observed.
+    pub fn replica(&self, name: Name) -> Option<&Replica<H, A>>
+        ensures some { IfSome result (λ replica. (w : model.World) → Runs (H.hash_of self.now.hash) nothing self.now.past w
+            → (is_node w name ≡ true) × (meaning replica.now ≡ w.replica name) × (hash_in replica.now ≡ self.now.hash)) }
+        ensures none { IsNone result → (w : model.World) → Runs (H.hash_of self.now.hash) nothing self.now.past w → is_node w name ≡ false }
+        ensures shown { IfSome result (λ replica. (w : model.World) → Runs (H.hash_of self.now.hash) nothing self.now.past w
+            → Unclashed (H.hash_of self.now.hash) w → Shows (H.hash_of self.now.hash) (meaning replica.now).live (w.seen name)) }
+    {
+        self.replicas.get(&name)
+    }
+
+    /// The bytes of the message of this number, from 1 on, if there is one. Takes constant time.
+    pub fn message(&self, number: u64) -> Option<&[u8]>
+        ensures some { IfSome result (λ bytes. (w : model.World) → Runs (H.hash_of self.now.hash) nothing self.now.past w
+            → (m : model.Message) × (message_at w.messages number ≡ Some m) × IsSpelled bytes.now m.mail) }
+        ensures none { IsNone result → (w : model.World) → Runs (H.hash_of self.now.hash) nothing self.now.past w → message_at w.messages number ≡ None }
+    {
+        self.posted.get(number)
+    }
+
+    /// The events that it accepted, in their order. Takes constant time.
+    pub fn past(&self) -> &[Event<A>]
+        ensures { map event_value result.now ≡ self.now.past }
+    {
+        self.past.as_slice()
+    }
+}
