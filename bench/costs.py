@@ -1,59 +1,75 @@
 #!/usr/bin/env python3
-"""Tells the processor seconds that each function of a crate takes to check, dearest last.
+"""Tells the seconds that each function of a crate takes to check, dearest last.
 
     python3 bench/costs.py CRATE [--test] [flags of rt check]
+    python3 bench/costs.py CRATE --kept
 
-It checks with one job, so that what passes between two functions is the later one's. What is kept in out/ is not checked again:
-remove the crate's out/ to see all. A wall clock would tell of the machine's load; this does not.
+It checks with one job, and reads off the times of the files that the check keeps in out/: what passes before a file is written is its
+function's. What was kept before is not checked again: remove the crate's out/incremental to see all. The seconds are of the wall clock, so
+they are told beside the machine's load. With --kept it checks nothing, and tells of what is there, also while a check goes on.
 """
 
+import collections
 import os
-import re
 import subprocess
 import sys
+import time
 
 ROOT = os.path.dirname(os.path.dirname(os.path.abspath(__file__)))
 
+# The last words of the names of a function's files.
+PARTS = {"Answers", "Code", "Given", "Goals", "Invariants", "Key", "Kinds", "Layout", "Loops", "Lts", "Mir", "Named", "Proof", "Reads", "Safety", "TheLinks", "Tie"}
 
-class Spent:
-    """The processor seconds of all processes that were seen to work in a folder."""
 
-    def __init__(self, folder):
-        self.folder = folder
-        self.seconds = {}
+def function_of(file):
+    words = file.removesuffix(".oantt").removesuffix(".decls").split("-proofs.")[-1].split("-specs.")[-1].split(".")
+    return ".".join(word for word in words if word not in PARTS)
 
-    def total(self):
-        for process in filter(str.isdigit, os.listdir("/proc")):
+
+def written(folder):
+    """The times and names of the files that a check keeps, in the order in which they were written."""
+    files = []
+    for at, _, names in os.walk(folder):
+        for name in names:
             try:
-                if os.readlink(f"/proc/{process}/cwd") != self.folder:
-                    continue
-                with open(f"/proc/{process}/stat") as stat:
-                    fields = stat.read().rsplit(")", 1)[1].split()
+                files.append((os.stat(f"{at}/{name}").st_mtime, name))
             except OSError:
                 continue
-            self.seconds[process] = (int(fields[11]) + int(fields[12])) / os.sysconf("SC_CLK_TCK")
-        return sum(self.seconds.values())
+    return sorted(files)
+
+
+def costs(files, since):
+    """The seconds of each function whose files were written since."""
+    seconds = collections.Counter()
+    before = since
+    for at, name in files:
+        if at < since:
+            continue
+        seconds[function_of(name)] += at - before
+        before = at
+    return seconds
 
 
 def main():
     folder = os.path.join(ROOT, "crates", sys.argv[1])
-    spent = Spent(folder)
-    check = subprocess.Popen(
-        ["rt", "check", "--jobs", "1", *sys.argv[2:]], cwd=folder, stdout=subprocess.PIPE, stderr=subprocess.STDOUT, text=True
-    )
-    before = 0.0
-    costs = []
-    for line in check.stdout:
-        found = re.match(r"checked (\S+), \d+ of", line)
-        if found:
-            now = spent.total()
-            costs.append((now - before, found.group(1)))
-            before = now
-        elif "not proved" in line or "proved=" in line or "logic=" in line:
-            print(line.strip(), flush=True)
-    for seconds, function in sorted(costs):
-        print(f"{seconds:7.1f} {function}")
-    return check.wait()
+    kept = os.path.join(folder, "out", "incremental")
+    status, since = 0, time.time()
+    if "--kept" in sys.argv[2:]:
+        since = min((at for at, _ in written(kept)), default=since)
+    else:
+        checked = subprocess.run(
+            ["rt", "check", "--jobs", "1", *sys.argv[2:]], cwd=folder, stdout=subprocess.PIPE, stderr=subprocess.STDOUT, text=True
+        )
+        status = checked.returncode
+        for line in checked.stdout.splitlines():
+            if "not proved" in line or "proved=" in line or "logic=" in line:
+                print(line.strip())
+    seconds = costs(written(kept), since)
+    for function, spent in sorted(seconds.items(), key=lambda it: it[1]):
+        if spent >= 0.1:
+            print(f"{spent:7.1f} {function}")
+    print(f"{sum(seconds.values()):7.1f} in all; load {os.getloadavg()[0]:.1f} on {os.cpu_count()} processors")
+    return status
 
 
 if __name__ == "__main__":

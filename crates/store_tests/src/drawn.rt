@@ -117,17 +117,32 @@ impl Draws {
     }
 }
 
-// A context and the plain set, each with this many dots of the draws.
-fn drawn(rt: &impl Abort, alloc: Global, draws: &mut Draws, count: u64) -> Result<Both, Refusal> {
-    let mut context = Context::new(alloc);
-    let mut plain = BTreeSet::new(alloc);
+// Adds a dot of the draws to both, and tells whether both then say the same.
+fn add_one(
+    rt: &impl Abort,
+    alloc: Global,
+    both: &mut Both,
+    draws: &mut Draws,
+) -> Result<bool, Refusal> {
+    let dot = draws.dot(rt);
+    both.0.add(dot)?;
+    both.1.insert(dot)?;
+    agree(rt, alloc, &both.0, &both.1)
+}
+
+// Adds this many dots of the draws to both, and tells whether both said the same after each.
+fn add_drawn(
+    rt: &impl Abort,
+    alloc: Global,
+    both: &mut Both,
+    draws: &mut Draws,
+    count: u64,
+) -> Result<bool, Refusal> {
+    let mut same = true;
     for _ in 0..count {
-        let dot = draws.dot(rt);
-        context.add(dot)?;
-        plain.insert(dot)?;
-        assert!(rt; agree(rt, alloc, &context, &plain)?);
+        same = add_one(rt, alloc, both, draws)? && same;
     }
-    Ok((context, plain))
+    Ok(same)
 }
 
 // Whether the contexts include one another as the plain sets do.
@@ -151,28 +166,34 @@ fn is_as_its_copy(alloc: Global, context: &Context) -> Result<bool, Refusal> {
     Ok(context.copy(alloc)? == *context)
 }
 
-// Compares two contexts, each of so many draws, and their union with the plain sets.
-fn compare(
+// Whether both of two say the same of one another, of their union and of its copy.
+fn compare(rt: &impl Abort, alloc: Global, mine: &mut Both, yours: &Both) -> Result<bool, Refusal> {
+    let alike = include_alike(mine, yours) && equal_alike(mine, yours);
+    unite(mine, yours)?;
+    let is_copied = is_as_its_copy(alloc, &mine.0)?;
+    Ok(agree(rt, alloc, &mine.0, &mine.1)? && is_copied && alike)
+}
+
+// Whether two contexts, each of so many draws, agree with the plain sets, as do they and their union.
+fn agree_drawn(
     rt: &impl Abort,
     alloc: Global,
     draws: &mut Draws,
     my_count: u64,
     your_count: u64,
-) -> Result<(), Refusal> {
-    let mut mine = drawn(rt, alloc, draws, my_count)?;
-    let yours = drawn(rt, alloc, draws, your_count)?;
-    assert!(rt; include_alike(&mine, &yours) && equal_alike(&mine, &yours));
-    unite(&mut mine, &yours)?;
-    assert!(rt; agree(rt, alloc, &mine.0, &mine.1)?);
-    assert!(rt; is_as_its_copy(alloc, &mine.0)?);
-    Ok(())
+) -> Result<bool, Refusal> {
+    let mut mine = (Context::new(alloc), BTreeSet::new(alloc));
+    let mut yours = (Context::new(alloc), BTreeSet::new(alloc));
+    let is_mine = add_drawn(rt, alloc, &mut mine, draws, my_count)?;
+    let is_yours = add_drawn(rt, alloc, &mut yours, draws, your_count)?;
+    Ok(compare(rt, alloc, &mut mine, &yours)? && is_mine && is_yours)
 }
 
 #[test]
 fn random_dots_are_kept_as_an_ordered_set_keeps_them(rt: HostRuntime) -> Result<(), Fail> {
     let mut draws = Draws { state: 1 };
     for round in 0..12 {
-        compare(&rt, rt.alloc(), &mut draws, 3 * round, 2 * round)?;
+        assert!(rt; agree_drawn(&rt, rt.alloc(), &mut draws, 3 * round, 2 * round)?);
     }
     Ok(())
 }

@@ -16,7 +16,8 @@ pub fn dots_of(rt: &impl Abort, alloc: Global, pairs: &[(u64, u64)]) -> Result<V
 
 // The context of these names and numbers.
 pub fn numbered(rt: &impl Abort, alloc: Global, pairs: &[(u64, u64)]) -> Result<Context, Refusal> {
-    context_of(alloc, &dots_of(rt, alloc, pairs)?)
+    let dots = dots_of(rt, alloc, pairs)?;
+    context_of(alloc, &dots)
 }
 
 // The version vector.
@@ -44,6 +45,6 @@ pub fn has_form(
     vector: &[(u64, u64)],
     cloud: &[(u64, u64)],
 ) -> Result<bool, Refusal> {
-    let is_vector = vector_of(alloc, context)?.as_slice() == vector;
-    Ok(is_vector && cloud_of(alloc, context)?.as_slice() == cloud)
+    let (entries, dots) = (vector_of(alloc, context)?, cloud_of(alloc, context)?);
+    Ok(entries.as_slice() == vector && dots.as_slice() == cloud)
 }

@@ -34,7 +34,8 @@ pub fn set_of(alloc: Global, dots: &[Dot]) -> Result<DotSet, Refusal> {
 pub fn values_of(alloc: Global, values: &[(Dot, &[u8])]) -> Result<DotFun<Value>, Refusal> {
     let mut held = DotFun::empty(alloc);
     for (dot, bytes) in values {
-        held.insert(*dot, Value::new(alloc, bytes)?)?;
+        let value = Value::new(alloc, bytes)?;
+        held.insert(*dot, value)?;
     }
     Ok(held)
 }
@@ -45,13 +46,15 @@ pub fn under<S: DotStore<Global>>(
     key: &[u8],
     store: S,
 ) -> Result<DotMap<Key, S>, Refusal> {
+    let key = Key::new(alloc, key)?;
     let mut map = DotMap::empty(alloc);
-    map.insert(Key::new(alloc, key)?, store)?;
+    map.insert(key, store)?;
     Ok(map)
 }
 
 // The set under the field f of the key k.
 pub fn nested(alloc: Global, dots: &[Dot]) -> Result<DotMap<Key, DotMap<Key, DotSet>>, Refusal> {
-    let fields = under(alloc, b"f", set_of(alloc, dots)?)?;
+    let set = set_of(alloc, dots)?;
+    let fields = under(alloc, b"f", set)?;
     under(alloc, b"k", fields)
 }

@@ -56,6 +56,15 @@ fn pair<S: DotStore<Global>>(alloc: Global, store: S, known: &[Dot]) -> Result<C
     Ok(pair.ok_or("outside")?)
 }
 
+// Whether the join of the two is the second pair, and more than the first.
+fn is_more<S: DotStore<Global>>(
+    alloc: Global,
+    mine: &Causal<S>,
+    theirs: &Causal<S>,
+) -> Result<bool, Fail> {
+    Ok(joins_to(alloc, mine, theirs, theirs)?)
+}
+
 // Whether the join of the pairs of these stores and contexts is the second pair, and more than the first.
 fn join_to_theirs<S: DotStore<Global>>(
     alloc: Global,
@@ -66,33 +75,50 @@ fn join_to_theirs<S: DotStore<Global>>(
 ) -> Result<bool, Fail> {
     let mine = pair(alloc, mine, my_dots)?;
     let theirs = pair(alloc, theirs, their_dots)?;
-    Ok(joins_to(alloc, &mine, &theirs, &theirs)?)
+    is_more(alloc, &mine, &theirs)
+}
+
+// Whether the join of the sets of these dots is the second, which knows these.
+fn sets_join(
+    alloc: Global,
+    mine: &[Dot],
+    theirs: &[Dot],
+    their_dots: &[Dot],
+) -> Result<bool, Fail> {
+    let my_set = set_of(alloc, mine)?;
+    let their_set = set_of(alloc, theirs)?;
+    join_to_theirs(alloc, my_set, mine, their_set, their_dots)
 }
 
 #[test]
 fn a_removed_dot_stays_removed_in_the_join(rt: HostRuntime) -> Result<(), Fail> {
     let alloc = rt.alloc();
     let (a, b, c) = (dot(&rt, 1, 1), dot(&rt, 1, 2), dot(&rt, 2, 1));
-    let mine = set_of(alloc, &[a, b])?;
-    let theirs = set_of(alloc, &[b, c])?;
-    assert!(rt; join_to_theirs(alloc, mine, &[a, b], theirs, &[a, b, c])?);
+    assert!(rt; sets_join(alloc, &[a, b], &[b, c], &[a, b, c])?);
     Ok(())
+}
+
+// Whether the dot under two keys goes where the other side knows it.
+fn goes_from_two_keys(alloc: Global, known: Dot) -> Result<bool, Fail> {
+    let mine = nested(alloc, &[known])?;
+    join_to_theirs(alloc, mine, &[known], DotMap::empty(alloc), &[known])
 }
 
 #[test]
 fn a_dot_removed_under_two_keys_leaves_no_key(rt: HostRuntime) -> Result<(), Fail> {
-    let alloc = rt.alloc();
-    let d = dot(&rt, 1, 1);
-    let mine = nested(alloc, &[d])?;
-    assert!(rt; join_to_theirs(alloc, mine, &[d], DotMap::empty(alloc), &[d])?);
+    assert!(rt; goes_from_two_keys(rt.alloc(), dot(&rt, 1, 1))?);
     Ok(())
+}
+
+// Whether the set of the dot and the context of none make no pair.
+fn is_no_pair(alloc: Global, outside: Dot) -> Result<bool, Refusal> {
+    let store = set_of(alloc, &[outside])?;
+    Ok(Causal::from_parts(store, Context::new(alloc)).is_none())
 }
 
 #[test]
 fn a_dot_outside_the_context_makes_no_pair(rt: HostRuntime) -> Result<(), Fail> {
-    let alloc = rt.alloc();
-    let store = set_of(alloc, &[dot(&rt, 1, 1)])?;
-    assert!(rt; Causal::from_parts(store, Context::new(alloc)).is_none());
+    assert!(rt; is_no_pair(rt.alloc(), dot(&rt, 1, 1))?);
     Ok(())
 }
 

@@ -6,6 +6,19 @@ use std::alloc::Global;
 use std::process::Abort;
 use std::test::Fail;
 
+// The dots of the store and these others.
+fn known_by<S: DotStore<Global>>(
+    alloc: Global,
+    store: &S,
+    others: &[Dot],
+) -> Result<Context, Refusal> {
+    let mut known = store.dots(alloc)?;
+    for dot in others {
+        known.add(*dot)?;
+    }
+    Ok(known)
+}
+
 // The join where each side knows its own dots and the others that are named.
 fn joined<S: DotStore<Global>>(
     alloc: Global,
@@ -14,10 +27,8 @@ fn joined<S: DotStore<Global>>(
     yours: &S,
     known: &[Dot],
 ) -> Result<S, Refusal> {
-    let mut own = context_of(alloc, seen)?;
-    own.union(&mine.dots(alloc)?)?;
-    let mut theirs = context_of(alloc, known)?;
-    theirs.union(&yours.dots(alloc)?)?;
+    let own = known_by(alloc, mine, seen)?;
+    let theirs = known_by(alloc, yours, known)?;
     mine.join(alloc, &own, yours, &theirs)
 }
 
@@ -50,7 +61,8 @@ fn joins_to(
 ) -> Result<bool, Refusal> {
     let mine = set_of(alloc, mine)?;
     let yours = set_of(alloc, yours)?;
-    gives(alloc, &mine, seen, &yours, known, &set_of(alloc, wanted)?)
+    let wanted = set_of(alloc, wanted)?;
+    gives(alloc, &mine, seen, &yours, known, &wanted)
 }
 
 #[test]
@@ -61,31 +73,53 @@ fn a_set_keeps_what_neither_side_removed(rt: HostRuntime) -> Result<(), Fail> {
     Ok(())
 }
 
+// Whether the set of these dots is inside the context of the known ones.
+fn is_inside(alloc: Global, dots: &[Dot], known: &[Dot]) -> Result<bool, Refusal> {
+    let set = set_of(alloc, dots)?;
+    let context = context_of(alloc, known)?;
+    Ok(set.is_inside(&context))
+}
+
 #[test]
 fn a_set_is_inside_the_contexts_that_have_its_dots(rt: HostRuntime) -> Result<(), Fail> {
-    let alloc = rt.alloc();
     let (a, b) = (dot(&rt, 1, 1), dot(&rt, 1, 2));
-    let set = set_of(alloc, &[a, b])?;
-    assert!(rt; set.is_inside(&context_of(alloc, &[b, a])?));
-    assert!(rt; !set.is_inside(&context_of(alloc, &[b])?));
+    assert!(rt; is_inside(rt.alloc(), &[a, b], &[b, a])?);
+    assert!(rt; !is_inside(rt.alloc(), &[a, b], &[b])?);
     Ok(())
+}
+
+// Whether the join is the other side's map, which knows the dot b, and a is in it and b is not.
+fn is_without_b(
+    alloc: Global,
+    mine: &DotFun<Value>,
+    yours: &DotFun<Value>,
+    a: Dot,
+    b: Dot,
+) -> Result<bool, Refusal> {
+    let both = joined(alloc, mine, &[], yours, &[b])?;
+    let has_a = both.get(a).is_some() && both.get(b).is_none();
+    Ok(is_wanted(alloc, &both, yours)? && has_a)
+}
+
+// Whether the greater of two values stays at a, and b goes, which the other side knows.
+fn keeps_the_greater(alloc: Global, a: Dot, b: Dot) -> Result<bool, Refusal> {
+    let mine = values_of(alloc, &[(a, b"x".as_slice()), (b, b"y".as_slice())])?;
+    let yours = values_of(alloc, &[(a, b"z".as_slice())])?;
+    is_without_b(alloc, &mine, &yours, a, b)
 }
 
 #[test]
 fn a_dot_of_both_sides_keeps_the_greater_value(rt: HostRuntime) -> Result<(), Fail> {
     let alloc = rt.alloc();
     let (a, b) = (dot(&rt, 1, 1), dot(&rt, 2, 1));
-    let mine = values_of(alloc, &[(a, b"x".as_slice()), (b, b"y".as_slice())])?;
-    let yours = values_of(alloc, &[(a, b"z".as_slice())])?;
-    let both = joined(alloc, &mine, &[], &yours, &[b])?;
-    assert!(rt; is_wanted(alloc, &both, &yours)?);
-    assert!(rt; both.get(a).is_some() && both.get(b).is_none());
+    assert!(rt; keeps_the_greater(alloc, a, b)?);
     Ok(())
 }
 
 // The set of these dots under the key.
 fn keyed(alloc: Global, key: &[u8], dots: &[Dot]) -> Result<DotMap<Key, DotSet>, Refusal> {
-    under(alloc, key, set_of(alloc, dots)?)
+    let set = set_of(alloc, dots)?;
+    under(alloc, key, set)
 }
 
 fn has_key(alloc: Global, map: &DotMap<Key, DotSet>, key: &[u8]) -> Result<bool, Refusal> {
@@ -101,27 +135,39 @@ fn takes_k_out(
     known: &[Dot],
 ) -> Result<bool, Refusal> {
     let both = joined(alloc, mine, &[], yours, known)?;
-    Ok(is_wanted(alloc, &both, yours)? && !has_key(alloc, &both, b"k")?)
+    let has_k = has_key(alloc, &both, b"k")?;
+    Ok(is_wanted(alloc, &both, yours)? && !has_k)
+}
+
+// Whether the key k goes with its dot, which the other side knows, and its own key m stays.
+fn k_goes(alloc: Global, removed: Dot, kept: Dot) -> Result<bool, Refusal> {
+    let mine = keyed(alloc, b"k", &[removed])?;
+    let yours = keyed(alloc, b"m", &[kept])?;
+    let had_k = has_key(alloc, &mine, b"k")?;
+    Ok(takes_k_out(alloc, &mine, &yours, &[removed])? && had_k)
 }
 
 #[test]
 fn a_key_whose_dots_were_all_removed_is_gone(rt: HostRuntime) -> Result<(), Fail> {
     let alloc = rt.alloc();
     let (a, b) = (dot(&rt, 1, 1), dot(&rt, 2, 1));
-    let mine = keyed(alloc, b"k", &[a])?;
-    let yours = keyed(alloc, b"m", &[b])?;
-    assert!(rt; has_key(alloc, &mine, b"k")?);
-    assert!(rt; takes_k_out(alloc, &mine, &yours, &[a])?);
+    assert!(rt; k_goes(alloc, a, b)?);
     Ok(())
+}
+
+// Whether nothing is left of the map of one key once an empty store is put there.
+fn is_taken_out(alloc: Global, map: &mut DotMap<Key, DotSet>) -> Result<bool, Refusal> {
+    let had_one = map.entries().len() == 1;
+    let key = Key::new(alloc, b"k")?;
+    map.insert(key, DotSet::empty(alloc))?;
+    let nothing = Context::new(alloc);
+    Ok(had_one && map.is_empty() && map.is_inside(&nothing))
 }
 
 #[test]
 fn an_empty_store_takes_its_key_along(rt: HostRuntime) -> Result<(), Fail> {
-    let alloc = rt.alloc();
-    let mut map = under(alloc, b"k", set_of(alloc, &[dot(&rt, 1, 1)])?)?;
-    assert_eq!(rt; map.entries().len(), 1);
-    map.insert(Key::new(alloc, b"k")?, DotSet::empty(alloc))?;
-    assert!(rt; map.is_empty() && map.is_inside(&Context::new(alloc)));
+    let mut map = keyed(rt.alloc(), b"k", &[dot(&rt, 1, 1)])?;
+    assert!(rt; is_taken_out(rt.alloc(), &mut map)?);
     Ok(())
 }
 
@@ -132,16 +178,21 @@ fn is_left<S: DotStore<Global>>(
     known: &[Dot],
     left: &S,
 ) -> Result<bool, Refusal> {
-    gives(alloc, mine, &[], &S::empty(alloc), known, left)
+    let nothing = S::empty(alloc);
+    gives(alloc, mine, &[], &nothing, known, left)
+}
+
+// Whether these dots are left of those under two keys, where the other side knows some.
+fn are_left(alloc: Global, mine: &[Dot], known: &[Dot], left: &[Dot]) -> Result<bool, Refusal> {
+    let map = nested(alloc, mine)?;
+    let wanted = nested(alloc, left)?;
+    is_left(alloc, &map, known, &wanted)
 }
 
 #[test]
 fn a_map_of_maps_goes_through_the_same_join(rt: HostRuntime) -> Result<(), Fail> {
-    let alloc = rt.alloc();
     let (a, b) = (dot(&rt, 1, 1), dot(&rt, 2, 1));
-    let mine = nested(alloc, &[a, b])?;
-    let left = nested(alloc, &[b])?;
-    assert!(rt; is_left(alloc, &mine, &[a], &left)?);
+    assert!(rt; are_left(rt.alloc(), &[a, b], &[a], &[b])?);
     Ok(())
 }
 
@@ -158,7 +209,9 @@ fn values_at(alloc: Global, dots: &[Dot]) -> Result<Option<DotFun<Value>>, Refus
 fn are_keys(alloc: Global, keys: &[&[u8]], dots: &[Dot]) -> Result<bool, Refusal> {
     let mut stores: Vec<(Key, DotSet)> = Vec::new(alloc);
     for key in keys {
-        stores.push((Key::new(alloc, key)?, set_of(alloc, dots)?))?;
+        let key = Key::new(alloc, key)?;
+        let set = set_of(alloc, dots)?;
+        stores.push((key, set))?;
     }
     Ok(DotMap::from_entries(stores).is_some())
 }

@@ -3,7 +3,6 @@ use crate::made::dot;
 use dots::{Dot, Field, FieldKind, Key, KeyKind, Name, Refusal, Text, ValueKind};
 use std::alloc::Global;
 use std::mem::size_of;
-use std::process::Abort;
 use std::test::Fail;
 
 // This many zero bytes.
@@ -13,35 +12,45 @@ fn zeros(alloc: Global, count: usize) -> Result<Vec<u8>, Refusal> {
     Ok(bytes)
 }
 
-// The text of these bytes, and its copy, give them back.
-fn expect_held<K>(rt: &impl Abort, alloc: Global, bytes: &[u8]) -> Result<(), Refusal> {
+// Whether the text of these bytes, and its copy, give them back.
+fn is_held<K>(alloc: Global, bytes: &[u8]) -> Result<bool, Refusal> {
     let text: Text<K> = Text::new(alloc, bytes)?;
-    assert_eq!(rt; text.bytes(), bytes);
-    assert_eq!(rt; text.copy(alloc)?.bytes(), bytes);
-    Ok(())
+    let copy = text.copy(alloc)?;
+    Ok(text.bytes() == bytes && copy.bytes() == bytes)
 }
 
 #[test]
 fn a_text_and_its_copy_hold_what_came_in(rt: HostRuntime) -> Result<(), Fail> {
     let alloc = rt.alloc();
     let past_the_place = b"twenty-three bytes long";
-    expect_held::<KeyKind>(&rt, alloc, b"")?;
-    expect_held::<KeyKind>(&rt, alloc, b"milk")?;
-    expect_held::<ValueKind>(&rt, alloc, &past_the_place[..22])?;
-    expect_held::<ValueKind>(&rt, alloc, past_the_place)?;
-    assert_eq!(rt; past_the_place.len(), 23);
-    assert_eq!(rt; size_of::<Key>(), 24);
+    assert!(rt; is_held::<KeyKind>(alloc, b"")?);
+    assert!(rt; is_held::<KeyKind>(alloc, b"milk")?);
+    assert!(rt; is_held::<ValueKind>(alloc, &past_the_place[..22])?);
+    assert!(rt; is_held::<ValueKind>(alloc, past_the_place)?);
+    assert!(rt; past_the_place.len() == 23 && size_of::<Key>() == 24);
     Ok(())
+}
+
+// Whether the text of the one comes before that of the other.
+fn is_before(alloc: Global, one: &[u8], other: &[u8]) -> Result<bool, Refusal> {
+    let first = Field::new(alloc, one)?;
+    let second = Field::new(alloc, other)?;
+    Ok(first < second)
+}
+
+// Whether the text of these bytes equals its copy.
+fn is_as_its_copy(alloc: Global, bytes: &[u8]) -> Result<bool, Refusal> {
+    let text = Field::new(alloc, bytes)?;
+    let copy = text.copy(alloc)?;
+    Ok(text == copy)
 }
 
 #[test]
 fn a_text_comes_before_those_that_it_begins(rt: HostRuntime) -> Result<(), Fail> {
-    let alloc = rt.alloc();
-    let short = Field::new(alloc, b"twenty-two bytes long.")?;
-    let long = Field::new(alloc, b"twenty-two bytes long..")?;
-    assert!(rt; short < long);
-    assert!(rt; long < Field::new(alloc, b"u")?);
-    assert_eq!(rt; short, short.copy(alloc)?);
+    let (alloc, long) = (rt.alloc(), b"twenty-two bytes long..");
+    assert!(rt; is_before(alloc, &long[..22], long)?);
+    assert!(rt; is_before(alloc, long, b"u")?);
+    assert!(rt; is_as_its_copy(alloc, &long[..22])?);
     Ok(())
 }
 
@@ -52,11 +61,17 @@ fn is_too_long<K>(alloc: Global, count: usize) -> Result<bool, Refusal> {
     Ok(text.err() == Some(Refusal::TooLong))
 }
 
+// How long the text of this many zero bytes is.
+fn length_of_zeros(alloc: Global, count: usize) -> Result<usize, Refusal> {
+    let bytes = zeros(alloc, count)?;
+    let text = Field::new(alloc, &bytes)?;
+    Ok(text.bytes().len())
+}
+
 #[test]
 fn texts_end_at_65535_bytes(rt: HostRuntime) -> Result<(), Fail> {
     let alloc = rt.alloc();
-    let longest = Field::new(alloc, &zeros(alloc, 65535)?)?;
-    assert_eq!(rt; longest.bytes().len(), 65535);
+    assert!(rt; length_of_zeros(alloc, 65535)? == 65535);
     assert!(rt; is_too_long::<FieldKind>(alloc, 65536)?);
     assert!(rt; is_too_long::<KeyKind>(alloc, 65536)?);
     assert!(rt; is_too_long::<ValueKind>(alloc, 65536)?);
@@ -66,8 +81,8 @@ fn texts_end_at_65535_bytes(rt: HostRuntime) -> Result<(), Fail> {
 #[test]
 fn names_and_numbers_begin_at_one(rt: HostRuntime) -> Result<(), Fail> {
     let first = Name::new(1).ok_or("a name")?;
-    assert_eq!(rt; Name::new(0), None);
-    assert_eq!(rt; Dot::new(first, 0), None);
+    assert!(rt; Name::new(0).is_none());
+    assert!(rt; Dot::new(first, 0).is_none());
     Ok(())
 }
 
@@ -75,17 +90,22 @@ fn names_and_numbers_begin_at_one(rt: HostRuntime) -> Result<(), Fail> {
 fn dots_go_by_name_and_then_by_number(rt: HostRuntime) {
     let early = dot(&rt, 1, 9);
     let late = dot(&rt, u64::MAX, 1);
-    assert_eq!(rt; (early.name().number(), early.number()), (1, 9));
-    assert_eq!(rt; late.name().number(), u64::MAX);
+    assert!(rt; early.name().number() == 1 && early.number() == 9);
+    assert!(rt; late.name().number() == u64::MAX);
     assert!(rt; early < late);
+}
+
+// Whether a refusal is written as its name.
+fn is_written(alloc: Global) -> Result<bool, Fail> {
+    let written = format!(in alloc; "{}", Refusal::NotAMessage)?;
+    Ok(written.as_str() == "NotAMessage")
 }
 
 #[test]
 fn a_refusal_is_written_as_its_name(rt: HostRuntime) -> Result<(), Fail> {
-    assert_eq!(rt; Refusal::OutOfMemory.number(), 1);
-    assert_eq!(rt; Refusal::Output.number(), 13);
-    assert_eq!(rt; Refusal::NumbersSpent.word(), "NumbersSpent");
-    let written = format!(in rt.alloc(); "{}", Refusal::NotAMessage)?;
-    assert_eq!(rt; written.as_str(), "NotAMessage");
+    assert!(rt; Refusal::OutOfMemory.number() == 1);
+    assert!(rt; Refusal::Output.number() == 13);
+    assert!(rt; Refusal::NumbersSpent.word() == "NumbersSpent");
+    assert!(rt; is_written(rt.alloc())?);
     Ok(())
 }

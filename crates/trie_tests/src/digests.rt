@@ -1,7 +1,9 @@
 // The digests of worked maps. What is expected was computed by python3's hashlib of the pages, put together by hand.
-use crate::mapped::{alone, is_at, only_a, three, two, unnamed, what_is_left, with_f};
-use hash_path::{Fnv1a, Prefix, SameHash};
+use crate::made::prefix_of;
+use crate::mapped::{Worked, frozen};
+use hash_path::{Fnv1a, PathHash, Prefix, SameHash};
 use prefix_digest::{FrozenMap, check, digest};
+use std::alloc::Global;
 use std::test::Fail;
 
 // The key `a` with the dot 1:1 and the value x at the empty field, alone.
@@ -55,66 +57,69 @@ const OF_ABC: [u8; 32] = [
     0xb0, 0x03, 0x61, 0xa3, 0x96, 0x17, 0x7a, 0x9c, 0xb4, 0x10, 0xff, 0x61, 0xf2, 0x00, 0x15, 0xad,
 ];
 
+// Whether this is the digest of the map by this hash at these indices, which are a prefix.
+fn is_at<H: PathHash>(
+    alloc: Global,
+    hash: H,
+    map: Worked,
+    path: &[u32],
+    wanted: Option<[u8; 32]>,
+) -> Result<bool, Fail> {
+    let prefix = prefix_of(path).ok_or("a prefix")?;
+    let frozen = frozen(alloc, hash, map)?;
+    Ok(digest(&frozen, prefix) == wanted)
+}
+
 #[test]
 fn one_key_has_one_digest_at_each_prefix_of_its_path(rt: HostRuntime) -> Result<(), Fail> {
-    let frozen = only_a(rt.alloc())?;
-    assert!(rt; is_at(&frozen, &[], Some(OF_A))?);
-    assert!(rt; is_at(&frozen, &[12, 9], Some(OF_A))?);
-    assert!(rt; is_at(&frozen, &[12, 8], None)?);
+    let alloc = rt.alloc();
+    assert!(rt; is_at(alloc, Fnv1a, Worked::OnlyA, &[], Some(OF_A))?);
+    assert!(rt; is_at(alloc, Fnv1a, Worked::OnlyA, &[12, 9], Some(OF_A))?);
+    assert!(rt; is_at(alloc, Fnv1a, Worked::OnlyA, &[12, 8], None)?);
     Ok(())
 }
 
 #[test]
-fn all_values_of_a_key_are_told(rt: HostRuntime) -> Result<(), Fail> {
-    let fields = unnamed(rt.alloc(), &[((2, 1), b"y"), ((1, 1), b"x")])?;
-    let frozen = alone(rt.alloc(), b"a", fields)?;
-    assert!(rt; is_at(&frozen, &[], Some(OF_TWO_VALUES))?);
-    Ok(())
-}
-
-#[test]
-fn all_fields_of_a_key_are_told(rt: HostRuntime) -> Result<(), Fail> {
-    let fields = with_f(
-        rt.alloc(),
-        &[((2, 1), b"y"), ((1, 1), b"x")],
-        &[((1, 2), b"z")],
-    )?;
-    let frozen = alone(rt.alloc(), b"a", fields)?;
-    assert!(rt; is_at(&frozen, &[], Some(OF_TWO_FIELDS))?);
+fn all_values_and_all_fields_of_a_key_are_told(rt: HostRuntime) -> Result<(), Fail> {
+    let alloc = rt.alloc();
+    assert!(rt; is_at(alloc, Fnv1a, Worked::TwoValues, &[], Some(OF_TWO_VALUES))?);
+    assert!(rt; is_at(alloc, Fnv1a, Worked::TwoFields, &[], Some(OF_TWO_FIELDS))?);
     Ok(())
 }
 
 #[test]
 fn two_keys_share_their_first_index(rt: HostRuntime) -> Result<(), Fail> {
-    let frozen = two(rt.alloc())?;
-    assert!(rt; is_at(&frozen, &[], Some(AT_ROOT))?);
-    assert!(rt; is_at(&frozen, &[5], Some(AT_FIVE))?);
-    assert!(rt; is_at(&frozen, &[5, 15], Some(OF_B))?);
+    let alloc = rt.alloc();
+    assert!(rt; is_at(alloc, Fnv1a, Worked::Two, &[], Some(AT_ROOT))?);
+    assert!(rt; is_at(alloc, Fnv1a, Worked::Two, &[5], Some(AT_FIVE))?);
+    assert!(rt; is_at(alloc, Fnv1a, Worked::Two, &[5, 15], Some(OF_B))?);
     Ok(())
 }
 
 #[test]
 fn keys_of_one_hash_are_told_past_the_last_index(rt: HostRuntime) -> Result<(), Fail> {
-    let frozen = three(rt.alloc(), SameHash(0))?.freeze()?;
-    assert!(rt; is_at(&frozen, &[], Some(OF_ONE_HASH))?);
-    assert!(rt; is_at(&frozen, &[0; 7], Some(OF_LIST))?);
+    let (alloc, hash) = (rt.alloc(), SameHash(0));
+    assert!(rt; is_at(alloc, hash, Worked::Three, &[], Some(OF_ONE_HASH))?);
+    assert!(rt; is_at(alloc, hash, Worked::Three, &[0; 7], Some(OF_LIST))?);
     Ok(())
 }
 
 #[test]
 fn what_is_left_has_the_digest_that_it_has_alone(rt: HostRuntime) -> Result<(), Fail> {
-    let frozen = what_is_left(rt.alloc(), SameHash(0))?;
-    assert!(rt; is_at(&frozen, &[], Some(OF_A))?);
-    let hashed = what_is_left(rt.alloc(), Fnv1a)?;
-    assert!(rt; is_at(&hashed, &[], Some(OF_A))?);
+    assert!(rt; is_at(rt.alloc(), SameHash(0), Worked::Left, &[], Some(OF_A))?);
+    assert!(rt; is_at(rt.alloc(), Fnv1a, Worked::Left, &[], Some(OF_A))?);
     Ok(())
 }
 
+// The digest of no keys.
+fn digest_of_none(alloc: Global) -> Option<[u8; 32]> {
+    let frozen: FrozenMap<Fnv1a> = FrozenMap::new(alloc, Fnv1a);
+    digest(&frozen, Prefix::root())
+}
+
 #[test]
-fn no_keys_have_no_digest(rt: HostRuntime) -> Result<(), Fail> {
-    let frozen: FrozenMap<Fnv1a> = FrozenMap::new(rt.alloc(), Fnv1a);
-    assert_eq!(rt; digest(&frozen, Prefix::root()), None);
-    Ok(())
+fn no_keys_have_no_digest(rt: HostRuntime) {
+    assert!(rt; digest_of_none(rt.alloc()).is_none());
 }
 
 #[test]

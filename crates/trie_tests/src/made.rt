@@ -3,6 +3,9 @@ use gen_trie::{Frozen, GenTrie, NoSummary, Summary};
 use hash_path::{PathHash, Prefix};
 use std::alloc::Global;
 
+// A value that a key has, or None for a key that is not there. Each key is one byte.
+pub type Held = (u8, Option<u64>);
+
 // The prefix of these indices.
 pub fn prefix_of(path: &[u32]) -> Option<Prefix> {
     let mut prefix = Prefix::root();
@@ -24,27 +27,28 @@ pub fn three_with<M: Summary<u64>, H: PathHash>(
 ) -> Result<GenTrie<u64, M, H>, Refusal> {
     let mut trie = GenTrie::new(alloc, hash);
     for value in 1..4u8 {
-        trie.insert(Key::new(alloc, &[96 + value])?, u64::from(value))?;
+        let key = Key::new(alloc, &[96 + value])?;
+        trie.insert(key, u64::from(value))?;
     }
     Ok(trie)
 }
 
-// The value at the key of these bytes.
+// The value at the key of this byte.
 pub fn at<H: PathHash>(
     alloc: Global,
     trie: &GenTrie<u64, NoSummary, H>,
-    key: &[u8],
+    key: u8,
 ) -> Result<Option<u64>, Refusal> {
-    let key = Key::new(alloc, key)?;
+    let key = Key::new(alloc, &[key])?;
     Ok(trie.lookup(&key).copied())
 }
 
 fn frozen_at<H: PathHash>(
     alloc: Global,
     frozen: &Frozen<u64, NoSummary, H>,
-    key: &[u8],
+    key: u8,
 ) -> Result<Option<u64>, Refusal> {
-    let key = Key::new(alloc, key)?;
+    let key = Key::new(alloc, &[key])?;
     Ok(frozen.lookup(&key).copied())
 }
 
@@ -61,14 +65,15 @@ pub fn taken<H: PathHash>(
     }
 }
 
-// Puts a value at the key of these bytes.
+// Puts a value at the key of this byte.
 pub fn put<H: PathHash>(
     alloc: Global,
     trie: &mut GenTrie<u64, NoSummary, H>,
-    key: &[u8],
+    key: u8,
     value: u64,
 ) -> Result<(), Refusal> {
-    trie.insert(Key::new(alloc, key)?, value)
+    let key = Key::new(alloc, &[key])?;
+    trie.insert(key, value)
 }
 
 // Whether there are so many keys, and these are the values at these keys.
@@ -76,11 +81,11 @@ pub fn holds<H: PathHash>(
     alloc: Global,
     trie: &GenTrie<u64, NoSummary, H>,
     size: u64,
-    values: &[(&[u8], Option<u64>)],
+    values: &[Held],
 ) -> Result<bool, Refusal> {
     let mut same = trie.size() == size;
     for (key, value) in values {
-        same = at(alloc, trie, key)? == *value && same;
+        same = at(alloc, trie, *key)? == *value && same;
     }
     Ok(same)
 }
@@ -89,11 +94,11 @@ pub fn frozen_holds<H: PathHash>(
     alloc: Global,
     frozen: &Frozen<u64, NoSummary, H>,
     size: u64,
-    values: &[(&[u8], Option<u64>)],
+    values: &[Held],
 ) -> Result<bool, Refusal> {
     let mut same = frozen.size() == size;
     for (key, value) in values {
-        same = frozen_at(alloc, frozen, key)? == *value && same;
+        same = frozen_at(alloc, frozen, *key)? == *value && same;
     }
     Ok(same)
 }

@@ -9,7 +9,6 @@ use gen_trie::{Frozen, GenTrie, NoSummary};
 use hash_path::{Fnv1a, PathHash, index_at};
 use std::alloc::Global;
 use std::collections::BTreeMap;
-use std::process::Abort;
 use std::test::Fail;
 
 type Plain = BTreeMap<u64, u64, Global>;
@@ -38,7 +37,8 @@ fn put_both<H: PathHash>(
     value: u64,
 ) -> Result<bool, Fail> {
     let same = same_at(alloc, trie, plain, number)?;
-    trie.insert(key_of(alloc, number)?, value)?;
+    let key = key_of(alloc, number)?;
+    trie.insert(key, value)?;
     plain.insert(number, value)?;
     Ok(same)
 }
@@ -89,6 +89,17 @@ fn run<H: PathHash>(
     Ok(same)
 }
 
+// Whether the two have the same at this key.
+fn frozen_same_at<H: PathHash>(
+    alloc: Global,
+    frozen: &Frozen<u64, NoSummary, H>,
+    plain: &Plain,
+    number: u64,
+) -> Result<bool, Refusal> {
+    let key = key_of(alloc, number)?;
+    Ok(frozen.lookup(&key).copied() == plain.get(&number).copied())
+}
+
 // Whether the two have the same at each key.
 fn agree<H: PathHash>(
     alloc: Global,
@@ -98,8 +109,7 @@ fn agree<H: PathHash>(
 ) -> Result<bool, Refusal> {
     let mut same = frozen.size() == plain.len() as u64;
     for number in 0..keys {
-        let key = key_of(alloc, number)?;
-        same = same && frozen.lookup(&key).copied() == plain.get(&number).copied();
+        same = frozen_same_at(alloc, frozen, plain, number)? && same;
     }
     Ok(same)
 }
@@ -146,47 +156,70 @@ fn walks_agree<H: PathHash>(hash: H, frozen: &Frozen<u64, NoSummary, H>, plain: 
 // A frozen map, and what the plain map was then.
 type Kept<H> = (Frozen<u64, NoSummary, H>, Plain);
 
-fn kept<H: PathHash>(
+// Puts a freeze of the trie and a copy of the plain map behind the others.
+fn keep<H: PathHash>(
+    all: &mut Vec<Kept<H>>,
     trie: &mut GenTrie<u64, NoSummary, H>,
     plain: &Plain,
-) -> Result<Kept<H>, Fail> {
-    Ok((trie.freeze()?, plain.clone()?))
+) -> Result<(), Fail> {
+    let frozen = trie.freeze()?;
+    let copy = plain.clone()?;
+    all.push((frozen, copy))?;
+    Ok(())
 }
 
-// 20,000 writes with a freeze after each 2,000.
-fn written<H: PathHash>(
-    rt: &impl Abort,
+// 20,000 writes with a freeze after each 2,000, and whether the two had the same at each of their keys.
+fn write_all<H: PathHash>(
     alloc: Global,
-    hash: H,
-    keys: u64,
-) -> Result<Vec<Kept<H>>, Fail> {
-    let mut trie = GenTrie::new(alloc, hash);
-    let mut plain = Plain::new(alloc);
-    let mut all = Vec::new(alloc);
-    for round in 1..11 {
-        assert!(rt; run(alloc, &mut trie, &mut plain, keys, round, 2000)?);
-        all.push(kept(&mut trie, &plain)?)?;
-    }
-    Ok(all)
-}
-
-// Whether the maps of all freezes, once all writes are made, are what the plain maps were then.
-fn writes_agree<H: PathHash>(
-    rt: &impl Abort,
-    alloc: Global,
-    hash: H,
+    all: &mut Vec<Kept<H>>,
+    trie: &mut GenTrie<u64, NoSummary, H>,
+    plain: &mut Plain,
     keys: u64,
 ) -> Result<bool, Fail> {
     let mut same = true;
-    for (frozen, then) in &written(rt, alloc, hash, keys)? {
+    for round in 1..11 {
+        same = run(alloc, trie, plain, keys, round, 2000)? && same;
+        keep(all, trie, plain)?;
+    }
+    Ok(same)
+}
+
+// The same of an empty trie and an empty map.
+fn write_anew<H: PathHash>(
+    alloc: Global,
+    all: &mut Vec<Kept<H>>,
+    hash: H,
+    keys: u64,
+) -> Result<bool, Fail> {
+    let mut trie = GenTrie::new(alloc, hash);
+    let mut plain = Plain::new(alloc);
+    write_all(alloc, all, &mut trie, &mut plain, keys)
+}
+
+// Whether each frozen map is what the plain map was then.
+fn agree_then<H: PathHash>(
+    alloc: Global,
+    hash: H,
+    all: &[Kept<H>],
+    keys: u64,
+) -> Result<bool, Fail> {
+    let mut same = true;
+    for (frozen, then) in all {
         same = agree(alloc, frozen, then, keys)? && walks_agree(hash, frozen, then) && same;
     }
     Ok(same)
 }
 
+// Whether the maps of all freezes, once all writes are made, are what the plain maps were then.
+fn writes_agree<H: PathHash>(alloc: Global, hash: H, keys: u64) -> Result<bool, Fail> {
+    let mut all = Vec::new(alloc);
+    let same = write_anew(alloc, &mut all, hash, keys)?;
+    Ok(agree_then(alloc, hash, &all, keys)? && same)
+}
+
 #[test]
 fn random_writes_agree_with_a_plain_map(rt: HostRuntime) -> Result<(), Fail> {
-    assert!(rt; writes_agree(&rt, rt.alloc(), Fnv1a, 3000)?);
+    assert!(rt; writes_agree(rt.alloc(), Fnv1a, 3000)?);
     Ok(())
 }
 
@@ -206,6 +239,6 @@ impl PathHash for FewHashes {
 
 #[test]
 fn random_writes_agree_where_hashes_meet(rt: HostRuntime) -> Result<(), Fail> {
-    assert!(rt; writes_agree(&rt, rt.alloc(), FewHashes, 200)?);
+    assert!(rt; writes_agree(rt.alloc(), FewHashes, 200)?);
     Ok(())
 }

@@ -1,12 +1,10 @@
-// Maps from keys to fields, and their pages and digests.
-use crate::made::prefix_of;
+// Worked maps from keys to fields.
 use dot_store::{DotFun, DotMap, DotStore};
 use dots::{Dot, Field, Key, Name, Refusal, Value};
 use gen_trie::GenTrie;
-use hash_path::{Fnv1a, PathHash};
-use prefix_digest::{FrozenMap, ShaSummary, digest};
+use hash_path::PathHash;
+use prefix_digest::{FrozenMap, ShaSummary};
 use std::alloc::Global;
-use std::test::Fail;
 use wire_form::Fields;
 
 // The dots with their values at a field.
@@ -23,63 +21,67 @@ pub fn dot(name: u64, number: u64) -> Result<Dot, Refusal> {
 fn values_of(alloc: Global, values: Values) -> Result<DotFun<Value>, Refusal> {
     let mut held = DotFun::empty(alloc);
     for ((name, number), value) in values {
-        held.insert(dot(*name, *number)?, Value::new(alloc, value)?)?;
+        let dot = dot(*name, *number)?;
+        let value = Value::new(alloc, value)?;
+        held.insert(dot, value)?;
     }
     Ok(held)
 }
 
-// These values at the empty field.
-pub fn unnamed(alloc: Global, values: Values) -> Result<Fields, Refusal> {
+// Puts these values at the field.
+fn put_values(
+    alloc: Global,
+    fields: &mut Fields,
+    field: &[u8],
+    values: Values,
+) -> Result<(), Refusal> {
+    let field = Field::new(alloc, field)?;
+    let held = values_of(alloc, values)?;
+    fields.insert(field, held)
+}
+
+// These values at the empty field, and others at the field `f`, which is not there where there are none.
+fn fields_of(alloc: Global, values: Values, others: Values) -> Result<Fields, Refusal> {
     let mut fields = DotMap::empty(alloc);
-    fields.insert(Field::empty(), values_of(alloc, values)?)?;
+    put_values(alloc, &mut fields, b"", values)?;
+    put_values(alloc, &mut fields, b"f", others)?;
     Ok(fields)
 }
 
-// The same, and other values at the field `f`.
-pub fn with_f(alloc: Global, values: Values, others: Values) -> Result<Fields, Refusal> {
-    let mut fields = unnamed(alloc, values)?;
-    fields.insert(Field::new(alloc, b"f")?, values_of(alloc, others)?)?;
-    Ok(fields)
-}
-
-// Puts these values at the empty field of a key, and nothing else there.
-pub fn put<H: PathHash>(
+// Puts these values at the two fields of a key, and nothing else there.
+fn put<H: PathHash>(
     alloc: Global,
     trie: &mut Trie<H>,
     key: &[u8],
     values: Values,
+    others: Values,
 ) -> Result<(), Refusal> {
-    let fields = unnamed(alloc, values)?;
-    trie.insert(Key::new(alloc, key)?, fields)
+    let fields = fields_of(alloc, values, others)?;
+    let key = Key::new(alloc, key)?;
+    trie.insert(key, fields)
 }
 
-// The map with these fields at one key.
-pub fn alone(alloc: Global, key: &[u8], fields: Fields) -> Result<FrozenMap<Fnv1a>, Refusal> {
-    let mut trie = GenTrie::new(alloc, Fnv1a);
-    trie.insert(Key::new(alloc, key)?, fields)?;
-    trie.freeze()
+// A worked map.
+#[derive(Clone, Copy)]
+pub enum Worked {
+    // x under the dot 1:1 at `a`.
+    OnlyA,
+    // Both x and, under the dot 2:1, y there.
+    TwoValues,
+    // The same, and z under the dot 1:2 at the field `f`.
+    TwoFields,
+    // v at the empty key and w at `b`.
+    Two,
+    // x, y and z at `a`, `b` and `c`.
+    Three,
+    // The same with `b` and `c` taken out.
+    Left,
 }
 
-// The map with x under the dot 1:1 at `a`.
-pub fn only_a(alloc: Global) -> Result<FrozenMap<Fnv1a>, Refusal> {
-    alone(alloc, b"a", unnamed(alloc, &[((1, 1), b"x")])?)
-}
-
-// The map with v at the empty key and w at b.
-pub fn two(alloc: Global) -> Result<FrozenMap<Fnv1a>, Refusal> {
-    let mut trie = GenTrie::new(alloc, Fnv1a);
-    put(alloc, &mut trie, b"b", &[((2, 2), b"w")])?;
-    put(alloc, &mut trie, b"", &[((2, 1), b"v")])?;
-    trie.freeze()
-}
-
-// The keys a, b and c with a value each.
-pub fn three<H: PathHash>(alloc: Global, hash: H) -> Result<Trie<H>, Refusal> {
-    let mut trie = GenTrie::new(alloc, hash);
-    put(alloc, &mut trie, b"a", &[((1, 1), b"x")])?;
-    put(alloc, &mut trie, b"b", &[((1, 2), b"y")])?;
-    put(alloc, &mut trie, b"c", &[((1, 3), b"z")])?;
-    Ok(trie)
+fn put_three<H: PathHash>(alloc: Global, trie: &mut Trie<H>) -> Result<(), Refusal> {
+    put(alloc, trie, b"a", &[((1, 1), b"x")], &[])?;
+    put(alloc, trie, b"b", &[((1, 2), b"y")], &[])?;
+    put(alloc, trie, b"c", &[((1, 3), b"z")], &[])
 }
 
 fn take<H: PathHash>(alloc: Global, trie: &mut Trie<H>, key: &[u8]) -> Result<(), Refusal> {
@@ -88,19 +90,29 @@ fn take<H: PathHash>(alloc: Global, trie: &mut Trie<H>, key: &[u8]) -> Result<()
     Ok(())
 }
 
-// The same with b and c taken out.
-pub fn what_is_left<H: PathHash>(alloc: Global, hash: H) -> Result<FrozenMap<H>, Refusal> {
-    let mut trie = three(alloc, hash)?;
-    take(alloc, &mut trie, b"b")?;
-    take(alloc, &mut trie, b"c")?;
-    trie.freeze()
+// Writes the map into an empty trie.
+fn write<H: PathHash>(alloc: Global, trie: &mut Trie<H>, map: Worked) -> Result<(), Refusal> {
+    let two: Values = &[((2, 1), b"y"), ((1, 1), b"x")];
+    match map {
+        Worked::OnlyA => put(alloc, trie, b"a", &[((1, 1), b"x")], &[]),
+        Worked::TwoValues => put(alloc, trie, b"a", two, &[]),
+        Worked::TwoFields => put(alloc, trie, b"a", two, &[((1, 2), b"z")]),
+        Worked::Two => {
+            put(alloc, trie, b"b", &[((2, 2), b"w")], &[])?;
+            put(alloc, trie, b"", &[((2, 1), b"v")], &[])
+        }
+        Worked::Three => put_three(alloc, trie),
+        Worked::Left => {
+            put_three(alloc, trie)?;
+            take(alloc, trie, b"b")?;
+            take(alloc, trie, b"c")
+        }
+    }
 }
 
-// Whether this is the digest at these indices, which are a prefix.
-pub fn is_at<H: PathHash>(
-    frozen: &FrozenMap<H>,
-    path: &[u32],
-    wanted: Option<[u8; 32]>,
-) -> Result<bool, Fail> {
-    Ok(digest(frozen, prefix_of(path).ok_or("a prefix")?) == wanted)
+// The map by this hash, frozen.
+pub fn frozen<H: PathHash>(alloc: Global, hash: H, map: Worked) -> Result<FrozenMap<H>, Refusal> {
+    let mut trie = GenTrie::new(alloc, hash);
+    write(alloc, &mut trie, map)?;
+    trie.freeze()
 }

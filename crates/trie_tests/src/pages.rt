@@ -1,10 +1,10 @@
 // The pages of worked maps, and the values that they name. What is expected was put together by hand, with digests computed
 // by python3's hashlib.
 use crate::made::prefix_of;
-use crate::mapped::{alone, dot, only_a, three, two, unnamed, what_is_left, with_f};
+use crate::mapped::{Worked, dot, frozen};
 use causal_context::Context;
 use dots::{Refusal, Value};
-use hash_path::{Fnv1a, PathHash, SameHash};
+use hash_path::{Fnv1a, PathHash, Prefix, SameHash};
 use prefix_digest::{FrozenMap, digest, digest_of, page, page_value, value_digest, values_for};
 use std::alloc::Global;
 use std::test::Fail;
@@ -99,7 +99,7 @@ const NAME_OF_X: [u8; 32] = [
 ];
 
 // Whether these are the bytes of the page at these indices, and its digest that of the map there.
-fn is_page<H: PathHash>(
+fn is_page_of<H: PathHash>(
     alloc: Global,
     frozen: &FrozenMap<H>,
     path: &[u32],
@@ -107,70 +107,103 @@ fn is_page<H: PathHash>(
 ) -> Result<bool, Fail> {
     let prefix = prefix_of(path).ok_or("a prefix")?;
     let bytes = page(alloc, frozen, prefix)?.ok_or("a page")?;
+    let is_told = is_told(alloc, frozen, prefix)?;
+    Ok(bytes.as_slice() == wanted && is_told)
+}
+
+// Whether the page has the digest of the map there.
+fn is_told<H: PathHash>(
+    alloc: Global,
+    frozen: &FrozenMap<H>,
+    prefix: Prefix,
+) -> Result<bool, Fail> {
     let told = page_value(alloc, frozen, prefix)?.ok_or("a page")?;
-    Ok(bytes.as_slice() == wanted && Some(digest_of(&told)) == digest(frozen, prefix))
+    Ok(Some(digest_of(&told)) == digest(frozen, prefix))
+}
+
+// The same of a worked map.
+fn is_page<H: PathHash>(
+    alloc: Global,
+    hash: H,
+    map: Worked,
+    path: &[u32],
+    wanted: &[u8],
+) -> Result<bool, Fail> {
+    let frozen = frozen(alloc, hash, map)?;
+    is_page_of(alloc, &frozen, path, wanted)
 }
 
 #[test]
 fn a_page_of_one_key_names_its_value(rt: HostRuntime) -> Result<(), Fail> {
-    let frozen = only_a(rt.alloc())?;
-    assert!(rt; is_page(rt.alloc(), &frozen, &[], &PAGE_OF_A)?);
-    assert!(rt; is_page(rt.alloc(), &frozen, &[12], &PAGE_OF_A)?);
+    let alloc = rt.alloc();
+    assert!(rt; is_page(alloc, Fnv1a, Worked::OnlyA, &[], &PAGE_OF_A)?);
+    assert!(rt; is_page(alloc, Fnv1a, Worked::OnlyA, &[12], &PAGE_OF_A)?);
+    assert!(rt; is_page(alloc, SameHash(0), Worked::Left, &[], &PAGE_OF_A)?);
     Ok(())
 }
 
 #[test]
 fn a_page_of_the_empty_key_is_a_byte_shorter(rt: HostRuntime) -> Result<(), Fail> {
-    let frozen = two(rt.alloc())?;
-    assert!(rt; is_page(rt.alloc(), &frozen, &[5, 14], &PAGE_OF_EMPTY)?);
-    assert!(rt; is_page(rt.alloc(), &frozen, &[5], &PAGE_AT_FIVE)?);
+    let alloc = rt.alloc();
+    assert!(rt; is_page(alloc, Fnv1a, Worked::Two, &[5, 14], &PAGE_OF_EMPTY)?);
+    assert!(rt; is_page(alloc, Fnv1a, Worked::Two, &[5], &PAGE_AT_FIVE)?);
     Ok(())
 }
 
-// Whether the pages before the last index are the index 0 and the digest below.
-fn are_chained(alloc: Global, frozen: &FrozenMap<SameHash>) -> Result<bool, Fail> {
+// Whether the page before the last index is the index 0 and this digest.
+fn is_chained(
+    alloc: Global,
+    frozen: &FrozenMap<SameHash>,
+    path: &[u32],
+    below: &[u8; 32],
+) -> Result<bool, Fail> {
+    let mut wanted = Vec::from_slice(alloc, &[2, 0])?;
+    wanted.extend_from_slice(below)?;
+    is_page_of(alloc, frozen, path, &wanted)
+}
+
+// Whether the pages of three keys before the last index are the index 0 and the digest below.
+fn are_chained(alloc: Global) -> Result<bool, Fail> {
     let path = [0; 6];
+    let frozen = frozen(alloc, SameHash(0), Worked::Three)?;
     let mut same = true;
     for (depth, below) in BELOW.iter().enumerate() {
-        let mut wanted = Vec::from_slice(alloc, &[2, 0])?;
-        wanted.extend_from_slice(below)?;
-        same = is_page(alloc, frozen, &path[..depth], &wanted)? && same;
+        same = is_chained(alloc, &frozen, &path[..depth], below)? && same;
     }
     Ok(same)
 }
 
 #[test]
 fn keys_of_one_hash_have_a_page_at_each_depth(rt: HostRuntime) -> Result<(), Fail> {
-    let frozen = three(rt.alloc(), SameHash(0))?.freeze()?;
-    assert!(rt; are_chained(rt.alloc(), &frozen)?);
-    assert!(rt; is_page(rt.alloc(), &frozen, &[0; 7], &PAGE_OF_LIST)?);
-    Ok(())
-}
-
-#[test]
-fn what_is_left_has_the_page_that_it_has_alone(rt: HostRuntime) -> Result<(), Fail> {
-    let frozen = what_is_left(rt.alloc(), SameHash(0))?;
-    assert!(rt; is_page(rt.alloc(), &frozen, &[], &PAGE_OF_A)?);
+    let alloc = rt.alloc();
+    assert!(rt; are_chained(alloc)?);
+    assert!(rt; is_page(alloc, SameHash(0), Worked::Three, &[0; 7], &PAGE_OF_LIST)?);
     Ok(())
 }
 
 // Whether there is no page at an index that no key has.
-fn has_none(alloc: Global, frozen: &FrozenMap<Fnv1a>) -> Result<bool, Fail> {
+fn has_none(alloc: Global) -> Result<bool, Fail> {
     let prefix = prefix_of(&[13]).ok_or("a prefix")?;
-    Ok(page(alloc, frozen, prefix)?.is_none() && page_value(alloc, frozen, prefix)?.is_none())
+    let frozen = frozen(alloc, Fnv1a, Worked::OnlyA)?;
+    let has_bytes = page(alloc, &frozen, prefix)?.is_some();
+    Ok(page_value(alloc, &frozen, prefix)?.is_none() && !has_bytes)
 }
 
 #[test]
 fn no_keys_have_no_page(rt: HostRuntime) -> Result<(), Fail> {
-    let frozen = only_a(rt.alloc())?;
-    assert!(rt; has_none(rt.alloc(), &frozen)?);
+    assert!(rt; has_none(rt.alloc())?);
     Ok(())
+}
+
+// The name of the value x.
+fn name_of_x(alloc: Global) -> Result<[u8; 32], Refusal> {
+    let value = Value::new(alloc, b"x")?;
+    Ok(value_digest(&value))
 }
 
 #[test]
 fn a_value_is_named_by_its_digest(rt: HostRuntime) -> Result<(), Fail> {
-    let value = Value::new(rt.alloc(), b"x")?;
-    assert_eq!(rt; value_digest(&value), NAME_OF_X);
+    assert!(rt; name_of_x(rt.alloc())? == NAME_OF_X);
     Ok(())
 }
 
@@ -178,7 +211,8 @@ fn a_value_is_named_by_its_digest(rt: HostRuntime) -> Result<(), Fail> {
 fn context_of(alloc: Global, dots: &[(u64, u64)]) -> Result<Context, Refusal> {
     let mut context = Context::new(alloc);
     for (name, number) in dots {
-        context.add(dot(*name, *number)?)?;
+        let dot = dot(*name, *number)?;
+        context.add(dot)?;
     }
     Ok(context)
 }
@@ -192,37 +226,51 @@ fn bytes_of(alloc: Global, values: &[Value]) -> Result<Vec<u8>, Refusal> {
     Ok(bytes)
 }
 
-// Whether the page at these indices names the values of these bytes to who knows these dots.
-fn are_values<H: PathHash>(
+// Whether these are the bytes of the values, each of one byte.
+fn have_bytes(alloc: Global, values: &[Value], wanted: &[u8]) -> Result<bool, Refusal> {
+    let bytes = bytes_of(alloc, values)?;
+    Ok(bytes.as_slice() == wanted)
+}
+
+// Whether the page at this prefix names the values of these bytes to who knows these dots.
+fn names_values<H: PathHash>(
     alloc: Global,
     frozen: &FrozenMap<H>,
+    prefix: Prefix,
+    known: &Context,
+    wanted: &[u8],
+) -> Result<bool, Refusal> {
+    let values = values_for(alloc, frozen, prefix, known)?;
+    have_bytes(alloc, &values, wanted)
+}
+
+// The same of a worked map, and of these indices and dots.
+fn are_values<H: PathHash>(
+    alloc: Global,
+    hash: H,
+    map: Worked,
     path: &[u32],
     known: &[(u64, u64)],
     wanted: &[u8],
 ) -> Result<bool, Fail> {
     let prefix = prefix_of(path).ok_or("a prefix")?;
     let known = context_of(alloc, known)?;
-    let values = values_for(alloc, frozen, prefix, &known)?;
-    Ok(bytes_of(alloc, &values)?.as_slice() == wanted)
+    let frozen = frozen(alloc, hash, map)?;
+    Ok(names_values(alloc, &frozen, prefix, &known, wanted)?)
 }
 
 #[test]
 fn values_at_unknown_dots_are_given(rt: HostRuntime) -> Result<(), Fail> {
-    let fields = with_f(
-        rt.alloc(),
-        &[((2, 1), b"y"), ((1, 1), b"x")],
-        &[((1, 2), b"z")],
-    )?;
-    let frozen = alone(rt.alloc(), b"a", fields)?;
-    assert!(rt; are_values(rt.alloc(), &frozen, &[], &[], b"xyz")?);
-    assert!(rt; are_values(rt.alloc(), &frozen, &[12], &[(1, 1)], b"yz")?);
+    let (alloc, map) = (rt.alloc(), Worked::TwoFields);
+    assert!(rt; are_values(alloc, Fnv1a, map, &[], &[], b"xyz")?);
+    assert!(rt; are_values(alloc, Fnv1a, map, &[12], &[(1, 1)], b"yz")?);
     Ok(())
 }
 
 #[test]
 fn values_of_several_keys_are_given_in_a_list_alone(rt: HostRuntime) -> Result<(), Fail> {
-    let frozen = three(rt.alloc(), SameHash(0))?.freeze()?;
-    assert!(rt; are_values(rt.alloc(), &frozen, &[0; 7], &[(1, 2)], b"xz")?);
-    assert!(rt; are_values(rt.alloc(), &frozen, &[0; 6], &[], b"")?);
+    let (alloc, hash) = (rt.alloc(), SameHash(0));
+    assert!(rt; are_values(alloc, hash, Worked::Three, &[0; 7], &[(1, 2)], b"xz")?);
+    assert!(rt; are_values(alloc, hash, Worked::Three, &[0; 6], &[], b"")?);
     Ok(())
 }

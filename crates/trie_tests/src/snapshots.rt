@@ -9,7 +9,8 @@ use std::test::Fail;
 pub(crate) type Map = Ctrie<u64, Fnv1a>;
 
 fn put(alloc: Global, trie: &mut Map, key: &[u8], value: u64) -> Result<(), Refusal> {
-    trie.insert(Key::new(alloc, key)?, value)
+    let key = Key::new(alloc, key)?;
+    trie.insert(key, value)
 }
 
 fn at(alloc: Global, trie: &Map, key: &[u8]) -> Result<Option<u64>, Refusal> {
@@ -51,34 +52,6 @@ fn three(alloc: Global) -> Result<Map, Refusal> {
     Ok(trie)
 }
 
-#[test]
-fn a_trie_is_a_map(rt: HostRuntime) -> Result<(), Fail> {
-    let alloc = rt.alloc();
-    let mut trie = three(alloc)?;
-    assert!(rt; holds(alloc, &trie, 3, b"b", Some(2))?);
-    assert!(rt; !trie.is_read_only());
-    Ok(())
-}
-
-#[test]
-fn a_removed_key_is_gone(rt: HostRuntime) -> Result<(), Fail> {
-    let alloc = rt.alloc();
-    let mut trie = three(alloc)?;
-    assert_eq!(rt; taken(alloc, &mut trie, b"a")?, Some(1));
-    assert_eq!(rt; taken(alloc, &mut trie, b"a")?, None);
-    assert!(rt; holds(alloc, &trie, 2, b"b", Some(2))?);
-    Ok(())
-}
-
-#[test]
-fn a_second_value_replaces_the_first(rt: HostRuntime) -> Result<(), Fail> {
-    let alloc = rt.alloc();
-    let mut trie = three(alloc)?;
-    put(alloc, &mut trie, b"b", 9)?;
-    assert!(rt; holds(alloc, &trie, 3, b"b", Some(9))?);
-    Ok(())
-}
-
 // The sum of the values, each times ten to the number of those after it.
 fn digits<'a>(walk: Iter<'a, u64, NoSummary>) -> u64 {
     let mut number: u64 = 0;
@@ -88,34 +61,47 @@ fn digits<'a>(walk: Iter<'a, u64, NoSummary>) -> u64 {
     number
 }
 
-#[test]
-fn a_trie_is_walked_by_the_lowest_bits_of_the_hash(rt: HostRuntime) -> Result<(), Fail> {
-    let alloc = rt.alloc();
-    let mut trie = three(alloc)?;
-    assert_eq!(rt; digits(trie.iter()), 213);
-    put(alloc, &mut trie, b"b", 9)?;
-    assert_eq!(rt; digits(trie.iter()), 913);
-    Ok(())
-}
-
-#[test]
-fn a_snapshot_is_walked_as_it_was(rt: HostRuntime) -> Result<(), Fail> {
-    let alloc = rt.alloc();
-    let mut trie = three(alloc)?;
-    let snapshot = trie.read_only_snapshot()?;
-    put(alloc, &mut trie, b"b", 9)?;
-    assert!(rt; digits(trie.iter()) == 913 && digits(snapshot.iter()) == 213);
-    Ok(())
-}
-
-#[test]
-fn a_loop_over_a_trie_is_its_walk(rt: HostRuntime) -> Result<(), Fail> {
-    let trie = one(rt.alloc())?;
-    let mut sum: u64 = 0;
-    for (_, value) in &trie {
-        sum = sum.wrapping_add(*value);
+// The same by a loop over the trie.
+fn looped(trie: &Map) -> u64 {
+    let mut number: u64 = 0;
+    for (_, value) in trie {
+        number = number.wrapping_mul(10).wrapping_add(*value);
     }
-    assert_eq!(rt; sum, 1);
+    number
+}
+
+// Whether the trie has three keys, of which b has this value, and is walked by the lowest bits of the hash.
+fn is_map(alloc: Global, trie: &Map, value: u64, walked: u64) -> Result<bool, Refusal> {
+    let is_walked = digits(trie.iter()) == walked && looped(trie) == walked;
+    Ok(holds(alloc, trie, 3, b"b", Some(value))? && is_walked && !trie.is_read_only())
+}
+
+// Whether a read-only snapshot is walked as it was once b has another value.
+fn is_snapshot(alloc: Global, trie: &mut Map) -> Result<bool, Refusal> {
+    let snapshot = trie.read_only_snapshot()?;
+    put(alloc, trie, b"b", 9)?;
+    Ok(digits(trie.iter()) == 913 && digits(snapshot.iter()) == 213)
+}
+
+// Whether a key is taken out once.
+fn is_taken(alloc: Global, trie: &mut Map) -> Result<bool, Refusal> {
+    let first = taken(alloc, trie, b"a")?;
+    let second = taken(alloc, trie, b"a")?;
+    Ok(holds(alloc, trie, 2, b"b", Some(9))? && (first, second) == (Some(1), None))
+}
+
+// Whether all this is so of the trie of three keys, where b has 2 and then 9.
+fn are_written(alloc: Global) -> Result<bool, Refusal> {
+    let mut trie = three(alloc)?;
+    let is_new = is_map(alloc, &trie, 2, 213)?;
+    let is_kept = is_snapshot(alloc, &mut trie)?;
+    let is_replaced = is_map(alloc, &trie, 9, 913)?;
+    Ok(is_taken(alloc, &mut trie)? && is_new && is_kept && is_replaced)
+}
+
+#[test]
+fn a_trie_is_a_map_and_is_walked_as_it_is(rt: HostRuntime) -> Result<(), Fail> {
+    assert!(rt; are_written(rt.alloc())?);
     Ok(())
 }
 
@@ -134,11 +120,16 @@ fn are_apart(alloc: Global, live: &mut Map, snapshot: &mut Map) -> Result<bool, 
     Ok(at(alloc, live, b"c")?.is_none() && is_kept)
 }
 
+// The same of a trie of one key.
+fn are_apart_anew(alloc: Global) -> Result<bool, Refusal> {
+    let mut live = one(alloc)?;
+    let mut snapshot = live.snapshot()?;
+    are_apart(alloc, &mut live, &mut snapshot)
+}
+
 #[test]
 fn a_snapshot_does_not_see_later_writes(rt: HostRuntime) -> Result<(), Fail> {
-    let mut live = one(rt.alloc())?;
-    let mut snapshot = live.snapshot()?;
-    assert!(rt; are_apart(rt.alloc(), &mut live, &mut snapshot)?);
+    assert!(rt; are_apart_anew(rt.alloc())?);
     Ok(())
 }
 
@@ -152,22 +143,35 @@ fn refuses_writes(alloc: Global, trie: &mut Map) -> bool {
         && clear == Err(Refusal::ReadOnly)
 }
 
-#[test]
-fn a_read_only_snapshot_and_its_snapshots_refuse_writes(rt: HostRuntime) -> Result<(), Fail> {
-    let alloc = rt.alloc();
-    let mut read_only = three(alloc)?.read_only_snapshot()?;
-    assert!(rt; refuses_writes(alloc, &mut read_only) && read_only.size() == 3);
+// Whether a snapshot of a read-only trie is so too.
+fn is_read_only_again(alloc: Global, read_only: &mut Map) -> Result<bool, Refusal> {
     let mut snapshot = read_only.snapshot()?;
-    assert!(rt; snapshot.is_read_only() && refuses_writes(alloc, &mut snapshot));
-    Ok(())
+    Ok(snapshot.is_read_only() && refuses_writes(alloc, &mut snapshot))
+}
+
+// Whether a read-only snapshot of this trie and its snapshots refuse all writes, and it keeps so many keys.
+fn refuse_writes(alloc: Global, trie: &mut Map, size: u64) -> Result<bool, Refusal> {
+    let mut read_only = trie.read_only_snapshot()?;
+    let is_kept = refuses_writes(alloc, &mut read_only) && read_only.size() == size;
+    Ok(is_read_only_again(alloc, &mut read_only)? && is_kept)
+}
+
+// The same of a read-only snapshot of this trie.
+fn refuse_writes_again(alloc: Global, trie: &mut Map, size: u64) -> Result<bool, Refusal> {
+    let mut read_only = trie.read_only_snapshot()?;
+    refuse_writes(alloc, &mut read_only, size)
+}
+
+// The same of a trie of three keys, and of one that is cleared then.
+fn refuse_writes_anew(alloc: Global) -> Result<bool, Refusal> {
+    let mut trie = three(alloc)?;
+    let has_three = refuse_writes(alloc, &mut trie, 3)?;
+    trie.clear()?;
+    Ok(refuse_writes_again(alloc, &mut trie, 0)? && has_three)
 }
 
 #[test]
-fn an_empty_read_only_trie_refuses_a_clear(rt: HostRuntime) -> Result<(), Fail> {
-    let alloc = rt.alloc();
-    let mut trie: Map = Ctrie::new(alloc, Fnv1a);
-    let mut read_only = trie.read_only_snapshot()?;
-    assert!(rt; refuses_writes(alloc, &mut read_only));
-    assert!(rt; refuses_writes(alloc, &mut read_only.read_only_snapshot()?));
+fn a_read_only_snapshot_and_its_snapshots_refuse_writes(rt: HostRuntime) -> Result<(), Fail> {
+    assert!(rt; refuse_writes_anew(rt.alloc())?);
     Ok(())
 }

@@ -2,7 +2,7 @@
 ghost use Rattle.std.specs.Prelude.{◌≡◌, length};
 ghost use Rattle.hash_path.specs.Fan.{Rise};
 
-use crate::made::{at, prefix_of, three, three_with};
+use crate::made::{holds, prefix_of, three, three_with};
 use dots::Refusal;
 use gen_trie::{Children, Entry, Frozen, NoSummary, Summary};
 use hash_path::{Fnv1a, PathHash, Prefix, SameHash};
@@ -41,64 +41,76 @@ impl Summary<u64> for Mark {
     }
 }
 
-// The trie of three keys, frozen.
-fn frozen_three<H: PathHash>(alloc: Global, hash: H) -> Result<Frozen<u64, Mark, H>, Refusal> {
-    three_with(alloc, hash)?.freeze()
-}
-
 // The summary at these indices, which are a prefix.
 fn at_prefix<M: Summary<u64>, H: PathHash>(
     frozen: &Frozen<u64, M, H>,
     path: &[u32],
 ) -> Result<Option<M>, Fail> {
-    Ok(frozen.summary(prefix_of(path).ok_or("a prefix")?))
+    let prefix = prefix_of(path).ok_or("a prefix")?;
+    Ok(frozen.summary(prefix))
+}
+
+// The summary at these indices of the trie of three keys, frozen.
+fn marked<H: PathHash>(alloc: Global, hash: H, path: &[u32]) -> Result<Option<Mark>, Fail> {
+    let mut trie = three_with(alloc, hash)?;
+    let frozen = trie.freeze()?;
+    at_prefix(&frozen, path)
 }
 
 #[test]
-fn a_branch_counts_its_children(rt: HostRuntime) -> Result<(), Fail> {
-    let frozen = frozen_three(rt.alloc(), Fnv1a)?;
-    assert_eq!(rt; frozen.summary(Prefix::root()), Some(Mark::Branch(3)));
-    Ok(())
-}
-
-#[test]
-fn a_key_alone_is_a_leaf_at_each_prefix_of_its_path(rt: HostRuntime) -> Result<(), Fail> {
-    let frozen = frozen_three(rt.alloc(), Fnv1a)?;
-    assert_eq!(rt; at_prefix(&frozen, &[12])?, Some(Mark::Leaf(1)));
-    assert_eq!(rt; at_prefix(&frozen, &[12, 9])?, Some(Mark::Leaf(1)));
-    assert_eq!(rt; at_prefix(&frozen, &[12, 8])?, None);
+fn a_branch_counts_its_children_and_a_key_alone_is_a_leaf(rt: HostRuntime) -> Result<(), Fail> {
+    for (path, wanted) in [
+        ([].as_slice(), Some(Mark::Branch(3))),
+        ([12].as_slice(), Some(Mark::Leaf(1))),
+        ([12, 9].as_slice(), Some(Mark::Leaf(1))),
+        ([12, 8].as_slice(), None),
+    ] {
+        assert!(rt; marked(rt.alloc(), Fnv1a, path)? == wanted);
+    }
     Ok(())
 }
 
 #[test]
 fn keys_of_equal_hashes_are_a_list(rt: HostRuntime) -> Result<(), Fail> {
-    let frozen = frozen_three(rt.alloc(), SameHash(0))?;
-    assert_eq!(rt; frozen.summary(Prefix::root()), Some(Mark::Branch(1)));
-    assert_eq!(rt; at_prefix(&frozen, &[0; 7])?, Some(Mark::List(3)));
+    assert!(rt; marked(rt.alloc(), SameHash(0), &[])? == Some(Mark::Branch(1)));
+    assert!(rt; marked(rt.alloc(), SameHash(0), &[0; 7])? == Some(Mark::List(3)));
     Ok(())
 }
 
+// The summary of no keys.
+fn unmarked_anew(alloc: Global) -> Option<NoSummary> {
+    let frozen: Frozen<u64, NoSummary, Fnv1a> = Frozen::new(alloc, Fnv1a);
+    frozen.summary(Prefix::root())
+}
+
 #[test]
-fn an_empty_map_has_no_summary(rt: HostRuntime) -> Result<(), Fail> {
-    let frozen: Frozen<u64, NoSummary, Fnv1a> = Frozen::new(rt.alloc(), Fnv1a);
-    assert_eq!(rt; frozen.summary(Prefix::root()), None);
-    Ok(())
+fn an_empty_map_has_no_summary(rt: HostRuntime) {
+    assert!(rt; unmarked_anew(rt.alloc()).is_none());
+}
+
+// Whether a seal leaves a trie of three keys.
+fn is_left_by_a_seal(alloc: Global) -> Result<bool, Refusal> {
+    let mut trie = three(alloc, Fnv1a)?;
+    trie.seal()?;
+    holds(alloc, &trie, 3, &[(99, Some(3))])
 }
 
 #[test]
 fn a_seal_leaves_the_map(rt: HostRuntime) -> Result<(), Fail> {
-    let mut trie = three(rt.alloc(), Fnv1a)?;
-    trie.seal()?;
-    assert_eq!(rt; trie.size(), 3);
-    assert_eq!(rt; at(rt.alloc(), &trie, b"c")?, Some(3));
+    assert!(rt; is_left_by_a_seal(rt.alloc())?);
     Ok(())
+}
+
+// What is kept where no summary is asked for, at these indices of the trie of three keys, frozen.
+fn unmarked(alloc: Global, path: &[u32]) -> Result<Option<NoSummary>, Fail> {
+    let mut trie = three(alloc, Fnv1a)?;
+    let frozen = trie.freeze()?;
+    at_prefix(&frozen, path)
 }
 
 #[test]
 fn no_summary_tells_that_there_are_keys(rt: HostRuntime) -> Result<(), Fail> {
-    let mut trie = three(rt.alloc(), Fnv1a)?;
-    let frozen = trie.freeze()?;
-    assert_eq!(rt; at_prefix(&frozen, &[5])?, Some(NoSummary));
-    assert_eq!(rt; at_prefix(&frozen, &[6])?, None);
+    assert!(rt; unmarked(rt.alloc(), &[5])? == Some(NoSummary));
+    assert!(rt; unmarked(rt.alloc(), &[6])?.is_none());
     Ok(())
 }

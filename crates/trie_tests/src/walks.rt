@@ -1,68 +1,92 @@
 // Walks over a trie and its frozen maps.
-use crate::made::{taken, three};
-use dots::Key;
-use gen_trie::{Frozen, Iter, NoSummary};
-use hash_path::{Fnv1a, SameHash};
+use crate::made::{put, taken, three};
+use dots::Refusal;
+use gen_trie::{Frozen, GenTrie, Iter, NoSummary};
+use hash_path::{Fnv1a, PathHash, SameHash};
+use std::alloc::Global;
 use std::test::Fail;
 
-// Whether a walk gives these keys and values, and then nothing.
-fn is_walk(mut walk: Iter<'_, u64, NoSummary>, expected: &[(&[u8], u64)]) -> bool {
+type Plain = GenTrie<u64, NoSummary, Fnv1a>;
+
+// Whether a walk gives these keys, of one byte each, and values, and then nothing.
+fn is_walk(mut walk: Iter<'_, u64, NoSummary>, expected: &[(u8, u64)]) -> bool {
     for (key, value) in expected {
         match walk.next() {
-            Some((k, v)) if k.bytes() == *key && v == value => {}
+            Some((k, v)) if k.bytes() == [*key].as_slice() && v == value => {}
             _ => return false,
         }
     }
     walk.next().is_none()
 }
 
-#[test]
-fn a_walk_goes_by_the_lowest_bits_of_the_hash(rt: HostRuntime) -> Result<(), Fail> {
-    let trie = three(rt.alloc(), Fnv1a)?;
-    assert!(rt; is_walk(trie.iter(), &[(b"b", 2), (b"a", 1), (b"c", 3)]));
-    Ok(())
-}
-
-#[test]
-fn a_walk_of_equal_hashes_goes_by_bytes(rt: HostRuntime) -> Result<(), Fail> {
-    let alloc = rt.alloc();
-    let mut trie = three(alloc, SameHash(0))?;
-    assert!(rt; is_walk(trie.iter(), &[(b"a", 1), (b"b", 2), (b"c", 3)]));
-    taken(alloc, &mut trie, b"b")?;
-    taken(alloc, &mut trie, b"c")?;
-    assert!(rt; is_walk(trie.iter(), &[(b"a", 1)]));
-    Ok(())
-}
-
-#[test]
-fn a_walk_of_no_keys_ends_at_once(rt: HostRuntime) -> Result<(), Fail> {
-    let frozen: Frozen<u64, NoSummary, Fnv1a> = Frozen::new(rt.alloc(), Fnv1a);
-    let mut walk = frozen.iter();
-    assert!(rt; walk.next().is_none());
-    assert!(rt; walk.next().is_none());
-    Ok(())
-}
-
-#[test]
-fn a_loop_over_a_trie_is_its_walk(rt: HostRuntime) -> Result<(), Fail> {
-    let alloc = rt.alloc();
-    let trie = three(alloc, Fnv1a)?;
-    let mut seen = Vec::new(alloc);
-    for (_, value) in &trie {
-        seen.push(*value)?;
+// Whether the trie of three keys, without those of these bytes, is walked so.
+fn is_walked<H: PathHash>(
+    alloc: Global,
+    hash: H,
+    without: &[u8],
+    expected: &[(u8, u64)],
+) -> Result<bool, Refusal> {
+    let mut trie = three(alloc, hash)?;
+    for key in without {
+        taken(alloc, &mut trie, &[*key])?;
     }
-    assert!(rt; seen.as_slice() == [2, 1, 3].as_slice());
-    Ok(())
+    Ok(is_walk(trie.iter(), expected))
 }
 
 #[test]
-fn a_frozen_map_walks_as_it_was(rt: HostRuntime) -> Result<(), Fail> {
-    let alloc = rt.alloc();
-    let mut trie = three(alloc, Fnv1a)?;
+fn a_walk_goes_by_the_lowest_bits_of_the_hash_and_then_by_bytes(
+    rt: HostRuntime,
+) -> Result<(), Fail> {
+    let (alloc, same) = (rt.alloc(), SameHash(0));
+    assert!(rt; is_walked(alloc, Fnv1a, &[], &[(98, 2), (97, 1), (99, 3)])?);
+    assert!(rt; is_walked(alloc, same, &[], &[(97, 1), (98, 2), (99, 3)])?);
+    assert!(rt; is_walked(alloc, same, &[98, 99], &[(97, 1)])?);
+    Ok(())
+}
+
+// Whether a walk ends at its first call, and at its second.
+fn ends(mut walk: Iter<'_, u64, NoSummary>) -> (bool, bool) {
+    (walk.next().is_none(), walk.next().is_none())
+}
+
+// The same of a new map.
+fn ends_anew(alloc: Global) -> (bool, bool) {
+    let frozen: Frozen<u64, NoSummary, Fnv1a> = Frozen::new(alloc, Fnv1a);
+    ends(frozen.iter())
+}
+
+#[test]
+fn a_walk_of_no_keys_ends_at_once(rt: HostRuntime) {
+    assert!(rt; ends_anew(rt.alloc()) == (true, true));
+}
+
+// The values in the order of a loop over the trie, as the digits of a number.
+fn looped(trie: &Plain) -> u64 {
+    let mut number: u64 = 0;
+    for (_, value) in trie {
+        number = number.wrapping_mul(10).wrapping_add(*value);
+    }
+    number
+}
+
+// Whether the frozen map of a trie of three keys is walked as it was, and the trie as it is then.
+fn are_walked_apart(alloc: Global, trie: &mut Plain) -> Result<bool, Refusal> {
     let frozen = trie.freeze()?;
-    trie.insert(Key::new(alloc, b"b")?, 9)?;
-    taken(alloc, &mut trie, b"a")?;
-    assert!(rt; is_walk(frozen.iter(), &[(b"b", 2), (b"a", 1), (b"c", 3)]));
-    assert!(rt; is_walk(trie.iter(), &[(b"b", 9), (b"c", 3)]));
+    put(alloc, trie, 98, 9)?;
+    taken(alloc, trie, b"a")?;
+    let is_frozen = is_walk(frozen.iter(), &[(98, 2), (97, 1), (99, 3)]);
+    Ok(is_walk(trie.iter(), &[(98, 9), (99, 3)]) && is_frozen)
+}
+
+// Whether a loop over a trie of three keys is its walk, and a frozen map of it is walked as it was.
+fn are_walked(alloc: Global) -> Result<bool, Refusal> {
+    let mut trie = three(alloc, Fnv1a)?;
+    let is_looped = looped(&trie) == 213;
+    Ok(are_walked_apart(alloc, &mut trie)? && is_looped)
+}
+
+#[test]
+fn a_loop_is_the_walk_and_a_frozen_map_is_walked_as_it_was(rt: HostRuntime) -> Result<(), Fail> {
+    assert!(rt; are_walked(rt.alloc())?);
     Ok(())
 }
