@@ -1,18 +1,12 @@
 // What goes from one replica to another.
-use crate::made::{put, remove, replica, sent, shows, take};
+use crate::made::{put, remove, replica, sends, sent, shows, take};
+use crate::session_bytes::X_ON_A;
 use dots::Refusal;
 use replica_core::Replica;
 use std::alloc::Global;
 use std::process::Abort;
 
-// The delta of the write 1:1 of x on a, as the description of the formats gives its bytes.
-const X_ON_A: [u8; 72] = [
-    1, 1, 0, 0, 0, 0, 0, 0, 0, 1, 0, 0, 0, 0, 0, 0, 0, 1, 0, 0, 0, 0, 0, 0, 0, 1, 0, 0, 0, 0, 0, 0,
-    0, 0, 0, 0, 0, 0, 0, 0, 0, 1, 0, 1, 0x61, 0, 0, 0, 0, 0, 0, 0, 1, 0, 0, 0, 0, 0, 0, 0, 1, 0, 0,
-    0, 0, 0, 0, 0, 1, 0, 1, 0x78,
-];
-
-// The delta that holds nothing and knows the last dot of replica 1, in the same way.
+// The delta that holds nothing and knows the last dot of replica 1, as the description of the formats gives its bytes.
 const LAST_OF_1: [u8; 42] = [
     1, 1, 0, 0, 0, 0, 0, 0, 0, 0, 0, 0, 0, 0, 0, 0, 0, 1, 0, 0, 0, 0, 0, 0, 0, 1, 0xff, 0xff, 0xff,
     0xff, 0xff, 0xff, 0xff, 0xff, 0, 0, 0, 0, 0, 0, 0, 0,
@@ -28,18 +22,12 @@ fn send(alloc: Global, from: &mut Replica, to: &mut Replica) -> Result<bool, Ref
     Ok(true)
 }
 
-// Whether what it made is sent with these bytes.
-fn sends(alloc: Global, from: &mut Replica, bytes: &[u8]) -> Result<bool, Refusal> {
-    let made = sent(alloc, from)?;
-    Ok(made.as_slice() == bytes)
-}
-
 // A put is sent with these bytes, and shown where they are taken.
 fn one_value(alloc: Global, one: &mut Replica, two: &mut Replica) -> Result<bool, Refusal> {
     put(alloc, one, b"a", b"x")?;
-    take(alloc, two, X_ON_A.as_slice())?;
+    take(alloc, two, X_ON_A)?;
     let there = shows(alloc, two, b"a", &[b"x"])?;
-    let alike = sends(alloc, one, X_ON_A.as_slice())?;
+    let alike = sends(alloc, one, X_ON_A)?;
     Ok(there && alike)
 }
 
@@ -77,10 +65,10 @@ fn concurrent_values_are_kept_until_they_are_overwritten(rt: HostRuntime) {
 
 // A remove that overtakes the put that it observed ends it all the same.
 fn removed_before(alloc: Global, two: &mut Replica, three: &mut Replica) -> Result<bool, Refusal> {
-    take(alloc, two, X_ON_A.as_slice())?;
+    take(alloc, two, X_ON_A)?;
     let observed = remove(alloc, two, b"a")?;
     send(alloc, two, three)?;
-    take(alloc, three, X_ON_A.as_slice())?;
+    take(alloc, three, X_ON_A)?;
     let gone = shows(alloc, three, b"a", &[])?;
     Ok(observed == 1 && gone && three.size() == 0)
 }
