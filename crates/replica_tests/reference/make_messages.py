@@ -1,5 +1,5 @@
 """Writes src/session_bytes.rt, the same each time, from the definitions in docs/FORMATS.md: no store, no session, no step.
-`rt fmt` lays it out. A map is a dictionary from keys to fields to dots to values; pages are those of the digests of traces."""
+`rt fmt` lays it out. Tests name a message by its number, so that the bytes stand in one function for the prover. A map is a dictionary from keys to fields to dots to values; pages are those of the digests of traces."""
 import pathlib
 import sys
 from hashlib import sha256
@@ -9,7 +9,16 @@ HERE = pathlib.Path(__file__).parent
 sys.path.append(str(HERE.parent.parent / "trace_tests" / "reference"))
 from digest_of_map import number_of, page, path, text_of
 
-HEAD = "// Made by `python3 crates/replica_tests/reference/make_messages.py`, that is from the definitions and not from our program.\n"
+HEAD = "// Made by `python3 crates/replica_tests/reference/make_messages.py`, that is from the definitions and not from our program.\n\n"
+TABLE = """
+const MESSAGES: &[&[u8]] = &[
+{}];
+
+// The bytes of the message of this number, or none.
+pub(crate) fn bytes_of(message: usize) -> &'static [u8] {{
+    MESSAGES.get(message).copied().unwrap_or(&[])
+}}
+"""
 
 
 def context_of(known):
@@ -142,9 +151,11 @@ MESSAGES = [
 ]
 
 
-def constant(name, words, message):
-    return f"\n// {words}\npub(crate) const {name}: &[u8] = &[{', '.join(map(str, message))}];\n"
+def number_constant(number, name, words):
+    return f"// {words}\npub(crate) const {name}: usize = {number};\n"
 
 
 if __name__ == "__main__":
-    (HERE.parent / "src" / "session_bytes.rt").write_text(HEAD + "".join(constant(*it) for it in MESSAGES))
+    numbers = "\n".join(number_constant(number, name, words) for number, (name, words, _) in enumerate(MESSAGES))
+    table = "".join(f"    // {name}\n    &[{', '.join(map(str, message))}],\n" for name, _, message in MESSAGES)
+    (HERE.parent / "src" / "session_bytes.rt").write_text(HEAD + numbers + TABLE.format(table))

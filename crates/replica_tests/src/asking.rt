@@ -53,7 +53,7 @@ pub(crate) fn retries(
     here: &Replica,
     number: u64,
     outcome: Outcome,
-    again: &[&[u8]],
+    again: &[usize],
 ) -> Result<bool, Refusal> {
     let told = here.retry(number)?;
     let same = are_spelled(alloc, told.replies.as_slice(), again)?;

@@ -1,6 +1,6 @@
 // What goes from one replica to another.
 use crate::made::{put, remove, replica, sends, sent, shows, take};
-use crate::session_bytes::X_ON_A;
+use crate::session_bytes::{X_ON_A, bytes_of};
 use dots::Refusal;
 use replica_core::Replica;
 use std::alloc::Global;
@@ -25,9 +25,9 @@ fn send(alloc: Global, from: &mut Replica, to: &mut Replica) -> Result<bool, Ref
 // A put is sent with these bytes, and shown where they are taken.
 fn one_value(alloc: Global, one: &mut Replica, two: &mut Replica) -> Result<bool, Refusal> {
     put(alloc, one, b"a", b"x")?;
-    take(alloc, two, X_ON_A)?;
+    take(alloc, two, bytes_of(X_ON_A))?;
     let there = shows(alloc, two, b"a", &[b"x"])?;
-    let alike = sends(alloc, one, X_ON_A)?;
+    let alike = sends(alloc, one, bytes_of(X_ON_A))?;
     Ok(there && alike)
 }
 
@@ -65,10 +65,10 @@ fn concurrent_values_are_kept_until_they_are_overwritten(rt: HostRuntime) {
 
 // A remove that overtakes the put that it observed ends it all the same.
 fn removed_before(alloc: Global, two: &mut Replica, three: &mut Replica) -> Result<bool, Refusal> {
-    take(alloc, two, X_ON_A)?;
+    take(alloc, two, bytes_of(X_ON_A))?;
     let observed = remove(alloc, two, b"a")?;
     send(alloc, two, three)?;
-    take(alloc, three, X_ON_A)?;
+    take(alloc, three, bytes_of(X_ON_A))?;
     let gone = shows(alloc, three, b"a", &[])?;
     Ok(observed == 1 && gone && three.size() == 0)
 }

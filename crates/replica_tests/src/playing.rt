@@ -1,6 +1,7 @@
 // What happens to three replicas, row by row, and what comes of it.
 use crate::asking::{asks, asks_in_vain, asks_often, retries};
 use crate::made::{knows, put, remove, replica, sends, shows};
+use crate::session_bytes::bytes_of;
 use crate::spoiled::{leaves_changed, refuses_spoiled};
 use crate::taking::{answers_of, answers_often, has_root, takes};
 use dots::Refusal;
@@ -8,7 +9,7 @@ use replica_core::{Outcome, Replica};
 use std::alloc::Global;
 use std::process::Abort;
 
-// What happens to a replica, and what comes of it. Messages are told by their bytes.
+// What happens to a replica, and what comes of it. Messages are told by their numbers.
 #[derive(Clone, Copy)]
 pub(crate) enum Event {
     // The value is put on the key.
@@ -16,33 +17,33 @@ pub(crate) enum Event {
     // The key is removed, where a value stands.
     Remove(&'static [u8]),
     // What was made is sent with this message.
-    Flush(&'static [u8]),
+    Flush(usize),
     // A session with replica 2 is opened: its number, and its hello.
-    Ask(u64, &'static [u8]),
+    Ask(u64, usize),
     // So many sessions with replica 2 are opened, the first being the session 1, whose hello this is.
-    AskOften(u64, &'static [u8]),
+    AskOften(u64, usize),
     // A session with replica 2 is refused, since eight are open.
     AskInVain,
     // The session of this number is asked for again: what comes of it, and the messages to be sent.
-    Retry(u64, Outcome, &'static [&'static [u8]]),
+    Retry(u64, Outcome, &'static [usize]),
     // The session of this number is given up, if it was open.
     Abandon(u64, bool),
     // A message is taken: what comes of it, and the messages to be sent.
-    Take(&'static [u8], Outcome, &'static [&'static [u8]]),
+    Take(usize, Outcome, &'static [usize]),
     // A message of the session 1 is answered with this one, where both are said of the session of this number.
-    TakeOf(u64, &'static [u8], &'static [u8]),
+    TakeOf(u64, usize, usize),
     // The same of each session from 1 to this number, one after the other.
-    TakeOften(u64, &'static [u8], &'static [u8]),
+    TakeOften(u64, usize, usize),
     // A message is none with a byte more, nor cut to a shorter length, but for this length, where it does not fit.
-    TakeSpoiled(&'static [u8], Option<usize>),
+    TakeSpoiled(usize, Option<usize>),
     // A message with any one bit changed is none, is ignored or does not fit, and changes nothing.
-    TakeChanged(&'static [u8]),
+    TakeChanged(usize),
     // The key has these values.
     Shows(&'static [u8], &'static [&'static [u8]]),
     // It knows the dots of a name up to this number.
     Knows(u64, u64),
     // Its root digest is the one that this opening ends with, or there is none.
-    HasRoot(Option<&'static [u8]>),
+    HasRoot(Option<usize>),
 }
 
 fn puts(alloc: Global, here: &mut Replica, key: &[u8], value: &[u8]) -> Result<bool, Refusal> {
@@ -60,17 +61,17 @@ fn happens(alloc: Global, here: &mut Replica, event: Event) -> Result<bool, Refu
     match event {
         Event::Put(key, value) => puts(alloc, here, key, value),
         Event::Remove(key) => removes(alloc, here, key),
-        Event::Flush(bytes) => sends(alloc, here, bytes),
-        Event::Ask(session, hello) => asks(alloc, here, session, hello),
-        Event::AskOften(count, hello) => asks_often(alloc, here, count, hello),
+        Event::Flush(message) => sends(alloc, here, bytes_of(message)),
+        Event::Ask(session, hello) => asks(alloc, here, session, bytes_of(hello)),
+        Event::AskOften(count, hello) => asks_often(alloc, here, count, bytes_of(hello)),
         Event::AskInVain => asks_in_vain(here),
         Event::Retry(session, outcome, again) => retries(alloc, here, session, outcome, again),
         Event::Abandon(session, was_open) => Ok(here.abandon(session) == was_open),
-        Event::Take(bytes, outcome, replies) => takes(alloc, here, bytes, outcome, replies),
-        Event::TakeOf(session, bytes, reply) => answers_of(alloc, here, session, bytes, reply),
-        Event::TakeOften(count, bytes, reply) => answers_often(alloc, here, count, bytes, reply),
-        Event::TakeSpoiled(bytes, unfit) => refuses_spoiled(alloc, here, bytes, unfit),
-        Event::TakeChanged(bytes) => leaves_changed(alloc, here, bytes),
+        Event::Take(message, outcome, replies) => takes(alloc, here, message, outcome, replies),
+        Event::TakeOf(session, message, reply) => answers_of(alloc, here, session, message, reply),
+        Event::TakeOften(count, sent, reply) => answers_often(alloc, here, count, sent, reply),
+        Event::TakeSpoiled(sent, unfit) => refuses_spoiled(alloc, here, bytes_of(sent), unfit),
+        Event::TakeChanged(message) => leaves_changed(alloc, here, bytes_of(message)),
         Event::Shows(key, values) => shows(alloc, here, key, values),
         Event::Knows(name, number) => knows(here, name, number),
         Event::HasRoot(opening) => Ok(has_root(here, opening)),

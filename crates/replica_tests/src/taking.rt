@@ -1,4 +1,5 @@
 // Messages that a replica takes, and what it answers.
+use crate::session_bytes::bytes_of;
 use dots::Refusal;
 use replica_core::{Outcome, Replica};
 use std::alloc::Global;
@@ -10,32 +11,32 @@ pub(crate) fn is_spelled(alloc: Global, message: &Message, bytes: &[u8]) -> Resu
     Ok(spelling.as_slice() == bytes)
 }
 
-// Whether these messages have these bytes, one after the other.
+// Whether these are the messages of these numbers, one after the other.
 pub(crate) fn are_spelled(
     alloc: Global,
     messages: &[Message],
-    spelled: &[&[u8]],
+    numbers: &[usize],
 ) -> Result<bool, Refusal> {
-    if messages.len() != spelled.len() {
+    if messages.len() != numbers.len() {
         return Ok(false);
     }
-    for (message, bytes) in messages.iter().zip(spelled.iter()) {
-        if !is_spelled(alloc, message, *bytes)? {
+    for (message, number) in messages.iter().zip(numbers.iter()) {
+        if !is_spelled(alloc, message, bytes_of(*number))? {
             return Ok(false);
         }
     }
     Ok(true)
 }
 
-// Whether a message comes to this, and is answered with these bytes.
+// Whether the message of this number comes to this, and is answered with these.
 pub(crate) fn takes(
     alloc: Global,
     here: &mut Replica,
-    bytes: &[u8],
+    message: usize,
     outcome: Outcome,
-    replies: &[&[u8]],
+    replies: &[usize],
 ) -> Result<bool, Refusal> {
-    let told = here.deliver_bytes(bytes)?;
+    let told = here.deliver_bytes(bytes_of(message))?;
     let same = are_spelled(alloc, told.replies.as_slice(), replies)?;
     Ok(same && told.outcome == outcome)
 }
@@ -53,23 +54,31 @@ pub(crate) fn of_session(
     Ok(message)
 }
 
+// Whether a message is answered with this one alone.
+fn answers(
+    alloc: Global,
+    here: &mut Replica,
+    bytes: &[u8],
+    answer: &[u8],
+) -> Result<bool, Refusal> {
+    let told = here.deliver_bytes(bytes)?;
+    match told.replies.as_slice() {
+        [reply] => is_spelled(alloc, reply, answer),
+        _ => Ok(false),
+    }
+}
+
 // Whether a message is answered with this one, where both are said of the session of this number.
 pub(crate) fn answers_of(
     alloc: Global,
     here: &mut Replica,
     number: u64,
-    bytes: &[u8],
-    reply: &[u8],
+    message: usize,
+    reply: usize,
 ) -> Result<bool, Refusal> {
-    let bytes = of_session(alloc, bytes, number)?;
-    let reply = of_session(alloc, reply, number)?;
-    takes(
-        alloc,
-        here,
-        bytes.as_slice(),
-        Outcome::Sent,
-        &[reply.as_slice()],
-    )
+    let bytes = of_session(alloc, bytes_of(message), number)?;
+    let answer = of_session(alloc, bytes_of(reply), number)?;
+    answers(alloc, here, bytes.as_slice(), answer.as_slice())
 }
 
 // The same of each session from 1 to this number.
@@ -77,11 +86,11 @@ pub(crate) fn answers_often(
     alloc: Global,
     here: &mut Replica,
     count: u64,
-    bytes: &[u8],
-    reply: &[u8],
+    message: usize,
+    reply: usize,
 ) -> Result<bool, Refusal> {
     for number in 0..count {
-        if !answers_of(alloc, here, number.wrapping_add(1), bytes, reply)? {
+        if !answers_of(alloc, here, number.wrapping_add(1), message, reply)? {
             return Ok(false);
         }
     }
@@ -89,9 +98,9 @@ pub(crate) fn answers_often(
 }
 
 // Whether the root digest is the one that an opening ends with, or there is none.
-pub(crate) fn has_root(here: &Replica, opening: Option<&[u8]>) -> bool {
+pub(crate) fn has_root(here: &Replica, opening: Option<usize>) -> bool {
     match (here.digest(), opening) {
-        (Some(digest), Some(bytes)) => bytes.ends_with(digest.as_slice()),
+        (Some(digest), Some(message)) => bytes_of(message).ends_with(digest.as_slice()),
         (None, None) => true,
         _ => false,
     }
