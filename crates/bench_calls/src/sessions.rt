@@ -20,11 +20,6 @@ impl Sent {
     }
 }
 
-fn new_replica(alloc: Global, number: u64) -> Result<Replica, Refusal> {
-    let name = Name::new(number).ok_or(Refusal::BadLine)?;
-    Ok(Replica::new(alloc, name, Fnv1a))
-}
-
 // Puts a value of 16 bytes on the key.
 fn put_one(alloc: Global, here: &mut Replica, number: u64) -> Result<(), Refusal> {
     let key = Key::new(alloc, &number.to_be_bytes())?;
@@ -166,12 +161,19 @@ fn hold_same(asker: &Replica, answerer: &Replica) -> bool {
     asker.digest() == answerer.digest()
 }
 
-fn steps(alloc: Global, keys: &[u64], some: &[u64], times: u32, step: u32) -> Result<u64, Refusal> {
-    let mut asker = new_replica(alloc, 1)?;
-    let mut answerer = new_replica(alloc, 2)?;
-    prepare(alloc, &mut asker, &mut answerer, keys)?;
-    let sent = rounds(alloc, &mut asker, &mut answerer, some, times, step)?;
-    if step > 0 && !hold_same(&asker, &answerer) {
+// All of it, between two replicas to which nothing happened.
+fn steps_on(
+    alloc: Global,
+    asker: &mut Replica,
+    answerer: &mut Replica,
+    keys: &[u64],
+    some: &[u64],
+    times: u32,
+    step: u32,
+) -> Result<u64, Refusal> {
+    prepare(alloc, asker, answerer, keys)?;
+    let sent = rounds(alloc, asker, answerer, some, times, step)?;
+    if step > 0 && !hold_same(asker, answerer) {
         return Err(Refusal::BadLine);
     }
     match step {
@@ -179,6 +181,15 @@ fn steps(alloc: Global, keys: &[u64], some: &[u64], times: u32, step: u32) -> Re
         2 => Ok(sent.pages),
         _ => Ok(answerer.size()),
     }
+}
+
+fn steps(alloc: Global, keys: &[u64], some: &[u64], times: u32, step: u32) -> Result<u64, Refusal> {
+    let (Some(one), Some(two)) = (Name::new(1), Name::new(2)) else {
+        return Ok(0);
+    };
+    let mut asker = Replica::new(alloc, one, Fnv1a);
+    let mut answerer = Replica::new(alloc, two, Fnv1a);
+    steps_on(alloc, &mut asker, &mut answerer, keys, some, times, step)
 }
 
 /// Puts a value of 16 bytes on each of the keys, eight bytes each, at a replica, and gives all of them to another. Then so many times

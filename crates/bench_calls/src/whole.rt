@@ -46,13 +46,26 @@ fn rounds(
     Ok(bytes)
 }
 
-fn steps(alloc: Global, keys: &[u64], some: &[u64], times: u32, step: u32) -> Result<u64, Refusal> {
+// All of it, between two pairs that hold nothing.
+fn steps_on(
+    alloc: Global,
+    here: &mut LiveOrMap,
+    there: &mut LiveOrMap,
+    keys: &[u64],
+    some: &[u64],
+    times: u32,
+    step: u32,
+) -> Result<u64, Refusal> {
     let name = Name::new(2).ok_or(Refusal::BadLine)?;
+    put_all(alloc, name, here, keys)?;
+    send_whole(alloc, here, there)?;
+    rounds(alloc, name, here, there, some, times, step)
+}
+
+fn steps(alloc: Global, keys: &[u64], some: &[u64], times: u32, step: u32) -> Result<u64, Refusal> {
     let mut here: LiveOrMap = Live::new(alloc, Fnv1a);
     let mut there: LiveOrMap = Live::new(alloc, Fnv1a);
-    put_all(alloc, name, &mut here, keys)?;
-    send_whole(alloc, &here, &mut there)?;
-    rounds(alloc, name, &mut here, &mut there, some, times, step)
+    steps_on(alloc, &mut here, &mut there, keys, some, times, step)
 }
 
 /// Puts a value of 16 bytes on each of the keys, eight bytes each, at a live pair, and sends all of it to another. Then so many times
