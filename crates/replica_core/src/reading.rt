@@ -1,6 +1,6 @@
 // What a replica shows.
 ghost use Rattle.std.specs.Prelude.{◌≡◌, ◌↔◌, ℕ, List, [], length, IfOk, IsOkUnless, IsTrue};
-ghost use Rattle.op_model.specs.Meaning.{Stands, HoldsField, HoldsKey};
+ghost use Rattle.op_model.specs.Meaning.{Stands, StandsWithin, HoldsField, HoldsKey};
 ghost use Rattle.op_model.specs.Place.{place_of, plain};
 ghost use Rattle.prefix_digest.specs.MapOf.{IsMapOf};
 ghost use Rattle.prefix_digest.specs.Page.{digest_at};
@@ -10,7 +10,7 @@ ghost use Rattle.replica_core.specs.Reading.{Lists};
 
 use crate::mapped::is_mapped;
 use crate::replica::Replica;
-use delta_ops::{fields, keys, size, values};
+use delta_ops::{fields, keys, size, values, values_of_key};
 use dots::{Field, Key, Refusal, Value};
 use hash_path::{PathHash, Prefix};
 use prefix_digest::{FrozenMap, digest};
@@ -35,6 +35,16 @@ impl<H: PathHash, A: Allocator + Copy> Replica<H, A> {
         ensures refused { IsOkUnless result Refusal.OutOfMemory }
     {
         let found = values(self.alloc, self.live.store(), key, field)?;
+        Ok(found)
+    }
+
+    /// The distinct values of the key over all its fields, ascending by bytes. Takes a look-up, and time and memory in what stands at the key.
+    /// Its only refusal is OutOfMemory.
+    pub fn values_of_key(&self, key: &Key<A>) -> Result<Vec<Value<A>, A>, Refusal>
+        ensures ok { IfOk result (λ found. Lists (StandsWithin (meaning self.now).live key.now) found.items) }
+        ensures refused { IsOkUnless result Refusal.OutOfMemory }
+    {
+        let found = values_of_key(self.alloc, self.live.store(), key)?;
         Ok(found)
     }
 

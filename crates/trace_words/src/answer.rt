@@ -24,7 +24,7 @@ pub fn is_fault(refusal: Refusal) -> bool
     )
 }
 
-/// The answer to a put: `ok <name>:<number>`.
+/// The answer to a put: `ok <name>:<number>`. The one refusal is OutOfMemory.
 pub fn put_answer<A: Allocator + Copy>(
     alloc: A,
     name: u64,
@@ -36,7 +36,7 @@ pub fn put_answer<A: Allocator + Copy>(
     Ok(format!(in alloc; "ok {name}:{number}")?)
 }
 
-/// The answer to a look at a key: `=`, then a space and the value for each value.
+/// The answer to a look at a key: `=`, then a space and the value for each value. The one refusal is OutOfMemory.
 pub fn get_answer<A: Allocator + Copy>(alloc: A, found: &[Value<A>]) -> Result<Vec<u8, A>, Refusal>
     ensures ok { IfOk result (λ text. text.items ≡ values_text found.now) }
     ensures err { IsOkUnless result Refusal.OutOfMemory }
@@ -46,7 +46,7 @@ pub fn get_answer<A: Allocator + Copy>(alloc: A, found: &[Value<A>]) -> Result<V
     Ok(text)
 }
 
-/// The answer to a remove or a clear: `ok <number of the writes observed>`.
+/// The answer to a remove or a clear: `ok <number of the writes observed>`. The one refusal is OutOfMemory.
 pub fn erased_answer<A: Allocator + Copy>(alloc: A, number: u64) -> Result<String<A>, Refusal>
     ensures ok { IfOk result (λ text. string_bytes text ≡ erased_text number) }
     ensures err { IsOkUnless result Refusal.OutOfMemory }
@@ -54,7 +54,7 @@ pub fn erased_answer<A: Allocator + Copy>(alloc: A, number: u64) -> Result<Strin
     Ok(format!(in alloc; "ok {number}")?)
 }
 
-/// The answer to a look at the number of keys: `size <number>`.
+/// The answer to a look at the number of keys: `size <number>`. The one refusal is OutOfMemory.
 pub fn size_answer<A: Allocator + Copy>(alloc: A, number: u64) -> Result<String<A>, Refusal>
     ensures ok { IfOk result (λ text. string_bytes text ≡ size_text number) }
     ensures err { IsOkUnless result Refusal.OutOfMemory }
@@ -62,7 +62,7 @@ pub fn size_answer<A: Allocator + Copy>(alloc: A, number: u64) -> Result<String<
     Ok(format!(in alloc; "size {number}")?)
 }
 
-/// The answer to a pin: `pin <number>`.
+/// The answer to a pin: `pin <number>`. The one refusal is OutOfMemory.
 pub fn pin_answer<A: Allocator + Copy>(alloc: A, number: u64) -> Result<String<A>, Refusal>
     ensures ok { IfOk result (λ text. string_bytes text ≡ pin_text number) }
     ensures err { IsOkUnless result Refusal.OutOfMemory }
@@ -70,7 +70,7 @@ pub fn pin_answer<A: Allocator + Copy>(alloc: A, number: u64) -> Result<String<A
     Ok(format!(in alloc; "pin {number}")?)
 }
 
-/// The answer to a look at the root digest: its 64 hexadecimal digits, or `-` where there is none.
+/// The answer to a look at the root digest: its 64 hexadecimal digits, or `-` where there is none. The one refusal is OutOfMemory.
 pub fn digest_answer<A: Allocator + Copy>(
     alloc: A,
     digest: Option<[u8; 32]>,
@@ -84,7 +84,7 @@ pub fn digest_answer<A: Allocator + Copy>(
     }
 }
 
-/// The beginning of the answer to a look at all keys: `map <number of keys>`.
+/// The beginning of the answer to a look at all keys: `map <number of keys>`. The one refusal is OutOfMemory.
 pub fn map_answer<A: Allocator + Copy>(alloc: A, number: u64) -> Result<String<A>, Refusal>
     ensures ok { IfOk result (λ text. string_bytes text ≡ codes "map " ++ decimal number) }
     ensures err { IsOkUnless result Refusal.OutOfMemory }
@@ -93,6 +93,7 @@ pub fn map_answer<A: Allocator + Copy>(alloc: A, number: u64) -> Result<String<A
 }
 
 /// Appends a key or a field with the number of its values and the values. A refusal may leave a part of it there.
+/// The one refusal is OutOfMemory.
 pub fn push_entry<A: Allocator + Copy>(
     alloc: A,
     out: &mut Vec<u8, A>,
@@ -127,7 +128,7 @@ fn push_values<A: Allocator + Copy>(
     Ok(())
 }
 
-/// The answer to a flush: `sent <number>:delta`, or `empty`.
+/// The answer to a flush: `sent <number>:delta`, or `empty`. The one refusal is OutOfMemory.
 pub fn flush_answer<A: Allocator + Copy>(alloc: A, made: Option<u64>) -> Result<String<A>, Refusal>
     ensures ok { IfOk result (λ text. string_bytes text ≡ sent_text made) }
     ensures err { IsOkUnless result Refusal.OutOfMemory }
@@ -138,7 +139,7 @@ pub fn flush_answer<A: Allocator + Copy>(alloc: A, made: Option<u64>) -> Result<
     }
 }
 
-/// The beginning of the answer to a look at the fields of a key: `fields <number of fields>`.
+/// The beginning of the answer to a look at the fields of a key: `fields <number of fields>`. The one refusal is OutOfMemory.
 pub fn fields_answer<A: Allocator + Copy>(alloc: A, number: u64) -> Result<String<A>, Refusal>
     ensures ok { IfOk result (λ text. string_bytes text ≡ codes "fields " ++ decimal number) }
     ensures err { IsOkUnless result Refusal.OutOfMemory }
@@ -160,7 +161,7 @@ fn refused<A: Allocator + Copy>(alloc: A, refusal: Refusal) -> Result<Reply<A>, 
     Ok(Reply::Told(text))
 }
 
-/// What a command is answered that came to this.
+/// What a command is answered that came to this. The one refusal is OutOfMemory.
 pub fn reply_of<A: Allocator + Copy>(
     alloc: A,
     done: Result<Vec<u8, A>, Refusal>,

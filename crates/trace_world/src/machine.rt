@@ -51,7 +51,7 @@ impl<A: Allocator + Copy> Machine<A> {
         }
     }
 
-    /// Carries out one line, given without its end.
+    /// Carries out one line, given without its end. The one refusal is OutOfMemory.
     pub fn carry_out(&mut self, line: &[u8]) -> Result<Reply<A>, Refusal>
         ensures answer { IfOk result (λ reply. answer_of reply ≡ answer_to self.old line.now) }
         ensures faults { IfOk result TellsFaults }
