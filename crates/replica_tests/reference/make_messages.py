@@ -111,6 +111,10 @@ A_AT_5, B_AT_5 = one_child(5, page_at(OWN, ())), one_child(5, page_at(OTHER, ())
 MESSAGES = [
     ("X_ON_A", "The delta of the write 1:1 of x on a.", delta({1: 1}, {b"a": {(1, 1): b"x"}})),
     ("V_ON_EMPTY", "The delta of the write 2:1 of v on the empty key.", delta({2: 1}, {b"": {(2, 1): b"v"}})),
+    ("NOTHING", "No message.", b""),
+    ("Z_ON_A", "The delta of the writes 2:1 of y and 2:2 of z on a, of which the second observed 1:1 and the first.", delta({1: 1, 2: 2}, {b"a": {(2, 2): b"z"}})),
+    ("X_REMOVED", "The delta of a remove that observed 1:1.", delta({1: 1}, {})),
+    ("LAST_OF_1", "The delta that holds nothing and knows the last dot of replica 1.", b"\1\1" + number_of(0) + number_of(1) + number_of(1) + number_of(2**64 - 1) + number_of(0)),
     ("EMPTY_HELLO", "From replica 1, which knows no dot, to replica 2.", hello({})),
     ("OWN_HELLO", "From replica 1, which knows 1:1, to replica 2.", hello({1: 1})),
     ("PEER_HELLO", "From replica 1, which knows 2:1, to replica 2.", hello({2: 1})),

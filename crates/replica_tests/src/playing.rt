@@ -14,9 +14,11 @@ use std::process::Abort;
 pub(crate) enum Event {
     // The value is put on the key.
     Put(&'static [u8], &'static [u8]),
-    // The key is removed, where a value stands.
-    Remove(&'static [u8]),
-    // What was made is sent with this message.
+    // A put on the key is refused, since the last number of the name is known.
+    PutInVain(&'static [u8]),
+    // The key is removed, where so many writes are observed.
+    Remove(&'static [u8], u64),
+    // What was made is sent with this message, or is nothing.
     Flush(usize),
     // A session with replica 2 is opened: its number, and its hello.
     Ask(u64, usize),
@@ -51,16 +53,17 @@ fn puts(alloc: Global, here: &mut Replica, key: &[u8], value: &[u8]) -> Result<b
     Ok(number > 0)
 }
 
-fn removes(alloc: Global, here: &mut Replica, key: &[u8]) -> Result<bool, Refusal> {
+fn removes(alloc: Global, here: &mut Replica, key: &[u8], count: u64) -> Result<bool, Refusal> {
     let observed = remove(alloc, here, key)?;
-    Ok(observed > 0)
+    Ok(observed == count)
 }
 
 // Whether this comes of what happens to a replica.
 fn happens(alloc: Global, here: &mut Replica, event: Event) -> Result<bool, Refusal> {
     match event {
         Event::Put(key, value) => puts(alloc, here, key, value),
-        Event::Remove(key) => removes(alloc, here, key),
+        Event::PutInVain(key) => Ok(put(alloc, here, key, b"x") == Err(Refusal::NumbersSpent)),
+        Event::Remove(key, count) => removes(alloc, here, key, count),
         Event::Flush(message) => sends(alloc, here, bytes_of(message)),
         Event::Ask(session, hello) => asks(alloc, here, session, bytes_of(hello)),
         Event::AskOften(count, hello) => asks_often(alloc, here, count, bytes_of(hello)),

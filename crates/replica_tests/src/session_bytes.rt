@@ -6,116 +6,128 @@ pub(crate) const X_ON_A: usize = 0;
 // The delta of the write 2:1 of v on the empty key.
 pub(crate) const V_ON_EMPTY: usize = 1;
 
+// No message.
+pub(crate) const NOTHING: usize = 2;
+
+// The delta of the writes 2:1 of y and 2:2 of z on a, of which the second observed 1:1 and the first.
+pub(crate) const Z_ON_A: usize = 3;
+
+// The delta of a remove that observed 1:1.
+pub(crate) const X_REMOVED: usize = 4;
+
+// The delta that holds nothing and knows the last dot of replica 1.
+pub(crate) const LAST_OF_1: usize = 5;
+
 // From replica 1, which knows no dot, to replica 2.
-pub(crate) const EMPTY_HELLO: usize = 2;
+pub(crate) const EMPTY_HELLO: usize = 6;
 
 // From replica 1, which knows 1:1, to replica 2.
-pub(crate) const OWN_HELLO: usize = 3;
+pub(crate) const OWN_HELLO: usize = 7;
 
 // From replica 1, which knows 2:1, to replica 2.
-pub(crate) const PEER_HELLO: usize = 4;
+pub(crate) const PEER_HELLO: usize = 8;
 
 // The second of replica 1, which knows 2:1, to replica 2.
-pub(crate) const SECOND_HELLO: usize = 5;
+pub(crate) const SECOND_HELLO: usize = 9;
 
 // From replica 3, which knows no dot, to replica 2.
-pub(crate) const THIRD_HELLO: usize = 6;
+pub(crate) const THIRD_HELLO: usize = 10;
 
 // The ninth of replica 3, which knows no dot, to replica 2.
-pub(crate) const NINTH_HELLO: usize = 7;
+pub(crate) const NINTH_HELLO: usize = 11;
 
 // From replica 1, for the root.
-pub(crate) const ASK_ROOT: usize = 8;
+pub(crate) const ASK_ROOT: usize = 12;
 
 // For the child 5.
-pub(crate) const ASK_5: usize = 9;
+pub(crate) const ASK_5: usize = 13;
 
 // For the child 12.
-pub(crate) const ASK_12: usize = 10;
+pub(crate) const ASK_12: usize = 14;
 
 // For the child 15 below the child 5.
-pub(crate) const ASK_5_15: usize = 11;
+pub(crate) const ASK_5_15: usize = 15;
 
 // Replica 2 does not keep the session.
-pub(crate) const GONE: usize = 12;
+pub(crate) const GONE: usize = 16;
 
 // Replica 2 knows 2:1 and 2:2, and holds v on the empty key and w on b.
-pub(crate) const UNDER_OPENING: usize = 13;
+pub(crate) const UNDER_OPENING: usize = 17;
 
 // The root there, with one child.
-pub(crate) const UNDER_PAGE_ROOT: usize = 14;
+pub(crate) const UNDER_PAGE_ROOT: usize = 18;
 
 // The child 5 there, with two children.
-pub(crate) const UNDER_PAGE_5: usize = 15;
+pub(crate) const UNDER_PAGE_5: usize = 19;
 
 // Its child 15, where b stands with w alone: the asker has the other.
-pub(crate) const UNDER_PAGE_5_15: usize = 16;
+pub(crate) const UNDER_PAGE_5_15: usize = 20;
 
 // The same with another last byte.
-pub(crate) const UNDER_PAGE_CHANGED: usize = 17;
+pub(crate) const UNDER_PAGE_CHANGED: usize = 21;
 
 // The same with the value x in the place of w.
-pub(crate) const UNDER_VALUE_CHANGED: usize = 18;
+pub(crate) const UNDER_VALUE_CHANGED: usize = 22;
 
 // Replica 2 knows 1:1 and 2:1, and holds x on a and y on b.
-pub(crate) const MISSING_OPENING: usize = 19;
+pub(crate) const MISSING_OPENING: usize = 23;
 
 // The root there, with two children.
-pub(crate) const MISSING_PAGE_ROOT: usize = 20;
+pub(crate) const MISSING_PAGE_ROOT: usize = 24;
 
 // The child 5 there, with its value.
-pub(crate) const MISSING_PAGE_5: usize = 21;
+pub(crate) const MISSING_PAGE_5: usize = 25;
 
 // The child 12 there, without the value, which the asker had seen.
-pub(crate) const MISSING_PAGE_12: usize = 22;
+pub(crate) const MISSING_PAGE_12: usize = 26;
 
 // Replica 2 knows 1:1, and holds nothing.
-pub(crate) const REMOVED_OPENING: usize = 23;
+pub(crate) const REMOVED_OPENING: usize = 27;
 
 // Replica 2 knows 2:1, and holds x on a.
-pub(crate) const FIRST_OPENING: usize = 24;
+pub(crate) const FIRST_OPENING: usize = 28;
 
 // The root there, which is the key a.
-pub(crate) const FIRST_PAGE: usize = 25;
+pub(crate) const FIRST_PAGE: usize = 29;
 
 // Of the second session: replica 2 knows 2:1 and 2:2, and holds y on a.
-pub(crate) const SECOND_OPENING: usize = 26;
+pub(crate) const SECOND_OPENING: usize = 30;
 
 // For replica 3: replica 2 knows 2:1, and holds x on a.
-pub(crate) const THIRD_OPENING: usize = 27;
+pub(crate) const THIRD_OPENING: usize = 31;
 
 // Replica 2 knows 1:1 and 2:1, and holds x and y on a.
-pub(crate) const BOTH_OPENING: usize = 28;
+pub(crate) const BOTH_OPENING: usize = 32;
 
 // The root there, which is the key a, with the value of 2:1 alone.
-pub(crate) const BOTH_PAGE: usize = 29;
+pub(crate) const BOTH_PAGE: usize = 33;
 
 // A peer that knows no dot and has the root digest of x on a by 1:1.
-pub(crate) const OWN_ROOT_UNKNOWN: usize = 30;
+pub(crate) const OWN_ROOT_UNKNOWN: usize = 34;
 
 // A peer that knows no dot and holds nothing.
-pub(crate) const NOTHING_KNOWN: usize = 31;
+pub(crate) const NOTHING_KNOWN: usize = 35;
 
 // A peer that knows 1:1, whose root has the one child 5, the page of a.
-pub(crate) const A_AT_5_OPENING: usize = 32;
+pub(crate) const A_AT_5_OPENING: usize = 36;
 
 // That root.
-pub(crate) const A_AT_5_ROOT: usize = 33;
+pub(crate) const A_AT_5_ROOT: usize = 37;
 
 // That child, which is not where a stands.
-pub(crate) const A_AT_5_PAGE: usize = 34;
+pub(crate) const A_AT_5_PAGE: usize = 38;
 
 // A peer that knows no dot, whose root has the one child 5, the page of b with 1:1.
-pub(crate) const B_AT_5_OPENING: usize = 35;
+pub(crate) const B_AT_5_OPENING: usize = 39;
 
 // The same of a peer that knows 1:1.
-pub(crate) const B_AT_5_KNOWN: usize = 36;
+pub(crate) const B_AT_5_KNOWN: usize = 40;
 
 // That root.
-pub(crate) const B_AT_5_ROOT: usize = 37;
+pub(crate) const B_AT_5_ROOT: usize = 41;
 
 // That child.
-pub(crate) const B_AT_5_PAGE: usize = 38;
+pub(crate) const B_AT_5_PAGE: usize = 42;
 
 const MESSAGES: &[&[u8]] = &[
     // X_ON_A
@@ -129,6 +141,24 @@ const MESSAGES: &[&[u8]] = &[
         1, 1, 0, 0, 0, 0, 0, 0, 0, 1, 0, 0, 0, 0, 0, 0, 0, 2, 0, 0, 0, 0, 0, 0, 0, 1, 0, 0, 0, 0,
         0, 0, 0, 0, 0, 0, 0, 0, 0, 0, 0, 1, 0, 0, 0, 0, 0, 0, 0, 0, 0, 1, 0, 0, 0, 0, 0, 0, 0, 2,
         0, 0, 0, 0, 0, 0, 0, 1, 0, 1, 118,
+    ],
+    // NOTHING
+    &[],
+    // Z_ON_A
+    &[
+        1, 1, 0, 0, 0, 0, 0, 0, 0, 2, 0, 0, 0, 0, 0, 0, 0, 1, 0, 0, 0, 0, 0, 0, 0, 1, 0, 0, 0, 0,
+        0, 0, 0, 2, 0, 0, 0, 0, 0, 0, 0, 2, 0, 0, 0, 0, 0, 0, 0, 0, 0, 0, 0, 0, 0, 0, 0, 1, 0, 1,
+        97, 0, 0, 0, 0, 0, 0, 0, 1, 0, 0, 0, 0, 0, 0, 0, 2, 0, 0, 0, 0, 0, 0, 0, 2, 0, 1, 122,
+    ],
+    // X_REMOVED
+    &[
+        1, 1, 0, 0, 0, 0, 0, 0, 0, 1, 0, 0, 0, 0, 0, 0, 0, 1, 0, 0, 0, 0, 0, 0, 0, 1, 0, 0, 0, 0,
+        0, 0, 0, 0, 0, 0, 0, 0, 0, 0, 0, 0,
+    ],
+    // LAST_OF_1
+    &[
+        1, 1, 0, 0, 0, 0, 0, 0, 0, 0, 0, 0, 0, 0, 0, 0, 0, 1, 0, 0, 0, 0, 0, 0, 0, 1, 255, 255,
+        255, 255, 255, 255, 255, 255, 0, 0, 0, 0, 0, 0, 0, 0,
     ],
     // EMPTY_HELLO
     &[
