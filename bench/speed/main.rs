@@ -19,6 +19,22 @@ unsafe extern "C" {
     ) -> u64;
     fn measure_hash(keys: *const u64, count: usize) -> u64;
     fn measure_live(keys: *const u64, count: usize, step: u32, times: u32) -> u64;
+    fn measure_sessions(
+        keys: *const u64,
+        count: usize,
+        some: *const u64,
+        some_count: usize,
+        times: u32,
+        step: u32,
+    ) -> u64;
+    fn measure_whole(
+        keys: *const u64,
+        count: usize,
+        some: *const u64,
+        some_count: usize,
+        times: u32,
+        step: u32,
+    ) -> u64;
     fn measure_stores(keys: *const u64, count: usize, step: u32, times: u32) -> u64;
     fn clock_gettime(clock: i32, time: *mut Time) -> i32;
 }
@@ -405,7 +421,45 @@ fn digests(count: usize) {
     );
 }
 
+/// A call of the library with all keys and some of them, so many times a step.
+type WithSome = unsafe extern "C" fn(*const u64, usize, *const u64, usize, u32, u32) -> u64;
+
+/// Two replicas of so many keys that differ at 100 of them, synchronised by pages, and by sending all that one of them holds.
+fn synchronisations(count: usize) {
+    let keys = random_keys(count);
+    let some: Vec<u64> = keys.iter().step_by(count / 100).copied().collect();
+    let run = |call: WithSome, times, step| {
+        let (all, part) = (keys.as_ptr(), some.as_ptr());
+        let number = unsafe { call(all, keys.len(), part, some.len(), times, step) };
+        assert_ne!(number, u64::MAX, "want of memory");
+        number
+    };
+    let each = |call: WithSome, times| {
+        let with = seconds(|| drop(run(call, times, 1)));
+        let without = seconds(|| drop(run(call, times, 0)));
+        1e3 * (with - without) / f64::from(times)
+    };
+    let pages = run(measure_sessions, 1, 2);
+    println!(
+        "two replicas of {count} keys that differ at {}: milliseconds at both ends, and bytes",
+        some.len()
+    );
+    println!(
+        "  by {pages:5} pages         {:8.2} {:10}",
+        each(measure_sessions, 50),
+        run(measure_sessions, 1, 1)
+    );
+    println!(
+        "  by the whole map       {:8.2} {:10}",
+        each(measure_whole, 5),
+        run(measure_whole, 1, 1)
+    );
+}
+
 fn main() {
+    for count in [10_000, 100_000] {
+        synchronisations(count);
+    }
     for count in [10_000, 100_000] {
         digests(count);
     }

@@ -4,6 +4,8 @@
 
 mod digests;
 mod live;
+mod sessions;
 mod stores;
 mod tries;
+mod whole;
 mod wire;

@@ -52,7 +52,7 @@ fn join_in(alloc: Global, live: &mut LiveOrMap, message: &Message) -> Result<(),
 }
 
 // Joins in what the message of these bytes holds.
-fn take_in(alloc: Global, live: &mut LiveOrMap, bytes: &[u8]) -> Result<(), Refusal> {
+pub(crate) fn take_in(alloc: Global, live: &mut LiveOrMap, bytes: &[u8]) -> Result<(), Refusal> {
     let message = decode(alloc, bytes)?;
     join_in(alloc, live, &message)
 }
@@ -70,7 +70,7 @@ fn take_often(
 }
 
 // The delta as the bytes of a message.
-fn spelled(alloc: Global, delta: OrMap) -> Result<Vec<u8>, Refusal> {
+pub(crate) fn spelled(alloc: Global, delta: OrMap) -> Result<Vec<u8>, Refusal> {
     let message = Message::Delta(delta);
     encode(alloc, &message)
 }
@@ -81,7 +81,12 @@ fn send(alloc: Global, live: &mut LiveOrMap, delta: OrMap, times: u32) -> Result
     take_often(alloc, live, &bytes, times)
 }
 
-fn put_all(alloc: Global, name: Name, live: &mut LiveOrMap, keys: &[u64]) -> Result<(), Refusal> {
+pub(crate) fn put_all(
+    alloc: Global,
+    name: Name,
+    live: &mut LiveOrMap,
+    keys: &[u64],
+) -> Result<(), Refusal> {
     for number in keys {
         put_one(alloc, name, live, *number)?;
     }

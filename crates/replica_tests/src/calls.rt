@@ -3,6 +3,7 @@ use crate::made::{are, put, replica, shows};
 use dots::{Field, Key, Refusal, Value};
 use replica_core::Replica;
 use std::alloc::Global;
+use std::process::Abort;
 
 // Puts the value on a field of the key, and gives the number of its dot.
 fn put_field(
@@ -33,6 +34,13 @@ fn shows_field(
     Ok(are(found.as_slice(), values))
 }
 
+// Whether the key has these values over all its fields.
+fn shows_all(alloc: Global, here: &Replica, key: &[u8], values: &[&[u8]]) -> Result<bool, Refusal> {
+    let key = Key::new(alloc, key)?;
+    let found = here.values_of_key(&key)?;
+    Ok(are(found.as_slice(), values))
+}
+
 // How many fields a key has, and whether the last is this.
 fn ends_with_field(
     alloc: Global,
@@ -56,8 +64,9 @@ fn has_fields(alloc: Global, one: &mut Replica) -> Result<bool, Refusal> {
     put(alloc, one, b"a", b"y")?;
     let there = shows_field(alloc, one, b"a", b"f", &[b"x"])?;
     let empty = shows(alloc, one, b"a", &[b"y"])?;
+    let both = shows_all(alloc, one, b"a", &[b"x", b"y"])?;
     let two = ends_with_field(alloc, one, b"a", 2, b"f")?;
-    Ok(there && empty && two)
+    Ok(there && empty && both && two)
 }
 
 // Removes the field of the key, and gives how many writes were observed.
@@ -73,12 +82,22 @@ fn remove_field(
     Ok(number)
 }
 
+// A field is removed, and the key's other stays.
+fn removes_field(alloc: Global, one: &mut Replica) -> Result<bool, Refusal> {
+    let number = remove_field(alloc, one, b"a", b"f")?;
+    let left = ends_with_field(alloc, one, b"a", 1, b"")?;
+    Ok(number == 1 && left)
+}
+
+// Whether both are so at a new replica.
+fn fields_stand_and_go(rt: &impl Abort, alloc: Global) -> bool {
+    let mut one = replica(rt, alloc, 1);
+    has_fields(alloc, &mut one) == Ok(true) && removes_field(alloc, &mut one) == Ok(true)
+}
+
 #[test]
 fn fields_are_written_and_removed(rt: HostRuntime) {
-    let mut one = replica(&rt, rt.alloc(), 1);
-    assert!(rt; has_fields(rt.alloc(), &mut one) == Ok(true));
-    assert!(rt; remove_field(rt.alloc(), &mut one, b"a", b"f") == Ok(1));
-    assert!(rt; ends_with_field(rt.alloc(), &one, b"a", 1, b"") == Ok(true));
+    assert!(rt; fields_stand_and_go(&rt, rt.alloc()));
 }
 
 // Whether the keys are a and b, in this order.
@@ -107,17 +126,39 @@ fn pinned(one: &Replica) -> Result<u64, Refusal> {
     Ok(snapshot.size())
 }
 
+// Whether a key is there that was put, and none that was not.
+fn contains_a_alone(alloc: Global, one: &Replica) -> Result<bool, Refusal> {
+    let a = contains(alloc, one, b"a")?;
+    let c = contains(alloc, one, b"c")?;
+    Ok(a && !c)
+}
+
+// Whether what was put is counted and digested.
+fn counts_two(one: &Replica) -> bool {
+    pinned(one) == Ok(2) && one.context().entry(one.name()) == 2 && one.digest().is_some()
+}
+
+// Whether two puts are numbered, and their keys listed and there.
+fn lists_puts(alloc: Global, one: &mut Replica) -> Result<bool, Refusal> {
+    let first = put(alloc, one, b"b", b"x")?;
+    let second = put(alloc, one, b"a", b"y")?;
+    let listed = lists_a_and_b(one)?;
+    let there = contains_a_alone(alloc, one)?;
+    Ok(first == 1 && second == 2 && listed && there)
+}
+
+// Whether both writes are observed by a clear, and nothing is left.
+fn clears(one: &mut Replica) -> bool {
+    one.clear() == Ok(2) && one.size() == 0 && one.digest().is_none()
+}
+
+// Whether all this is so at a new replica.
+fn keys_stand_and_go(rt: &impl Abort, alloc: Global) -> bool {
+    let mut one = replica(rt, alloc, 1);
+    lists_puts(alloc, &mut one) == Ok(true) && counts_two(&one) && clears(&mut one)
+}
+
 #[test]
 fn keys_are_listed_and_cleared(rt: HostRuntime) {
-    let mut one = replica(&rt, rt.alloc(), 1);
-    assert!(rt; put(rt.alloc(), &mut one, b"b", b"x") == Ok(1));
-    assert!(rt; put(rt.alloc(), &mut one, b"a", b"y") == Ok(2));
-    assert!(rt; lists_a_and_b(&one) == Ok(true));
-    assert!(rt; contains(rt.alloc(), &one, b"a") == Ok(true));
-    assert!(rt; contains(rt.alloc(), &one, b"c") == Ok(false));
-    assert!(rt; pinned(&one) == Ok(2));
-    assert!(rt; one.context().entry(one.name()) == 2);
-    assert!(rt; one.digest().is_some());
-    assert!(rt; one.clear() == Ok(2));
-    assert!(rt; one.size() == 0 && one.digest().is_none());
+    assert!(rt; keys_stand_and_go(&rt, rt.alloc()));
 }

@@ -1,109 +1,65 @@
-// What goes from one replica to another.
-use crate::made::{put, remove, replica, sent, shows, take};
+// What goes from one replica to another as deltas.
+use crate::made::{put, replica, sent, take};
+use crate::playing::{Event, play};
+use crate::session_bytes::{LAST_OF_1, NOTHING, X_ON_A, X_REMOVED, Z_ON_A};
 use dots::Refusal;
-use replica_core::Replica;
+use replica_core::{Outcome, Replica};
 use std::alloc::Global;
 use std::process::Abort;
 
-// The delta of the write 1:1 of x on a, as the description of the formats gives its bytes.
-const X_ON_A: [u8; 72] = [
-    1, 1, 0, 0, 0, 0, 0, 0, 0, 1, 0, 0, 0, 0, 0, 0, 0, 1, 0, 0, 0, 0, 0, 0, 0, 1, 0, 0, 0, 0, 0, 0,
-    0, 0, 0, 0, 0, 0, 0, 0, 0, 1, 0, 1, 0x61, 0, 0, 0, 0, 0, 0, 0, 1, 0, 0, 0, 0, 0, 0, 0, 1, 0, 0,
-    0, 0, 0, 0, 0, 1, 0, 1, 0x78,
-];
-
-// The delta that holds nothing and knows the last dot of replica 1, in the same way.
-const LAST_OF_1: [u8; 42] = [
-    1, 1, 0, 0, 0, 0, 0, 0, 0, 0, 0, 0, 0, 0, 0, 0, 0, 1, 0, 0, 0, 0, 0, 0, 0, 1, 0xff, 0xff, 0xff,
-    0xff, 0xff, 0xff, 0xff, 0xff, 0, 0, 0, 0, 0, 0, 0, 0,
-];
-
-// Sends what the first made to the second, and tells whether it was something.
-fn send(alloc: Global, from: &mut Replica, to: &mut Replica) -> Result<bool, Refusal> {
-    let bytes = sent(alloc, from)?;
-    if bytes.is_empty() {
-        return Ok(false);
-    }
-    take(alloc, to, bytes.as_slice())?;
-    Ok(true)
-}
-
-// Whether what it made is sent with these bytes.
-fn sends(alloc: Global, from: &mut Replica, bytes: &[u8]) -> Result<bool, Refusal> {
-    let made = sent(alloc, from)?;
-    Ok(made.as_slice() == bytes)
-}
-
-// A put is sent with these bytes, and shown where they are taken.
-fn one_value(alloc: Global, one: &mut Replica, two: &mut Replica) -> Result<bool, Refusal> {
-    put(alloc, one, b"a", b"x")?;
-    take(alloc, two, X_ON_A.as_slice())?;
-    let there = shows(alloc, two, b"a", &[b"x"])?;
-    let alike = sends(alloc, one, X_ON_A.as_slice())?;
-    Ok(there && alike)
-}
-
 #[test]
 fn a_value_goes_from_one_replica_to_another(rt: HostRuntime) {
-    let mut one = replica(&rt, rt.alloc(), 1);
-    let mut two = replica(&rt, rt.alloc(), 2);
-    assert!(rt; one_value(rt.alloc(), &mut one, &mut two) == Ok(true));
+    let rows = [
+        (1, Event::Put(b"a", b"x")),
+        (1, Event::Flush(X_ON_A)),
+        (1, Event::Flush(NOTHING)),
+        (2, Event::Take(X_ON_A, Outcome::Joined, &[])),
+        (2, Event::Shows(b"a", &[b"x"])),
+    ];
+    assert!(rt; play(&rt, rt.alloc(), rows.as_slice()) == Ok(rows.len()));
 }
 
-// Writes that did not know of each other are both kept.
-fn both_kept(alloc: Global, one: &mut Replica, two: &mut Replica) -> Result<bool, Refusal> {
-    put(alloc, one, b"a", b"x")?;
-    put(alloc, two, b"a", b"y")?;
-    send(alloc, one, two)?;
-    shows(alloc, two, b"a", &[b"x", b"y"])
-}
-
-// One that knew both takes their place; what was taken in is not sent on.
-fn overwritten(alloc: Global, one: &mut Replica, two: &mut Replica) -> Result<bool, Refusal> {
-    put(alloc, two, b"a", b"z")?;
-    send(alloc, two, one)?;
-    let later = shows(alloc, one, b"a", &[b"z"])?;
-    let more = send(alloc, one, two)?;
-    Ok(later && !more)
-}
-
+// Writes that did not know of each other are both kept; one that knew both takes their place. What was taken in is not sent on.
 #[test]
 fn concurrent_values_are_kept_until_they_are_overwritten(rt: HostRuntime) {
-    let mut one = replica(&rt, rt.alloc(), 1);
-    let mut two = replica(&rt, rt.alloc(), 2);
-    assert!(rt; both_kept(rt.alloc(), &mut one, &mut two) == Ok(true));
-    assert!(rt; overwritten(rt.alloc(), &mut one, &mut two) == Ok(true));
+    let rows = [
+        (1, Event::Put(b"a", b"x")),
+        (2, Event::Put(b"a", b"y")),
+        (1, Event::Flush(X_ON_A)),
+        (2, Event::Take(X_ON_A, Outcome::Joined, &[])),
+        (2, Event::Shows(b"a", &[b"x", b"y"])),
+        (2, Event::Put(b"a", b"z")),
+        (2, Event::Flush(Z_ON_A)),
+        (1, Event::Take(Z_ON_A, Outcome::Joined, &[])),
+        (1, Event::Shows(b"a", &[b"z"])),
+        (1, Event::Flush(NOTHING)),
+    ];
+    assert!(rt; play(&rt, rt.alloc(), rows.as_slice()) == Ok(rows.len()));
 }
 
 // A remove that overtakes the put that it observed ends it all the same.
-fn removed_before(alloc: Global, two: &mut Replica, three: &mut Replica) -> Result<bool, Refusal> {
-    take(alloc, two, X_ON_A.as_slice())?;
-    let observed = remove(alloc, two, b"a")?;
-    send(alloc, two, three)?;
-    take(alloc, three, X_ON_A.as_slice())?;
-    let gone = shows(alloc, three, b"a", &[])?;
-    Ok(observed == 1 && gone && three.size() == 0)
-}
-
 #[test]
 fn a_remove_overtakes_its_put(rt: HostRuntime) {
-    let mut two = replica(&rt, rt.alloc(), 2);
-    let mut three = replica(&rt, rt.alloc(), 3);
-    assert!(rt; removed_before(rt.alloc(), &mut two, &mut three) == Ok(true));
-}
-
-// Where the last number of the name is known, a put is refused, and nothing is there.
-fn is_spent(alloc: Global, one: &mut Replica) -> Result<bool, Refusal> {
-    take(alloc, one, LAST_OF_1.as_slice())?;
-    let refused = put(alloc, one, b"a", b"x") == Err(Refusal::NumbersSpent);
-    let nothing = shows(alloc, one, b"a", &[])?;
-    Ok(refused && nothing)
+    let rows = [
+        (2, Event::Take(X_ON_A, Outcome::Joined, &[])),
+        (2, Event::Remove(b"a", 1)),
+        (2, Event::Flush(X_REMOVED)),
+        (3, Event::Take(X_REMOVED, Outcome::Joined, &[])),
+        (3, Event::Take(X_ON_A, Outcome::Joined, &[])),
+        (3, Event::Shows(b"a", &[])),
+        (3, Event::HasRoot(None)),
+    ];
+    assert!(rt; play(&rt, rt.alloc(), rows.as_slice()) == Ok(rows.len()));
 }
 
 #[test]
 fn a_put_past_the_last_number_is_refused(rt: HostRuntime) {
-    let mut one = replica(&rt, rt.alloc(), 1);
-    assert!(rt; is_spent(rt.alloc(), &mut one) == Ok(true));
+    let rows = [
+        (1, Event::Take(LAST_OF_1, Outcome::Joined, &[])),
+        (1, Event::PutInVain(b"a")),
+        (1, Event::Shows(b"a", &[])),
+    ];
+    assert!(rt; play(&rt, rt.alloc(), rows.as_slice()) == Ok(rows.len()));
 }
 
 // Puts forty keys, each of the name and a number, with the number as the value.
@@ -129,7 +85,7 @@ fn send_forty(
     take(alloc, second, bytes.as_slice())
 }
 
-// The same of a replica of this name.
+// The same of a new replica of this name.
 fn spread(
     rt: &impl Abort,
     alloc: Global,
@@ -141,13 +97,24 @@ fn spread(
     send_forty(alloc, &mut from, name, first, second) == Ok(())
 }
 
+// Whether two replicas hold the same once six have sent them forty keys each.
+fn agree(rt: &impl Abort, alloc: Global, first: &mut Replica, second: &mut Replica) -> bool {
+    for name in 1..7u8 {
+        if !spread(rt, alloc, name, first, second) {
+            return false;
+        }
+    }
+    first.size() == 240 && second.size() == 240 && first.digest() == second.digest()
+}
+
+// Whether two new replicas do.
+fn new_ones_agree(rt: &impl Abort, alloc: Global) -> bool {
+    let mut seven = replica(rt, alloc, 7);
+    let mut eight = replica(rt, alloc, 8);
+    agree(rt, alloc, &mut seven, &mut eight)
+}
+
 #[test]
 fn what_has_seen_the_same_holds_the_same(rt: HostRuntime) {
-    let mut seven = replica(&rt, rt.alloc(), 7);
-    let mut eight = replica(&rt, rt.alloc(), 8);
-    for name in 1..7u8 {
-        assert!(rt; spread(&rt, rt.alloc(), name, &mut seven, &mut eight));
-    }
-    assert!(rt; seven.size() == 240 && eight.size() == 240);
-    assert!(rt; seven.digest() == eight.digest());
+    assert!(rt; new_ones_agree(&rt, rt.alloc()));
 }

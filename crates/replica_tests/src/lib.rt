@@ -3,12 +3,22 @@
 #![tactic(auto)]
 
 #[cfg(test)]
+mod asking;
+#[cfg(test)]
 mod calls;
 #[cfg(test)]
 mod exchange;
 #[cfg(test)]
+mod hostile;
+#[cfg(test)]
 mod made;
+#[cfg(test)]
+mod playing;
 #[cfg(test)]
 mod session_bytes;
 #[cfg(test)]
 mod sessions;
+#[cfg(test)]
+mod spoiled;
+#[cfg(test)]
+mod taking;

@@ -64,6 +64,18 @@ pub(crate) fn sent(alloc: Global, from: &mut Replica) -> Result<Vec<u8, Global>,
     }
 }
 
+// Whether what it made is sent with these bytes.
+pub(crate) fn sends(alloc: Global, from: &mut Replica, bytes: &[u8]) -> Result<bool, Refusal> {
+    let made = sent(alloc, from)?;
+    Ok(made.as_slice() == bytes)
+}
+
+// Whether it knows the dots of a name up to this number.
+pub(crate) fn knows(here: &Replica, name: u64, number: u64) -> Result<bool, Refusal> {
+    let name = Name::new(name).ok_or(Refusal::UnknownReplica)?;
+    Ok(here.context().entry(name) == number)
+}
+
 // Takes the bytes of a delta in; those of another message are left.
 pub(crate) fn take(alloc: Global, to: &mut Replica, bytes: &[u8]) -> Result<(), Refusal> {
     match decode(alloc, bytes)? {
