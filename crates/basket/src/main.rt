@@ -1,0 +1,47 @@
+// Two baskets of one household. Each device writes when it likes: one message is lost, another comes twice, and a synchronisation makes
+// both baskets the same.
+#![tactic(auto)]
+
+mod basket;
+mod carrying;
+
+use crate::basket::{print, put, take_out};
+use crate::carrying::{deliver, sent, synchronise};
+use anyhow::{Context, Result};
+use dots::Name;
+use hash_path::Fnv1a;
+use replica_core::Replica;
+use std::alloc::Global;
+
+fn shop(alloc: Global, phone: &mut Replica, laptop: &mut Replica) -> Result<()> {
+    put(alloc, phone, b"apples", b"3")?;
+    let _lost = sent(alloc, phone)?;
+    put(alloc, laptop, b"apples", b"5")?;
+    put(alloc, laptop, b"bread", b"1")?;
+    put(alloc, laptop, b"milk", b"2")?;
+    let bytes = sent(alloc, laptop)?;
+    deliver(phone, bytes.as_slice())?;
+    deliver(phone, bytes.as_slice())?;
+    take_out(alloc, phone, b"milk")
+}
+
+fn print_both(rt: &impl Print, alloc: Global, phone: &Replica, laptop: &Replica) -> Result<()> {
+    print(rt, alloc, "phone", phone)?;
+    print(rt, alloc, "laptop", laptop)
+}
+
+fn live(rt: &impl Print, alloc: Global, phone: &mut Replica, laptop: &mut Replica) -> Result<()> {
+    shop(alloc, phone, laptop)?;
+    print_both(rt, alloc, phone, laptop)?;
+    let ended = synchronise(alloc, laptop, phone)?;
+    println!(rt; "synchronised: {ended}")?;
+    print_both(rt, alloc, phone, laptop)
+}
+
+fn main(rt: HostRuntime) -> Result<()> {
+    let one = Name::new(1).context("a name is a number from 1 on")?;
+    let two = Name::new(2).context("a name is a number from 1 on")?;
+    let mut phone = Replica::new(rt.alloc(), one, Fnv1a);
+    let mut laptop = Replica::new(rt.alloc(), two, Fnv1a);
+    live(&rt, rt.alloc(), &mut phone, &mut laptop)
+}
