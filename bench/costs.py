@@ -6,7 +6,8 @@
 
 It checks with one job, and reads off the times of the files that the check keeps in out/: what passes before a file is written is its
 function's. What was kept before is not checked again: remove the crate's out/incremental to see all. The seconds are of the wall clock, so
-they are told beside the machine's load. With --kept it checks nothing, and tells of what is there, also while a check goes on.
+they are told beside the machine's load. With --kept it checks nothing, and tells of what is there, also while a check goes on; where several
+runs wrote it, the pauses between them are in it too.
 """
 
 import collections
