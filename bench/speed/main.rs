@@ -434,10 +434,13 @@ fn synchronisations(count: usize) {
         assert_ne!(number, u64::MAX, "want of memory");
         number
     };
+    let spent = |call: WithSome, times, step| {
+        seconds(|| {
+            black_box(run(call, times, step));
+        })
+    };
     let each = |call: WithSome, times| {
-        let with = seconds(|| drop(run(call, times, 1)));
-        let without = seconds(|| drop(run(call, times, 0)));
-        1e3 * (with - without) / f64::from(times)
+        1e3 * (spent(call, times, 1) - spent(call, times, 0)) / f64::from(times)
     };
     let pages = run(measure_sessions, 1, 2);
     println!(
