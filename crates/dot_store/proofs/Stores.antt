@@ -1,6 +1,6 @@
 -- What a map from keys to stores holds, over its list of entries.
 use Rattle.std.proofs.Common.{◌≡◌, ℕ, ◌<◌, Bool, true, false, cond, List, [], ◌∷◌, length, get_or, Option, Some, None, refl, sym, ap, ◌∙◌}
-use Rattle.std.specs.Prelude.{IsSome, IfSome, is_some, MatchOption, Result, Ok, Err, OnOk, OnErr}
+use Rattle.std.specs.Prelude.{Contains, IsSome, IfSome, is_some, MatchOption, Result, Ok, Err, OnOk, OnErr}
 use Rattle.std.specs.Borrow.{Bor}
 use Rattle.std.specs.Option.{option_copied}
 use Rattle.std.specs.declared.cmp.Ordering.{Ordering}
@@ -8,8 +8,9 @@ use Rattle.std.specs.Cmp.{IsTotalOrder}
 use Rattle.std.specs.List.{All}
 use Rattle.std.specs.Map.{lookup, remove_entry, values_of}
 use Rattle.std.proofs.lemmas.List.{get_or-map}
-use Rattle.std.proofs.lemmas.List.Elements.{All-map}
+use Rattle.std.proofs.lemmas.List.Elements.{All-map, All-contains}
 use Rattle.std.proofs.lemmas.Map.Entries.{length-values_of}
+use Rattle.std.proofs.lemmas.Map.Made.{Contains-values_of}
 use Rattle.std.specs.BTreeMap.{is_at, insert_entry}
 use Rattle.std.proofs.lemmas.Cmp.{tied_itself}
 use Rattle.std.proofs.lemmas.Map.Views.{All-values-insert_entry, All-map-remove_entry, IfSome-lookup_from_All}
@@ -18,24 +19,42 @@ use Rattle.dot_store.specs.Store.{HasNothing, HoldsDot, HoldsSame}
 use Rattle.dot_store.specs.Stores.{at_stores, held_by, joined_store, NoKeyIsEmpty}
 use Rattle.ordered_list.proofs.Places.{Ascends, item_found, entry_found}
 
+-- ---- a fact of each store of a map
+module _ {S : Type 0} (Q : S → Type 0) where
+  each_insert : {K : Type 0} (cmp : K → K → Ordering) (es : List (K × S)) (key : K) (store : S) → All Q (values_of es) → Q store → All Q (values_of (insert_entry cmp es key store))
+  each_insert cmp es key store all here = All-values-insert_entry cmp key store Q es all here
+
+  pub each_put_some : {K : Type 0} (cmp : K → K → Ordering) (es fs : List (K × S)) (key : K) (store : Option S) → All Q (values_of es) → IfSome store Q
+      → MatchOption store (fs ≡ es) (λ s. fs ≡ insert_entry cmp es key s) → All Q (values_of fs)
+  each_put_some cmp es fs key None all here is = rw is all
+  each_put_some cmp es fs key (Some store) all here is = rw is (each_insert cmp es key store all here)
+
+  pub each_put : {K : Type 0} (cmp : K → K → Ordering) (es fs : List (K × S)) (key : K) (store : S) → All Q (values_of es) → Q store → fs ≡ insert_entry cmp es key store → All Q (values_of fs)
+  each_put cmp es fs key store all here is = rw is (each_insert cmp es key store all here)
+
+  pub each_after_put : {K E : Type 0} (cmp : K → K → Ordering) (r : Result (Unit {0}) E) (es fs : List (K × S)) (key : K) (store : S) → All Q (values_of es) → Q store
+      → OnOk r (fs ≡ insert_entry cmp es key store) → OnErr r (fs ≡ es) → All Q (values_of fs)
+  each_after_put cmp (Ok u) es fs key store all here ok err = rw ok (each_insert cmp es key store all here)
+  each_after_put cmp (Err e) es fs key store all here ok err = rw err all
+
+  pub each_remove : {K : Type 0} (test : K → Bool) (es : List (K × S)) → All Q (values_of es) → All Q (values_of (remove_entry test es))
+  each_remove test es all = All-map-remove_entry test (λ e. e.1) Q es all
+
+  -- of the store of an entry
+  pub each_item : {K : Type 0} (es : List (K × S)) (i : ℕ) (e : K × S) → All Q (values_of es) → i < length es → e ≡ get_or es i e → Q e.1
+  each_item es i e all h is =
+      let len = length-values_of es in
+      let within : i < length (values_of es) = rw len h in
+      let value : e.1 ≡ get_or (values_of es) i e.1 = ap (λ x. x.1) is ∙ sym (get_or-map (λ x. x.1) es i e e.1 h) in
+      rw value (all i e.1 within)
+
+  pub each_contained : {K : Type 0} (es : List (K × S)) → All Q (values_of es) → (key : K) (store : S) → Contains es (key, store) → Q store
+  each_contained es all key store has = All-contains Q (values_of es) store all (Contains-values_of es key store has)
+
+  pub each_all : {K : Type 0} (es : List (K × S)) → All (λ e. Q e.1) es → All Q (values_of es)
+  each_all es all = All-map Q (λ e. e.1) es all
+
 module _ {S P H : Type 0} (at : S → P → DotValue → Option H) where
-  -- ---- no key has an empty store
-  pub filled_insert : {K : Type 0} (cmp : K → K → Ordering) (es : List (K × S)) (key : K) (store : S) → NoKeyIsEmpty at es → (HasNothing (at store) → ⊥) → NoKeyIsEmpty at (insert_entry cmp es key store)
-  filled_insert cmp es key store filled here = All-values-insert_entry cmp key store (λ s. HasNothing (at s) → ⊥) es filled here
-
-  pub filled_put_some : {K : Type 0} (cmp : K → K → Ordering) (es fs : List (K × S)) (key : K) (store : Option S) → NoKeyIsEmpty at es → IfSome store (λ s. HasNothing (at s) → ⊥)
-      → MatchOption store (fs ≡ es) (λ s. fs ≡ insert_entry cmp es key s) → NoKeyIsEmpty at fs
-  filled_put_some cmp es fs key None filled here is = rw is filled
-  filled_put_some cmp es fs key (Some store) filled here is = rw is (filled_insert cmp es key store filled here)
-
-  pub filled_after_put : {K E : Type 0} (cmp : K → K → Ordering) (r : Result (Unit {0}) E) (es fs : List (K × S)) (key : K) (store : S) → NoKeyIsEmpty at es → (HasNothing (at store) → ⊥)
-      → OnOk r (fs ≡ insert_entry cmp es key store) → OnErr r (fs ≡ es) → NoKeyIsEmpty at fs
-  filled_after_put cmp (Ok u) es fs key store filled here ok err = rw ok (filled_insert cmp es key store filled here)
-  filled_after_put cmp (Err e) es fs key store filled here ok err = rw err filled
-
-  pub filled_remove : {K : Type 0} (test : K → Bool) (es : List (K × S)) → NoKeyIsEmpty at es → NoKeyIsEmpty at (remove_entry test es)
-  filled_remove test es filled = All-map-remove_entry test (λ e. e.1) (λ s. HasNothing (at s) → ⊥) es filled
-
   filled_by : (o : Option S) (s : S) → IfSome o (λ t. HasNothing (at t) → ⊥) → o ≡ Some s → HasNothing (at s) → ⊥
   filled_by None s h e = absurd (cc e)
   filled_by (Some t) s h e = let same : t ≡ s = cc e in rw (← same) h
@@ -60,16 +79,8 @@ module _ {S P H : Type 0} (at : S → P → DotValue → Option H) where
   held_some None place d h = absurd (cc h)
   held_some (Some s) place d h = (s, refl, h)
 
-  -- an entry's store is not empty
-  pub filled_item : {K : Type 0} (es : List (K × S)) (i : ℕ) (e : K × S) → NoKeyIsEmpty at es → i < length es → e ≡ get_or es i e → HasNothing (at e.1) → ⊥
-  filled_item es i e filled h is =
-      let len = length-values_of es in
-      let within : i < length (values_of es) = rw len h in
-      let value : e.1 ≡ get_or (values_of es) i e.1 = ap (λ x. x.1) is ∙ sym (get_or-map (λ x. x.1) es i e e.1 h) in
-      rw value (filled i e.1 within)
-
   pub filled_all : {K : Type 0} (es : List (K × S)) → All (λ e. HasNothing (at e.1) → ⊥) es → NoKeyIsEmpty at es
-  filled_all es all = All-map (λ s. HasNothing (at s) → ⊥) (λ e. e.1) es all
+  filled_all es all = each_all (λ s. HasNothing (at s) → ⊥) es all
 
   -- the join at stores that are what was found
   pub joined_store_along : (greater : H → H → H) (o o' p p' : Option S) (own theirs : DotValue → Bool) → o ≡ o' → p ≡ p' → HoldsSame (joined_store at greater o own p theirs) (joined_store at greater o' own p' theirs)
@@ -82,6 +93,10 @@ module _ {S P H : Type 0} (at : S → P → DotValue → Option H) where
   pub copied_by : (b : Bool) (s t : S) (o p : Option S) → HoldsSame (at t) (at s) → HoldsSame (held_by at o) (held_by at p) → HoldsSame (held_by at (cond b (Some t) o)) (held_by at (cond b (Some s) p))
   copied_by true s t o p here before = here
   copied_by false s t o p here before = before
+
+  -- a copy of a store that is kept is not empty
+  pub no_empty_copy : {K : Type 0} (es : List (K × S)) (i : ℕ) (e : K × S) (copy : S) → NoKeyIsEmpty at es → i < length es → e ≡ get_or es i e → HoldsSame (at copy) (at e.1) → HasNothing (at copy) → ⊥
+  no_empty_copy es i e copy filled h is same nothing = each_item (λ s. HasNothing (at s) → ⊥) es i e filled h is (λ place d. sym (same place d) ∙ nothing place d)
 
   module _ {K : Type 0} (cmp : K → K → Ordering) (total : IsTotalOrder cmp) where
     pub nothing_from_no_key : (es : List (K × S)) → length es ≡ 0 → HasNothing (at_stores at cmp es)

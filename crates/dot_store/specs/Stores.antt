@@ -1,11 +1,12 @@
 -- What the three dot stores hold, after Almeida, Shoker and Baquero, "Delta State Replicated Data Types" (2018):
 -- DotSet is a set of dots, DotFun a map from dots to values, DotMap a map from keys to dot stores.
-use Rattle.std.specs.Prelude.{Bool, cond, Option, Some, None, List}
+use Rattle.std.specs.Prelude.{Bool, cond, Option, Some, None, List, Contains}
 use Rattle.std.specs.declared.cmp.Ordering.{Ordering}
 use Rattle.std.specs.List.{list_any, All}
 use Rattle.std.specs.Ordering.{is_eq}
 use Rattle.std.specs.BTreeMap.{is_at}
-use Rattle.std.specs.Map.{lookup, values_of}
+use Rattle.std.specs.List.Sorted.{IsStrictlySortedBy}
+use Rattle.std.specs.Map.{lookup, keys_of, values_of}
 use Rattle.dots.specs.Dot.{DotValue, same_dot}
 use Rattle.op_model.specs.State.{joined}
 use Rattle.dot_store.specs.Store.{HasNothing}
@@ -26,6 +27,10 @@ module _ {V : Type 0} where
   -- what the join of two maps from dots to values holds at a dot
   abbrev pub joined_value : (V → V → V) → (mine : DotValue → Option V) (own : DotValue → Bool) (yours : DotValue → Option V) (theirs : DotValue → Bool) → DotValue → Option V
   joined_value greater mine own yours theirs dot = joined greater (mine dot) (own dot) (yours dot) (theirs dot)
+
+-- each store of a map has the form of its kind
+abbrev pub AreCanonical : {K S : Type 0} → (S → Type 0) → List (K × S) → Type 0
+AreCanonical canonical stores = All canonical (values_of stores)
 
 module _ {S P H : Type 0} (at : S → P → DotValue → Option H) where
   -- what a store holds, if it is there
@@ -49,3 +54,9 @@ module _ {S P H : Type 0} (at : S → P → DotValue → Option H) where
   -- no key has an empty store
   abbrev pub NoKeyIsEmpty : {K : Type 0} → List (K × S) → Type 0
   NoKeyIsEmpty stores = All (λ store. ¬ HasNothing (at store)) (values_of stores)
+
+  -- the form that a map from keys to stores is kept in: its keys ascend, no store is empty, and each has the form of its kind
+  pub record IsCanonicalMap {K : Type 0} (cmp : K → K → Ordering) (canonical : S → Type 0) (stores : List (K × S)) : Type 0 where
+    pub ordered : IsStrictlySortedBy cmp (keys_of stores)
+    pub filled : NoKeyIsEmpty stores
+    pub each : (key : K) (store : S) → Contains stores (key, store) → canonical store

@@ -183,6 +183,8 @@ impl<V: Kept<A>, A: Allocator + Copy> DotStore<A> for DotFun<V, A> {
 
     ghost greater = { ord_max V.cmp };
 
+    ghost canonical = { λ values. IsStrictlySortedBy dot_cmp (keys_of values) };
+
     fn empty(alloc: A) -> DotFun<V, A> {
         DotFun {
             values: OrderedList::new(alloc),

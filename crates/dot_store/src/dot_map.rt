@@ -6,7 +6,7 @@ ghost use Rattle.dots.specs.Dot.{DotValue};
 ghost use Rattle.causal_context.specs.Context.{has};
 ghost use Rattle.ordered_list.specs.Places.{value_at};
 ghost use Rattle.dot_store.specs.Store.{HasNothing, HoldsSame};
-ghost use Rattle.dot_store.specs.Stores.{at_stores, held_by, joined_store, with_store, NoKeyIsEmpty};
+ghost use Rattle.dot_store.specs.Stores.{at_stores, held_by, joined_store, with_store, NoKeyIsEmpty, AreCanonical, IsCanonicalMap};
 
 use crate::kept::Kept;
 use crate::put::put_some;
@@ -28,13 +28,13 @@ pub struct DotMap<K: Kept<A>, S: DotStore<A>, A: Allocator + Copy = Global> {
 
 impl<K: Kept<A>, S: DotStore<A>, A: Allocator + Copy> Model for DotMap<K, S, A> {
     ghost use Rattle.std.specs.Prelude.{List};
-    ghost use Rattle.dot_store.specs.Stores.{NoKeyIsEmpty};
+    ghost use Rattle.dot_store.specs.Stores.{NoKeyIsEmpty, AreCanonical};
 
     ghost Value = { List (K × S) };
 
     ghost view = { λ m. m.stores };
 
-    ghost invariant = { λ m. NoKeyIsEmpty S.at m.stores };
+    ghost invariant = { λ m. NoKeyIsEmpty S.at m.stores × AreCanonical S.canonical m.stores };
 }
 
 impl<K: Kept<A>, S: DotStore<A>, A: Allocator + Copy> DotMap<K, S, A> {
@@ -99,7 +99,8 @@ impl<K: Kept<A>, S: DotStore<A>, A: Allocator + Copy> DotMap<K, S, A> {
 
 // Whether no key has an empty store.
 fn are_filled<K: Kept<A>, S: DotStore<A>, A: Allocator + Copy>(stores: &[(K, S)]) -> bool
-    ensures { IsTrue result ↔ NoKeyIsEmpty S.at stores.now }
+    ensures filled { IsTrue result ↔ NoKeyIsEmpty S.at stores.now }
+    ensures canonical { IsTrue result → AreCanonical S.canonical stores.now }
 {
     for (_, store) in stores {
         if store.is_empty() {
@@ -121,6 +122,7 @@ fn joined_at<S: DotStore<A>, A: Allocator + Copy>(
         (joined_store S.at S.greater (option_copied mine.entry) (has own.now)
         (option_copied yours.entry) (has theirs.now))) }
     ensures filled { IfOk result (λ kept. IfSome kept (λ store. ¬ HasNothing (S.at store))) }
+    ensures canonical { IfOk result (λ kept. IfSome kept S.canonical) }
     ensures err { IsOkUnless result Refusal.OutOfMemory }
 {
     let empty = S::empty(alloc);
@@ -151,6 +153,7 @@ fn join_stores<K: Kept<A>, S: DotStore<A>, A: Allocator + Copy>(
         (joined_store S.at S.greater (value_at K.cmp mine.now key) (has own.now)
         (value_at K.cmp yours.now key) (has theirs.now))) }
     ensures filled { IfOk result (NoKeyIsEmpty S.at) }
+    ensures canonical { IfOk result (AreCanonical S.canonical) }
     ensures err { IsOkUnless result Refusal.OutOfMemory }
 {
     let mut kept = OrderedList::new(alloc);
@@ -200,12 +203,15 @@ fn copied<K: Kept<A>, S: DotStore<A>, A: Allocator + Copy>(
     ensures ok { IfOk result (λ copy. (key : K) → HoldsSame (held_by S.at (value_at K.cmp copy key))
         (held_by S.at (value_at K.cmp stores.now key))) }
     ensures filled { IfOk result (NoKeyIsEmpty S.at) }
+    ensures canonical { IfOk result (AreCanonical S.canonical) }
     ensures err { IsOkUnless result Refusal.OutOfMemory }
 {
     let entries = stores.entries();
     let mut copies = OrderedList::with_capacity(alloc, entries.len())?;
     for (key, store) in entries {
-        copies.insert(key.copy(alloc)?, store.copy(alloc)?)?;
+        let copy = store.copy(alloc)?;
+        prove!(!copy.is_empty());
+        copies.insert(key.copy(alloc)?, copy)?;
     }
     Ok(copies)
 }
@@ -218,6 +224,8 @@ impl<K: Kept<A>, S: DotStore<A>, A: Allocator + Copy> DotStore<A> for DotMap<K, 
     ghost at = { at_stores S.at K.cmp };
 
     ghost greater = { S.greater };
+
+    ghost canonical = { IsCanonicalMap S.at K.cmp S.canonical };
 
     fn empty(alloc: A) -> DotMap<K, S, A> {
         DotMap {

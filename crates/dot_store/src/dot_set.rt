@@ -1,5 +1,7 @@
 ghost use Rattle.std.specs.Prelude.{◌≡◌, cond, Some, refl, OnOk, OnErr, IsOkUnless, IfOk, List};
+ghost use Rattle.std.specs.List.Sorted.{IsStrictlySortedBy};
 ghost use Rattle.std.specs.Map.{keys_of};
+ghost use Rattle.causal_context.specs.Dots.{dot_cmp};
 ghost use Rattle.dots.specs.Dot.{DotValue, same_dot};
 ghost use Rattle.dot_store.specs.Stores.{at_dots, greater_unit};
 
@@ -61,6 +63,8 @@ impl<A: Allocator + Copy> DotStore<A> for DotSet<A> {
     ghost at = { at_dots };
 
     ghost greater = { greater_unit };
+
+    ghost canonical = { IsStrictlySortedBy dot_cmp };
 
     fn empty(alloc: A) -> DotSet<A> {
         DotSet {

@@ -23,13 +23,18 @@ pub trait DotStore<A: Allocator + Copy>: Drop {
 
     ghost greater: { Self.Held → Self.Held → Self.Held };
 
+    // The form that every store of this kind is kept in, as that its dots ascend. What a store holds does not tell it.
+    ghost canonical: { Self → Type 0 };
+
     /// The store that holds nothing. Takes no memory.
     fn empty(alloc: A) -> Self
         ensures { HasNothing (at result) };
 
-    /// Whether the store holds nothing.
+    /// Whether the store holds nothing. Tells also that the store is in its canonical form, as each is: a map asks it of what it
+    /// is given to keep.
     fn is_empty(&self) -> bool
-        ensures { IsTrue result ↔ HasNothing (at self.now) };
+        ensures nothing { IsTrue result ↔ HasNothing (at self.now) }
+        ensures canonical { canonical self.now };
 
     /// Whether something is held at the dot, at some place.
     fn contains(&self, dot: Dot) -> bool

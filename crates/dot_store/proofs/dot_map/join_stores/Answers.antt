@@ -2,9 +2,9 @@ use Rattle.std.proofs.Common.{◌≡◌, None, sym, ap, ◌∙◌}
 use Rattle.std.specs.Option.{option_copied}
 use Rattle.causal_context.specs.Context.{has}
 use Rattle.ordered_list.specs.Places.{value_at}
-use Rattle.dot_store.specs.Store.{HoldsSame}
+use Rattle.dot_store.specs.Store.{HasNothing, HoldsSame}
 use Rattle.dot_store.specs.Stores.{at_stores, held_by, joined_store}
-use Rattle.dot_store.proofs.Stores.{filled_put_some, joined_store_along}
+use Rattle.dot_store.proofs.Stores.{each_put_some, joined_store_along}
 use Rattle.ordered_list.proofs.Walked.{walked_here, walked_more, walked_all, put_here, put_apart}
 use Rattle.dot_store.proofs.dot_map.join_stores.Goals as goal
 
@@ -31,7 +31,8 @@ loop-key-preserved g c =
           ∙ joined_store_along at g.S.DotStore.greater x (value_at cmp mine key) y (value_at cmp yours key) (has c.args.own.now) (has c.args.theirs.now) (sym here.0) (sym here.1) place d)
           (λ q apart e. put_apart cmp key value old new updates q apart ∙ e)
           (λ q apart e place d. ap (λ o. held_by at o place d) (put_apart cmp key value old new updates q apart) ∙ e place d),
-      filled_put_some at cmp c.loop-key.kept c.put_some.new.list key value c.loop-key.invariant.1 c.in_ok-store.ensures.filled c.in_ok-put_some.ensures.entries,
+      each_put_some (λ s. HasNothing (at s) → ⊥) cmp c.loop-key.kept c.put_some.new.list key value c.loop-key.invariant.1 c.in_ok-store.ensures.filled c.in_ok-put_some.ensures.entries,
+      each_put_some g.S.DotStore.canonical cmp c.loop-key.kept c.put_some.new.list key value c.loop-key.invariant.2 c.in_ok-store.ensures.canonical c.in_ok-put_some.ensures.entries,
     )
 
 pub returns-clause-ok : goal.returns-clause-ok
