@@ -6,7 +6,7 @@ use Rattle.std.specs.Option.{option_copied, unwrap_or}
 use Rattle.std.specs.Ordering.{eq_by_cmp}
 use Rattle.std.specs.Cmp.Lexicographic.{nat_list_cmp_total}
 use Rattle.std.specs.FinMap as finite
-use Rattle.std.specs.FinMap.{get-insert, get-remove}
+use Rattle.std.specs.FinMap.{get-empty, get-insert, get-remove}
 use Rattle.dots.specs.Bytes.{bytes_cmp}
 use Rattle.dots.specs.Dot.{DotValue}
 use Rattle.dot_store.specs.Store.{HasNothing, HoldsSame}
@@ -15,7 +15,7 @@ use Rattle.dot_store.proofs.Stores.{held_at_some}
 use Rattle.dot_store.specs.Store.{state_with}
 use Rattle.op_model.specs.State.{joined, join}
 use Rattle.hash_path.proofs.Words.{same_tied, tied_same}
-use Rattle.trie_map.specs.Keyed.{TrieMapValue, at_keys, NoStoreIsEmpty}
+use Rattle.trie_map.specs.Keyed.{TrieMapValue, at_keys}
 use Rattle.trie_map.specs.Joined.{both_at, JoinsAt, IsJoinedAt, IsEitherAt, AreJoined}
 
 -- ---- what follows from a clause, where it holds
@@ -31,27 +31,37 @@ pub on_err : {E P Q : Type 0} (r : Result (Unit {0}) E) → (P → Q) → OnErr 
 on_err (Ok u) f h = tt
 on_err (Err e) f h = f h
 
-module _ {S P H : Type 0} (at : S → P → DotValue → Option H) where
-  -- ---- no store is empty
-  pub filled_insert : (m : finite.FinMap bytes_cmp S) (key : List ℕ) (store : S) → NoStoreIsEmpty at m → (HasNothing (at store) → ⊥) → NoStoreIsEmpty at (finite.insert m key store)
-  filled_insert m key store filled here q s is = step (eq_by_cmp bytes_cmp q key) (sym (get-insert nat_list_cmp_total m key store q) ∙ is)
-    where
-      step : (b : Bool) → cond b (Some store) (finite.get m q) ≡ Some s → HasNothing (at s) → ⊥
-      step true e = let same : store ≡ s = cc in subst (λ x. HasNothing (at x) → ⊥) same here
-      step false e = filled q s e
+-- ---- a fact of each store
+module _ {S : Type 0} (Q : S → Type 0) where
+  abbrev pub Each : finite.FinMap bytes_cmp S → Type 0
+  Each m = (key : List ℕ) (store : S) → finite.get m key ≡ Some store → Q store
 
-  pub filled_remove : (m : finite.FinMap bytes_cmp S) (key : List ℕ) → NoStoreIsEmpty at m → NoStoreIsEmpty at (finite.remove m key)
-  filled_remove m key filled q s is = step (eq_by_cmp bytes_cmp q key) (sym (get-remove nat_list_cmp_total m key q) ∙ is)
+  pub each_none : (m : finite.FinMap bytes_cmp S) → m ≡ finite.empty → Each m
+  each_none m is key store has = absurd (let gone : None ≡ Some store = sym (get-empty bytes_cmp key) ∙ ap (λ n. finite.get n key) (sym is) ∙ has in cc)
+
+  each_insert : (m : finite.FinMap bytes_cmp S) (key : List ℕ) (store : S) → Each m → Q store → Each (finite.insert m key store)
+  each_insert m key store all here q s is = step (eq_by_cmp bytes_cmp q key) (sym (get-insert nat_list_cmp_total m key store q) ∙ is)
     where
-      step : (b : Bool) → cond b None (finite.get m q) ≡ Some s → HasNothing (at s) → ⊥
+      step : (b : Bool) → cond b (Some store) (finite.get m q) ≡ Some s → Q s
+      step true e = let same : store ≡ s = cc in subst Q same here
+      step false e = all q s e
+
+  each_cut : (m : finite.FinMap bytes_cmp S) (key : List ℕ) → Each m → Each (finite.remove m key)
+  each_cut m key all q s is = step (eq_by_cmp bytes_cmp q key) (sym (get-remove nat_list_cmp_total m key q) ∙ is)
+    where
+      step : (b : Bool) → cond b None (finite.get m q) ≡ Some s → Q s
       step true e = absurd (cc e)
-      step false e = filled q s e
+      step false e = all q s e
 
-  pub filled_after_insert : {E : Type 0} (r : Result (Unit {0}) E) (m n : finite.FinMap bytes_cmp S) (key : List ℕ) (store : S) → NoStoreIsEmpty at m → (HasNothing (at store) → ⊥)
-      → OnOk r (n ≡ finite.insert m key store) → OnErr r (n ≡ m) → NoStoreIsEmpty at n
-  filled_after_insert (Ok u) m n key store filled here ok err = subst (NoStoreIsEmpty at) (sym ok) (filled_insert m key store filled here)
-  filled_after_insert (Err e) m n key store filled here ok err = subst (NoStoreIsEmpty at) (sym err) filled
+  pub each_remove : (m n : finite.FinMap bytes_cmp S) (key : List ℕ) → Each m → n ≡ finite.remove m key → Each n
+  each_remove m n key all is = subst Each (sym is) (each_cut m key all)
 
+  pub each_after_insert : {E : Type 0} (r : Result (Unit {0}) E) (m n : finite.FinMap bytes_cmp S) (key : List ℕ) (store : S) → Each m → Q store
+      → OnOk r (n ≡ finite.insert m key store) → OnErr r (n ≡ m) → Each n
+  each_after_insert (Ok u) m n key store all here ok err = subst Each (sym ok) (each_insert m key store all here)
+  each_after_insert (Err e) m n key store all here ok err = subst Each (sym err) all
+
+module _ {S P H : Type 0} (at : S → P → DotValue → Option H) where
   -- ---- what is written at one key
   pub get_put : (m : finite.FinMap bytes_cmp S) (key : List ℕ) (store : S) → finite.get (finite.insert m key store) key ≡ Some store
   get_put m key store = get-insert nat_list_cmp_total m key store key ∙ ap (λ b. cond b (Some store) (finite.get m key)) (same_tied key key refl)

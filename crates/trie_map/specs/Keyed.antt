@@ -19,3 +19,7 @@ module _ {S P H : Type 0} (at : S → P → DotValue → Option H) where
   -- no key has an empty store
   abbrev pub NoStoreIsEmpty : finite.FinMap bytes_cmp S → Type 0
   NoStoreIsEmpty map = (key : List ℕ) (store : S) → finite.get map key ≡ Some store → ¬ HasNothing (at store)
+
+-- each store has the form of its kind
+abbrev pub EachIsCanonical : {S : Type 0} → (S → Type 0) → finite.FinMap bytes_cmp S → Type 0
+EachIsCanonical canonical map = (key : List ℕ) (store : _) → finite.get map key ≡ Some store → canonical store

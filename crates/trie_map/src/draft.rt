@@ -3,7 +3,7 @@ ghost use Rattle.causal_context.specs.Context.{has};
 ghost use Rattle.dot_store.specs.Store.{HoldsSame, state_with};
 ghost use Rattle.op_model.specs.State.{join};
 ghost use Rattle.trie_map.specs.Joined.{JoinsAt};
-ghost use Rattle.trie_map.specs.Keyed.{NoStoreIsEmpty};
+ghost use Rattle.trie_map.specs.Keyed.{NoStoreIsEmpty, EachIsCanonical};
 
 use crate::trie_map::TrieMap;
 use causal_context::Context;
@@ -23,7 +23,7 @@ pub struct Draft<S: DotStore<A>, M: Summary<S>, H: PathHash, A: Allocator + Copy
 impl<S: DotStore<A>, M: Summary<S>, H: PathHash, A: Allocator + Copy> Model for Draft<S, M, H, A> {
     ghost use Rattle.std.specs.Coded.{coded×, coded_list, coded_ℕ};
     ghost use Rattle.std.specs.FinMap as finite;
-    ghost use Rattle.trie_map.specs.Keyed.{TrieMapValue, NoStoreIsEmpty};
+    ghost use Rattle.trie_map.specs.Keyed.{TrieMapValue, NoStoreIsEmpty, EachIsCanonical};
 
     ghost Value = { TrieMapValue H S };
 
@@ -31,13 +31,14 @@ impl<S: DotStore<A>, M: Summary<S>, H: PathHash, A: Allocator + Copy> Model for 
 
     ghost view = { λ draft. (draft.entries.hash, draft.entries.map) };
 
-    ghost invariant = { λ draft. NoStoreIsEmpty S.at draft.entries.map };
+    ghost invariant = { λ draft. NoStoreIsEmpty S.at draft.entries.map × EachIsCanonical S.canonical draft.entries.map };
 }
 
 impl<S: DotStore<A>, M: Summary<S>, H: PathHash, A: Allocator + Copy> Draft<S, M, H, A> {
     // The draft that holds what this trie does.
     pub(crate) fn of(entries: GenTrie<S, M, H, A>) -> Draft<S, M, H, A>
-        requires { NoStoreIsEmpty S.at entries.map }
+        requires filled { NoStoreIsEmpty S.at entries.map }
+        requires canonical { EachIsCanonical S.canonical entries.map }
         ensures { result ≡ (entries.hash, entries.map) }
     {
         Draft { entries }

@@ -7,7 +7,7 @@ ghost use Rattle.dot_store.specs.Stores.{at_stores};
 ghost use Rattle.dots.specs.Bytes.{bytes_cmp};
 ghost use Rattle.dots.specs.Dot.{DotValue};
 ghost use Rattle.op_model.specs.State.{join};
-ghost use Rattle.trie_map.specs.Keyed.{at_keys, NoStoreIsEmpty};
+ghost use Rattle.trie_map.specs.Keyed.{at_keys, NoStoreIsEmpty, EachIsCanonical};
 
 use crate::copying::{copies, listed};
 use crate::draft::Draft;
@@ -39,7 +39,7 @@ impl<S: DotStore<A>, M: Summary<S>, H: PathHash, A: Allocator + Copy> Model
     for TrieMap<S, M, H, A> {
     ghost use Rattle.std.specs.Coded.{coded×, coded_list, coded_ℕ};
     ghost use Rattle.std.specs.FinMap as finite;
-    ghost use Rattle.trie_map.specs.Keyed.{TrieMapValue, NoStoreIsEmpty};
+    ghost use Rattle.trie_map.specs.Keyed.{TrieMapValue, NoStoreIsEmpty, EachIsCanonical};
 
     ghost Value = { TrieMapValue H S };
 
@@ -47,7 +47,7 @@ impl<S: DotStore<A>, M: Summary<S>, H: PathHash, A: Allocator + Copy> Model
 
     ghost view = { λ map. (map.entries.hash, map.entries.map) };
 
-    ghost invariant = { λ map. NoStoreIsEmpty S.at map.entries.map };
+    ghost invariant = { λ map. NoStoreIsEmpty S.at map.entries.map × EachIsCanonical S.canonical map.entries.map };
 }
 
 impl<S: DotStore<A>, M: Summary<S>, H: PathHash, A: Allocator + Copy> TrieMap<S, M, H, A> {
@@ -62,7 +62,8 @@ impl<S: DotStore<A>, M: Summary<S>, H: PathHash, A: Allocator + Copy> TrieMap<S,
 
     // The map of this trie.
     pub(crate) fn of(entries: Frozen<S, M, H, A>) -> TrieMap<S, M, H, A>
-        requires { NoStoreIsEmpty S.at entries.map }
+        requires filled { NoStoreIsEmpty S.at entries.map }
+        requires canonical { EachIsCanonical S.canonical entries.map }
         ensures { result ≡ (entries.hash, entries.map) }
     {
         TrieMap { entries }
@@ -89,6 +90,7 @@ impl<S: DotStore<A>, M: Summary<S>, H: PathHash, A: Allocator + Copy> TrieMap<S,
         ensures hash { result.now.hash ≡ self.now.0 }
         ensures map { result.now.map ≡ self.now.1 }
         ensures filled { NoStoreIsEmpty S.at result.now.map }
+        ensures canonical { EachIsCanonical S.canonical result.now.map }
     {
         &self.entries
     }
@@ -146,6 +148,8 @@ impl<S: DotStore<A>, M: Summary<S>, H: PathHash, A: Allocator + Copy> DotStore<A
     ghost at = { at_keys S.at };
 
     ghost greater = { S.greater };
+
+    ghost canonical = { λ map. NoStoreIsEmpty S.at map.1 × EachIsCanonical S.canonical map.1 };
 
     fn empty(alloc: A) -> TrieMap<S, M, H, A> {
         TrieMap::new(alloc, H::default())
