@@ -8,7 +8,7 @@ ghost use Rattle.dots.specs.Bytes.{bytes_cmp};
 ghost use Rattle.op_model.specs.State.{join, Same, IsInside};
 ghost use Rattle.live_map.specs.Closing.{entries_of};
 ghost use Rattle.live_map.specs.Index.{AreAllTouched, IsIndexed};
-ghost use Rattle.trie_map.specs.Keyed.{at_keys};
+ghost use Rattle.trie_map.specs.Keyed.{at_keys, NoStoreIsEmpty, EachIsCanonical};
 
 use crate::closing::{closed, name_built, touched_since};
 use crate::index::Index;
@@ -75,7 +75,11 @@ impl<S: DotStore<A>, M: Summary<S>, H: PathHash, A: Allocator + Copy> Live<S, M,
     pub fn store(&self) -> &TrieMap<S, M, H, A>
         ensures value { result.now ≡ self.now.0.0 }
         ensures inside { IsInside (state_of (at_keys S.at) self.now.0) }
+        ensures filled { NoStoreIsEmpty S.at result.now.1 }
+        ensures canonical { EachIsCanonical S.canonical result.now.1 }
     {
+        // Asked for what it promises of the stores.
+        let _ = self.store.frozen();
         &self.store
     }
 
