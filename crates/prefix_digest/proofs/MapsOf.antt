@@ -51,7 +51,7 @@ values_one v w first second same = entries_from_lookup dot_cmp_total dot_exact v
 fields_one : (f g : FieldsValue) → IsInOrder f → IsInOrder g → ((field : List ℕ) (dot : Dot) → fields_at f (field, tt) dot ≡ fields_at g (field, tt) dot) → f ≡ g
 unfolding at_stores
 fields_one f g first second same =
-    entries_from_lookup nat_list_cmp_total bytes_exact f g first.fields second.fields (λ field. by field (lookup (is_at (bytes_cmp field)) f) (lookup (is_at (bytes_cmp field)) g) refl refl)
+    entries_from_lookup nat_list_cmp_total bytes_exact f g first.ordered second.ordered (λ field. by field (lookup (is_at (bytes_cmp field)) f) (lookup (is_at (bytes_cmp field)) g) refl refl)
   where
     held : (field : List ℕ) (a b : Option ValuesValue) → lookup (is_at (bytes_cmp field)) f ≡ a → lookup (is_at (bytes_cmp field)) g ≡ b → (dot : Dot) → held_by at_values a tt dot ≡ held_by at_values b tt dot
     held field a b is other dot = ap (λ o. held_by at_values o tt dot) (sym is) ∙ same field dot ∙ ap (λ o. held_by at_values o tt dot) other
@@ -61,7 +61,7 @@ fields_one f g first second same =
     by field None (Some w) is other = absurd (filled_at at_values (is_at (bytes_cmp field)) g w second.filled other (λ place dot. sym (held field None (Some w) is other dot)))
     by field (Some v) None is other = absurd (filled_at at_values (is_at (bytes_cmp field)) f v first.filled is (λ place dot. held field (Some v) None is other dot))
     by field (Some v) (Some w) is other =
-        ap Some (values_one v w (first.dots field v (Contains-from_lookup same_bytes-true field v f is)) (second.dots field w (Contains-from_lookup same_bytes-true field w g other))
+        ap Some (values_one v w (first.each field v (Contains-from_lookup same_bytes-true field v f is)) (second.each field w (Contains-from_lookup same_bytes-true field w g other))
         (held field (Some v) (Some w) is other))
 
 pub maps_one : (m n : finite.FinMap bytes_cmp FieldsValue) (p : MapState) → IsMapOf m p → IsMapOf n p → m ≡ n
@@ -230,9 +230,9 @@ keys_given F (k ∷ ks) = ap (λ xs. k ∷ xs) (keys_given F ks)
 
 in_order : (S : List Operation) (key : List ℕ) → NoReuse S → IsInOrder (fields_by_dot S key)
 in_order S key once = record {
-  fields = subst (IsStrictlySortedBy bytes_cmp) (sym (keys_given F (fields S key))) (sorted_ascending (fields S key) (ascending-ascends (map (λ w. w.place.field) (shown_within S key))));
+  ordered = subst (IsStrictlySortedBy bytes_cmp) (sym (keys_given F (fields S key))) (sorted_ascending (fields S key) (ascending-ascends (map (λ w. w.place.field) (shown_within S key))));
   filled = filled_all at_values (fields_by_dot S key) (All-weaker (Contains (fields_by_dot S key)) (λ e. HasNothing (at_values e.1) → ⊥) filled (fields_by_dot S key) (All-contains_itself (fields_by_dot S key)));
-  dots = dots;
+  each = dots;
 }
   where
     F : List ℕ → ValuesValue

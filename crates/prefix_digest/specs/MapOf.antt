@@ -2,14 +2,14 @@
 --
 -- Example: for {1:1 puts x on a} it is {a -> {the empty field -> {1:1 -> x}}}. With an erasure besides that observed 1:1 it is
 -- the map with no key.
-use Rattle.std.specs.Prelude.{◌≡◌, ℕ, List, [], map, Option, Some, Contains}
+use Rattle.std.specs.Prelude.{◌≡◌, ℕ, List, [], map, Option, Some}
 use Rattle.std.specs.FinMap as finite
 use Rattle.std.specs.List.Sorted.{IsStrictlySortedBy}
 use Rattle.std.specs.Map.{keys_of}
 use Rattle.causal_context.specs.Dots.{dot_cmp}
 use Rattle.causal_join.specs.OrMap.{ValuesValue, FieldsValue, fields_at}
 use Rattle.dot_store.specs.Store.{HasNothing}
-use Rattle.dot_store.specs.Stores.{at_values, held_by, NoKeyIsEmpty}
+use Rattle.dot_store.specs.Stores.{at_values, held_by, IsCanonicalMap}
 use Rattle.dots.specs.Bytes.{bytes_cmp}
 use Rattle.dots.specs.declared.dot.Dot.{Dot}
 use Rattle.op_model.specs.Meaning.{MapState}
@@ -36,10 +36,8 @@ root_digest hash_of S = digest_at hash_of (map_of S) []
 
 -- The same by what a map and a state hold. The fields of a key are in order: they ascend, each once, none holds nothing, and
 -- the dots of each ascend, each once.
-pub record IsInOrder (held : FieldsValue) : Type 0 where
-  pub fields : IsStrictlySortedBy bytes_cmp (keys_of held)
-  pub filled : NoKeyIsEmpty at_values held
-  pub dots : (field : List ℕ) (values : ValuesValue) → Contains held (field, values) → IsStrictlySortedBy dot_cmp (keys_of values)
+abbrev pub IsInOrder : FieldsValue → Type 0
+IsInOrder = IsCanonicalMap at_values bytes_cmp (λ values. IsStrictlySortedBy dot_cmp (keys_of values))
 
 -- the map stands for the state: it holds at each place and dot what stands there, no key holds nothing, and the fields of each
 -- are in order

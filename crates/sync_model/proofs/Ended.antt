@@ -109,7 +109,7 @@ module _ (S : List Operation) (once : NoReuse S) where
         some = λ none. is_map.filled key fs e (subst (λ l. HasNothing (fields_at l)) (sym none) nothing_held);
         each = λ f vs h. (
           (λ none. In-All (λ v. ¬ HasNothing (at_values v)) (values_of fs) vs order.filled (In-map (λ x. x.1) fs (f, vs) (In-Contains fs (f, vs) h)) (subst (λ l. HasNothing (at_values l)) (sym none) no_value)),
-          found bytes_cmp tied_same (λ f. same_tied f f refl) fs f vs order.fields (In-Contains fs (f, vs) h),
+          found bytes_cmp tied_same (λ f. same_tied f f refl) fs f vs order.ordered (In-Contains fs (f, vs) h),
         );
       }
 
@@ -122,8 +122,8 @@ module _ (S : List Operation) (once : NoReuse S) where
       → (state S).at (place_of key field) d ≡ Some v
   stands_there key fs e field vs h d v i =
       let order = is_map.ordered key fs e in
-      let at_field = found bytes_cmp tied_same (λ f. same_tied f f refl) fs field vs order.fields h in
-      let at_dot = found dot_cmp dots_exact dot_tied vs d v (order.dots field vs (Contains-In fs (field, vs) h)) i in
+      let at_field = found bytes_cmp tied_same (λ f. same_tied f f refl) fs field vs order.ordered h in
+      let at_dot = found dot_cmp dots_exact dot_tied vs d v (order.each field vs (Contains-In fs (field, vs) h)) i in
       sym (is_map.at (place_of key field) d) ∙ ap (λ o. held_in o field d) e ∙ held_there (Some fs) field d
       ∙ ap (λ o. find dot_cmp d (values_or_none o)) at_field ∙ at_dot
 
