@@ -20,7 +20,7 @@ returns-then-is_empty-clause-ok g c =
     c.in-Some.values c.args.fields.now.items c.args.fields.now.items c.fill_names.new.sent.now
     (same_held (λ held. fill_values (has c.args.seen.now) held c.args.named.now.1 c.args.sent.now.now) (Some (c.in-Some.values, c.fill_names.new.sent.now)) (held_by at_values (option_copied c.field_at-held.result) tt) (held_in (option_copied c.args.own) c.args.named.now.0) c.field_at-held.ensures
     (ap (λ made. made_of made c.fill_names.new.sent.now) (sym c.in-Some.is) ∙ c.in_ok-values.ensures.ok))
-    (nothing_held c.in-Some.values (c.is_empty.ensures.0 c.if-is_empty.true)) refl
+    (nothing_held c.in-Some.values (c.is_empty.ensures.nothing.0 c.if-is_empty.true)) refl
 
 pub returns-clause-ok : goal.returns-clause-ok
 returns-clause-ok g c =
@@ -28,5 +28,5 @@ returns-clause-ok g c =
     c.in-Some.values c.args.fields.now.items c.push.new.self.items c.fill_names.new.sent.now
     (same_held (λ held. fill_values (has c.args.seen.now) held c.args.named.now.1 c.args.sent.now.now) (Some (c.in-Some.values, c.fill_names.new.sent.now)) (held_by at_values (option_copied c.field_at-held.result) tt) (held_in (option_copied c.args.own) c.args.named.now.0) c.field_at-held.ensures
     (ap (λ made. made_of made c.fill_names.new.sent.now) (sym c.in-Some.is) ∙ c.in_ok-values.ensures.ok))
-    (λ none. let on : true ≡ false = sym (c.is_empty.ensures.1 (held_nowhere c.in-Some.values none)) ∙ c.if-is_empty.false in cc)
+    (λ none. let on : true ≡ false = sym (c.is_empty.ensures.nothing.1 (held_nowhere c.in-Some.values none)) ∙ c.if-is_empty.false in cc)
     (c.in_ok-push.ensures.items ∙ ap (λ f. c.args.fields.now.items ++ (f, c.in-Some.values) ∷ []) c.in_ok-copy.ensures.ok)
