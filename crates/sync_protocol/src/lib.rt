@@ -5,7 +5,6 @@
 mod answerer;
 mod asker;
 mod covering;
-mod filled;
 mod keeping;
 mod laws;
 mod opened;

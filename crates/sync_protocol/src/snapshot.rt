@@ -3,7 +3,6 @@ ghost use Rattle.std.specs.Option.{option_map};
 ghost use Rattle.wire_form.specs.Message.{message_of};
 ghost use Rattle.sync_protocol.specs.Answering.{opening_of, page_of};
 
-use crate::filled::are_filled;
 use causal_context::Context;
 use dots::Refusal;
 use hash_path::{PathHash, Prefix};
@@ -87,7 +86,6 @@ impl<H: PathHash, A: Allocator + Copy> Snapshot<H, A> {
             return Ok(None);
         };
         let values = values_for(alloc, frozen, prefix, &self.seen)?;
-        prove!(are_filled(&self.store));
         match Message::page(session, prefix, values, page) {
             Some(message) => Ok(Some(message)),
             None => unreachable!(),
