@@ -1,7 +1,9 @@
 // What a replica shows.
 ghost use Rattle.std.specs.Prelude.{◌≡◌, ◌↔◌, ℕ, List, [], length, IfOk, IsOkUnless, IsTrue};
 ghost use Rattle.op_model.specs.Meaning.{Stands, StandsWithin, HoldsField, HoldsKey};
-ghost use Rattle.op_model.specs.Place.{place_of, plain};
+ghost use Rattle.op_model.specs.Place.{Place, place_of, plain};
+ghost use Rattle.delta_ops.specs.LiveMap.{store_state};
+ghost use Rattle.dots.specs.Dot.{DotValue};
 ghost use Rattle.prefix_digest.specs.MapOf.{IsMapOf};
 ghost use Rattle.prefix_digest.specs.Page.{digest_at};
 ghost use Rattle.sync_model.specs.Differ.{Held};
@@ -10,10 +12,10 @@ ghost use Rattle.replica_core.specs.Reading.{Lists};
 
 use crate::mapped::is_mapped;
 use crate::replica::Replica;
-use delta_ops::{fields, keys, size, values, values_of_key};
+use delta_ops::{LiveStore, fields, keys, size, values, values_of_key};
 use dots::{Field, Key, Refusal, Value};
 use hash_path::{PathHash, Prefix};
-use prefix_digest::{FrozenMap, digest};
+use prefix_digest::{FrozenMap, ShaSummary, digest};
 use std::alloc::Allocator;
 
 impl<H: PathHash, A: Allocator + Copy> Replica<H, A> {
@@ -102,5 +104,18 @@ impl<H: PathHash, A: Allocator + Copy> Replica<H, A> {
         prove!(is_mapped(self.live.store()));
         let frozen = self.live.store().frozen().copy()?;
         Ok(frozen)
+    }
+
+    /// What it holds as it is, which stays so whatever is written: `values`, `values_of_key`, `fields`, `keys` and `size` of `delta_ops`
+    /// read it. Copies nothing: it takes a reference count.
+    /// Its only refusal is OutOfMemory.
+    pub fn store(&self) -> Result<LiveStore<ShaSummary, H, A>, Refusal>
+        ensures hash { IfOk result (λ store. store.0 ≡ hash_in self.now) }
+        ensures ok { IfOk result (λ store. (place : Place) (dot : DotValue)
+            → (store_state store).at place dot ≡ (meaning self.now).live.at place dot) }
+        ensures refused { IsOkUnless result Refusal.OutOfMemory }
+    {
+        let store = self.live.store().share()?;
+        Ok(store)
     }
 }

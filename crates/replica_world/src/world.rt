@@ -1,5 +1,7 @@
-ghost use Rattle.std.specs.Prelude.{◌≡◌, ◌⊎◌, ◌+◌, ◌++◌, [], ◌∷◌, length, map, true, false, Some, None, IfOk, IfErr, OnOk, OnErr, IfSome, IsNone};
+ghost use Rattle.std.specs.Prelude.{◌≡◌, ◌⊎◌, ◌+◌, ◌++◌, [], ◌∷◌, length, map, true, false, Some, None, IfOk, IfErr, OnOk, OnErr, IfSome, IsNone, IsOkUnless};
 ghost use Rattle.dots.specs.declared.refusal.Refusal.TheVariants.{OutOfMemory};
+ghost use Rattle.wire_form.specs.Message.{message_of};
+ghost use Rattle.replica_model.specs.Mail.{mail_of};
 ghost use Rattle.replica_model.specs.World as model;
 ghost use Rattle.replica_model.specs.World.{nothing, is_node, message_at, RefusesEvent, Runs, Unclashed};
 ghost use Rattle.replica_core.specs.Meaning.{hash_in, meaning};
@@ -7,6 +9,7 @@ ghost use Rattle.replica_world.specs.Accepting.{IsTold};
 ghost use Rattle.replica_world.specs.Showing.{Shows};
 ghost use Rattle.replica_world.specs.Spelled.{IsSpelled};
 
+use crate::delivering::read;
 use crate::event::Event;
 use crate::happening::happen;
 use crate::posted::Posted;
@@ -17,6 +20,7 @@ use replica_core::Replica;
 use std::alloc::{Allocator, Global};
 use std::collections::BTreeMap;
 use std::marker::Model;
+use wire_form::Message;
 
 /// A world of replicas and of the messages between them: what a program runs that tries what replicas do, or carries their messages itself.
 ///
@@ -113,9 +117,28 @@ impl<H: PathHash, A: Allocator + Copy> World<H, A> {
         self.posted.get(number)
     }
 
-    /// The events that it accepted, in their order. Takes constant time.
+    /// The message of this number, from 1 on, if there is one, read from its bytes. Takes what decoding them takes.
+    /// Its only refusal is OutOfMemory.
+    pub fn read(&self, number: u64) -> Result<Option<Message<A>>, Refusal>
+        ensures some { IfOk result (λ found. IfSome found (λ message. (w : model.World) → Runs (H.hash_of self.now.hash) nothing self.now.past w
+            → (m : model.Message) × (message_at w.messages number ≡ Some m) × (mail_of (message_of message) ≡ m.mail))) }
+        ensures none { IfOk result (λ found. IsNone found → (w : model.World) → Runs (H.hash_of self.now.hash) nothing self.now.past w
+            → message_at w.messages number ≡ None) }
+        ensures refused { IsOkUnless result OutOfMemory }
+    {
+        let Some(bytes) = self.message(number) else {
+            return Ok(None);
+        };
+        match read(self.alloc, bytes) {
+            Ok(message) => Ok(Some(message)),
+            Err(refusal) => Err(refusal),
+        }
+    }
+
+    /// The events that it accepted, in their order: those that its model's world is the world after. Takes constant time.
     pub fn past(&self) -> &[Event<A>]
-        ensures { map event_value result.now ≡ self.now.past }
+        ensures list { map event_value result.now ≡ self.now.past }
+        ensures runs { (w : model.World) × Runs (H.hash_of self.now.hash) nothing self.now.past w }
     {
         self.past.as_slice()
     }

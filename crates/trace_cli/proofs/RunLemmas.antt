@@ -1,6 +1,6 @@
 -- What was read and written from the start of a run, over plain variables: ro and rn are what the reader had and has
 -- left, wo and wn what the writer held and holds.
-use Rattle.std.proofs.Common.{◌≡◌, ◌≢◌, ◌⊎◌, inl, inr, ℕ, ◌+◌, ◌<◌, ◌≤◌, length, length-append, arith, true, false, Result, Ok, Err, IsErrOf, List, [], ◌++◌, Option, Some, None, IfSome, refl, ap, sym, ◌∙◌, subst}
+use Rattle.std.proofs.Common.{◌≡◌, ◌≢◌, ◌⊎◌, inl, inr, ℕ, ◌+◌, ◌<◌, ◌≤◌, length, length-append, arith, true, false, Result, Ok, Err, IsErrOf, List, [], ◌++◌, Option, Some, None, IfSome, refl, ap, sym, ◌∙◌, subst, append_assoc}
 use Rattle.std.proofs.lemmas.List.{append-nil}
 use Rattle.std.specs.Io.KnownBytes.{Appends, Consumes, Keeps, IsAtEnd}
 use Rattle.std.proofs.lemmas.Bool.{true≢false}
@@ -10,46 +10,38 @@ use Rattle.dots.specs.declared.refusal.Refusal.TheVariants.{OutOfMemory, TooLong
 use Rattle.watched_io.specs.declared.watched.Watched.{Watched}
 use Rattle.watched_io.specs.Watched.{has_failed, has_gone_on, is_flushed}
 use Rattle.trace_cli.specs.Ends.{Leaves}
-use Rattle.trace_cli.specs.Lines.{lines_of, has_newline, IsWholeLinesOf}
-use Rattle.trace_words.specs.Machine.{start}
-use Rattle.trace_cli.specs.Output.{Given, prepend, given_of, given_from}
+use Rattle.trace_cli.specs.Lines.{has_newline, ends_line, IsWholeLinesOf}
+use Rattle.trace_cli.specs.Output.{Given, nothing_given, prepend, IsGiven, IsGivenFront, GivesFront}
 use Rattle.trace_cli.specs.declared.session.Session.{Session}
-use Rattle.trace_cli.specs.Session.{Point, start_point, point_of, given_at, Leads, Stops, Begins}
-use Rattle.watched_io.specs.Streams.{Taken, Written, IsFront}
-use Rattle.trace_cli.proofs.LineLemmas.{given_at-Leads, Leads-nothing, Leads-trans, Stops-after, Begins-after, front-prepend}
+use Rattle.trace_cli.specs.Session.{Point, start_point, point_of, GivesAt, Leads, Stops, Begins}
+use Rattle.watched_io.specs.Streams.{Taken, Written}
+use Rattle.trace_cli.proofs.LineLemmas.{ends_line-append, given_at-Leads, Leads-nothing, Leads-trans, Stops-after, Begins-after, front-prepend}
 use Rattle.watched_io.proofs.StreamLemmas.{Appends-nothing, Appends-trans, Consumes-nothing, Consumes-trans, Consumes-kept}
 
 -- from the start of a run, what was read led to this point by writing what was written
 abbrev pub Ran : Option (List ℕ) → Option (List ℕ) → Option (List ℕ) → Option (List ℕ) → Point → Type 0
 Ran ro rn wo wn point = Taken ro rn (λ read. Written wo wn (λ text. Leads start_point read text point))
 
--- the text of what is given was written
-given-written : (wo wn : Option (List ℕ)) (text : List ℕ) (given : Given) (fault : Option Refusal) → given ≡ record { text = text; fault = fault } → Appends wo wn text → Appends wo wn given.text
-given-written wo wn text given fault is wrote = let P : Given → Type 0 = λ g. Appends wo wn g.text in subst P (sym is) wrote
-
-given-fault : (text : List ℕ) (given : Given) (fault : Option Refusal) → given ≡ record { text = text; fault = fault } → given.fault ≡ fault
-given-fault text given fault is = ap (λ (g : Given). g.fault) is
-
 -- what is given to all that was read, by what is given at the point that it led to
-given_of-Leads : (read text : List ℕ) (point : Point) → Leads start_point read text point → given_of read ≡ prepend text (given_at point [])
-given_of-Leads read text point led = ap (λ bytes. given_from start 1 (lines_of bytes)) (sym (append-nil read)) ∙ given_at-Leads start_point point read [] text led
+given-Leads : (read text : List ℕ) (point : Point) (later : Given) → Leads start_point read text point → GivesAt point [] later → IsGiven read (prepend text later)
+given-Leads read text point later led gives = subst (λ bytes. IsGiven bytes (prepend text later)) (append-nil read) (given_at-Leads start_point point read [] text later led gives)
 
 -- the whole lines that were read were answered
 pub Ran-answered : (ro rm rn wo wn : Option (List ℕ)) (point : Point) → Ran ro rm wo wn point → has_newline point.line ≡ false → Keeps rm rn
-    → Taken ro rn (λ read. (whole : List ℕ) × IsWholeLinesOf whole read × Appends wo wn (given_of whole).text × ((given_of whole).fault ≡ None))
+    → Taken ro rn (λ read. (whole : List ℕ) × IsWholeLinesOf whole read × ((given : Given) × IsGiven whole given × Appends wo wn given.text × (given.fault ≡ None)))
 Ran-answered ro rm rn wo wn point ran no_end kept =
     let read = ran.0 in
     let text = ran.2.0 in
     let led : Leads start_point read text point = ran.2.2 in
-    let is : given_of led.whole ≡ record { text = text; fault = None } =
-    ap (λ bytes. given_from start 1 (lines_of bytes)) (sym (append-nil led.whole)) ∙ (led.goes_on [] ∙ ap (λ t. record { text = t; fault = None }) (append-nil text)) in (
+    let is : IsGiven led.whole (record { text = text; fault = None }) =
+    subst (λ bytes. IsGiven bytes (record { text = text; fault = None })) (append-nil led.whole)
+    (subst (λ t. IsGiven (led.whole ++ []) (record { text = t; fault = None })) (append-nil text) (led.goes_on [] nothing_given refl)) in (
       read ++ [],
       Consumes-trans ro rm rn read [] ran.1 (Consumes-kept rm rn kept),
       (
         led.whole,
         record { rest = point.line; parts = append-nil read ∙ led.parts; ends = led.ends; no_end = no_end },
-        given-written wo wn text (given_of led.whole) None is ran.2.1,
-        given-fault text (given_of led.whole) None is,
+        (record { text = text; fault = None }, is, ran.2.1, refl),
       ),
     )
 
@@ -73,18 +65,20 @@ Ran-more ro rm rn wo wm wn mid new piece ran took then = (
 
 pub Ran-stops : (ro rm rn wo wm wn : Option (List ℕ)) (mid : Point) (piece : List ℕ) (refusal : Refusal) → Ran ro rm wo wm mid → Consumes rm rn piece
     → Written wm wn (λ text. Stops mid piece text refusal)
-    → Taken ro rn (λ read. Appends wo wn (given_of read).text × ((given_of read).fault ≡ Some refusal) × IfSome rn (λ rest. given_of (read ++ rest) ≡ given_of read))
+    → Taken ro rn (λ read. (given : Given) × IsGiven read given × Appends wo wn given.text × (given.fault ≡ Some refusal) × IfSome rn (λ rest. IsGiven (read ++ rest) given))
 Ran-stops ro rm rn wo wm wn mid piece refusal ran took then =
     let read = ran.0 ++ piece in
     let text = ran.2.0 ++ then.0 in
-    let stop : Stops start_point read text refusal = Stops-after start_point mid ran.0 piece ran.2.0 then.0 refusal ran.2.2 then.2 in
-    let is : given_of read ≡ record { text = text; fault = Some refusal } = ap (λ bytes. given_from start 1 (lines_of bytes)) (sym (append-nil read)) ∙ stop.stops [] in (
+    let given : Given = record { text = text; fault = Some refusal } in
+    let stop : Stops start_point read text refusal = Stops-after start_point mid ran.0 piece ran.2.0 then.0 refusal ran.2.2 then.2 in (
       read,
       Consumes-trans ro rm rn ran.0 piece ran.1 took,
       (
-        given-written wo wn text (given_of read) (Some refusal) is (Appends-trans wo wm wn ran.2.0 then.0 ran.2.1 then.1),
-        given-fault text (given_of read) (Some refusal) is,
-        at_rest rn (λ rest. stop.stops rest ∙ sym is),
+        given,
+        subst (λ bytes. IsGiven bytes given) (append-nil read) (stop.stops []),
+        Appends-trans wo wm wn ran.2.0 then.0 ran.2.1 then.1,
+        refl,
+        at_rest rn (λ rest. stop.stops rest),
       ),
     )
   where
@@ -93,36 +87,46 @@ Ran-stops ro rm rn wo wm wn mid piece refusal ran took then =
     at_rest (Some rest) all = all rest
 
 pub Ran-begins : (ro rm rn wo wm wn : Option (List ℕ)) (mid : Point) (piece : List ℕ) → Ran ro rm wo wm mid → Consumes rm rn piece
-    → Written wm wn (λ text. Begins mid piece text) → Taken ro rn (λ read. Written wo wn (λ text. IsFront text (given_of read).text))
+    → Written wm wn (λ text. Begins mid piece text) → Taken ro rn (λ read. Written wo wn (λ text. IsGivenFront read text))
 Ran-begins ro rm rn wo wm wn mid piece ran took then =
     let read = ran.0 ++ piece in
     let text = ran.2.0 ++ then.0 in
-    let begin : Begins start_point read text = Begins-after start_point mid ran.0 piece ran.2.0 then.0 ran.2.2 then.2 in
-    let P : List ℕ → Type 0 = λ bytes. IsFront text (given_from start 1 (lines_of bytes)).text in
-    (read, Consumes-trans ro rm rn ran.0 piece ran.1 took, (text, Appends-trans wo wm wn ran.2.0 then.0 ran.2.1 then.1, subst P (append-nil read) (begin.begins [])))
+    let begin : Begins start_point read text = Begins-after start_point mid ran.0 piece ran.2.0 then.0 ran.2.2 then.2 in (
+      read,
+      Consumes-trans ro rm rn ran.0 piece ran.1 took,
+      (
+        text,
+        Appends-trans wo wm wn ran.2.0 then.0 ran.2.1 then.1,
+        record { lines = begin.lines; rest = begin.rest; parts = begin.parts; whole = inl begin.ends; given = begin.given; gives = begin.gives; front = begin.front },
+      ),
+    )
 
 -- the last line, after what was read
-pub finished : (wo wm wn : Option (List ℕ)) (read text : List ℕ) (mid : Point) (fault : Option Refusal) → Appends wo wm text → Leads start_point read text mid
-    → Written wm wn (λ last. given_at mid [] ≡ record { text = last; fault = fault }) → Appends wo wn (given_of read).text × ((given_of read).fault ≡ fault)
-finished wo wm wn read text mid fault wrote led then =
-    let is : given_of read ≡ record { text = text ++ then.0; fault = fault } = given_of-Leads read text mid led ∙ ap (prepend text) then.2 in
-    (given-written wo wn (text ++ then.0) (given_of read) fault is (Appends-trans wo wm wn text then.0 wrote then.1), given-fault (text ++ then.0) (given_of read) fault is)
+finished : (wo wm wn : Option (List ℕ)) (read text : List ℕ) (mid : Point) (fault : Option Refusal) → Appends wo wm text → Leads start_point read text mid
+    → Written wm wn (λ last. GivesAt mid [] (record { text = last; fault = fault })) → (given : Given) × IsGiven read given × Appends wo wn given.text × (given.fault ≡ fault)
+finished wo wm wn read text mid fault wrote led then = (
+  record { text = text ++ then.0; fault = fault },
+  given-Leads read text mid (record { text = then.0; fault = fault }) led then.2,
+  Appends-trans wo wm wn text then.0 wrote then.1,
+  refl,
+)
 
 -- the end of the input, and what is given to the last line
 pub Ran-finishes : (ro rm rn wo wm wn : Option (List ℕ)) (mid : Point) (fault : Option Refusal) → Ran ro rm wo wm mid → Consumes rm rn []
-    → Written wm wn (λ text. given_at mid [] ≡ record { text = text; fault = fault })
-    → Taken ro rn (λ read. Appends wo wn (given_of read).text × ((given_of read).fault ≡ fault))
+    → Written wm wn (λ text. GivesAt mid [] (record { text = text; fault = fault }))
+    → Taken ro rn (λ read. (given : Given) × IsGiven read given × Appends wo wn given.text × (given.fault ≡ fault))
 Ran-finishes ro rm rn wo wm wn mid fault ran took then =
     let P : List ℕ → Type 0 = λ bytes. Consumes ro rn bytes in
     (ran.0, subst P (append-nil ran.0) (Consumes-trans ro rm rn ran.0 [] ran.1 took), finished wo wm wn ran.0 ran.2.0 mid fault ran.2.1 ran.2.2 then)
 
 -- a whole input that was fed to a session from its start, and finished
 pub finished_all : {A : Type 0} (wo wm wn : Option (List ℕ)) (session : Session A) (input : List ℕ) (mid : Point) (fault : Option Refusal) → point_of session ≡ start_point
-    → Written wo wm (λ text. Leads (point_of session) input text mid) → Written wm wn (λ last. given_at mid [] ≡ record { text = last; fault = fault })
-    → Appends wo wn (given_of input).text
+    → Written wo wm (λ text. Leads (point_of session) input text mid) → Written wm wn (λ last. GivesAt mid [] (record { text = last; fault = fault }))
+    → (given : Given) × IsGiven input given × Appends wo wn given.text
 finished_all wo wm wn session input mid fault at_start fed then =
     let P : Point → Type 0 = λ point. Leads point input fed.0 mid in
-    (finished wo wm wn input fed.0 mid fault fed.1 (subst P at_start fed.2) then).0
+    let all = finished wo wm wn input fed.0 mid fault fed.1 (subst P at_start fed.2) then in
+    (all.0, all.1, all.2)
 
 -- nothing was read or written yet
 pub Ran-start : {A : Type 0} (ro wo : Option (List ℕ)) (session : Session A) → point_of session ≡ start_point → Ran ro ro wo wo (point_of session)
@@ -131,38 +135,47 @@ Ran-start ro wo session at_start =
     subst P (sym at_start) ([], Consumes-nothing ro, ([], Appends-nothing wo, Leads-nothing start_point))
 
 -- nothing comes after the end
-pub at_end : (read : List ℕ) (rn : Option (List ℕ)) → IsAtEnd rn → IfSome rn (λ rest. given_of (read ++ rest) ≡ given_of read)
-at_end read None ended = tt
-at_end read (Some rest) ended = ap (λ bytes. given_of (read ++ bytes)) ended ∙ ap given_of (append-nil read)
+pub at_end : (read : List ℕ) (given : Given) (rn : Option (List ℕ)) → IsAtEnd rn → IsGiven read given → IfSome rn (λ rest. IsGiven (read ++ rest) given)
+at_end read given None ended is = tt
+at_end read given (Some rest) ended is = subst (λ bytes. IsGiven bytes given) (sym (ap (λ bytes. read ++ bytes) ended ∙ append-nil read)) is
 
+-- a front of what is given to the last line, after what was read
 pub Ran-ends : (ro rm rn wo wm wn : Option (List ℕ)) (mid : Point) → Ran ro rm wo wm mid → Consumes rm rn []
-    → Written wm wn (λ text. IsFront text (given_at mid []).text) → Taken ro rn (λ read. Written wo wn (λ text. IsFront text (given_of read).text))
+    → Written wm wn (λ text. GivesFront mid.past mid.number mid.line text) → Taken ro rn (λ read. Written wo wn (λ text. IsGivenFront read text))
 Ran-ends ro rm rn wo wm wn mid ran took then =
     let read = ran.0 in
     let P : List ℕ → Type 0 = λ bytes. Consumes ro rn bytes in
-    let Q : Given → Type 0 = λ given. IsFront (ran.2.0 ++ then.0) given.text in (
-      read,
-      subst P (append-nil read) (Consumes-trans ro rm rn read [] ran.1 took),
-      (
-        ran.2.0 ++ then.0,
-        Appends-trans wo wm wn ran.2.0 then.0 ran.2.1 then.1,
-        subst Q (sym (given_of-Leads read ran.2.0 mid ran.2.2)) (front-prepend ran.2.0 then.0 (given_at mid []) then.2),
-      ),
-    )
+    (read, subst P (append-nil read) (Consumes-trans ro rm rn read [] ran.1 took), (ran.2.0 ++ then.0, Appends-trans wo wm wn ran.2.0 then.0 ran.2.1 then.1, front_after read ran.2.0 then.0 mid ran.2.2 then.2))
+  where
+    whole_after : (xs ys rest : List ℕ) → ends_line xs ≡ true → (ends_line ys ≡ true) ⊎ (rest ≡ []) → (ends_line (xs ++ ys) ≡ true) ⊎ (rest ≡ [])
+    whole_after xs ys rest first (inl then) = inl (ends_line-append xs ys first then)
+    whole_after xs ys rest first (inr none) = inr none
+
+    front_after : (read text last : List ℕ) (mid : Point) → Leads start_point read text mid → GivesFront mid.past mid.number mid.line last → IsGivenFront read (text ++ last)
+    front_after read text last mid led front = record {
+      lines = led.whole ++ front.lines;
+      rest = front.rest;
+      parts = led.parts ∙ (ap (λ line. led.whole ++ line) front.parts ∙ sym (append_assoc led.whole front.lines front.rest));
+      whole = whole_after led.whole front.lines front.rest led.ends front.whole;
+      given = prepend text front.given;
+      gives = led.goes_on front.lines front.given front.gives;
+      front = front-prepend text last front.given front.front;
+    }
 
 -- nothing was read or written more
-pub Ran-kept : (ro rm rn wo wn : Option (List ℕ)) (point : Point) → Ran ro rm wo wn point → Keeps rm rn → Taken ro rn (λ read. Written wo wn (λ text. IsFront text (given_of read).text))
+pub Ran-kept : (ro rm rn wo wn : Option (List ℕ)) (point : Point) → Ran ro rm wo wn point → Keeps rm rn → Taken ro rn (λ read. Written wo wn (λ text. IsGivenFront read text))
 Ran-kept ro rm rn wo wn point ran kept =
-    Ran-ends ro rm rn wo wn wn point ran (Consumes-kept rm rn kept) ([], Appends-nothing wn, record { rest = (given_at point []).text; joined = refl })
+    Ran-ends ro rm rn wo wn wn point ran (Consumes-kept rm rn kept)
+    ([], Appends-nothing wn, record { lines = []; rest = point.line; parts = refl; whole = inl refl; given = nothing_given; gives = refl; front = record { rest = []; joined = refl } })
 
 -- a fault in the whole input
 pub Stops-written : {A : Type 0} (wo wn : Option (List ℕ)) (session : Session A) (input : List ℕ) (refusal : Refusal) → point_of session ≡ start_point
-    → Written wo wn (λ text. Stops (point_of session) input text refusal) → Appends wo wn (given_of input).text
+    → Written wo wn (λ text. Stops (point_of session) input text refusal) → (given : Given) × IsGiven input given × Appends wo wn given.text
 Stops-written wo wn session input refusal at_start then =
     let P : Point → Type 0 = λ point. Stops point input then.0 refusal in
     let stop : Stops start_point input then.0 refusal = subst P at_start then.2 in
-    given-written wo wn then.0 (given_of input) (Some refusal)
-    (ap (λ bytes. given_from start 1 (lines_of bytes)) (sym (append-nil input)) ∙ stop.stops []) then.1
+    let given : Given = record { text = then.0; fault = Some refusal } in
+    (given, subst (λ bytes. IsGiven bytes given) (append-nil input) (stop.stops []), then.1)
 
 -- a refusal is Output or it is not
 apart : (refusal : Refusal) → number_of refusal < 13 → refusal ≢ Output

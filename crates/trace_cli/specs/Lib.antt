@@ -2,3 +2,4 @@ pub mod Lines
 pub mod Output
 pub mod Session
 pub mod Ends
+pub mod Laws

@@ -2,8 +2,10 @@
 // stated function of what it reads.
 #![tactic(auto)]
 
+mod laws;
 mod running;
 mod session;
 mod writing;
 
+pub use laws::a_trace_is_given_one_text;
 pub use running::{run, run_bytes};

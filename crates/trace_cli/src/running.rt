@@ -2,8 +2,8 @@ ghost use Rattle.std.specs.Prelude.{◌≡◌, ◌≤◌, ◌*◌, ◌++◌, ◌
 ghost use Rattle.std.specs.Io.KnownBytes.{Appends, IsAtEnd};
 ghost use Rattle.trace_cli.specs.Lines.{IsWholeLinesOf};
 ghost use Rattle.trace_words.specs.Fault.{is_fault, ends_run};
-ghost use Rattle.trace_cli.specs.Output.{given_of};
-ghost use Rattle.watched_io.specs.Streams.{Taken, Written, IsFront};
+ghost use Rattle.trace_cli.specs.Output.{Given, IsGiven, IsGivenFront};
+ghost use Rattle.watched_io.specs.Streams.{Taken, Written};
 ghost use Rattle.watched_io.specs.Watched.{inner_of, calls_of, has_failed, has_gone_on, is_flushed, IsNew, IsSound};
 
 use crate::session::Session;
@@ -32,25 +32,22 @@ pub fn run<R: Read, W: Write, A: Allocator + Copy>(
 
     // The whole input was read, and what it is given was written, and nothing else.
     ensures ok { OnOk result (Taken (R.remaining (inner_of reader.old)) (R.remaining (inner_of reader.new)) (λ input.
-        IsAtEnd (R.remaining (inner_of reader.new)) ×
-        Appends (W.contents (inner_of writer.old)) (W.contents (inner_of writer.new)) (given_of input).text ×
-        ((given_of input).fault ≡ None))) }
+        IsAtEnd (R.remaining (inner_of reader.new)) × ((given : Given) × IsGiven input given ×
+        Appends (W.contents (inner_of writer.old)) (W.contents (inner_of writer.new)) given.text × (given.fault ≡ None)))) }
     // What was read is given just this fault, whatever the reader has left.
     ensures fault { IfErr result (λ refusal. is_fault refusal ≡ true →
         Taken (R.remaining (inner_of reader.old)) (R.remaining (inner_of reader.new)) (λ read.
-        Appends (W.contents (inner_of writer.old)) (W.contents (inner_of writer.new)) (given_of read).text ×
-        ((given_of read).fault ≡ Some refusal) ×
-        IfSome (R.remaining (inner_of reader.new)) (λ rest. given_of (read ++ rest) ≡ given_of read))) }
-    // Whatever the refusal, a front of what is given to the bytes read was written.
+        (given : Given) × IsGiven read given ×
+        Appends (W.contents (inner_of writer.old)) (W.contents (inner_of writer.new)) given.text × (given.fault ≡ Some refusal) ×
+        IfSome (R.remaining (inner_of reader.new)) (λ rest. IsGiven (read ++ rest) given))) }
+    // Whatever the refusal, a front of what is given to whole lines that were read, or to all of them, was written.
     ensures front { OnErr result (Taken (R.remaining (inner_of reader.old)) (R.remaining (inner_of reader.new)) (λ read.
-        Written (W.contents (inner_of writer.old)) (W.contents (inner_of writer.new)) (λ text.
-        IsFront text (given_of read).text))) }
+        Written (W.contents (inner_of writer.old)) (W.contents (inner_of writer.new)) (λ text. IsGivenFront read text))) }
     // Where reading failed, each whole line that was read was answered.
     ensures answered { IsErrOf result Refusal.Input →
         Taken (R.remaining (inner_of reader.old)) (R.remaining (inner_of reader.new)) (λ read.
-        (whole : List ℕ) × IsWholeLinesOf whole read ×
-        Appends (W.contents (inner_of writer.old)) (W.contents (inner_of writer.new)) (given_of whole).text ×
-        ((given_of whole).fault ≡ None)) }
+        (whole : List ℕ) × IsWholeLinesOf whole read × ((given : Given) × IsGiven whole given ×
+        Appends (W.contents (inner_of writer.old)) (W.contents (inner_of writer.new)) given.text × (given.fault ≡ None))) }
 
     ensures refusal { IfErr result (λ refusal. ends_run refusal ≡ true) }
     ensures input { IsErrOf result Refusal.Input → (has_failed reader.new ≡ true) ⊎ (calls_of reader.new ≡ READ_CALLS) }
@@ -86,9 +83,10 @@ fn run_all<W: Write, A: Allocator + Copy>(
     writer: &mut Watched<W>,
 ) -> Result<(), Refusal>
     requires sound { IsSound writer.old }
-    ensures ok { OnOk result (Appends (W.contents (inner_of writer.old)) (W.contents (inner_of writer.new)) (given_of input.now).text) }
-    ensures fault { IfErr result (λ refusal. is_fault refusal ≡ true →
-        Appends (W.contents (inner_of writer.old)) (W.contents (inner_of writer.new)) (given_of input.now).text) }
+    ensures ok { OnOk result ((given : Given) × IsGiven input.now given ×
+        Appends (W.contents (inner_of writer.old)) (W.contents (inner_of writer.new)) given.text) }
+    ensures fault { IfErr result (λ refusal. is_fault refusal ≡ true → (given : Given) × IsGiven input.now given ×
+        Appends (W.contents (inner_of writer.old)) (W.contents (inner_of writer.new)) given.text) }
 {
     let mut session = Session::new(alloc);
     session.feed(writer, input)?;
@@ -97,7 +95,7 @@ fn run_all<W: Write, A: Allocator + Copy>(
 
 /// The text that the whole trace is given, its fault's line with it. The one refusal is OutOfMemory.
 pub fn run_bytes<A: Allocator + Copy>(alloc: A, input: &[u8]) -> Result<Vec<u8, A>, Refusal>
-    ensures output { IfOk result (λ text. text.items ≡ (given_of input.now).text) }
+    ensures output { IfOk result (λ text. (given : Given) × IsGiven input.now given × (text.items ≡ given.text)) }
     ensures err { IsOkUnless result Refusal.OutOfMemory }
 {
     let mut writer = Watched::new(Vec::new(alloc));

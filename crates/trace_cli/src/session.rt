@@ -2,7 +2,8 @@ ghost use Rattle.std.specs.Prelude.{◌≡◌, ◌≢◌, ◌+◌, ◌<◌, ◌�
 ghost use Rattle.std.specs.Fmt.{decimal};
 ghost use Rattle.trace_cli.specs.Lines.{has_newline};
 ghost use Rattle.trace_words.specs.Fault.{is_fault, ends_run};
-ghost use Rattle.watched_io.specs.Streams.{Written, IsFront};
+ghost use Rattle.trace_cli.specs.Output.{GivesFront};
+ghost use Rattle.watched_io.specs.Streams.{Written};
 ghost use Rattle.std.specs.Io.KnownBytes.{Appends};
 
 use crate::writing::write_reply;
@@ -22,7 +23,7 @@ pub(crate) struct Session<A: Allocator + Copy = Global> {
 }
 
 impl<A: Allocator + Copy> Session<A> {
-    ghost use Rattle.trace_cli.specs.Session.{point_of, start_point, given_at, Leads, Stops, Begins};
+    ghost use Rattle.trace_cli.specs.Session.{point_of, start_point, GivesAt, Leads, Stops, Begins};
     ghost use Rattle.watched_io.specs.Watched.{inner_of, IsSound};
     ghost use Rattle.trace_cli.specs.Ends.{Leaves};
 
@@ -118,12 +119,12 @@ impl<A: Allocator + Copy> Session<A> {
         requires room { self.old.number + 1 < 2 ^ 64 }
         requires one_line { has_newline self.old.line.items ≡ false }
         ensures ok { OnOk result (Written (W.contents (inner_of writer.old)) (W.contents (inner_of writer.new)) (λ text.
-            given_at (point_of self.old) [] ≡ record { text = text; fault = None })) }
+            GivesAt (point_of self.old) [] (record { text = text; fault = None }))) }
         ensures fault { IfErr result (λ refusal. is_fault refusal ≡ true →
             Written (W.contents (inner_of writer.old)) (W.contents (inner_of writer.new)) (λ text.
-            given_at (point_of self.old) [] ≡ record { text = text; fault = Some refusal })) }
+            GivesAt (point_of self.old) [] (record { text = text; fault = Some refusal }))) }
         ensures front { OnErr result (Written (W.contents (inner_of writer.old)) (W.contents (inner_of writer.new)) (λ text.
-            IsFront text (given_at (point_of self.old) []).text)) }
+            GivesFront self.old.machine self.old.number self.old.line.items text)) }
         ensures refusal { IfErr result (λ refusal. ends_run refusal ≡ true) }
         ensures input { IfErr result (λ refusal. refusal ≢ Refusal.Input) }
         ensures writer { Leaves result writer.new }

@@ -1,6 +1,6 @@
 ghost use Rattle.std.specs.Prelude.{◌≡◌, ◌≢◌, ◌+◌, ◌<◌, ◌≤◌, ◌++◌, ◌∷◌, [], length, true, OnOk, OnErr, IfErr, IsErrOf, IfOk, IsOkUnless, string_bytes, ◌⊎◌};
 ghost use Rattle.std.specs.Io.KnownBytes.{Appends};
-ghost use Rattle.trace_words.specs.Machine.{Faulted};
+ghost use Rattle.trace_words.specs.Answer.{Faulted};
 ghost use Rattle.trace_words.specs.Fault.{is_fault, ends_run};
 ghost use Rattle.trace_cli.specs.Output.{fault_line, answer_text};
 ghost use Rattle.trace_words.specs.Reply.{answer_of, TellsFaults, GoesOn};

@@ -7,16 +7,18 @@ from collections import namedtuple
 
 sys.dont_write_bytecode = True
 from digest_of_map import root_digest
+from sessions import Delta, Sessions
 
 # A dot is a pair of a name and a number. An erasure has no dot, key, field or value.
 Operation = namedtuple("Operation", "dot key field value observed")
-# The operations that it has seen, and those of its own that it has not sent yet.
-Replica = namedtuple("Replica", "seen unsent")
+# The operations that it has seen, those of its own that it has not sent yet, and its synchronisations.
+Replica = namedtuple("Replica", "seen unsent sessions")
 
 # The form of each command's words: n is a number, t a text.
 FORMS = {
     "node": "n", "put": "ntt", "putf": "nttt", "get": "nt", "getf": "ntt", "fields": "nt", "remove": "nt", "removef": "ntt",
     "clear": "n", "show": "n", "size": "n", "context": "n", "digest": "n", "pin": "n", "look": "nt", "flush": "n", "deliver": "nn",
+    "sync": "nn", "retry": "nn", "abandon": "nn",
 }
 ITSELF = rb"[!-\"$-~][!-~]*"  # a word that stands for its own bytes
 
@@ -75,11 +77,23 @@ def context(seen):
     return " ".join(["context", *vector, *cloud])
 
 
-def digest(seen):
+def entries_of(seen):
+    """The map of what is shown: by key, field and dot."""
     entries = {}
     for write in shown(seen):
         entries.setdefault(write.key, {}).setdefault(write.field, {})[write.dot] = write.value
-    return root_digest(entries)
+    return entries
+
+
+def digest(seen):
+    return root_digest(entries_of(seen))
+
+
+def kind_of(message):
+    """The kind of a message, of an ask and a page with its prefix."""
+    kind = type(message).__name__.lower()
+    prefix = getattr(message, "prefix", None)
+    return kind if prefix is None else kind + ("".join(f"/{index}" for index in prefix) or "/")
 
 
 class World:
@@ -87,7 +101,7 @@ class World:
         self.replicas, self.messages, self.pins = {}, [], []
 
     def make(self, name, *operation):
-        for group in self.replicas[name]:
+        for group in self.replicas[name][:2]:
             group.add(Operation(*operation))
 
     def put(self, name, key, field, value):
@@ -105,7 +119,15 @@ class World:
 
     def answer(self, command, name, key=None, field=None, value=None):
         """The answer to a command at the replica of this name."""
-        seen, unsent = self.replicas[name]
+        seen, unsent, sessions = self.replicas[name]
+        if command == "sync":
+            asked = sessions.ask(key, entries_of(seen))
+            return f"session {asked[0]} {self.sent([asked[1]])}" if asked else "refused SessionsFull"
+        if command == "retry":
+            again = sessions.retry(key)
+            return self.sent(again) if sessions.of(key) else "ignored"
+        if command == "abandon":
+            return "ok" if sessions.abandon(key) else "ignored"
         if command in ("put", "putf"):
             return self.put(name, key, *((b"", field) if command == "put" else (field, value)))
         if command in ("remove", "removef", "clear"):
@@ -120,11 +142,26 @@ class World:
             return f"size {len({write.key for write in shown(seen)})}"
         if command == "flush" and not unsent:
             return "empty"
-        kept = self.pins if command == "pin" else self.messages
-        kept.append(frozenset(seen if command == "pin" else unsent))
-        if command == "flush":
-            unsent.clear()
-        return f"pin {len(kept)}" if command == "pin" else f"sent {len(kept)}:delta"
+        if command == "pin":
+            self.pins.append(frozenset(seen))
+            return f"pin {len(self.pins)}"
+        sent = self.sent([Delta(frozenset(unsent))])
+        unsent.clear()
+        return sent
+
+    def sent(self, messages):
+        """Posts the messages, and tells their numbers and kinds."""
+        first = len(self.messages) + 1
+        self.messages += messages
+        return " ".join(["sent", *(f"{number}:{kind_of(message)}" for number, message in enumerate(messages, first))])
+
+    def deliver(self, message, replica):
+        if isinstance(message, Delta):
+            replica.seen.update(message.seen)
+            return "joined"
+        word, replies, learnt = replica.sessions.take(message, replica.seen, entries_of(replica.seen))
+        replica.seen.update(learnt)
+        return self.sent(replies) if word == "sent" else word
 
     def carry_out(self, line):
         command, *words = line.decode("latin-1").split(" ")
@@ -138,13 +175,16 @@ class World:
         name = words[1] if command == "deliver" else words[0]
         if (command == "node") == (name in self.replicas):
             raise Fault("NameTaken" if command == "node" else "UnknownReplica")
+        if command == "sync" and words[1] not in self.replicas:
+            raise Fault("UnknownReplica")
         if command == "deliver" and words[0] > len(self.messages):
             raise Fault("UnknownMessage")
-        if command not in ("node", "deliver"):
+        if command == "deliver":
+            return self.deliver(self.messages[words[0] - 1], self.replicas[name])
+        if command != "node":
             return self.answer(command, *words)
-        replica = self.replicas.setdefault(name, Replica(set(), set()))
-        replica.seen.update(self.messages[words[0] - 1] if command == "deliver" else [])
-        return "joined" if command == "deliver" else "ok"
+        self.replicas[name] = Replica(set(), set(), Sessions(name))
+        return "ok"
 
 
 def text_of(trace):

@@ -10,5 +10,6 @@ mod flushes;
 mod generated;
 mod pins;
 mod removing;
+mod sessions;
 mod traces;
 mod watched;

@@ -1,4 +1,3 @@
 pub mod WordLemmas
 pub mod CommandLemmas
 pub mod Answering
-pub mod MachineLemmas

@@ -11,6 +11,9 @@ pub data CommandValue : Type 0 where
   Get : ℕ → List ℕ → List ℕ → CommandValue
   Flush : ℕ → CommandValue
   Deliver : ℕ → ℕ → CommandValue
+  Sync : ℕ → ℕ → CommandValue
+  Retry : ℕ → ℕ → CommandValue
+  Abandon : ℕ → ℕ → CommandValue
   Remove : ℕ → List ℕ → CommandValue
   RemoveField : ℕ → List ℕ → List ℕ → CommandValue
   Clear : ℕ → CommandValue
@@ -66,13 +69,20 @@ one_word_command verb first =
     (cond (bytes_eq verb (codes "pin")) (with_number Pin (number_of first))
     (cond (bytes_eq verb (codes "digest")) (with_number Digest (number_of first)) None)))))))
 
+abbrev pub session_command : List ℕ → List ℕ → List ℕ → Option CommandValue
+session_command verb first second =
+    cond (bytes_eq verb (codes "sync")) (with_numbers Sync (number_of first) (number_of second))
+    (cond (bytes_eq verb (codes "retry")) (with_numbers Retry (number_of first) (number_of second))
+    (cond (bytes_eq verb (codes "abandon")) (with_numbers Abandon (number_of first) (number_of second)) None))
+
 abbrev pub two_word_command : List ℕ → List ℕ → List ℕ → Option CommandValue
 two_word_command verb first second =
     cond (bytes_eq verb (codes "get")) (with_text (λ name key. Get name key []) (number_of first) (text_of second))
     (cond (bytes_eq verb (codes "remove")) (with_text Remove (number_of first) (text_of second))
     (cond (bytes_eq verb (codes "deliver")) (with_numbers Deliver (number_of first) (number_of second))
     (cond (bytes_eq verb (codes "look")) (with_text Look (number_of first) (text_of second))
-    (cond (bytes_eq verb (codes "fields")) (with_text Fields (number_of first) (text_of second)) None))))
+    (cond (bytes_eq verb (codes "fields")) (with_text Fields (number_of first) (text_of second))
+    (session_command verb first second)))))
 
 abbrev pub three_word_command : List ℕ → List ℕ → List ℕ → List ℕ → Option CommandValue
 three_word_command verb first second third =

@@ -1,9 +1,7 @@
 pub mod Word
 pub mod Command
 pub mod Parsed
-pub mod Compressed
-pub mod Outcome
+pub mod Text
+pub mod Answer
 pub mod Fault
-pub mod Machine
-pub mod Does
 pub mod Reply

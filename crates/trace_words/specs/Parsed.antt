@@ -1,5 +1,5 @@
 -- What a command that was parsed says.
-use Rattle.trace_words.specs.Command.{CommandValue, Node, Put, Get, Flush, Deliver, Remove, RemoveField, Clear, Fields, Show, Size, Context, Pin, Digest, Look}
+use Rattle.trace_words.specs.Command.{CommandValue, Node, Put, Get, Flush, Deliver, Sync, Retry, Abandon, Remove, RemoveField, Clear, Fields, Show, Size, Context, Pin, Digest, Look}
 use Rattle.trace_words.specs.declared.command.Command.{Command}
 use Rattle.trace_words.specs.declared.command.Command.TheVariants as command
 
@@ -9,6 +9,9 @@ command_value (command.Put name key field value) = Put name key.items field.item
 command_value (command.Get name key field) = Get name key.items field.items
 command_value (command.Flush name) = Flush name
 command_value (command.Deliver message name) = Deliver message name
+command_value (command.Sync name peer) = Sync name peer
+command_value (command.Retry name session) = Retry name session
+command_value (command.Abandon name session) = Abandon name session
 command_value (command.Remove name key) = Remove name key.items
 command_value (command.RemoveField name key field) = RemoveField name key.items field.items
 command_value (command.Clear name) = Clear name

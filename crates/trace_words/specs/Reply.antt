@@ -3,7 +3,7 @@ use Rattle.std.specs.Prelude.{◌≡◌, true}
 use Rattle.trace_words.specs.declared.reply.Reply.{Reply}
 use Rattle.trace_words.specs.declared.reply.Reply.TheVariants as reply
 use Rattle.trace_words.specs.Fault.{is_fault}
-use Rattle.trace_words.specs.Machine.{Answer, Silent, Told, Faulted}
+use Rattle.trace_words.specs.Answer.{Answer, Silent, Told, Faulted}
 
 -- the answer that a reply holds
 abbrev pub answer_of : {A : Type 0} → Reply A → Answer

@@ -1,17 +1,16 @@
-ghost use Rattle.std.specs.Prelude.{◌≡◌, ◌++◌, ◌∷◌, IfOk, OnOk, IsOkUnless, string_bytes, codes};
+ghost use Rattle.std.specs.Prelude.{◌≡◌, ◌≢◌, Err, ◌++◌, ◌∷◌, IfOk, OnOk, IsOkUnless, string_bytes, codes};
 ghost use Rattle.std.specs.List.{flat_map};
 ghost use Rattle.std.specs.Fmt.{decimal};
 ghost use Rattle.dots.specs.Refusal.{word_of};
 ghost use Rattle.trace_words.specs.Word.{shown_as};
-ghost use Rattle.trace_words.specs.Does.{Brings};
 ghost use Rattle.trace_words.specs.Fault.{is_fault};
-ghost use Rattle.trace_words.specs.Machine.{Past, answer_by, past_by};
-ghost use Rattle.trace_words.specs.Outcome.{Outcome, Refused, put_text, values_text, sent_text, erased_text, size_text, pin_text, digest_text, entry_text};
+ghost use Rattle.trace_words.specs.Answer.{refused_as, answered_as};
+ghost use Rattle.trace_words.specs.Text.{put_text, values_text, listed_text, erased_text, size_text, pin_text, digest_text, entry_text, dot_text, context_text, session_text};
 ghost use Rattle.trace_words.specs.Reply.{answer_of, TellsFaults};
 
 use crate::reply::Reply;
 use crate::word::push_text;
-use dots::{Refusal, Value};
+use dots::{Dot, Name, Refusal, Value};
 use std::alloc::Allocator;
 
 /// Whether a refusal is a fault, which ends a trace with a line that tells it.
@@ -25,14 +24,11 @@ pub fn is_fault(refusal: Refusal) -> bool
 }
 
 /// The answer to a put: `ok <name>:<number>`. The one refusal is OutOfMemory.
-pub fn put_answer<A: Allocator + Copy>(
-    alloc: A,
-    name: u64,
-    number: u64,
-) -> Result<String<A>, Refusal>
-    ensures ok { IfOk result (λ text. string_bytes text ≡ put_text (record { name = name; number = number })) }
+pub fn put_answer<A: Allocator + Copy>(alloc: A, dot: Dot) -> Result<String<A>, Refusal>
+    ensures ok { IfOk result (λ text. string_bytes text ≡ put_text dot) }
     ensures err { IsOkUnless result Refusal.OutOfMemory }
 {
+    let (name, number) = (dot.name().number(), dot.number());
     Ok(format!(in alloc; "ok {name}:{number}")?)
 }
 
@@ -118,7 +114,7 @@ fn push_values<A: Allocator + Copy>(
     out: &mut Vec<u8, A>,
     found: &[Value<A>],
 ) -> Result<(), Refusal>
-    ensures ok { OnOk result (out.new.items ≡ out.old.items ++ flat_map (λ value. 32 ∷ shown_as value) found.now) }
+    ensures ok { OnOk result (out.new.items ≡ out.old.items ++ listed_text found.now) }
     ensures err { IsOkUnless result Refusal.OutOfMemory }
 {
     for value in found {
@@ -126,17 +122,6 @@ fn push_values<A: Allocator + Copy>(
         push_text(alloc, out, value.bytes())?;
     }
     Ok(())
-}
-
-/// The answer to a flush: `sent <number>:delta`, or `empty`. The one refusal is OutOfMemory.
-pub fn flush_answer<A: Allocator + Copy>(alloc: A, made: Option<u64>) -> Result<String<A>, Refusal>
-    ensures ok { IfOk result (λ text. string_bytes text ≡ sent_text made) }
-    ensures err { IsOkUnless result Refusal.OutOfMemory }
-{
-    match made {
-        Some(number) => Ok(format!(in alloc; "sent {number}:delta")?),
-        None => Ok(String::from_str(alloc, "empty")?),
-    }
 }
 
 /// The beginning of the answer to a look at the fields of a key: `fields <number of fields>`. The one refusal is OutOfMemory.
@@ -147,9 +132,82 @@ pub fn fields_answer<A: Allocator + Copy>(alloc: A, number: u64) -> Result<Strin
     Ok(format!(in alloc; "fields {number}")?)
 }
 
+/// The beginning of the answer to a synchronisation that was opened: `session <number> sent`. The one refusal is OutOfMemory.
+pub fn session_answer<A: Allocator + Copy>(alloc: A, number: u64) -> Result<String<A>, Refusal>
+    ensures ok { IfOk result (λ text. string_bytes text ≡ session_text number) }
+    ensures err { IsOkUnless result Refusal.OutOfMemory }
+{
+    Ok(format!(in alloc; "session {number} sent")?)
+}
+
+/// The answer to a look at the known dots: `context`, then a space and each entry of the version vector, then a space, a plus and each
+/// dot of the cloud. The one refusal is OutOfMemory.
+pub fn context_answer<A: Allocator + Copy>(
+    alloc: A,
+    vector: &[(Name, u64)],
+    cloud: &[Dot],
+) -> Result<Vec<u8, A>, Refusal>
+    ensures ok { IfOk result (λ text. text.items ≡ context_text vector.now cloud.now) }
+    ensures err { IsOkUnless result Refusal.OutOfMemory }
+{
+    let mut text = Vec::from_slice(alloc, b"context")?;
+    push_vector(alloc, &mut text, vector)?;
+    push_cloud(alloc, &mut text, cloud)?;
+    Ok(text)
+}
+
+/// Appends a space and `<name>:<number>` for each entry of the vector. A refusal may leave a part of it there.
+fn push_vector<A: Allocator + Copy>(
+    alloc: A,
+    out: &mut Vec<u8, A>,
+    entries: &[(Name, u64)],
+) -> Result<(), Refusal>
+    ensures ok { OnOk result (out.new.items ≡ out.old.items ++
+        flat_map (λ entry. codes " " ++ dot_text entry.0 entry.1) entries.now) }
+    ensures err { IsOkUnless result Refusal.OutOfMemory }
+{
+    for (name, number) in entries {
+        push_dot(alloc, out, b" ", name.number(), *number)?;
+    }
+    Ok(())
+}
+
+/// Appends a space, a plus and `<name>:<number>` for each dot of the cloud. A refusal may leave a part of it there.
+fn push_cloud<A: Allocator + Copy>(
+    alloc: A,
+    out: &mut Vec<u8, A>,
+    dots: &[Dot],
+) -> Result<(), Refusal>
+    ensures ok { OnOk result (out.new.items ≡ out.old.items ++
+        flat_map (λ dot. codes " +" ++ dot_text dot.name dot.number) dots.now) }
+    ensures err { IsOkUnless result Refusal.OutOfMemory }
+{
+    for dot in dots {
+        push_dot(alloc, out, b" +", dot.name().number(), dot.number())?;
+    }
+    Ok(())
+}
+
+/// Appends the sign and `<name>:<number>`. A refusal may leave a part of it there.
+fn push_dot<A: Allocator + Copy>(
+    alloc: A,
+    out: &mut Vec<u8, A>,
+    sign: &[u8],
+    name: u64,
+    number: u64,
+) -> Result<(), Refusal>
+    ensures ok { OnOk result (out.new.items ≡ out.old.items ++ (sign.now ++ dot_text name number)) }
+    ensures err { IsOkUnless result Refusal.OutOfMemory }
+{
+    let text: String<A> = format!(in alloc; "{name}:{number}")?;
+    out.extend_from_slice(sign)?;
+    out.extend_from_slice(text.as_bytes())?;
+    Ok(())
+}
+
 /// What the refusal of a command is answered: a fault, or a text.
 fn refused<A: Allocator + Copy>(alloc: A, refusal: Refusal) -> Result<Reply<A>, Refusal>
-    ensures ok { IfOk result (λ reply. answer_of reply ≡ answer_by (Refused refusal)) }
+    ensures ok { IfOk result (λ reply. answer_of reply ≡ refused_as refusal) }
     ensures faults { IfOk result TellsFaults }
     ensures err { IsOkUnless result Refusal.OutOfMemory }
 {
@@ -161,15 +219,12 @@ fn refused<A: Allocator + Copy>(alloc: A, refusal: Refusal) -> Result<Reply<A>, 
     Ok(Reply::Told(text))
 }
 
-/// What a command is answered that came to this. The one refusal is OutOfMemory.
+/// What a command is answered that came to this: its text, or its refusal. The one refusal is OutOfMemory, which is that of the command too.
 pub fn reply_of<A: Allocator + Copy>(
     alloc: A,
     done: Result<Vec<u8, A>, Refusal>,
 ) -> Result<Reply<A>, Refusal>
-    ensures answer { IfOk result (λ reply. (outcome : Outcome) (old new : Past) → Brings outcome old new done →
-        answer_of reply ≡ answer_by outcome) }
-    ensures after { IfOk result (λ reply. (outcome : Outcome) (old new : Past) → Brings outcome old new done →
-        new ≡ past_by old outcome) }
+    ensures answer { IfOk result (λ reply. (answer_of reply ≡ answered_as done) × (done ≢ Err Refusal.OutOfMemory)) }
     ensures faults { IfOk result TellsFaults }
     ensures err { IsOkUnless result Refusal.OutOfMemory }
 {

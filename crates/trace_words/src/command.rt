@@ -1,7 +1,7 @@
 ghost use Rattle.std.specs.Prelude.{◌≡◌, [], IfOk, IsOkUnless};
 ghost use Rattle.std.specs.Option.{option_map};
-ghost use Rattle.trace_words.specs.Command.{command_of, one_word_command, two_word_command, three_word_command, four_word_command};
-ghost use Rattle.trace_words.specs.Command.{with_text, with_texts, with_three_texts, with_numbers, Get, Put, Deliver, Remove, RemoveField, Fields, Look};
+ghost use Rattle.trace_words.specs.Command.{command_of, one_word_command, two_word_command, three_word_command, four_word_command, session_command};
+ghost use Rattle.trace_words.specs.Command.{with_text, with_texts, with_three_texts, with_numbers, Get, Put, Deliver, Sync, Retry, Abandon, Remove, RemoveField, Fields, Look};
 ghost use Rattle.trace_words.specs.Parsed.{command_value};
 
 use crate::word::{name, number, text, words};
@@ -32,6 +32,21 @@ pub enum Command<A: Allocator = Global> {
     Deliver {
         message: u64,
         name: Name,
+    },
+    /// A synchronisation, opened by the replica of this name with its peer.
+    Sync {
+        name: Name,
+        peer: Name,
+    },
+    /// What is to be sent again for the replica's own synchronisation of this number.
+    Retry {
+        name: Name,
+        session: u64,
+    },
+    /// The replica's own synchronisation of this number, given up.
+    Abandon {
+        name: Name,
+        session: u64,
     },
     /// What a key shows at any of its fields, removed.
     Remove {
@@ -139,7 +154,22 @@ fn with_two_words<A: Allocator + Copy>(
     if verb == b"fields".as_slice() {
         return Ok(fields(name(first), text(alloc, second)?));
     }
-    Ok(None)
+    Ok(of_a_session(verb, first, second))
+}
+
+fn of_a_session<A: Allocator>(verb: &[u8], first: &[u8], second: &[u8]) -> Option<Command<A>>
+    ensures { option_map command_value result ≡ session_command verb.now first.now second.now }
+{
+    if verb == b"sync".as_slice() {
+        return sync(name(first), name(second));
+    }
+    if verb == b"retry".as_slice() {
+        return retry(name(first), number(second));
+    }
+    if verb == b"abandon".as_slice() {
+        return abandon(name(first), number(second));
+    }
+    None
 }
 
 fn with_three_words<A: Allocator + Copy>(
@@ -254,6 +284,33 @@ fn deliver<A: Allocator>(message: Option<u64>, name: Option<Name>) -> Option<Com
     Some(Command::Deliver {
         message: message?,
         name: name?,
+    })
+}
+
+fn sync<A: Allocator>(name: Option<Name>, peer: Option<Name>) -> Option<Command<A>>
+    ensures { option_map command_value result ≡ with_numbers Sync name peer }
+{
+    Some(Command::Sync {
+        name: name?,
+        peer: peer?,
+    })
+}
+
+fn retry<A: Allocator>(name: Option<Name>, session: Option<u64>) -> Option<Command<A>>
+    ensures { option_map command_value result ≡ with_numbers Retry name session }
+{
+    Some(Command::Retry {
+        name: name?,
+        session: session?,
+    })
+}
+
+fn abandon<A: Allocator>(name: Option<Name>, session: Option<u64>) -> Option<Command<A>>
+    ensures { option_map command_value result ≡ with_numbers Abandon name session }
+{
+    Some(Command::Abandon {
+        name: name?,
+        session: session?,
     })
 }
 

@@ -4,12 +4,16 @@
 
 mod answer;
 mod command;
+mod kind;
 mod reply;
+mod sent;
 mod word;
 
 pub use answer::{
-    digest_answer, erased_answer, fields_answer, flush_answer, get_answer, is_fault, map_answer,
-    pin_answer, push_entry, put_answer, reply_of, size_answer,
+    context_answer, digest_answer, erased_answer, fields_answer, get_answer, is_fault, map_answer,
+    pin_answer, push_entry, put_answer, reply_of, session_answer, size_answer,
 };
 pub use command::{Command, parse};
+pub use kind::Kind;
 pub use reply::Reply;
+pub use sent::push_message;

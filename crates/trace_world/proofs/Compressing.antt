@@ -26,7 +26,7 @@ use Rattle.op_model.specs.Made.{greatest_number}
 use Rattle.op_model.specs.Operation.{has}
 use Rattle.op_model.proofs.Dots.{same_dot-true, same_dot-symm, from_has}
 use Rattle.op_model.proofs.Fresh.{greatest_number-above}
-use Rattle.trace_words.specs.Compressed.{has_up_to, run_within, run_of, names_of, with_entry, entries_of, vector_of, in_order, cloud_of}
+use Rattle.trace_world.specs.Compressed.{has_up_to, run_within, run_of, names_of, with_entry, entries_of, vector_of, in_order, cloud_of}
 
 -- the number up to which all dots of a name pass the test
 record IsTop (test : DotValue → Bool) (name n : ℕ) : Type 0 where

@@ -1,8 +1,7 @@
-pub mod PairLemmas
-pub mod ReplicaMaps
-pub mod Keeping
-pub mod Own
-pub mod WorldLemmas
+pub mod Commands
+pub mod Events
+pub mod Reading
 pub mod Pinning
-mod Compressing
-pub mod MapsShown
+pub mod Compressing
+pub mod Unique
+pub mod SeenReads

@@ -1,3 +1,8 @@
-pub mod Keeps
-pub mod Replaces
+pub mod Told
+pub mod Outcome
+pub mod Line
+pub mod Compressed
+pub mod Seen
+pub mod Laws
+pub mod Does
 pub mod Pins

@@ -1,44 +1,46 @@
-ghost use Rattle.std.specs.Prelude.{◌≡◌, ◌⊎◌, ◌≤◌, ◌<◌, ◌++◌, ◌∷◌, [], Some, None, ℕ, List, length, IfOk, IfErr, OnOk, IsOkUnless, true, false, cond, map, string_bytes, MatchResult};
-ghost use Rattle.std.specs.List.{flat_map};
-ghost use Rattle.op_model.specs.Place.{place_of};
-ghost use Rattle.op_model.specs.Shown.{values, values_of_key, fields};
-ghost use Rattle.op_model.specs.World.{after, is_node};
-ghost use Rattle.trace_words.specs.Outcome.{Done, Refused, outcome_of, is_at_world, put_text, values_text, node_outcome, put_outcome, get_outcome, flush_outcome, deliver_outcome, remove_outcome, remove_field_outcome, clear_outcome, fields_outcome, show_outcome, size_outcome, context_outcome, digest_outcome, entry_text};
-ghost use Rattle.trace_world.specs.Pins.{Grows, StandsFor};
-ghost use Rattle.trace_words.specs.Word.{shown_as};
+ghost use Rattle.std.specs.Prelude.{◌≡◌, ◌⊎◌, [], length, false, true, IfOk, IfErr};
+ghost use Rattle.delta_ops.specs.LiveMap.{store_state};
+ghost use Rattle.dots.specs.Dot.{DotValue};
+ghost use Rattle.hash_path.specs.Fnv1a.{fnv1a};
+ghost use Rattle.op_model.specs.Place.{Place, place_of};
+ghost use Rattle.replica_model.specs.Step as step;
+ghost use Rattle.replica_model.specs.World as model;
+ghost use Rattle.replica_model.specs.World.{is_node, nothing, Runs};
+ghost use Rattle.replica_world.specs.Happening.{call_value};
+ghost use Rattle.trace_words.specs.Parsed.{command_value};
+ghost use Rattle.trace_world.specs.Outcome.{at_replica, with_bytes, is_at_world, Comes, IsEvent, IsCall, ReadsValues, ReadsFields, ReadsKeys, ReadsSize, ReadsContext, ReadsDigest};
 
-use crate::known::context_answer;
-use crate::world::World;
+use crate::reading::{read_context, read_digest, read_fields, read_keys, read_size, read_values};
+use crate::telling::tell;
+use crate::texts::{field_of, key_of, value_of};
 use delta_ops::LiveStore;
-use dots::{Field, Key, Name, Refusal, Value};
+use dots::{Name, Refusal};
 use hash_path::Fnv1a;
 use prefix_digest::ShaSummary;
+use replica_world::{Call, Event, World};
 use std::alloc::{Allocator, Global};
 use std::marker::Model;
-use trace_words::{
-    Command, digest_answer, erased_answer, fields_answer, flush_answer, get_answer, map_answer,
-    push_entry, put_answer, size_answer,
-};
+use trace_words::Command;
 
 /// The replicas with the text of each command at them. It is seen as the events that it accepted.
 #[derive(Drop)]
 pub(crate) struct Desk<A: Allocator + Copy = Global> {
     alloc: A,
-    world: World<A>,
+    world: World<Fnv1a, A>,
 }
 
 impl<A: Allocator + Copy> Model for Desk<A> {
     ghost use Rattle.std.specs.Prelude.{List};
-    ghost use Rattle.op_model.specs.World.{Event};
+    ghost use Rattle.replica_model.specs.World.{Event};
 
     ghost Value = { List Event };
 
-    ghost view = { λ d. d.world };
+    ghost view = { λ d. d.world.past };
 }
 
 impl<A: Allocator + Copy> Desk<A> {
-    ghost use Rattle.trace_words.specs.Parsed.{command_value};
-    ghost use Rattle.trace_words.specs.Does.{Does};
+    ghost use Rattle.trace_world.specs.Does.{Does, In};
+    ghost use Rattle.trace_world.specs.Pins.{Grows};
 
     /// No replica yet. Takes no memory.
     pub fn new(alloc: A) -> Desk<A>
@@ -46,21 +48,22 @@ impl<A: Allocator + Copy> Desk<A> {
     {
         Desk {
             alloc,
-            world: World::new(alloc),
+            world: World::new(alloc, Fnv1a),
         }
     }
 
-    /// How many events were accepted.
+    /// How many events were accepted, and that there is a world after them.
     pub fn age(&self) -> usize
-        ensures { result ≡ length self.now }
+        ensures count { result ≡ length self.now }
+        ensures runs { (w : model.World) × Runs fnv1a nothing self.now w }
     {
-        self.world.age()
+        self.world.past().len()
     }
 
     /// Does what the command asks, which speaks of no pin: the text that it is answered, or the refusal that it meets.
     pub fn obey(&mut self, command: Command<A>) -> Result<Vec<u8, A>, Refusal>
         requires { is_at_world (command_value command) ≡ true }
-        ensures does { Does (outcome_of (after self.old) [] (command_value command)) self.old self.new result }
+        ensures does { Does (In self.old (λ w. Comes fnv1a w [] (command_value command))) self.old self.new result }
         ensures grows { Grows self.old self.new }
     {
         match command {
@@ -72,13 +75,16 @@ impl<A: Allocator + Copy> Desk<A> {
                 value,
             } => self.put(name, key.as_slice(), field.as_slice(), value.as_slice()),
             Command::Get { name, key, field } => self.get(name, key.as_slice(), field.as_slice()),
-            Command::Flush(name) => self.flush(name),
+            Command::Flush(name) => self.call(name, Call::Flush),
             Command::Deliver { message, name } => self.deliver(message, name),
+            Command::Sync { name, peer } => self.call(name, Call::Ask(peer)),
+            Command::Retry { name, session } => self.call(name, Call::Retry(session)),
+            Command::Abandon { name, session } => self.call(name, Call::Abandon(session)),
             Command::Remove { name, key } => self.remove(name, key.as_slice()),
             Command::RemoveField { name, key, field } => {
                 self.remove_field(name, key.as_slice(), field.as_slice())
             }
-            Command::Clear(name) => self.clear(name),
+            Command::Clear(name) => self.call(name, Call::Clear),
             Command::Fields { name, key } => self.fields(name, key.as_slice()),
             Command::Show(name) => self.show(name),
             Command::Size(name) => self.size(name),
@@ -88,25 +94,61 @@ impl<A: Allocator + Copy> Desk<A> {
         }
     }
 
-    /// The store of the replica of this name as it is, which stays so. UnknownReplica exactly where no replica has the name.
+    /// What the replica of this name holds, which stays so. UnknownReplica exactly where no replica has the name.
     pub fn store(&self, name: Name) -> Result<LiveStore<ShaSummary, Fnv1a, A>, Refusal>
-        ensures ok { IfOk result (λ store. (is_node (after self.now) name ≡ true) × StandsFor store ((after self.now).seen name)) }
+        ensures ok { IfOk result (λ store. (w : model.World) → Runs fnv1a nothing self.now w → (is_node w name ≡ true)
+            × ((place : Place) (dot : DotValue) → (store_state store).at place dot ≡ (w.replica name).live.at place dot)) }
         ensures refused { IfErr result (λ refusal. (refusal ≡ Refusal.OutOfMemory) ⊎
-            ((refusal ≡ Refusal.UnknownReplica) × (is_node (after self.now) name ≡ false))) }
+            ((refusal ≡ Refusal.UnknownReplica) × ((w : model.World) → Runs fnv1a nothing self.now w → is_node w name ≡ false))) }
     {
-        self.world.store(name)
+        match self.world.replica(name) {
+            Some(replica) => replica.store(),
+            None => Err(Refusal::UnknownReplica),
+        }
     }
 
-    #[tactic(auto, using(crate::proofs::Pinning::grows_same, crate::proofs::Pinning::grows_by))]
     fn node(&mut self, name: Name) -> Result<Vec<u8, A>, Refusal>
-        ensures does { Does (node_outcome (after self.old) name) self.old self.new result }
+        ensures does { Does (In self.old (λ w. IsEvent fnv1a w (model.Node name))) self.old self.new result }
         ensures grows { Grows self.old self.new }
     {
-        self.world.node(name)?;
-        Ok(Vec::from_slice(self.alloc, b"ok")?)
+        match self.world.event(Event::Node(name)) {
+            Ok(_) => Ok(Vec::from_slice(self.alloc, b"ok")?),
+            Err(refusal) => Err(refusal),
+        }
     }
 
-    #[tactic(auto, using(crate::proofs::Pinning::grows_same, crate::proofs::Pinning::grows_by))]
+    fn call(&mut self, name: Name, call: Call<A>) -> Result<Vec<u8, A>, Refusal>
+        ensures does { Does (In self.old (λ w. IsCall fnv1a w name (call_value call))) self.old self.new result }
+        ensures grows { Grows self.old self.new }
+    {
+        match self.world.event(Event::Call(name, call)) {
+            Ok(told) => tell(
+                self.alloc,
+                &self.world,
+                told.answer,
+                told.made.start,
+                told.made.end,
+            ),
+            Err(refusal) => Err(refusal),
+        }
+    }
+
+    fn deliver(&mut self, message: u64, name: Name) -> Result<Vec<u8, A>, Refusal>
+        ensures does { Does (In self.old (λ w. IsEvent fnv1a w (model.Deliver message name))) self.old self.new result }
+        ensures grows { Grows self.old self.new }
+    {
+        match self.world.event(Event::Deliver(message, name)) {
+            Ok(told) => tell(
+                self.alloc,
+                &self.world,
+                told.answer,
+                told.made.start,
+                told.made.end,
+            ),
+            Err(refusal) => Err(refusal),
+        }
+    }
+
     fn put(
         &mut self,
         name: Name,
@@ -114,192 +156,95 @@ impl<A: Allocator + Copy> Desk<A> {
         field: &[u8],
         value: &[u8],
     ) -> Result<Vec<u8, A>, Refusal>
-        ensures does { Does (put_outcome (after self.old) name key.now field.now value.now) self.old self.new result }
+        ensures does { Does (In self.old (λ w. at_replica w name (with_bytes key.now (with_bytes field.now (with_bytes value.now
+            (IsCall fnv1a w name (step.Put (place_of key.now field.now) value.now))))))) self.old self.new result }
         ensures grows { Grows self.old self.new }
     {
-        if !self.world.has_replica(name) {
+        if self.world.replica(name).is_none() {
             return Err(Refusal::UnknownReplica);
         }
-        let key = Key::new(self.alloc, key)?;
-        let field = Field::new(self.alloc, field)?;
-        let value = Value::new(self.alloc, value)?;
-        let dot = self.world.put(name, key, field, value)?;
-        let (name, number) = (dot.name().number(), dot.number());
-        Ok(put_answer(self.alloc, name, number)?.into_bytes())
+        let key = key_of(self.alloc, key)?;
+        let field = field_of(self.alloc, field)?;
+        let value = value_of(self.alloc, value)?;
+        self.call(name, Call::PutField(key, field, value))
+    }
+
+    fn remove(&mut self, name: Name, key: &[u8]) -> Result<Vec<u8, A>, Refusal>
+        ensures does { Does (In self.old (λ w. at_replica w name (with_bytes key.now (IsCall fnv1a w name (step.Remove key.now))))) self.old self.new result }
+        ensures grows { Grows self.old self.new }
+    {
+        if self.world.replica(name).is_none() {
+            return Err(Refusal::UnknownReplica);
+        }
+        let key = key_of(self.alloc, key)?;
+        self.call(name, Call::Remove(key))
+    }
+
+    fn remove_field(&mut self, name: Name, key: &[u8], field: &[u8]) -> Result<Vec<u8, A>, Refusal>
+        ensures does { Does (In self.old (λ w. at_replica w name (with_bytes key.now (with_bytes field.now
+            (IsCall fnv1a w name (step.RemoveField (place_of key.now field.now))))))) self.old self.new result }
+        ensures grows { Grows self.old self.new }
+    {
+        if self.world.replica(name).is_none() {
+            return Err(Refusal::UnknownReplica);
+        }
+        let key = key_of(self.alloc, key)?;
+        let field = field_of(self.alloc, field)?;
+        self.call(name, Call::RemoveField(key, field))
     }
 
     fn get(&self, name: Name, key: &[u8], field: &[u8]) -> Result<Vec<u8, A>, Refusal>
-        ensures { Does (get_outcome (after self.now) name key.now field.now) self.now self.now result }
+        ensures { Does (In self.now (λ w. at_replica w name (with_bytes key.now (with_bytes field.now
+            (ReadsValues (place_of key.now field.now) (w.replica name).live))))) self.now self.now result }
     {
-        if !self.world.has_replica(name) {
-            return Err(Refusal::UnknownReplica);
+        match self.world.replica(name) {
+            Some(replica) => read_values(self.alloc, replica, key, field),
+            None => Err(Refusal::UnknownReplica),
         }
-        let key = Key::new(self.alloc, key)?;
-        let field = Field::new(self.alloc, field)?;
-        let found = self.world.get(name, &key, &field)?;
-        let text = get_answer(self.alloc, found.as_slice())?;
-        Ok(text)
-    }
-
-    #[tactic(auto, using(crate::proofs::Pinning::grows_same, crate::proofs::Pinning::grows_by))]
-    fn flush(&mut self, name: Name) -> Result<Vec<u8, A>, Refusal>
-        ensures does { Does (flush_outcome (after self.old) name) self.old self.new result }
-        ensures grows { Grows self.old self.new }
-    {
-        let made = self.world.flush(name)?;
-        Ok(flush_answer(self.alloc, made)?.into_bytes())
-    }
-
-    #[tactic(auto, using(crate::proofs::Pinning::grows_same, crate::proofs::Pinning::grows_by))]
-    fn deliver(&mut self, message: u64, name: Name) -> Result<Vec<u8, A>, Refusal>
-        ensures does { Does (deliver_outcome (after self.old) message name) self.old self.new result }
-        ensures grows { Grows self.old self.new }
-    {
-        self.world.deliver(message, name)?;
-        Ok(Vec::from_slice(self.alloc, b"joined")?)
-    }
-
-    #[tactic(auto, using(crate::proofs::Pinning::grows_same, crate::proofs::Pinning::grows_by))]
-    fn remove(&mut self, name: Name, key: &[u8]) -> Result<Vec<u8, A>, Refusal>
-        ensures does { Does (remove_outcome (after self.old) name key.now) self.old self.new result }
-        ensures grows { Grows self.old self.new }
-    {
-        if !self.world.has_replica(name) {
-            return Err(Refusal::UnknownReplica);
-        }
-        let key = Key::new(self.alloc, key)?;
-        let number = self.world.remove(name, key)?;
-        Ok(erased_answer(self.alloc, number)?.into_bytes())
-    }
-
-    #[tactic(auto, using(crate::proofs::Pinning::grows_same, crate::proofs::Pinning::grows_by))]
-    fn remove_field(&mut self, name: Name, key: &[u8], field: &[u8]) -> Result<Vec<u8, A>, Refusal>
-        ensures does { Does (remove_field_outcome (after self.old) name key.now field.now) self.old self.new result }
-        ensures grows { Grows self.old self.new }
-    {
-        if !self.world.has_replica(name) {
-            return Err(Refusal::UnknownReplica);
-        }
-        let key = Key::new(self.alloc, key)?;
-        let field = Field::new(self.alloc, field)?;
-        let number = self.world.remove_field(name, key, field)?;
-        Ok(erased_answer(self.alloc, number)?.into_bytes())
-    }
-
-    #[tactic(auto, using(crate::proofs::Pinning::grows_same, crate::proofs::Pinning::grows_by))]
-    fn clear(&mut self, name: Name) -> Result<Vec<u8, A>, Refusal>
-        ensures does { Does (clear_outcome (after self.old) name) self.old self.new result }
-        ensures grows { Grows self.old self.new }
-    {
-        let number = self.world.clear(name)?;
-        Ok(erased_answer(self.alloc, number)?.into_bytes())
     }
 
     fn fields(&self, name: Name, key: &[u8]) -> Result<Vec<u8, A>, Refusal>
-        ensures { Does (fields_outcome (after self.now) name key.now) self.now self.now result }
+        ensures { Does (In self.now (λ w. at_replica w name (with_bytes key.now (ReadsFields key.now (w.replica name).live)))) self.now self.now result }
     {
-        if !self.world.has_replica(name) {
-            return Err(Refusal::UnknownReplica);
+        match self.world.replica(name) {
+            Some(replica) => read_fields(self.alloc, replica, key),
+            None => Err(Refusal::UnknownReplica),
         }
-        let key = Key::new(self.alloc, key)?;
-        let fields = self.world.fields(name, &key)?;
-        let mut text = fields_answer(self.alloc, fields.len() as u64)?.into_bytes();
-        self.push_fields(&mut text, name, &key, fields.as_slice())?;
-        Ok(text)
     }
 
     fn show(&self, name: Name) -> Result<Vec<u8, A>, Refusal>
-        ensures { Does (show_outcome (after self.now) name) self.now self.now result }
+        ensures { Does (In self.now (λ w. at_replica w name (ReadsKeys (w.replica name).live))) self.now self.now result }
     {
-        let keys = self.world.keys(name)?;
-        let mut text = map_answer(self.alloc, keys.len() as u64)?.into_bytes();
-        self.push_keys(&mut text, name, keys.as_slice())?;
-        Ok(text)
+        match self.world.replica(name) {
+            Some(replica) => read_keys(self.alloc, replica),
+            None => Err(Refusal::UnknownReplica),
+        }
     }
 
     fn size(&self, name: Name) -> Result<Vec<u8, A>, Refusal>
-        ensures { Does (size_outcome (after self.now) name) self.now self.now result }
+        ensures { Does (In self.now (λ w. at_replica w name (ReadsSize (w.replica name).live))) self.now self.now result }
     {
-        let Some(number) = self.world.size(name) else {
-            return Err(Refusal::UnknownReplica);
-        };
-        Ok(size_answer(self.alloc, number)?.into_bytes())
+        match self.world.replica(name) {
+            Some(replica) => read_size(self.alloc, replica),
+            None => Err(Refusal::UnknownReplica),
+        }
     }
 
     fn context(&self, name: Name) -> Result<Vec<u8, A>, Refusal>
-        ensures { Does (context_outcome (after self.now) name) self.now self.now result }
+        ensures { Does (In self.now (λ w. at_replica w name (ReadsContext (w.replica name).live))) self.now self.now result }
     {
-        let Some(context) = self.world.context(name) else {
-            return Err(Refusal::UnknownReplica);
-        };
-        let text = context_answer(self.alloc, context)?;
-        Ok(text)
+        match self.world.replica(name) {
+            Some(replica) => read_context(self.alloc, replica),
+            None => Err(Refusal::UnknownReplica),
+        }
     }
 
     fn digest(&self, name: Name) -> Result<Vec<u8, A>, Refusal>
-        ensures { Does (digest_outcome (after self.now) name) self.now self.now result }
+        ensures { Does (In self.now (λ w. at_replica w name (ReadsDigest fnv1a (w.replica name).live))) self.now self.now result }
     {
-        let digest = self.world.digest(name)?;
-        Ok(digest_answer(self.alloc, digest)?.into_bytes())
-    }
-
-    /// Appends each key with its values over all its fields, at a replica that is there. A refusal may leave a part of it there.
-    fn push_keys(&self, out: &mut Vec<u8, A>, name: Name, keys: &[Key<A>]) -> Result<(), Refusal>
-        requires { is_node (after self.now) name ≡ true }
-        ensures ok { OnOk result (out.new.items ≡ out.old.items ++
-            flat_map (λ key. entry_text key (values_of_key ((after self.now).seen name) key)) keys.now) }
-        ensures err { IsOkUnless result Refusal.OutOfMemory }
-    {
-        for key in keys {
-            self.push_key(out, name, key)?;
+        match self.world.replica(name) {
+            Some(replica) => read_digest(self.alloc, replica),
+            None => Err(Refusal::UnknownReplica),
         }
-        Ok(())
-    }
-
-    /// Appends the key with its values over all its fields, at a replica that is there. A refusal may leave a part of it there.
-    fn push_key(&self, out: &mut Vec<u8, A>, name: Name, key: &Key<A>) -> Result<(), Refusal>
-        requires { is_node (after self.now) name ≡ true }
-        ensures ok { OnOk result (out.new.items ≡ out.old.items ++
-            entry_text key.now (values_of_key ((after self.now).seen name) key.now)) }
-        ensures err { IsOkUnless result Refusal.OutOfMemory }
-    {
-        let found = self.world.values_of_key(name, key)?;
-        push_entry(self.alloc, out, key.bytes(), found.as_slice())
-    }
-
-    /// Appends each field with its values at the key, at a replica that is there. A refusal may leave a part of it there.
-    fn push_fields(
-        &self,
-        out: &mut Vec<u8, A>,
-        name: Name,
-        key: &Key<A>,
-        fields: &[Field<A>],
-    ) -> Result<(), Refusal>
-        requires { is_node (after self.now) name ≡ true }
-        ensures ok { OnOk result (out.new.items ≡ out.old.items ++
-            flat_map (λ field. entry_text field (values ((after self.now).seen name) (place_of key.now field))) fields.now) }
-        ensures err { IsOkUnless result Refusal.OutOfMemory }
-    {
-        for field in fields {
-            self.push_field(out, name, key, field)?;
-        }
-        Ok(())
-    }
-
-    /// Appends the field with its values at the key, at a replica that is there. A refusal may leave a part of it there.
-    fn push_field(
-        &self,
-        out: &mut Vec<u8, A>,
-        name: Name,
-        key: &Key<A>,
-        field: &Field<A>,
-    ) -> Result<(), Refusal>
-        requires { is_node (after self.now) name ≡ true }
-        ensures ok { OnOk result (out.new.items ≡ out.old.items ++
-            entry_text field.now (values ((after self.now).seen name) (place_of key.now field.now))) }
-        ensures err { IsOkUnless result Refusal.OutOfMemory }
-    {
-        let found = self.world.get(name, key, field)?;
-        push_entry(self.alloc, out, field.bytes(), found.as_slice())
     }
 }

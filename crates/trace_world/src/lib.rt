@@ -1,14 +1,14 @@
-// The replicas of a trace, the messages between them and the maps that were kept: the machine that carries out each line.
+// The machine that carries out each line of a trace, in a world of replicas, and the maps that were kept.
 // Offered to the crate that reads the lines and writes the answers.
 #![tactic(auto)]
 
 mod desk;
-mod digesting;
-mod event;
-mod known;
+mod laws;
 mod machine;
 mod pin;
-mod replica;
-mod world;
+mod reading;
+mod telling;
+mod texts;
 
+pub use laws::{a_line_has_one_answer, reads_tell_what_was_seen};
 pub use machine::Machine;

@@ -1,18 +1,19 @@
-ghost use Rattle.std.specs.Prelude.{◌≡◌, ◌-◌, [], Some, None, IfOk, IfErr, OnOk, IsOkUnless, true, if◌then◌else◌, nat_lt};
+ghost use Rattle.std.specs.Prelude.{◌≡◌, ◌-◌, ◌+◌, length, Some, None, IfOk, IsOkUnless, if◌then◌else◌, nat_lt};
 ghost use Rattle.std.specs.List.{slice_get};
 ghost use Rattle.std.specs.Option.{option_copied};
-ghost use Rattle.op_model.specs.World.{after};
+ghost use Rattle.hash_path.specs.Fnv1a.{fnv1a};
 ghost use Rattle.trace_words.specs.Command.{command_of};
-ghost use Rattle.trace_words.specs.Machine.{start, answer_to, past_after, line_outcome};
-ghost use Rattle.trace_words.specs.Outcome.{pin_outcome, look_outcome, pin_at};
+ghost use Rattle.trace_words.specs.Text.{pin_text};
+ghost use Rattle.trace_world.specs.Line.{start, Answers, LineComes};
+ghost use Rattle.trace_world.specs.Outcome.{Pinned, Comes, LooksAt, at_replica, pin_at};
 
 use crate::desk::Desk;
 use crate::pin::Pin;
-use delta_ops::values;
-use dots::{Field, Key, Name, Refusal};
+use crate::reading::look_at;
+use dots::{Name, Refusal};
 use std::alloc::{Allocator, Global};
 use std::marker::Model;
-use trace_words::{Command, Reply, get_answer, parse, pin_answer, reply_of};
+use trace_words::{Command, Reply, parse, pin_answer, reply_of};
 
 /// The machine behind the trace language: one line in, one reply out. It is seen as the events that it accepted and the
 /// pins that it made.
@@ -24,7 +25,7 @@ pub struct Machine<A: Allocator + Copy = Global> {
 }
 
 impl<A: Allocator + Copy> Model for Machine<A> {
-    ghost use Rattle.trace_words.specs.Machine.{Past};
+    ghost use Rattle.trace_world.specs.Line.{Past};
     ghost use Rattle.trace_world.specs.Pins.{pins_of, AllPinned};
 
     ghost Value = { Past };
@@ -37,8 +38,7 @@ impl<A: Allocator + Copy> Model for Machine<A> {
 impl<A: Allocator + Copy> Machine<A> {
     ghost use Rattle.trace_words.specs.Reply.{answer_of, TellsFaults};
     ghost use Rattle.trace_words.specs.Parsed.{command_value};
-    ghost use Rattle.trace_words.specs.Does.{Brings};
-    ghost use Rattle.trace_words.specs.Outcome.{outcome_of};
+    ghost use Rattle.trace_world.specs.Does.{Brings, In};
 
     /// A machine to which nothing happened yet. Takes no memory.
     pub fn new(alloc: A) -> Machine<A>
@@ -51,11 +51,10 @@ impl<A: Allocator + Copy> Machine<A> {
         }
     }
 
-    /// Carries out one line, given without its end. The one refusal is OutOfMemory.
+    /// Carries out one line, given without its end. The one refusal is OutOfMemory. Takes what its command takes.
     pub fn carry_out(&mut self, line: &[u8]) -> Result<Reply<A>, Refusal>
-        ensures answer { IfOk result (λ reply. answer_of reply ≡ answer_to self.old line.now) }
+        ensures answer { IfOk result (λ reply. Answers self.old line.now (answer_of reply) self.new) }
         ensures faults { IfOk result TellsFaults }
-        ensures after { OnOk result (self.new ≡ past_after self.old line.now) }
         ensures refusal { IsOkUnless result Refusal.OutOfMemory }
     {
         if line.is_empty() {
@@ -67,8 +66,10 @@ impl<A: Allocator + Copy> Machine<A> {
 
     /// Carries out a line that has a byte: the text that it is answered, or the refusal that it meets.
     fn attempt(&mut self, line: &[u8]) -> Result<Vec<u8, A>, Refusal>
-        ensures { Brings (line_outcome self.old (command_of line.now)) self.old self.new result }
+        ensures { Brings (LineComes self.old (command_of line.now)) self.old self.new result }
     {
+        // That the events so far lead to a world, in constant time.
+        let _ = self.desk.age();
         match parse(self.alloc, line)? {
             Some(command) => self.obey(command),
             None => Err(Refusal::BadLine),
@@ -77,7 +78,7 @@ impl<A: Allocator + Copy> Machine<A> {
 
     /// Does what the command asks: the text that it is answered, or the refusal that it meets.
     fn obey(&mut self, command: Command<A>) -> Result<Vec<u8, A>, Refusal>
-        ensures { Brings (outcome_of (after self.old.events) self.old.pins (command_value command)) self.old self.new result }
+        ensures { Brings (In self.old.events (λ w. Comes fnv1a w self.old.pins (command_value command))) self.old self.new result }
     {
         match command {
             Command::Pin(name) => self.pin(name),
@@ -87,7 +88,7 @@ impl<A: Allocator + Copy> Machine<A> {
     }
 
     fn pin(&mut self, name: Name) -> Result<Vec<u8, A>, Refusal>
-        ensures { Brings (pin_outcome (after self.old.events) self.old.pins name) self.old self.new result }
+        ensures { Brings (In self.old.events (λ w. at_replica w name (λ o. o ≡ Pinned (pin_text (length self.old.pins + 1)) name))) self.old self.new result }
     {
         let store = self.desk.store(name)?;
         let text = pin_answer(self.alloc, self.pins.len() as u64 + 1)?;
@@ -97,14 +98,12 @@ impl<A: Allocator + Copy> Machine<A> {
     }
 
     fn look(&self, pin: u64, key: &[u8]) -> Result<Vec<u8, A>, Refusal>
-        ensures { Brings (look_outcome (pin_at self.now.pins pin) key.now) self.now self.now result }
+        ensures { Brings (In self.now.events (λ w. LooksAt fnv1a (pin_at self.now.pins pin) key.now)) self.now self.now result }
     {
-        let Some(pin) = pin_of(&self.pins, pin) else {
-            return Err(Refusal::BadLine);
-        };
-        let key = Key::new(self.alloc, key)?;
-        let found = values(self.alloc, &pin.store, &key, &Field::empty())?;
-        get_answer(self.alloc, found.as_slice())
+        match pin_of(&self.pins, pin) {
+            Some(pin) => look_at(self.alloc, &pin.store, key),
+            None => Err(Refusal::BadLine),
+        }
     }
 }
 

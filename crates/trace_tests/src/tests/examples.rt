@@ -113,6 +113,79 @@ fn depots_has_its_text(rt: HostRuntime) {
     answers(&rt, rt.alloc(), DEPOTS, DEPOTS_TEXT);
 }
 
+const OUTAGE: &str = "node 1
+node 2
+put 1 timeout 30
+put 1 banner hello
+put 1 retries 3
+flush 1
+deliver 1 2
+put 1 timeout 5
+remove 1 banner
+flush 1
+put 2 timeout 10
+show 2
+sync 2 1
+deliver 3 1
+put 1 limit 100
+deliver 4 2
+retry 2 1
+deliver 6 1
+deliver 7 2
+deliver 8 1
+deliver 9 2
+show 2
+context 2
+deliver 9 2
+deliver 2 2
+show 2
+flush 1
+deliver 10 2
+flush 2
+deliver 11 1
+digest 1
+digest 2
+";
+
+const OUTAGE_TEXT: &str = "ok
+ok
+ok 1:1
+ok 1:2
+ok 1:3
+sent 1:delta
+joined
+ok 1:4
+ok 1
+sent 2:delta
+ok 2:1
+map 3 banner 1 hello retries 1 3 timeout 1 10
+session 1 sent 3:hello
+sent 4:opening
+ok 1:5
+sent 5:ask/
+sent 6:ask/
+sent 7:page/
+sent 8:ask/8
+sent 9:page/8
+done
+map 2 retries 1 3 timeout 2 10 5
+context 1:4 2:1
+ignored
+joined
+map 2 retries 1 3 timeout 2 10 5
+sent 10:delta
+joined
+sent 11:delta
+joined
+2c99ef18b229c76e224fd0433e144307da131b425770d3c5a22d5b877d18adec
+2c99ef18b229c76e224fd0433e144307da131b425770d3c5a22d5b877d18adec
+";
+
+#[test]
+fn outage_has_its_text(rt: HostRuntime) {
+    answers(&rt, rt.alloc(), OUTAGE, OUTAGE_TEXT);
+}
+
 const REGISTRY: &str = "node 1
 node 2
 node 3

@@ -89,19 +89,16 @@ fn lines(text: &[u8]) -> usize {
 fn a_writer_that_takes_one_byte_a_call_gets_the_whole_text(rt: HostRuntime) {
     let mut reader = Watched::new(TRACE.as_bytes());
     let mut writer = taker(rt.alloc(), 1, u64::MAX);
-    assert_eq!(rt; run(rt.alloc(), &mut reader, &mut writer), Ok(()));
+    assert!(rt; run(rt.alloc(), &mut reader, &mut writer) == Ok(()));
     let written = writer.into_inner();
-    assert_eq!(rt; written.text.as_slice(), TEXT.as_bytes());
+    assert!(rt; written.text.as_slice() == TEXT.as_bytes());
 }
 
 #[test]
 fn a_writer_that_takes_nothing_is_a_failure(rt: HostRuntime) {
     let mut reader = Watched::new(TRACE.as_bytes());
     let mut writer = taker(rt.alloc(), 0, u64::MAX);
-    assert_eq!(rt;
-        run(rt.alloc(), &mut reader, &mut writer),
-        Err(Refusal::Output)
-    );
+    assert!(rt; run(rt.alloc(), &mut reader, &mut writer) == Err(Refusal::Output));
     assert!(rt; writer.failed());
 }
 
@@ -119,11 +116,11 @@ fn each_write_and_flush_may_fail_in_turn(rt: HostRuntime) {
         );
         if outcome.is_ok() {
             assert!(rt; !failed && call > 40);
-            assert_eq!(rt; written.text.as_slice(), TEXT.as_bytes());
+            assert!(rt; written.text.as_slice() == TEXT.as_bytes());
             return;
         }
         assert!(rt; failed, "call {call}");
-        assert_eq!(rt; outcome, Err(Refusal::Output), "call {call}");
+        assert!(rt; outcome == Err(Refusal::Output), "call {call}");
     }
     assert!(rt; false, "no run came through");
 }
@@ -143,17 +140,13 @@ fn each_read_may_fail_in_turn_and_whole_lines_were_answered(rt: HostRuntime) {
         assert!(rt; TEXT.as_bytes().starts_with(text.as_slice()), "call {call}");
         if outcome.is_ok() {
             assert!(rt; !reader.failed() && call > 40);
-            assert_eq!(rt; text.as_slice(), TEXT.as_bytes());
+            assert!(rt; text.as_slice() == TEXT.as_bytes());
             return;
         }
-        assert_eq!(rt; outcome, Err(Refusal::Input), "call {call}");
+        assert!(rt; outcome == Err(Refusal::Input), "call {call}");
         assert!(rt; reader.failed(), "call {call}");
         let read = bytes.len().saturating_sub(reader.into_inner().rest.len());
-        assert_eq!(rt;
-            lines(text.as_slice()),
-            lines(&bytes[..read]),
-            "call {call}"
-        );
+        assert!(rt; lines(text.as_slice()) == lines(&bytes[..read]), "call {call}");
     }
     assert!(rt; false, "no run came through");
 }

@@ -8,12 +8,12 @@ use watched_io::Watched;
 /// Runs the trace as one text and as a stream, which gives the same text, and the outcome of the stream.
 fn gives(rt: &impl Abort, alloc: Global, trace: &str, text: &str) -> Result<(), Refusal> {
     let whole = run_bytes(alloc, trace.as_bytes()).expect(rt, "memory");
-    assert_eq!(rt; whole.as_slice(), text.as_bytes());
+    assert!(rt; whole.as_slice() == text.as_bytes());
     let mut reader = Watched::new(trace.as_bytes());
     let mut writer = Watched::new(Vec::new(alloc));
     let outcome = run(alloc, &mut reader, &mut writer);
     let written = writer.into_inner();
-    assert_eq!(rt; written.as_slice(), text.as_bytes());
+    assert!(rt; written.as_slice() == text.as_bytes());
     outcome
 }
 
@@ -24,20 +24,20 @@ const CONCURRENT: &str =
 
 #[test]
 fn nothing_is_given_to_nothing(rt: HostRuntime) {
-    assert_eq!(rt; gives(&rt, rt.alloc(), "", ""), Ok(()));
-    assert_eq!(rt; gives(&rt, rt.alloc(), "\n\n", ""), Ok(()));
+    assert!(rt; gives(&rt, rt.alloc(), "", "") == Ok(()));
+    assert!(rt; gives(&rt, rt.alloc(), "\n\n", "") == Ok(()));
 }
 
 #[test]
 fn a_value_travels_from_one_replica_to_another(rt: HostRuntime) {
     let text = "ok\nok\nok 1:1\nsent 1:delta\njoined\n= x\n";
-    assert_eq!(rt; gives(&rt, rt.alloc(), ONE_VALUE, text), Ok(()));
+    assert!(rt; gives(&rt, rt.alloc(), ONE_VALUE, text) == Ok(()));
 }
 
 #[test]
 fn concurrent_values_are_both_shown(rt: HostRuntime) {
     let text = "ok\nok\nok 1:1\nok 2:1\nsent 1:delta\nsent 2:delta\njoined\njoined\n= x y\n= x y\n";
-    assert_eq!(rt; gives(&rt, rt.alloc(), CONCURRENT, text), Ok(()));
+    assert!(rt; gives(&rt, rt.alloc(), CONCURRENT, text) == Ok(()));
 }
 
 #[test]
@@ -46,7 +46,7 @@ fn a_put_overwrites_what_it_observed(rt: HostRuntime) -> Result<(), Fail> {
     trace.push_str("put 1 a z\nflush 1\ndeliver 3 2\nget 1 a\nget 2 a\nflush 2\n")?;
     let text =
         "ok\nok\nok 1:1\nok 2:1\nsent 1:delta\nsent 2:delta\njoined\njoined\n= x y\n= x y\nok 1:2\nsent 3:delta\njoined\n= z\n= z\nempty\n";
-    assert_eq!(rt; gives(&rt, rt.alloc(), trace.as_str(), text), Ok(()));
+    assert!(rt; gives(&rt, rt.alloc(), trace.as_str(), text) == Ok(()));
     Ok(())
 }
 
@@ -54,7 +54,7 @@ fn a_put_overwrites_what_it_observed(rt: HostRuntime) -> Result<(), Fail> {
 fn a_message_may_come_twice_and_to_its_sender(rt: HostRuntime) {
     let trace = "node 1\nput 1 a x\nflush 1\nput 1 a y\ndeliver 1 1\ndeliver 1 1\nget 1 a\n";
     let text = "ok\nok 1:1\nsent 1:delta\nok 1:2\njoined\njoined\n= y\n";
-    assert_eq!(rt; gives(&rt, rt.alloc(), trace, text), Ok(()));
+    assert!(rt; gives(&rt, rt.alloc(), trace, text) == Ok(()));
 }
 
 #[test]
@@ -62,7 +62,7 @@ fn texts_are_shown_as_themselves_or_in_digits(rt: HostRuntime) {
     let trace =
         "node 1\nput 1 # #\nput 1 #61 #C3a9\nget 1 #\nget 1 a\nput 1 b #2361\nget 1 b\nput 1 c x#\nget 1 c\nget 1 d\n";
     let text = "ok\nok 1:1\nok 1:2\n= #\n= #c3a9\nok 1:3\n= #2361\nok 1:4\n= x#\n=\n";
-    assert_eq!(rt; gives(&rt, rt.alloc(), trace, text), Ok(()));
+    assert!(rt; gives(&rt, rt.alloc(), trace, text) == Ok(()));
 }
 
 #[test]
@@ -92,35 +92,19 @@ fn lines_that_are_no_commands_end_the_trace(rt: HostRuntime) {
         "sizes 1",
         "\r",
     ] {
-        assert_eq!(rt;
-            gives(&rt, rt.alloc(), line, "error line 1: BadLine\n"),
-            Err(Refusal::BadLine),
-            "{line}"
-        );
+        assert!(rt; gives(&rt, rt.alloc(), line, "error line 1: BadLine\n") == Err(Refusal::BadLine), "{line}");
     }
 }
 
 #[test]
 fn faults_are_found_in_their_order(rt: HostRuntime) {
     let unknown = "error line 1: UnknownReplica\n";
-    assert_eq!(rt;
-        gives(&rt, rt.alloc(), "get 9 a", unknown),
-        Err(Refusal::UnknownReplica)
-    );
-    assert_eq!(rt;
-        gives(&rt, rt.alloc(), "deliver 1 1", unknown),
-        Err(Refusal::UnknownReplica)
-    );
+    assert!(rt; gives(&rt, rt.alloc(), "get 9 a", unknown) == Err(Refusal::UnknownReplica));
+    assert!(rt; gives(&rt, rt.alloc(), "deliver 1 1", unknown) == Err(Refusal::UnknownReplica));
     let taken = "ok\nerror line 3: NameTaken\n";
-    assert_eq!(rt;
-        gives(&rt, rt.alloc(), "node 1\n\nnode 1\nnode 2\n", taken),
-        Err(Refusal::NameTaken)
-    );
+    assert!(rt; gives(&rt, rt.alloc(), "node 1\n\nnode 1\nnode 2\n", taken) == Err(Refusal::NameTaken));
     let message = "ok\nerror line 2: UnknownMessage\n";
-    assert_eq!(rt;
-        gives(&rt, rt.alloc(), "node 1\ndeliver 1 1\nnode 2", message),
-        Err(Refusal::UnknownMessage)
-    );
+    assert!(rt; gives(&rt, rt.alloc(), "node 1\ndeliver 1 1\nnode 2", message) == Err(Refusal::UnknownMessage));
 }
 
 #[test]
@@ -132,17 +116,14 @@ fn the_greatest_name_and_the_longest_key_are_taken(rt: HostRuntime) -> Result<()
         "node 18446744073709551615\nput 18446744073709551615 {key} x\nget 18446744073709551615 {key}\n"
     )?;
     let text = "ok\nok 18446744073709551615:1\n= x\n";
-    assert_eq!(rt; gives(&rt, alloc, trace.as_str(), text), Ok(()));
+    assert!(rt; gives(&rt, alloc, trace.as_str(), text) == Ok(()));
     let longer = format!(in alloc;
         "get 1 {key}K\nnode 1\nput 1 {key}K x\nput 1 a {key}K\nget 1 {key}K\nget 1 a\n"
     )?;
     let unknown = "error line 1: UnknownReplica\n";
-    assert_eq!(rt;
-        gives(&rt, alloc, longer.as_str(), unknown),
-        Err(Refusal::UnknownReplica)
-    );
+    assert!(rt; gives(&rt, alloc, longer.as_str(), unknown) == Err(Refusal::UnknownReplica));
     let refused = "ok\nrefused TooLong\nrefused TooLong\nrefused TooLong\n=\n";
     let (_, later) = longer.as_str().split_once('\n').expect(&rt, "two lines");
-    assert_eq!(rt; gives(&rt, alloc, later, refused), Ok(()));
+    assert!(rt; gives(&rt, alloc, later, refused) == Ok(()));
     Ok(())
 }

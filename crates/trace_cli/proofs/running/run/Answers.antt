@@ -20,7 +20,7 @@ returns-then-count-eq0-clause-ok g c =
     let room : 0 < length c.read.new.buf = omega arith in
     on_ok_weaker c.finish.result
     (λ then. let end = Ran-finishes _ _ _ _ _ _ _ _ c.calls.invariant.led nothing then in
-    (end.0, end.1, (c.in-Ok.ensures.bytes.1 c.if-count-eq0.true room, end.2.0, end.2.1)))
+    (end.0, end.1, (c.in-Ok.ensures.bytes.1 c.if-count-eq0.true room, end.2)))
     c.finish.ensures.ok
 
 pub returns-then-count-eq0-clause-fault : goal.returns-then-count-eq0-clause-fault
@@ -29,7 +29,8 @@ returns-then-count-eq0-clause-fault g c =
     let room : 0 < length c.read.new.buf = omega arith in
     IfErr-weaker c.finish.result _ _
     (λ refusal told is. let end = Ran-finishes _ _ _ _ _ _ _ _ c.calls.invariant.led nothing (told is) in
-    (end.0, end.1, (end.2.0, end.2.1, at_end end.0 _ (c.in-Ok.ensures.bytes.1 c.if-count-eq0.true room))))
+    let given = end.2 in
+    (end.0, end.1, (given.0, given.1, given.2, given.3, at_end end.0 given.0 _ (c.in-Ok.ensures.bytes.1 c.if-count-eq0.true room) given.1)))
     c.finish.ensures.fault
 
 pub returns-then-count-eq0-clause-front : goal.returns-then-count-eq0-clause-front

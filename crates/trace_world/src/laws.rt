@@ -1,0 +1,13 @@
+// Laws of what a line is answered.
+ghost use Rattle.trace_world.specs.Laws.{AnswersAreOne, ReadsAreSeen};
+
+/// After given lines before it, a line has one answer.
+pub fn a_line_has_one_answer()
+    ensures { AnswersAreOne }
+{}
+
+/// What `get`, `getf`, `fields`, `show`, `size`, `context` and `digest` are answered is told by the set of operations that the replica has
+/// seen alone, after every list of events, unless two pages or two values that one session met have one SHA-256.
+pub fn reads_tell_what_was_seen()
+    ensures { ReadsAreSeen }
+{}
