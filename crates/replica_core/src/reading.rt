@@ -1,5 +1,6 @@
 // What a replica shows.
 ghost use Rattle.std.specs.Prelude.{◌≡◌, ◌↔◌, ℕ, List, [], length, IfOk, IsOkUnless, IsTrue};
+ghost use Rattle.delta_ops.specs.LiveMap.{store_state};
 ghost use Rattle.op_model.specs.Meaning.{Stands, StandsWithin, HoldsField, HoldsKey};
 ghost use Rattle.op_model.specs.Place.{place_of, plain};
 ghost use Rattle.prefix_digest.specs.MapOf.{IsMapOf};
@@ -15,6 +16,7 @@ use dots::{Field, Key, Refusal, Value};
 use hash_path::{PathHash, Prefix};
 use prefix_digest::{FrozenMap, digest};
 use std::alloc::Allocator;
+use sync_protocol::FieldStore;
 
 impl<H: PathHash, A: Allocator + Copy> Replica<H, A> {
     /// The distinct values of the key at its empty field, ascending by bytes: those that were written concurrently and were neither
@@ -102,5 +104,16 @@ impl<H: PathHash, A: Allocator + Copy> Replica<H, A> {
         prove!(is_mapped(self.live.store()));
         let frozen = self.live.store().frozen().copy()?;
         Ok(frozen)
+    }
+
+    /// The store of what it holds, which stays so whatever is written. Copies nothing: it takes a reference count, and is refused only
+    /// where that is full.
+    /// Its only refusal is OutOfMemory.
+    pub fn share(&self) -> Result<FieldStore<H, A>, Refusal>
+        ensures ok { IfOk result (λ store. (store_state store).at ≡ (meaning self.now).live.at) }
+        ensures refused { IsOkUnless result Refusal.OutOfMemory }
+    {
+        let store = self.live.store().share()?;
+        Ok(store)
     }
 }
