@@ -18,6 +18,10 @@ prefix_between xs ys zs p q le = sym (prefix_whole xs zs (prefix_trans xs ys zs 
 pub prefix_longer : {A : Type 0} (xs ys : List A) (x : A) → IsPrefix (xs ++ x ∷ []) ys → length ys ≤ length xs + 1 → ys ≡ xs ++ x ∷ []
 prefix_longer xs ys x p le = sym (prefix_whole (xs ++ x ∷ []) ys p (omega (arith, length-append xs (x ∷ []))))
 
+pub none_of : {A : Type 0} (xs : List A) → length xs ≡ 0 → xs ≡ []
+none_of [] is = refl
+none_of (x ∷ xs) is = absurd (omega arith)
+
 pub zeros_at : (n p : ℕ) → slice_index (replicate n 0) p ≡ 0
 zeros_at zero p = search rules
 zeros_at (suc n) zero = search rules

@@ -3,6 +3,7 @@ use Rattle.std.proofs.Common.{◌≡◌, ℕ, ◌+◌, ◌-◌, ◌<◌, ◌≤�
 use mathlib.Core.List.{IsPrefix}
 use Rattle.shared_object.specs.History.{calls_by}
 use Rattle.shared_object.specs.Calling.{HasNotCalled, IsAccepted}
+use Rattle.shared_object.specs.Finishing.{IsOwn}
 use Rattle.shared_object.proofs.Calls.{calls_kept, calls_own, calls_more, calls_length}
 
 module _ {E : Type 0} (place : E → ℕ) where
@@ -15,6 +16,11 @@ module _ {E : Type 0} (place : E → ℕ) where
   pub accepted : (p n : ℕ) (front history : List E) (e : E) → n ≤ length (calls_by place p front) → IsPrefix front history → length (calls_by place p history) ≡ n
       → IsAccepted place (record { place = p; operations = n; front = front }) (record { place = p; operations = n + 1; front = history ++ e ∷ [] }) history e
   accepted p n front history e le pre own = record { seen = pre; own = calls_own place p front history n pre le own; seat = refl; operations = refl; front = refl }
+
+  -- its calls are all that its place has
+  pub own_calls : (p n : ℕ) (front history : List E) → n ≤ length (calls_by place p front) → IsPrefix front history → length (calls_by place p history) ≡ n
+      → IsOwn place history (record { place = p; operations = n; front = front })
+  own_calls p n front history le pre own = record { seen = pre; calls = calls_own place p front history n pre le own }
 
   -- and there are enough of its calls in what it has seen then
   pub accepted_within : (p n : ℕ) (history : List E) (e : E) → place e ≡ p → length (calls_by place p history) ≡ n

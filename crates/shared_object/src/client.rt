@@ -1,10 +1,12 @@
-ghost use Rattle.std.specs.Prelude.{◌≡◌, ◌⊎◌, ◌<◌, ◌≤◌, ◌++◌, ◌∷◌, [], List, length, IfOk, IfErr, OnErr, OnOk};
+ghost use Rattle.std.specs.Prelude.{◌≡◌, ◌⊎◌, ◌<◌, ◌≤◌, ◌++◌, ◌∷◌, [], List, length, IfOk, IfErr, OnErr, OnOk, IsTrue};
 ghost use mathlib.Core.List.{IsPrefix};
 ghost use Rattle.dots.specs.declared.refusal.Refusal.TheVariants.{NoPlace};
 ghost use Rattle.shared_object.specs.History.{calls_by, made};
 ghost use Rattle.shared_object.specs.Calling.{HasNotCalled, IsAccepted, IsRefused};
+ghost use Rattle.shared_object.specs.Finishing.{IsOwn};
 
 use crate::act::Act;
+use crate::desk::Desk;
 use crate::gate::Gate;
 use crate::look::Look;
 use crate::object::Object;
@@ -61,6 +63,13 @@ impl<R: Drop, E: Placed, J: Brand<R, E>, S: Drop, A: Allocator> Client<R, E, J, 
         ensures { result ≡ self.now.operations }
     {
         self.operations
+    }
+
+    /// Its place.
+    pub(crate) fn place(&self) -> usize
+        ensures { result ≡ self.now.place }
+    {
+        self.place
     }
 
     /// Takes in a receipt of another client: afterwards it has seen the longer of its own front and the receipt's, which the other
@@ -132,5 +141,18 @@ impl<
             }
             Err(refusal) => Err(refusal),
         }
+    }
+
+    /// Whether the calls of its place at the desk are just those that it made. It has learnt the history in any case.
+    pub(crate) fn meet(&mut self, desk: &Desk<D, R, E, J, W, A>) -> bool
+        ensures own { IsTrue result → IsOwn E.place desk.now self.old }
+        ensures not_called { HasNotCalled E.place self.old self.new }
+    {
+        let Some(view) = self.view.take() else {
+            unreachable!()
+        };
+        let (view, is_met) = desk.meet(view, self.place, self.operations);
+        self.view = Some(view);
+        is_met
     }
 }

@@ -1,10 +1,11 @@
-ghost use Rattle.std.specs.Prelude.{◌≡◌, ◌≢◌, ◌⊎◌, ◌<◌, ◌+◌, ◌-◌, ◌^◌, ◌++◌, ◌∷◌, [], ℕ, length, slice_index, IfOk, IfErr, IsTrue};
+ghost use Rattle.std.specs.Prelude.{◌≡◌, ◌≢◌, ◌⊎◌, ◌<◌, ◌≤◌, ◌+◌, ◌-◌, ◌^◌, ◌++◌, ◌∷◌, [], ℕ, length, slice_index, IfOk, IfErr, IsTrue};
 ghost use mathlib.Core.List.{IsPrefix};
 ghost use Rattle.dots.specs.declared.refusal.Refusal.TheVariants.{NoPlace};
 ghost use Rattle.shared_object.specs.History.{AreCounts, calls_by};
 ghost use Rattle.shared_object.specs.Calling.{IsRefused};
 
 use crate::act::{Act, Made, Making};
+use crate::finishing::Finished;
 use crate::object::Object;
 use crate::placed::Placed;
 use dots::Refusal;
@@ -88,6 +89,39 @@ impl<D: Drop, R: Drop, E: Placed, J: Object<D, R, E>, W: Wait + Drop, A: Allocat
         ensures { result ≡ length (calls_by E.place place self.now) }
     {
         self.counts[place]
+    }
+
+    /// How many calls it had.
+    pub(crate) fn events(&self) -> u64
+        ensures { result ≡ length self.now }
+    {
+        self.events
+    }
+
+    /// Whether no call came from the places from this one on.
+    pub(crate) fn has_none_from(&self, taken: usize) -> bool
+        ensures { IsTrue result → ((p : ℕ) → taken ≤ p → calls_by E.place p self.now ≡ []) }
+    {
+        is_zero_from(&self.counts, taken)
+    }
+
+    /// Ends the writer, and gives the object out.
+    pub(crate) fn close(self) -> Finished<D>
+        ensures object { J.after result.object self }
+        ensures operations { result.operations ≡ length self }
+    {
+        let Desk {
+            object,
+            events,
+            counts: _,
+            writer,
+            rt,
+        } = self;
+        writer.end(&rt);
+        Finished {
+            object,
+            operations: events,
+        }
     }
 
     /// Whether the View, once it has learnt all that is published, has seen the history, and so many of its calls came from this place. It
@@ -214,6 +248,18 @@ impl<D: Drop, R: Drop, E: Placed, J: Object<D, R, E>, W: Wait + Drop, A: Allocat
             }
         }
     }
+}
+
+// Whether all counts from this place on are 0.
+fn is_zero_from(counts: &[u64; PLACES], taken: usize) -> bool
+    ensures { IsTrue result → ((p : ℕ) → taken ≤ p → slice_index counts.now p ≡ 0) }
+{
+    for place in taken..PLACES {
+        if counts[place] != 0 {
+            return false;
+        }
+    }
+    true
 }
 
 // The counts of no calls.

@@ -7,6 +7,7 @@
 mod act;
 mod client;
 mod desk;
+mod finishing;
 mod gate;
 mod look;
 mod object;
@@ -17,6 +18,7 @@ mod shared;
 
 pub use act::Act;
 pub use client::Client;
+pub use finishing::{Finished, Unfinished};
 pub use gate::{Gate, NoGate, Point};
 pub use look::Look;
 pub use object::Object;

@@ -112,4 +112,16 @@ impl<R: Drop, E: Placed, J: Brand<R, E>, S: Drop, A: Allocator + Copy> Owner<R, 
             None => Err(Refusal::NoPlace),
         }
     }
+
+    /// What its clients share.
+    pub(crate) fn shared(&self) -> &S {
+        &self.shared
+    }
+
+    /// How many places were taken.
+    pub(crate) fn taken(&self) -> usize
+        ensures { result ≡ self.now.taken }
+    {
+        self.taken
+    }
 }
