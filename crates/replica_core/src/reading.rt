@@ -1,9 +1,8 @@
 // What a replica shows.
 ghost use Rattle.std.specs.Prelude.{◌≡◌, ◌↔◌, ℕ, List, [], length, IfOk, IsOkUnless, IsTrue};
-ghost use Rattle.op_model.specs.Meaning.{Stands, StandsWithin, HoldsField, HoldsKey};
-ghost use Rattle.op_model.specs.Place.{Place, place_of, plain};
 ghost use Rattle.delta_ops.specs.LiveMap.{store_state};
-ghost use Rattle.dots.specs.Dot.{DotValue};
+ghost use Rattle.op_model.specs.Meaning.{Stands, StandsWithin, HoldsField, HoldsKey};
+ghost use Rattle.op_model.specs.Place.{place_of, plain};
 ghost use Rattle.prefix_digest.specs.MapOf.{IsMapOf};
 ghost use Rattle.prefix_digest.specs.Page.{digest_at};
 ghost use Rattle.sync_model.specs.Differ.{Held};
@@ -12,11 +11,12 @@ ghost use Rattle.replica_core.specs.Reading.{Lists};
 
 use crate::mapped::is_mapped;
 use crate::replica::Replica;
-use delta_ops::{LiveStore, fields, keys, size, values, values_of_key};
+use delta_ops::{fields, keys, size, values, values_of_key};
 use dots::{Field, Key, Refusal, Value};
 use hash_path::{PathHash, Prefix};
-use prefix_digest::{FrozenMap, ShaSummary, digest};
+use prefix_digest::{FrozenMap, digest};
 use std::alloc::Allocator;
+use sync_protocol::FieldStore;
 
 impl<H: PathHash, A: Allocator + Copy> Replica<H, A> {
     /// The distinct values of the key at its empty field, ascending by bytes: those that were written concurrently and were neither
@@ -107,12 +107,11 @@ impl<H: PathHash, A: Allocator + Copy> Replica<H, A> {
     }
 
     /// What it holds as it is, which stays so whatever is written: `values`, `values_of_key`, `fields`, `keys` and `size` of `delta_ops`
-    /// read it. Copies nothing: it takes a reference count.
+    /// read it. Copies nothing: it takes a reference count, and is refused only where that is full.
     /// Its only refusal is OutOfMemory.
-    pub fn store(&self) -> Result<LiveStore<ShaSummary, H, A>, Refusal>
+    pub fn share(&self) -> Result<FieldStore<H, A>, Refusal>
         ensures hash { IfOk result (λ store. store.0 ≡ hash_in self.now) }
-        ensures ok { IfOk result (λ store. (place : Place) (dot : DotValue)
-            → (store_state store).at place dot ≡ (meaning self.now).live.at place dot) }
+        ensures ok { IfOk result (λ store. (store_state store).at ≡ (meaning self.now).live.at) }
         ensures refused { IsOkUnless result Refusal.OutOfMemory }
     {
         let store = self.live.store().share()?;

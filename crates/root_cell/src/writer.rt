@@ -101,15 +101,41 @@ impl<R: Drop, E, J: Brand<R, E>, A: Allocator + Copy> Writer<R, E, J, A> {
                 return (writer, Err(failed.into()));
             }
         };
+        let writer = Writer {
+            alloc,
+            desk,
+            head,
+            front,
+        };
+        (writer.publish_placed::<X, M, W>(rt, root, about), Ok(()))
+    }
+
+    /// Publishes a root that has its place already, and adds the event that `about` tells to the cell's list. It may wait for Views to
+    /// leave. It is not refused and takes no memory, so whoever changes something beside the cell can make the place first.
+    pub fn publish_placed<X, M: About<X, E>, W: Wait>(
+        self,
+        rt: &W,
+        root: Arc<R, A>,
+        about: &X,
+    ) -> Writer<R, E, J, A>
+        requires room { length self < 2 ^ 64 - 1 }
+        requires stands { J.stands root.value (self ++ (M.event about.now) ∷ []) }
+        ensures { result ≡ self ++ (M.event about.now) ∷ [] }
+    {
+        let Writer {
+            alloc,
+            desk,
+            head,
+            front,
+        } = self;
         let front = add::<R, E, J, X, M, W>(rt, &front, &head, about);
         let published = Published::new(root, front.events(), front.seen());
-        let writer = Writer {
+        Writer {
             alloc,
             desk: put_out(rt, desk, published),
             head,
             front,
-        };
-        (writer, Ok(()))
+        }
     }
 
     /// Whether something is published that the View neither saw nor learnt. If not, it saw or learnt all that is published.

@@ -102,7 +102,7 @@ impl<A: Allocator + Copy> Desk<A> {
             ((refusal ≡ Refusal.UnknownReplica) × ((w : model.World) → Runs fnv1a nothing self.now w → is_node w name ≡ false))) }
     {
         match self.world.replica(name) {
-            Some(replica) => replica.store(),
+            Some(replica) => replica.share(),
             None => Err(Refusal::UnknownReplica),
         }
     }

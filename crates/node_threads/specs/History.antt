@@ -1,0 +1,55 @@
+-- What the clients of a node are told, by its one history: as a replica of one thread tells it after a front of that history. Of this
+-- project, over the step of one replica in `replica_model`.
+use Rattle.std.specs.Prelude.{◌≡◌, ℕ, List, map}
+use Rattle.delta_ops.specs.LiveMap.{store_state}
+use Rattle.causal_join.specs.OrMap.{FieldsValue}
+use Rattle.dots.specs.declared.refusal.Refusal.{Refusal}
+use Rattle.hash_path.specs.Fnv1a.{fnv1a}
+use Rattle.op_model.specs.Place.{place_of}
+use Rattle.replica_model.specs.History as model
+use Rattle.replica_model.specs.Mail.{Mail, mail_of}
+use Rattle.replica_model.specs.Replica.{Replica}
+use Rattle.replica_model.specs.Step as step
+use Rattle.replica_model.specs.Step.{Act, Answer, Call, IsStep, Refuses}
+use Rattle.trie_map.specs.Keyed.{TrieMapValue}
+use Rattle.wire_form.specs.Message.{message_of}
+use Rattle.node_threads.specs.declared.deed.Deed.{Deed}
+use Rattle.node_threads.specs.declared.deed.Deed.TheVariants.{Put, Remove, RemoveField, Clear, Flush, Ask, Retry, Abandon, Deliver}
+use Rattle.node_threads.specs.declared.entry.Entry.{Entry}
+
+-- a call of a client, in the words of the model
+abbrev pub act_of : {A : Type 0} → Deed A → Act
+act_of (Put key field value) = step.Do (step.Put (place_of key field) value)
+act_of (Remove key) = step.Do (step.Remove key)
+act_of (RemoveField key field) = step.Do (step.RemoveField (place_of key field))
+act_of Clear = step.Do step.Clear
+act_of Flush = step.Do step.Flush
+act_of (Ask peer) = step.Do (step.Ask peer)
+act_of (Retry number) = step.Do (step.Retry number)
+act_of (Abandon number) = step.Do (step.Abandon number)
+act_of (Deliver message) = step.Take (mail_of (message_of message))
+
+-- an event of a history, and a history
+abbrev pub entry_of : {A : Type 0} → Entry A → model.Entry
+entry_of e = record { place = e.place; act = act_of e.deed }
+
+-- the replica of this name is this one after the history: there is one at most
+abbrev pub IsAfter : {A : Type 0} → ℕ → List (Entry A) → Replica → Type 0
+IsAfter name history r = model.IsAfter fnv1a name (map entry_of history) r
+
+-- a store holds what the replica does after the history
+abbrev pub StandsFor : {Hash A : Type 0} → ℕ → TrieMapValue Hash FieldsValue → List (Entry A) → Type 0
+StandsFor name store history = (r : Replica) × IsAfter name history r × ((store_state store).at ≡ r.live.at)
+
+-- the call is answered this after the history, and sends these
+abbrev pub Replies : {A : Type 0} → ℕ → List (Entry A) → Deed A → Answer → List Mail → Type 0
+Replies name history deed answer out =
+    (r : Replica) × (next : Replica) × IsAfter name history r × IsStep fnv1a r (act_of deed) next answer out
+
+-- the call is refused so after the history, want of memory aside
+abbrev pub RefusesAfter : {A : Type 0} → ℕ → List (Entry A) → Call → Refusal → Type 0
+RefusesAfter name history call refusal = (r : Replica) × IsAfter name history r × Refuses r call refusal
+
+-- nothing refuses it
+abbrev pub NeverRefuses : {A : Type 0} → List (Entry A) → Refusal → Type 0
+NeverRefuses history refusal = ⊥

@@ -1,0 +1,123 @@
+// What a client does with the own synchronisations of its node.
+ghost use Rattle.std.specs.Prelude.{[], ◌∷◌, refl};
+ghost use Rattle.wire_form.specs.Message.{message_of};
+ghost use Rattle.replica_core.specs.Answered.{outcome_of};
+ghost use Rattle.replica_core.specs.Stepping.{mails_of};
+ghost use Rattle.replica_model.specs.Mail.{mail_of};
+ghost use Rattle.replica_model.specs.Step.{Came, Closed, Numbered};
+ghost use Rattle.replica_model.specs.Step as step;
+ghost use Rattle.node_threads.specs.declared.deed.Deed.TheVariants.{Ask, Retry, Abandon};
+ghost use Rattle.node_threads.specs.History.{NeverRefuses, RefusesAfter, Replies};
+
+use crate::entry::Entry;
+use crate::named::{Named, Naming, Root};
+use crate::showing::{place_for, show};
+use dots::{Name, Refusal};
+use hash_path::Fnv1a;
+use replica_core::{Delivered, Replica};
+use shared_object::Act;
+use std::alloc::Allocator;
+use std::sync::{Arc, Wait};
+use wire_form::Message;
+
+/// Opens a synchronisation with a peer.
+pub struct Asking<A: Allocator + Copy> {
+    /// Where memory for the root is taken.
+    pub alloc: A,
+    /// The peer.
+    pub peer: Name,
+}
+
+impl<K: Naming, A: Allocator + Copy> Act<Replica<Fnv1a, A>, Root<A>, Entry<A>, Named<K>, A>
+    for Asking<A> {
+    type Reply = (u64, Message<A>);
+
+    ghost event = { λ c place. record { place = place; deed = Ask c.peer } };
+
+    ghost answers = { λ c history asked. Replies K.name history (Ask c.peer) (Numbered asked.0) (mail_of (message_of asked.1) ∷ []) };
+
+    ghost refuses = { λ c history refusal. RefusesAfter K.name history (step.Ask c.peer) refusal };
+
+    fn act<W: Wait>(
+        &self,
+        rt: &W,
+        replica: &mut Replica<Fnv1a, A>,
+    ) -> Result<((u64, Message<A>), Arc<Root<A>, A>), Refusal> {
+        let place = place_for(self.alloc, replica)?;
+        let reply = match replica.ask(self.peer) {
+            Ok(reply) => reply,
+            Err(refusal) => return Err(refusal),
+        };
+        let root = show(rt, replica, place);
+        Ok((reply, root))
+    }
+
+    ghost placed = { λ c place. refl };
+}
+
+/// Sends a synchronisation's messages again.
+pub struct Retrying<A: Allocator + Copy> {
+    /// Where memory for the root is taken.
+    pub alloc: A,
+    /// The synchronisation's number.
+    pub number: u64,
+}
+
+impl<K: Naming, A: Allocator + Copy> Act<Replica<Fnv1a, A>, Root<A>, Entry<A>, Named<K>, A>
+    for Retrying<A> {
+    type Reply = Delivered<A>;
+
+    ghost event = { λ c place. record { place = place; deed = Retry c.number } };
+
+    ghost answers = { λ c history told. Replies K.name history (Retry c.number) (Came (outcome_of told.outcome)) (mails_of told.replies.items) };
+
+    ghost refuses = { λ c history refusal. NeverRefuses history refusal };
+
+    fn act<W: Wait>(
+        &self,
+        rt: &W,
+        replica: &mut Replica<Fnv1a, A>,
+    ) -> Result<(Delivered<A>, Arc<Root<A>, A>), Refusal> {
+        let place = place_for(self.alloc, replica)?;
+        let reply = match replica.retry(self.number) {
+            Ok(reply) => reply,
+            Err(refusal) => return Err(refusal),
+        };
+        let root = show(rt, replica, place);
+        Ok((reply, root))
+    }
+
+    ghost placed = { λ c place. refl };
+}
+
+/// Gives a synchronisation up.
+pub struct Abandoning<A: Allocator + Copy> {
+    /// Where memory for the root is taken.
+    pub alloc: A,
+    /// The synchronisation's number.
+    pub number: u64,
+}
+
+impl<K: Naming, A: Allocator + Copy> Act<Replica<Fnv1a, A>, Root<A>, Entry<A>, Named<K>, A>
+    for Abandoning<A> {
+    type Reply = bool;
+
+    ghost event = { λ c place. record { place = place; deed = Abandon c.number } };
+
+    ghost answers = { λ c history was_open. Replies K.name history (Abandon c.number) (Closed was_open) [] };
+
+    ghost refuses = { λ c history refusal. NeverRefuses history refusal };
+
+    fn act<W: Wait>(
+        &self,
+        rt: &W,
+        replica: &mut Replica<Fnv1a, A>,
+    ) -> Result<(bool, Arc<Root<A>, A>), Refusal> {
+        let place = place_for(self.alloc, replica)?;
+        let reply = replica.abandon(self.number);
+        let root = show(rt, replica, place);
+        Ok((reply, root))
+    }
+
+    ghost placed = { λ c place. refl };
+}

@@ -1,0 +1,53 @@
+// What a client takes in.
+ghost use Rattle.std.specs.Prelude.{refl};
+ghost use Rattle.replica_core.specs.Answered.{outcome_of};
+ghost use Rattle.replica_core.specs.Stepping.{mails_of};
+ghost use Rattle.replica_model.specs.Step.{Came};
+ghost use Rattle.node_threads.specs.declared.deed.Deed.TheVariants.{Deliver};
+ghost use Rattle.node_threads.specs.History.{NeverRefuses, Replies};
+
+use crate::entry::Entry;
+use crate::named::{Named, Naming, Root};
+use crate::showing::{place_for, show};
+use dots::Refusal;
+use hash_path::Fnv1a;
+use replica_core::{Delivered, Replica};
+use shared_object::Act;
+use std::alloc::Allocator;
+use std::sync::{Arc, Wait};
+use wire_form::Message;
+
+/// Takes a message in.
+pub struct Delivering<'a, A: Allocator + Copy> {
+    /// Where memory for the root is taken.
+    pub alloc: A,
+    /// The message.
+    pub message: &'a Message<A>,
+}
+
+impl<'a, K: Naming, A: Allocator + Copy> Act<Replica<Fnv1a, A>, Root<A>, Entry<A>, Named<K>, A>
+    for Delivering<'a, A> {
+    type Reply = Delivered<A>;
+
+    ghost event = { λ c place. record { place = place; deed = Deliver c.message.now } };
+
+    ghost answers = { λ c history told. Replies K.name history (Deliver c.message.now) (Came (outcome_of told.outcome)) (mails_of told.replies.items) };
+
+    ghost refuses = { λ c history refusal. NeverRefuses history refusal };
+
+    fn act<W: Wait>(
+        &self,
+        rt: &W,
+        replica: &mut Replica<Fnv1a, A>,
+    ) -> Result<(Delivered<A>, Arc<Root<A>, A>), Refusal> {
+        let place = place_for(self.alloc, replica)?;
+        let reply = match replica.deliver(self.message) {
+            Ok(reply) => reply,
+            Err(refusal) => return Err(refusal),
+        };
+        let root = show(rt, replica, place);
+        Ok((reply, root))
+    }
+
+    ghost placed = { λ c place. refl };
+}

@@ -1,0 +1,196 @@
+// The own operations of a client.
+ghost use Rattle.std.specs.Prelude.{[], refl};
+ghost use Rattle.op_model.specs.Place.{place_of};
+ghost use Rattle.replica_core.specs.Stepping.{mail_or_none};
+ghost use Rattle.replica_model.specs.Step.{Made, Counted, Nothing};
+ghost use Rattle.replica_model.specs.Step as step;
+ghost use Rattle.node_threads.specs.declared.deed.Deed.TheVariants.{Put, Remove, RemoveField, Clear, Flush};
+ghost use Rattle.node_threads.specs.History.{NeverRefuses, RefusesAfter, Replies};
+
+use crate::entry::Entry;
+use crate::named::{Named, Naming, Root};
+use crate::showing::{place_for, show};
+use dots::{Dot, Field, Key, Refusal, Value};
+use hash_path::Fnv1a;
+use replica_core::Replica;
+use shared_object::Act;
+use std::alloc::Allocator;
+use std::sync::{Arc, Wait};
+use wire_form::Message;
+
+/// Writes a value on a field of a key.
+pub struct Putting<'a, A: Allocator + Copy> {
+    /// Where memory for the root is taken.
+    pub alloc: A,
+    /// The key.
+    pub key: &'a Key<A>,
+    /// The field.
+    pub field: &'a Field<A>,
+    /// The value.
+    pub value: &'a Value<A>,
+}
+
+impl<'a, K: Naming, A: Allocator + Copy> Act<Replica<Fnv1a, A>, Root<A>, Entry<A>, Named<K>, A>
+    for Putting<'a, A> {
+    type Reply = Dot;
+
+    ghost event = { λ c place. record { place = place; deed = Put c.key.now c.field.now c.value.now } };
+
+    ghost answers = { λ c history dot. Replies K.name history (Put c.key.now c.field.now c.value.now) (Made dot) [] };
+
+    ghost refuses = { λ c history refusal. RefusesAfter K.name history (step.Put (place_of c.key.now c.field.now) c.value.now) refusal };
+
+    fn act<W: Wait>(
+        &self,
+        rt: &W,
+        replica: &mut Replica<Fnv1a, A>,
+    ) -> Result<(Dot, Arc<Root<A>, A>), Refusal> {
+        let place = place_for(self.alloc, replica)?;
+        let reply = match replica.put_field(self.key, self.field, self.value) {
+            Ok(reply) => reply,
+            Err(refusal) => return Err(refusal),
+        };
+        let root = show(rt, replica, place);
+        Ok((reply, root))
+    }
+
+    ghost placed = { λ c place. refl };
+}
+
+/// Takes a key away.
+pub struct Removing<'a, A: Allocator + Copy> {
+    /// Where memory for the root is taken.
+    pub alloc: A,
+    /// The key.
+    pub key: &'a Key<A>,
+}
+
+impl<'a, K: Naming, A: Allocator + Copy> Act<Replica<Fnv1a, A>, Root<A>, Entry<A>, Named<K>, A>
+    for Removing<'a, A> {
+    type Reply = u64;
+
+    ghost event = { λ c place. record { place = place; deed = Remove c.key.now } };
+
+    ghost answers = { λ c history number. Replies K.name history (Remove c.key.now) (Counted number) [] };
+
+    ghost refuses = { λ c history refusal. NeverRefuses history refusal };
+
+    fn act<W: Wait>(
+        &self,
+        rt: &W,
+        replica: &mut Replica<Fnv1a, A>,
+    ) -> Result<(u64, Arc<Root<A>, A>), Refusal> {
+        let place = place_for(self.alloc, replica)?;
+        let reply = match replica.remove(self.key) {
+            Ok(reply) => reply,
+            Err(refusal) => return Err(refusal),
+        };
+        let root = show(rt, replica, place);
+        Ok((reply, root))
+    }
+
+    ghost placed = { λ c place. refl };
+}
+
+/// Takes a field of a key away.
+pub struct FieldRemoving<'a, A: Allocator + Copy> {
+    /// Where memory for the root is taken.
+    pub alloc: A,
+    /// The key.
+    pub key: &'a Key<A>,
+    /// The field.
+    pub field: &'a Field<A>,
+}
+
+impl<'a, K: Naming, A: Allocator + Copy> Act<Replica<Fnv1a, A>, Root<A>, Entry<A>, Named<K>, A>
+    for FieldRemoving<'a, A> {
+    type Reply = u64;
+
+    ghost event = { λ c place. record { place = place; deed = RemoveField c.key.now c.field.now } };
+
+    ghost answers = { λ c history number. Replies K.name history (RemoveField c.key.now c.field.now) (Counted number) [] };
+
+    ghost refuses = { λ c history refusal. NeverRefuses history refusal };
+
+    fn act<W: Wait>(
+        &self,
+        rt: &W,
+        replica: &mut Replica<Fnv1a, A>,
+    ) -> Result<(u64, Arc<Root<A>, A>), Refusal> {
+        let place = place_for(self.alloc, replica)?;
+        let reply = match replica.remove_field(self.key, self.field) {
+            Ok(reply) => reply,
+            Err(refusal) => return Err(refusal),
+        };
+        let root = show(rt, replica, place);
+        Ok((reply, root))
+    }
+
+    ghost placed = { λ c place. refl };
+}
+
+/// Takes all keys away.
+pub struct Clearing<A: Allocator + Copy> {
+    /// Where memory for the root is taken.
+    pub alloc: A,
+}
+
+impl<K: Naming, A: Allocator + Copy> Act<Replica<Fnv1a, A>, Root<A>, Entry<A>, Named<K>, A>
+    for Clearing<A> {
+    type Reply = u64;
+
+    ghost event = { λ c place. record { place = place; deed = Clear } };
+
+    ghost answers = { λ c history number. Replies K.name history (Clear) (Counted number) [] };
+
+    ghost refuses = { λ c history refusal. NeverRefuses history refusal };
+
+    fn act<W: Wait>(
+        &self,
+        rt: &W,
+        replica: &mut Replica<Fnv1a, A>,
+    ) -> Result<(u64, Arc<Root<A>, A>), Refusal> {
+        let place = place_for(self.alloc, replica)?;
+        let reply = match replica.clear() {
+            Ok(reply) => reply,
+            Err(refusal) => return Err(refusal),
+        };
+        let root = show(rt, replica, place);
+        Ok((reply, root))
+    }
+
+    ghost placed = { λ c place. refl };
+}
+
+/// Sends what was made.
+pub struct Flushing<A: Allocator + Copy> {
+    /// Where memory for the root is taken.
+    pub alloc: A,
+}
+
+impl<K: Naming, A: Allocator + Copy> Act<Replica<Fnv1a, A>, Root<A>, Entry<A>, Named<K>, A>
+    for Flushing<A> {
+    type Reply = Option<Message<A>>;
+
+    ghost event = { λ c place. record { place = place; deed = Flush } };
+
+    ghost answers = { λ c history sent. Replies K.name history (Flush) (Nothing) (mail_or_none sent) };
+
+    ghost refuses = { λ c history refusal. NeverRefuses history refusal };
+
+    fn act<W: Wait>(
+        &self,
+        rt: &W,
+        replica: &mut Replica<Fnv1a, A>,
+    ) -> Result<(Option<Message<A>>, Arc<Root<A>, A>), Refusal> {
+        let place = place_for(self.alloc, replica)?;
+        let reply = match replica.flush() {
+            Ok(reply) => reply,
+            Err(refusal) => return Err(refusal),
+        };
+        let root = show(rt, replica, place);
+        Ok((reply, root))
+    }
+
+    ghost placed = { λ c place. refl };
+}

@@ -1,0 +1,93 @@
+// What a client reads.
+ghost use Rattle.std.specs.Prelude.{◌≡◌, IfOk, IsOkUnless};
+
+use crate::named::Root;
+use delta_ops::{fields, size, values};
+use dots::{Field, Key, Refusal, Value};
+use shared_object::Look;
+use std::alloc::Allocator;
+
+/// The distinct values of a field of a key, ascending by bytes. Takes two look-ups, and time and memory in what stands there.
+pub struct Getting<'a, A: Allocator + Copy> {
+    /// Where memory for the values is taken.
+    pub alloc: A,
+    /// The key.
+    pub key: &'a Key<A>,
+    /// The field.
+    pub field: &'a Field<A>,
+}
+
+impl<'a, A: Allocator + Copy> Look<Root<A>> for Getting<'a, A> {
+    ghost use Rattle.std.specs.Prelude.{IfOk, IsOkUnless};
+    ghost use Rattle.dots.specs.declared.refusal.Refusal.TheVariants.{OutOfMemory};
+    ghost use Rattle.delta_ops.specs.LiveMap.{store_state};
+    ghost use Rattle.op_model.specs.Meaning.{Stands};
+    ghost use Rattle.op_model.specs.Place.{place_of};
+    ghost use Rattle.replica_core.specs.Reading.{Lists};
+
+    type Found = Result<Vec<Value<A>, A>, Refusal>;
+
+    ghost finds = { λ look root found. IfOk found (λ v. Lists (Stands (store_state root) (place_of look.key.now look.field.now)) v.items) × IsOkUnless found OutOfMemory };
+
+    fn look(&self, root: &Root<A>) -> Result<Vec<Value<A>, A>, Refusal> {
+        values(self.alloc, root, self.key, self.field)
+    }
+}
+
+/// The fields of a key that hold a value, ascending by bytes. Takes a look-up, and time and memory in their number.
+pub struct FieldListing<'a, A: Allocator + Copy> {
+    /// Where memory for the fields is taken.
+    pub alloc: A,
+    /// The key.
+    pub key: &'a Key<A>,
+}
+
+impl<'a, A: Allocator + Copy> Look<Root<A>> for FieldListing<'a, A> {
+    ghost use Rattle.std.specs.Prelude.{IfOk, IsOkUnless};
+    ghost use Rattle.dots.specs.declared.refusal.Refusal.TheVariants.{OutOfMemory};
+    ghost use Rattle.delta_ops.specs.LiveMap.{store_state};
+    ghost use Rattle.op_model.specs.Meaning.{HoldsField};
+    ghost use Rattle.replica_core.specs.Reading.{Lists};
+
+    type Found = Result<Vec<Field<A>, A>, Refusal>;
+
+    ghost finds = { λ look root found. IfOk found (λ v. Lists (HoldsField (store_state root) look.key.now) v.items) × IsOkUnless found OutOfMemory };
+
+    fn look(&self, root: &Root<A>) -> Result<Vec<Field<A>, A>, Refusal> {
+        fields(self.alloc, root, self.key)
+    }
+}
+
+/// How many keys hold a value at some field. Takes constant time, and no memory.
+pub struct Sizing;
+
+impl<A: Allocator + Copy> Look<Root<A>> for Sizing {
+    ghost use Rattle.std.specs.Prelude.{◌≡◌, ℕ, List, length};
+    ghost use Rattle.delta_ops.specs.LiveMap.{store_state};
+    ghost use Rattle.op_model.specs.Meaning.{HoldsKey};
+    ghost use Rattle.replica_core.specs.Reading.{Lists};
+
+    type Found = u64;
+
+    ghost finds = { λ look root found. (listed : List (List ℕ)) × Lists (HoldsKey (store_state root)) listed × (found ≡ length listed) };
+
+    fn look(&self, root: &Root<A>) -> u64 {
+        size(root)
+    }
+}
+
+/// The map as it is published, which stays so whatever is written. Copies nothing: it takes a reference count.
+pub struct Sharing;
+
+impl<A: Allocator + Copy> Look<Root<A>> for Sharing {
+    ghost use Rattle.std.specs.Prelude.{◌≡◌, IfOk, IsOkUnless};
+    ghost use Rattle.dots.specs.declared.refusal.Refusal.TheVariants.{OutOfMemory};
+
+    type Found = Result<Root<A>, Refusal>;
+
+    ghost finds = { λ look root found. IfOk found (λ copy. copy ≡ root) × IsOkUnless found OutOfMemory };
+
+    fn look(&self, root: &Root<A>) -> Result<Root<A>, Refusal> {
+        root.share()
+    }
+}

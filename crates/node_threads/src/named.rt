@@ -1,0 +1,53 @@
+use crate::entry::Entry;
+use delta_ops::LiveStore;
+use hash_path::Fnv1a;
+use prefix_digest::ShaSummary;
+use replica_core::Replica;
+use root_cell::Brand;
+use shared_object::Object;
+use std::alloc::{Allocator, Global};
+use std::marker;
+use std::marker::PhantomData;
+
+/// What a node publishes: the store of what its replica holds.
+pub type Root<A = Global> = LiveStore<ShaSummary, Fnv1a, A>;
+
+/// Names a node: its cell's book, and the name of its replica. The caller picks it, once the book of its cell is opened, and it is a
+/// parameter of all that belongs to the node: so a receipt of one node is not learnt at another.
+pub trait Naming {
+    ghost use Rattle.std.specs.Prelude.{ℕ};
+    ghost use Rattle.logbook.specs.Pages.{Book};
+
+    // The book of the node's events.
+    ghost book: { Book };
+
+    // The name of its replica.
+    ghost name: { ℕ };
+}
+
+/// What a call passes that picks the two itself.
+impl Naming for marker::Brand {
+    ghost book = { record { number = 0; log_name = 0; cells_name = 0 } };
+
+    ghost name = { 1 };
+}
+
+/// The Brand of the cell of a node.
+pub struct Named<K> {
+    of: PhantomData<K>,
+}
+
+impl<K: Naming, A: Allocator + Copy> Brand<Root<A>, Entry<A>> for Named<K> {
+    ghost use Rattle.node_threads.specs.History.{StandsFor};
+
+    ghost book = { K.book };
+
+    ghost stands = { λ root history. StandsFor K.name root history };
+}
+
+impl<K: Naming, A: Allocator + Copy> Object<Replica<Fnv1a, A>, Root<A>, Entry<A>> for Named<K> {
+    ghost use Rattle.replica_core.specs.Meaning.{meaning};
+    ghost use Rattle.node_threads.specs.History.{IsAfter};
+
+    ghost after = { λ replica history. IsAfter K.name history (meaning replica) };
+}

@@ -1,0 +1,158 @@
+ghost use Rattle.std.specs.Prelude.{◌≡◌, ◌⊎◌, ◌<◌, ◌≤◌, ◌++◌, ◌∷◌, [], List, length, IfOk, IfErr, OnErr, OnOk, IsTrue};
+ghost use mathlib.Core.List.{IsPrefix};
+ghost use Rattle.dots.specs.declared.refusal.Refusal.TheVariants.{NoPlace};
+ghost use Rattle.shared_object.specs.History.{calls_by, made};
+ghost use Rattle.shared_object.specs.Calling.{HasNotCalled, IsAccepted, IsRefused};
+ghost use Rattle.shared_object.specs.Finishing.{IsOwn};
+
+use crate::act::Act;
+use crate::desk::Desk;
+use crate::gate::Gate;
+use crate::look::Look;
+use crate::object::Object;
+use crate::placed::Placed;
+use crate::shared::{Shared, take_turn};
+use dots::Refusal;
+use root_cell::{Brand, Note, View};
+use std::alloc::{Allocator, Global};
+use std::marker::Model;
+use std::sync::{Arc, Wait};
+
+/// A client of a shared object. Contracts see its place, how many of its calls were accepted, and the front of the history that it saw,
+/// learnt or wrote. What it reads waits for nobody; what it writes takes its turn.
+#[derive(Drop)]
+pub struct Client<R: Drop, E: Placed, J: Brand<R, E>, S: Drop, A: Allocator = Global> {
+    place: usize,
+    operations: u64,
+    view: Option<View<R, E, J, A>>,
+    shared: Arc<S, A>,
+}
+
+impl<R: Drop, E: Placed, J: Brand<R, E>, S: Drop, A: Allocator> Model for Client<R, E, J, S, A> {
+    ghost use Rattle.std.specs.Prelude.{◌≡◌, ◌<◌, ◌≤◌, IsSome, length};
+    ghost use Rattle.shared_object.specs.History.{Seat, calls_by, seen_in};
+
+    ghost Value = { Seat E };
+
+    ghost view = { λ c. record { place = c.place; operations = c.operations; front = seen_in c.view } };
+
+    ghost invariant = { λ c. IsSome c.view × (c.place < 64) × (c.operations ≤ length (calls_by E.place c.place (seen_in c.view))) };
+}
+
+impl<R: Drop, E: Placed, J: Brand<R, E>, S: Drop, A: Allocator> Client<R, E, J, S, A> {
+    /// The client at a place, which made and saw nothing yet.
+    pub(crate) fn new(
+        place: usize,
+        view: View<R, E, J, A>,
+        shared: Arc<S, A>,
+    ) -> Client<R, E, J, S, A>
+        requires place { place < 64 }
+        requires view { view ≡ [] }
+        ensures { result ≡ record { place = place; operations = 0; front = [] } }
+    {
+        Client {
+            place,
+            operations: 0,
+            view: Some(view),
+            shared,
+        }
+    }
+
+    /// How many of its calls were accepted.
+    pub fn operations(&self) -> u64
+        ensures { result ≡ self.now.operations }
+    {
+        self.operations
+    }
+
+    /// Its place.
+    pub(crate) fn place(&self) -> usize
+        ensures { result ≡ self.now.place }
+    {
+        self.place
+    }
+
+    /// Takes in a receipt of another client: afterwards it has seen the longer of its own front and the receipt's, which the other
+    /// begins. It waits for nobody, and takes no memory.
+    pub fn learn(&mut self, receipt: Note<R, E, J>)
+        ensures one { (self.new.front ≡ self.old.front) ⊎ (self.new.front ≡ receipt) }
+        ensures told { IsPrefix receipt self.new.front }
+        ensures own { HasNotCalled E.place self.old self.new }
+    {
+        let Some(view) = &mut self.view else {
+            unreachable!()
+        };
+        view.learn(receipt);
+    }
+
+    /// Reads off the root that is published. It waits for nobody. NoPlace comes only where the object was taken out.
+    pub fn look<L: Look<R>>(&mut self, look: &L) -> Result<L::Found, Refusal>
+        ensures found { IfOk result (λ found. (root : R) × J.stands root self.new.front × L.finds look.now root found) }
+        ensures own { HasNotCalled E.place self.old self.new }
+        ensures err { IfErr result (λ e. e ≡ NoPlace) }
+    {
+        let Some(view) = self.view.take() else {
+            unreachable!()
+        };
+        match view.enter() {
+            Ok(entered) => {
+                let found = look.look(entered.root());
+                self.view = Some(entered.leave());
+                Ok(found)
+            }
+            Err(view) => {
+                self.view = Some(view);
+                Err(Refusal::NoPlace)
+            }
+        }
+    }
+}
+
+impl<
+    D: Drop,
+    R: Drop,
+    E: Placed,
+    J: Object<D, R, E>,
+    G: Gate + Drop,
+    W: Wait + Drop,
+    A: Allocator + Copy,
+> Client<R, E, J, Shared<D, R, E, J, G, W, A>, A> {
+    /// Makes a call when its turn has come, and answers its reply and a receipt, which is of the history with the call at its end.
+    pub fn call<T: Wait, C: Act<D, R, E, J, A>>(
+        &mut self,
+        rt: &T,
+        act: &C,
+    ) -> Result<(C::Reply, Note<R, E, J>), Refusal>
+        ensures ok { IfOk result (λ r. (history : List E) × IsAccepted E.place self.old self.new history (C.event act.now self.old.place) × C.answers act.now history r.0) }
+        ensures receipt { IfOk result (λ r. r.1 ≡ self.new.front) }
+        ensures refused { IfErr result (λ e. (e ≡ NoPlace) ⊎ IsRefused (C.refuses act.now) self.new.front e) }
+        ensures not_made { OnErr result (HasNotCalled E.place self.old self.new) }
+    {
+        let Some(view) = self.view.take() else {
+            unreachable!()
+        };
+        let (place, operations) = (self.place, self.operations);
+        let (view, answer) = take_turn(&self.shared, rt, view, place, operations, act);
+        self.view = Some(view);
+        match answer {
+            Ok(told) => {
+                self.operations = operations + 1;
+                Ok(told)
+            }
+            Err(refusal) => Err(refusal),
+        }
+    }
+
+    /// Whether the calls of its place at the desk are just those that it made. It has learnt the history in any case.
+    pub(crate) fn meet(&mut self, desk: &Desk<D, R, E, J, W, A>) -> bool
+        ensures own { IsTrue result → IsOwn E.place desk.now self.old }
+        ensures not_called { HasNotCalled E.place self.old self.new }
+    {
+        let Some(view) = self.view.take() else {
+            unreachable!()
+        };
+        let (view, is_met) = desk.meet(view, self.place, self.operations);
+        self.view = Some(view);
+        is_met
+    }
+}

@@ -1,0 +1,68 @@
+ghost use Rattle.std.specs.Prelude.{◌≡◌, ◌⊎◌, ◌<◌, ◌-◌, ◌^◌, ◌++◌, ◌∷◌, [], List, length, IfOk, IfErr};
+ghost use mathlib.Core.List.{IsPrefix};
+ghost use Rattle.dots.specs.declared.refusal.Refusal.TheVariants.{NoPlace};
+ghost use Rattle.shared_object.specs.History.{calls_by};
+ghost use Rattle.shared_object.specs.Calling.{IsRefused};
+
+use crate::act::Act;
+use crate::desk::Desk;
+use crate::gate::{Gate, Point};
+use crate::object::Object;
+use crate::placed::Placed;
+use dots::Refusal;
+use root_cell::{Note, View};
+use std::alloc::{Allocator, Global};
+use std::sync::{Mutex, Wait};
+
+/// What the clients of an object share: the lock, under which the object lies, and the gate before it. The lock is empty before
+/// the object lies there, and once it was taken out.
+#[derive(Drop)]
+pub struct Shared<
+    D: Drop,
+    R: Drop,
+    E: Placed,
+    J: Object<D, R, E>,
+    G: Gate + Drop,
+    W: Wait + Drop,
+    A: Allocator + Copy = Global,
+> {
+    pub(crate) gate: G,
+    pub(crate) lock: Mutex<Option<Desk<D, R, E, J, W, A>>>,
+}
+
+/// Takes the turn of a client: makes its call, once the lock is free. The View has seen the history with the call afterwards, or where it
+/// is refused maybe more than before.
+pub(crate) fn take_turn<
+    D: Drop,
+    R: Drop,
+    E: Placed,
+    J: Object<D, R, E>,
+    G: Gate + Drop,
+    W: Wait + Drop,
+    A: Allocator + Copy,
+    T: Wait,
+    C: Act<D, R, E, J, A>,
+>(
+    shared: &Shared<D, R, E, J, G, W, A>,
+    rt: &T,
+    view: View<R, E, J, A>,
+    place: usize,
+    operations: u64,
+    act: &C,
+) -> (View<R, E, J, A>, Result<(C::Reply, Note<R, E, J>), Refusal>)
+    requires { place < 64 }
+    ensures ok { IfOk result.1 (λ r. (history : List E) × IsPrefix view history × (length (calls_by E.place place history) ≡ operations) × (length history < 2 ^ 64 - 1)
+        × C.answers act.now history r.0 × (r.1 ≡ history ++ C.event act.now place ∷ []) × (result.0 ≡ history ++ C.event act.now place ∷ [])) }
+    ensures refused { IfErr result.1 (λ e. (e ≡ NoPlace) ⊎ IsRefused (C.refuses act.now) result.0 e) }
+    ensures learnt { IfErr result.1 (λ _. IsPrefix view result.0) }
+{
+    shared.gate.pass(Point::Before);
+    let mut guard = shared.lock.lock(rt);
+    let Some(desk) = guard.take() else {
+        return (view, Err(Refusal::NoPlace));
+    };
+    shared.gate.pass(Point::Locked);
+    let (desk, view, answer) = desk.turn(rt, view, place, operations, act);
+    *guard = Some(desk);
+    (view, answer)
+}
