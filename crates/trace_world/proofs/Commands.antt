@@ -1,5 +1,5 @@
 -- What commands come to at a replica, with keys, fields and values: over plain variables.
-use Rattle.std.proofs.Common.{◌≡◌, ◌⊎◌, inl, inr, ℕ, Bool, true, false, List, [], length, refl, sym, ap, subst, append-nil, Result, Ok, Err}
+use Rattle.std.proofs.Common.{◌≡◌, ◌⊎◌, inl, inr, ℕ, Bool, true, false, List, [], length, refl, sym, ap, subst, append-nil, Result, Ok, Err, IfOk, Option}
 use Rattle.std.specs.Prelude.{nat_le}
 use Rattle.std.specs.declared.vec.Vec.{Vec}
 use Rattle.dots.specs.Bytes.{MAX_LENGTH}
@@ -7,17 +7,12 @@ use Rattle.dots.specs.declared.refusal.Refusal.{Refusal}
 use Rattle.dots.specs.declared.refusal.Refusal.TheVariants.{OutOfMemory, TooLong, UnknownReplica}
 use Rattle.hash_path.specs.Fnv1a.{fnv1a}
 use Rattle.op_model.specs.Meaning.{MapState}
+use Rattle.op_model.specs.Place.{Place}
+use Rattle.dots.specs.Dot.{DotValue}
 use Rattle.replica_model.specs.Replica.{Replica}
 use Rattle.replica_model.specs.World.{World, Event, is_node, nothing, Runs}
-use Rattle.trace_world.specs.Does.{Does, In, Tells}
+use Rattle.trace_world.specs.Does.{Does, In, Tells, IsThere, IsAbsent}
 use Rattle.trace_world.specs.Outcome.{Outcome, Refused, Done, at_replica, with_bytes}
-
--- a replica of this name is there in the world of these events, and is this
-abbrev IsThere : List Event → ℕ → Type 0
-IsThere events name = (w : World) → Runs fnv1a nothing events w → is_node w name ≡ true
-
-abbrev IsAbsent : List Event → ℕ → Type 0
-IsAbsent events name = (w : World) → Runs fnv1a nothing events w → is_node w name ≡ false
 
 -- a command at a replica that is not there
 pub does_absent : (P : World → Outcome → Type 0) (name : ℕ) (old : List Event) → IsAbsent old name
@@ -36,6 +31,17 @@ pub tells_long : (P : Outcome → Type 0) (bytes : List ℕ) (refusal : Refusal)
     → (refusal ≡ OutOfMemory) ⊎ ((refusal ≡ TooLong) × (nat_le (length bytes) MAX_LENGTH ≡ false)) → Tells {A = ℕ} (with_bytes bytes P) (Err refusal)
 tells_long P bytes refusal (inl memory) = inl memory
 tells_long P bytes refusal (inr (is, long)) = inr (inl (long, ap Refused is))
+
+-- what a replica holds, kept by a store
+pub store_holds : {T : Type 0} (at : T → Place → DotValue → Option (List ℕ)) (name : ℕ) (events : List Event) (meant : Replica) (r : Result T Refusal)
+    → ((w : World) → Runs fnv1a nothing events w → (is_node w name ≡ true) × (meant ≡ w.replica name))
+    → IfOk r (λ store. (place : Place) (dot : DotValue) → at store place dot ≡ meant.live.at place dot)
+    → IfOk r (λ store. (w : World) → Runs fnv1a nothing events w → (is_node w name ≡ true) × ((place : Place) (dot : DotValue) → at store place dot ≡ (w.replica name).live.at place dot))
+store_holds at name events meant (Ok store) is holds = λ w runs. (
+  (is w runs).0,
+  subst (λ (s : Replica). (place : Place) (dot : DotValue) → at store place dot ≡ s.live.at place dot) (is w runs).1 holds,
+)
+store_holds at name events meant (Err refusal) is holds = tt
 
 module _ {A : Type 0} where
   -- what follows from each way in which a command can come out

@@ -1,7 +1,9 @@
 pub mod Commands
 pub mod Events
-pub mod Reading
+pub mod ReadTexts
 pub mod Pinning
 pub mod Compressing
 pub mod Unique
 pub mod SeenReads
+pub mod Messages
+pub mod Lines

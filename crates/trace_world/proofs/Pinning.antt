@@ -152,12 +152,16 @@ module _ {A : Type 0} where
       All-one h zero d l = h
       All-one h (suc k) d l = absurd (omega (arith, l))
 
-  pub pin_done : (events : List Event) (pins new : List (Pin A)) (pin : Pin A) (text : Vec ℕ A) (told : List ℕ) → pin.age ≡ length events → Holds events pin → new ≡ pins ++ pin ∷ []
-      → text.items ≡ told → told ≡ pin_text (length (pins_of events pins) + 1)
+  length_pins : (events : List Event) (pins : List (Pin A)) → length (pins_of events pins) ≡ length pins
+  length_pins events [] = refl
+  length_pins events (pin ∷ pins) = ap suc (length_pins events pins)
+
+  pub pin_done : (events : List Event) (pins new : List (Pin A)) (pin : Pin A) (text : Vec ℕ A) (number : ℕ) → pin.age ≡ length events → Holds events pin → new ≡ pins ++ pin ∷ []
+      → text.items ≡ pin_text (number + 1) → number ≡ length pins
       → Brings (In events (λ w. at_replica w pin.name (λ o. o ≡ Pinned (pin_text (length (pins_of events pins) + 1)) pin.name))) (past events pins) (past events new) (Ok text)
-  pin_done events pins new pin text told age holds is said numbered = (
+  pin_done events pins new pin text number age holds is said numbered = (
     Pinned text.items pin.name,
-    (λ w runs. inr ((holds w runs).0, ap (λ t. Pinned t pin.name) (said ∙ numbered))),
+    (λ w runs. inr ((holds w runs).0, ap (λ t. Pinned t pin.name) (said ∙ ap (λ n. pin_text (n + 1)) (numbered ∙ sym (length_pins events pins))))),
     refl,
     ap (past events) is ∙ ap (λ ss. record { events = events; pins = ss })
         (map-append (pinned events) pins (pin ∷ []) ∙ ap (λ es. pins_of events pins ++ record { name = pin.name; events = es } ∷ []) (take_all pin.age events (omega (arith, age)))),

@@ -1,12 +1,12 @@
 -- How a call of the machine keeps to what a command may come to.
-use Rattle.std.specs.Prelude.{◌≡◌, ◌⊎◌, ℕ, List, [], ◌++◌, Result, Ok, Err}
+use Rattle.std.specs.Prelude.{◌≡◌, ◌⊎◌, ℕ, true, false, List, [], ◌++◌, Result, Ok, Err}
 use Rattle.std.specs.List.{All}
 use Rattle.std.specs.Map.{keys_of}
 use Rattle.std.specs.declared.vec.Vec.{Vec}
 use Rattle.dots.specs.declared.refusal.Refusal.{Refusal}
 use Rattle.dots.specs.declared.refusal.Refusal.TheVariants.{OutOfMemory}
 use Rattle.hash_path.specs.Fnv1a.{fnv1a}
-use Rattle.replica_model.specs.World.{World, Event, nothing, Runs}
+use Rattle.replica_model.specs.World.{World, Event, is_node, nothing, Runs}
 use Rattle.trace_words.specs.Answer.{Told}
 use Rattle.trace_words.specs.Text.{entries_text}
 use Rattle.trace_world.specs.Line.{Past, answer_by, past_by}
@@ -20,6 +20,13 @@ Tells Comes (Err refusal) = (refusal ≡ OutOfMemory) ⊎ Comes (Refused refusal
 -- in the world of these events
 abbrev pub In : List Event → (World → Outcome → Type 0) → Outcome → Type 0
 In events Comes outcome = (w : World) → Runs fnv1a nothing events w → Comes w outcome
+
+-- a replica of this name is there, or is not
+abbrev pub IsThere : List Event → ℕ → Type 0
+IsThere events name = (w : World) → Runs fnv1a nothing events w → is_node w name ≡ true
+
+abbrev pub IsAbsent : List Event → ℕ → Type 0
+IsAbsent events name = (w : World) → Runs fnv1a nothing events w → is_node w name ≡ false
 
 -- it was done, told as this text, and these events were added; or it was refused, and nothing changed; or memory ran out
 abbrev pub Does : {A : Type 0} → (Outcome → Type 0) → List Event → List Event → Result (Vec ℕ A) Refusal → Type 0

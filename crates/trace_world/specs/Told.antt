@@ -1,5 +1,5 @@
 -- What is written of an event that happened in a world: of its answer, and of the messages that it made. Of this project.
-use Rattle.std.specs.Prelude.{ℕ, suc, ◌+◌, Bool, true, false, List, [], ◌∷◌, ◌++◌, length, drop, codes}
+use Rattle.std.specs.Prelude.{ℕ, suc, ◌+◌, Bool, true, false, List, [], ◌∷◌, ◌++◌, length, drop, codes, Option, Some, None}
 use Rattle.replica_model.specs.Delivery.{Outcome, Joined, Sent, Done, Ignored, Mismatch, Ended}
 use Rattle.replica_model.specs.Mail.{Mail, Delta, Hello, Opening, Ask, Page, Gone}
 use Rattle.replica_model.specs.Step.{Answer, Nothing, Made, Counted, Numbered, Came, Closed}
@@ -20,6 +20,15 @@ kind_of (Gone s) = kind.Gone
 abbrev pub messages_text : ℕ → List Message → List ℕ
 messages_text number [] = []
 messages_text number (m ∷ ms) = message_text number (kind_of m.mail) ++ messages_text (suc number) ms
+
+-- of the message of this number, if there is one
+abbrev pub kind_found : Option Message → Option Kind
+kind_found None = None
+kind_found (Some m) = Some (kind_of m.mail)
+
+abbrev pub found_text : ℕ → Option Message → List ℕ
+found_text number None = []
+found_text number (Some m) = message_text number (kind_of m.mail)
 
 -- "sent", then each message
 abbrev pub sent_text : ℕ → List Message → List ℕ

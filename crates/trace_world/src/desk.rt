@@ -39,7 +39,7 @@ impl<A: Allocator + Copy> Model for Desk<A> {
 }
 
 impl<A: Allocator + Copy> Desk<A> {
-    ghost use Rattle.trace_world.specs.Does.{Does, In};
+    ghost use Rattle.trace_world.specs.Does.{Does, In, IsThere, IsAbsent};
     ghost use Rattle.trace_world.specs.Pins.{Grows};
 
     /// No replica yet. Takes no memory.
@@ -107,46 +107,58 @@ impl<A: Allocator + Copy> Desk<A> {
         }
     }
 
+    fn has_replica(&self, name: Name) -> bool
+        ensures there { result ≡ true → IsThere self.now name }
+        ensures absent { result ≡ false → IsAbsent self.now name }
+    {
+        match self.world.replica(name) {
+            Some(_) => true,
+            None => false,
+        }
+    }
+
     fn node(&mut self, name: Name) -> Result<Vec<u8, A>, Refusal>
         ensures does { Does (In self.old (λ w. IsEvent fnv1a w (model.Node name))) self.old self.new result }
         ensures grows { Grows self.old self.new }
     {
-        match self.world.event(Event::Node(name)) {
-            Ok(_) => Ok(Vec::from_slice(self.alloc, b"ok")?),
-            Err(refusal) => Err(refusal),
+        if let Err(refusal) = self.world.event(Event::Node(name)) {
+            return Err(refusal);
         }
+        Ok(Vec::from_slice(self.alloc, b"ok")?)
     }
 
     fn call(&mut self, name: Name, call: Call<A>) -> Result<Vec<u8, A>, Refusal>
         ensures does { Does (In self.old (λ w. IsCall fnv1a w name (call_value call))) self.old self.new result }
         ensures grows { Grows self.old self.new }
     {
-        match self.world.event(Event::Call(name, call)) {
-            Ok(told) => tell(
-                self.alloc,
-                &self.world,
-                told.answer,
-                told.made.start,
-                told.made.end,
-            ),
-            Err(refusal) => Err(refusal),
-        }
+        let told = match self.world.event(Event::Call(name, call)) {
+            Ok(told) => told,
+            Err(refusal) => return Err(refusal),
+        };
+        tell(
+            self.alloc,
+            &self.world,
+            told.answer,
+            told.made.start,
+            told.made.end,
+        )
     }
 
     fn deliver(&mut self, message: u64, name: Name) -> Result<Vec<u8, A>, Refusal>
         ensures does { Does (In self.old (λ w. IsEvent fnv1a w (model.Deliver message name))) self.old self.new result }
         ensures grows { Grows self.old self.new }
     {
-        match self.world.event(Event::Deliver(message, name)) {
-            Ok(told) => tell(
-                self.alloc,
-                &self.world,
-                told.answer,
-                told.made.start,
-                told.made.end,
-            ),
-            Err(refusal) => Err(refusal),
-        }
+        let told = match self.world.event(Event::Deliver(message, name)) {
+            Ok(told) => told,
+            Err(refusal) => return Err(refusal),
+        };
+        tell(
+            self.alloc,
+            &self.world,
+            told.answer,
+            told.made.start,
+            told.made.end,
+        )
     }
 
     fn put(
@@ -160,7 +172,7 @@ impl<A: Allocator + Copy> Desk<A> {
             (IsCall fnv1a w name (step.Put (place_of key.now field.now) value.now))))))) self.old self.new result }
         ensures grows { Grows self.old self.new }
     {
-        if self.world.replica(name).is_none() {
+        if !self.has_replica(name) {
             return Err(Refusal::UnknownReplica);
         }
         let key = key_of(self.alloc, key)?;
@@ -173,7 +185,7 @@ impl<A: Allocator + Copy> Desk<A> {
         ensures does { Does (In self.old (λ w. at_replica w name (with_bytes key.now (IsCall fnv1a w name (step.Remove key.now))))) self.old self.new result }
         ensures grows { Grows self.old self.new }
     {
-        if self.world.replica(name).is_none() {
+        if !self.has_replica(name) {
             return Err(Refusal::UnknownReplica);
         }
         let key = key_of(self.alloc, key)?;
@@ -185,7 +197,7 @@ impl<A: Allocator + Copy> Desk<A> {
             (IsCall fnv1a w name (step.RemoveField (place_of key.now field.now))))))) self.old self.new result }
         ensures grows { Grows self.old self.new }
     {
-        if self.world.replica(name).is_none() {
+        if !self.has_replica(name) {
             return Err(Refusal::UnknownReplica);
         }
         let key = key_of(self.alloc, key)?;

@@ -4,10 +4,10 @@ ghost use Rattle.hash_path.specs.Fnv1a.{fnv1a};
 ghost use Rattle.wire_form.specs.Message.{message_of};
 ghost use Rattle.replica_model.specs.Mail.{mail_of};
 ghost use Rattle.replica_model.specs.World as model;
-ghost use Rattle.replica_model.specs.World.{nothing, Runs};
+ghost use Rattle.replica_model.specs.World.{message_at, nothing, Runs};
 ghost use Rattle.replica_core.specs.Answered as answered;
 ghost use Rattle.replica_world.specs.Happening.{answer_value};
-ghost use Rattle.trace_world.specs.Told.{kind_of, told_text, closed_text, outcome_text, flush_text, sent_text, messages_text};
+ghost use Rattle.trace_world.specs.Told.{kind_of, told_text, closed_text, outcome_text, flush_text, sent_text, messages_text, found_text, kind_found};
 
 use dots::Refusal;
 use hash_path::Fnv1a;
@@ -125,22 +125,51 @@ fn with_messages<A: Allocator + Copy>(
     ensures err { IsOkUnless result Refusal.OutOfMemory }
 {
     for number in first..end {
-        if let Some(message) = world.read(number)? {
-            push_message(alloc, &mut text, number, kind_of(&message))?;
-        }
+        push_sent(alloc, world, &mut text, number)?;
     }
     Ok(text)
 }
 
+// Appends the message of this number with its kind, where there is one. A refusal may leave a part of it there.
+fn push_sent<A: Allocator + Copy>(
+    alloc: A,
+    world: &World<Fnv1a, A>,
+    out: &mut Vec<u8, A>,
+    number: u64,
+) -> Result<(), Refusal>
+    ensures ok { OnOk result ((v : model.World) → Runs fnv1a nothing world.now.past v
+        → out.new.items ≡ out.old.items ++ found_text number (message_at v.messages number)) }
+    ensures err { IsOkUnless result Refusal.OutOfMemory }
+{
+    match kind_at(world, number)? {
+        Some(kind) => push_message(alloc, out, number, kind),
+        None => Ok(()),
+    }
+}
+
+// The kind of the message of this number, if there is one.
+fn kind_at<A: Allocator + Copy>(
+    world: &World<Fnv1a, A>,
+    number: u64,
+) -> Result<Option<Kind>, Refusal>
+    ensures ok { IfOk result (λ found. (v : model.World) → Runs fnv1a nothing world.now.past v → found ≡ kind_found (message_at v.messages number)) }
+    ensures err { IsOkUnless result Refusal.OutOfMemory }
+{
+    match world.read(number)? {
+        Some(message) => Ok(Some(into_kind(message))),
+        None => Ok(None),
+    }
+}
+
 // The kind of a message.
-fn kind_of<A: Allocator + Copy>(message: &Message<A>) -> Kind
-    ensures { result ≡ kind_of (mail_of (message_of message.now)) }
+fn into_kind<A: Allocator + Copy>(message: Message<A>) -> Kind
+    ensures { result ≡ kind_of (mail_of (message_of message)) }
 {
     match message {
         Message::Delta(_) => Kind::Delta,
         Message::Hello(_, _) => Kind::Hello,
         Message::Opening(_, _, _) => Kind::Opening,
-        Message::Ask(_, prefix) => Kind::Ask(*prefix),
+        Message::Ask(_, prefix) => Kind::Ask(prefix),
         Message::Page(_, sent) => Kind::Page(sent.prefix()),
         Message::Gone(_) => Kind::Gone,
     }

@@ -4,3 +4,9 @@ pub returns-in-Ok-clause-some : goal.returns-in-Ok-clause-some
 returns-in-Ok-clause-some g c = λ w runs.
     let m = c.in-Some.ensures.some w runs in
     (m.0, m.1, c.in-Ok.ensures m.0.mail m.2)
+
+pub returns-in-Err-clause-refused : goal.returns-in-Err-clause-refused
+returns-in-Err-clause-refused g c =
+    let shown = rw (← c.self.view_is) at c.in-Some.ensures.some in
+    let m = shown c.self.invariant.world c.self.invariant.runs in
+    c.in-Err.ensures m.0.mail m.2

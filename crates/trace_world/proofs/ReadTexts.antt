@@ -1,10 +1,10 @@
 -- What is read of a replica, and how it is told: over plain variables.
-use Rattle.std.proofs.Common.{◌≡◌, ℕ, zero, suc, ◌+◌, ◌<◌, List, [], ◌∷◌, ◌++◌, length, map, take, get_or, refl, arith, sym, ap, subst, ◌∙◌, append_assoc, append-nil, codes}
+use Rattle.std.proofs.Common.{◌≡◌, ℕ, zero, suc, ◌+◌, ◌<◌, List, [], ◌∷◌, ◌++◌, length, map, refl, arith, sym, ap, subst, ◌∙◌, append_assoc, append-nil, codes}
 use Rattle.std.specs.Prelude.{◌↔◌, Contains}
 use Rattle.std.specs.Fmt.{decimal}
 use Rattle.std.specs.List.{All, flat_map}
 use Rattle.std.specs.Map.{keys_of}
-use Rattle.std.proofs.lemmas.List.{take_more, map-append}
+use Rattle.std.proofs.lemmas.List.{map-append}
 use Rattle.std.proofs.lemmas.List.Elements.{All-append}
 use Rattle.dots.specs.Dot.{DotValue}
 use Rattle.op_model.specs.Meaning.{MapState, Stands, StandsWithin, HoldsField, HoldsKey}
@@ -39,17 +39,17 @@ length_keys [] = refl
 length_keys (e ∷ es) = ap suc (length_keys es)
 
 module _ (P : List ℕ → List (List ℕ) → Type 0) where
-  pub adds_none : (labels : List (List ℕ)) (old : List ℕ) → Adds P (take 0 labels) old old
+  pub adds_none : (labels : List (List ℕ)) (old : List ℕ) → Adds P [] old old
   adds_none labels old = ([], refl, none, sym (append-nil old))
     where
       none : All {X = List ℕ × List (List ℕ)} (λ e. P e.0 e.1) []
       none k d l = absurd (omega (arith, l))
 
-  pub adds_more : (labels : List (List ℕ)) (i : ℕ) (d : List ℕ) (found told : List (List ℕ)) (label old mid new : List ℕ) → i < length labels → label ≡ get_or labels i d
-      → Adds P (take i labels) old mid → P label found → told ≡ found → new ≡ mid ++ entry_text label told → Adds P (take (i + 1) labels) old new
-  adds_more labels i d found told label old mid new within is (entries, labelled, all, text) has same adds = (
+  pub adds_more : (labels : List (List ℕ)) (found told : List (List ℕ)) (label old mid new : List ℕ)
+      → Adds P labels old mid → P label found → told ≡ found → new ≡ mid ++ entry_text label told → Adds P (labels ++ label ∷ []) old new
+  adds_more labels found told label old mid new (entries, labelled, all, text) has same adds = (
     entries ++ (label, found) ∷ [],
-    map-append (λ e. e.0) entries ((label, found) ∷ []) ∙ ap (λ ls. ls ++ label ∷ []) labelled ∙ ap (λ l. take i labels ++ l ∷ []) is ∙ sym (take_more labels i d within),
+    map-append (λ e. e.0) entries ((label, found) ∷ []) ∙ ap (λ ls. ls ++ label ∷ []) labelled,
     All-append {X = List ℕ × List (List ℕ)} (λ e. P e.0 e.1) entries ((label, found) ∷ []) all (one (label, found) has),
     adds ∙ ap (λ t. mid ++ entry_text label t) same ∙ ap (λ t. t ++ entry_text label found) text ∙ append_assoc old (entries_text entries) (entry_text label found)
         ∙ ap (λ t. old ++ (entries_text entries ++ t)) (sym (append-nil (entry_text label found))) ∙ ap (λ t. old ++ t) (sym (entries_append entries ((label, found) ∷ []))),
