@@ -1,5 +1,5 @@
 -- What commands come to at a replica, with keys, fields and values: over plain variables.
-use Rattle.std.proofs.Common.{◌≡◌, ◌⊎◌, inl, inr, ℕ, Bool, true, false, List, [], length, refl, sym, ap, subst, append-nil, Result, Ok, Err, IfOk, Option}
+use Rattle.std.proofs.Common.{◌≡◌, ◌⊎◌, inl, inr, ℕ, Bool, true, false, List, [], length, refl, sym, ap, ◌∙◌, subst, append-nil, Result, Ok, Err, IfOk, Option}
 use Rattle.std.specs.Prelude.{nat_le}
 use Rattle.std.specs.declared.vec.Vec.{Vec}
 use Rattle.dots.specs.Bytes.{MAX_LENGTH}
@@ -35,11 +35,11 @@ tells_long P bytes refusal (inr (is, long)) = inr (inl (long, ap Refused is))
 -- what a replica holds, kept by a store
 pub store_holds : {T : Type 0} (at : T → Place → DotValue → Option (List ℕ)) (name : ℕ) (events : List Event) (meant : Replica) (r : Result T Refusal)
     → ((w : World) → Runs fnv1a nothing events w → (is_node w name ≡ true) × (meant ≡ w.replica name))
-    → IfOk r (λ store. (place : Place) (dot : DotValue) → at store place dot ≡ meant.live.at place dot)
+    → IfOk r (λ store. at store ≡ meant.live.at)
     → IfOk r (λ store. (w : World) → Runs fnv1a nothing events w → (is_node w name ≡ true) × ((place : Place) (dot : DotValue) → at store place dot ≡ (w.replica name).live.at place dot))
 store_holds at name events meant (Ok store) is holds = λ w runs. (
   (is w runs).0,
-  subst (λ (s : Replica). (place : Place) (dot : DotValue) → at store place dot ≡ s.live.at place dot) (is w runs).1 holds,
+  λ place dot. ap (λ (f : Place → DotValue → Option (List ℕ)). f place dot) holds ∙ ap (λ (s : Replica). s.live.at place dot) (is w runs).1,
 )
 store_holds at name events meant (Err refusal) is holds = tt
 
