@@ -14,7 +14,6 @@ ghost use Rattle.replica_core.specs.Answered.{outcome_of};
 ghost use Rattle.replica_core.specs.Stepping.{Steps, Stays, IsRefused, mails_of};
 
 use crate::delivered::Delivered;
-use crate::mapped::is_mapped;
 use crate::outcome::Outcome;
 use crate::replica::Replica;
 use crate::sessions::place_numbered;
@@ -142,7 +141,6 @@ impl<H: PathHash, A: Allocator + Copy> Replica<H, A> {
         ensures map { IsMapOf self.now.live.0.0.1 (meaning self.now).live }
         ensures refused { IsOkUnless result Refusal.OutOfMemory }
     {
-        prove!(is_mapped(self.live.store()));
         Asker::open(self.alloc, session, self.live.store(), self.live.context())
     }
 }

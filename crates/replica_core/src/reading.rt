@@ -8,7 +8,6 @@ ghost use Rattle.sync_model.specs.Differ.{Held};
 ghost use Rattle.replica_core.specs.Meaning.{hash_in, meaning};
 ghost use Rattle.replica_core.specs.Reading.{Lists};
 
-use crate::mapped::is_mapped;
 use crate::replica::Replica;
 use delta_ops::{fields, keys, size, values, values_of_key};
 use dots::{Field, Key, Refusal, Value};
@@ -62,7 +61,6 @@ impl<H: PathHash, A: Allocator + Copy> Replica<H, A> {
     pub fn contains(&self, key: &Key<A>) -> bool
         ensures { IsTrue result ↔ HoldsKey (meaning self.now).live key.now }
     {
-        prove!(is_mapped(self.live.store()));
         self.live.store().get(key).is_some()
     }
 
@@ -83,12 +81,12 @@ impl<H: PathHash, A: Allocator + Copy> Replica<H, A> {
         size(self.live.store())
     }
 
-    /// The root digest of the map, or None where it has no key: replicas that hold the same have the same. Takes no memory, and time in
-    /// all entries, as no call gives the nodes their digests yet.
+    /// The root digest of the map, or None where it has no key: replicas that hold the same have the same. Takes no memory, and constant
+    /// time where the nodes keep their digests: `ask`, and a hello that is answered, give each node its own. A write takes away those on
+    /// its path, and time goes to what is below the nodes that keep none.
     pub fn digest(&self) -> Option<[u8; 32]>
         ensures { (map : Held) × IsMapOf map (meaning self.now).live × (result ≡ digest_at (H.hash_of (hash_in self.now)) map []) }
     {
-        prove!(is_mapped(self.live.store()));
         digest(self.live.store().frozen(), Prefix::root())
     }
 
@@ -99,7 +97,6 @@ impl<H: PathHash, A: Allocator + Copy> Replica<H, A> {
         ensures map { IfOk result (λ frozen. IsMapOf frozen.map (meaning self.now).live) }
         ensures refused { IsOkUnless result Refusal.OutOfMemory }
     {
-        prove!(is_mapped(self.live.store()));
         let frozen = self.live.store().frozen().copy()?;
         Ok(frozen)
     }

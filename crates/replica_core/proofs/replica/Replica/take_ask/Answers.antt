@@ -12,7 +12,7 @@ use Rattle.replica_core.proofs.replica.Replica.take_ask.Goals as goal
 pub returns-then-ne-clause-ok : goal.returns-then-ne-clause-ok
 returns-then-ne-clause-ok g c =
     let old : ReplicaValue _ = record { name = c.self.inside.name; live = c.self.inside.live; group = c.self.inside.group; opened = c.self.inside.opened; sessions = c.self.inside.sessions.items; kept = c.self.inside.answerer } in
-    let is = mapped c.self.inside.live.0 c.store.result.now c.store.ensures.value c.is_mapped.ensures.map in
+    let is = mapped c.self.inside.live.0 c.store.result.now c.store.ensures.value c.store.ensures.filled c.store.ensures.canonical in
     let mail = Ask c.args.session c.args.prefix in
     rw (← c.self.view_is) (told_by g.H.PathHash.hash_of old old (Take mail) c.silent.result.outcome told.Ignored c.silent.result.replies.items c.silent.ensures.outcome c.silent.ensures.replies
     (ignored_came g.H.PathHash.hash_of old is mail (is_away c.answerer.result c.args.session.answerer old.name c.answerer.ensures c.ne.result c.ne.ensures c.if-ne.true)))
@@ -20,7 +20,7 @@ returns-then-ne-clause-ok g c =
 pub returns-in_default-clause-ok : goal.returns-in_default-clause-ok
 returns-in_default-clause-ok g c =
     let old : ReplicaValue _ = record { name = c.self.inside.name; live = c.self.inside.live; group = c.self.inside.group; opened = c.self.inside.opened; sessions = c.self.inside.sessions.items; kept = c.self.inside.answerer } in
-    let is = mapped c.self.inside.live.0 c.store.result.now c.store.ensures.value c.is_mapped.ensures.map in
+    let is = mapped c.self.inside.live.0 c.store.result.now c.store.ensures.value c.store.ensures.filled c.store.ensures.canonical in
     rw (← c.self.view_is) (told_by g.H.PathHash.hash_of old old (Take (Ask c.args.session c.args.prefix)) c.silent-in_default.result.outcome told.Ignored c.silent-in_default.result.replies.items
     c.silent-in_default.ensures.outcome c.silent-in_default.ensures.replies
     (ask_ignored g.H.PathHash.hash_of old is c.self.invariant c.args.session c.args.prefix (rw c.in_default.is at c.in_ok-answer.ensures.ok)))
@@ -28,7 +28,7 @@ returns-in_default-clause-ok g c =
 pub returns-clause-ok : goal.returns-clause-ok
 returns-clause-ok g c =
     let old : ReplicaValue _ = record { name = c.self.inside.name; live = c.self.inside.live; group = c.self.inside.group; opened = c.self.inside.opened; sessions = c.self.inside.sessions.items; kept = c.self.inside.answerer } in
-    let is = mapped c.self.inside.live.0 c.store.result.now c.store.ensures.value c.is_mapped.ensures.map in
+    let is = mapped c.self.inside.live.0 c.store.result.now c.store.ensures.value c.store.ensures.filled c.store.ensures.canonical in
     rw (← c.self.view_is) (answered_by g.H.PathHash.hash_of old old (Take (Ask c.args.session c.args.prefix)) c.answered.result.outcome told.Sent c.answered.result.replies.items c.answered.ensures.outcome
     c.in-Some.answer c.answered.ensures.replies
     (ask_came g.H.PathHash.hash_of old is c.self.invariant c.args.session c.args.prefix (message_of c.in-Some.answer)

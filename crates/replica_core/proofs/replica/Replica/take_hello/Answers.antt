@@ -22,7 +22,7 @@ use Rattle.replica_core.proofs.replica.Replica.take_hello.Goals as goal
 pub returns-then-ne-clause-ok : goal.returns-then-ne-clause-ok
 returns-then-ne-clause-ok g c =
     let old : ReplicaValue _ = record { name = c.self.inside.name; live = c.self.inside.live; group = c.self.inside.group; opened = c.self.inside.opened; sessions = c.self.inside.sessions.items; kept = c.self.inside.answerer } in
-    let is = mapped c.self.inside.live.0 c.store.result.now c.store.ensures.value c.is_mapped.ensures.map in
+    let is = mapped c.self.inside.live.0 c.store.result.now c.store.ensures.value c.store.ensures.filled c.store.ensures.canonical in
     let mail = Hello c.args.session (has c.args.seen.now) in
     rw (← c.self.view_is) (told_by g.H.PathHash.hash_of old old (Take mail) c.silent.result.outcome told.Ignored c.silent.result.replies.items c.silent.ensures.outcome c.silent.ensures.replies
     (ignored_came g.H.PathHash.hash_of old is mail (is_away c.answerer.result c.args.session.answerer old.name c.answerer.ensures c.ne.result c.ne.ensures c.if-ne.true)))
@@ -50,7 +50,7 @@ returns-clause-ok g c =
     let old : ReplicaValue _ = record { name = c.self.inside.name; live = c.self.inside.live; group = c.self.inside.group; opened = c.self.inside.opened; sessions = c.self.inside.sessions.items; kept = c.self.inside.answerer } in
     let new : ReplicaValue _ = record { name = c.self.inside.name; live = c.seal.new.self; group = c.self.inside.group; opened = c.self.inside.opened; sessions = c.self.inside.sessions.items; kept = c.hello.new.self } in
     let k : SnapshotValue _ = record { seen = c.args.seen.now; hash = c.store-2.result.now.0; map = c.store-2.result.now.1; context = c.context.result.now } in
-    let is = mapped c.self.inside.live.0 c.store.result.now c.store.ensures.value c.is_mapped.ensures.map in
+    let is = mapped c.self.inside.live.0 c.store.result.now c.store.ensures.value c.store.ensures.filled c.store.ensures.canonical in
     let live = ap (λ (l : LiveValue _ _). l.0) c.seal.ensures.same in
     rw (← c.self.view_is) (answered_by g.H.PathHash.hash_of old new (Take (Hello c.args.session (has c.args.seen.now))) c.answered.result.outcome told.Sent c.answered.result.replies.items c.answered.ensures.outcome
     c.in_ok-opening.opening c.answered.ensures.replies

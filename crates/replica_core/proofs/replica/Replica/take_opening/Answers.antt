@@ -25,7 +25,7 @@ use Rattle.replica_core.proofs.replica.Replica.take_opening.Goals as goal
 pub returns-in_default-clause-ok : goal.returns-in_default-clause-ok
 returns-in_default-clause-ok g c =
     let old : ReplicaValue _ = record { name = c.self.inside.name; live = c.self.inside.live; group = c.self.inside.group; opened = c.self.inside.opened; sessions = c.self.inside.sessions.items; kept = c.self.inside.answerer } in
-    let is = mapped c.self.inside.live.0 c.store.result.now c.store.ensures.value c.is_mapped.ensures.map in
+    let is = mapped c.self.inside.live.0 c.store.result.now c.store.ensures.value c.store.ensures.filled c.store.ensures.canonical in
     rw (← c.self.view_is) (told_by g.H.PathHash.hash_of old old (Take (mail_of (message_of c.args.message.now))) c.silent.result.outcome told.Ignored c.silent.result.replies.items c.silent.ensures.outcome
     c.silent.ensures.replies (no_opening g.H.PathHash.hash_of old is c.args.session (rw c.deref.ensures.value at (c.in_default.ensures.none refl)) (message_of c.args.message.now) c.requires.0 c.requires.1 c.requires.2))
 
@@ -53,7 +53,7 @@ returns-clause-ok g c =
     let here = c.index.ensures ∙ get_or_from_slice_get c.self.inside.sessions.items c.in-Some.place found.0 c.index.result.now found.1.0 in
     let first = subst (λ (r : ReplicaValue _). IsFirstAt (λ (b : AskerValue _). same_session b.session c.args.session) r.sessions c.in-Some.place found.0) c.self.view_is found.1 in
     let is = subst (IsReplica g.H.PathHash.hash_of) c.self.view_is c.self.invariant in
-    let map_is = subst (λ (r : ReplicaValue _). IsMapOf r.live.0.0.1 (live_state r.live.0)) c.self.view_is (mapped c.self.inside.live.0 c.store.result.now c.store.ensures.value c.is_mapped.ensures.map) in
+    let map_is = subst (λ (r : ReplicaValue _). IsMapOf r.live.0.0.1 (live_state r.live.0)) c.self.view_is (mapped c.self.inside.live.0 c.store.result.now c.store.ensures.value c.store.ensures.filled c.store.ensures.canonical) in
     if_ok c.take_turn.result
     (λ told came. opening_stepped g.H.PathHash.hash_of now is c.args.session c.in-Some.place found.0 first c.in_ok-turn.turn.next (step_of c.in_ok-turn.turn.step)
     (subst (λ (a : AskerValue _). IsFrom a c.in_ok-turn.turn.next) here c.in_ok-turn.ensures.from) (message_of c.args.message.now) c.requires.0 c.requires.1 c.requires.2
