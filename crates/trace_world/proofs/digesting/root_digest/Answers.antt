@@ -8,5 +8,5 @@ use Rattle.trace_world.proofs.digesting.root_digest.Goals as goal
 pub returns : goal.returns
 unfolding root_digest
 returns g c = λ seen once stands.
-    let same = map_shown c.args.store.now seen once stands c.frozen-frozen.result.now.map c.frozen-frozen.ensures.map c.frozen-frozen.ensures.filled c.are_in_order.ensures.ordered in
+    let same = map_shown c.args.store.now seen once stands c.frozen-frozen.result.now.map c.frozen-frozen.ensures.map c.frozen-frozen.ensures.filled c.frozen-frozen.ensures.canonical in
     c.digest.ensures.value ∙ (λ i. digest_at fnv1a (same i) (c.root.ensures i))
