@@ -9,6 +9,7 @@ mod entry;
 mod looks;
 mod named;
 mod node;
+mod opening;
 mod showing;
 
 pub use acts::{
@@ -19,3 +20,4 @@ pub use entry::Entry;
 pub use looks::{FieldListing, Getting, Sharing, Sizing};
 pub use named::{Named, Naming, Root};
 pub use node::{Client, Lock, Node, Receipt};
+pub use opening::new_node;

@@ -8,6 +8,7 @@ use shared_object::Look;
 use std::alloc::Allocator;
 
 /// The distinct values of a field of a key, ascending by bytes. Takes two look-ups, and time and memory in what stands there.
+#[derive(Drop)]
 pub struct Getting<'a, A: Allocator + Copy> {
     /// Where memory for the values is taken.
     pub alloc: A,
@@ -35,6 +36,7 @@ impl<'a, A: Allocator + Copy> Look<Root<A>> for Getting<'a, A> {
 }
 
 /// The fields of a key that hold a value, ascending by bytes. Takes a look-up, and time and memory in their number.
+#[derive(Drop)]
 pub struct FieldListing<'a, A: Allocator + Copy> {
     /// Where memory for the fields is taken.
     pub alloc: A,
@@ -59,6 +61,7 @@ impl<'a, A: Allocator + Copy> Look<Root<A>> for FieldListing<'a, A> {
 }
 
 /// How many keys hold a value at some field. Takes constant time, and no memory.
+#[derive(Drop)]
 pub struct Sizing;
 
 impl<A: Allocator + Copy> Look<Root<A>> for Sizing {
@@ -77,6 +80,7 @@ impl<A: Allocator + Copy> Look<Root<A>> for Sizing {
 }
 
 /// The map as it is published, which stays so whatever is written. Copies nothing: it takes a reference count.
+#[derive(Drop)]
 pub struct Sharing;
 
 impl<A: Allocator + Copy> Look<Root<A>> for Sharing {

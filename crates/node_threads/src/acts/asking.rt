@@ -21,6 +21,7 @@ use std::sync::{Arc, Wait};
 use wire_form::Message;
 
 /// Opens a synchronisation with a peer.
+#[derive(Drop)]
 pub struct Asking<A: Allocator + Copy> {
     /// Where memory for the root is taken.
     pub alloc: A,
@@ -56,6 +57,7 @@ impl<K: Naming, A: Allocator + Copy> Act<Replica<Fnv1a, A>, Root<A>, Entry<A>, N
 }
 
 /// Sends a synchronisation's messages again.
+#[derive(Drop)]
 pub struct Retrying<A: Allocator + Copy> {
     /// Where memory for the root is taken.
     pub alloc: A,
@@ -91,6 +93,7 @@ impl<K: Naming, A: Allocator + Copy> Act<Replica<Fnv1a, A>, Root<A>, Entry<A>, N
 }
 
 /// Gives a synchronisation up.
+#[derive(Drop)]
 pub struct Abandoning<A: Allocator + Copy> {
     /// Where memory for the root is taken.
     pub alloc: A,

@@ -18,6 +18,7 @@ use std::sync::{Arc, Wait};
 use wire_form::Message;
 
 /// Takes a message in.
+#[derive(Drop)]
 pub struct Delivering<'a, A: Allocator + Copy> {
     /// Where memory for the root is taken.
     pub alloc: A,

@@ -19,6 +19,7 @@ use std::sync::{Arc, Wait};
 use wire_form::Message;
 
 /// Writes a value on a field of a key.
+#[derive(Drop)]
 pub struct Putting<'a, A: Allocator + Copy> {
     /// Where memory for the root is taken.
     pub alloc: A,
@@ -58,6 +59,7 @@ impl<'a, K: Naming, A: Allocator + Copy> Act<Replica<Fnv1a, A>, Root<A>, Entry<A
 }
 
 /// Takes a key away.
+#[derive(Drop)]
 pub struct Removing<'a, A: Allocator + Copy> {
     /// Where memory for the root is taken.
     pub alloc: A,
@@ -93,6 +95,7 @@ impl<'a, K: Naming, A: Allocator + Copy> Act<Replica<Fnv1a, A>, Root<A>, Entry<A
 }
 
 /// Takes a field of a key away.
+#[derive(Drop)]
 pub struct FieldRemoving<'a, A: Allocator + Copy> {
     /// Where memory for the root is taken.
     pub alloc: A,
@@ -130,6 +133,7 @@ impl<'a, K: Naming, A: Allocator + Copy> Act<Replica<Fnv1a, A>, Root<A>, Entry<A
 }
 
 /// Takes all keys away.
+#[derive(Drop)]
 pub struct Clearing<A: Allocator + Copy> {
     /// Where memory for the root is taken.
     pub alloc: A,
@@ -163,6 +167,7 @@ impl<K: Naming, A: Allocator + Copy> Act<Replica<Fnv1a, A>, Root<A>, Entry<A>, N
 }
 
 /// Sends what was made.
+#[derive(Drop)]
 pub struct Flushing<A: Allocator + Copy> {
     /// Where memory for the root is taken.
     pub alloc: A,
