@@ -2,4 +2,3 @@ pub mod Refusal
 pub mod Dot
 pub mod Bytes
 pub mod Store
-pub mod Printed

@@ -5,7 +5,6 @@
 mod dot;
 mod kind;
 mod name;
-mod printed;
 mod refusal;
 mod store;
 mod text;

@@ -1,6 +1,5 @@
 ghost use Rattle.std.specs.Prelude.{◌≡◌, ◌≢◌, ◌<◌, ◌≤◌, ◌↔◌, IsSome, IfSome};
 
-use std::fmt;
 use std::marker::Model;
 
 /// A replica's name, a number from 1 to 2^64 - 1.
@@ -40,18 +39,5 @@ impl Name {
         ensures from_one { 1 ≤ result }
     {
         self.number
-    }
-}
-
-/// Its number, in decimal digits.
-impl fmt::Display for Name {
-    ghost use Rattle.std.specs.Prelude.{Some};
-    ghost use Rattle.std.specs.Fmt.{decimal};
-
-    ghost output = { λ name. Some (decimal name) };
-
-    fn fmt<W: fmt::Write>(&self, f: &mut fmt::Formatter<W>) -> fmt::Result {
-        let number = self.number();
-        write!(f, "{number}")
     }
 }
