@@ -146,7 +146,10 @@ fn each_read_may_fail_in_turn_and_whole_lines_were_answered(rt: HostRuntime) {
         assert!(rt; outcome == Err(Refusal::Input), "call {call}");
         assert!(rt; reader.failed(), "call {call}");
         let read = bytes.len().saturating_sub(reader.into_inner().rest.len());
-        assert!(rt; lines(text.as_slice()) == lines(&bytes[..read]), "call {call}");
+        assert!(rt;
+            lines(text.as_slice()) == lines(&bytes[..read]),
+            "call {call}"
+        );
     }
     assert!(rt; false, "no run came through");
 }

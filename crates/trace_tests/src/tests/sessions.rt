@@ -358,27 +358,52 @@ ignored
 
 #[test]
 fn remove_through_a_third_has_its_text(rt: HostRuntime) {
-    answers(&rt, rt.alloc(), REMOVE_THROUGH_A_THIRD, REMOVE_THROUGH_A_THIRD_TEXT);
+    answers(
+        &rt,
+        rt.alloc(),
+        REMOVE_THROUGH_A_THIRD,
+        REMOVE_THROUGH_A_THIRD_TEXT,
+    );
 }
 
 #[test]
 fn remove_synchronised_has_its_text(rt: HostRuntime) {
-    answers(&rt, rt.alloc(), REMOVE_SYNCHRONISED, REMOVE_SYNCHRONISED_TEXT);
+    answers(
+        &rt,
+        rt.alloc(),
+        REMOVE_SYNCHRONISED,
+        REMOVE_SYNCHRONISED_TEXT,
+    );
 }
 
 #[test]
 fn pages_under_one_index_has_its_text(rt: HostRuntime) {
-    answers(&rt, rt.alloc(), PAGES_UNDER_ONE_INDEX, PAGES_UNDER_ONE_INDEX_TEXT);
+    answers(
+        &rt,
+        rt.alloc(),
+        PAGES_UNDER_ONE_INDEX,
+        PAGES_UNDER_ONE_INDEX_TEXT,
+    );
 }
 
 #[test]
 fn values_only_where_missing_has_its_text(rt: HostRuntime) {
-    answers(&rt, rt.alloc(), VALUES_ONLY_WHERE_MISSING, VALUES_ONLY_WHERE_MISSING_TEXT);
+    answers(
+        &rt,
+        rt.alloc(),
+        VALUES_ONLY_WHERE_MISSING,
+        VALUES_ONLY_WHERE_MISSING_TEXT,
+    );
 }
 
 #[test]
 fn concurrent_value_sent_has_its_text(rt: HostRuntime) {
-    answers(&rt, rt.alloc(), CONCURRENT_VALUE_SENT, CONCURRENT_VALUE_SENT_TEXT);
+    answers(
+        &rt,
+        rt.alloc(),
+        CONCURRENT_VALUE_SENT,
+        CONCURRENT_VALUE_SENT_TEXT,
+    );
 }
 
 #[test]

@@ -92,7 +92,10 @@ fn lines_that_are_no_commands_end_the_trace(rt: HostRuntime) {
         "sizes 1",
         "\r",
     ] {
-        assert!(rt; gives(&rt, rt.alloc(), line, "error line 1: BadLine\n") == Err(Refusal::BadLine), "{line}");
+        assert!(rt;
+            gives(&rt, rt.alloc(), line, "error line 1: BadLine\n") == Err(Refusal::BadLine),
+            "{line}"
+        );
     }
 }
 
@@ -102,9 +105,14 @@ fn faults_are_found_in_their_order(rt: HostRuntime) {
     assert!(rt; gives(&rt, rt.alloc(), "get 9 a", unknown) == Err(Refusal::UnknownReplica));
     assert!(rt; gives(&rt, rt.alloc(), "deliver 1 1", unknown) == Err(Refusal::UnknownReplica));
     let taken = "ok\nerror line 3: NameTaken\n";
-    assert!(rt; gives(&rt, rt.alloc(), "node 1\n\nnode 1\nnode 2\n", taken) == Err(Refusal::NameTaken));
+    assert!(rt;
+        gives(&rt, rt.alloc(), "node 1\n\nnode 1\nnode 2\n", taken) == Err(Refusal::NameTaken)
+    );
     let message = "ok\nerror line 2: UnknownMessage\n";
-    assert!(rt; gives(&rt, rt.alloc(), "node 1\ndeliver 1 1\nnode 2", message) == Err(Refusal::UnknownMessage));
+    assert!(rt;
+        gives(&rt, rt.alloc(), "node 1\ndeliver 1 1\nnode 2", message)
+            == Err(Refusal::UnknownMessage)
+    );
 }
 
 #[test]
