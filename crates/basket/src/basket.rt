@@ -20,28 +20,21 @@ pub(crate) fn take_out(alloc: Global, basket: &mut Replica, thing: &[u8]) -> Res
 }
 
 /// Prints a line with the things of the basket, each with its numbers: more than one, where devices wrote without knowing of each other.
-pub(crate) fn print(rt: &impl Print, alloc: Global, name: &str, basket: &Replica) -> Result<()> {
+pub(crate) fn print(rt: &impl Print, name: &str, basket: &Replica) -> Result<()> {
     print!(rt; "{name}:")?;
     let keys = basket.keys()?;
     for key in keys.as_slice() {
-        print_thing(rt, alloc, basket, key)?;
+        print_thing(rt, basket, key)?;
     }
     println!(rt; "")?;
     Ok(())
 }
 
-fn print_thing(rt: &impl Print, alloc: Global, basket: &Replica, key: &Key) -> Result<()> {
-    let thing = String::from_utf8_lossy(alloc, key.bytes())?;
-    print!(rt; " {thing}")?;
+fn print_thing(rt: &impl Print, basket: &Replica, key: &Key) -> Result<()> {
+    print!(rt; " {key}")?;
     let numbers = basket.get(key)?;
     for number in numbers.as_slice() {
-        print_number(rt, alloc, number)?;
+        print!(rt; " {number}")?;
     }
-    Ok(())
-}
-
-fn print_number(rt: &impl Print, alloc: Global, number: &Value) -> Result<()> {
-    let text = String::from_utf8_lossy(alloc, number.bytes())?;
-    print!(rt; " {text}")?;
     Ok(())
 }

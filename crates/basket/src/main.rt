@@ -25,17 +25,17 @@ fn shop(alloc: Global, phone: &mut Replica, laptop: &mut Replica) -> Result<()> 
     take_out(alloc, phone, b"milk")
 }
 
-fn print_both(rt: &impl Print, alloc: Global, phone: &Replica, laptop: &Replica) -> Result<()> {
-    print(rt, alloc, "phone", phone)?;
-    print(rt, alloc, "laptop", laptop)
+fn print_both(rt: &impl Print, phone: &Replica, laptop: &Replica) -> Result<()> {
+    print(rt, "phone", phone)?;
+    print(rt, "laptop", laptop)
 }
 
 fn live(rt: &impl Print, alloc: Global, phone: &mut Replica, laptop: &mut Replica) -> Result<()> {
     shop(alloc, phone, laptop)?;
-    print_both(rt, alloc, phone, laptop)?;
+    print_both(rt, phone, laptop)?;
     let ended = synchronise(alloc, laptop, phone)?;
     println!(rt; "synchronised: {ended}")?;
-    print_both(rt, alloc, phone, laptop)
+    print_both(rt, phone, laptop)
 }
 
 fn main(rt: HostRuntime) -> Result<()> {

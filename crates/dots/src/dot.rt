@@ -1,6 +1,7 @@
 ghost use Rattle.std.specs.Prelude.{◌≡◌, ◌≢◌, ◌≤◌, ◌↔◌, IsSome, IfSome};
 
 use crate::name::Name;
+use std::fmt;
 use std::marker::Model;
 
 /// One write of one replica: the replica's name, and the write's number there, from 1 to 2^64 - 1.
@@ -50,5 +51,18 @@ impl Dot {
         ensures from_one { 1 ≤ result }
     {
         self.number
+    }
+}
+
+/// Its name, a colon and its number, as `2:17`.
+impl fmt::Display for Dot {
+    ghost use Rattle.std.specs.Prelude.{Some};
+    ghost use Rattle.dots.specs.Printed.{dot_text};
+
+    ghost output = { λ dot. Some (dot_text dot) };
+
+    fn fmt<W: fmt::Write>(&self, f: &mut fmt::Formatter<W>) -> fmt::Result {
+        let (name, number) = (self.name().number(), self.number());
+        write!(f, "{name}:{number}")
     }
 }

@@ -5,6 +5,7 @@
 mod dot;
 mod kind;
 mod name;
+mod printed;
 mod refusal;
 mod store;
 mod text;

@@ -1,5 +1,6 @@
 ghost use Rattle.std.specs.Prelude.{◌≡◌, ◌≢◌, ◌<◌, ◌≤◌, ◌↔◌, IsSome, IfSome};
 
+use std::fmt;
 use std::marker::Model;
 
 /// A replica's name, a number from 1 to 2^64 - 1.
@@ -39,5 +40,18 @@ impl Name {
         ensures from_one { 1 ≤ result }
     {
         self.number
+    }
+}
+
+/// Its number, in decimal digits.
+impl fmt::Display for Name {
+    ghost use Rattle.std.specs.Prelude.{Some};
+    ghost use Rattle.std.specs.Fmt.{decimal};
+
+    ghost output = { λ name. Some (decimal name) };
+
+    fn fmt<W: fmt::Write>(&self, f: &mut fmt::Formatter<W>) -> fmt::Result {
+        let number = self.number();
+        write!(f, "{number}")
     }
 }

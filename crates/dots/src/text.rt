@@ -5,6 +5,7 @@ ghost use Rattle.std.specs.Ordering.{eq_by_cmp, as_partial_cmp};
 ghost use Rattle.dots.specs.Bytes.{MAX_LENGTH, bytes_cmp};
 ghost use Rattle.dots.specs.declared.refusal.Refusal.TheVariants.{OutOfMemory, TooLong};
 
+use crate::printed::print;
 use crate::refusal::Refusal;
 use crate::store::Store;
 use std::alloc::{Allocator, Global};
@@ -123,5 +124,18 @@ impl<K, A: Allocator> fmt::Debug for Text<K, A> {
     fn fmt<W: fmt::Write>(&self, f: &mut fmt::Formatter<W>) -> fmt::Result {
         let bytes = self.bytes();
         write!(f, "{bytes:?}")
+    }
+}
+
+/// The text itself, where each byte is a visible one of ASCII and the first is not `#`; any other, also the empty one, as `#` and its
+/// bytes in lower-case hexadecimal digits.
+impl<K, A: Allocator> fmt::Display for Text<K, A> {
+    ghost use Rattle.std.specs.Prelude.{Some};
+    ghost use Rattle.dots.specs.Printed.{printed};
+
+    ghost output = { λ text. Some (printed text) };
+
+    fn fmt<W: fmt::Write>(&self, f: &mut fmt::Formatter<W>) -> fmt::Result {
+        print(f, self.bytes())
     }
 }

@@ -109,3 +109,44 @@ fn a_refusal_is_written_as_its_name(rt: HostRuntime) -> Result<(), Fail> {
     assert!(rt; is_written(rt.alloc())?);
     Ok(())
 }
+
+// Whether the text of these bytes is printed so.
+fn is_printed(alloc: Global, bytes: &[u8], printed: &str) -> Result<bool, Refusal> {
+    let text = Field::new(alloc, bytes)?;
+    Ok(format!(in alloc; "{text}")?.as_str() == printed)
+}
+
+#[test]
+fn a_text_is_printed_as_itself_or_by_its_bytes(rt: HostRuntime) -> Result<(), Fail> {
+    let alloc = rt.alloc();
+    assert!(rt; is_printed(alloc, b"milk#2", "milk#2")?);
+    assert!(rt; is_printed(alloc, b"!~", "!~")?);
+    assert!(rt; is_printed(alloc, b"", "#")?);
+    assert!(rt; is_printed(alloc, b"#1", "#2331")?);
+    assert!(rt; is_printed(alloc, b"a b", "#612062")?);
+    assert!(rt; is_printed(alloc, &[0, 10, 127, 255], "#000a7fff")?);
+    Ok(())
+}
+
+// Whether the dot and its name are printed so.
+fn is_shown(alloc: Global, dot: Dot, shown: &str, name_shown: &str) -> Result<bool, Refusal> {
+    let name = dot.name();
+    let (text, name_text) = (format!(in alloc; "{dot}")?, format!(in alloc; "{name}")?);
+    Ok(text.as_str() == shown && name_text.as_str() == name_shown)
+}
+
+#[test]
+fn a_dot_is_printed_as_its_name_and_its_number(rt: HostRuntime) -> Result<(), Fail> {
+    let alloc = rt.alloc();
+    assert!(rt; is_shown(alloc, dot(&rt, 2, 17), "2:17", "2")?);
+    let last = "18446744073709551615:18446744073709551615";
+    assert!(rt;
+        is_shown(
+            alloc,
+            dot(&rt, u64::MAX, u64::MAX),
+            last,
+            "18446744073709551615"
+        )?
+    );
+    Ok(())
+}
