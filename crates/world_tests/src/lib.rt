@@ -7,6 +7,8 @@ mod lines;
 #[cfg(test)]
 mod scenes;
 #[cfg(test)]
+mod storm;
+#[cfg(test)]
 mod world_bytes;
 #[cfg(test)]
 mod worlds;
