@@ -4,7 +4,7 @@ ghost use Rattle.std.specs.Prelude.{◌≡◌, ℕ, List, [], sum};
 mod beside;
 mod refused;
 
-use root_cell::{About, Brand, Cell, Itself, Note, Opened, View};
+use root_cell::{About, Brand, Cell, Itself, Note, OpenedBook, View};
 use std::alloc::{Allocator, Global};
 use std::marker;
 use std::process::Abort;
@@ -47,7 +47,7 @@ fn are_all(seen: &[bool]) -> bool {
 
 #[test]
 fn each_view_enters_the_root_that_was_published_last(rt: HostRuntime) -> Result<(), Fail> {
-    assert!(rt; publish_twice::<marker::Brand, _>(&rt, rt.alloc(), Opened::new())?);
+    assert!(rt; publish_twice::<marker::Brand, _>(&rt, rt.alloc(), OpenedBook::new())?);
     Ok(())
 }
 
@@ -55,7 +55,7 @@ fn each_view_enters_the_root_that_was_published_last(rt: HostRuntime) -> Result<
 fn publish_twice<J: Brand<u64, u64>, R: Wait + Abort>(
     rt: &R,
     alloc: Global,
-    opened: Opened<u64>,
+    opened: OpenedBook<u64>,
 ) -> Result<bool, Fail>
     requires book { opened.0 ≡ J.book }
     requires law { (root : ℕ) (events : List ℕ) → root ≡ sum events → J.stands root events }
@@ -78,13 +78,13 @@ fn publish_twice<J: Brand<u64, u64>, R: Wait + Abort>(
 fn what_was_learnt_is_entered_and_no_view_enters_after_the_end(
     rt: HostRuntime,
 ) -> Result<(), Fail> {
-    learn_and_end::<marker::Brand, _>(&rt, rt.alloc(), Opened::new())
+    learn_and_end::<marker::Brand, _>(&rt, rt.alloc(), OpenedBook::new())
 }
 
 fn learn_and_end<J: Brand<u64, u64>, R: Wait + Abort>(
     rt: &R,
     alloc: Global,
-    opened: Opened<u64>,
+    opened: OpenedBook<u64>,
 ) -> Result<(), Fail>
     requires book { opened.0 ≡ J.book }
     requires law { (root : ℕ) (events : List ℕ) → root ≡ sum events → J.stands root events }
@@ -110,7 +110,7 @@ fn learn_and_end<J: Brand<u64, u64>, R: Wait + Abort>(
 
 #[test]
 fn fronts_are_compared(rt: HostRuntime) -> Result<(), Fail> {
-    assert!(rt; compare::<marker::Brand, _>(&rt, rt.alloc(), Opened::new())?);
+    assert!(rt; compare::<marker::Brand, _>(&rt, rt.alloc(), OpenedBook::new())?);
     Ok(())
 }
 
@@ -144,7 +144,7 @@ fn is_ahead_alone<J: Brand<u64, u64>, A: Allocator>(
 fn compare<J: Brand<u64, u64>, R: Wait + Abort>(
     rt: &R,
     alloc: Global,
-    opened: Opened<u64>,
+    opened: OpenedBook<u64>,
 ) -> Result<bool, Fail>
     requires book { opened.0 ≡ J.book }
     requires law { (root : ℕ) (events : List ℕ) → root ≡ sum events → J.stands root events }
@@ -179,13 +179,13 @@ fn compare<J: Brand<u64, u64>, R: Wait + Abort>(
 
 #[test]
 fn a_cell_has_as_many_views_as_places(rt: HostRuntime) -> Result<(), Fail> {
-    many_places::<marker::Brand, _>(&rt, rt.alloc(), Opened::new())
+    many_places::<marker::Brand, _>(&rt, rt.alloc(), OpenedBook::new())
 }
 
 fn many_places<J: Brand<u64, u64>, R: Wait + Abort>(
     rt: &R,
     alloc: Global,
-    opened: Opened<u64>,
+    opened: OpenedBook<u64>,
 ) -> Result<(), Fail>
     requires book { opened.0 ≡ J.book }
     requires law { (root : ℕ) (events : List ℕ) → root ≡ sum events → J.stands root events }

@@ -1,1 +1,3 @@
-mod Stepping
+pub mod Stepping
+pub mod Inboxes
+pub mod Twice

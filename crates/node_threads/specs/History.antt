@@ -15,7 +15,7 @@ use Rattle.trie_map.specs.Keyed.{TrieMapValue}
 use Rattle.wire_form.specs.Message.{message_of}
 use Rattle.node_threads.specs.declared.deed.Deed.{Deed}
 use Rattle.node_threads.specs.declared.deed.Deed.TheVariants.{Put, Remove, RemoveField, Clear, Flush, Ask, Retry, Abandon, Deliver}
-use Rattle.node_threads.specs.declared.entry.Entry.{Entry}
+use Rattle.node_threads.specs.declared.node_event.NodeEvent.{NodeEvent}
 
 -- a call of a client, in the words of the model
 abbrev pub act_of : {A : Type 0} → Deed A → Act
@@ -30,26 +30,26 @@ act_of (Abandon number) = step.Do (step.Abandon number)
 act_of (Deliver message) = step.Take (mail_of (message_of message))
 
 -- an event of a history, and a history
-abbrev pub entry_of : {A : Type 0} → Entry A → model.Entry
+abbrev pub entry_of : {A : Type 0} → NodeEvent A → model.Entry
 entry_of e = record { place = e.place; act = act_of e.deed }
 
 -- the replica of this name is this one after the history: there is one at most
-abbrev pub IsAfter : {A : Type 0} → ℕ → List (Entry A) → Replica → Type 0
+abbrev pub IsAfter : {A : Type 0} → ℕ → List (NodeEvent A) → Replica → Type 0
 IsAfter name history r = model.IsAfter fnv1a name (map entry_of history) r
 
 -- a store holds what the replica does after the history
-abbrev pub StandsFor : {Hash A : Type 0} → ℕ → TrieMapValue Hash FieldsValue → List (Entry A) → Type 0
+abbrev pub StandsFor : {Hash A : Type 0} → ℕ → TrieMapValue Hash FieldsValue → List (NodeEvent A) → Type 0
 StandsFor name store history = (r : Replica) × IsAfter name history r × ((store_state store).at ≡ r.live.at)
 
 -- the call is answered this after the history, and sends these
-abbrev pub Replies : {A : Type 0} → ℕ → List (Entry A) → Deed A → Answer → List Mail → Type 0
+abbrev pub Replies : {A : Type 0} → ℕ → List (NodeEvent A) → Deed A → Answer → List Mail → Type 0
 Replies name history deed answer out =
     (r : Replica) × (next : Replica) × IsAfter name history r × IsStep fnv1a r (act_of deed) next answer out
 
 -- the call is refused so after the history, want of memory aside
-abbrev pub RefusesAfter : {A : Type 0} → ℕ → List (Entry A) → Call → Refusal → Type 0
+abbrev pub RefusesAfter : {A : Type 0} → ℕ → List (NodeEvent A) → Call → Refusal → Type 0
 RefusesAfter name history call refusal = (r : Replica) × IsAfter name history r × Refuses r call refusal
 
 -- nothing refuses it
-abbrev pub NeverRefuses : {A : Type 0} → List (Entry A) → Refusal → Type 0
+abbrev pub NeverRefuses : {A : Type 0} → List (NodeEvent A) → Refusal → Type 0
 NeverRefuses history refusal = ⊥

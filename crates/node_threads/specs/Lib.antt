@@ -1,1 +1,3 @@
 pub mod History
+pub mod Serving
+pub mod Twice

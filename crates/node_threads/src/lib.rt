@@ -4,20 +4,30 @@
 #![tactic(auto)]
 
 mod acts;
+mod channels;
 mod deed;
-mod entry;
+mod laws;
+mod letter;
 mod looks;
 mod named;
 mod node;
+mod node_event;
 mod opening;
+mod post;
+mod serving;
 mod showing;
 
 pub use acts::{
     Abandoning, Asking, Clearing, Delivering, FieldRemoving, Flushing, Putting, Removing, Retrying,
 };
+pub use channels::Channels;
 pub use deed::Deed;
-pub use entry::Entry;
-pub use looks::{FieldListing, Getting, Sharing, Sizing};
+pub use laws::no_dot_and_no_number_comes_twice;
+pub use letter::Letter;
+pub use looks::{Containing, FieldListing, Getting, Sharing, Sizing};
 pub use named::{Named, Naming, Root};
 pub use node::{Client, Lock, Node, Receipt};
+pub use node_event::NodeEvent;
 pub use opening::new_node;
+pub use post::Post;
+pub use serving::{Served, serve};

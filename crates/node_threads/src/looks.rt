@@ -60,6 +60,27 @@ impl<'a, A: Allocator + Copy> Look<Root<A>> for FieldListing<'a, A> {
     }
 }
 
+/// Whether the key holds a value at some field. Takes a look-up, and no memory.
+#[derive(Drop)]
+pub struct Containing<'a, A: Allocator + Copy> {
+    /// The key.
+    pub key: &'a Key<A>,
+}
+
+impl<'a, A: Allocator + Copy> Look<Root<A>> for Containing<'a, A> {
+    ghost use Rattle.std.specs.Prelude.{◌↔◌, IsTrue};
+    ghost use Rattle.delta_ops.specs.LiveMap.{store_state};
+    ghost use Rattle.op_model.specs.Meaning.{HoldsKey};
+
+    type Found = bool;
+
+    ghost finds = { λ look root found. IsTrue found ↔ HoldsKey (store_state root) look.key.now };
+
+    fn look(&self, root: &Root<A>) -> bool {
+        root.frozen().lookup(self.key).is_some()
+    }
+}
+
 /// How many keys hold a value at some field. Takes constant time, and no memory.
 #[derive(Drop)]
 pub struct Sizing;

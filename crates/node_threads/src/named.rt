@@ -1,4 +1,4 @@
-use crate::entry::Entry;
+use crate::node_event::NodeEvent;
 use delta_ops::LiveStore;
 use hash_path::Fnv1a;
 use prefix_digest::ShaSummary;
@@ -37,7 +37,7 @@ pub struct Named<K> {
     of: PhantomData<K>,
 }
 
-impl<K: Naming, A: Allocator + Copy> Brand<Root<A>, Entry<A>> for Named<K> {
+impl<K: Naming, A: Allocator + Copy> Brand<Root<A>, NodeEvent<A>> for Named<K> {
     ghost use Rattle.node_threads.specs.History.{StandsFor};
 
     ghost book = { K.book };
@@ -45,7 +45,7 @@ impl<K: Naming, A: Allocator + Copy> Brand<Root<A>, Entry<A>> for Named<K> {
     ghost stands = { λ root history. StandsFor K.name root history };
 }
 
-impl<K: Naming, A: Allocator + Copy> Object<Replica<Fnv1a, A>, Root<A>, Entry<A>> for Named<K> {
+impl<K: Naming, A: Allocator + Copy> Object<Replica<Fnv1a, A>, Root<A>, NodeEvent<A>> for Named<K> {
     ghost use Rattle.replica_core.specs.Meaning.{meaning};
     ghost use Rattle.node_threads.specs.History.{IsAfter};
 

@@ -1,13 +1,13 @@
 ghost use Rattle.std.specs.Prelude.{◌≡◌, ◌≤◌, IfOk, IfErr};
 ghost use Rattle.dots.specs.declared.refusal.Refusal.TheVariants.{OutOfMemory};
 
-use crate::entry::Entry;
 use crate::named::{Named, Naming, Root};
 use crate::node::{Lock, Node};
+use crate::node_event::NodeEvent;
 use dots::{Name, Refusal};
 use hash_path::Fnv1a;
 use replica_core::Replica;
-use root_cell::{Cell, Opened};
+use root_cell::{Cell, OpenedBook};
 use shared_object::{Gate, Owner, Returned};
 use std::alloc::Allocator;
 use std::sync::Wait;
@@ -19,7 +19,7 @@ use std::sync::Wait;
 pub fn new_node<K: Naming, G: Gate + Drop, W: Wait + Drop, A: Allocator + Copy, T: Wait>(
     rt: &T,
     alloc: A,
-    opened: Opened<Entry<A>>,
+    opened: OpenedBook<NodeEvent<A>>,
     name: Name,
     places: usize,
     gate: G,
@@ -36,7 +36,7 @@ pub fn new_node<K: Naming, G: Gate + Drop, W: Wait + Drop, A: Allocator + Copy, 
         Ok(root) => root,
         Err(refusal) => return Err(refusal),
     };
-    let cell = Cell::<Root<A>, Entry<A>, Named<K>, A>::new(rt, alloc, opened, places, root);
+    let cell = Cell::<Root<A>, NodeEvent<A>, Named<K>, A>::new(rt, alloc, opened, places, root);
     let (writer, views) = match cell {
         Ok(made) => made,
         Err(refusal) => return Err(refusal),

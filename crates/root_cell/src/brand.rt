@@ -1,6 +1,6 @@
 use std::marker;
 
-/// Names a cell, and says which roots stand for which events. The caller picks it, once its cell is `Opened`, and it is a
+/// Names a cell, and says which roots stand for which events. The caller picks it, once its cell is `OpenedBook`, and it is a
 /// parameter of all that belongs to the cell: so a Note of one cell is not learnt at another.
 pub trait Brand<R, E> {
     ghost use Rattle.std.specs.Prelude.{List};

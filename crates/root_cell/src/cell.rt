@@ -5,7 +5,7 @@ ghost use Rattle.root_cell.specs.Rule.{StandsIn};
 use crate::brand::Brand;
 use crate::desk::{Desk, make_room};
 use crate::front::Front;
-use crate::opened::Opened;
+use crate::opened_book::OpenedBook;
 use crate::published::Published;
 use crate::rule::Ruled;
 use crate::view::View;
@@ -30,7 +30,7 @@ impl<R: Drop, E, J: Brand<R, E>, A: Allocator + Copy> Cell<R, E, J, A> {
     pub fn new<W: Wait>(
         rt: &W,
         alloc: A,
-        opened: Opened<E>,
+        opened: OpenedBook<E>,
         places: usize,
         root: R,
     ) -> Result<(Writer<R, E, J, A>, Vec<View<R, E, J, A>, A>), Refusal>
@@ -41,7 +41,7 @@ impl<R: Drop, E, J: Brand<R, E>, A: Allocator + Copy> Cell<R, E, J, A> {
         ensures views { IfOk result (λ r. r.1.items ≡ replicate places []) }
         ensures err { IfErr result (λ e. e ≡ OutOfMemory) }
     {
-        let Opened { head, seen } = opened;
+        let OpenedBook { head, seen } = opened;
         let front: Front<R, E, J> = Front::new(0, &seen);
         let first = Published::new(Arc::new(alloc, root)?, 0, seen);
         let desk: Desk<R, E, J, A> = writer::Writer::new(

@@ -5,13 +5,13 @@ ghost use Rattle.shared_object.specs.History.{calls_by, made};
 ghost use Rattle.shared_object.specs.Calling.{HasNotCalled, IsAccepted, IsRefused};
 ghost use Rattle.shared_object.specs.Finishing.{IsOwn};
 
-use crate::act::Act;
 use crate::desk::Desk;
 use crate::gate::Gate;
 use crate::look::Look;
 use crate::object::Object;
 use crate::placed::Placed;
 use crate::shared::{Shared, take_turn};
+use crate::update::Update;
 use dots::Refusal;
 use root_cell::{Brand, Note, View};
 use std::alloc::{Allocator, Global};
@@ -85,7 +85,8 @@ impl<R: Drop, E: Placed, J: Brand<R, E>, S: Drop, A: Allocator> Client<R, E, J, 
         view.learn(receipt);
     }
 
-    /// Reads off the root that is published. It waits for nobody. NoPlace comes only where the object was taken out.
+    /// Reads off the root that is published. It waits for nobody. Its only refusal is NoPlace, where the cell gives no root, as once the
+    /// object was taken out; that it comes nowhere else is tested, and no clause.
     pub fn look<L: Look<R>>(&mut self, look: &L) -> Result<L::Found, Refusal>
         ensures found { IfOk result (λ found. (root : R) × J.stands root self.new.front × L.finds look.now root found) }
         ensures own { HasNotCalled E.place self.old self.new }
@@ -118,21 +119,21 @@ impl<
     A: Allocator + Copy,
 > Client<R, E, J, Shared<D, R, E, J, G, W, A>, A> {
     /// Makes a call when its turn has come, and answers its reply and a receipt, which is of the history with the call at its end.
-    pub fn call<T: Wait, C: Act<D, R, E, J, A>>(
+    pub fn call<T: Wait, C: Update<D, R, E, J, A>>(
         &mut self,
         rt: &T,
-        act: &C,
+        update: &C,
     ) -> Result<(C::Reply, Note<R, E, J>), Refusal>
-        ensures ok { IfOk result (λ r. (history : List E) × IsAccepted E.place self.old self.new history (C.event act.now self.old.place) × C.answers act.now history r.0) }
+        ensures ok { IfOk result (λ r. (history : List E) × IsAccepted E.place self.old self.new history (C.event update.now self.old.place) × C.answers update.now history r.0) }
         ensures receipt { IfOk result (λ r. r.1 ≡ self.new.front) }
-        ensures refused { IfErr result (λ e. (e ≡ NoPlace) ⊎ IsRefused (C.refuses act.now) self.new.front e) }
+        ensures refused { IfErr result (λ e. (e ≡ NoPlace) ⊎ IsRefused (C.refuses update.now) self.new.front e) }
         ensures not_made { OnErr result (HasNotCalled E.place self.old self.new) }
     {
         let Some(view) = self.view.take() else {
             unreachable!()
         };
         let (place, operations) = (self.place, self.operations);
-        let (view, answer) = take_turn(&self.shared, rt, view, place, operations, act);
+        let (view, answer) = take_turn(&self.shared, rt, view, place, operations, update);
         self.view = Some(view);
         match answer {
             Ok(told) => {

@@ -4,10 +4,10 @@ ghost use Rattle.dots.specs.declared.refusal.Refusal.TheVariants.{NoPlace};
 ghost use Rattle.shared_object.specs.History.{AreCounts, calls_by};
 ghost use Rattle.shared_object.specs.Calling.{IsRefused};
 
-use crate::act::{Act, Made, Making};
 use crate::finishing::Finished;
 use crate::object::Object;
 use crate::placed::Placed;
+use crate::update::{Made, Making, Update};
 use dots::Refusal;
 use root_cell::{Note, View, Writer};
 use std::alloc::{Allocator, Global};
@@ -152,13 +152,13 @@ impl<D: Drop, R: Drop, E: Placed, J: Object<D, R, E>, W: Wait + Drop, A: Allocat
     }
 
     /// Takes the turn of a client: makes its call, where the client's calls that are known here are just those that it made.
-    pub(crate) fn turn<T: Wait, C: Act<D, R, E, J, A>>(
+    pub(crate) fn turn<T: Wait, C: Update<D, R, E, J, A>>(
         self,
         rt: &T,
         view: View<R, E, J, A>,
         place: usize,
         operations: u64,
-        act: &C,
+        update: &C,
     ) -> (
         Desk<D, R, E, J, W, A>,
         View<R, E, J, A>,
@@ -168,11 +168,11 @@ impl<D: Drop, R: Drop, E: Placed, J: Object<D, R, E>, W: Wait + Drop, A: Allocat
         ensures seen { IfOk result.2 (λ r. IsPrefix view self) }
         ensures own { IfOk result.2 (λ r. length (calls_by E.place place self) ≡ operations) }
         ensures room { IfOk result.2 (λ r. length self < 2 ^ 64 - 1) }
-        ensures reply { IfOk result.2 (λ r. C.answers act.now self r.0) }
-        ensures receipt { IfOk result.2 (λ r. r.1 ≡ self ++ C.event act.now place ∷ []) }
-        ensures front { IfOk result.2 (λ r. result.1 ≡ self ++ C.event act.now place ∷ []) }
-        ensures desk { IfOk result.2 (λ r. result.0 ≡ self ++ C.event act.now place ∷ []) }
-        ensures refused { IfErr result.2 (λ e. (e ≡ NoPlace) ⊎ IsRefused (C.refuses act.now) result.1 e) }
+        ensures reply { IfOk result.2 (λ r. C.answers update.now self r.0) }
+        ensures receipt { IfOk result.2 (λ r. r.1 ≡ self ++ C.event update.now place ∷ []) }
+        ensures front { IfOk result.2 (λ r. result.1 ≡ self ++ C.event update.now place ∷ []) }
+        ensures desk { IfOk result.2 (λ r. result.0 ≡ self ++ C.event update.now place ∷ []) }
+        ensures refused { IfErr result.2 (λ e. (e ≡ NoPlace) ⊎ IsRefused (C.refuses update.now) result.1 e) }
         ensures learnt { IfErr result.2 (λ _. IsPrefix view result.1) }
         ensures unchanged { IfErr result.2 (λ _. result.0 ≡ self) }
     {
@@ -180,7 +180,7 @@ impl<D: Drop, R: Drop, E: Placed, J: Object<D, R, E>, W: Wait + Drop, A: Allocat
         if !is_met {
             return (self, view, Err(Refusal::NoPlace));
         }
-        match self.accept(rt, place, act) {
+        match self.accept(rt, place, update) {
             (desk, Ok(told)) => {
                 let mut view = view;
                 view.learn(desk.writer.tell());
@@ -192,21 +192,21 @@ impl<D: Drop, R: Drop, E: Placed, J: Object<D, R, E>, W: Wait + Drop, A: Allocat
 
     /// Makes a call for the client at this place, and publishes what the object then is. A refused call changes nothing, and publishes
     /// nothing.
-    pub(crate) fn accept<T: Wait, C: Act<D, R, E, J, A>>(
+    pub(crate) fn accept<T: Wait, C: Update<D, R, E, J, A>>(
         self,
         rt: &T,
         place: usize,
-        act: &C,
+        update: &C,
     ) -> (
         Desk<D, R, E, J, W, A>,
         Result<(C::Reply, Note<R, E, J>), Refusal>,
     )
         requires { place < 64 }
-        ensures ok { IfOk result.1 (λ r. result.0 ≡ self ++ C.event act.now place ∷ []) }
+        ensures ok { IfOk result.1 (λ r. result.0 ≡ self ++ C.event update.now place ∷ []) }
         ensures room { IfOk result.1 (λ r. length self < 2 ^ 64 - 1) }
-        ensures reply { IfOk result.1 (λ r. C.answers act.now self r.0) }
-        ensures receipt { IfOk result.1 (λ r. r.1 ≡ self ++ C.event act.now place ∷ []) }
-        ensures refused { IfErr result.1 (IsRefused (C.refuses act.now) self) }
+        ensures reply { IfOk result.1 (λ r. C.answers update.now self r.0) }
+        ensures receipt { IfOk result.1 (λ r. r.1 ≡ self ++ C.event update.now place ∷ []) }
+        ensures refused { IfErr result.1 (IsRefused (C.refuses update.now) self) }
         ensures unchanged { IfErr result.1 (λ _. result.0 ≡ self) }
     {
         if self.events == u64::MAX {
@@ -220,9 +220,9 @@ impl<D: Drop, R: Drop, E: Placed, J: Object<D, R, E>, W: Wait + Drop, A: Allocat
             rt: own,
         } = self;
         let mut object = object;
-        match act.act(rt, &mut object) {
+        match update.update(rt, &mut object) {
             Ok((reply, root)) => {
-                let made = Made { place, act };
+                let made = Made { place, update };
                 let writer = writer.publish_placed::<Made<C>, Making<D, R, J, A>, T>(
                     rt, root, &made,
                 );

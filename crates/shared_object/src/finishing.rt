@@ -43,8 +43,8 @@ impl<
     W: Wait + Drop,
     A: Allocator + Copy,
 > Owner<R, E, J, Shared<D, R, E, J, G, W, A>, A> {
-    /// Takes the object out, where these are all clients of the places that were taken. Else all comes back, and nothing has changed, though
-    /// the clients may have seen more.
+    /// Takes the object out, only where these are all clients of the places that were taken. Else all comes back, and nothing has changed,
+    /// though the clients may have seen more. That it is taken out wherever they are all is tested, and no clause.
     pub fn finish<T: Wait>(
         self,
         rt: &T,

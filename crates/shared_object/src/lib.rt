@@ -4,7 +4,6 @@
 // a front of it, which begins with all that the client saw, learnt or wrote; and of a client's place it has just the calls that it made.
 #![tactic(auto)]
 
-mod act;
 mod client;
 mod desk;
 mod finishing;
@@ -15,8 +14,8 @@ mod owner;
 mod placed;
 mod returned;
 mod shared;
+mod update;
 
-pub use act::Act;
 pub use client::Client;
 pub use finishing::{Finished, Unfinished};
 pub use gate::{Gate, NoGate, Point};
@@ -26,3 +25,4 @@ pub use owner::Owner;
 pub use placed::Placed;
 pub use returned::Returned;
 pub use shared::Shared;
+pub use update::Update;

@@ -4,11 +4,11 @@ ghost use Rattle.dots.specs.declared.refusal.Refusal.TheVariants.{NoPlace};
 ghost use Rattle.shared_object.specs.History.{calls_by};
 ghost use Rattle.shared_object.specs.Calling.{IsRefused};
 
-use crate::act::Act;
 use crate::desk::Desk;
 use crate::gate::{Gate, Point};
 use crate::object::Object;
 use crate::placed::Placed;
+use crate::update::Update;
 use dots::Refusal;
 use root_cell::{Note, View};
 use std::alloc::{Allocator, Global};
@@ -41,19 +41,19 @@ pub(crate) fn take_turn<
     W: Wait + Drop,
     A: Allocator + Copy,
     T: Wait,
-    C: Act<D, R, E, J, A>,
+    C: Update<D, R, E, J, A>,
 >(
     shared: &Shared<D, R, E, J, G, W, A>,
     rt: &T,
     view: View<R, E, J, A>,
     place: usize,
     operations: u64,
-    act: &C,
+    update: &C,
 ) -> (View<R, E, J, A>, Result<(C::Reply, Note<R, E, J>), Refusal>)
     requires { place < 64 }
     ensures ok { IfOk result.1 (λ r. (history : List E) × IsPrefix view history × (length (calls_by E.place place history) ≡ operations) × (length history < 2 ^ 64 - 1)
-        × C.answers act.now history r.0 × (r.1 ≡ history ++ C.event act.now place ∷ []) × (result.0 ≡ history ++ C.event act.now place ∷ [])) }
-    ensures refused { IfErr result.1 (λ e. (e ≡ NoPlace) ⊎ IsRefused (C.refuses act.now) result.0 e) }
+        × C.answers update.now history r.0 × (r.1 ≡ history ++ C.event update.now place ∷ []) × (result.0 ≡ history ++ C.event update.now place ∷ [])) }
+    ensures refused { IfErr result.1 (λ e. (e ≡ NoPlace) ⊎ IsRefused (C.refuses update.now) result.0 e) }
     ensures learnt { IfErr result.1 (λ _. IsPrefix view result.0) }
 {
     shared.gate.pass(Point::Before);
@@ -62,7 +62,7 @@ pub(crate) fn take_turn<
         return (view, Err(Refusal::NoPlace));
     };
     shared.gate.pass(Point::Locked);
-    let (desk, view, answer) = desk.turn(rt, view, place, operations, act);
+    let (desk, view, answer) = desk.turn(rt, view, place, operations, update);
     *guard = Some(desk);
     (view, answer)
 }

@@ -2,7 +2,7 @@
 ghost use Rattle.std.specs.Prelude.{◌≡◌, ◌+◌, ◌<◌, ℕ, List, [], ◌∷◌, ◌++◌, sum, length};
 
 use super::look;
-use root_cell::{Brand, Cell, Itself, Note, Opened, View, Writer};
+use root_cell::{Brand, Cell, Itself, Note, OpenedBook, View, Writer};
 use std::alloc::Global;
 use std::process::Abort;
 use std::sync::atomic::AtomicU64;
@@ -41,13 +41,13 @@ impl<'a, J: Brand<u64, u64>, R: Wait> Drop for Ending<'a, J, R> {
 fn a_held_view_keeps_its_root_and_the_publish_ends_once_it_left(
     rt: HostRuntime,
 ) -> Result<(), Fail> {
-    held::<marker::Brand, _>(&rt, rt.alloc(), Opened::new())
+    held::<marker::Brand, _>(&rt, rt.alloc(), OpenedBook::new())
 }
 
 fn held<J: Brand<u64, u64> + Send + Sync, R: Threads + Wait + Abort + Sync>(
     rt: &R,
     alloc: Global,
-    opened: Opened<u64>,
+    opened: OpenedBook<u64>,
 ) -> Result<(), Fail>
     requires book { opened.0 ≡ J.book }
     requires law { (root : ℕ) (events : List ℕ) → root ≡ sum events → J.stands root events }
@@ -125,13 +125,13 @@ fn publish_thrice<'a, J: Brand<u64, u64>, R: Wait + Abort>(
 fn reads_beside_publishes_are_whole_and_have_all_that_was_learnt(
     rt: HostRuntime,
 ) -> Result<(), Fail> {
-    race::<marker::Brand, _>(&rt, rt.alloc(), Opened::new())
+    race::<marker::Brand, _>(&rt, rt.alloc(), OpenedBook::new())
 }
 
 fn race<J: Brand<u64, u64> + Send + Sync, R: Threads + Wait + Abort + Sync>(
     rt: &R,
     alloc: Global,
-    opened: Opened<u64>,
+    opened: OpenedBook<u64>,
 ) -> Result<(), Fail>
     requires book { opened.0 ≡ J.book }
     requires law { (root : ℕ) (events : List ℕ) → root ≡ sum events → J.stands root events }

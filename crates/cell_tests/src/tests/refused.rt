@@ -4,7 +4,7 @@ ghost use Rattle.std.specs.Prelude.{◌≡◌, ℕ, List, [], sum};
 use super::sees;
 use dots::Refusal;
 use linked_list_allocator::LocalHeap;
-use root_cell::{Brand, Cell, Itself, Opened};
+use root_cell::{Brand, Cell, Itself, OpenedBook};
 use std::alloc::Global;
 use std::marker;
 use std::process::Abort;
@@ -28,7 +28,7 @@ fn fill<'a>(alloc: Global, heap: &'a LocalHeap) -> Vec<Vec<u8, &'a LocalHeap>> {
 #[test]
 fn a_publish_without_memory_leaves_the_cell_and_is_made_again(rt: HostRuntime) -> Result<(), Fail> {
     let heap = LocalHeap::new(rt.alloc(), 20_000)?;
-    assert!(rt; publish_in::<marker::Brand, _>(&rt, rt.alloc(), &heap, Opened::new())?);
+    assert!(rt; publish_in::<marker::Brand, _>(&rt, rt.alloc(), &heap, OpenedBook::new())?);
     Ok(())
 }
 
@@ -37,7 +37,7 @@ fn publish_in<'a, J: Brand<u64, u64>, R: Wait + Abort>(
     rt: &R,
     alloc: Global,
     heap: &'a LocalHeap,
-    opened: Opened<u64>,
+    opened: OpenedBook<u64>,
 ) -> Result<bool, Fail>
     requires book { opened.0 ≡ J.book }
     requires law { (root : ℕ) (events : List ℕ) → root ≡ sum events → J.stands root events }
@@ -62,7 +62,7 @@ fn publish_in<'a, J: Brand<u64, u64>, R: Wait + Abort>(
 fn a_cell_without_memory_is_refused_and_leaves_none_behind(rt: HostRuntime) -> Result<(), Fail> {
     for size in 0..200 {
         let heap = LocalHeap::new(rt.alloc(), 16 * size)?;
-        let made = make_in::<marker::Brand, _>(&rt, &heap, Opened::new());
+        let made = make_in::<marker::Brand, _>(&rt, &heap, OpenedBook::new());
         assert!(rt; heap.used() == 0);
         if made {
             assert!(rt; size > 20);
@@ -76,7 +76,7 @@ fn a_cell_without_memory_is_refused_and_leaves_none_behind(rt: HostRuntime) -> R
 fn make_in<'a, J: Brand<u64, u64>, R: Wait + Abort>(
     rt: &R,
     heap: &'a LocalHeap,
-    opened: Opened<u64>,
+    opened: OpenedBook<u64>,
 ) -> bool
     requires book { opened.0 ≡ J.book }
     requires law { (root : ℕ) (events : List ℕ) → root ≡ sum events → J.stands root events }

@@ -9,13 +9,13 @@ ghost use Rattle.replica_model.specs.Step as step;
 ghost use Rattle.node_threads.specs.declared.deed.Deed.TheVariants.{Ask, Retry, Abandon};
 ghost use Rattle.node_threads.specs.History.{NeverRefuses, RefusesAfter, Replies};
 
-use crate::entry::Entry;
 use crate::named::{Named, Naming, Root};
+use crate::node_event::NodeEvent;
 use crate::showing::{place_for, show};
 use dots::{Name, Refusal};
 use hash_path::Fnv1a;
 use replica_core::{Delivered, Replica};
-use shared_object::Act;
+use shared_object::Update;
 use std::alloc::Allocator;
 use std::sync::{Arc, Wait};
 use wire_form::Message;
@@ -29,7 +29,7 @@ pub struct Asking<A: Allocator + Copy> {
     pub peer: Name,
 }
 
-impl<K: Naming, A: Allocator + Copy> Act<Replica<Fnv1a, A>, Root<A>, Entry<A>, Named<K>, A>
+impl<K: Naming, A: Allocator + Copy> Update<Replica<Fnv1a, A>, Root<A>, NodeEvent<A>, Named<K>, A>
     for Asking<A> {
     type Reply = (u64, Message<A>);
 
@@ -39,16 +39,13 @@ impl<K: Naming, A: Allocator + Copy> Act<Replica<Fnv1a, A>, Root<A>, Entry<A>, N
 
     ghost refuses = { λ c history refusal. RefusesAfter K.name history (step.Ask c.peer) refusal };
 
-    fn act<W: Wait>(
+    fn update<W: Wait>(
         &self,
         rt: &W,
         replica: &mut Replica<Fnv1a, A>,
     ) -> Result<((u64, Message<A>), Arc<Root<A>, A>), Refusal> {
         let place = place_for(self.alloc, replica)?;
-        let reply = match replica.ask(self.peer) {
-            Ok(reply) => reply,
-            Err(refusal) => return Err(refusal),
-        };
+        let reply = replica.ask(self.peer)?;
         let root = show(rt, replica, place);
         Ok((reply, root))
     }
@@ -65,7 +62,7 @@ pub struct Retrying<A: Allocator + Copy> {
     pub number: u64,
 }
 
-impl<K: Naming, A: Allocator + Copy> Act<Replica<Fnv1a, A>, Root<A>, Entry<A>, Named<K>, A>
+impl<K: Naming, A: Allocator + Copy> Update<Replica<Fnv1a, A>, Root<A>, NodeEvent<A>, Named<K>, A>
     for Retrying<A> {
     type Reply = Delivered<A>;
 
@@ -75,16 +72,13 @@ impl<K: Naming, A: Allocator + Copy> Act<Replica<Fnv1a, A>, Root<A>, Entry<A>, N
 
     ghost refuses = { λ c history refusal. NeverRefuses history refusal };
 
-    fn act<W: Wait>(
+    fn update<W: Wait>(
         &self,
         rt: &W,
         replica: &mut Replica<Fnv1a, A>,
     ) -> Result<(Delivered<A>, Arc<Root<A>, A>), Refusal> {
         let place = place_for(self.alloc, replica)?;
-        let reply = match replica.retry(self.number) {
-            Ok(reply) => reply,
-            Err(refusal) => return Err(refusal),
-        };
+        let reply = replica.retry(self.number)?;
         let root = show(rt, replica, place);
         Ok((reply, root))
     }
@@ -101,7 +95,7 @@ pub struct Abandoning<A: Allocator + Copy> {
     pub number: u64,
 }
 
-impl<K: Naming, A: Allocator + Copy> Act<Replica<Fnv1a, A>, Root<A>, Entry<A>, Named<K>, A>
+impl<K: Naming, A: Allocator + Copy> Update<Replica<Fnv1a, A>, Root<A>, NodeEvent<A>, Named<K>, A>
     for Abandoning<A> {
     type Reply = bool;
 
@@ -111,7 +105,7 @@ impl<K: Naming, A: Allocator + Copy> Act<Replica<Fnv1a, A>, Root<A>, Entry<A>, N
 
     ghost refuses = { λ c history refusal. NeverRefuses history refusal };
 
-    fn act<W: Wait>(
+    fn update<W: Wait>(
         &self,
         rt: &W,
         replica: &mut Replica<Fnv1a, A>,

@@ -6,13 +6,13 @@ ghost use Rattle.replica_model.specs.Step.{Came};
 ghost use Rattle.node_threads.specs.declared.deed.Deed.TheVariants.{Deliver};
 ghost use Rattle.node_threads.specs.History.{NeverRefuses, Replies};
 
-use crate::entry::Entry;
 use crate::named::{Named, Naming, Root};
+use crate::node_event::NodeEvent;
 use crate::showing::{place_for, show};
 use dots::Refusal;
 use hash_path::Fnv1a;
 use replica_core::{Delivered, Replica};
-use shared_object::Act;
+use shared_object::Update;
 use std::alloc::Allocator;
 use std::sync::{Arc, Wait};
 use wire_form::Message;
@@ -26,8 +26,13 @@ pub struct Delivering<'a, A: Allocator + Copy> {
     pub message: &'a Message<A>,
 }
 
-impl<'a, K: Naming, A: Allocator + Copy> Act<Replica<Fnv1a, A>, Root<A>, Entry<A>, Named<K>, A>
-    for Delivering<'a, A> {
+impl<'a, K: Naming, A: Allocator + Copy> Update<
+    Replica<Fnv1a, A>,
+    Root<A>,
+    NodeEvent<A>,
+    Named<K>,
+    A,
+> for Delivering<'a, A> {
     type Reply = Delivered<A>;
 
     ghost event = { λ c place. record { place = place; deed = Deliver c.message.now } };
@@ -36,16 +41,13 @@ impl<'a, K: Naming, A: Allocator + Copy> Act<Replica<Fnv1a, A>, Root<A>, Entry<A
 
     ghost refuses = { λ c history refusal. NeverRefuses history refusal };
 
-    fn act<W: Wait>(
+    fn update<W: Wait>(
         &self,
         rt: &W,
         replica: &mut Replica<Fnv1a, A>,
     ) -> Result<(Delivered<A>, Arc<Root<A>, A>), Refusal> {
         let place = place_for(self.alloc, replica)?;
-        let reply = match replica.deliver(self.message) {
-            Ok(reply) => reply,
-            Err(refusal) => return Err(refusal),
-        };
+        let reply = replica.deliver(self.message)?;
         let root = show(rt, replica, place);
         Ok((reply, root))
     }

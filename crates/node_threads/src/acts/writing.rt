@@ -7,13 +7,13 @@ ghost use Rattle.replica_model.specs.Step as step;
 ghost use Rattle.node_threads.specs.declared.deed.Deed.TheVariants.{Put, Remove, RemoveField, Clear, Flush};
 ghost use Rattle.node_threads.specs.History.{NeverRefuses, RefusesAfter, Replies};
 
-use crate::entry::Entry;
 use crate::named::{Named, Naming, Root};
+use crate::node_event::NodeEvent;
 use crate::showing::{place_for, show};
 use dots::{Dot, Field, Key, Refusal, Value};
 use hash_path::Fnv1a;
 use replica_core::Replica;
-use shared_object::Act;
+use shared_object::Update;
 use std::alloc::Allocator;
 use std::sync::{Arc, Wait};
 use wire_form::Message;
@@ -31,8 +31,13 @@ pub struct Putting<'a, A: Allocator + Copy> {
     pub value: &'a Value<A>,
 }
 
-impl<'a, K: Naming, A: Allocator + Copy> Act<Replica<Fnv1a, A>, Root<A>, Entry<A>, Named<K>, A>
-    for Putting<'a, A> {
+impl<'a, K: Naming, A: Allocator + Copy> Update<
+    Replica<Fnv1a, A>,
+    Root<A>,
+    NodeEvent<A>,
+    Named<K>,
+    A,
+> for Putting<'a, A> {
     type Reply = Dot;
 
     ghost event = { λ c place. record { place = place; deed = Put c.key.now c.field.now c.value.now } };
@@ -41,16 +46,13 @@ impl<'a, K: Naming, A: Allocator + Copy> Act<Replica<Fnv1a, A>, Root<A>, Entry<A
 
     ghost refuses = { λ c history refusal. RefusesAfter K.name history (step.Put (place_of c.key.now c.field.now) c.value.now) refusal };
 
-    fn act<W: Wait>(
+    fn update<W: Wait>(
         &self,
         rt: &W,
         replica: &mut Replica<Fnv1a, A>,
     ) -> Result<(Dot, Arc<Root<A>, A>), Refusal> {
         let place = place_for(self.alloc, replica)?;
-        let reply = match replica.put_field(self.key, self.field, self.value) {
-            Ok(reply) => reply,
-            Err(refusal) => return Err(refusal),
-        };
+        let reply = replica.put_field(self.key, self.field, self.value)?;
         let root = show(rt, replica, place);
         Ok((reply, root))
     }
@@ -67,8 +69,13 @@ pub struct Removing<'a, A: Allocator + Copy> {
     pub key: &'a Key<A>,
 }
 
-impl<'a, K: Naming, A: Allocator + Copy> Act<Replica<Fnv1a, A>, Root<A>, Entry<A>, Named<K>, A>
-    for Removing<'a, A> {
+impl<'a, K: Naming, A: Allocator + Copy> Update<
+    Replica<Fnv1a, A>,
+    Root<A>,
+    NodeEvent<A>,
+    Named<K>,
+    A,
+> for Removing<'a, A> {
     type Reply = u64;
 
     ghost event = { λ c place. record { place = place; deed = Remove c.key.now } };
@@ -77,16 +84,13 @@ impl<'a, K: Naming, A: Allocator + Copy> Act<Replica<Fnv1a, A>, Root<A>, Entry<A
 
     ghost refuses = { λ c history refusal. NeverRefuses history refusal };
 
-    fn act<W: Wait>(
+    fn update<W: Wait>(
         &self,
         rt: &W,
         replica: &mut Replica<Fnv1a, A>,
     ) -> Result<(u64, Arc<Root<A>, A>), Refusal> {
         let place = place_for(self.alloc, replica)?;
-        let reply = match replica.remove(self.key) {
-            Ok(reply) => reply,
-            Err(refusal) => return Err(refusal),
-        };
+        let reply = replica.remove(self.key)?;
         let root = show(rt, replica, place);
         Ok((reply, root))
     }
@@ -105,8 +109,13 @@ pub struct FieldRemoving<'a, A: Allocator + Copy> {
     pub field: &'a Field<A>,
 }
 
-impl<'a, K: Naming, A: Allocator + Copy> Act<Replica<Fnv1a, A>, Root<A>, Entry<A>, Named<K>, A>
-    for FieldRemoving<'a, A> {
+impl<'a, K: Naming, A: Allocator + Copy> Update<
+    Replica<Fnv1a, A>,
+    Root<A>,
+    NodeEvent<A>,
+    Named<K>,
+    A,
+> for FieldRemoving<'a, A> {
     type Reply = u64;
 
     ghost event = { λ c place. record { place = place; deed = RemoveField c.key.now c.field.now } };
@@ -115,16 +124,13 @@ impl<'a, K: Naming, A: Allocator + Copy> Act<Replica<Fnv1a, A>, Root<A>, Entry<A
 
     ghost refuses = { λ c history refusal. NeverRefuses history refusal };
 
-    fn act<W: Wait>(
+    fn update<W: Wait>(
         &self,
         rt: &W,
         replica: &mut Replica<Fnv1a, A>,
     ) -> Result<(u64, Arc<Root<A>, A>), Refusal> {
         let place = place_for(self.alloc, replica)?;
-        let reply = match replica.remove_field(self.key, self.field) {
-            Ok(reply) => reply,
-            Err(refusal) => return Err(refusal),
-        };
+        let reply = replica.remove_field(self.key, self.field)?;
         let root = show(rt, replica, place);
         Ok((reply, root))
     }
@@ -139,7 +145,7 @@ pub struct Clearing<A: Allocator + Copy> {
     pub alloc: A,
 }
 
-impl<K: Naming, A: Allocator + Copy> Act<Replica<Fnv1a, A>, Root<A>, Entry<A>, Named<K>, A>
+impl<K: Naming, A: Allocator + Copy> Update<Replica<Fnv1a, A>, Root<A>, NodeEvent<A>, Named<K>, A>
     for Clearing<A> {
     type Reply = u64;
 
@@ -149,16 +155,13 @@ impl<K: Naming, A: Allocator + Copy> Act<Replica<Fnv1a, A>, Root<A>, Entry<A>, N
 
     ghost refuses = { λ c history refusal. NeverRefuses history refusal };
 
-    fn act<W: Wait>(
+    fn update<W: Wait>(
         &self,
         rt: &W,
         replica: &mut Replica<Fnv1a, A>,
     ) -> Result<(u64, Arc<Root<A>, A>), Refusal> {
         let place = place_for(self.alloc, replica)?;
-        let reply = match replica.clear() {
-            Ok(reply) => reply,
-            Err(refusal) => return Err(refusal),
-        };
+        let reply = replica.clear()?;
         let root = show(rt, replica, place);
         Ok((reply, root))
     }
@@ -173,7 +176,7 @@ pub struct Flushing<A: Allocator + Copy> {
     pub alloc: A,
 }
 
-impl<K: Naming, A: Allocator + Copy> Act<Replica<Fnv1a, A>, Root<A>, Entry<A>, Named<K>, A>
+impl<K: Naming, A: Allocator + Copy> Update<Replica<Fnv1a, A>, Root<A>, NodeEvent<A>, Named<K>, A>
     for Flushing<A> {
     type Reply = Option<Message<A>>;
 
@@ -183,16 +186,13 @@ impl<K: Naming, A: Allocator + Copy> Act<Replica<Fnv1a, A>, Root<A>, Entry<A>, N
 
     ghost refuses = { λ c history refusal. NeverRefuses history refusal };
 
-    fn act<W: Wait>(
+    fn update<W: Wait>(
         &self,
         rt: &W,
         replica: &mut Replica<Fnv1a, A>,
     ) -> Result<(Option<Message<A>>, Arc<Root<A>, A>), Refusal> {
         let place = place_for(self.alloc, replica)?;
-        let reply = match replica.flush() {
-            Ok(reply) => reply,
-            Err(refusal) => return Err(refusal),
-        };
+        let reply = replica.flush()?;
         let root = show(rt, replica, place);
         Ok((reply, root))
     }

@@ -1,0 +1,6 @@
+use Rattle.std.proofs.Common.{◌≡◌}
+use Rattle.node_threads.specs.Serving.{TookIn}
+use Rattle.node_threads.proofs.serving.serve.Given as goal
+
+abbrev pub invariant-loop : goal.invariant-loop
+invariant-loop g l = TookIn l.fn.client l.client × (l.begun ≡ l.fn.client.operations)

@@ -1,0 +1,105 @@
+// A node that is served: a client that takes in what comes by a post, and sends what is answered.
+ghost use Rattle.std.specs.Prelude.{◌≡◌, ◌+◌, IfOk, OnErr};
+ghost use Rattle.shared_object.specs.Calling.{HasNotCalled};
+ghost use Rattle.node_threads.specs.Serving.{TookIn};
+
+use crate::acts::Delivering;
+use crate::named::Naming;
+use crate::node::{Client, Lock};
+use crate::post::Post;
+use dots::{Name, Refusal};
+use replica_core::Delivered;
+use shared_object::Gate;
+use std::alloc::Global;
+use std::sync::Wait;
+use wire_form::{Message, decode, encode};
+
+/// What became of what came in, and of the replies. Each number stays at 2^64 - 1.
+#[derive(Clone, Copy, Debug, PartialEq, Eq)]
+pub struct Served {
+    /// Messages that were taken in.
+    pub delivered: u64,
+    /// What is no message, and messages that were refused.
+    pub refused: u64,
+    /// Replies that could not be sent, or for which there was no memory.
+    pub lost: u64,
+}
+
+/// Takes in each message that comes by the post, and sends each reply to the replica that it is for, before it turns to what comes next.
+/// It ends where the post says so. What is no message, or is refused, changes nothing and is counted.
+///
+/// It waits: for its turn at the node, and for the post.
+pub fn serve<K: Naming, G: Gate + Drop, W: Wait + Drop, P: Post, T: Wait>(
+    rt: &T,
+    alloc: Global,
+    client: &mut Client<K, Lock<K, G, W>>,
+    post: &P,
+) -> Served
+    ensures took_in { TookIn client.old client.new }
+    ensures delivered { client.new.operations ≡ client.old.operations + result.delivered }
+{
+    let begun = client.operations();
+    let (mut refused, mut lost) = (0u64, 0u64);
+    for _ in rt.forever() {
+        let Some(bytes) = post.receive(rt) else {
+            break;
+        };
+        match take_in(rt, alloc, client, &bytes) {
+            Ok(told) => lost = lost.saturating_add(send_all(rt, alloc, &told.replies, post)),
+            Err(_) => refused = refused.saturating_add(1),
+        }
+    }
+    Served {
+        delivered: client.operations() - begun,
+        refused,
+        lost,
+    }
+}
+
+// Takes the message in that the bytes spell.
+fn take_in<K: Naming, G: Gate + Drop, W: Wait + Drop, T: Wait>(
+    rt: &T,
+    alloc: Global,
+    client: &mut Client<K, Lock<K, G, W>>,
+    bytes: &[u8],
+) -> Result<Delivered, Refusal>
+    ensures took_in { TookIn client.old client.new }
+{
+    let message = decode(alloc, bytes)?;
+    let delivering = Delivering {
+        alloc,
+        message: &message,
+    };
+    let (told, _receipt) = client.call(rt, &delivering)?;
+    Ok(told)
+}
+
+// Sends each reply, and counts those that are lost.
+fn send_all<P: Post, T: Wait>(rt: &T, alloc: Global, replies: &[Message], post: &P) -> u64 {
+    let mut lost = 0u64;
+    for reply in replies {
+        if !is_sent(rt, alloc, reply, post) {
+            lost = lost.saturating_add(1);
+        }
+    }
+    lost
+}
+
+// Sends a reply to the replica that it is for, where there is memory for its bytes. Whether it could be sent.
+fn is_sent<P: Post, T: Wait>(rt: &T, alloc: Global, reply: &Message, post: &P) -> bool {
+    match (addressee(reply), encode(alloc, reply)) {
+        (Some(name), Ok(bytes)) => post.send(rt, name, bytes),
+        _ => false,
+    }
+}
+
+// Whom a message of a synchronisation is for. A delta is for everyone.
+fn addressee(message: &Message) -> Option<Name> {
+    match message {
+        Message::Delta(_) => None,
+        Message::Hello(session, _) | Message::Ask(session, _) => Some(session.answerer()),
+        Message::Opening(session, _, _) | Message::Page(session, _) | Message::Gone(session) => {
+            Some(session.asker())
+        }
+    }
+}

@@ -1,0 +1,58 @@
+ghost use Rattle.std.specs.Prelude.{◌≡◌, ◌⊎◌, ◌++◌, ◌∷◌, [], ℕ, List, IfOk, IfErr, OnErr};
+ghost use Rattle.dots.specs.declared.refusal.Refusal.TheVariants.{OutOfMemory};
+
+use crate::object::Object;
+use crate::placed::Placed;
+use dots::Refusal;
+use root_cell::About;
+use std::alloc::Allocator;
+use std::marker::PhantomData;
+use std::sync::{Arc, Wait};
+
+/// A call that writes.
+pub trait Update<D, R, E: Placed, J: Object<D, R, E>, A: Allocator> {
+    ghost use Rattle.std.specs.Prelude.{◌≡◌, ℕ, List};
+    ghost use Rattle.dots.specs.declared.refusal.Refusal.{Refusal};
+
+    /// What it is answered.
+    type Reply;
+
+    // The event that it is, of the client at a place.
+    ghost event: { Self → ℕ → E };
+
+    // It is answered so after this history.
+    ghost answers: { Self → List E → Self.Reply → Type 0 };
+
+    // It is refused so after this history, want of memory aside.
+    ghost refuses: { Self → List E → Refusal → Type 0 };
+
+    /// Makes the call, and a root of what the object then is, in its place. A refused call changes nothing.
+    fn update<W: Wait>(&self, rt: &W, object: &mut D) -> Result<(Self::Reply, Arc<R, A>), Refusal>
+        ensures after { IfOk result (λ r. (history : List E) → (place : ℕ) → J.after object.old history → J.after object.new (history ++ event self.now place ∷ [])) }
+        ensures root { IfOk result (λ r. (history : List E) → (place : ℕ) → J.after object.old history → J.stands r.1.value (history ++ event self.now place ∷ [])) }
+        ensures answers { IfOk result (λ r. (history : List E) → J.after object.old history → answers self.now history r.0) }
+        ensures refused { IfErr result (λ e. (history : List E) → J.after object.old history → (e ≡ OutOfMemory) ⊎ refuses self.now history e) }
+        ensures unchanged { OnErr result ((history : List E) → J.after object.old history → J.after object.new history) };
+
+    // The event is at the place of its client.
+    ghost placed: { (update : Self) (place : ℕ) → E.place (event update place) ≡ place };
+}
+
+/// A call that writes, with the place of its client.
+#[derive(Drop)]
+pub(crate) struct Made<'a, C> {
+    pub(crate) place: usize,
+    pub(crate) update: &'a C,
+}
+
+/// What is published about it.
+pub(crate) struct Making<D, R, J, A> {
+    of: PhantomData<(D, R, J, A)>,
+}
+
+impl<'a, D, R, E: Placed, J: Object<D, R, E>, A: Allocator, C: Update<D, R, E, J, A>> About<
+    Made<'a, C>,
+    E,
+> for Making<D, R, J, A> {
+    ghost event = { λ made. C.event made.update.now made.place };
+}
