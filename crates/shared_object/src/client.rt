@@ -86,7 +86,7 @@ impl<R: Drop, E: Placed, J: Brand<R, E>, S: Drop, A: Allocator> Client<R, E, J, 
     }
 
     /// Reads off the root that is published. It waits for nobody. Its only refusal is NoPlace, where the cell gives no root, as once the
-    /// object was taken out; that it comes nowhere else is tested, and no clause.
+    /// object was taken out; that it comes nowhere else stands in no clause.
     pub fn look<L: Look<R>>(&mut self, look: &L) -> Result<L::Found, Refusal>
         ensures found { IfOk result (λ found. (root : R) × J.stands root self.new.front × L.finds look.now root found) }
         ensures own { HasNotCalled E.place self.old self.new }

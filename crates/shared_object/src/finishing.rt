@@ -44,7 +44,7 @@ impl<
     A: Allocator + Copy,
 > Owner<R, E, J, Shared<D, R, E, J, G, W, A>, A> {
     /// Takes the object out, only where these are all clients of the places that were taken. Else all comes back, and nothing has changed,
-    /// though the clients may have seen more. That it is taken out wherever they are all is tested, and no clause.
+    /// though the clients may have seen more. That it is taken out wherever they are all stands in no clause.
     pub fn finish<T: Wait>(
         self,
         rt: &T,
