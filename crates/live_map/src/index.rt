@@ -1,4 +1,4 @@
-ghost use Rattle.std.specs.Prelude.{◌≡◌, ◌≤◌, cond, true, false, [], ℕ, List, IsTrue, OnOk, OnErr, IsOkUnless};
+ghost use Rattle.std.specs.Prelude.{◌≡◌, ◌≤◌, cond, true, false, [], ℕ, List, IsTrue, IfOk, OnOk, OnErr, IsOkUnless};
 ghost use Rattle.std.specs.List.{All};
 ghost use Rattle.std.specs.Ordering.{is_eq};
 ghost use Rattle.causal_context.specs.Context.{has};
@@ -36,6 +36,18 @@ impl<A: Allocator + Copy> Index<A> {
         Index {
             places: BTreeSet::new(alloc),
         }
+    }
+
+    // An index that names each key for each dot that this one does. Takes time and memory in all of them.
+    pub(crate) fn copy(&self, alloc: A) -> Result<Index<A>, Refusal>
+        ensures ok { IfOk result (λ copy. (d : DotValue) (q : List ℕ) → IsTrue (names self.now d q) → IsTrue (names copy d q)) }
+        ensures err { IsOkUnless result Refusal.OutOfMemory }
+    {
+        let mut copy = Index::new(alloc);
+        for (dot, key) in &self.places {
+            copy.add(*dot, key.copy(alloc)?)?;
+        }
+        Ok(copy)
     }
 
     // Names the key for the dot.

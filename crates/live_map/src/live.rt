@@ -102,6 +102,23 @@ impl<S: DotStore<A>, M: Summary<S>, H: PathHash, A: Allocator + Copy> Live<S, M,
         self.store.seal()
     }
 
+    /// The same pair. The store's nodes are shared; the index is copied, so it takes time and memory in the dots that stand, with
+    /// the bytes of their keys, and in the context.
+    /// Its only refusal is OutOfMemory.
+    pub fn copy(&self, alloc: A) -> Result<Live<S, M, H, A>, Refusal>
+        ensures ok { IfOk result (λ copy. copy.0 ≡ self.now.0) }
+        ensures err { IsOkUnless result Refusal.OutOfMemory }
+    {
+        let store = self.store.share()?;
+        let context = self.context.copy(alloc)?;
+        let index = self.index.copy(alloc)?;
+        Ok(Live {
+            store,
+            context,
+            index,
+        })
+    }
+
     /// What the pair will be once the delta is joined in. The pair stays as it is, also where the call is refused: only the
     /// index may name more. Takes time and memory in the keys and dots of the delta and in the dots that stand here and are
     /// known there, each times the logarithm of the map, and in the names of both contexts.

@@ -5,6 +5,7 @@ ghost use Rattle.op_model.specs.Meaning.{HoldsKey};
 ghost use Rattle.replica_model.specs.Replica.{fresh};
 ghost use Rattle.replica_core.specs.Meaning.{hash_in, meaning};
 
+use crate::sessions::copy_all;
 use causal_context::Context;
 use delta_ops::{LiveOrMap, LiveStore, Outgoing};
 use dots::{Name, Refusal};
@@ -19,7 +20,7 @@ use sync_protocol::{Answerer, Asker};
 /// that it keeps for those of others.
 ///
 /// A write, a delivery and a flush cost what they change, times the logarithm of the map, and the names of the context. No call goes
-/// through the map but `keys` and `clear`, and the delivery of an opening that has the digest of the own map from a peer that had
+/// through the map but `keys`, `clear` and `copy`, and the delivery of an opening that has the digest of the own map from a peer that had
 /// not seen all that was seen here: each dot of the map is looked up then.
 #[derive(Drop)]
 pub struct Replica<H: PathHash = Fnv1a, A: Allocator + Copy = Global> {
@@ -61,6 +62,30 @@ impl<H: PathHash, A: Allocator + Copy> Replica<H, A> {
             sessions: Vec::new(alloc),
             answerer: Answerer::new(alloc),
         }
+    }
+
+    /// A replica in the same state: it holds, is to send, synchronises and keeps the same. Both make dots of one name, so at most one
+    /// of the two may still write, or send what it writes. The map's nodes, the group and the snapshots are shared. Takes time and
+    /// memory in the dots that stand, with the bytes of their keys, whose index is copied, and in the contexts.
+    /// Its only refusal is OutOfMemory.
+    pub fn copy(&self) -> Result<Replica<H, A>, Refusal>
+        ensures ok { IfOk result (λ copy. meaning copy ≡ meaning self.now) }
+        ensures hash { IfOk result (λ copy. hash_in copy ≡ hash_in self.now) }
+        ensures err { IsOkUnless result Refusal.OutOfMemory }
+    {
+        let live = self.live.copy(self.alloc)?;
+        let group = self.group.copy(self.alloc)?;
+        let sessions = copy_all(self.alloc, &self.sessions)?;
+        let answerer = self.answerer.copy(self.alloc)?;
+        Ok(Replica {
+            alloc: self.alloc,
+            name: self.name,
+            live,
+            group,
+            opened: self.opened,
+            sessions,
+            answerer,
+        })
     }
 
     /// Its name.

@@ -1,9 +1,10 @@
-// The own sessions of a replica: where one is.
-ghost use Rattle.std.specs.Prelude.{◌≡◌, ◌==◌, IfSome, IsNone};
+// The own sessions of a replica: where one is, and copies of them.
+ghost use Rattle.std.specs.Prelude.{◌≡◌, ◌==◌, IfSome, IsNone, IfOk, IsOkUnless};
 ghost use Rattle.replica_model.specs.Replica.{same_session};
 ghost use Rattle.sync_protocol.specs.Asking.{AskerValue};
 ghost use Rattle.replica_core.specs.Tied.{IsFirstAt, NoneIs};
 
+use dots::Refusal;
 use hash_path::PathHash;
 use std::alloc::Allocator;
 use sync_protocol::Asker;
@@ -39,4 +40,19 @@ pub(crate) fn place_numbered<H: PathHash, A: Allocator + Copy>(
         }
     }
     None
+}
+
+// Copies of these sessions.
+pub(crate) fn copy_all<H: PathHash, A: Allocator + Copy>(
+    alloc: A,
+    sessions: &[Asker<H, A>],
+) -> Result<Vec<Asker<H, A>, A>, Refusal>
+    ensures ok { IfOk result (λ copies. copies.items ≡ sessions.now) }
+    ensures err { IsOkUnless result Refusal.OutOfMemory }
+{
+    let mut copies = Vec::new(alloc);
+    for session in sessions {
+        copies.push(session.copy(alloc)?)?;
+    }
+    Ok(copies)
 }

@@ -20,6 +20,8 @@ pub(crate) enum Event {
     Remove(&'static [u8], u64),
     // What was made is sent with this message, or is nothing.
     Flush(usize),
+    // It goes on as a copy of itself.
+    Copy,
     // A session with replica 2 is opened: its number, and its hello.
     Ask(u64, usize),
     // So many sessions with replica 2 are opened, the first being the session 1, whose hello this is.
@@ -58,6 +60,12 @@ fn removes(alloc: Global, here: &mut Replica, key: &[u8], count: u64) -> Result<
     Ok(observed == count)
 }
 
+// Puts a copy in the place of the replica.
+fn goes_on_as_copy(here: &mut Replica) -> Result<bool, Refusal> {
+    *here = here.copy()?;
+    Ok(true)
+}
+
 // Whether this comes of what happens to a replica.
 fn happens(alloc: Global, here: &mut Replica, event: Event) -> Result<bool, Refusal> {
     match event {
@@ -65,6 +73,7 @@ fn happens(alloc: Global, here: &mut Replica, event: Event) -> Result<bool, Refu
         Event::PutInVain(key) => Ok(put(alloc, here, key, b"x") == Err(Refusal::NumbersSpent)),
         Event::Remove(key, count) => removes(alloc, here, key, count),
         Event::Flush(message) => sends(alloc, here, bytes_of(message)),
+        Event::Copy => goes_on_as_copy(here),
         Event::Ask(session, hello) => asks(alloc, here, session, bytes_of(hello)),
         Event::AskOften(count, hello) => asks_often(alloc, here, count, bytes_of(hello)),
         Event::AskInVain => asks_in_vain(here),
