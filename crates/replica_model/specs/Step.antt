@@ -1,12 +1,13 @@
 -- The step of one replica: what each call and each delivery makes of it, what it is answered, and what it sends; and when a call is
 -- refused. Of this project, over the delta-mutators of Almeida, Shoker and Baquero, "Delta State Replicated Data Types" (2018).
-use Rattle.std.specs.Prelude.{◌≡◌, ◌⊎◌, ◌↔◌, ℕ, ◌+◌, ◌≤◌, ◌<◌, ◌^◌, Bool, true, false, List, [], ◌∷◌, length, Option, Some, None, IsSome}
+use Rattle.std.specs.Prelude.{◌≡◌, ◌⊎◌, ◌↔◌, ℕ, ◌+◌, ◌≤◌, ◌<◌, ◌^◌, Bool, true, false, List, [], ◌∷◌, length, Option, Some, None, IsSome, IsTrue}
 use Rattle.dots.specs.declared.dot.Dot.{Dot}
 use Rattle.dots.specs.declared.refusal.Refusal.{Refusal}
 use Rattle.dots.specs.declared.refusal.Refusal.TheVariants.{NumbersSpent, SessionsFull}
 use Rattle.op_model.specs.Made.{erasure, IsNext, IsPutAt, IsWithin, IsAnywhere, Counts}
 use Rattle.op_model.specs.Meaning.{MapState, state}
 use Rattle.op_model.specs.Operation.{Write, Wrote}
+use Rattle.op_model.specs.Operation as operation
 use Rattle.op_model.specs.Place.{Place}
 use Rattle.prefix_digest.specs.MapOf.{IsMapOf}
 use Rattle.sync_model.specs.Differ.{Held}
@@ -44,7 +45,7 @@ KnowsNone p = (dot : Dot) → p.has dot ≡ false
 -- a removal of the dots that are as P says: of just these, however they are listed, and so many
 abbrev pub Removes : (Dot → Type 0) → Replica → Replica → Answer → List Mail → Type 0
 Removes P old new answer out =
-    (over : List Dot) × ((dot : Dot) → Rattle.std.specs.Prelude.IsTrue (Rattle.op_model.specs.Operation.has over dot) ↔ P dot)
+    (over : List Dot) × ((dot : Dot) → IsTrue (operation.has over dot) ↔ P dot)
     × (new ≡ makes old (state (erasure over))) × ((n : ℕ) × Counts P n × (answer ≡ Counted n)) × (out ≡ [])
 
 -- what a retry sends: the hello again where no opening was accepted, else an ask for each prefix that is waited for

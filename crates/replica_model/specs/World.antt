@@ -19,11 +19,11 @@ use Rattle.sync_model.specs.Differ.{Held}
 use Rattle.sync_model.specs.Laws.{Taking, NoClash}
 use Rattle.replica_model.specs.Mail.{Mail, Delta, Hello, Opening, Ask, Page, Gone}
 use Rattle.replica_model.specs.Replica.{Replica, Open, Kept, fresh, same_session, open_at, kept_at}
-use Rattle.replica_model.specs.Delivery.{Outcome, Joined, Sent, Done, Ignored, Mismatch, Ended}
+use Rattle.replica_model.specs.Delivery.{Outcome, Joined, Sent, Done}
 use Rattle.replica_model.specs.Step.{Call, Put, Remove, RemoveField, Clear, Flush, Retry, Abandon, Do, Take, Answer, Nothing, Came, IsStep, Refuses}
 use Rattle.replica_model.specs.Step as call
 
--- what was snapshot: the operations that the replica had seen, and its map
+-- what a snapshot was taken of: the operations that the replica had seen, and its map
 pub record Snapshot : Type 0 where
   pub seen : List Operation
   pub map : Held
@@ -51,7 +51,7 @@ pub record World : Type 0 where
   pub taken : SessionValue → List Taking  -- the pages that its asker took, the last first
   pub closed : List Met  -- the sessions that ended with Done
 
--- nothing that was snapshot
+-- a snapshot of nothing
 abbrev pub no_snapshot : Snapshot
 no_snapshot = record { seen = []; map = finite.empty }
 
@@ -120,27 +120,15 @@ calls name (Abandon number) w = w
 -- whether a delivery was answered so
 abbrev pub is_joined : Outcome → Bool
 is_joined Joined = true
-is_joined Sent = false
-is_joined Done = false
-is_joined Ignored = false
-is_joined Mismatch = false
-is_joined Ended = false
+is_joined other = false
 
 abbrev pub is_sent : Outcome → Bool
-is_sent Joined = false
 is_sent Sent = true
-is_sent Done = false
-is_sent Ignored = false
-is_sent Mismatch = false
-is_sent Ended = false
+is_sent other = false
 
 abbrev pub is_done : Outcome → Bool
-is_done Joined = false
-is_done Sent = false
 is_done Done = true
-is_done Ignored = false
-is_done Mismatch = false
-is_done Ended = false
+is_done other = false
 
 -- a hello that was answered keeps what its answerer has seen, where the session was not kept
 abbrev pub first_kept : Option Kept → List Operation → List Operation → List Operation
@@ -192,11 +180,8 @@ map_of_kept (Some k) = k.map
 
 abbrev pub shown : List Operation → (SessionValue → List Operation) → List Kept → Mail → Snapshot
 shown group kept ks (Delta d) = record { seen = group; map = finite.empty }
-shown group kept ks (Hello s seen) = no_snapshot
 shown group kept ks (Opening s context root) = record { seen = kept s; map = map_of_kept (kept_at ks s) }
-shown group kept ks (Ask s prefix) = no_snapshot
-shown group kept ks (Page s sent) = no_snapshot
-shown group kept ks (Gone s) = no_snapshot
+shown group kept ks other = no_snapshot
 
 abbrev pub sent_as : List Operation → (SessionValue → List Operation) → List Kept → Mail → Message
 sent_as group kept ks mail = record { mail = mail; of = shown group kept ks mail }
@@ -210,14 +195,8 @@ goes name new out group w = record w {
 
 -- whether the peer of an ask is there
 abbrev pub has_peer : World → Call → Bool
-has_peer w (Put place value) = true
-has_peer w (Remove key) = true
-has_peer w (RemoveField place) = true
-has_peer w Clear = true
-has_peer w Flush = true
 has_peer w (call.Ask peer) = is_node w peer
-has_peer w (Retry number) = true
-has_peer w (Abandon number) = true
+has_peer w other = true
 
 module _ (hash_of : List ℕ → ℕ) where
   -- The old world, the event, its answer, and the new world.

@@ -24,27 +24,20 @@ pub data StageValue (Hash : Type 0) : Type 0 where
 -- whether it asked, and accepted no opening; whether it fetches; whether all is there; whether no message changes it any more
 abbrev pub is_asked : {Hash : Type 0} → StageValue Hash → Bool
 is_asked Asked = true
-is_asked (Fetching c f) = false
-is_asked (Complete c b) = false
-is_asked Over = false
+is_asked other = false
 
 abbrev pub is_fetching : {Hash : Type 0} → StageValue Hash → Bool
-is_fetching Asked = false
 is_fetching (Fetching c f) = true
-is_fetching (Complete c b) = false
-is_fetching Over = false
+is_fetching other = false
 
 abbrev pub is_complete : {Hash : Type 0} → StageValue Hash → Bool
-is_complete Asked = false
-is_complete (Fetching c f) = false
 is_complete (Complete c b) = true
-is_complete Over = false
+is_complete other = false
 
 abbrev pub is_over : {Hash : Type 0} → StageValue Hash → Bool
-is_over Asked = false
-is_over (Fetching c f) = false
 is_over (Complete c b) = true
 is_over Over = true
+is_over other = false
 
 -- the session, the own map with the hash of its keys' paths and the dots that had been seen with it when it was asked, and how far it is
 pub record AskerValue (Hash : Type 0) : Type 0 where

@@ -33,29 +33,22 @@ with_number command None = None
 -- the command that takes two numbers
 abbrev pub with_numbers : (ℕ → ℕ → CommandValue) → Option ℕ → Option ℕ → Option CommandValue
 with_numbers command (Some first) (Some second) = Some (command first second)
-with_numbers command (Some first) None = None
-with_numbers command None second = None
+with_numbers command first second = None
 
 -- the command that takes a number and a text
 abbrev pub with_text : (ℕ → List ℕ → CommandValue) → Option ℕ → Option (List ℕ) → Option CommandValue
 with_text command (Some number) (Some text) = Some (command number text)
-with_text command (Some number) None = None
-with_text command None text = None
+with_text command number text = None
 
 -- the command that takes a number and two texts
 abbrev pub with_texts : (ℕ → List ℕ → List ℕ → CommandValue) → Option ℕ → Option (List ℕ) → Option (List ℕ) → Option CommandValue
 with_texts command (Some number) (Some first) (Some second) = Some (command number first second)
-with_texts command (Some number) (Some first) None = None
-with_texts command (Some number) None second = None
-with_texts command None first second = None
+with_texts command number first second = None
 
 -- the command that takes a number and three texts
 abbrev pub with_three_texts : (ℕ → List ℕ → List ℕ → List ℕ → CommandValue) → Option ℕ → Option (List ℕ) → Option (List ℕ) → Option (List ℕ) → Option CommandValue
 with_three_texts command (Some number) (Some first) (Some second) (Some third) = Some (command number first second third)
-with_three_texts command (Some number) (Some first) (Some second) None = None
-with_three_texts command (Some number) (Some first) None third = None
-with_three_texts command (Some number) None second third = None
-with_three_texts command None first second third = None
+with_three_texts command number first second third = None
 
 -- the commands by how many words follow the first
 abbrev pub one_word_command : List ℕ → List ℕ → Option CommandValue
@@ -100,9 +93,7 @@ command_of_words (verb ∷ first ∷ []) = one_word_command verb first
 command_of_words (verb ∷ first ∷ second ∷ []) = two_word_command verb first second
 command_of_words (verb ∷ first ∷ second ∷ third ∷ []) = three_word_command verb first second third
 command_of_words (verb ∷ first ∷ second ∷ third ∷ fourth ∷ []) = four_word_command verb first second third fourth
-command_of_words [] = None
-command_of_words (verb ∷ []) = None
-command_of_words (verb ∷ first ∷ second ∷ third ∷ fourth ∷ more) = None
+command_of_words words = None
 
 -- the command that a line is, if it is one
 abbrev pub command_of : List ℕ → Option CommandValue

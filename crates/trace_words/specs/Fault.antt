@@ -1,7 +1,7 @@
 -- How a run can end. Of this project.
 use Rattle.std.specs.Prelude.{Bool, true, false}
 use Rattle.dots.specs.declared.refusal.Refusal.{Refusal}
-use Rattle.dots.specs.declared.refusal.Refusal.TheVariants.{OutOfMemory, TooLong, ReadOnly, NumbersSpent, SessionsFull, NotAMessage, NoPlace, NameTaken, UnknownReplica, UnknownMessage, BadLine, Input, Output}
+use Rattle.dots.specs.declared.refusal.Refusal.TheVariants.{OutOfMemory, NameTaken, UnknownReplica, UnknownMessage, BadLine, Input, Output}
 
 -- whether a refusal is a fault, which ends a trace with a line that tells it
 abbrev pub is_fault : Refusal → Bool
@@ -9,28 +9,11 @@ is_fault NameTaken = true
 is_fault UnknownReplica = true
 is_fault UnknownMessage = true
 is_fault BadLine = true
-is_fault OutOfMemory = false
-is_fault TooLong = false
-is_fault ReadOnly = false
-is_fault NumbersSpent = false
-is_fault SessionsFull = false
-is_fault NotAMessage = false
-is_fault NoPlace = false
-is_fault Input = false
-is_fault Output = false
+is_fault other = false
 
--- whether a refusal can end a run
+-- whether a refusal can end a run: a fault, or a failure of the run itself
 abbrev pub ends_run : Refusal → Bool
-ends_run NameTaken = true
-ends_run UnknownReplica = true
-ends_run UnknownMessage = true
-ends_run BadLine = true
 ends_run OutOfMemory = true
 ends_run Input = true
 ends_run Output = true
-ends_run TooLong = false
-ends_run ReadOnly = false
-ends_run NumbersSpent = false
-ends_run SessionsFull = false
-ends_run NotAMessage = false
-ends_run NoPlace = false
+ends_run other = is_fault other

@@ -13,12 +13,10 @@ answer_of (reply.Faulted refusal) = Faulted refusal
 
 -- a reply that is a fault tells one of the refusals that end a trace
 abbrev pub TellsFaults : {A : Type 0} → Reply A → Type 0
-TellsFaults reply.Silent = Unit {0}
-TellsFaults (reply.Told text) = Unit {0}
 TellsFaults (reply.Faulted refusal) = is_fault refusal ≡ true
+TellsFaults other = Unit {0}
 
 -- an answer after which the trace goes on
 abbrev pub GoesOn : Answer → Type 0
-GoesOn Silent = Unit {0}
-GoesOn (Told text) = Unit {0}
 GoesOn (Faulted refusal) = ⊥
+GoesOn other = Unit {0}
