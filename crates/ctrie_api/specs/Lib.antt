@@ -1,3 +1,4 @@
 pub mod Trie
 pub mod Access
+pub mod Write
 pub mod Run

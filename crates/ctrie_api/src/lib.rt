@@ -5,6 +5,7 @@
 mod act;
 mod ctrie;
 mod tries;
+mod write;
 
 pub use act::Act;
 pub use ctrie::Ctrie;

@@ -3,10 +3,12 @@ ghost use Rattle.std.specs.List.{All};
 ghost use Rattle.std.specs.Option.{option_map};
 ghost use Rattle.std.specs.FinMap as finite;
 ghost use Rattle.ctrie_api.specs.Run.{acted, acted_all, index_of, is_refused, IsWriteAt, EachIsWritten, carried_out, changed_at, written, read_only, takes_no_write, as_list};
+ghost use Rattle.ctrie_api.specs.Write.{map_after};
 
 use crate::act::Act;
 use crate::ctrie::Ctrie;
-use dots::{Key, Refusal};
+use crate::write::Write;
+use dots::Refusal;
 use gen_trie::{NoSummary, Summary};
 use hash_path::PathHash;
 use std::alloc::{Allocator, Global};
@@ -70,14 +72,17 @@ impl<V: Drop, H: PathHash, M: Summary<V>, A: Allocator + Copy> Tries<V, H, M, A>
         ensures err { IfErr result (λ refusal. (refusal ≡ Refusal.ReadOnly) ⊎ (refusal ≡ Refusal.OutOfMemory)) }
     {
         match act {
-            Act::Insert(index, key, value) => insert_at(
+            Act::Insert(index, key, value) => write_at(
                 self.tries.as_mut_slice(),
                 index,
-                key,
-                value,
+                Write::Insert(key, value),
             ),
-            Act::Remove(index, key) => remove_at(self.tries.as_mut_slice(), index, key),
-            Act::Clear(index) => clear_at(self.tries.as_mut_slice(), index),
+            Act::Remove(index, key) => write_at(
+                self.tries.as_mut_slice(),
+                index,
+                Write::Remove(key),
+            ),
+            Act::Clear(index) => write_at(self.tries.as_mut_slice(), index, Write::Clear),
             Act::Snapshot(index) => add_snapshot(&mut self.tries, index),
             Act::ReadOnlySnapshot(index) => add_read_only_snapshot(&mut self.tries, index),
         }
@@ -117,60 +122,22 @@ impl<V: Drop, H: PathHash, M: Summary<V>, A: Allocator + Copy> Tries<V, H, M, A>
     }
 }
 
-// Puts the value into the trie of this index, and tells whether that is there.
-fn insert_at<V: Drop, H: PathHash, M: Summary<V>, A: Allocator + Copy>(
+// Carries the write out at the trie of this index, and tells whether that is there.
+fn write_at<V: Drop, H: PathHash, M: Summary<V>, A: Allocator + Copy>(
     tries: &mut [Ctrie<V, H, M, A>],
     index: usize,
-    key: Key<A>,
-    value: V,
+    write: Write<V, A>,
 ) -> Result<bool, Refusal>
     ensures there { IfOk result (λ there. IsTrue there ↔ index < length tries.old) }
     ensures read_only { IsErrOf result Refusal.ReadOnly ↔ IsTrue (takes_no_write (slice_get tries.old index)) }
-    ensures ok { OnOk result (tries.new ≡ changed_at index (written (λ map. finite.insert map key value)) tries.old) }
+    ensures ok { OnOk result (tries.new ≡ changed_at index (written (map_after write)) tries.old) }
     ensures same { OnErr result (tries.new ≡ tries.old) }
     ensures err { IfErr result (λ refusal. (refusal ≡ Refusal.ReadOnly) ⊎ (refusal ≡ Refusal.OutOfMemory)) }
 {
     if index >= tries.len() {
         return Ok(false);
     }
-    tries[index].insert(key, value)?;
-    Ok(true)
-}
-
-// Takes the key out of the trie of this index, and tells whether that is there.
-fn remove_at<V: Drop, H: PathHash, M: Summary<V>, A: Allocator + Copy>(
-    tries: &mut [Ctrie<V, H, M, A>],
-    index: usize,
-    key: Key<A>,
-) -> Result<bool, Refusal>
-    ensures there { IfOk result (λ there. IsTrue there ↔ index < length tries.old) }
-    ensures read_only { IsErrOf result Refusal.ReadOnly ↔ IsTrue (takes_no_write (slice_get tries.old index)) }
-    ensures ok { OnOk result (tries.new ≡ changed_at index (written (λ map. finite.remove map key)) tries.old) }
-    ensures same { OnErr result (tries.new ≡ tries.old) }
-    ensures err { IfErr result (λ refusal. (refusal ≡ Refusal.ReadOnly) ⊎ (refusal ≡ Refusal.OutOfMemory)) }
-{
-    if index >= tries.len() {
-        return Ok(false);
-    }
-    tries[index].remove(&key)?;
-    Ok(true)
-}
-
-// Takes all keys out of the trie of this index, and tells whether that is there.
-fn clear_at<V: Drop, H: PathHash, M: Summary<V>, A: Allocator + Copy>(
-    tries: &mut [Ctrie<V, H, M, A>],
-    index: usize,
-) -> Result<bool, Refusal>
-    ensures there { IfOk result (λ there. IsTrue there ↔ index < length tries.old) }
-    ensures read_only { IsErrOf result Refusal.ReadOnly ↔ IsTrue (takes_no_write (slice_get tries.old index)) }
-    ensures ok { OnOk result (tries.new ≡ changed_at index (written (λ map. finite.empty)) tries.old) }
-    ensures same { OnErr result (tries.new ≡ tries.old) }
-    ensures err { IfErr result (λ refusal. (refusal ≡ Refusal.ReadOnly) ⊎ (refusal ≡ Refusal.OutOfMemory)) }
-{
-    if index >= tries.len() {
-        return Ok(false);
-    }
-    tries[index].clear()?;
+    write.carry_out(&mut tries[index])?;
     Ok(true)
 }
 
