@@ -40,10 +40,7 @@ pub messages_end : (ms : List Message) (number end : ℕ) (text all : List ℕ) 
 messages_end ms number end text all past is told =
     sym (append-nil text) ∙ ap (λ xs. text ++ messages_text number xs) (sym (drop_none ms (number - 1) (omega (arith, past, is)))) ∙ told
 
--- a flush that made no message, and one that made some
-pub flushed_none : (ms : List Message) (first end : ℕ) (text empty : List ℕ) → end ≤ first → end ≡ length ms + 1 → text ≡ flush_text first [] → text ≡ flush_text first (drop (first - 1) ms)
-flushed_none ms first end text empty past is said = said ∙ ap (flush_text first) (sym (drop_none ms (first - 1) (omega (arith, past, is))))
-
+-- a flush that made messages
 pub flushed_some : (ms : List Message) (first end : ℕ) (text : List ℕ) → 1 ≤ first → first < end → end ≡ length ms + 1 → text ≡ sent_text first (drop (first - 1) ms) → text ≡ flush_text first (drop (first - 1) ms)
 flushed_some ms first end text from within is said =
     let at = drop_at ms (first - 1) (omega (arith, from, within, is)) in

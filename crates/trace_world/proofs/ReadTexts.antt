@@ -39,8 +39,8 @@ length_keys [] = refl
 length_keys (e ∷ es) = ap suc (length_keys es)
 
 module _ (P : List ℕ → List (List ℕ) → Type 0) where
-  pub adds_none : (labels : List (List ℕ)) (old : List ℕ) → Adds P [] old old
-  adds_none labels old = ([], refl, none, sym (append-nil old))
+  pub adds_none : (old : List ℕ) → Adds P [] old old
+  adds_none old = ([], refl, none, sym (append-nil old))
     where
       none : All {X = List ℕ × List (List ℕ)} (λ e. P e.0 e.1) []
       none k d l = absurd (omega (arith, l))

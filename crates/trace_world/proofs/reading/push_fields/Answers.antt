@@ -12,7 +12,7 @@ use Rattle.trace_world.proofs.reading.push_fields.Goals as goal
 pub loop-field-init : goal.loop-field-init
 loop-field-init g c =
     let P : List ℕ → List (List ℕ) → Type 0 = λ field. Lists (Stands (meaning c.args.replica.now).live (place_of c.args.key.now field)) in
-    adds_none P c.args.fields.now c.args.out.now.items
+    adds_none P c.args.out.now.items
 
 pub loop-field-preserved : goal.loop-field-preserved
 loop-field-preserved g c =

@@ -11,7 +11,7 @@ use Rattle.trace_world.proofs.reading.push_keys.Goals as goal
 pub loop-key-init : goal.loop-key-init
 loop-key-init g c =
     let P : List ℕ → List (List ℕ) → Type 0 = λ key. Lists (StandsWithin (meaning c.args.replica.now).live key) in
-    adds_none P c.args.keys.now c.args.out.now.items
+    adds_none P c.args.out.now.items
 
 pub loop-key-preserved : goal.loop-key-preserved
 loop-key-preserved g c =
