@@ -1,0 +1,212 @@
+// Two nodes that are served, each in a thread of its own.
+ghost use Rattle.std.specs.Prelude.{◌≡◌};
+
+use crate::made::{Held, has, name, put};
+use crossbeam_channel::{Sender, unbounded};
+use dots::Refusal;
+use hash_path::Fnv1a;
+use node_threads::{
+    Asking, Channels, Letter, Lock, Naming, Node, NodeEvent, Post, Served, new_node, serve,
+};
+use replica_core::Replica;
+use root_cell::OpenedBook;
+use shared_object::NoGate;
+use std::alloc::Global;
+use std::process::Abort;
+use std::sync::Wait;
+use std::test::Fail;
+use std::thread::Threads;
+use std::{marker, thread};
+use wire_form::encode;
+
+// For so many turns a client reads until it sees what it waits for.
+const TURNS: u64 = 10_000_000;
+
+// What comes to the two nodes from outside. Where nodes are served, the channels are seen as no more than their traits.
+trait Outside {
+    // Hands these bytes to the first node.
+    fn hand<T: Wait>(&self, rt: &T, bytes: Vec<u8>);
+
+    // Ends the serving of both.
+    fn stop<T: Wait>(&self, rt: &T);
+}
+
+#[derive(Drop)]
+struct Ends {
+    node: Sender<Letter>,
+    peer: Sender<Letter>,
+}
+
+impl Outside for Ends {
+    fn hand<T: Wait>(&self, rt: &T, bytes: Vec<u8>) {
+        let _ = self.node.send(rt, Letter::Mail(bytes));
+    }
+
+    fn stop<T: Wait>(&self, rt: &T) {
+        let _ = self.node.send(rt, Letter::Stop);
+        let _ = self.peer.send(rt, Letter::Stop);
+    }
+}
+
+#[test]
+fn two_nodes_that_are_served_synchronise(rt: HostRuntime) -> Result<(), Fail> {
+    let alloc = rt.alloc();
+    let (to_node, inbox) = unbounded(alloc)?;
+    let (to_peer, peer_inbox) = unbounded(alloc)?;
+    let of_node = [(name(&rt, 2), Sender::clone(&to_peer)?)];
+    let of_peer = [(name(&rt, 1), Sender::clone(&to_node)?)];
+    let post = Channels {
+        inbox: &inbox,
+        outboxes: &of_node,
+    };
+    let peer_post = Channels {
+        inbox: &peer_inbox,
+        outboxes: &of_peer,
+    };
+    let ends = Ends {
+        node: to_node,
+        peer: to_peer,
+    };
+    let (first, second) = (OpenedBook::new(), OpenedBook::new());
+    let is_told = exchange::<marker::Brand, marker::Brand, _, _, _, _>(
+        rt, alloc, first, second, &post, &peer_post, &ends,
+    )?;
+    assert!(rt; is_told);
+    Ok(())
+}
+
+fn exchange<
+    K: Naming + Send + Sync,
+    L: Naming + Send + Sync,
+    P: Post + Sync,
+    Q: Post + Sync,
+    O: Outside + Sync,
+    R: Threads + Wait + Abort + Copy + Drop + Send + Sync,
+>(
+    rt: R,
+    alloc: Global,
+    first: OpenedBook<NodeEvent>,
+    second: OpenedBook<NodeEvent>,
+    post: &P,
+    peer_post: &Q,
+    outside: &O,
+) -> Result<bool, Refusal>
+    requires first { first.0 ≡ K.book }
+    requires second { second.0 ≡ L.book }
+    requires one { K.name ≡ 1 }
+    requires two { L.name ≡ 2 }
+{
+    let (one, two) = (name(&rt, 1), name(&rt, 2));
+    let mut node: Node<K, Lock<K, NoGate, R>> = new_node(&rt, alloc, first, one, 2, NoGate, rt)?;
+    let mut peer: Node<L, Lock<L, NoGate, R>> = new_node(&rt, alloc, second, two, 2, NoGate, rt)?;
+    let (mut served, mut peer_served) = (node.client()?, peer.client()?);
+    let (mut writer, mut reader) = (node.client()?, peer.client()?);
+    let (is_seen, (told, peer_told)) = thread::join(
+        &rt,
+        || synchronise(&rt, alloc, &mut writer, &mut reader, outside),
+        || serve_both(&rt, alloc, &mut served, &mut peer_served, post, peer_post),
+    );
+    let all = Served {
+        delivered: 2,
+        refused: 0,
+        lost: 0,
+    };
+    Ok(is_seen == Ok(true) && told == all && peer_told == all)
+}
+
+// Serves both nodes until their posts end, each in a thread of its own.
+fn serve_both<
+    K: Naming + Send + Sync,
+    L: Naming + Send + Sync,
+    P: Post + Sync,
+    Q: Post + Sync,
+    R: Threads + Wait + Abort + Copy + Drop + Send + Sync,
+>(
+    rt: &R,
+    alloc: Global,
+    served: &mut Held<K, NoGate, R>,
+    peer_served: &mut Held<L, NoGate, R>,
+    post: &P,
+    peer_post: &Q,
+) -> (Served, Served) {
+    thread::join(
+        rt,
+        || serve(rt, alloc, served, post),
+        || serve(rt, alloc, peer_served, peer_post),
+    )
+}
+
+// Writes at the one node, has the other one ask it, waits until that one shows what was written, and ends both.
+fn synchronise<K: Naming, L: Naming, O: Outside, R: Wait + Abort + Drop>(
+    rt: &R,
+    alloc: Global,
+    writer: &mut Held<K, NoGate, R>,
+    reader: &mut Held<L, NoGate, R>,
+    outside: &O,
+) -> Result<bool, Refusal> {
+    let seen = write_and_wait(rt, alloc, writer, reader, outside);
+    outside.stop(rt);
+    seen
+}
+
+fn write_and_wait<K: Naming, L: Naming, O: Outside, R: Wait + Abort + Drop>(
+    rt: &R,
+    alloc: Global,
+    writer: &mut Held<K, NoGate, R>,
+    reader: &mut Held<L, NoGate, R>,
+    outside: &O,
+) -> Result<bool, Refusal> {
+    put(rt, alloc, writer, b"a", b"", b"x")?;
+    let peer = name(rt, 1);
+    let ((_number, hello), _receipt) = reader.call(rt, &Asking { alloc, peer })?;
+    outside.hand(rt, encode(alloc, &hello)?);
+    for _ in 0..TURNS {
+        if has(alloc, reader, b"a", b"", Some(b"x"))? {
+            return Ok(true);
+        }
+        thread::yield_now();
+    }
+    Ok(false)
+}
+
+#[test]
+fn what_is_no_message_and_what_finds_no_outbox_is_counted(rt: HostRuntime) -> Result<(), Fail> {
+    let alloc = rt.alloc();
+    let (outbox, inbox) = unbounded(alloc)?;
+    let _ = outbox.send(&rt, Letter::Mail(Vec::new(alloc)));
+    let _ = outbox.send(&rt, Letter::Mail(hello(&rt, alloc)?));
+    let _ = outbox.send(&rt, Letter::Stop);
+    let _ = outbox.send(&rt, Letter::Mail(Vec::new(alloc)));
+    let post = Channels {
+        inbox: &inbox,
+        outboxes: &[],
+    };
+    let told = count::<marker::Brand, _, _>(rt, alloc, OpenedBook::new(), &post)?;
+    assert!(rt; told == (1, 1, 1, 1));
+    Ok(())
+}
+
+// What comes is no message, then a hello, for whose answer there is no outbox, and then the end, with something behind it. What was
+// delivered, refused and lost, and how many operations there were.
+fn count<K: Naming, P: Post, R: Wait + Abort + Copy + Drop>(
+    rt: R,
+    alloc: Global,
+    opened: OpenedBook<NodeEvent>,
+    post: &P,
+) -> Result<(u64, u64, u64, u64), Refusal>
+    requires book { opened.0 ≡ K.book }
+    requires name { K.name ≡ 1 }
+{
+    let own = name(&rt, 1);
+    let mut node: Node<K, Lock<K, NoGate, R>> = new_node(&rt, alloc, opened, own, 1, NoGate, rt)?;
+    let mut client = node.client()?;
+    let told = serve(&rt, alloc, &mut client, post);
+    Ok((told.delivered, told.refused, told.lost, client.operations()))
+}
+
+// The bytes of a hello of replica 2 to replica 1, whose map is empty.
+fn hello(rt: &impl Abort, alloc: Global) -> Result<Vec<u8>, Refusal> {
+    let mut asker = Replica::new(alloc, name(rt, 2), Fnv1a);
+    let (_number, hello) = asker.ask(name(rt, 1))?;
+    encode(alloc, &hello)
+}
