@@ -1,5 +1,6 @@
 #!/usr/bin/env python3
-"""Tells the seconds that each function of a crate takes to check, dearest last.
+"""Tells the seconds that each function of a crate takes to check, dearest last, and how many of them are its transition system (Lts), what ties that
+to its code (Tie) and its proof.
 
     python3 bench/costs.py CRATE [--test] [flags of rt check]
     python3 bench/costs.py CRATE --kept
@@ -22,9 +23,10 @@ ROOT = os.path.dirname(os.path.dirname(os.path.abspath(__file__)))
 PARTS = {"Answers", "Code", "Given", "Goals", "Invariants", "Key", "Kinds", "Layout", "Loops", "Lts", "Mir", "Named", "Proof", "Reads", "Safety", "TheLinks", "Tie"}
 
 
-def function_of(file):
+def parts_of(file):
+    """The function that a file is of, and the part of its check."""
     words = file.removesuffix(".oantt").removesuffix(".decls").split("-proofs.")[-1].split("-specs.")[-1].split(".")
-    return ".".join(word for word in words if word not in PARTS)
+    return ".".join(word for word in words if word.split("-")[0] not in PARTS), words[-1].split("-")[0]
 
 
 def written(folder):
@@ -40,15 +42,17 @@ def written(folder):
 
 
 def costs(files, since):
-    """The seconds of each function whose files were written since."""
-    seconds = collections.Counter()
+    """The seconds of each function whose files were written since, and those of each of its parts."""
+    seconds, parts = collections.Counter(), collections.Counter()
     before = since
     for at, name in files:
         if at < since:
             continue
-        seconds[function_of(name)] += at - before
+        function, part = parts_of(name)
+        seconds[function] += at - before
+        parts[function, part] += at - before
         before = at
-    return seconds
+    return seconds, parts
 
 
 def main():
@@ -65,10 +69,12 @@ def main():
         for line in checked.stdout.splitlines():
             if "not proved" in line or "proved=" in line or "logic=" in line:
                 print(line.strip())
-    seconds = costs(written(kept), since)
+    seconds, parts = costs(written(kept), since)
+    print("    all     Lts     Tie   Proof")
     for function, spent in sorted(seconds.items(), key=lambda it: it[1]):
         if spent >= 0.1:
-            print(f"{spent:7.1f} {function}")
+            shown = " ".join(f"{parts[function, part]:7.1f}" for part in ("Lts", "Tie", "Proof"))
+            print(f"{spent:7.1f} {shown} {function}")
     print(f"{sum(seconds.values()):7.1f} in all; load {os.getloadavg()[0]:.1f} on {os.cpu_count()} processors")
     return status
 

@@ -18,16 +18,8 @@ unsafe extern "C" {
         every: u64,
     ) -> u64;
     fn measure_hash(keys: *const u64, count: usize) -> u64;
-    fn measure_live(keys: *const u64, count: usize, step: u32, times: u32) -> u64;
+    fn measure_operations(keys: *const u64, count: usize, step: u32, times: u32) -> u64;
     fn measure_sessions(
-        keys: *const u64,
-        count: usize,
-        some: *const u64,
-        some_count: usize,
-        times: u32,
-        step: u32,
-    ) -> u64;
-    fn measure_whole(
         keys: *const u64,
         count: usize,
         some: *const u64,
@@ -322,14 +314,14 @@ fn plain_values(keys: &[u64], step: u32) {
     drop(black_box(map));
 }
 
-/// Operations on a live pair of so many keys, and what it takes in.
-fn live(count: usize) {
+/// Calls of a replica of so many keys, and what it takes in.
+fn operations(count: usize) {
     let keys = random_keys(count);
     let runs = (100_000 / count).max(1);
     let ours = |step, times| {
         seconds(|| {
             for _ in 0..runs {
-                let number = unsafe { measure_live(keys.as_ptr(), keys.len(), step, times) };
+                let number = unsafe { measure_operations(keys.as_ptr(), keys.len(), step, times) };
                 assert_ne!(number, u64::MAX, "want of memory");
             }
         })
@@ -339,7 +331,7 @@ fn live(count: usize) {
     let filled = ours(0, 0);
     let plain_filled = plain(0);
     println!(
-        "a live pair of {count} keys of 8 bytes, values of 16: microseconds each, and a BTreeMap's"
+        "a replica of {count} keys of 8 bytes, values of 16: microseconds each, and a BTreeMap's"
     );
     println!(
         "  put of a new key       {:8.3} {:8.3}",
@@ -358,7 +350,7 @@ fn live(count: usize) {
         (ours(4, 0) - filled) * scale
     );
     let (unsent, sent, again) = (ours(5, 0), ours(5, 1), ours(5, 2));
-    println!("  encode of a put        {:8.3}", (unsent - filled) * scale);
+    println!("  flush and encode       {:8.3}", (unsent - filled) * scale);
     println!("  deliver of a put       {:8.3}", (sent - unsent) * scale);
     println!("  deliver of it again    {:8.3}", (again - sent) * scale);
     println!(
@@ -367,7 +359,7 @@ fn live(count: usize) {
     );
     let bytes = counting::most_live(&|| {
         assert_ne!(
-            unsafe { measure_live(keys.as_ptr(), keys.len(), 0, 0) },
+            unsafe { measure_operations(keys.as_ptr(), keys.len(), 0, 0) },
             u64::MAX
         )
     });
@@ -421,42 +413,29 @@ fn digests(count: usize) {
     );
 }
 
-/// A call of the library with all keys and some of them, so many times a step.
-type WithSome = unsafe extern "C" fn(*const u64, usize, *const u64, usize, u32, u32) -> u64;
-
-/// Two replicas of so many keys that differ at 100 of them, synchronised by pages, and by sending all that one of them holds.
+/// Two replicas of so many keys that differ at 100 of them, synchronised by pages, and by sending all that one of them held.
 fn synchronisations(count: usize) {
     let keys = random_keys(count);
     let some: Vec<u64> = keys.iter().step_by(count / 100).copied().collect();
-    let run = |call: WithSome, times, step| {
+    let run = |times, step| {
         let (all, part) = (keys.as_ptr(), some.as_ptr());
-        let number = unsafe { call(all, keys.len(), part, some.len(), times, step) };
+        let number = unsafe { measure_sessions(all, keys.len(), part, some.len(), times, step) };
         assert_ne!(number, u64::MAX, "want of memory");
         number
     };
-    let spent = |call: WithSome, times, step| {
+    let spent = |times, step| {
         seconds(|| {
-            black_box(run(call, times, step));
+            black_box(run(times, step));
         })
     };
-    let each = |call: WithSome, times| {
-        1e3 * (spent(call, times, 1) - spent(call, times, 0)) / f64::from(times)
-    };
-    let pages = run(measure_sessions, 1, 2);
+    let each = |times, step| 1e3 * (spent(times, step) - spent(times, 0)) / f64::from(times);
+    let pages = run(1, 2);
     println!(
         "two replicas of {count} keys that differ at {}: milliseconds at both ends, and bytes",
         some.len()
     );
-    println!(
-        "  by {pages:5} pages         {:8.2} {:10}",
-        each(measure_sessions, 50),
-        run(measure_sessions, 1, 1)
-    );
-    println!(
-        "  by the whole map       {:8.2} {:10}",
-        each(measure_whole, 5),
-        run(measure_whole, 1, 1)
-    );
+    println!("  by {pages:5} pages         {:8.2} {:10}", each(50, 1), run(1, 1));
+    println!("  by the whole map       {:8.2} {:10}", each(5, 3), run(1, 3));
 }
 
 fn main() {
@@ -467,7 +446,7 @@ fn main() {
         digests(count);
     }
     for count in [1_000, 10_000, 100_000] {
-        live(count);
+        operations(count);
     }
     stores(10_000, 100);
     tries(100_000, Repeats { times: 5, runs: 2 });

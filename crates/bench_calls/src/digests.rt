@@ -1,35 +1,19 @@
-use dot_store::{DotFun, DotMap, DotStore};
-use dots::{Dot, Field, Key, Name, Refusal, Value};
+use crate::stores::one_field;
+use causal_join::Fields;
+use dots::{Key, Name, Refusal};
 use gen_trie::GenTrie;
 use hash_path::{Fnv1a, Prefix};
 use prefix_digest::{FrozenMap, ShaSummary, digest};
 use sha2::{Digest, Sha256};
 use std::alloc::Global;
-use wire_form::Fields;
 
 type Trie = GenTrie<Fields, ShaSummary, Fnv1a>;
 
-// A value of 16 bytes.
-fn value_of(alloc: Global, number: u64) -> Result<DotFun<Value>, Refusal> {
-    let name = Name::new(1).ok_or(Refusal::BadLine)?;
-    let dot = Dot::new(name, number.max(1)).ok_or(Refusal::BadLine)?;
-    let value = Value::new(alloc, &[118; 16])?;
-    let mut values = DotFun::empty(alloc);
-    values.insert(dot, value)?;
-    Ok(values)
-}
-
-// The empty field with a value of 16 bytes.
-fn fields_of(alloc: Global, number: u64) -> Result<Fields, Refusal> {
-    let values = value_of(alloc, number)?;
-    let mut fields = DotMap::empty(alloc);
-    fields.insert(Field::empty(), values)?;
-    Ok(fields)
-}
-
+// Puts the empty field with a value of 16 bytes at the key.
 fn put(alloc: Global, trie: &mut Trie, number: u64) -> Result<(), Refusal> {
-    let fields = fields_of(alloc, number)?;
+    let name = Name::new(1).ok_or(Refusal::BadLine)?;
     let key = Key::new(alloc, &number.to_be_bytes())?;
+    let fields = one_field(alloc, name, number.max(1))?;
     trie.insert(key, fields)
 }
 

@@ -3,9 +3,9 @@
 #![tactic(auto)]
 
 mod digests;
-mod live;
+mod operations;
+mod replicas;
 mod sessions;
 mod stores;
 mod tries;
-mod whole;
 mod wire;

@@ -1,4 +1,5 @@
-use dots::{Key, Name, Refusal, Value};
+use crate::replicas::{flushed, put_all, take_often};
+use dots::{Name, Refusal};
 use hash_path::Fnv1a;
 use replica_core::{Delivered, Replica};
 use std::alloc::Global;
@@ -18,28 +19,6 @@ impl Sent {
             self.pages = self.pages.wrapping_add(1);
         }
     }
-}
-
-// Puts a value of 16 bytes on the key.
-fn put_one(alloc: Global, here: &mut Replica, number: u64) -> Result<(), Refusal> {
-    let key = Key::new(alloc, &number.to_be_bytes())?;
-    let value = Value::new(alloc, &[118; 16])?;
-    here.put(&key, &value)?;
-    Ok(())
-}
-
-fn put_all(alloc: Global, here: &mut Replica, keys: &[u64]) -> Result<(), Refusal> {
-    for number in keys {
-        put_one(alloc, here, *number)?;
-    }
-    Ok(())
-}
-
-// Gives what the one made to the other.
-fn give(from: &mut Replica, to: &mut Replica) -> Result<(), Refusal> {
-    let message = from.flush()?.ok_or(Refusal::BadLine)?;
-    to.deliver(&message)?;
-    Ok(())
 }
 
 // Gives a message by its bytes, and what is sent for it.
@@ -77,14 +56,27 @@ fn route(
     }
 }
 
-fn push_all(mail: &mut Vec<Message>, replies: Vec<Message>) -> Result<(), Refusal> {
+fn push_all(mail: &mut Vec<Message>, replies: Vec<Message>) -> Result<bool, Refusal> {
     for reply in replies {
         mail.push(reply)?;
     }
-    Ok(())
+    Ok(true)
 }
 
-// Gives the last message of the mail, if there is one, and puts what is sent for it there.
+// Gives a message, and puts what is sent for it into the mail.
+fn answer(
+    alloc: Global,
+    asker: &mut Replica,
+    answerer: &mut Replica,
+    message: &Message,
+    mail: &mut Vec<Message>,
+    sent: &mut Sent,
+) -> Result<bool, Refusal> {
+    let replies = route(alloc, asker, answerer, message, sent)?;
+    push_all(mail, replies)
+}
+
+// Gives the last message of the mail, and tells whether there was one.
 fn step(
     alloc: Global,
     asker: &mut Replica,
@@ -95,9 +87,7 @@ fn step(
     let Some(message) = mail.pop() else {
         return Ok(false);
     };
-    let replies = route(alloc, asker, answerer, &message, sent)?;
-    push_all(mail, replies)?;
-    Ok(true)
+    answer(alloc, asker, answerer, &message, mail, sent)
 }
 
 // The hello of a new session.
@@ -124,36 +114,54 @@ fn synchronise(
     Ok(())
 }
 
-// So many times puts some keys at the answerer, and synchronises, if it is to.
+// Puts some keys at the answerer, and brings the asker to the same, if it is to: by a session, or by the bytes of all keys.
+fn round(
+    alloc: Global,
+    asker: &mut Replica,
+    answerer: &mut Replica,
+    some: &[u64],
+    whole: &[u8],
+    step: u32,
+    sent: &mut Sent,
+) -> Result<(), Refusal> {
+    put_all(alloc, answerer, some)?;
+    match step {
+        0 => Ok(()),
+        3 => take_often(asker, whole, 1),
+        _ => synchronise(alloc, asker, answerer, sent),
+    }
+}
+
+// So many rounds.
 fn rounds(
     alloc: Global,
     asker: &mut Replica,
     answerer: &mut Replica,
     some: &[u64],
+    whole: &[u8],
     times: u32,
     step: u32,
 ) -> Result<Sent, Refusal> {
     let mut sent = Sent { bytes: 0, pages: 0 };
     for _ in 0..times {
-        put_all(alloc, answerer, some)?;
-        if step > 0 {
-            synchronise(alloc, asker, answerer, &mut sent)?;
-        }
+        round(alloc, asker, answerer, some, whole, step, &mut sent)?;
     }
     Ok(sent)
 }
 
-// Puts the keys at the answerer, and gives them to the asker; then a session, so that nodes have their digests.
+// Puts the keys at the answerer, and gives them to the asker; then a session, so that nodes have their digests. The bytes of all keys.
 fn prepare(
     alloc: Global,
     asker: &mut Replica,
     answerer: &mut Replica,
     keys: &[u64],
-) -> Result<(), Refusal> {
+) -> Result<Vec<u8>, Refusal> {
     put_all(alloc, answerer, keys)?;
-    give(answerer, asker)?;
     let mut sent = Sent { bytes: 0, pages: 0 };
-    synchronise(alloc, asker, answerer, &mut sent)
+    let whole = flushed(alloc, answerer)?;
+    take_often(asker, &whole, 1)?;
+    synchronise(alloc, asker, answerer, &mut sent)?;
+    Ok(whole)
 }
 
 // Whether the two hold the same.
@@ -171,14 +179,15 @@ fn steps_on(
     times: u32,
     step: u32,
 ) -> Result<u64, Refusal> {
-    prepare(alloc, asker, answerer, keys)?;
-    let sent = rounds(alloc, asker, answerer, some, times, step)?;
-    if step > 0 && !hold_same(asker, answerer) {
+    let whole = prepare(alloc, asker, answerer, keys)?;
+    let sent = rounds(alloc, asker, answerer, some, &whole, times, step)?;
+    if (step == 1 || step == 2) && !hold_same(asker, answerer) {
         return Err(Refusal::BadLine);
     }
     match step {
         1 => Ok(sent.bytes),
         2 => Ok(sent.pages),
+        3 => Ok(whole.len() as u64),
         _ => Ok(answerer.size()),
     }
 }
@@ -193,8 +202,9 @@ fn steps(alloc: Global, keys: &[u64], some: &[u64], times: u32, step: u32) -> Re
 }
 
 /// Puts a value of 16 bytes on each of the keys, eight bytes each, at a replica, and gives all of them to another. Then so many times
-/// puts some of the keys again at the first, and from step 1 on the other synchronises with it, by the bytes of each message: the
-/// bytes that were sent in step 1, the pages in step 2.
+/// puts some of the keys again at the first, and in steps 1 and 2 the other synchronises with it, by the bytes of each message: the
+/// bytes that were sent in step 1, the pages in step 2. In step 3 the other takes in the bytes of all keys in its place: how many
+/// these are.
 #[unsafe(no_mangle)]
 pub extern "C" fn measure_sessions(
     alloc: Global,

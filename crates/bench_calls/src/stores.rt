@@ -1,11 +1,10 @@
 use causal_context::Context;
+use causal_join::{Fields, OrMapStore};
 use dot_store::{DotFun, DotMap, DotStore};
 use dots::{Dot, Field, Key, Name, Refusal, Value};
 use std::alloc::Global;
 
-type Fields = DotMap<Field, DotFun<Value>>;
-
-type Store = DotMap<Key, Fields>;
+type Store = OrMapStore<Global>;
 
 // Puts the value of 16 bytes at the dot.
 fn put(alloc: Global, values: &mut DotFun<Value>, dot: Dot) -> Result<(), Refusal> {
@@ -23,32 +22,25 @@ fn one_value(alloc: Global, name: Name, number: u64) -> Result<DotFun<Value>, Re
 }
 
 // The empty field with one value.
-fn one_field(alloc: Global, name: Name, number: u64) -> Result<Fields, Refusal> {
+pub(crate) fn one_field(alloc: Global, name: Name, number: u64) -> Result<Fields, Refusal> {
     let values = one_value(alloc, name, number)?;
-    let mut fields: Fields = DotMap::empty(alloc);
+    let mut fields = Fields::empty(alloc);
     fields.insert(Field::empty(), values)?;
     Ok(fields)
 }
 
 // Puts one field with one value at the key.
 fn put_key(alloc: Global, store: &mut Store, name: Name, number: u64) -> Result<(), Refusal> {
-    let fields = one_field(alloc, name, number)?;
     let key = Key::new(alloc, &number.to_be_bytes())?;
+    let fields = one_field(alloc, name, number)?;
     store.insert(key, fields)
 }
 
-// The store with one field and one value at each of the keys, eight bytes each.
-fn store_of(alloc: Global, name: Name, keys: &[u64]) -> Result<Store, Refusal> {
-    let mut store: Store = DotMap::empty(alloc);
+// Puts one field with one value at each of the keys, eight bytes each, and gives how many keys there are then.
+fn put_keys(alloc: Global, store: &mut Store, name: Name, keys: &[u64]) -> Result<u64, Refusal> {
     for number in keys {
-        put_key(alloc, &mut store, name, *number)?;
+        put_key(alloc, store, name, *number)?;
     }
-    Ok(store)
-}
-
-// How many keys that store has.
-fn store_alone(alloc: Global, name: Name, keys: &[u64]) -> Result<u64, Refusal> {
-    let store = store_of(alloc, name, keys)?;
     Ok(store.entries().len() as u64)
 }
 
@@ -66,40 +58,49 @@ fn values_alone(alloc: Global, name: Name, keys: &[u64]) -> Result<u64, Refusal>
 fn join_once(
     alloc: Global,
     mine: &Store,
-    own: &Context,
     yours: &Store,
-    theirs: &Context,
+    nothing: &Context,
 ) -> Result<u64, Refusal> {
-    let both = mine.join(alloc, own, yours, theirs)?;
+    let both = mine.join(alloc, nothing, yours, nothing)?;
     Ok(both.entries().len() as u64)
 }
 
 // The joins, so many times, of the two, of which no side knows a dot.
 fn join_often(alloc: Global, mine: &Store, yours: &Store, times: u32) -> Result<u64, Refusal> {
-    let (own, theirs) = (Context::new(alloc), Context::new(alloc));
+    let nothing = Context::new(alloc);
     let mut sum: u64 = 0;
     for _ in 0..times {
-        sum = sum.wrapping_add(join_once(alloc, mine, &own, yours, &theirs)?);
+        sum = sum.wrapping_add(join_once(alloc, mine, yours, &nothing)?);
     }
     Ok(sum)
 }
 
-// The joins, so many times, of two stores that have the same keys.
-fn joined(alloc: Global, names: (Name, Name), keys: &[u64], times: u32) -> Result<u64, Refusal> {
-    let mine = store_of(alloc, names.0, keys)?;
-    let yours = store_of(alloc, names.1, keys)?;
-    join_often(alloc, &mine, &yours, times)
+// The step with two stores that are empty.
+fn steps_on(
+    alloc: Global,
+    mine: &mut Store,
+    yours: &mut Store,
+    keys: &[u64],
+    step: u32,
+    times: u32,
+) -> Result<u64, Refusal> {
+    let one = Name::new(1).ok_or(Refusal::BadLine)?;
+    let two = Name::new(2).ok_or(Refusal::BadLine)?;
+    if step == 0 {
+        return values_alone(alloc, one, keys);
+    }
+    let count = put_keys(alloc, mine, one, keys)?;
+    if step == 1 {
+        return Ok(count);
+    }
+    put_keys(alloc, yours, two, keys)?;
+    join_often(alloc, mine, yours, times)
 }
 
 fn steps(alloc: Global, keys: &[u64], step: u32, times: u32) -> Result<u64, Refusal> {
-    let (Some(one), Some(two)) = (Name::new(1), Name::new(2)) else {
-        return Ok(0);
-    };
-    match step {
-        0 => values_alone(alloc, one, keys),
-        1 => store_alone(alloc, one, keys),
-        _ => joined(alloc, (one, two), keys, times),
-    }
+    let mut mine: Store = DotMap::empty(alloc);
+    let mut yours: Store = DotMap::empty(alloc);
+    steps_on(alloc, &mut mine, &mut yours, keys, step, times)
 }
 
 /// Makes small stores of the keys, eight bytes each: 0 makes a map from dots to values with one value of 16 bytes for each

@@ -3,9 +3,11 @@
 #![tactic(auto)]
 
 mod causal;
+mod fields;
 mod laws;
 mod or_map;
 
 pub use causal::Causal;
+pub use fields::Fields;
 pub use laws::{join_is_associative, join_is_commutative, join_is_idempotent};
 pub use or_map::{OrMap, OrMapStore};

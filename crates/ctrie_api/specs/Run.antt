@@ -29,6 +29,11 @@ module _ {H V : Type 0} where
   abbrev pub read_only : Trie H V → Trie H V
   read_only trie = record trie { read_only = true }
 
+  -- the snapshot of a trie that is there, which is read-only where that is asked for
+  abbrev pub snapshot_of : Bool → Option (Trie H V) → Option (Trie H V)
+  snapshot_of false found = found
+  snapshot_of true found = option_map read_only found
+
   -- whether a trie is there and is read-only
   abbrev pub takes_no_write : Option (Trie H V) → Bool
   takes_no_write None = false
@@ -40,8 +45,8 @@ module _ {H V : Type 0} where
     acted tries (Insert index key value) = changed_at index (written (λ map. finite.insert map key value)) tries
     acted tries (Remove index key) = changed_at index (written (λ map. finite.remove map key)) tries
     acted tries (Clear index) = changed_at index (written (λ map. finite.empty)) tries
-    acted tries (Snapshot index) = tries ++ as_list (slice_get tries index)
-    acted tries (ReadOnlySnapshot index) = tries ++ as_list (option_map read_only (slice_get tries index))
+    acted tries (Snapshot index) = tries ++ as_list (snapshot_of false (slice_get tries index))
+    acted tries (ReadOnlySnapshot index) = tries ++ as_list (snapshot_of true (slice_get tries index))
 
     -- the tries after these acts, in their order
     abbrev pub acted_all : List (Trie H V) → List (Act V A) → List (Trie H V)

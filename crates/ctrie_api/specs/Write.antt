@@ -1,5 +1,4 @@
 -- What a write makes of a map. Of this project.
-use Rattle.std.specs.Prelude.{List, ℕ}
 use Rattle.std.specs.FinMap as finite
 use Rattle.dots.specs.Bytes.{bytes_cmp}
 use Rattle.ctrie_api.specs.declared.write.Write.{Write}

@@ -2,7 +2,7 @@ ghost use Rattle.std.specs.Prelude.{◌≡◌, ◌↔◌, ◌⊎◌, ◌<◌, �
 ghost use Rattle.std.specs.List.{All};
 ghost use Rattle.std.specs.Option.{option_map};
 ghost use Rattle.std.specs.FinMap as finite;
-ghost use Rattle.ctrie_api.specs.Run.{acted, acted_all, index_of, is_refused, IsWriteAt, EachIsWritten, carried_out, changed_at, written, read_only, takes_no_write, as_list};
+ghost use Rattle.ctrie_api.specs.Run.{acted, acted_all, index_of, is_refused, IsWriteAt, EachIsWritten, carried_out, changed_at, written, snapshot_of, takes_no_write, as_list};
 ghost use Rattle.ctrie_api.specs.Write.{map_after};
 
 use crate::act::Act;
@@ -83,8 +83,8 @@ impl<V: Drop, H: PathHash, M: Summary<V>, A: Allocator + Copy> Tries<V, H, M, A>
                 Write::Remove(key),
             ),
             Act::Clear(index) => write_at(self.tries.as_mut_slice(), index, Write::Clear),
-            Act::Snapshot(index) => add_snapshot(&mut self.tries, index),
-            Act::ReadOnlySnapshot(index) => add_read_only_snapshot(&mut self.tries, index),
+            Act::Snapshot(index) => add_snapshot(&mut self.tries, index, false),
+            Act::ReadOnlySnapshot(index) => add_snapshot(&mut self.tries, index, true),
         }
     }
 }
@@ -141,63 +141,39 @@ fn write_at<V: Drop, H: PathHash, M: Summary<V>, A: Allocator + Copy>(
     Ok(true)
 }
 
-// Appends a snapshot of the trie of this index, and tells whether that is there.
+// Appends a snapshot of the trie of this index, a read-only one where that is asked for, and tells whether the trie is there.
 fn add_snapshot<V: Drop, H: PathHash, M: Summary<V>, A: Allocator + Copy>(
     tries: &mut Vec<Ctrie<V, H, M, A>, A>,
     index: usize,
+    is_read_only: bool,
 ) -> Result<bool, Refusal>
     ensures there { IfOk result (λ there. IsTrue there ↔ index < length tries.old.items) }
-    ensures ok { OnOk result (tries.new.items ≡ tries.old.items ++ as_list (slice_get tries.old.items index)) }
+    ensures ok { OnOk result (tries.new.items ≡ tries.old.items ++ as_list (snapshot_of is_read_only (slice_get tries.old.items index))) }
     ensures same { OnErr result (tries.new.items ≡ tries.old.items) }
     ensures err { IsOkUnless result Refusal.OutOfMemory }
 {
-    let made = snapshot_at(tries.as_mut_slice(), index)?;
+    let made = snapshot_at(tries.as_mut_slice(), index, is_read_only)?;
     add(tries, made)
 }
 
-// Appends a read-only snapshot of the trie of this index, and tells whether that is there.
-fn add_read_only_snapshot<V: Drop, H: PathHash, M: Summary<V>, A: Allocator + Copy>(
-    tries: &mut Vec<Ctrie<V, H, M, A>, A>,
-    index: usize,
-) -> Result<bool, Refusal>
-    ensures there { IfOk result (λ there. IsTrue there ↔ index < length tries.old.items) }
-    ensures ok { OnOk result (tries.new.items ≡ tries.old.items ++ as_list (option_map read_only (slice_get tries.old.items index))) }
-    ensures same { OnErr result (tries.new.items ≡ tries.old.items) }
-    ensures err { IsOkUnless result Refusal.OutOfMemory }
-{
-    let made = read_only_snapshot_at(tries.as_mut_slice(), index)?;
-    add(tries, made)
-}
-
-// A snapshot of the trie of this index, if that is there.
+// A snapshot of the trie of this index, if that is there, and a read-only one where that is asked for.
 fn snapshot_at<V: Drop, H: PathHash, M: Summary<V>, A: Allocator + Copy>(
     tries: &mut [Ctrie<V, H, M, A>],
     index: usize,
+    is_read_only: bool,
 ) -> Result<Option<Ctrie<V, H, M, A>>, Refusal>
-    ensures ok { IfOk result (λ made. made ≡ slice_get tries.old index) }
+    ensures ok { IfOk result (λ made. made ≡ snapshot_of is_read_only (slice_get tries.old index)) }
     ensures same { tries.new ≡ tries.old }
     ensures err { IsOkUnless result Refusal.OutOfMemory }
 {
     if index >= tries.len() {
         return Ok(None);
     }
-    let made = tries[index].snapshot()?;
-    Ok(Some(made))
-}
-
-// A read-only snapshot of the trie of this index, if that is there.
-fn read_only_snapshot_at<V: Drop, H: PathHash, M: Summary<V>, A: Allocator + Copy>(
-    tries: &mut [Ctrie<V, H, M, A>],
-    index: usize,
-) -> Result<Option<Ctrie<V, H, M, A>>, Refusal>
-    ensures ok { IfOk result (λ made. made ≡ option_map read_only (slice_get tries.old index)) }
-    ensures same { tries.new ≡ tries.old }
-    ensures err { IsOkUnless result Refusal.OutOfMemory }
-{
-    if index >= tries.len() {
-        return Ok(None);
-    }
-    let made = tries[index].read_only_snapshot()?;
+    let made = if is_read_only {
+        tries[index].read_only_snapshot()?
+    } else {
+        tries[index].snapshot()?
+    };
     Ok(Some(made))
 }
 

@@ -12,10 +12,10 @@ ghost use Rattle.op_model.specs.Made.{IsRemoveAt, IsFieldRemoveAt, IsClearAt, er
 ghost use Rattle.op_model.specs.Meaning.{state};
 ghost use Rattle.op_model.specs.Place.{place_of};
 
-use crate::live_or_map::{Fields, LiveOrMap};
+use crate::live_or_map::LiveOrMap;
 use crate::standing::{fields_of, values_at};
 use causal_context::Context;
-use causal_join::{Causal, OrMap};
+use causal_join::{Causal, Fields, OrMap};
 use dot_store::{DotFun, DotMap, DotStore};
 use dots::{Dot, Field, Key, Refusal, Value};
 use gen_trie::Summary;
@@ -133,7 +133,7 @@ fn dots_anywhere<M: Summary<Fields<A>>, H: PathHash, A: Allocator + Copy>(
 /// Its only refusal is OutOfMemory.
 fn gather_fields<A: Allocator + Copy>(
     dots: &mut BTreeSet<Dot, A>,
-    fields: &DotMap<Field<A>, DotFun<Value<A>, A>, A>,
+    fields: &Fields<A>,
 ) -> Result<(), Refusal>
     ensures ok { OnOk result ((d : DotValue) → IsTrue (is_among dots.new.keys d)
         ↔ (IsTrue (is_among dots.old.keys d) ⊎ HoldsDot (fields_at fields.now) d)) }

@@ -14,7 +14,7 @@ mod standing;
 
 pub use erasures::{clear, remove, remove_field};
 pub use grouping::group;
-pub use live_or_map::{Fields, LiveOrMap, LiveStore};
+pub use live_or_map::{LiveOrMap, LiveStore};
 pub use mutators::{put, put_field};
 pub use outgoing::Outgoing;
 pub use reading::{fields, keys, size, values, values_of_key};

@@ -1,13 +1,9 @@
-use dot_store::{DotFun, DotMap};
-use dots::{Field, Value};
+use causal_join::Fields;
 use gen_trie::NoSummary;
 use hash_path::Fnv1a;
 use live_map::Live;
 use std::alloc::Global;
 use trie_map::TrieMap;
-
-/// What stands at a key: the values of each field, by the dots of their writes.
-pub type Fields<A = Global> = DotMap<Field<A>, DotFun<Value<A>, A>, A>;
 
 /// The store of the observed-remove map, kept as a trie: what stands at each key.
 pub type LiveStore<M = NoSummary, H = Fnv1a, A = Global> = TrieMap<Fields<A>, M, H, A>;

@@ -9,10 +9,10 @@ ghost use Rattle.op_model.specs.Made.{IsPutAt};
 ghost use Rattle.op_model.specs.Meaning.{state};
 ghost use Rattle.op_model.specs.Place.{Place, place_of, plain, same_place};
 
-use crate::live_or_map::{Fields, LiveOrMap};
+use crate::live_or_map::LiveOrMap;
 use crate::standing::values_at;
 use causal_context::Context;
-use causal_join::{Causal, OrMap, OrMapStore};
+use causal_join::{Causal, Fields, OrMap, OrMapStore};
 use dot_store::{DotFun, DotMap, DotStore, Kept};
 use dots::{Dot, Field, Key, Name, Refusal, Value};
 use gen_trie::Summary;
@@ -98,7 +98,7 @@ fn one_value<A: Allocator + Copy>(
 {
     let mut values = DotFun::empty(alloc);
     values.insert(dot, value.copy(alloc)?)?;
-    let mut fields: DotMap<Field<A>, DotFun<Value<A>, A>, A> = DotMap::empty(alloc);
+    let mut fields = Fields::empty(alloc);
     fields.insert(field.copy(alloc)?, values)?;
     let mut store: OrMapStore<A> = DotMap::empty(alloc);
     store.insert(key.copy(alloc)?, fields)?;

@@ -7,8 +7,9 @@ ghost use Rattle.op_model.specs.Meaning.{Stands, StandsWithin, HoldsField, Holds
 ghost use Rattle.op_model.specs.Place.{place_of};
 ghost use Rattle.op_model.specs.Shown.{IsAscending};
 
-use crate::live_or_map::{Fields, LiveStore};
+use crate::live_or_map::LiveStore;
 use crate::standing::{fields_of, values_at};
+use causal_join::Fields;
 use dot_store::{DotFun, Kept};
 use dots::{Field, Key, Refusal, Value};
 use gen_trie::Summary;

@@ -7,7 +7,8 @@ ghost use Rattle.dot_store.specs.Stores.{at_values, held_by};
 ghost use Rattle.dots.specs.Dot.{DotValue};
 ghost use Rattle.op_model.specs.Place.{place_of};
 
-use crate::live_or_map::{Fields, LiveStore};
+use crate::live_or_map::LiveStore;
+use causal_join::Fields;
 use dot_store::DotFun;
 use dots::{Field, Key, Value};
 use gen_trie::Summary;

@@ -5,15 +5,11 @@ ghost use Rattle.std.specs.FinMap as finite;
 ghost use Rattle.hash_path.specs.Map.{by_path, walk, walk_under};
 ghost use Rattle.hash_path.specs.Path.{indices};
 ghost use Rattle.hash_path.specs.Summary.{summary_at};
-ghost use Rattle.gen_trie.specs.Root.{IsTrie};
-ghost use Rattle.gen_trie.specs.Shown.{shown, shown_of, generation_after};
+ghost use Rattle.gen_trie.specs.Shown.{shown, generation_after};
 ghost use Rattle.dots.specs.declared.refusal.Refusal.TheVariants.{OutOfMemory};
 
 use crate::iter::Iter;
-use crate::node::Slot;
-use crate::root::{look_root, seal_root, share_root};
 use crate::summary::Summary;
-use crate::summing::summary_under;
 use crate::trie::GenTrie;
 use dots::{Key, Refusal};
 use hash_path::{PathHash, Prefix};
@@ -24,12 +20,8 @@ use std::marker::Model;
 /// what it is whatever they write.
 #[derive(Drop)]
 pub struct Frozen<V, M: Summary<V>, H: PathHash, A: Allocator = Global> {
-    alloc: A,
-    hash: H,
-    // No node of it has a later stamp.
-    generation: u64,
-    count: u64,
-    root: Option<Slot<V, M, A>>,
+    // It is never written. No node of it has a stamp after its generation.
+    trie: GenTrie<V, M, H, A>,
 }
 
 impl<V, M: Summary<V>, H: PathHash, A: Allocator> Model for Frozen<V, M, H, A> {
@@ -39,12 +31,7 @@ impl<V, M: Summary<V>, H: PathHash, A: Allocator> Model for Frozen<V, M, H, A> {
 
     ghost coded = { shown_code H.code V.code };
 
-    ghost use Rattle.gen_trie.specs.Shown.{shown_of};
-    ghost use Rattle.gen_trie.specs.Root.{IsTrie};
-
-    ghost view = { λ a. shown_of a.hash a.root a.generation };
-
-    ghost invariant = { λ a. IsTrie (H.hash_of a.hash) a.root a.count };
+    ghost view = { λ a. a.trie };
 }
 
 impl<V, M: Summary<V>, H: PathHash, A: Allocator + Copy> Frozen<V, M, H, A> {
@@ -53,11 +40,7 @@ impl<V, M: Summary<V>, H: PathHash, A: Allocator + Copy> Frozen<V, M, H, A> {
         ensures { result ≡ shown hash finite.empty 0 }
     {
         Frozen {
-            alloc,
-            hash,
-            generation: 0,
-            count: 0,
-            root: None,
+            trie: GenTrie::new(alloc, hash),
         }
     }
 
@@ -65,7 +48,7 @@ impl<V, M: Summary<V>, H: PathHash, A: Allocator + Copy> Frozen<V, M, H, A> {
     pub fn hash(&self) -> H
         ensures { result ≡ self.now.hash }
     {
-        self.hash
+        self.trie.hash()
     }
 
     /// The value of the key. Touches eight nodes at most, and takes no memory.
@@ -73,7 +56,7 @@ impl<V, M: Summary<V>, H: PathHash, A: Allocator + Copy> Frozen<V, M, H, A> {
     pub fn lookup(&self, key: &Key<A>) -> Option<&V>
         ensures { option_map (λ value. value.now) result ≡ finite.get self.now.map key.now }
     {
-        self.lookup_bytes(key.bytes())
+        self.trie.lookup(key)
     }
 
     /// The value of the key of these bytes. Touches eight nodes at most, and takes no memory.
@@ -81,18 +64,14 @@ impl<V, M: Summary<V>, H: PathHash, A: Allocator + Copy> Frozen<V, M, H, A> {
     pub fn lookup_bytes(&self, key: &[u8]) -> Option<&V>
         ensures { option_map (λ value. value.now) result ≡ finite.get self.now.map key.now }
     {
-        let hash = self.hash.hash(key);
-        match look_root(&self.root, hash, key) {
-            None => None,
-            Some(entry) => Some(&entry.value),
-        }
+        self.trie.lookup_bytes(key)
     }
 
     /// The number of keys.
     pub fn size(&self) -> u64
         ensures { result ≡ finite.len self.now.map }
     {
-        self.count
+        self.trie.size()
     }
 
     /// The keys with their values, by ascending index sequence of the key's hash, and those of equal hashes by key bytes.
@@ -100,7 +79,7 @@ impl<V, M: Summary<V>, H: PathHash, A: Allocator + Copy> Frozen<V, M, H, A> {
     pub fn iter(&self) -> Iter<'_, V, M, A>
         ensures { result ≡ walk (H.hash_of self.now.hash) self.now.map }
     {
-        Iter::new(&self.root)
+        self.trie.iter()
     }
 
     /// The keys whose paths begin with a prefix, with their values, in the order of `iter`: all keys for the root. Touches
@@ -108,27 +87,14 @@ impl<V, M: Summary<V>, H: PathHash, A: Allocator + Copy> Frozen<V, M, H, A> {
     pub fn iter_under(&self, prefix: Prefix) -> Iter<'_, V, M, A>
         ensures { result ≡ walk_under (H.hash_of self.now.hash) prefix self.now.map }
     {
-        Iter::under(&self.root, prefix)
+        self.trie.iter_under(prefix)
     }
 
-    // The map of the parts of a trie.
-    pub(crate) fn of(
-        alloc: A,
-        hash: H,
-        generation: u64,
-        count: u64,
-        root: Option<Slot<V, M, A>>,
-    ) -> Frozen<V, M, H, A>
-        requires { IsTrie (H.hash_of hash) root count }
-        ensures { result ≡ shown_of hash root generation }
+    // The map of a trie that is not written any more.
+    pub(crate) fn of(trie: GenTrie<V, M, H, A>) -> Frozen<V, M, H, A>
+        ensures { result ≡ trie }
     {
-        Frozen {
-            alloc,
-            hash,
-            generation,
-            count,
-            root,
-        }
+        Frozen { trie }
     }
 }
 
@@ -139,13 +105,8 @@ impl<V: Drop, M: Summary<V>, H: PathHash, A: Allocator + Copy> Frozen<V, M, H, A
         ensures ok { IfOk result (λ copy. copy ≡ self.now) }
         ensures err { IsOkUnless result OutOfMemory }
     {
-        let root = share_root(&self.root)?;
         Ok(Frozen {
-            alloc: self.alloc,
-            hash: self.hash,
-            generation: self.generation,
-            count: self.count,
-            root,
+            trie: self.trie.same_nodes()?,
         })
     }
 
@@ -157,7 +118,7 @@ impl<V: Drop, M: Summary<V>, H: PathHash, A: Allocator + Copy> Frozen<V, M, H, A
         ensures same { self.new ≡ self.old }
         ensures err { IsOkUnless result OutOfMemory }
     {
-        seal_root(&mut self.root, self.alloc, self.generation)
+        self.trie.seal()
     }
 
     /// A trie of the same map that can be written, in a generation after those of all nodes that it shares; at the last,
@@ -167,9 +128,7 @@ impl<V: Drop, M: Summary<V>, H: PathHash, A: Allocator + Copy> Frozen<V, M, H, A
         ensures ok { IfOk result (λ trie. trie ≡ record self.now { generation = generation_after self.now.generation }) }
         ensures err { IsOkUnless result OutOfMemory }
     {
-        let root = share_root(&self.root)?;
-        let generation = self.generation.saturating_add(1);
-        Ok(GenTrie::of(self.alloc, self.hash, generation, self.count, root))
+        self.trie.in_next_generation()
     }
 }
 
@@ -180,10 +139,7 @@ impl<V, M: Summary<V>, H: PathHash, A: Allocator + Copy> Frozen<V, M, H, A> {
         ensures summary { result ≡ summary_at M.calls prefix 7 (by_path (H.hash_of self.now.hash) self.now.map) }
         ensures none { (result ≡ None) ↔ ((key : List ℕ) → indices (length prefix) (H.hash_of self.now.hash key) ≡ prefix → finite.get self.now.map key ≡ None) }
     {
-        match &self.root {
-            None => None,
-            Some(slot) => summary_under(slot, prefix),
-        }
+        self.trie.summary(prefix)
     }
 }
 

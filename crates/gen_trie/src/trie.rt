@@ -1,9 +1,11 @@
-ghost use Rattle.std.specs.Prelude.{◌≡◌, IfSome, OnOk, OnErr, IfOk, IsOkUnless};
+ghost use Rattle.std.specs.Prelude.{◌≡◌, ◌↔◌, ℕ, List, length, IfSome, OnOk, OnErr, IfOk, IsOkUnless};
+ghost use Rattle.std.specs.declared.option.Option.TheVariants.{None};
 ghost use Rattle.std.specs.Option.{option_map};
 ghost use Rattle.std.specs.FinMap as finite;
-ghost use Rattle.hash_path.specs.Map.{walk};
-ghost use Rattle.gen_trie.specs.Root.{IsTrie};
-ghost use Rattle.gen_trie.specs.Shown.{shown, shown_of, generation_after};
+ghost use Rattle.hash_path.specs.Map.{by_path, walk, walk_under};
+ghost use Rattle.hash_path.specs.Path.{indices};
+ghost use Rattle.hash_path.specs.Summary.{summary_at};
+ghost use Rattle.gen_trie.specs.Shown.{shown, generation_after};
 ghost use Rattle.dots.specs.declared.refusal.Refusal.TheVariants.{OutOfMemory};
 
 use crate::entry::Entry;
@@ -13,8 +15,9 @@ use crate::node::Slot;
 use crate::root::{insert_at, look_root, remove_at, seal_root, share_root};
 use crate::sealing::stamped_in;
 use crate::summary::Summary;
+use crate::summing::summary_under;
 use dots::{Key, Refusal};
-use hash_path::PathHash;
+use hash_path::{PathHash, Prefix};
 use std::alloc::{Allocator, Global};
 use std::marker::Model;
 use std::sync::Arc;
@@ -62,6 +65,13 @@ impl<V, M: Summary<V>, H: PathHash, A: Allocator + Copy> GenTrie<V, M, H, A> {
         }
     }
 
+    /// The hash that the keys' paths are by.
+    pub fn hash(&self) -> H
+        ensures { result ≡ self.now.hash }
+    {
+        self.hash
+    }
+
     /// The value of the key. Touches eight nodes at most, and takes no memory.
     /// None exactly where the key is not there.
     pub fn lookup(&self, key: &Key<A>) -> Option<&V>
@@ -82,26 +92,6 @@ impl<V, M: Summary<V>, H: PathHash, A: Allocator + Copy> GenTrie<V, M, H, A> {
         }
     }
 
-    // The map of the parts of a frozen one.
-    pub(crate) fn of(
-        alloc: A,
-        hash: H,
-        generation: u64,
-        count: u64,
-        root: Option<Slot<V, M, A>>,
-    ) -> GenTrie<V, M, H, A>
-        requires { IsTrie (H.hash_of hash) root count }
-        ensures { result ≡ shown_of hash root generation }
-    {
-        GenTrie {
-            alloc,
-            hash,
-            generation,
-            count,
-            root,
-        }
-    }
-
     /// The number of keys.
     pub fn size(&self) -> u64
         ensures { result ≡ finite.len self.now.map }
@@ -115,6 +105,14 @@ impl<V, M: Summary<V>, H: PathHash, A: Allocator + Copy> GenTrie<V, M, H, A> {
         ensures { result ≡ walk (H.hash_of self.now.hash) self.now.map }
     {
         Iter::new(&self.root)
+    }
+
+    /// The keys whose paths begin with a prefix, with their values, in the order of `iter`: all keys for the root. Touches
+    /// eight nodes at most before the first item, and takes no memory.
+    pub fn iter_under(&self, prefix: Prefix) -> Iter<'_, V, M, A>
+        ensures { result ≡ walk_under (H.hash_of self.now.hash) prefix self.now.map }
+    {
+        Iter::under(&self.root, prefix)
     }
 }
 
@@ -202,14 +200,50 @@ impl<V: Drop, M: Summary<V>, H: PathHash, A: Allocator + Copy> GenTrie<V, M, H, 
         ensures same { OnErr result (self.new ≡ self.old) }
         ensures err { IsOkUnless result OutOfMemory }
     {
-        let root = share_root(&self.root)?;
-        let frozen = Frozen::of(self.alloc, self.hash, self.generation, self.count, root);
+        let trie = self.same_nodes()?;
         self.generation = self.generation.saturating_add(1);
-        Ok(frozen)
+        Ok(Frozen::of(trie))
+    }
+
+    // The same map in the same generation, of the same nodes. Only a frozen map, or a trie that leaves this generation, may be made of it.
+    pub(crate) fn same_nodes(&self) -> Result<GenTrie<V, M, H, A>, Refusal>
+        ensures ok { IfOk result (λ copy. copy ≡ self.now) }
+        ensures err { IsOkUnless result OutOfMemory }
+    {
+        let root = share_root(&self.root)?;
+        Ok(GenTrie {
+            alloc: self.alloc,
+            hash: self.hash,
+            generation: self.generation,
+            count: self.count,
+            root,
+        })
+    }
+
+    // The same map in the next generation, of the same nodes.
+    pub(crate) fn in_next_generation(&self) -> Result<GenTrie<V, M, H, A>, Refusal>
+        ensures ok { IfOk result (λ trie. trie ≡ record self.now { generation = generation_after self.now.generation }) }
+        ensures err { IsOkUnless result OutOfMemory }
+    {
+        let mut trie = self.same_nodes()?;
+        trie.generation = trie.generation.saturating_add(1);
+        Ok(trie)
     }
 }
 
 impl<V, M: Summary<V>, H: PathHash, A: Allocator + Copy> GenTrie<V, M, H, A> {
+    /// The summary of the keys whose paths begin with a prefix. None exactly where there are no such keys. It reads what a
+    /// node keeps, and visits the nodes that keep none, as before a seal, with their children. Takes no memory.
+    pub fn summary(&self, prefix: Prefix) -> Option<M>
+        ensures summary { result ≡ summary_at M.calls prefix 7 (by_path (H.hash_of self.now.hash) self.now.map) }
+        ensures none { (result ≡ None) ↔ ((key : List ℕ) → indices (length prefix) (H.hash_of self.now.hash key) ≡ prefix → finite.get self.now.map key ≡ None) }
+    {
+        match &self.root {
+            None => None,
+            Some(slot) => summary_under(slot, prefix),
+        }
+    }
+
     /// How many nodes were sealed in the current generation: those of its stamp that keep a summary. It visits the nodes of
     /// this stamp and their children, and takes no memory.
     pub fn stamped(&self) -> u64 {

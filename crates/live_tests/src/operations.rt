@@ -11,11 +11,10 @@ use std::alloc::Global;
 use std::process::Abort;
 use std::test::Fail;
 
-// Joins the delta of a put in, and answers the number of its dot.
-fn take_put(alloc: Global, live: &mut LiveOrMap, made: (OrMap, Dot)) -> Result<u64, Refusal> {
-    let (delta, dot) = made;
-    live.join_delta(alloc, &delta)?;
-    Ok(dot.number())
+// Joins the delta in, and answers what was told with it.
+fn take<T: Copy>(alloc: Global, live: &mut LiveOrMap, made: (OrMap, T)) -> Result<T, Refusal> {
+    live.join_delta(alloc, &made.0)?;
+    Ok(made.1)
 }
 
 // Puts the value at the field of the key, by the name 1.
@@ -30,7 +29,7 @@ fn write_at(
     let name = Name::new(1).expect(rt, "a name");
     let value = Value::new(alloc, value)?;
     let made = put_field(alloc, name, live, key, field, &value)?;
-    take_put(alloc, live, made)
+    Ok(take(alloc, live, made)?.number())
 }
 
 // The same, by the bytes of the key and the field.
@@ -59,18 +58,36 @@ fn write_three(rt: &impl Abort, alloc: Global, live: &mut LiveOrMap) -> Result<(
     Ok(())
 }
 
-fn key_count(alloc: Global, live: &LiveOrMap) -> Result<usize, Refusal> {
+// Whether these are the keys, each of one byte, in order.
+fn are_keys(all: &[Key], wanted: &[u8]) -> bool {
+    let mut same = all.len() == wanted.len();
+    for (key, byte) in all.iter().zip(wanted) {
+        same = same && key.bytes() == [*byte].as_slice();
+    }
+    same
+}
+
+fn has_keys(alloc: Global, live: &LiveOrMap, wanted: &[u8]) -> Result<bool, Refusal> {
     let all = keys(alloc, live.store())?;
-    Ok(all.len())
+    Ok(are_keys(&all, wanted))
+}
+
+// Whether these are the values, each of one byte, in order.
+fn are_values(all: &[Value], wanted: &[u8]) -> bool {
+    let mut same = all.len() == wanted.len();
+    for (value, byte) in all.iter().zip(wanted) {
+        same = same && value.bytes() == [*byte].as_slice();
+    }
+    same
+}
+
+fn has_values(alloc: Global, live: &LiveOrMap, key: &Key, wanted: &[u8]) -> Result<bool, Refusal> {
+    let all = values_of_key(alloc, live.store(), key)?;
+    Ok(are_values(&all, wanted))
 }
 
 fn field_count(alloc: Global, live: &LiveOrMap, key: &Key) -> Result<usize, Refusal> {
     let all = fields(alloc, live.store(), key)?;
-    Ok(all.len())
-}
-
-fn value_count(alloc: Global, live: &LiveOrMap, key: &Key) -> Result<usize, Refusal> {
-    let all = values_of_key(alloc, live.store(), key)?;
     Ok(all.len())
 }
 
@@ -81,42 +98,26 @@ fn unnamed_count(alloc: Global, live: &LiveOrMap, key: &Key) -> Result<usize, Re
     Ok(all.len())
 }
 
-// The numbers of keys, of fields of the key b, of its values, and of those at its empty field.
-fn counts(alloc: Global, live: &LiveOrMap) -> Result<[usize; 4], Refusal> {
+// What is left: the keys, how many fields the key b has, its values, and how many of them at its empty field.
+#[derive(Clone, Copy, Debug)]
+struct Left<'a> {
+    keys: &'a [u8],
+    fields: usize,
+    values: &'a [u8],
+    unnamed: usize,
+}
+
+fn is_left(alloc: Global, live: &LiveOrMap, left: Left) -> Result<bool, Refusal> {
     let key = Key::new(alloc, b"b")?;
-    let all = key_count(alloc, live)?;
     let of_fields = field_count(alloc, live, &key)?;
-    let of_values = value_count(alloc, live, &key)?;
-    Ok([all, of_fields, of_values, unnamed_count(alloc, live, &key)?])
+    let unnamed = unnamed_count(alloc, live, &key)?;
+    let are_values = has_values(alloc, live, &key, left.values)?;
+    let are_keys = has_keys(alloc, live, left.keys)?;
+    Ok((of_fields, unnamed) == (left.fields, left.unnamed) && are_values && are_keys)
 }
 
-// Whether the keys are a and b, in this order.
-fn are_a_and_b(alloc: Global, live: &LiveOrMap) -> Result<bool, Refusal> {
-    let all = keys(alloc, live.store())?;
-    Ok(all.len() == 2 && all[0].bytes() == b"a".as_slice() && all[1].bytes() == b"b".as_slice())
-}
-
-// Whether the values of the key are x and y, in this order.
-fn are_x_and_y(alloc: Global, live: &LiveOrMap, key: &Key) -> Result<bool, Refusal> {
-    let all = values_of_key(alloc, live.store(), key)?;
-    Ok(all.len() == 2 && all[0].bytes() == b"x".as_slice() && all[1].bytes() == b"y".as_slice())
-}
-
-// Whether the keys and the values of the key b are in order.
-fn is_in_order(alloc: Global, live: &LiveOrMap) -> Result<bool, Refusal> {
-    let key = Key::new(alloc, b"b")?;
-    Ok(are_x_and_y(alloc, live, &key)? && are_a_and_b(alloc, live)?)
-}
-
-// Joins the delta in, and answers how many writes it observed.
-fn take(alloc: Global, live: &mut LiveOrMap, made: (OrMap, u64)) -> Result<u64, Refusal> {
-    let (delta, number) = made;
-    live.join_delta(alloc, &delta)?;
-    Ok(number)
-}
-
-fn remove_b(alloc: Global, live: &mut LiveOrMap) -> Result<u64, Refusal> {
-    let key = Key::new(alloc, b"b")?;
+fn remove_at(alloc: Global, live: &mut LiveOrMap, key: &[u8]) -> Result<u64, Refusal> {
+    let key = Key::new(alloc, key)?;
     let made = remove(alloc, live, &key)?;
     take(alloc, live, made)
 }
@@ -139,15 +140,21 @@ fn put_plainly(rt: &impl Abort, alloc: Global, live: &mut LiveOrMap) -> Result<u
     let key = Key::new(alloc, b"b")?;
     let value = Value::new(alloc, b"w")?;
     let made = put(alloc, name, live, &key, &value)?;
-    take_put(alloc, live, made)
+    Ok(take(alloc, live, made)?.number())
 }
 
-// Puts forty keys, and answers how many there are.
-fn put_forty(rt: &impl Abort, alloc: Global, live: &mut LiveOrMap) -> Result<u64, Refusal> {
+fn size_of(live: &LiveOrMap) -> u64 {
+    live.store().size()
+}
+
+// Puts forty keys, and tells whether they are counted and listed.
+fn are_forty(rt: &impl Abort, alloc: Global, live: &mut LiveOrMap) -> Result<bool, Refusal> {
+    let mut all = [0u8; 40];
     for byte in 0..40u8 {
+        all[byte as usize] = byte;
         write(rt, alloc, live, &[byte], b"", b"x")?;
     }
-    Ok(live.store().size())
+    Ok(has_keys(alloc, live, &all)? && size_of(live) == 40)
 }
 
 // What is taken away of the three writes.
@@ -163,48 +170,42 @@ enum Taken {
 fn take_away(alloc: Global, live: &mut LiveOrMap, taken: Taken) -> Result<u64, Refusal> {
     match taken {
         Taken::Nothing => Ok(0),
-        Taken::KeyB => remove_b(alloc, live),
+        Taken::KeyB => remove_at(alloc, live, b"b"),
         Taken::FieldOfB => remove_f_of_b(alloc, live),
         Taken::All => clear_all(alloc, live),
     }
 }
 
-// How many values stand at the empty field of the key, if the key has fields and the field has values.
-fn standing(live: &LiveOrMap, key: &Key) -> Option<usize> {
-    fields_of(live.store(), key)?;
-    let field = Field::empty();
-    let values = values_at(live.store(), key, &field)?;
+fn has_fields(live: &LiveOrMap, key: &Key) -> bool {
+    fields_of(live.store(), key).is_some()
+}
+
+// How many values stand at the field of the key, if any.
+fn standing(live: &LiveOrMap, key: &Key, field: &Field) -> Option<usize> {
+    let values = values_at(live.store(), key, field)?;
     Some(values.entries().len())
 }
 
-fn standing_at_b(alloc: Global, live: &LiveOrMap) -> Result<Option<usize>, Refusal> {
+// Whether the key b has fields, and one value stands at the empty one.
+fn stands_at_b(alloc: Global, live: &LiveOrMap) -> Result<bool, Refusal> {
     let key = Key::new(alloc, b"b")?;
-    Ok(standing(live, &key))
+    Ok(has_fields(live, &key) && standing(live, &key, &Field::empty()) == Some(1))
 }
 
-// Whether an operation observed no write, and its delta knows none.
-fn is_nothing(made: (OrMap, u64)) -> bool {
-    let (delta, number) = made;
-    number == 0 && delta.context().is_empty()
-}
-
-// Whether that is so of a remove of the key a, where it is not there.
-fn removes_nothing(alloc: Global, live: &LiveOrMap) -> Result<bool, Refusal> {
-    let key = Key::new(alloc, b"a")?;
-    Ok(is_nothing(remove(alloc, live, &key)?))
+// Whether a remove of the key a, where it is not there, observes no write, and its delta knows none.
+fn removes_nothing(alloc: Global, live: &mut LiveOrMap) -> Result<bool, Refusal> {
+    Ok(remove_at(alloc, live, b"a")? == 0 && live.context().is_empty())
 }
 
 // What is seen of a pair that had no key.
 #[derive(Clone, Copy)]
-enum Case {
+enum Case<'a> {
     // A remove of an absent key makes no operation.
     Absent,
     // Each of forty keys is listed, and counted.
     Forty,
-    // Of three writes the keys and the values are in order.
-    Order,
-    // Of three writes, where this is taken away, so many are observed, and these are the counts of what is left.
-    Left(Taken, u64, [usize; 4]),
+    // Of three writes, where this is taken away, so many are observed, and this is left.
+    Left(Taken, u64, Left<'a>),
     // A put with no field, after three writes, has the number 1, and its value stands at the empty field.
     Plain,
 }
@@ -217,20 +218,16 @@ fn is_so(
     case: Case,
 ) -> Result<bool, Refusal> {
     match case {
-        Case::Absent => return removes_nothing(alloc, live),
-        Case::Forty => {
-            return Ok(put_forty(rt, alloc, live)? == 40 && key_count(alloc, live)? == 40);
-        }
-        _ => write_three(rt, alloc, live)?,
-    }
-    match case {
+        Case::Absent => removes_nothing(alloc, live),
+        Case::Forty => are_forty(rt, alloc, live),
         Case::Left(taken, observed, left) => {
-            Ok(take_away(alloc, live, taken)? == observed && counts(alloc, live)? == left)
+            write_three(rt, alloc, live)?;
+            Ok(take_away(alloc, live, taken)? == observed && is_left(alloc, live, left)?)
         }
         Case::Plain => {
-            Ok(put_plainly(rt, alloc, live)? == 1 && standing_at_b(alloc, live)? == Some(1))
+            write_three(rt, alloc, live)?;
+            Ok(put_plainly(rt, alloc, live)? == 1 && stands_at_b(alloc, live)?)
         }
-        _ => is_in_order(alloc, live),
     }
 }
 
@@ -240,21 +237,21 @@ fn holds(rt: &impl Abort, alloc: Global, case: Case) -> Result<bool, Refusal> {
     is_so(rt, alloc, &mut live, case)
 }
 
-#[test]
-fn keys_and_values_are_in_order(rt: HostRuntime) -> Result<(), Fail> {
-    assert!(rt; holds(&rt, rt.alloc(), Case::Order)?);
-    Ok(())
-}
-
 // A remove takes all fields of its key, one of a field leaves the others, and a clear takes all keys.
 #[test]
-fn what_was_written_and_not_removed_is_counted(rt: HostRuntime) -> Result<(), Fail> {
-    for (taken, observed, left) in [
-        (Taken::Nothing, 0, [2, 2, 2, 1]),
-        (Taken::KeyB, 2, [1, 0, 0, 0]),
-        (Taken::FieldOfB, 1, [2, 1, 1, 1]),
-        (Taken::All, 3, [0, 0, 0, 0]),
+fn what_was_written_and_not_removed_is_listed_in_order(rt: HostRuntime) -> Result<(), Fail> {
+    for (taken, observed, keys, fields, values, unnamed) in [
+        (Taken::Nothing, 0, b"ab".as_slice(), 2, b"xy".as_slice(), 1),
+        (Taken::KeyB, 2, b"a", 0, b"", 0),
+        (Taken::FieldOfB, 1, b"ab", 1, b"y", 1),
+        (Taken::All, 3, b"", 0, b"", 0),
     ] {
+        let left = Left {
+            keys,
+            fields,
+            values,
+            unnamed,
+        };
         assert!(rt;
             holds(&rt, rt.alloc(), Case::Left(taken, observed, left))?,
             "{left:?}"

@@ -61,13 +61,17 @@ fn take(rt: &impl Abort, alloc: Global, live: &mut LivePair, step: Step) -> Resu
     }
 }
 
-// The pair of these steps.
-fn made_by(rt: &impl Abort, alloc: Global, steps: &[Step]) -> Result<LivePair, Refusal> {
-    let mut live = Live::new(alloc, Fnv1a);
+// Takes these steps.
+fn take_all(
+    rt: &impl Abort,
+    alloc: Global,
+    live: &mut LivePair,
+    steps: &[Step],
+) -> Result<(), Refusal> {
     for step in steps {
-        take(rt, alloc, &mut live, *step)?;
+        take(rt, alloc, live, *step)?;
     }
-    Ok(live)
+    Ok(())
 }
 
 // What a pair is to have: so many keys, whether the dots stand at their keys, and whether the others are known.
@@ -94,14 +98,79 @@ fn are_known_as_wanted(live: &LivePair, wanted: &Wanted) -> bool {
     all
 }
 
+// Whether a pair is as wanted.
+fn is_as_wanted(alloc: Global, live: &LivePair, wanted: &Wanted) -> Result<bool, Refusal> {
+    let are_known = are_known_as_wanted(live, wanted);
+    Ok(stand_as_wanted(alloc, live, wanted)? && are_known && size_of(live) == wanted.size)
+}
+
+fn size_of(live: &LivePair) -> u64 {
+    live.store().size()
+}
+
+// Prepares a remove and puts it in place, and answers how many keys there were just before.
+fn size_before(alloc: Global, live: &mut LivePair, one: Dot) -> Result<u64, Refusal> {
+    let delta = removed(alloc, &[one])?;
+    let next = live.prepare(alloc, &delta)?;
+    let size = size_of(live);
+    live.commit(next);
+    Ok(size)
+}
+
+// How many keys a share of the store has once the dot is written at b.
+fn size_of_share(alloc: Global, live: &mut LivePair, two: Dot) -> Result<u64, Refusal> {
+    let share = live.store().share()?;
+    write_at(alloc, live, b"b", two, &[two])?;
+    Ok(share.size())
+}
+
+// What is done with a pair that took its steps.
+#[derive(Clone, Copy)]
+enum Then {
+    Nothing,
+    // There is one key until a remove that observed the dot, which is prepared, is in place.
+    Prepared(Dot),
+    // A share of the store has one key, also once the dot is written at b.
+    Shared(Dot),
+}
+
+fn is_so(alloc: Global, live: &mut LivePair, then: Then) -> Result<bool, Refusal> {
+    match then {
+        Then::Nothing => Ok(true),
+        Then::Prepared(one) => Ok(size_before(alloc, live, one)? == 1),
+        Then::Shared(two) => Ok(size_of_share(alloc, live, two)? == 1),
+    }
+}
+
+// Whether this pair, to which nothing happened, is as wanted after these steps and that.
+fn is_given(
+    rt: &impl Abort,
+    alloc: Global,
+    live: &mut LivePair,
+    steps: &[Step],
+    then: Then,
+    wanted: &Wanted,
+) -> Result<bool, Refusal> {
+    take_all(rt, alloc, live, steps)?;
+    let is_so = is_so(alloc, live, then)?;
+    Ok(is_as_wanted(alloc, live, wanted)? && is_so)
+}
+
+// The same of a new pair.
+fn gives_then(
+    rt: &impl Abort,
+    alloc: Global,
+    steps: &[Step],
+    then: Then,
+    wanted: &Wanted,
+) -> Result<bool, Refusal> {
+    let mut live: LivePair = Live::new(alloc, Fnv1a);
+    is_given(rt, alloc, &mut live, steps, then, wanted)
+}
+
 // Whether the pair of these steps is as wanted.
 fn gives(rt: &impl Abort, alloc: Global, steps: &[Step], wanted: &Wanted) -> Result<bool, Refusal> {
-    let live = made_by(rt, alloc, steps)?;
-    Ok(
-        live.store().size() == wanted.size
-            && are_known_as_wanted(&live, wanted)
-            && stand_as_wanted(alloc, &live, wanted)?,
-    )
+    gives_then(rt, alloc, steps, Then::Nothing, wanted)
 }
 
 // Whether the pair of these steps has so many keys.
@@ -214,51 +283,32 @@ fn the_last_number_of_the_last_name_can_be_removed(rt: HostRuntime) -> Result<()
     Ok(())
 }
 
-// The pair with the dot at the key a.
-fn with_one(alloc: Global, one: Dot) -> Result<LivePair, Refusal> {
-    let mut live = Live::new(alloc, Fnv1a);
-    write_at(alloc, &mut live, b"a", one, &[one])?;
-    Ok(live)
-}
-
-// Prepares a remove and puts it in place, and answers how many keys there were just before.
-fn size_before(alloc: Global, live: &mut LivePair, one: Dot) -> Result<u64, Refusal> {
-    let delta = removed(alloc, &[one])?;
-    let next = live.prepare(alloc, &delta)?;
-    let size = live.store().size();
-    live.commit(next);
-    Ok(size)
-}
-
-// How many keys there are when a remove is prepared, and when it is in place.
-fn prepared(alloc: Global, one: Dot) -> Result<(u64, u64), Refusal> {
-    let mut live = with_one(alloc, one)?;
-    let before = size_before(alloc, &mut live, one)?;
-    Ok((before, live.store().size()))
+// Whether the pair with the dot at the key a has so many keys after that.
+fn counts_then(
+    rt: &impl Abort,
+    alloc: Global,
+    one: Dot,
+    then: Then,
+    size: u64,
+) -> Result<bool, Refusal> {
+    let wanted = Wanted {
+        size,
+        standing: &[],
+        known: &[],
+    };
+    gives_then(rt, alloc, &[Step::Write(b'a', one)], then, &wanted)
 }
 
 #[test]
 fn a_prepared_pair_changes_nothing_before_it_is_put_in_place(rt: HostRuntime) -> Result<(), Fail> {
-    assert!(rt; prepared(rt.alloc(), dot(&rt, 1, 1))? == (1, 0));
+    let one = dot(&rt, 1, 1);
+    assert!(rt; counts_then(&rt, rt.alloc(), one, Then::Prepared(one), 0)?);
     Ok(())
-}
-
-// How many keys a share of the store has once the dot is written at b.
-fn size_of_share(alloc: Global, live: &mut LivePair, two: Dot) -> Result<u64, Refusal> {
-    let share = live.store().share()?;
-    write_at(alloc, live, b"b", two, &[two])?;
-    Ok(share.size())
-}
-
-// How many keys the share has then, and how many the pair has.
-fn shared(alloc: Global, one: Dot, two: Dot) -> Result<(u64, u64), Refusal> {
-    let mut live = with_one(alloc, one)?;
-    let size = size_of_share(alloc, &mut live, two)?;
-    Ok((size, live.store().size()))
 }
 
 #[test]
 fn a_share_stays_what_it_was(rt: HostRuntime) -> Result<(), Fail> {
-    assert!(rt; shared(rt.alloc(), dot(&rt, 1, 1), dot(&rt, 2, 1))? == (1, 2));
+    let (one, two) = (dot(&rt, 1, 1), dot(&rt, 2, 1));
+    assert!(rt; counts_then(&rt, rt.alloc(), one, Then::Shared(two), 2)?);
     Ok(())
 }

@@ -1,5 +1,5 @@
 // A store that is kept as a trie, through the calls of every dot store.
-use crate::made::{context_of, dot, write_at};
+use crate::made::{LiveSets, context_of, dot, write_at};
 use causal_context::Context;
 use dot_store::{DotMap, DotSet, DotStore};
 use dots::{Dot, Key, Refusal};
@@ -11,15 +11,9 @@ use std::process::Abort;
 use std::test::Fail;
 use trie_map::TrieMap;
 
-type Sets<H> = TrieMap<DotSet, NoSummary, H>;
+type Sets = TrieMap<DotSet, NoSummary, Fnv1a>;
 
-// The store with these two dots, at the keys a and b.
-fn of_two(alloc: Global, one: Dot, two: Dot) -> Result<Sets<Fnv1a>, Refusal> {
-    let mut live: Live<DotSet> = Live::new(alloc, Fnv1a);
-    write_at(alloc, &mut live, b"a", one, &[one])?;
-    write_at(alloc, &mut live, b"b", two, &[two])?;
-    live.store().share()
-}
+type LivePair = LiveSets<Fnv1a, Global>;
 
 // Whether the dots of the store are these.
 fn are_its_dots<S: DotStore<Global>>(
@@ -58,17 +52,10 @@ fn is_inside<S: DotStore<Global>>(alloc: Global, store: &S, dots: &[Dot]) -> Res
     Ok(store.is_inside(&context))
 }
 
-// Whether the store of two has just its dots, and is not inside the context of the first.
-fn is_of_two(rt: &impl Abort, alloc: Global) -> Result<bool, Refusal> {
-    let (one, two) = (dot(rt, 1, 1), dot(rt, 1, 2));
-    let store = of_two(alloc, one, two)?;
-    Ok(has_just(alloc, &store, &[one, two], dot(rt, 1, 3))? && !is_inside(alloc, &store, &[one])?)
-}
-
-#[test]
-fn a_store_has_the_dots_that_were_put(rt: HostRuntime) -> Result<(), Fail> {
-    assert!(rt; is_of_two(&rt, rt.alloc())?);
-    Ok(())
+// Whether a store of two has just its dots, and is not inside the context of the first.
+fn is_of_two(alloc: Global, store: &Sets, one: Dot, two: Dot, other: Dot) -> Result<bool, Refusal> {
+    let is_inside_of_one = is_inside(alloc, store, &[one])?;
+    Ok(has_just(alloc, store, &[one, two], other)? && !is_inside_of_one)
 }
 
 // Whether a copy of the store is the same.
@@ -83,18 +70,6 @@ fn is_not_empty<S: DotStore<Global>>(alloc: Global, store: &S) -> bool {
     empty.is_empty() && !empty.same(store) && !store.same(&empty)
 }
 
-// Whether the store of two is its copy, and not the empty one.
-fn copies(rt: &impl Abort, alloc: Global) -> Result<bool, Refusal> {
-    let store = of_two(alloc, dot(rt, 1, 1), dot(rt, 1, 2))?;
-    Ok(is_not_empty(alloc, &store) && is_its_copy(alloc, &store)?)
-}
-
-#[test]
-fn a_copy_is_the_same_store(rt: HostRuntime) -> Result<(), Fail> {
-    assert!(rt; copies(&rt, rt.alloc())?);
-    Ok(())
-}
-
 // The join of the store, which knows the first dots, with an empty one that knows the others.
 fn joined<S: DotStore<Global>>(
     alloc: Global,
@@ -107,76 +82,45 @@ fn joined<S: DotStore<Global>>(
 }
 
 // The same of one store, by the dots.
-fn joined_with(
-    alloc: Global,
-    store: &Sets<Fnv1a>,
-    own: &[Dot],
-    theirs: &[Dot],
-) -> Result<Sets<Fnv1a>, Refusal> {
+fn joined_with(alloc: Global, store: &Sets, own: &[Dot], theirs: &[Dot]) -> Result<Sets, Refusal> {
     let own = context_of(alloc, own)?;
     let theirs = context_of(alloc, theirs)?;
     joined(alloc, store, &own, &theirs)
 }
 
 // Whether the second dot alone is left of two, where the other side knows the first.
-fn is_one_left(alloc: Global, one: Dot, two: Dot) -> Result<bool, Refusal> {
-    let store = of_two(alloc, one, two)?;
-    let left = joined_with(alloc, &store, &[one, two], &[one])?;
+fn is_one_left(alloc: Global, store: &Sets, one: Dot, two: Dot) -> Result<bool, Refusal> {
+    let left = joined_with(alloc, store, &[one, two], &[one])?;
     Ok(left.size() == 1 && has_just(alloc, &left, &[two], one)?)
 }
 
 // Whether both are left where it knows none.
-fn are_both_left(alloc: Global, one: Dot, two: Dot) -> Result<bool, Refusal> {
-    let store = of_two(alloc, one, two)?;
-    let left = joined_with(alloc, &store, &[one, two], &[])?;
-    Ok(left.same(&store))
-}
-
-#[test]
-fn a_join_takes_out_just_what_the_other_side_removed(rt: HostRuntime) -> Result<(), Fail> {
-    let (one, two) = (dot(&rt, 1, 1), dot(&rt, 1, 2));
-    assert!(rt; is_one_left(rt.alloc(), one, two)?);
-    assert!(rt; are_both_left(rt.alloc(), one, two)?);
-    Ok(())
+fn are_both_left(alloc: Global, store: &Sets, one: Dot, two: Dot) -> Result<bool, Refusal> {
+    let left = joined_with(alloc, store, &[one, two], &[])?;
+    Ok(left.same(store))
 }
 
 // The join of an empty store that knows no dot with this one, which knows these.
-fn taken_in(
-    alloc: Global,
-    store: &Sets<Fnv1a>,
-    theirs: &Context<Global>,
-) -> Result<Sets<Fnv1a>, Refusal> {
-    let empty: Sets<Fnv1a> = TrieMap::new(alloc, Fnv1a);
+fn taken_in(alloc: Global, store: &Sets, theirs: &Context<Global>) -> Result<Sets, Refusal> {
+    let empty: Sets = TrieMap::new(alloc, Fnv1a);
     let own = Context::new(alloc);
     empty.join(alloc, &own, store, theirs)
 }
 
 // Whether that is the same store, of two keys.
-fn is_taken_in(alloc: Global, store: &Sets<Fnv1a>, dots: &[Dot]) -> Result<bool, Refusal> {
+fn is_taken_in(alloc: Global, store: &Sets, dots: &[Dot]) -> Result<bool, Refusal> {
     let theirs = context_of(alloc, dots)?;
     let both = taken_in(alloc, store, &theirs)?;
     Ok(both.same(store) && both.frozen().size() == 2)
 }
 
-fn takes_in_two(alloc: Global, one: Dot, two: Dot) -> Result<bool, Refusal> {
-    let store = of_two(alloc, one, two)?;
-    is_taken_in(alloc, &store, &[one, two])
-}
-
-#[test]
-fn a_join_takes_in_what_only_the_other_side_has(rt: HostRuntime) -> Result<(), Fail> {
-    assert!(rt; takes_in_two(rt.alloc(), dot(&rt, 1, 1), dot(&rt, 1, 2))?);
-    Ok(())
-}
-
-// The pair of forty keys, the dot of a key's number plus one at each.
-fn of_forty(rt: &impl Abort, alloc: Global) -> Result<Live<DotSet>, Refusal> {
-    let mut live: Live<DotSet> = Live::new(alloc, Fnv1a);
+// Puts forty keys, the dot of a key's number plus one at each.
+fn put_forty(rt: &impl Abort, alloc: Global, live: &mut LivePair) -> Result<(), Refusal> {
     for number in 0..40u8 {
         let one = dot(rt, 1, number as u64 + 1);
-        write_at(alloc, &mut live, &[number], one, &[one])?;
+        write_at(alloc, live, &[number], one, &[one])?;
     }
-    Ok(live)
+    Ok(())
 }
 
 // Whether each key of the map is at its place with its dot.
@@ -190,15 +134,88 @@ fn are_placed(rt: &impl Abort, map: &DotMap<Key, DotSet>) -> bool {
     placed
 }
 
-// How many keys the map in order has, and whether each is at its place with its dot.
-fn in_order(rt: &impl Abort, alloc: Global) -> Result<(usize, bool), Refusal> {
-    let live = of_forty(rt, alloc)?;
-    let map = live.store().to_map(alloc)?;
-    Ok((map.entries().len(), are_placed(rt, &map)))
+// Whether the map in order has forty keys, and each is at its place with its dot.
+fn is_in_order(rt: &impl Abort, alloc: Global, store: &Sets) -> Result<bool, Refusal> {
+    let map = store.to_map(alloc)?;
+    Ok(map.entries().len() == 40 && are_placed(rt, &map))
+}
+
+// What is seen of a store.
+#[derive(Clone, Copy)]
+enum Case {
+    // Of two dots, at the keys a and b: it has them, and its copy and joins are what they have to be.
+    Dots,
+    Copy,
+    Left,
+    TakenIn,
+    // Of forty keys, in order.
+    Forty,
+}
+
+// Whether it is so of a store of these two dots.
+fn is_so_of_two(
+    alloc: Global,
+    store: &Sets,
+    one: Dot,
+    two: Dot,
+    other: Dot,
+    case: Case,
+) -> Result<bool, Refusal> {
+    match case {
+        Case::Dots => is_of_two(alloc, store, one, two, other),
+        Case::Copy => Ok(is_not_empty(alloc, store) && is_its_copy(alloc, store)?),
+        Case::Left => {
+            let is_left = is_one_left(alloc, store, one, two)?;
+            Ok(are_both_left(alloc, store, one, two)? && is_left)
+        }
+        _ => is_taken_in(alloc, store, &[one, two]),
+    }
+}
+
+// Whether it is so of the store of this pair, which has no key.
+fn is_so(rt: &impl Abort, alloc: Global, live: &mut LivePair, case: Case) -> Result<bool, Refusal> {
+    if matches!(case, Case::Forty) {
+        put_forty(rt, alloc, live)?;
+        return is_in_order(rt, alloc, live.store());
+    }
+    let (one, two) = (dot(rt, 1, 1), dot(rt, 1, 2));
+    write_at(alloc, live, b"a", one, &[one])?;
+    write_at(alloc, live, b"b", two, &[two])?;
+    is_so_of_two(alloc, live.store(), one, two, dot(rt, 1, 3), case)
+}
+
+// The same of a new pair.
+fn holds(rt: &impl Abort, alloc: Global, case: Case) -> Result<bool, Refusal> {
+    let mut live: LivePair = Live::new(alloc, Fnv1a);
+    is_so(rt, alloc, &mut live, case)
+}
+
+#[test]
+fn a_store_has_the_dots_that_were_put(rt: HostRuntime) -> Result<(), Fail> {
+    assert!(rt; holds(&rt, rt.alloc(), Case::Dots)?);
+    Ok(())
+}
+
+#[test]
+fn a_copy_is_the_same_store(rt: HostRuntime) -> Result<(), Fail> {
+    assert!(rt; holds(&rt, rt.alloc(), Case::Copy)?);
+    Ok(())
+}
+
+#[test]
+fn a_join_takes_out_just_what_the_other_side_removed(rt: HostRuntime) -> Result<(), Fail> {
+    assert!(rt; holds(&rt, rt.alloc(), Case::Left)?);
+    Ok(())
+}
+
+#[test]
+fn a_join_takes_in_what_only_the_other_side_has(rt: HostRuntime) -> Result<(), Fail> {
+    assert!(rt; holds(&rt, rt.alloc(), Case::TakenIn)?);
+    Ok(())
 }
 
 #[test]
 fn the_map_of_forty_keys_is_in_their_order(rt: HostRuntime) -> Result<(), Fail> {
-    assert!(rt; in_order(&rt, rt.alloc())? == (40, true));
+    assert!(rt; holds(&rt, rt.alloc(), Case::Forty)?);
     Ok(())
 }

@@ -148,20 +148,22 @@ fn opens(
     )
 }
 
+// The digest that these bytes begin with. BadLine stands for too few bytes.
+fn digest_at(bytes: &[u8]) -> Result<[u8; 32], Refusal> {
+    let digest = bytes.first_chunk::<32>().ok_or(Refusal::BadLine)?;
+    Ok(*digest)
+}
+
+// Whether the opening with a root digest has its bytes.
+fn opens_with_root(rt: &impl Abort, alloc: Global) -> Result<bool, Refusal> {
+    let root = digest_at(&OPENING_WITH_ROOT[59..])?;
+    opens(rt, alloc, &[(2, 1), (2, 2)], Some(root), &OPENING_WITH_ROOT)
+}
+
 #[test]
 fn openings_have_these_bytes(rt: HostRuntime) -> Result<(), Fail> {
-    let alloc = rt.alloc();
-    assert!(rt; opens(&rt, alloc, &[(1, 1)], None, &OPENING)?);
-    let root = *OPENING_WITH_ROOT[59..].first_chunk::<32>().ok_or("32")?;
-    assert!(rt;
-        opens(
-            &rt,
-            alloc,
-            &[(2, 1), (2, 2)],
-            Some(root),
-            &OPENING_WITH_ROOT
-        )?
-    );
+    assert!(rt; opens(&rt, rt.alloc(), &[(1, 1)], None, &OPENING)?);
+    assert!(rt; opens_with_root(&rt, rt.alloc())?);
     Ok(())
 }
 
@@ -242,13 +244,17 @@ fn sends_branch(
     )
 }
 
+// Whether the page of its two children has its bytes.
+fn sends_two(rt: &impl Abort, alloc: Global) -> Result<bool, Refusal> {
+    let first = digest_at(&BRANCH[38..])?;
+    let second = digest_at(&BRANCH[71..])?;
+    sends_branch(rt, alloc, first, second)
+}
+
 #[test]
 fn pages_have_these_bytes(rt: HostRuntime) -> Result<(), Fail> {
-    let alloc = rt.alloc();
-    assert!(rt; sends_b(&rt, alloc)?);
-    let first = *BRANCH[38..].first_chunk::<32>().ok_or("32")?;
-    let second = *BRANCH[71..].first_chunk::<32>().ok_or("32")?;
-    assert!(rt; sends_branch(&rt, alloc, first, second)?);
+    assert!(rt; sends_b(&rt, rt.alloc())?);
+    assert!(rt; sends_two(&rt, rt.alloc())?);
     Ok(())
 }
 
@@ -475,8 +481,9 @@ fn is_branch_with_a_value(alloc: Global) -> Result<bool, Refusal> {
 // A key without a field, a field without a dot, and a branch with a value.
 #[test]
 fn what_a_page_cannot_have_makes_no_message(rt: HostRuntime) -> Result<(), Fail> {
-    assert!(rt; !is_cut(rt.alloc(), &KEY, 44, &[0; 8])?);
-    assert!(rt; !is_cut(rt.alloc(), &KEY, 54, &[0; 8])?);
+    for at in [44, 54] {
+        assert!(rt; !is_cut(rt.alloc(), &KEY, at, &[0; 8])?, "cut at {at}");
+    }
     assert!(rt; !is_branch_with_a_value(rt.alloc())?);
     Ok(())
 }

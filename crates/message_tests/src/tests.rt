@@ -2,7 +2,7 @@
 ghost use Rattle.std.specs.Prelude.{◌<◌};
 
 use causal_context::Context;
-use causal_join::{OrMap, OrMapStore};
+use causal_join::{Fields, OrMap, OrMapStore};
 use dot_store::{DotFun, DotMap, DotStore};
 use dots::{Dot, Field, Key, Name, Refusal, Value};
 use hash_path::Prefix;
@@ -182,84 +182,58 @@ fn written(alloc: Global, dot: Dot, value: &[u8]) -> Result<DotFun<Value>, Refus
     Ok(values)
 }
 
-// The store with these values at this field alone.
-fn at_field(
+// Puts this value under this dot at the field of the key a.
+fn put_at(
     alloc: Global,
-    field: Field,
-    values: DotFun<Value>,
-) -> Result<DotMap<Field, DotFun<Value>>, Refusal> {
-    let mut fields = DotMap::empty(alloc);
+    store: &mut OrMapStore,
+    field: &[u8],
+    dot: Dot,
+    value: &[u8],
+) -> Result<(), Refusal> {
+    let field = Field::new(alloc, field)?;
+    let key = Key::new(alloc, b"a")?;
+    let values = written(alloc, dot, value)?;
+    let mut fields = Fields::empty(alloc);
     fields.insert(field, values)?;
-    Ok(fields)
+    store.insert(key, fields)
 }
 
-// The store with these fields at the key alone.
-fn at_key(
-    alloc: Global,
-    key: Key,
-    fields: DotMap<Field, DotFun<Value>>,
-) -> Result<OrMapStore, Refusal> {
+// The store with that alone.
+fn holding(alloc: Global, field: &[u8], dot: Dot, value: &[u8]) -> Result<OrMapStore, Refusal> {
     let mut store = DotMap::empty(alloc);
-    store.insert(key, fields)?;
+    put_at(alloc, &mut store, field, dot, value)?;
     Ok(store)
 }
 
-// The store with these values at this field of the key a.
-fn holding(alloc: Global, field: &[u8], values: DotFun<Value>) -> Result<OrMapStore, Refusal> {
-    let field = Field::new(alloc, field)?;
-    let fields = at_field(alloc, field, values)?;
-    let key = Key::new(alloc, b"a")?;
-    at_key(alloc, key, fields)
-}
-
-// The delta of this store, if no dot of it is outside the context of these.
+// The delta of that, if the context of these dots has the dot.
 fn delta(
     rt: &impl Abort,
     alloc: Global,
-    store: OrMapStore,
+    field: &[u8],
+    dot: Dot,
+    value: &[u8],
     dots: &[(u64, u64)],
 ) -> Result<Option<Message>, Refusal> {
     let context = known(rt, alloc, dots)?;
+    let store = holding(alloc, field, dot, value)?;
     Ok(Message::delta(store, context))
 }
 
-// The delta of x at this field of the key a, under the first dot of replica 1, if the context of these dots has it.
-fn first_write(
-    rt: &impl Abort,
-    alloc: Global,
-    field: &[u8],
-    dots: &[(u64, u64)],
-) -> Result<Option<Message>, Refusal> {
-    let values = written(alloc, dot(rt, 1, 1), b"x")?;
-    let store = holding(alloc, field, values)?;
-    delta(rt, alloc, store, dots)
-}
-
-// Whether the first write of replica 1 at this field is encoded as these bytes, and belongs to no session.
+// Whether the first write of replica 1, x at this field, is encoded as these bytes, and belongs to no session.
 fn is_first_write(
     rt: &impl Abort,
     alloc: Global,
     field: &[u8],
     bytes: &[u8],
 ) -> Result<bool, Refusal> {
-    is_sent(
-        alloc,
-        first_write(rt, alloc, field, &[(1, 1)])?,
-        None,
-        bytes,
-    )
+    let made = delta(rt, alloc, field, dot(rt, 1, 1), b"x", &[(1, 1)])?;
+    is_sent(alloc, made, None, bytes)
 }
 
 // Whether the second write of replica 2, over the first of replica 1, has its bytes.
 fn is_overwritten(rt: &impl Abort, alloc: Global) -> Result<bool, Refusal> {
-    let values = written(alloc, dot(rt, 2, 2), b"z")?;
-    let store = holding(alloc, b"f", values)?;
-    is_sent(
-        alloc,
-        delta(rt, alloc, store, &[(1, 1), (2, 2)])?,
-        None,
-        &OVERWRITTEN_FIELD,
-    )
+    let made = delta(rt, alloc, b"f", dot(rt, 2, 2), b"z", &[(1, 1), (2, 2)])?;
+    is_sent(alloc, made, None, &OVERWRITTEN_FIELD)
 }
 
 #[test]
@@ -316,7 +290,7 @@ fn a_part_of_a_message_or_a_longer_one_is_none(rt: HostRuntime) -> Result<(), Fa
 
 // Whether the first write makes a message where no dot is known.
 fn is_sent_unknown(rt: &impl Abort, alloc: Global) -> Result<bool, Refusal> {
-    Ok(is_there(first_write(rt, alloc, b"", &[])?))
+    Ok(is_there(delta(rt, alloc, b"", dot(rt, 1, 1), b"x", &[])?))
 }
 
 #[test]
@@ -349,33 +323,34 @@ pub(crate) fn is_of(alloc: Global, version: u8, kind: u8, body: &[u8]) -> Result
     is_spelled(alloc, &[[version, kind].as_slice(), body])
 }
 
+// Whether a body of a delta or of the hello is a message in this version.
+fn is_of_version(alloc: Global, version: u8) -> Result<bool, Refusal> {
+    let has_value = is_of(alloc, version, 1, &ONE_VALUE[2..])?;
+    let has_field = is_of(alloc, version, 1, &ONE_FIELD[2..])?;
+    let greets = is_of(alloc, version, 3, &HELLO[2..])?;
+    Ok(has_value || has_field || greets)
+}
+
 #[test]
 fn no_other_version_is_a_message(rt: HostRuntime) -> Result<(), Fail> {
-    let alloc = rt.alloc();
     for version in [0, 2, 4, 255] {
-        assert!(rt;
-            !is_of(alloc, version, 1, &ONE_VALUE[2..])?,
-            "version {version}"
-        );
-        assert!(rt;
-            !is_of(alloc, version, 1, &ONE_FIELD[2..])?,
-            "version {version}"
-        );
-        assert!(rt;
-            !is_of(alloc, version, 3, &HELLO[2..])?,
-            "version {version}"
-        );
+        assert!(rt; !is_of_version(rt.alloc(), version)?, "version {version}");
     }
     Ok(())
 }
 
+// Whether the body of a delta or of the hello, or none, is a message of this kind.
+fn is_of_kind(alloc: Global, kind: u8) -> Result<bool, Refusal> {
+    let has_value = is_of(alloc, 1, kind, &ONE_VALUE[2..])?;
+    let greets = is_of(alloc, 3, kind, &HELLO[2..])?;
+    let has_none = is_of(alloc, 3, kind, &[])?;
+    Ok(has_value || greets || has_none)
+}
+
 #[test]
 fn no_other_kind_is_a_message(rt: HostRuntime) -> Result<(), Fail> {
-    let alloc = rt.alloc();
     for kind in [0, 2, 4, 5, 6, 7, 255] {
-        assert!(rt; !is_of(alloc, 1, kind, &ONE_VALUE[2..])?, "kind {kind}");
-        assert!(rt; !is_of(alloc, 3, kind, &HELLO[2..])?, "kind {kind}");
-        assert!(rt; !is_of(alloc, 3, kind, &[])?, "kind {kind}");
+        assert!(rt; !is_of_kind(rt.alloc(), kind)?, "kind {kind}");
     }
     Ok(())
 }
@@ -518,7 +493,7 @@ fn knows_one_apart(context: &Context) -> bool {
 }
 
 fn is_one_apart(delta: &OrMap) -> bool {
-    delta.store().is_empty() && knows_one_apart(delta.context())
+    delta.store().entries().len() == 0 && knows_one_apart(delta.context())
 }
 
 fn is_page_at(sent: &SentPage, prefix: Prefix) -> bool {

@@ -1,3 +1,4 @@
 pub mod Stepping
 pub mod Inboxes
 pub mod Twice
+pub mod Crossing

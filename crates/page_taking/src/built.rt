@@ -7,13 +7,14 @@ ghost use Rattle.page_taking.specs.Building.{GoesOn};
 use crate::clearing::clear_for;
 use crate::draft::Draft;
 use crate::putting::put_all;
+use causal_join::Fields;
 use dots::{Key, Refusal};
 use gen_trie::{Frozen, NoSummary};
 use hash_path::PathHash;
 use prefix_digest::FrozenMap;
 use std::alloc::{Allocator, Global};
 use std::marker::Model;
-use wire_form::{Fields, SentPage};
+use wire_form::SentPage;
 
 /// A set of keys, which shares its nodes with the sets that it comes from.
 pub type KeySet<H, A = Global> = Frozen<(), NoSummary, H, A>;

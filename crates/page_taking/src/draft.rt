@@ -4,13 +4,13 @@ ghost use Rattle.sync_model.specs.Fetch.{put_entry};
 ghost use Rattle.page_taking.specs.Building.{GoesOn};
 
 use crate::built::{Built, KeySet};
+use causal_join::Fields;
 use dots::{Key, Refusal};
 use gen_trie::{GenTrie, NoSummary};
 use hash_path::PathHash;
 use prefix_digest::{FrozenMap, ShaSummary};
 use std::alloc::{Allocator, Global};
 use std::marker::Model;
-use wire_form::Fields;
 
 // What is made of what was built so far, key by key, while that stays as it is.
 #[derive(Drop)]

@@ -12,12 +12,13 @@ ghost use Rattle.sync_model.specs.Fetch.{entries_of};
 ghost use Rattle.page_taking.specs.Adding.{made_of, Adds, fill_dot};
 
 use causal_context::Context;
-use dot_store::{DotFun, DotMap, DotStore};
+use causal_join::Fields;
+use dot_store::{DotFun, DotStore};
 use dots::{Dot, Field, Key, Refusal, Value};
 use hash_path::PathHash;
 use prefix_digest::{FrozenMap, value_digest};
 use std::alloc::Allocator;
-use wire_form::{Fields, NamedFields, Names, Page};
+use wire_form::{NamedFields, Names, Page};
 
 // What is held at a dot of a field.
 fn held_at<'a, A: Allocator + Copy>(
@@ -162,7 +163,7 @@ fn fill_named<A: Allocator + Copy>(
             return Ok(None);
         }
     }
-    match DotMap::from_entries(fields) {
+    match Fields::from_entries(fields) {
         Some(fields) => Ok(Some(fields)),
         None => unreachable!(),
     }

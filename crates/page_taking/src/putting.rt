@@ -4,10 +4,10 @@ ghost use Rattle.sync_model.specs.Fetch.{put_entries};
 ghost use Rattle.page_taking.specs.Building.{GoesOn};
 
 use crate::draft::Draft;
+use causal_join::Fields;
 use dots::{Key, Refusal};
 use hash_path::PathHash;
 use std::alloc::Allocator;
-use wire_form::Fields;
 
 // Puts these entries, the last of them first.
 pub(crate) fn put_all<H: PathHash, A: Allocator + Copy>(

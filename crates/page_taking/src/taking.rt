@@ -19,11 +19,12 @@ use crate::fitting::{fits, to_ask};
 use crate::taken::Taken;
 use crate::waiting::{next_waiting, promised};
 use causal_context::Context;
+use causal_join::Fields;
 use dots::{Key, Refusal};
 use hash_path::{PathHash, Prefix};
 use prefix_digest::{FrozenMap, digest_of};
 use std::alloc::Allocator;
-use wire_form::{Fields, Page, SentPage};
+use wire_form::{Page, SentPage};
 
 // Whether the digest of a page is the one that was promised.
 fn is_promised<A: Allocator + Copy>(digest: &[u8; 32], page: &Page<A>) -> bool

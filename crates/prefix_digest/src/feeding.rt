@@ -7,11 +7,11 @@ ghost use Rattle.prefix_digest.specs.Page.{named_values, named_fields, named_ent
 ghost use Rattle.prefix_digest.specs.Taking.{Takes};
 
 use crate::naming::value_digest;
+use causal_join::Fields;
 use dot_store::DotFun;
 use dots::{Dot, Value};
 use sha2::{Digest, Sha256};
 use std::alloc::Allocator;
-use wire_form::Fields;
 
 pub(crate) fn feed_number(hasher: &mut Sha256, value: u64)
     ensures { Takes hasher.old hasher.new (number value) }

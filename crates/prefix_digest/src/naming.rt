@@ -5,12 +5,13 @@ ghost use Rattle.std.specs.Map.{keys_of};
 ghost use Rattle.sha2.specs.Sha256.{sha256};
 ghost use Rattle.prefix_digest.specs.Page as page;
 
+use causal_join::Fields;
 use dot_store::DotFun;
 use dots::{Refusal, Value};
 use ordered_list::OrderedList;
 use sha2::{Digest, Sha256};
 use std::alloc::Allocator;
-use wire_form::{Fields, NamedFields, Names};
+use wire_form::{NamedFields, Names};
 
 /// The name of a value in pages: the SHA-256 of its bytes. Takes no memory.
 pub fn value_digest<A: Allocator>(value: &Value<A>) -> [u8; 32]

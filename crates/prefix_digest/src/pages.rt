@@ -11,12 +11,13 @@ ghost use Rattle.prefix_digest.specs.Page.{named_entry, named_entries, page_at, 
 use crate::naming::named_fields;
 use crate::sha_summary::ShaSummary;
 use crate::told::{DEPTHS, Told, look_under};
+use causal_join::Fields;
 use dots::{Key, Refusal};
 use gen_trie::Frozen;
 use hash_path::{PathHash, Prefix};
 use sha2::{Digest, Sha256};
 use std::alloc::{Allocator, Global};
-use wire_form::{Fields, Page};
+use wire_form::Page;
 
 /// The snapshot of a map from keys to fields, each with dots and values, whose nodes keep digests.
 pub type FrozenMap<H, A = Global> = Frozen<Fields<A>, ShaSummary, H, A>;

@@ -2,13 +2,11 @@ ghost use Rattle.std.specs.Prelude.{◌≡◌};
 ghost use Rattle.hash_path.specs.Fan.{Rise};
 
 use crate::feeding::feed_entry;
-use dot_store::{DotFun, DotMap};
-use dots::{Field, Value};
+use causal_join::Fields;
 use gen_trie::{Children, Entry, Summary};
 use sha2::{Digest, Sha256};
 use std::alloc::Allocator;
 use std::sync::Arc;
-use wire_form::Fields;
 
 /// The digest of a page: the SHA-256 (FIPS 180-4) of its bytes, which are fed to the hasher piece by piece, so that it takes
 /// no memory.
@@ -26,7 +24,7 @@ impl ShaSummary {
     }
 }
 
-impl<A: Allocator + Copy> Summary<DotMap<Field<A>, DotFun<Value<A>, A>, A>> for ShaSummary {
+impl<A: Allocator + Copy> Summary<Fields<A>> for ShaSummary {
     ghost use Rattle.prefix_digest.specs.Summary.{sha_calls};
 
     ghost calls = { sha_calls };

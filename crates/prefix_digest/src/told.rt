@@ -3,10 +3,10 @@ ghost use Rattle.hash_path.specs.Map.{walk_under};
 ghost use Rattle.prefix_digest.specs.Told.{Tells};
 
 use crate::pages::FrozenMap;
+use causal_join::Fields;
 use dots::Key;
 use hash_path::{PathHash, Prefix};
 use std::alloc::Allocator;
-use wire_form::Fields;
 
 // How many indices a path has: past the last of them no page is a branch.
 pub(crate) const DEPTHS: u32 = 7;

@@ -7,11 +7,11 @@ ghost use Rattle.prefix_digest.specs.Values.{unknown_in_values, unknown_in_field
 use crate::pages::FrozenMap;
 use crate::told::{DEPTHS, Told, look_under};
 use causal_context::Context;
+use causal_join::Fields;
 use dot_store::DotFun;
 use dots::{Dot, Refusal, Value};
 use hash_path::{PathHash, Prefix};
 use std::alloc::Allocator;
-use wire_form::Fields;
 
 /// The values that the page of a map at a prefix names, of those dots that are not known: in the order of keys, fields and
 /// dots. A page that is a branch names none. Takes memory in these values, and time in the values of the page.

@@ -5,7 +5,7 @@ ghost use Rattle.op_model.specs.Meaning.{HoldsKey};
 ghost use Rattle.replica_model.specs.Replica.{fresh};
 ghost use Rattle.replica_core.specs.Meaning.{hash_in, meaning};
 
-use crate::sessions::copy_all;
+use crate::sessions::copy_sessions;
 use causal_context::Context;
 use delta_ops::{LiveOrMap, LiveStore, Outgoing};
 use dots::{Name, Refusal};
@@ -66,7 +66,7 @@ impl<H: PathHash, A: Allocator + Copy> Replica<H, A> {
 
     /// A replica in the same state: it holds, is to send, synchronises and keeps the same. Both make dots of one name, so at most one
     /// of the two may still write, or send what it writes. The map's nodes, the group and the snapshots are shared. Takes time and
-    /// memory in the dots that stand, with the bytes of their keys, whose index is copied, and in the contexts.
+    /// memory in the dots that the index names, with the bytes of their keys, as it is copied, and in the contexts.
     /// Its only refusal is OutOfMemory.
     pub fn copy(&self) -> Result<Replica<H, A>, Refusal>
         ensures ok { IfOk result (λ copy. meaning copy ≡ meaning self.now) }
@@ -75,7 +75,7 @@ impl<H: PathHash, A: Allocator + Copy> Replica<H, A> {
     {
         let live = self.live.copy(self.alloc)?;
         let group = self.group.copy(self.alloc)?;
-        let sessions = copy_all(self.alloc, &self.sessions)?;
+        let sessions = copy_sessions(self.alloc, &self.sessions)?;
         let answerer = self.answerer.copy(self.alloc)?;
         Ok(Replica {
             alloc: self.alloc,

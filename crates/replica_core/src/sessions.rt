@@ -43,7 +43,7 @@ pub(crate) fn place_numbered<H: PathHash, A: Allocator + Copy>(
 }
 
 // Copies of these sessions.
-pub(crate) fn copy_all<H: PathHash, A: Allocator + Copy>(
+pub(crate) fn copy_sessions<H: PathHash, A: Allocator + Copy>(
     alloc: A,
     sessions: &[Asker<H, A>],
 ) -> Result<Vec<Asker<H, A>, A>, Refusal>

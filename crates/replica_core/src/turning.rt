@@ -101,11 +101,11 @@ impl<H: PathHash, A: Allocator + Copy> Replica<H, A> {
         match step {
             Step::Sent(replies) => self.send(place, next, replies, outbox),
             Step::Done => self.close(place, next),
-            Step::Ignored => Ok(Delivered::silent(self.alloc, Outcome::Ignored)),
-            Step::Mismatch => Ok(Delivered::silent(self.alloc, Outcome::Mismatch)),
+            Step::Ignored => Ok(silent(self.alloc, next, Outcome::Ignored)),
+            Step::Mismatch => Ok(silent(self.alloc, next, Outcome::Mismatch)),
             Step::Gone => {
                 self.end(place);
-                Ok(Delivered::silent(self.alloc, Outcome::Gone))
+                Ok(silent(self.alloc, next, Outcome::Gone))
             }
         }
     }
@@ -213,4 +213,17 @@ impl<H: PathHash, A: Allocator + Copy> Replica<H, A> {
         self.live.commit(next);
         Ok(())
     }
+}
+
+// What is told without a reply of a turn whose next state is not taken.
+fn silent<H: PathHash, A: Allocator + Copy>(
+    alloc: A,
+    next: Asker<H, A>,
+    outcome: Outcome,
+) -> Delivered<A>
+    ensures outcome { result.outcome ≡ outcome }
+    ensures replies { result.replies.items ≡ [] }
+{
+    drop(next);
+    Delivered::silent(alloc, outcome)
 }

@@ -174,26 +174,37 @@ fn compare(rt: &impl Abort, alloc: Global, mine: &mut Both, yours: &Both) -> Res
     Ok(agree(rt, alloc, &mine.0, &mine.1)? && is_copied && alike)
 }
 
-// Whether two contexts, each of so many draws, agree with the plain sets, as do they and their union.
+// Whether these two, which are empty, agree with the plain sets after so many draws each, as do they and their union.
+fn agree_both(
+    rt: &impl Abort,
+    alloc: Global,
+    mine: &mut Both,
+    yours: &mut Both,
+    draws: &mut Draws,
+    round: u64,
+) -> Result<bool, Refusal> {
+    let is_mine = add_drawn(rt, alloc, mine, draws, round.saturating_mul(3))?;
+    let is_yours = add_drawn(rt, alloc, yours, draws, round.saturating_mul(2))?;
+    Ok(compare(rt, alloc, mine, yours)? && is_mine && is_yours)
+}
+
+// The same of two new ones.
 fn agree_drawn(
     rt: &impl Abort,
     alloc: Global,
     draws: &mut Draws,
-    my_count: u64,
-    your_count: u64,
+    round: u64,
 ) -> Result<bool, Refusal> {
     let mut mine = (Context::new(alloc), BTreeSet::new(alloc));
     let mut yours = (Context::new(alloc), BTreeSet::new(alloc));
-    let is_mine = add_drawn(rt, alloc, &mut mine, draws, my_count)?;
-    let is_yours = add_drawn(rt, alloc, &mut yours, draws, your_count)?;
-    Ok(compare(rt, alloc, &mut mine, &yours)? && is_mine && is_yours)
+    agree_both(rt, alloc, &mut mine, &mut yours, draws, round)
 }
 
 #[test]
 fn random_dots_are_kept_as_an_ordered_set_keeps_them(rt: HostRuntime) -> Result<(), Fail> {
     let mut draws = Draws { state: 1 };
     for round in 0..12 {
-        assert!(rt; agree_drawn(&rt, rt.alloc(), &mut draws, 3 * round, 2 * round)?);
+        assert!(rt; agree_drawn(&rt, rt.alloc(), &mut draws, round)?);
     }
     Ok(())
 }

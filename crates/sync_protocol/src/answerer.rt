@@ -3,7 +3,7 @@ ghost use Rattle.std.specs.Option.{option_map};
 ghost use Rattle.wire_form.specs.Message.{message_of};
 ghost use Rattle.sync_protocol.specs.Answering.{LIMIT, kept_after, told_of, opening_of, answer_of};
 
-use crate::keeping::{Snapshots, copy_all, keep};
+use crate::keeping::{Snapshots, copy_snapshots, keep};
 use crate::outbox::Outbox;
 use crate::snapshot::{FieldStore, Snapshot};
 use causal_context::Context;
@@ -108,7 +108,7 @@ impl<H: PathHash, A: Allocator + Copy> Answerer<H, A> {
         ensures ok { IfOk result (λ copy. copy ≡ self.now) }
         ensures err { IsOkUnless result Refusal.OutOfMemory }
     {
-        let kept = copy_all(alloc, &self.kept)?;
+        let kept = copy_snapshots(alloc, &self.kept)?;
         Ok(Answerer { kept })
     }
 }

@@ -60,14 +60,16 @@ impl<H: PathHash, A: Allocator + Copy> Asker<H, A> {
         ensures hello { IfOk result (λ opened. message_of opened.1 ≡ Hello session context.now) }
         ensures err { IsOkUnless result Refusal.OutOfMemory }
     {
-        let hello = Message::hello(session, context.copy(alloc)?);
+        let known = context.copy(alloc)?;
+        let seen = context.copy(alloc)?;
+        let own = store.frozen().copy()?;
         let asker = Asker {
             session,
-            own: store.frozen().copy()?,
-            seen: context.copy(alloc)?,
+            own,
+            seen,
             stage: Stage::Asked,
         };
-        Ok((asker, hello))
+        Ok((asker, Message::hello(session, known)))
     }
 
     /// The session.

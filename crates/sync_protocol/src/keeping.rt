@@ -71,7 +71,7 @@ pub(crate) fn keep<H: PathHash, A: Allocator + Copy>(
 }
 
 // The same snapshots, which share the nodes of their stores.
-pub(crate) fn copy_all<H: PathHash, A: Allocator + Copy>(
+pub(crate) fn copy_snapshots<H: PathHash, A: Allocator + Copy>(
     alloc: A,
     kept: &Snapshots<H, A>,
 ) -> Result<Snapshots<H, A>, Refusal>

@@ -4,13 +4,14 @@ ghost use Rattle.wire_form.specs.Message.{message_of};
 ghost use Rattle.sync_protocol.specs.Answering.{opening_of, page_of};
 
 use causal_context::Context;
+use causal_join::Fields;
 use dots::Refusal;
 use hash_path::{PathHash, Prefix};
 use prefix_digest::{ShaSummary, digest, page_value, values_for};
 use std::alloc::{Allocator, Global};
 use std::marker::Model;
 use trie_map::TrieMap;
-use wire_form::{Fields, Message, Session};
+use wire_form::{Message, Session};
 
 /// The store of a replica: what stands at each key, kept as a trie whose nodes keep digests once it is sealed.
 pub type FieldStore<H, A = Global> = TrieMap<Fields<A>, ShaSummary, H, A>;
@@ -46,10 +47,11 @@ impl<H: PathHash, A: Allocator + Copy> Snapshot<H, A> {
             record { seen = seen.now; hash = store.now.0; map = store.now.1; context = context.now }) }
         ensures err { IsOkUnless result Refusal.OutOfMemory }
     {
+        let (seen, context) = (seen.copy(alloc)?, context.copy(alloc)?);
         Ok(Snapshot {
-            seen: seen.copy(alloc)?,
+            seen,
             store: store.share()?,
-            context: context.copy(alloc)?,
+            context,
         })
     }
 

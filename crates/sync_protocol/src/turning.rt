@@ -95,8 +95,7 @@ fn begin<H: PathHash, A: Allocator + Copy>(
 {
     let begun = Fetching::begin(alloc, &asker.own, &asker.seen, context, root)?;
     let Some(fetching) = begun else {
-        let turn = stays(alloc, asker, Step::Mismatch)?;
-        return Ok(turn);
+        return stays(alloc, asker, Step::Mismatch);
     };
     let asks = asks_for(alloc, asker.session, &[Prefix::root()])?;
     let turn = go_on(alloc, asker, context, fetching, asks)?;
@@ -141,12 +140,10 @@ fn opening<H: PathHash, A: Allocator + Copy>(
     ensures err { IsOkUnless result Refusal.OutOfMemory }
 {
     if !asker.is_of(session) {
-        let turn = stays(alloc, asker, Step::Ignored)?;
-        return Ok(turn);
+        return stays(alloc, asker, Step::Ignored);
     }
     if !asker.is_asked() {
-        let turn = stays(alloc, asker, Step::Ignored)?;
-        return Ok(turn);
+        return stays(alloc, asker, Step::Ignored);
     }
     let turn = open_with(alloc, asker, context, root)?;
     Ok(turn)
@@ -166,14 +163,8 @@ fn taken<H: PathHash, A: Allocator + Copy>(
     ensures err { IsOkUnless result Refusal.OutOfMemory }
 {
     match taken {
-        Taken::Ignored => {
-            let turn = stays(alloc, asker, Step::Ignored)?;
-            Ok(turn)
-        }
-        Taken::Mismatch => {
-            let turn = stays(alloc, asker, Step::Mismatch)?;
-            Ok(turn)
-        }
+        Taken::Ignored => stays(alloc, asker, Step::Ignored),
+        Taken::Mismatch => stays(alloc, asker, Step::Mismatch),
         Taken::Took(fetching, prefixes) => {
             let asks = asks_for(alloc, asker.session, &prefixes)?;
             let turn = go_on(alloc, asker, context, fetching, asks)?;
@@ -195,12 +186,10 @@ fn page<H: PathHash, A: Allocator + Copy>(
     ensures err { IsOkUnless result Refusal.OutOfMemory }
 {
     if !asker.is_of(session) {
-        let turn = stays(alloc, asker, Step::Ignored)?;
-        return Ok(turn);
+        return stays(alloc, asker, Step::Ignored);
     }
     let Some((context, fetching)) = asker.fetching() else {
-        let turn = stays(alloc, asker, Step::Ignored)?;
-        return Ok(turn);
+        return stays(alloc, asker, Step::Ignored);
     };
     let came = fetching.take(alloc, &asker.own, &asker.seen, context, sent)?;
     let turn = taken(alloc, asker, context, came)?;
@@ -219,12 +208,10 @@ fn gone<H: PathHash, A: Allocator + Copy>(
     ensures err { IsOkUnless result Refusal.OutOfMemory }
 {
     if !asker.is_of(session) {
-        let turn = stays(alloc, asker, Step::Ignored)?;
-        return Ok(turn);
+        return stays(alloc, asker, Step::Ignored);
     }
     if asker.is_over() {
-        let turn = stays(alloc, asker, Step::Ignored)?;
-        return Ok(turn);
+        return stays(alloc, asker, Step::Ignored);
     }
     let next = asker.with_stage(alloc, Stage::Over)?;
     Ok(Turn {

@@ -1,8 +1,7 @@
 // The digests of worked maps. What is expected was computed by python3's hashlib of the pages, put together by hand.
-use crate::made::prefix_of;
-use crate::mapped::{Worked, frozen};
-use hash_path::{Fnv1a, PathHash, Prefix, SameHash};
-use prefix_digest::{FrozenMap, check, digest};
+use crate::mapped::{Asked, Worked, is_so};
+use hash_path::{Fnv1a, PathHash, SameHash};
+use prefix_digest::check;
 use std::alloc::Global;
 use std::test::Fail;
 
@@ -65,9 +64,7 @@ fn is_at<H: PathHash>(
     path: &[u32],
     wanted: Option<[u8; 32]>,
 ) -> Result<bool, Fail> {
-    let prefix = prefix_of(path).ok_or("a prefix")?;
-    let frozen = frozen(alloc, hash, map)?;
-    Ok(digest(&frozen, prefix) == wanted)
+    is_so(alloc, hash, map, path, Asked::Digest(wanted))
 }
 
 #[test]
@@ -111,15 +108,10 @@ fn what_is_left_has_the_digest_that_it_has_alone(rt: HostRuntime) -> Result<(), 
     Ok(())
 }
 
-// The digest of no keys.
-fn digest_of_none(alloc: Global) -> Option<[u8; 32]> {
-    let frozen: FrozenMap<Fnv1a> = FrozenMap::new(alloc, Fnv1a);
-    digest(&frozen, Prefix::root())
-}
-
 #[test]
-fn no_keys_have_no_digest(rt: HostRuntime) {
-    assert!(rt; digest_of_none(rt.alloc()).is_none());
+fn no_keys_have_no_digest(rt: HostRuntime) -> Result<(), Fail> {
+    assert!(rt; is_at(rt.alloc(), Fnv1a, Worked::Nothing, &[], None)?);
+    Ok(())
 }
 
 #[test]

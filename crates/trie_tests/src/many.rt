@@ -6,41 +6,25 @@ ghost use Rattle.trie_tests.specs.FewBits.{few_bits};
 use crate::made::taken;
 use dots::{Key, Refusal};
 use gen_trie::{Frozen, GenTrie, NoSummary};
-use hash_path::{Fnv1a, PathHash, index_at};
+use hash_path::{Fnv1a, PathHash};
 use std::alloc::Global;
 use std::collections::BTreeMap;
 use std::test::Fail;
 
 type Plain = BTreeMap<u64, u64, Global>;
 
-fn key_of(alloc: Global, number: u64) -> Result<Key, Refusal> {
-    Key::new(alloc, &number.to_be_bytes())
-}
-
-// Whether the two have the same at this key.
-fn same_at<H: PathHash>(
-    alloc: Global,
-    trie: &GenTrie<u64, NoSummary, H>,
-    plain: &Plain,
-    number: u64,
-) -> Result<bool, Refusal> {
-    let key = key_of(alloc, number)?;
-    Ok(trie.lookup(&key).copied() == plain.get(&number).copied())
-}
-
-// Puts one value into both, and tells whether the two had the same at its key.
+// Puts one value into both.
 fn put_both<H: PathHash>(
     alloc: Global,
     trie: &mut GenTrie<u64, NoSummary, H>,
     plain: &mut Plain,
     number: u64,
     value: u64,
-) -> Result<bool, Fail> {
-    let same = same_at(alloc, trie, plain, number)?;
-    let key = key_of(alloc, number)?;
+) -> Result<(), Fail> {
+    let key = Key::new(alloc, &number.to_be_bytes())?;
     trie.insert(key, value)?;
     plain.insert(number, value)?;
-    Ok(same)
+    Ok(())
 }
 
 // Takes a key out of both, and tells whether the two had the same there.
@@ -66,10 +50,11 @@ fn step<H: PathHash>(
     if (seed >> 20) % 4 == 0 {
         return Ok(take_both(alloc, trie, plain, number)?);
     }
-    put_both(alloc, trie, plain, number, seed)
+    put_both(alloc, trie, plain, number, seed)?;
+    Ok(true)
 }
 
-// Writes so often into both, by a linear congruential generator.
+// Writes so often into both, by a linear congruential generator, and tells whether the two had the same where keys were taken out.
 fn run<H: PathHash>(
     alloc: Global,
     trie: &mut GenTrie<u64, NoSummary, H>,
@@ -90,131 +75,62 @@ fn run<H: PathHash>(
 }
 
 // Whether the two have the same at this key.
-fn frozen_same_at<H: PathHash>(
-    alloc: Global,
-    frozen: &Frozen<u64, NoSummary, H>,
-    plain: &Plain,
-    number: u64,
-) -> Result<bool, Refusal> {
-    let key = key_of(alloc, number)?;
-    Ok(frozen.lookup(&key).copied() == plain.get(&number).copied())
+fn same_at<H: PathHash>(frozen: &Frozen<u64, NoSummary, H>, plain: &Plain, number: u64) -> bool {
+    let value = frozen.lookup_bytes(&number.to_be_bytes()).copied();
+    value == plain.get(&number).copied()
 }
 
-// Whether the two have the same at each key.
-fn agree<H: PathHash>(
-    alloc: Global,
-    frozen: &Frozen<u64, NoSummary, H>,
-    plain: &Plain,
-    keys: u64,
-) -> Result<bool, Refusal> {
-    let mut same = frozen.size() == plain.len() as u64;
+// How many keys a walk goes through.
+fn walked<H: PathHash>(frozen: &Frozen<u64, NoSummary, H>) -> usize {
+    let mut count: usize = 0;
+    for _ in frozen {
+        count = count.wrapping_add(1);
+    }
+    count
+}
+
+// Whether the two have the same at each key, and no other keys.
+fn agree<H: PathHash>(frozen: &Frozen<u64, NoSummary, H>, plain: &Plain, keys: u64) -> bool {
+    let mut same = frozen.size() == plain.len() as u64 && walked(frozen) == plain.len();
     for number in 0..keys {
-        same = frozen_same_at(alloc, frozen, plain, number)? && same;
+        same = same_at(frozen, plain, number) && same;
     }
-    Ok(same)
+    same
 }
 
-// Whether the first of two keys comes before the other, by the indices of their hashes and then by bytes.
-fn comes_before<H: PathHash>(hash: H, first: &Key, second: &Key) -> bool {
-    let a = hash.hash(first.bytes());
-    let b = hash.hash(second.bytes());
-    for depth in 0..7 {
-        if index_at(a, depth) != index_at(b, depth) {
-            return index_at(a, depth) < index_at(b, depth);
-        }
-    }
-    first.bytes() < second.bytes()
-}
-
-// Whether a plain map has the value at the number that these bytes spell.
-fn has(plain: &Plain, key: &Key, value: u64) -> bool {
-    match key.bytes().first_chunk::<8>() {
-        None => false,
-        Some(bytes) => plain.get(&u64::from_be_bytes(*bytes)) == Some(&value),
-    }
-}
-
-// Whether a frozen map walks through just what the plain map has, in order.
-fn walks_agree<H: PathHash>(hash: H, frozen: &Frozen<u64, NoSummary, H>, plain: &Plain) -> bool {
-    let mut left = plain.len();
-    let mut last: Option<&Key> = None;
-    for (key, value) in frozen {
-        if left == 0 || !has(plain, key, *value) {
-            return false;
-        }
-        if let Some(before) = last
-            && !comes_before(hash, before, key)
-        {
-            return false;
-        }
-        left -= 1;
-        last = Some(key);
-    }
-    left == 0
-}
-
-// A frozen map, and what the plain map was then.
-type Kept<H> = (Frozen<u64, NoSummary, H>, Plain);
-
-// Puts a freeze of the trie and a copy of the plain map behind the others.
-fn keep<H: PathHash>(
-    all: &mut Vec<Kept<H>>,
+// Whether a freeze has what the plain map had then, once 2,000 writes are made beside it.
+fn write_beside<H: PathHash>(
+    alloc: Global,
     trie: &mut GenTrie<u64, NoSummary, H>,
-    plain: &Plain,
-) -> Result<(), Fail> {
+    plain: &mut Plain,
+    keys: u64,
+    from: u64,
+) -> Result<bool, Fail> {
+    let then = plain.clone()?;
     let frozen = trie.freeze()?;
-    let copy = plain.clone()?;
-    all.push((frozen, copy))?;
-    Ok(())
+    let same = run(alloc, trie, plain, keys, from, 2000)?;
+    Ok(agree(&frozen, &then, keys) && same)
 }
 
-// 20,000 writes with a freeze after each 2,000, and whether the two had the same at each of their keys.
+// 22,000 writes so, and whether all that is so.
 fn write_all<H: PathHash>(
     alloc: Global,
-    all: &mut Vec<Kept<H>>,
     trie: &mut GenTrie<u64, NoSummary, H>,
     plain: &mut Plain,
     keys: u64,
 ) -> Result<bool, Fail> {
     let mut same = true;
-    for round in 1..11 {
-        same = run(alloc, trie, plain, keys, round, 2000)? && same;
-        keep(all, trie, plain)?;
+    for round in 1..12 {
+        same = write_beside(alloc, trie, plain, keys, round)? && same;
     }
     Ok(same)
 }
 
 // The same of an empty trie and an empty map.
-fn write_anew<H: PathHash>(
-    alloc: Global,
-    all: &mut Vec<Kept<H>>,
-    hash: H,
-    keys: u64,
-) -> Result<bool, Fail> {
-    let mut trie = GenTrie::new(alloc, hash);
-    let mut plain = Plain::new(alloc);
-    write_all(alloc, all, &mut trie, &mut plain, keys)
-}
-
-// Whether each frozen map is what the plain map was then.
-fn agree_then<H: PathHash>(
-    alloc: Global,
-    hash: H,
-    all: &[Kept<H>],
-    keys: u64,
-) -> Result<bool, Fail> {
-    let mut same = true;
-    for (frozen, then) in all {
-        same = agree(alloc, frozen, then, keys)? && walks_agree(hash, frozen, then) && same;
-    }
-    Ok(same)
-}
-
-// Whether the maps of all freezes, once all writes are made, are what the plain maps were then.
 fn writes_agree<H: PathHash>(alloc: Global, hash: H, keys: u64) -> Result<bool, Fail> {
-    let mut all = Vec::new(alloc);
-    let same = write_anew(alloc, &mut all, hash, keys)?;
-    Ok(agree_then(alloc, hash, &all, keys)? && same)
+    let mut plain = Plain::new(alloc);
+    let mut trie = GenTrie::new(alloc, hash);
+    write_all(alloc, &mut trie, &mut plain, keys)
 }
 
 #[test]

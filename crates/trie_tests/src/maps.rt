@@ -1,8 +1,8 @@
 // The trie and its frozen maps, by single keys.
 use crate::made::{Held, frozen_holds, holds, put, taken, three};
 use dots::Refusal;
-use gen_trie::{Frozen, GenTrie, NoSummary};
-use hash_path::{Fnv1a, PathHash, SameHash};
+use gen_trie::{Frozen, GenTrie, Iter, NoSummary};
+use hash_path::{Fnv1a, PathHash, Prefix, SameHash};
 use std::alloc::Global;
 use std::test::Fail;
 
@@ -59,37 +59,57 @@ fn ends_as<H: PathHash>(
 
 #[test]
 fn keys_are_put_and_taken_out(rt: HostRuntime) -> Result<(), Fail> {
-    let alloc = rt.alloc();
-    let twice = [Write::Take(97, Some(1)), Write::Take(97, None)];
-    assert!(rt; ends_as(alloc, Fnv1a, &[], 3, &[(98, Some(2))])?);
-    assert!(rt; ends_as(alloc, Fnv1a, &[Write::Put(98, 9)], 3, &[(98, Some(9))])?);
-    assert!(rt; ends_as(alloc, Fnv1a, &twice, 2, &[(97, None), (98, Some(2))])?);
-    assert!(rt; ends_as(alloc, Fnv1a, &[Write::Clear], 0, &[(97, None)])?);
+    for (writes, size, values) in [
+        ([].as_slice(), 3, [(98, Some(2))].as_slice()),
+        (&[Write::Put(98, 9)], 3, &[(98, Some(9))]),
+        (
+            &[Write::Take(97, Some(1)), Write::Take(97, None)],
+            2,
+            &[(97, None), (98, Some(2))],
+        ),
+        (&[Write::Clear], 0, &[(97, None)]),
+    ] {
+        assert!(rt; ends_as(rt.alloc(), Fnv1a, writes, size, values)?);
+    }
     Ok(())
 }
 
 #[test]
 fn keys_of_one_hash_are_told_apart(rt: HostRuntime) -> Result<(), Fail> {
-    let (alloc, hash) = (rt.alloc(), SameHash(0));
-    let values = [(97, Some(1)), (99, Some(3)), (100, None)];
-    let two = [Write::Take(98, Some(2)), Write::Take(99, Some(3))];
-    assert!(rt; ends_as(alloc, hash, &[], 3, &values)?);
-    assert!(rt; ends_as(alloc, hash, &two, 1, &[(97, Some(1)), (98, None)])?);
+    for (writes, size, values) in [
+        (
+            [].as_slice(),
+            3,
+            [(97, Some(1)), (99, Some(3)), (100, None)].as_slice(),
+        ),
+        (
+            &[Write::Take(98, Some(2)), Write::Take(99, Some(3))],
+            1,
+            &[(97, Some(1)), (98, None)],
+        ),
+    ] {
+        assert!(rt; ends_as(rt.alloc(), SameHash(0), writes, size, values)?);
+    }
     Ok(())
 }
 
-// Whether a frozen map that has no keys says so.
+// Whether a frozen map that has no keys says so, has no summary and is walked to its end at once.
 fn is_empty(alloc: Global) -> Result<bool, Refusal> {
     let frozen: Frozen<u64, NoSummary, Fnv1a> = Frozen::new(alloc, Fnv1a);
-    frozen_holds(alloc, &frozen, 0, &[(97, None)])
+    let has_none = frozen.summary(Prefix::root()).is_none() && ends(frozen.iter());
+    Ok(frozen_holds(alloc, &frozen, 0, &[(97, None)])? && has_none)
 }
 
-// Whether a frozen map does not see what is then written into the trie.
-fn is_frozen_apart(alloc: Global, trie: &mut Plain) -> Result<bool, Refusal> {
-    let frozen = trie.freeze()?;
-    put(alloc, trie, 98, 9)?;
-    trie.clear();
-    frozen_holds(alloc, &frozen, 3, &[(98, Some(2))])
+// Whether a walk ends at its first call, and at its second.
+fn ends(mut walk: Iter<'_, u64, NoSummary>) -> bool {
+    let has_ended = walk.next().is_none();
+    walk.next().is_none() && has_ended
+}
+
+#[test]
+fn a_new_frozen_map_has_no_keys(rt: HostRuntime) -> Result<(), Fail> {
+    assert!(rt; is_empty(rt.alloc())?);
+    Ok(())
 }
 
 // Whether the trie that is thawed of the map has the value 9 at b once it is put there.
@@ -99,25 +119,40 @@ fn is_thawed(alloc: Global, frozen: &Frozen<u64, NoSummary, Fnv1a>) -> Result<bo
     holds(alloc, &thawed, 3, &[(98, Some(9))])
 }
 
-// Whether only that trie has it.
-fn is_thawed_apart(alloc: Global, trie: &mut Plain) -> Result<bool, Refusal> {
-    let frozen = trie.freeze()?;
+// Whether a copy of the map has the value 2 there.
+fn is_copied(alloc: Global, frozen: &Frozen<u64, NoSummary, Fnv1a>) -> Result<bool, Refusal> {
     let copy = frozen.copy()?;
-    let has_nine = is_thawed(alloc, &copy)?;
-    let has_two = frozen_holds(alloc, &copy, 3, &[(98, Some(2))])?;
-    Ok(holds(alloc, trie, 3, &[(98, Some(2))])? && has_two && has_nine)
+    frozen_holds(alloc, &copy, 3, &[(98, Some(2))])
 }
 
-// Whether both are so, of a trie of three keys.
-fn are_apart(alloc: Global) -> Result<bool, Refusal> {
+// Whether neither the frozen map nor the trie sees what is written into the other one or into a thawed trie.
+fn are_apart(
+    alloc: Global,
+    trie: &mut Plain,
+    frozen: &Frozen<u64, NoSummary, Fnv1a>,
+) -> Result<bool, Refusal> {
+    let is_thawed = is_thawed(alloc, frozen)?;
+    let is_copied = is_copied(alloc, frozen)?;
+    let is_kept = holds(alloc, trie, 3, &[(98, Some(2))])?;
+    put(alloc, trie, 98, 9)?;
+    trie.clear();
+    Ok(frozen_holds(alloc, frozen, 3, &[(98, Some(2))])? && is_kept && is_copied && is_thawed)
+}
+
+// The same of a freeze of the trie.
+fn are_apart_frozen(alloc: Global, trie: &mut Plain) -> Result<bool, Refusal> {
+    let frozen = trie.freeze()?;
+    are_apart(alloc, trie, &frozen)
+}
+
+// The same of a trie of three keys.
+fn are_apart_anew(alloc: Global) -> Result<bool, Refusal> {
     let mut trie = three(alloc, Fnv1a)?;
-    let is_thawed = is_thawed_apart(alloc, &mut trie)?;
-    Ok(is_frozen_apart(alloc, &mut trie)? && is_thawed)
+    are_apart_frozen(alloc, &mut trie)
 }
 
 #[test]
 fn frozen_maps_and_thawed_tries_are_written_apart(rt: HostRuntime) -> Result<(), Fail> {
-    assert!(rt; is_empty(rt.alloc())?);
-    assert!(rt; are_apart(rt.alloc())?);
+    assert!(rt; are_apart_anew(rt.alloc())?);
     Ok(())
 }

@@ -1,11 +1,9 @@
 // The pages of worked maps, and the values that they name. What is expected was put together by hand, with digests computed
 // by python3's hashlib.
-use crate::made::prefix_of;
-use crate::mapped::{Worked, dot, frozen};
-use causal_context::Context;
+use crate::mapped::{Asked, Worked, is_so};
 use dots::{Refusal, Value};
-use hash_path::{Fnv1a, PathHash, Prefix, SameHash};
-use prefix_digest::{FrozenMap, digest, digest_of, page, page_value, value_digest, values_for};
+use hash_path::{Fnv1a, PathHash, SameHash};
+use prefix_digest::value_digest;
 use std::alloc::Global;
 use std::test::Fail;
 
@@ -99,29 +97,6 @@ const NAME_OF_X: [u8; 32] = [
 ];
 
 // Whether these are the bytes of the page at these indices, and its digest that of the map there.
-fn is_page_of<H: PathHash>(
-    alloc: Global,
-    frozen: &FrozenMap<H>,
-    path: &[u32],
-    wanted: &[u8],
-) -> Result<bool, Fail> {
-    let prefix = prefix_of(path).ok_or("a prefix")?;
-    let bytes = page(alloc, frozen, prefix)?.ok_or("a page")?;
-    let is_told = is_told(alloc, frozen, prefix)?;
-    Ok(bytes.as_slice() == wanted && is_told)
-}
-
-// Whether the page has the digest of the map there.
-fn is_told<H: PathHash>(
-    alloc: Global,
-    frozen: &FrozenMap<H>,
-    prefix: Prefix,
-) -> Result<bool, Fail> {
-    let told = page_value(alloc, frozen, prefix)?.ok_or("a page")?;
-    Ok(Some(digest_of(&told)) == digest(frozen, prefix))
-}
-
-// The same of a worked map.
 fn is_page<H: PathHash>(
     alloc: Global,
     hash: H,
@@ -129,8 +104,7 @@ fn is_page<H: PathHash>(
     path: &[u32],
     wanted: &[u8],
 ) -> Result<bool, Fail> {
-    let frozen = frozen(alloc, hash, map)?;
-    is_page_of(alloc, &frozen, path, wanted)
+    is_so(alloc, hash, map, path, Asked::Page(wanted))
 }
 
 #[test]
@@ -150,25 +124,20 @@ fn a_page_of_the_empty_key_is_a_byte_shorter(rt: HostRuntime) -> Result<(), Fail
     Ok(())
 }
 
-// Whether the page before the last index is the index 0 and this digest.
-fn is_chained(
-    alloc: Global,
-    frozen: &FrozenMap<SameHash>,
-    path: &[u32],
-    below: &[u8; 32],
-) -> Result<bool, Fail> {
-    let mut wanted = Vec::from_slice(alloc, &[2, 0])?;
-    wanted.extend_from_slice(below)?;
-    is_page_of(alloc, frozen, path, &wanted)
+// Whether the page of three keys at these indices is the index 0 and this digest.
+fn is_chained(alloc: Global, path: &[u32], below: &[u8; 32]) -> Result<bool, Fail> {
+    let mut wanted = [2u8; 34];
+    wanted[1] = 0;
+    wanted[2..].copy_from_slice(below);
+    is_page(alloc, SameHash(0), Worked::Three, path, &wanted)
 }
 
 // Whether the pages of three keys before the last index are the index 0 and the digest below.
 fn are_chained(alloc: Global) -> Result<bool, Fail> {
     let path = [0; 6];
-    let frozen = frozen(alloc, SameHash(0), Worked::Three)?;
     let mut same = true;
     for (depth, below) in BELOW.iter().enumerate() {
-        same = is_chained(alloc, &frozen, &path[..depth], below)? && same;
+        same = is_chained(alloc, &path[..depth], below)? && same;
     }
     Ok(same)
 }
@@ -181,17 +150,9 @@ fn keys_of_one_hash_have_a_page_at_each_depth(rt: HostRuntime) -> Result<(), Fai
     Ok(())
 }
 
-// Whether there is no page at an index that no key has.
-fn has_none(alloc: Global) -> Result<bool, Fail> {
-    let prefix = prefix_of(&[13]).ok_or("a prefix")?;
-    let frozen = frozen(alloc, Fnv1a, Worked::OnlyA)?;
-    let has_bytes = page(alloc, &frozen, prefix)?.is_some();
-    Ok(page_value(alloc, &frozen, prefix)?.is_none() && !has_bytes)
-}
-
 #[test]
 fn no_keys_have_no_page(rt: HostRuntime) -> Result<(), Fail> {
-    assert!(rt; has_none(rt.alloc())?);
+    assert!(rt; is_so(rt.alloc(), Fnv1a, Worked::OnlyA, &[13], Asked::NoPage)?);
     Ok(())
 }
 
@@ -207,44 +168,7 @@ fn a_value_is_named_by_its_digest(rt: HostRuntime) -> Result<(), Fail> {
     Ok(())
 }
 
-// The context of these dots.
-fn context_of(alloc: Global, dots: &[(u64, u64)]) -> Result<Context, Refusal> {
-    let mut context = Context::new(alloc);
-    for (name, number) in dots {
-        let dot = dot(*name, *number)?;
-        context.add(dot)?;
-    }
-    Ok(context)
-}
-
-// The bytes of the values, each of one byte.
-fn bytes_of(alloc: Global, values: &[Value]) -> Result<Vec<u8>, Refusal> {
-    let mut bytes = Vec::new(alloc);
-    for value in values {
-        bytes.extend_from_slice(value.bytes())?;
-    }
-    Ok(bytes)
-}
-
-// Whether these are the bytes of the values, each of one byte.
-fn have_bytes(alloc: Global, values: &[Value], wanted: &[u8]) -> Result<bool, Refusal> {
-    let bytes = bytes_of(alloc, values)?;
-    Ok(bytes.as_slice() == wanted)
-}
-
-// Whether the page at this prefix names the values of these bytes to who knows these dots.
-fn names_values<H: PathHash>(
-    alloc: Global,
-    frozen: &FrozenMap<H>,
-    prefix: Prefix,
-    known: &Context,
-    wanted: &[u8],
-) -> Result<bool, Refusal> {
-    let values = values_for(alloc, frozen, prefix, known)?;
-    have_bytes(alloc, &values, wanted)
-}
-
-// The same of a worked map, and of these indices and dots.
+// Whether the page of a worked map at these indices names values of these bytes to who knows these dots.
 fn are_values<H: PathHash>(
     alloc: Global,
     hash: H,
@@ -253,10 +177,7 @@ fn are_values<H: PathHash>(
     known: &[(u64, u64)],
     wanted: &[u8],
 ) -> Result<bool, Fail> {
-    let prefix = prefix_of(path).ok_or("a prefix")?;
-    let known = context_of(alloc, known)?;
-    let frozen = frozen(alloc, hash, map)?;
-    Ok(names_values(alloc, &frozen, prefix, &known, wanted)?)
+    is_so(alloc, hash, map, path, Asked::Values(known, wanted))
 }
 
 #[test]

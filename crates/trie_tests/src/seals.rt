@@ -1,34 +1,42 @@
 // Summaries that nodes keep. How many nodes there are was counted by a program in python, from the paths of the keys.
 use crate::made::{prefix_of, three};
-use dot_store::{DotFun, DotMap, DotStore};
-use dots::{Dot, Field, Key, Name, Refusal, Value};
+use crate::mapped::{Trie, put, take};
+use dots::{Key, Refusal};
 use gen_trie::{Frozen, GenTrie, NoSummary};
 use hash_path::{Fnv1a, Prefix};
 use linked_list_allocator::LocalHeap;
-use prefix_digest::{ShaSummary, digest};
+use prefix_digest::digest;
 use std::alloc::{Allocator, Global};
 use std::test::Fail;
-use wire_form::Fields;
 
 type Plain = GenTrie<u64, NoSummary, Fnv1a>;
 
-type Digested<A> = GenTrie<Fields<A>, ShaSummary, Fnv1a, A>;
+type Digested = Trie<Fnv1a>;
 
-// The key of a number: eight bytes, the most significant first, of a multiple of the number.
-fn key_of<A: Allocator + Copy>(alloc: A, number: u64) -> Result<Key<A>, Refusal> {
-    Key::new(
-        alloc,
-        &number.wrapping_mul(0x9e37_79b9_7f4a_7c15).to_be_bytes(),
-    )
+type InHeap<'a> = GenTrie<u64, NoSummary, Fnv1a, &'a LocalHeap>;
+
+// The bytes of the key of a number: those of a multiple of it, the most significant first.
+fn bytes_of(number: u64) -> [u8; 8] {
+    number.wrapping_mul(0x9e37_79b9_7f4a_7c15).to_be_bytes()
+}
+
+// Puts each number below this one at its key.
+fn put_all<A: Allocator + Copy>(
+    alloc: A,
+    trie: &mut GenTrie<u64, NoSummary, Fnv1a, A>,
+    count: u64,
+) -> Result<(), Refusal> {
+    for number in 0..count {
+        let key = Key::new(alloc, &bytes_of(number))?;
+        trie.insert(key, number)?;
+    }
+    Ok(())
 }
 
 // The trie of the keys of the numbers below 1,000.
 fn thousand(alloc: Global) -> Result<Plain, Refusal> {
     let mut trie = GenTrie::new(alloc, Fnv1a);
-    for number in 0..1_000 {
-        let key = key_of(alloc, number)?;
-        trie.insert(key, number)?;
-    }
+    put_all(alloc, &mut trie, 1_000)?;
     Ok(trie)
 }
 
@@ -40,7 +48,7 @@ fn sealed(trie: &mut Plain) -> Result<u64, Refusal> {
 
 // How many nodes a seal reaches once the key of 1,000 is put.
 fn sealed_with_one_more(alloc: Global, trie: &mut Plain) -> Result<u64, Refusal> {
-    let key = key_of(alloc, 1_000)?;
+    let key = Key::new(alloc, &bytes_of(1_000))?;
     trie.insert(key, 1_000)?;
     sealed(trie)
 }
@@ -96,32 +104,18 @@ fn a_seal_copies_nodes_that_are_shared_and_a_share_keeps_the_summaries(
     Ok(())
 }
 
-// The fields of a value under this dot of the empty field.
-fn fields_of<A: Allocator + Copy>(alloc: A, dot: Dot) -> Result<Fields<A>, Refusal> {
-    let value = Value::new(alloc, b"v")?;
-    let mut held = DotFun::empty(alloc);
-    held.insert(dot, value)?;
-    let mut fields = DotMap::empty(alloc);
-    fields.insert(Field::empty(), held)?;
-    Ok(fields)
-}
-
 // Puts a value at the key of a number, and nothing else there.
-fn put<A: Allocator + Copy>(alloc: A, trie: &mut Digested<A>, number: u64) -> Result<(), Refusal> {
-    let name = Name::new(1).ok_or(Refusal::BadLine)?;
-    let dot = Dot::new(name, number.saturating_add(1)).ok_or(Refusal::BadLine)?;
-    let fields = fields_of(alloc, dot)?;
-    let key = key_of(alloc, number)?;
-    trie.insert(key, fields)
+fn put_one(alloc: Global, trie: &mut Digested, number: u64) -> Result<(), Refusal> {
+    let dot = (1, number.saturating_add(1));
+    put(alloc, trie, &bytes_of(number), &[(dot, b"v")], &[])
 }
 
-// The trie of the keys of the numbers below 40.
-fn forty<A: Allocator + Copy>(alloc: A) -> Result<Digested<A>, Refusal> {
-    let mut trie = GenTrie::new(alloc, Fnv1a);
+// The same for the numbers below 40.
+fn put_forty(alloc: Global, trie: &mut Digested) -> Result<(), Refusal> {
     for number in 0..40 {
-        put(alloc, &mut trie, number)?;
+        put_one(alloc, trie, number)?;
     }
-    Ok(trie)
+    Ok(())
 }
 
 // A root digest, if there are keys.
@@ -132,52 +126,34 @@ fn are_alike(one: Root, other: Root) -> bool {
 }
 
 // The root digest of a share.
-fn shared_digest<A: Allocator + Copy>(trie: &mut Digested<A>) -> Result<Root, Refusal> {
+fn shared_digest(trie: &mut Digested) -> Result<Root, Refusal> {
     let shared = trie.share()?;
     Ok(digest(&shared, Prefix::root()))
 }
 
-// The root digest of a freeze.
-fn frozen_digest(trie: &mut Digested<Global>) -> Result<Root, Refusal> {
-    let frozen = trie.freeze()?;
-    Ok(digest(&frozen, Prefix::root()))
+// The root digest that a seal has kept.
+fn kept_digest(trie: &mut Digested) -> Result<Root, Refusal> {
+    trie.seal()?;
+    shared_digest(trie)
 }
 
-// The root digest of a freeze once the key of 40 is put.
-fn digest_with_one_more(alloc: Global, trie: &mut Digested<Global>) -> Result<Root, Refusal> {
-    put(alloc, trie, 40)?;
-    frozen_digest(trie)
-}
-
-// The root digest of a freeze once the key of 40 is taken out.
-fn digest_with_one_less(alloc: Global, trie: &mut Digested<Global>) -> Result<Root, Refusal> {
-    let key = key_of(alloc, 40)?;
-    trie.remove(&key)?;
-    frozen_digest(trie)
-}
-
-// Whether kept digests are those of the entries, of which a share from before the seal has none.
-fn are_kept(trie: &mut Digested<Global>) -> Result<bool, Refusal> {
-    let shared = trie.share()?;
-    let kept = frozen_digest(trie)?;
-    Ok(are_alike(digest(&shared, Prefix::root()), kept))
-}
-
-// Whether kept digests follow the writes beside a frozen map.
-fn are_followed(alloc: Global, trie: &mut Digested<Global>) -> Result<bool, Refusal> {
-    let frozen = trie.freeze()?;
-    let before = digest(&frozen, Prefix::root());
-    let more = digest_with_one_more(alloc, trie)?;
-    let less = digest_with_one_less(alloc, trie)?;
-    Ok(are_alike(less, before) && !are_alike(more, before))
+// Whether kept digests are those of the entries, of which a share from before the seal has none, and follow the writes: the
+// key of 40 is put and taken out.
+fn are_followed(alloc: Global, trie: &mut Digested) -> Result<bool, Refusal> {
+    put_forty(alloc, trie)?;
+    let before = shared_digest(trie)?;
+    let kept = kept_digest(trie)?;
+    put_one(alloc, trie, 40)?;
+    let more = kept_digest(trie)?;
+    take(alloc, trie, &bytes_of(40))?;
+    let less = kept_digest(trie)?;
+    Ok(are_alike(kept, before) && are_alike(less, before) && !are_alike(more, before))
 }
 
 // The same of a new trie.
 fn are_followed_anew(alloc: Global) -> Result<bool, Refusal> {
-    let mut trie = forty(alloc)?;
-    let are_kept = are_kept(&mut trie)?;
-    let are_followed = are_followed(alloc, &mut trie)?;
-    Ok(are_kept && are_followed)
+    let mut trie = GenTrie::new(alloc, Fnv1a);
+    are_followed(alloc, &mut trie)
 }
 
 #[test]
@@ -206,7 +182,7 @@ fn fill<'a>(alloc: Global, heap: &'a LocalHeap) -> Vec<Vec<u8, &'a LocalHeap>> {
 fn sealed_in<'a>(
     alloc: Global,
     heap: &'a LocalHeap,
-    trie: &mut Digested<&'a LocalHeap>,
+    trie: &mut InHeap<'a>,
     room: usize,
 ) -> Result<(), Refusal> {
     let mut pieces = fill(alloc, heap);
@@ -217,34 +193,27 @@ fn sealed_in<'a>(
 }
 
 // Whether a seal is refused in a heap that is full, and in one with little room.
-fn is_refused<'a>(alloc: Global, heap: &'a LocalHeap, trie: &mut Digested<&'a LocalHeap>) -> bool {
+fn is_refused<'a>(alloc: Global, heap: &'a LocalHeap, trie: &mut InHeap<'a>) -> bool {
     sealed_in(alloc, heap, trie, 0) == Err(Refusal::OutOfMemory)
         && sealed_in(alloc, heap, trie, 60) == Err(Refusal::OutOfMemory)
 }
 
-// Whether a seal gives the trie this digest.
-fn seals_as<A: Allocator + Copy>(trie: &mut Digested<A>, wanted: Root) -> Result<bool, Refusal> {
-    trie.seal()?;
-    let sealed = shared_digest(trie)?;
-    Ok(are_alike(sealed, wanted))
-}
-
-// Whether a seal in this heap is refused for want of room, and is then made again, with the digest that was shared before.
+// Whether a seal beside a share, whose nodes it copies, is refused for want of room, and is then made again.
 fn is_made_again<'a>(
     alloc: Global,
     heap: &'a LocalHeap,
-    trie: &mut Digested<&'a LocalHeap>,
+    trie: &mut InHeap<'a>,
 ) -> Result<bool, Refusal> {
-    let shared = trie.share()?;
-    let before = digest(&shared, Prefix::root());
+    let _shared = trie.share()?;
     let was_refused = is_refused(alloc, heap, trie);
-    let is_sealed = seals_as(trie, before)?;
-    Ok(is_sealed && was_refused)
+    trie.seal()?;
+    Ok(trie.stamped() == 15 && was_refused)
 }
 
-// The same of a new trie.
-fn is_made_again_anew(alloc: Global, heap: &LocalHeap) -> Result<bool, Refusal> {
-    let mut trie = forty(heap)?;
+// The same of a new trie of 40 keys.
+fn is_made_again_anew<'a>(alloc: Global, heap: &'a LocalHeap) -> Result<bool, Refusal> {
+    let mut trie: InHeap<'a> = GenTrie::new(heap, Fnv1a);
+    put_all(heap, &mut trie, 40)?;
     is_made_again(alloc, heap, &mut trie)
 }
 

@@ -44,12 +44,10 @@ fn holds(
     Ok(at(alloc, trie, key)? == value && trie.size() == size)
 }
 
-// The same with 2 and 3 at b and c.
-fn three(alloc: Global) -> Result<Map, Refusal> {
-    let mut trie = one(alloc)?;
-    put(alloc, &mut trie, b"b", 2)?;
-    put(alloc, &mut trie, b"c", 3)?;
-    Ok(trie)
+// Puts 2 and 3 at b and c.
+fn put_two(alloc: Global, trie: &mut Map) -> Result<(), Refusal> {
+    put(alloc, trie, b"b", 2)?;
+    put(alloc, trie, b"c", 3)
 }
 
 // The sum of the values, each times ten to the number of those after it.
@@ -91,18 +89,12 @@ fn is_taken(alloc: Global, trie: &mut Map) -> Result<bool, Refusal> {
 }
 
 // Whether all this is so of the trie of three keys, where b has 2 and then 9.
-fn are_written(alloc: Global) -> Result<bool, Refusal> {
-    let mut trie = three(alloc)?;
-    let is_new = is_map(alloc, &trie, 2, 213)?;
-    let is_kept = is_snapshot(alloc, &mut trie)?;
-    let is_replaced = is_map(alloc, &trie, 9, 913)?;
-    Ok(is_taken(alloc, &mut trie)? && is_new && is_kept && is_replaced)
-}
-
-#[test]
-fn a_trie_is_a_map_and_is_walked_as_it_is(rt: HostRuntime) -> Result<(), Fail> {
-    assert!(rt; are_written(rt.alloc())?);
-    Ok(())
+fn are_written(alloc: Global, trie: &mut Map) -> Result<bool, Refusal> {
+    put_two(alloc, trie)?;
+    let is_new = is_map(alloc, trie, 2, 213)?;
+    let is_kept = is_snapshot(alloc, trie)?;
+    let is_replaced = is_map(alloc, trie, 9, 913)?;
+    Ok(is_taken(alloc, trie)? && is_new && is_kept && is_replaced)
 }
 
 // Inserts b, removes a and clears.
@@ -120,17 +112,10 @@ fn are_apart(alloc: Global, live: &mut Map, snapshot: &mut Map) -> Result<bool, 
     Ok(at(alloc, live, b"c")?.is_none() && is_kept)
 }
 
-// The same of a trie of one key.
-fn are_apart_anew(alloc: Global) -> Result<bool, Refusal> {
-    let mut live = one(alloc)?;
-    let mut snapshot = live.snapshot()?;
-    are_apart(alloc, &mut live, &mut snapshot)
-}
-
-#[test]
-fn a_snapshot_does_not_see_later_writes(rt: HostRuntime) -> Result<(), Fail> {
-    assert!(rt; are_apart_anew(rt.alloc())?);
-    Ok(())
+// The same of a snapshot of a trie of one key.
+fn are_apart_anew(alloc: Global, trie: &mut Map) -> Result<bool, Refusal> {
+    let mut snapshot = trie.snapshot()?;
+    are_apart(alloc, trie, &mut snapshot)
 }
 
 // Whether each write on the trie is refused as it is read-only.
@@ -163,15 +148,44 @@ fn refuse_writes_again(alloc: Global, trie: &mut Map, size: u64) -> Result<bool,
 }
 
 // The same of a trie of three keys, and of one that is cleared then.
-fn refuse_writes_anew(alloc: Global) -> Result<bool, Refusal> {
-    let mut trie = three(alloc)?;
-    let has_three = refuse_writes(alloc, &mut trie, 3)?;
+fn refuse_writes_anew(alloc: Global, trie: &mut Map) -> Result<bool, Refusal> {
+    put_two(alloc, trie)?;
+    let has_three = refuse_writes(alloc, trie, 3)?;
     trie.clear()?;
-    Ok(refuse_writes_again(alloc, &mut trie, 0)? && has_three)
+    Ok(refuse_writes_again(alloc, trie, 0)? && has_three)
+}
+
+// What is asked of a trie of one key.
+#[derive(Clone, Copy)]
+enum Asked {
+    Written,
+    Apart,
+    Refusing,
+}
+
+fn is_so(alloc: Global, asked: Asked) -> Result<bool, Refusal> {
+    let mut trie = one(alloc)?;
+    match asked {
+        Asked::Written => are_written(alloc, &mut trie),
+        Asked::Apart => are_apart_anew(alloc, &mut trie),
+        Asked::Refusing => refuse_writes_anew(alloc, &mut trie),
+    }
+}
+
+#[test]
+fn a_trie_is_a_map_and_is_walked_as_it_is(rt: HostRuntime) -> Result<(), Fail> {
+    assert!(rt; is_so(rt.alloc(), Asked::Written)?);
+    Ok(())
+}
+
+#[test]
+fn a_snapshot_does_not_see_later_writes(rt: HostRuntime) -> Result<(), Fail> {
+    assert!(rt; is_so(rt.alloc(), Asked::Apart)?);
+    Ok(())
 }
 
 #[test]
 fn a_read_only_snapshot_and_its_snapshots_refuse_writes(rt: HostRuntime) -> Result<(), Fail> {
-    assert!(rt; refuse_writes_anew(rt.alloc())?);
+    assert!(rt; is_so(rt.alloc(), Asked::Refusing)?);
     Ok(())
 }

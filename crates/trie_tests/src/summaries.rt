@@ -5,7 +5,7 @@ ghost use Rattle.hash_path.specs.Fan.{Rise};
 use crate::made::{holds, prefix_of, three, three_with};
 use dots::Refusal;
 use gen_trie::{Children, Entry, Frozen, NoSummary, Summary};
-use hash_path::{Fnv1a, PathHash, Prefix, SameHash};
+use hash_path::{Fnv1a, PathHash, SameHash};
 use std::alloc::{Allocator, Global};
 use std::sync::Arc;
 use std::test::Fail;
@@ -75,17 +75,6 @@ fn keys_of_equal_hashes_are_a_list(rt: HostRuntime) -> Result<(), Fail> {
     assert!(rt; marked(rt.alloc(), SameHash(0), &[])? == Some(Mark::Branch(1)));
     assert!(rt; marked(rt.alloc(), SameHash(0), &[0; 7])? == Some(Mark::List(3)));
     Ok(())
-}
-
-// The summary of no keys.
-fn unmarked_anew(alloc: Global) -> Option<NoSummary> {
-    let frozen: Frozen<u64, NoSummary, Fnv1a> = Frozen::new(alloc, Fnv1a);
-    frozen.summary(Prefix::root())
-}
-
-#[test]
-fn an_empty_map_has_no_summary(rt: HostRuntime) {
-    assert!(rt; unmarked_anew(rt.alloc()).is_none());
 }
 
 // Whether a seal leaves a trie of three keys.

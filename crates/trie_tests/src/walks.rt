@@ -1,7 +1,7 @@
 // Walks over a trie and its frozen maps.
 use crate::made::{put, taken, three};
 use dots::Refusal;
-use gen_trie::{Frozen, GenTrie, Iter, NoSummary};
+use gen_trie::{GenTrie, Iter, NoSummary};
 use hash_path::{Fnv1a, PathHash, SameHash};
 use std::alloc::Global;
 use std::test::Fail;
@@ -42,22 +42,6 @@ fn a_walk_goes_by_the_lowest_bits_of_the_hash_and_then_by_bytes(
     assert!(rt; is_walked(alloc, same, &[], &[(97, 1), (98, 2), (99, 3)])?);
     assert!(rt; is_walked(alloc, same, &[98, 99], &[(97, 1)])?);
     Ok(())
-}
-
-// Whether a walk ends at its first call, and at its second.
-fn ends(mut walk: Iter<'_, u64, NoSummary>) -> (bool, bool) {
-    (walk.next().is_none(), walk.next().is_none())
-}
-
-// The same of a new map.
-fn ends_anew(alloc: Global) -> (bool, bool) {
-    let frozen: Frozen<u64, NoSummary, Fnv1a> = Frozen::new(alloc, Fnv1a);
-    ends(frozen.iter())
-}
-
-#[test]
-fn a_walk_of_no_keys_ends_at_once(rt: HostRuntime) {
-    assert!(rt; ends_anew(rt.alloc()) == (true, true));
 }
 
 // The values in the order of a loop over the trie, as the digits of a number.

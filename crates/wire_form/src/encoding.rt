@@ -7,14 +7,13 @@ ghost use Rattle.wire_form.specs.Store as form;
 ghost use Rattle.wire_form.specs.Message.{message_of, Spells, SpellsDelta};
 ghost use Rattle.wire_form.specs.Writing.{Appends};
 
-use crate::fields::Fields;
 use crate::message::Message;
 use crate::plain::{is_plain_store, values_alone};
 use crate::session_writing::{
     write_ask, write_gone, write_hello, write_opening, write_page_message,
 };
 use causal_context::Context;
-use causal_join::{OrMap, OrMapStore};
+use causal_join::{Fields, OrMap, OrMapStore};
 use dot_store::DotFun;
 use dots::{Dot, Name, Refusal, Value};
 use std::alloc::Allocator;

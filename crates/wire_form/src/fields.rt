@@ -4,21 +4,19 @@ ghost use Rattle.wire_form.specs.Unique.{fields_starts, fields_unique};
 
 use crate::items::read_items;
 use crate::spelled::Spelled;
-use dot_store::{DotFun, DotMap};
+use causal_join::Fields;
+use dot_store::DotFun;
 use dots::{Field, Refusal, Value};
-use std::alloc::{Allocator, Global};
+use std::alloc::Allocator;
 
-/// The fields of a key, each with the values that stand there.
-pub type Fields<A = Global> = DotMap<Field<A>, DotFun<Value<A>, A>, A>;
-
-impl<A: Allocator + Copy> Spelled<A> for DotMap<Field<A>, DotFun<Value<A>, A>, A> {
+impl<A: Allocator + Copy> Spelled<A> for Fields<A> {
     ghost spell = { fields };
 
     ghost fits = { AreFields };
 
     fn read(alloc: A, bytes: &[u8]) -> Result<(Fields<A>, &[u8]), Refusal> {
         let (entries, rest) = read_items::<(Field<A>, DotFun<Value<A>, A>), A>(alloc, bytes)?;
-        match DotMap::from_entries(entries) {
+        match Fields::from_entries(entries) {
             Some(fields) => Ok((fields, rest)),
             None => Err(Refusal::NotAMessage),
         }

@@ -7,10 +7,9 @@ ghost use Rattle.dot_store.specs.Stores.{at_values, NoKeyIsEmpty};
 ghost use Rattle.wire_form.specs.Store.{is_plain, is_sole, alone, first_values, sole, AreSole};
 ghost use Rattle.wire_form.specs.Unique.{sole_starts, sole_unique};
 
-use crate::fields::Fields;
 use crate::spelled::Spelled;
-use causal_join::OrMapStore;
-use dot_store::{DotFun, DotMap};
+use causal_join::{Fields, OrMapStore};
+use dot_store::DotFun;
 use dots::{Field, Refusal, Value};
 use std::alloc::{Allocator, Global};
 use std::marker::Model;
@@ -49,7 +48,7 @@ fn at_empty_field<A: Allocator + Copy>(
 {
     let mut entries = Vec::new(alloc);
     entries.push((Field::empty(), values))?;
-    Ok(DotMap::from_entries(entries))
+    Ok(Fields::from_entries(entries))
 }
 
 impl<A: Allocator + Copy> Spelled<A> for Plain<A> {

@@ -3,10 +3,9 @@ ghost use Rattle.std.specs.Prelude.{◌≡◌, true, false, IfOk, IsOkUnless};
 ghost use Rattle.wire_form.specs.Store.{store, IsStoreOf};
 ghost use Rattle.wire_form.specs.Reading.{Reads};
 
-use crate::fields::Fields;
 use crate::items::read_items;
 use crate::plain::{Plain, is_plain_store};
-use causal_join::OrMapStore;
+use causal_join::{Fields, OrMapStore};
 use dot_store::DotMap;
 use dots::{Key, Refusal};
 use std::alloc::Allocator;

@@ -1,0 +1,151 @@
+use crate::replicas::{flushed, key_of, put_one, take_often};
+use dots::{Name, Refusal};
+use hash_path::Fnv1a;
+use replica_core::Replica;
+use std::alloc::Global;
+
+// Removes the key.
+fn remove_one(alloc: Global, here: &mut Replica, number: u64) -> Result<(), Refusal> {
+    let key = key_of(alloc, number)?;
+    here.remove(&key)?;
+    Ok(())
+}
+
+// Makes the message of what was made, and lets it go.
+fn flush(here: &mut Replica) -> Result<(), Refusal> {
+    here.flush()?;
+    Ok(())
+}
+
+// Puts each key, and flushes each put.
+fn put_each(alloc: Global, here: &mut Replica, keys: &[u64]) -> Result<(), Refusal> {
+    for number in keys {
+        put_one(alloc, here, *number)?;
+        flush(here)?;
+    }
+    Ok(())
+}
+
+// Removes each key, and flushes each remove.
+fn remove_each(alloc: Global, here: &mut Replica, keys: &[u64]) -> Result<(), Refusal> {
+    for number in keys {
+        remove_one(alloc, here, *number)?;
+        flush(here)?;
+    }
+    Ok(())
+}
+
+// How many values stand at the key.
+fn got_one(alloc: Global, here: &Replica, number: u64) -> Result<usize, Refusal> {
+    let key = key_of(alloc, number)?;
+    let found = here.get(&key)?;
+    Ok(found.len())
+}
+
+// How many values stand at all keys.
+fn got(alloc: Global, here: &Replica, keys: &[u64]) -> Result<u64, Refusal> {
+    let mut count: u64 = 0;
+    for number in keys {
+        count = count.wrapping_add(got_one(alloc, here, *number)? as u64);
+    }
+    Ok(count)
+}
+
+// How many keys a share of what the replica holds has.
+fn share_once(here: &Replica) -> Result<u64, Refusal> {
+    let share = here.share()?;
+    Ok(share.size())
+}
+
+// Shares it as often as there are keys.
+fn share_often(here: &Replica, keys: &[u64]) -> Result<u64, Refusal> {
+    let mut sum: u64 = 0;
+    for _ in keys {
+        sum = sum.wrapping_add(share_once(here)?);
+    }
+    Ok(sum)
+}
+
+// Sends what was made here there so many times.
+fn send(alloc: Global, here: &mut Replica, there: &mut Replica, times: u32) -> Result<(), Refusal> {
+    let bytes = flushed(alloc, here)?;
+    take_often(there, &bytes, times)
+}
+
+// Puts each key here, and sends each put there so many times.
+fn put_and_send(
+    alloc: Global,
+    here: &mut Replica,
+    there: &mut Replica,
+    keys: &[u64],
+    times: u32,
+) -> Result<(), Refusal> {
+    for number in keys {
+        put_one(alloc, here, *number)?;
+        send(alloc, here, there, times)?;
+    }
+    Ok(())
+}
+
+// Removes each key here, and sends each remove there so many times.
+fn remove_and_send(
+    alloc: Global,
+    here: &mut Replica,
+    there: &mut Replica,
+    keys: &[u64],
+    times: u32,
+) -> Result<(), Refusal> {
+    for number in keys {
+        remove_one(alloc, here, *number)?;
+        send(alloc, here, there, times)?;
+    }
+    Ok(())
+}
+
+// The step of two replicas to which nothing happened.
+fn steps_on(
+    alloc: Global,
+    here: &mut Replica,
+    there: &mut Replica,
+    keys: &[u64],
+    step: u32,
+    times: u32,
+) -> Result<u64, Refusal> {
+    match step {
+        5 => put_and_send(alloc, here, there, keys, times)?,
+        6 => {
+            put_and_send(alloc, here, there, keys, 1)?;
+            remove_and_send(alloc, here, there, keys, times)?;
+        }
+        _ => put_each(alloc, here, keys)?,
+    }
+    match step {
+        1 => put_each(alloc, here, keys)?,
+        2 => remove_each(alloc, here, keys)?,
+        3 => return got(alloc, here, keys),
+        4 => return share_often(here, keys),
+        _ => {}
+    }
+    Ok(here.size().wrapping_add(there.size()))
+}
+
+fn steps(alloc: Global, keys: &[u64], step: u32, times: u32) -> Result<u64, Refusal> {
+    let (Some(one), Some(two)) = (Name::new(1), Name::new(2)) else {
+        return Ok(0);
+    };
+    let mut here = Replica::new(alloc, one, Fnv1a);
+    let mut there = Replica::new(alloc, two, Fnv1a);
+    steps_on(alloc, &mut here, &mut there, keys, step, times)
+}
+
+/// Puts a value of 16 bytes on each of the keys, eight bytes each, at a replica, and then does the step with all of them:
+/// 0 nothing, 1 puts each again, 2 removes each, 3 gets each, 4 shares what it holds once for each key. 5 puts each and sends
+/// each put, as bytes, to another replica so many times; 6 puts and sends each once, and then removes each and sends that so
+/// many times. Each put and each remove is flushed at once, as by a replica that sends what it makes.
+#[unsafe(no_mangle)]
+pub extern "C" fn measure_operations(alloc: Global, keys: &[u64], step: u32, times: u32) -> u64 {
+    match steps(alloc, keys, step, times) {
+        Ok(number) => number,
+        Err(_) => u64::MAX,
+    }
+}

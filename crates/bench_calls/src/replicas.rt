@@ -1,0 +1,44 @@
+// Replicas: what is put at them, and the bytes that they send.
+use dots::{Key, Refusal, Value};
+use replica_core::Replica;
+use std::alloc::Global;
+use wire_form::{Message, encode};
+
+// The key of a number: eight bytes.
+pub(crate) fn key_of(alloc: Global, number: u64) -> Result<Key, Refusal> {
+    Key::new(alloc, &number.to_be_bytes())
+}
+
+// Puts a value of 16 bytes on the key.
+pub(crate) fn put_one(alloc: Global, here: &mut Replica, number: u64) -> Result<(), Refusal> {
+    let key = key_of(alloc, number)?;
+    let value = Value::new(alloc, &[118; 16])?;
+    here.put(&key, &value)?;
+    Ok(())
+}
+
+pub(crate) fn put_all(alloc: Global, here: &mut Replica, keys: &[u64]) -> Result<(), Refusal> {
+    for number in keys {
+        put_one(alloc, here, *number)?;
+    }
+    Ok(())
+}
+
+// The bytes of a message. BadLine stands for none.
+fn spelled(alloc: Global, message: Option<&Message>) -> Result<Vec<u8>, Refusal> {
+    encode(alloc, message.ok_or(Refusal::BadLine)?)
+}
+
+// The bytes of what the replica made since the last flush.
+pub(crate) fn flushed(alloc: Global, from: &mut Replica) -> Result<Vec<u8>, Refusal> {
+    let message = from.flush()?;
+    spelled(alloc, message.as_ref())
+}
+
+// Takes a message in by its bytes, so many times.
+pub(crate) fn take_often(to: &mut Replica, bytes: &[u8], times: u32) -> Result<(), Refusal> {
+    for _ in 0..times {
+        to.deliver_bytes(bytes)?;
+    }
+    Ok(())
+}

@@ -1,0 +1,87 @@
+ghost use Rattle.std.specs.Prelude.{◌≡◌};
+
+use crate::keys::Keys;
+use crate::plan::Plan;
+use crate::reader::Reader;
+use crate::told::{Reads, Told};
+use crate::writer::Writer;
+use anyhow::{Context, Result};
+use dots::{Name, Refusal};
+use node_threads::{Lock, Naming, Node, NodeEvent, new_node};
+use root_cell::OpenedBook;
+use shared_object::NoGate;
+use std::alloc::Global;
+use std::rt::Clock;
+use std::sync::Wait;
+use std::thread;
+use std::thread::Threads;
+use std::time::Instant;
+
+/// Measures a new node of the book, in which each key has a value when it begins.
+pub(crate) fn measure<
+    K: Naming + Send + Sync,
+    R: Threads + Wait + Clock + Copy + Drop + Send + Sync,
+>(rt: R, alloc: Global, opened: OpenedBook<NodeEvent>, plan: &Plan) -> Result<Told>
+    requires book { opened.0 ≡ K.book }
+    requires name { K.name ≡ 1 }
+{
+    let name = Name::new(1).context("a name is a number from 1 on")?;
+    let mut node: Node<K, Lock<K, NoGate, R>> = new_node(
+        &rt,
+        alloc,
+        opened,
+        name,
+        plan.places,
+        NoGate,
+        rt,
+    )?;
+    let keys = Keys::new(alloc)?;
+    let mut writer = Writer::new(node.client()?);
+    writer.fill(&rt, alloc, &keys)?;
+    let readers = readers_of(alloc, &mut node, plan.readers)?;
+    let end = Instant::now(&rt)?
+        .checked_add(plan.time)
+        .context("past the end of the clock")?;
+    let (writes, reads) = thread::join(
+        &rt,
+        || writer.write_until(&rt, alloc, &keys, end),
+        || read_beside(&rt, alloc, readers, &keys, end),
+    );
+    Ok(Told {
+        reads: reads?,
+        writes: writes?,
+    })
+}
+
+// So many clients of the node, each with an order of its own.
+fn readers_of<K: Naming, S: Drop>(
+    alloc: Global,
+    node: &mut Node<K, S>,
+    count: usize,
+) -> Result<Vec<Reader<K, S>>, Refusal> {
+    let mut readers = Vec::new(alloc);
+    for number in 0..count {
+        readers.push(Reader::new(node.client()?, number as u64 + 1))?;
+    }
+    Ok(readers)
+}
+
+// Has all readers read until the end, each in a thread of its own.
+fn read_beside<K: Naming + Send, S: Drop + Send + Sync, R: Threads + Clock + Sync>(
+    rt: &R,
+    alloc: Global,
+    readers: Vec<Reader<K, S>>,
+    keys: &Keys,
+    end: Instant,
+) -> Result<Reads> {
+    let told = thread::map_vec(
+        rt,
+        readers,
+        &|reader: Reader<K, S>| { reader.read_until(rt, alloc, keys, end) },
+    )?;
+    let mut all = Reads::none();
+    for reads in told {
+        all = all.and(reads?);
+    }
+    Ok(all)
+}

@@ -1,0 +1,73 @@
+use crate::keys::Keys;
+use crate::random::Random;
+use anyhow::Result;
+use dots::{Field, Key, Refusal, Value};
+use node_threads::{Client, Lock, Naming, Putting};
+use shared_object::NoGate;
+use std::alloc::Global;
+use std::rt::Clock;
+use std::sync::Wait;
+use std::time::Instant;
+
+/// A client that writes.
+#[derive(Drop)]
+pub(crate) struct Writer<K: Naming, W: Wait + Drop> {
+    client: Client<K, Lock<K, NoGate, W>>,
+    field: Field,
+    random: Random,
+}
+
+impl<K: Naming, W: Wait + Drop> Writer<K, W> {
+    pub(crate) fn new(client: Client<K, Lock<K, NoGate, W>>) -> Writer<K, W> {
+        Writer {
+            client,
+            field: Field::empty(),
+            random: Random::new(0),
+        }
+    }
+
+    // Puts a value of eight bytes on the key.
+    fn put(&mut self, rt: &impl Wait, alloc: Global, key: &Key) -> Result<(), Refusal> {
+        let value = Value::new(alloc, &self.random.number().to_be_bytes())?;
+        let putting = Putting {
+            alloc,
+            key,
+            field: &self.field,
+            value: &value,
+        };
+        let (_dot, _receipt) = self.client.call(rt, &putting)?;
+        Ok(())
+    }
+
+    /// Puts a value on each key.
+    pub(crate) fn fill(
+        &mut self,
+        rt: &impl Wait,
+        alloc: Global,
+        keys: &Keys,
+    ) -> Result<(), Refusal> {
+        for key in keys.all() {
+            self.put(rt, alloc, key)?;
+        }
+        Ok(())
+    }
+
+    /// Puts values on one key after the other until the end, and tells how many.
+    pub(crate) fn write_until<R: Wait + Clock>(
+        self,
+        rt: &R,
+        alloc: Global,
+        keys: &Keys,
+        end: Instant,
+    ) -> Result<u64> {
+        let mut writer = self;
+        for count in 0..u64::MAX {
+            if Instant::now(rt)? >= end {
+                return Ok(count);
+            }
+            let key = keys.pick(&mut writer.random);
+            writer.put(rt, alloc, key)?;
+        }
+        Ok(u64::MAX)
+    }
+}

@@ -1,0 +1,8 @@
+// The tests of `node_threads` and of `shared_object`, through public calls alone. They stand in a crate of their own, so that a check of
+// them proves neither a second time.
+#![tactic(auto)]
+
+#[cfg(test)]
+mod made;
+#[cfg(test)]
+mod tests;

@@ -1,0 +1,196 @@
+// Two nodes that are served, each in a thread of its own.
+ghost use Rattle.std.specs.Prelude.{◌≡◌};
+
+use crate::made::{Held, Shared, finished_in_two, hand_out, has, name, put};
+use crossbeam_channel::{Sender, unbounded};
+use dots::Refusal;
+use hash_path::Fnv1a;
+use node_threads::{Asking, Channels, Letter, Naming, NodeEvent, Post, Served, new_node, serve};
+use replica_core::Replica;
+use root_cell::OpenedBook;
+use shared_object::NoGate;
+use std::alloc::Global;
+use std::process::Abort;
+use std::sync::Wait;
+use std::test::Fail;
+use std::thread::Threads;
+use std::{marker, thread};
+use wire_form::encode;
+
+// For so many turns a client reads until it sees what it waits for.
+const TURNS: u64 = 10_000_000;
+
+// What comes to the two nodes from outside. Where nodes are served, the channels are seen as no more than their traits.
+trait Outside {
+    // Hands these bytes to the first node.
+    fn hand<T: Wait>(&self, rt: &T, bytes: Vec<u8>);
+
+    // Ends the serving of both.
+    fn stop<T: Wait>(&self, rt: &T);
+}
+
+#[derive(Drop)]
+struct Ends {
+    node: Sender<Letter>,
+    peer: Sender<Letter>,
+}
+
+impl Outside for Ends {
+    fn hand<T: Wait>(&self, rt: &T, bytes: Vec<u8>) {
+        let _ = self.node.send(rt, Letter::Mail(bytes));
+    }
+
+    fn stop<T: Wait>(&self, rt: &T) {
+        let _ = self.node.send(rt, Letter::Stop);
+        let _ = self.peer.send(rt, Letter::Stop);
+    }
+}
+
+#[test]
+fn two_nodes_that_are_served_synchronise(rt: HostRuntime) -> Result<(), Fail> {
+    let alloc = rt.alloc();
+    let (to_node, inbox) = unbounded(alloc)?;
+    let (to_peer, peer_inbox) = unbounded(alloc)?;
+    let of_node = [(name(&rt, 2), Sender::clone(&to_peer)?)];
+    let of_peer = [(name(&rt, 1), Sender::clone(&to_node)?)];
+    let post = Channels {
+        inbox: &inbox,
+        outboxes: &of_node,
+    };
+    let peer_post = Channels {
+        inbox: &peer_inbox,
+        outboxes: &of_peer,
+    };
+    let ends = Ends {
+        node: to_node,
+        peer: to_peer,
+    };
+    let (first, second) = (OpenedBook::new(), OpenedBook::new());
+    let told = exchange::<marker::Brand, marker::Brand, _, _, _, _>(
+        rt, alloc, first, second, &post, &peer_post, &ends,
+    );
+    assert!(rt; told == Ok(true));
+    Ok(())
+}
+
+fn exchange<
+    K: Naming + Send + Sync,
+    L: Naming + Send + Sync,
+    P: Post + Sync,
+    Q: Post + Sync,
+    O: Outside + Sync,
+    R: Threads + Wait + Abort + Copy + Drop + Send + Sync,
+>(
+    rt: R,
+    alloc: Global,
+    first: OpenedBook<NodeEvent>,
+    second: OpenedBook<NodeEvent>,
+    post: &P,
+    peer_post: &Q,
+    outside: &O,
+) -> Result<bool, Refusal>
+    requires first { first.0 ≡ K.book }
+    requires second { second.0 ≡ L.book }
+    requires one { K.name ≡ 1 }
+    requires two { L.name ≡ 2 }
+{
+    let (one, two) = (name(&rt, 1), name(&rt, 2));
+    let mut node: Shared<K, NoGate, R> = new_node(&rt, alloc, first, one, 2, NoGate, rt)?;
+    let mut peer: Shared<L, NoGate, R> = new_node(&rt, alloc, second, two, 2, NoGate, rt)?;
+    let (mut served, mut peer_served) = (hand_out(&mut node)?, hand_out(&mut peer)?);
+    let (mut writer, mut reader) = (hand_out(&mut node)?, hand_out(&mut peer)?);
+    let (is_seen, is_served) = thread::join(
+        &rt,
+        || synchronise(&rt, alloc, &mut writer, &mut reader, outside),
+        || serve_both(&rt, alloc, &mut served, &mut peer_served, post, peer_post),
+    );
+    let last = finished_in_two(&rt, alloc, node, served, writer);
+    let peer_last = finished_in_two(&rt, alloc, peer, peer_served, reader);
+    let is_seen = is_seen == Ok(true) && is_served;
+    Ok(is_seen && last == Ok(Some((4, 1))) && peer_last == Ok(Some((3, 1))))
+}
+
+// Serves both nodes until their posts end, each in a thread of its own. Whether so much was delivered, refused and lost.
+fn serve_both<
+    K: Naming + Send + Sync,
+    L: Naming + Send + Sync,
+    P: Post + Sync,
+    Q: Post + Sync,
+    R: Threads + Wait + Abort + Copy + Drop + Send + Sync,
+>(
+    rt: &R,
+    alloc: Global,
+    served: &mut Held<K, NoGate, R>,
+    peer_served: &mut Held<L, NoGate, R>,
+    post: &P,
+    peer_post: &Q,
+) -> bool {
+    let (told, peer_told) = thread::join(
+        rt,
+        || serve_held(rt, alloc, served, post),
+        || serve_held(rt, alloc, peer_served, peer_post),
+    );
+    let all = Served {
+        delivered: 3,
+        refused: 1,
+        lost: 1,
+    };
+    let peer_all = Served {
+        delivered: 2,
+        refused: 0,
+        lost: 0,
+    };
+    told == all && peer_told == peer_all
+}
+
+fn serve_held<K: Naming, P: Post, R: Wait + Drop>(
+    rt: &R,
+    alloc: Global,
+    held: &mut Held<K, NoGate, R>,
+    post: &P,
+) -> Served {
+    serve(rt, alloc, &mut held.client, post)
+}
+
+// Hands the one node what is no message, and a hello for whose answer it has no outbox. Writes there, has the other node ask it, waits
+// until that one shows what was written, and ends both.
+fn synchronise<K: Naming, L: Naming, O: Outside, R: Wait + Abort + Drop>(
+    rt: &R,
+    alloc: Global,
+    writer: &mut Held<K, NoGate, R>,
+    reader: &mut Held<L, NoGate, R>,
+    outside: &O,
+) -> Result<bool, Refusal> {
+    let seen = write_and_wait(rt, alloc, writer, reader, outside);
+    outside.stop(rt);
+    seen
+}
+
+fn write_and_wait<K: Naming, L: Naming, O: Outside, R: Wait + Abort + Drop>(
+    rt: &R,
+    alloc: Global,
+    writer: &mut Held<K, NoGate, R>,
+    reader: &mut Held<L, NoGate, R>,
+    outside: &O,
+) -> Result<bool, Refusal> {
+    put(rt, alloc, writer, b"a", b"", b"x")?;
+    outside.hand(rt, Vec::new(alloc));
+    outside.hand(rt, hello(rt, alloc)?);
+    let peer = name(rt, 1);
+    let ((_number, hello), _receipt) = reader.client.call(rt, &Asking { alloc, peer })?;
+    outside.hand(rt, encode(alloc, &hello)?);
+    for _ in 0..TURNS {
+        if has(alloc, reader, b"a", b"", Some(b"x"))? {
+            return Ok(true);
+        }
+        thread::yield_now();
+    }
+    Ok(false)
+}
+
+// The bytes of a hello of replica 3 to replica 1, whose map is empty.
+fn hello(rt: &impl Abort, alloc: Global) -> Result<Vec<u8>, Refusal> {
+    let mut asker = Replica::new(alloc, name(rt, 3), Fnv1a);
+    let (_number, hello) = asker.ask(name(rt, 1))?;
+    encode(alloc, &hello)
+}
