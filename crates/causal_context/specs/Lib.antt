@@ -1,5 +1,6 @@
 pub mod Dots
 pub mod Context
+pub mod Code
 pub mod Canonical
 pub mod Run
 pub mod Equal

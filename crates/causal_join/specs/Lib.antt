@@ -1,2 +1,3 @@
 pub mod Causal
 pub mod OrMap
+pub mod Code

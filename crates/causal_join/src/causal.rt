@@ -1,7 +1,7 @@
 ghost use Rattle.std.specs.Prelude.{◌≡◌, ◌↔◌, IsTrue, IsNone, IfSome, IfOk, OnOk, OnErr, IsOkUnless};
-ghost use Rattle.causal_context.specs.Context.{has, HasNone, HasSame};
+ghost use Rattle.causal_context.specs.Context.{has, HasNone};
 ghost use Rattle.op_model.specs.State.{join, Same, IsInside};
-ghost use Rattle.dot_store.specs.Store.{HasNothing, HoldsSame, state_with};
+ghost use Rattle.dot_store.specs.Store.{HasNothing, state_with};
 ghost use Rattle.causal_join.specs.Causal.{state_of};
 
 use causal_context::Context;

@@ -1,5 +1,5 @@
 // Roots of 64 bits, each the sum of the events that it stands for.
-ghost use Rattle.std.specs.Prelude.{◌≡◌, ℕ, List, [], sum};
+ghost use Rattle.std.specs.Prelude.{◌≡◌, ℕ, List, sum};
 
 mod beside;
 mod refused;

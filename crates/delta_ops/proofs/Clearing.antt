@@ -1,6 +1,6 @@
 -- The dots that stand anywhere, gathered key by key.
 use Rattle.std.proofs.Common.{◌≡◌, ℕ, List, Some, sym, ap, ◌∙◌}
-use Rattle.std.specs.Prelude.{IsSome, IsTrue, is_some}
+use Rattle.std.specs.Prelude.{IsTrue, is_some}
 use Rattle.std.specs.FinMap as finite
 use Rattle.causal_join.specs.OrMap.{FieldsValue, fields_at, path_of}
 use Rattle.dot_store.specs.Store.{HoldsDot}

@@ -1,18 +1,15 @@
 -- The keys of a map, gathered one after another.
-use Rattle.std.proofs.Common.{◌≡◌, ℕ, List, Contains, Some, sym, ap, ◌∙◌, subst, ⊎_elim}
-use Rattle.std.specs.Prelude.{IsSome, is_some, ◌⊎◌}
+use Rattle.std.proofs.Common.{◌≡◌, ℕ, List, Contains, Some, sym, ap, ◌∙◌, subst}
+use Rattle.std.specs.Prelude.{is_some, ◌⊎◌}
 use Rattle.std.specs.BTreeSet.{insert_key}
 use Rattle.std.specs.FinMap as finite
-use Rattle.causal_join.specs.OrMap.{FieldsValue, fields_at, path_of}
+use Rattle.causal_join.specs.OrMap.{FieldsValue, fields_at}
 use Rattle.delta_ops.proofs.Gathering.{insert_key-with_one}
 use Rattle.delta_ops.proofs.Listing.{somewhere}
 use Rattle.dot_store.specs.Store.{HasNothing}
 use Rattle.dots.specs.Bytes.{bytes_cmp}
-use Rattle.dots.specs.Dot.{DotValue}
 use Rattle.op_model.proofs.Ascending.{in_with_one, from_with_one, with_one-ascends}
-use Rattle.op_model.proofs.Members.{at_same}
 use Rattle.op_model.specs.Meaning.{HoldsKey}
-use Rattle.op_model.specs.Place.{place_of}
 use Rattle.op_model.specs.Shown.{IsAscending, with_one}
 use Rattle.live_map.specs.Live.{PairValue}
 use Rattle.trie_map.proofs.Holding.{held_of, store_of}

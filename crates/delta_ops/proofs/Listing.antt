@@ -1,5 +1,5 @@
 -- Keys and fields of ordered entries: over plain variables.
-use Rattle.std.proofs.Common.{◌≡◌, ℕ, ◌+◌, ◌<◌, cond, List, [], ◌∷◌, ◌++◌, map, take, length, get_or, Contains, Option, None, Some, is_some, IsSome, refl, sym, ◌∙◌, ap, subst, ◌↔◌, ◌⊎◌, inl, inr}
+use Rattle.std.proofs.Common.{◌≡◌, ℕ, ◌+◌, ◌<◌, cond, List, [], ◌∷◌, ◌++◌, take, length, get_or, Contains, Option, None, Some, is_some, IsSome, refl, sym, ◌∙◌, ap, subst, ◌↔◌, ◌⊎◌, inl, inr}
 use Rattle.std.specs.declared.cmp.Ordering.TheVariants.{Less}
 use Rattle.std.specs.List.{AllByRecursion}
 use Rattle.std.specs.List.Sorted.{IsStrictlySortedBy}
@@ -15,9 +15,8 @@ use Rattle.dot_store.specs.Stores.{at_stores, at_values, held_by, NoKeyIsEmpty}
 use Rattle.dots.specs.Bytes.{bytes_cmp}
 use Rattle.dots.specs.Dot.{DotValue, same_dot}
 use Rattle.op_model.specs.Meaning.{HoldsField, HoldsKey}
-use Rattle.op_model.specs.Place.{place_of}
 use Rattle.op_model.specs.Shown.{IsAscending}
-use Rattle.op_model.proofs.Ascending.{IsBelow, ascends, nothing_ascends}
+use Rattle.op_model.proofs.Ascending.{ascends, nothing_ascends}
 use Rattle.op_model.proofs.Dots.{same_dot-self}
 use Rattle.op_model.proofs.Places.{same_bytes-true}
 use Rattle.op_model.proofs.Members.{nothing_in, at_same, head_or_tail, in_map, from_map}

@@ -1,6 +1,6 @@
 -- Groups of deltas, after Almeida, Shoker and Baquero, "Delta State Replicated Data Types" (2018): a delta group is the
 -- join of some deltas.
-use Rattle.std.specs.Prelude.{ℕ, List, [], fold}
+use Rattle.std.specs.Prelude.{List, [], fold}
 use Rattle.causal_join.specs.OrMap.{OrMapValue, or_map_state}
 use Rattle.op_model.specs.Meaning.{MapState, greater, state}
 use Rattle.op_model.specs.State.{join}

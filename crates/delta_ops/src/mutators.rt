@@ -1,4 +1,4 @@
-ghost use Rattle.std.specs.Prelude.{◌≡◌, ◌-◌, ◌^◌, ◌↔◌, ◌⊎◌, ◌∷◌, [], List, ℕ, Some, None, cond, ◌&&◌, is_some, IfOk, IfErr, IsErrOf, IsOkUnless};
+ghost use Rattle.std.specs.Prelude.{◌≡◌, ◌-◌, ◌^◌, ◌↔◌, ◌⊎◌, ◌∷◌, [], Some, None, cond, ◌&&◌, is_some, IfOk, IfErr, IsErrOf, IsOkUnless};
 ghost use Rattle.causal_context.specs.Context.{has, IsGreatest};
 ghost use Rattle.causal_join.specs.OrMap.{or_map_at, or_map_state, path_of};
 ghost use Rattle.delta_ops.specs.LiveMap.{live_state};

@@ -4,7 +4,7 @@ ghost use Rattle.delta_ops.specs.Group.{group_state};
 ghost use Rattle.causal_join.specs.OrMap.{or_map_state};
 ghost use Rattle.delta_ops.specs.Run.{groups_of};
 ghost use Rattle.dots.specs.Dot.{DotValue};
-ghost use Rattle.op_model.specs.Meaning.{greater, state};
+ghost use Rattle.op_model.specs.Meaning.{greater};
 ghost use Rattle.op_model.specs.State.{Same, join};
 
 use crate::grouping::group;

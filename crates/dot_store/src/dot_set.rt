@@ -1,4 +1,4 @@
-ghost use Rattle.std.specs.Prelude.{◌≡◌, cond, Some, refl, OnOk, OnErr, IsOkUnless, IfOk, List};
+ghost use Rattle.std.specs.Prelude.{◌≡◌, cond, Some, refl, OnOk, OnErr, IsOkUnless, List};
 ghost use Rattle.std.specs.List.Sorted.{IsStrictlySortedBy};
 ghost use Rattle.std.specs.Map.{keys_of};
 ghost use Rattle.causal_context.specs.Dots.{dot_cmp};

@@ -1,6 +1,6 @@
-ghost use Rattle.std.specs.Prelude.{◌≡◌, ◌↔◌, ◌⊎◌, Option, None, false, IsTrue, IsSome, IfOk, OnOk, OnErr, IsOkUnless};
+ghost use Rattle.std.specs.Prelude.{◌≡◌, ◌↔◌, ◌⊎◌, Option, None, false, IsTrue, IsSome, IfOk, IsOkUnless};
 ghost use Rattle.dots.specs.Dot.{DotValue};
-ghost use Rattle.causal_context.specs.Context.{has, HasSame};
+ghost use Rattle.causal_context.specs.Context.{has};
 ghost use Rattle.op_model.specs.State.{join, IsInside};
 ghost use Rattle.dot_store.specs.Store.{HasNothing, HoldsDot, HoldsSame, state_with};
 

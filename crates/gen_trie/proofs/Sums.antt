@@ -7,7 +7,7 @@ use Rattle.std.proofs.Math.Seq.{take-append_seam}
 use Rattle.std.proofs.lemmas.List.{append_assoc, append-nil, length-map, map-append}
 use Rattle.hash_path.specs.Fan.{fan, Rise}
 use Rattle.hash_path.specs.Map.{as_map, by_key, by_path}
-use Rattle.hash_path.specs.Summary.{Calls, under_prefix, sums, summary_of, summary_at}
+use Rattle.hash_path.specs.Summary.{SummaryCalls, under_prefix, sums, summary_of, summary_at}
 use Rattle.hash_path.proofs.Rising.{rise_short, Rise-sums}
 use Rattle.hash_path.proofs.Summaries.{sums_append, summary_branch, summary_list, summary_there}
 use Rattle.hash_path.proofs.Words.{key_in-word}
@@ -46,7 +46,7 @@ few_slots below slots rise =
     let same = length-map slots (child below) in
     omega (arith, few, same)
 
-module _ {V M A : Type 0} (c : Calls V M) where
+module _ {V M A : Type 0} (c : SummaryCalls V M) where
   pub of_children : (node : ℕ × List (List ℕ × V)) (below : ℕ) (slots found : List (Slot V M A)) (behind : List (ℕ × M)) (m : M) → node ≡ (suc below, fan (children below slots)) → Rise 0 (children below slots) → 2 ≤ length node.1
       → found ≡ slots → behind ≡ [] → m ≡ c.branch (sums (summary_of c below) (children below found) ++ behind) → summary_of c node.0 node.1 ≡ Some m
   of_children node below slots found behind m e rise several fs none ms =
@@ -80,7 +80,7 @@ module _ {V M A : Type 0} (c : Calls V M) where
 
 -- ---- at a prefix
 
-module _ {V M A : Type 0} (c : Calls V M) (slot : Slot V M A) (prefix : List ℕ) where
+module _ {V M A : Type 0} (c : SummaryCalls V M) (slot : Slot V M A) (prefix : List ℕ) where
   pub none_there : length prefix ≤ 7 → under_prefix prefix (child 7 slot).1 ≡ [] → None ≡ summary_at c prefix 7 (child 7 slot).1
   none_there short none = sym (summary_there c prefix 7 (child 7 slot).1 short ∙ ap (summary_of c (7 - length prefix)) none)
 
@@ -91,7 +91,7 @@ module _ {V M A : Type 0} (c : Calls V M) (slot : Slot V M A) (prefix : List ℕ
 
 -- ---- at the root of a trie
 
-module _ {V M A : Type 0} (c : Calls V M) (f : List ℕ → ℕ) (root : Option (Slot V M A)) (count : ℕ) (trie : IsTrie f root count) where
+module _ {V M A : Type 0} (c : SummaryCalls V M) (f : List ℕ → ℕ) (root : Option (Slot V M A)) (count : ℕ) (trie : IsTrie f root count) where
   pub at_root : (prefix : List ℕ) → summary_at c prefix 7 (root_entries root) ≡ summary_at c prefix 7 (by_path f (as_map (root_entries root)))
   at_root prefix = ap (summary_at c prefix 7) (sym (by_path_is f (root_entries root) trie.hashed (let r = trie.root_is in r.sorted)))
 

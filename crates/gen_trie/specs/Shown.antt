@@ -23,12 +23,12 @@ shown_code {H} {V} hash value =
     (λ p. record { hash = p.0; map = p.1.0; generation = p.1.1 })
     (λ _. refl)
 
-abbrev pub shown : {H V : Type 0} → H → finite.FinMap bytes_cmp V → ℕ → Shown H V
-shown hash map generation = record { hash = hash; map = map; generation = generation }
+abbrev pub trie_shown : {H V : Type 0} → H → finite.FinMap bytes_cmp V → ℕ → Shown H V
+trie_shown hash map generation = record { hash = hash; map = map; generation = generation }
 
 -- what the parts of a trie are seen as
 abbrev pub shown_of : {H V M A : Type 0} → H → Option (Slot V M A) → ℕ → Shown H V
-shown_of hash root generation = shown hash (as_map (root_entries root)) generation
+shown_of hash root generation = trie_shown hash (as_map (root_entries root)) generation
 
 -- the generation after one: the last, 2^64 - 1, stays
 abbrev pub generation_after : ℕ → ℕ

@@ -9,9 +9,9 @@ use std::sync::Arc;
 /// function of its arguments' values; so equal maps have equal summaries.
 pub trait Summary<V>: Copy + Drop {
     ghost use Rattle.hash_path.specs.Fan.{Rise};
-    ghost use Rattle.hash_path.specs.Summary.{Calls};
+    ghost use Rattle.hash_path.specs.Summary.{SummaryCalls};
 
-    ghost calls: { Calls V Self };
+    ghost calls: { SummaryCalls V Self };
 
     /// The summary of one key alone, at any prefix.
     fn leaf(key: &[u8], value: &V) -> Self

@@ -5,7 +5,7 @@ ghost use Rattle.std.specs.FinMap as finite;
 ghost use Rattle.hash_path.specs.Map.{by_path, walk, walk_under};
 ghost use Rattle.hash_path.specs.Path.{indices};
 ghost use Rattle.hash_path.specs.Summary.{summary_at};
-ghost use Rattle.gen_trie.specs.Shown.{shown, generation_after};
+ghost use Rattle.gen_trie.specs.Shown.{trie_shown, generation_after};
 ghost use Rattle.dots.specs.declared.refusal.Refusal.TheVariants.{OutOfMemory};
 
 use crate::entry::Entry;
@@ -54,7 +54,7 @@ impl<V, M: Summary<V>, H: PathHash, A: Allocator> Model for GenTrie<V, M, H, A> 
 impl<V, M: Summary<V>, H: PathHash, A: Allocator + Copy> GenTrie<V, M, H, A> {
     /// The map with no keys, whose paths are by this hash. Takes no memory.
     pub fn new(alloc: A, hash: H) -> GenTrie<V, M, H, A>
-        ensures { result ≡ shown hash finite.empty 0 }
+        ensures { result ≡ trie_shown hash finite.empty 0 }
     {
         GenTrie {
             alloc,

@@ -12,7 +12,7 @@ use Rattle.hash_path.specs.PathLaws.{length-indices}
 use Rattle.dots.specs.Bytes.{bytes_cmp}
 use Rattle.hash_path.specs.Word.{digit, word, hash_in, key_in, IsWord, AllWords}
 use Rattle.hash_path.specs.Map.{path, key_of, HashedBy, as_map}
-use Rattle.hash_path.specs.Summary.{Calls, under_index, under_prefix, summary_of, summary_at}
+use Rattle.hash_path.specs.Summary.{SummaryCalls, under_index, under_prefix, summary_of, summary_at}
 use Rattle.hash_path.proofs.Orders.{less, same, more}
 use Rattle.hash_path.proofs.Maps.{get-as_map}
 use Rattle.hash_path.proofs.Paths.{path_begins}
@@ -70,7 +70,7 @@ module _ {V : Type 0} where
       step true t = tied_same w (path f (key_of w)) t
       step false t = let none = find_off f w es h t in absurd cc
 
-module _ {V M : Type 0} (c : Calls V M) where
+module _ {V M : Type 0} (c : SummaryCalls V M) where
   none_of : (height : ℕ) (es : List (List ℕ × V)) → summary_of c height es ≡ None → es ≡ []
   none_of height [] e = refl
   none_of height (x ∷ []) e = absurd cc

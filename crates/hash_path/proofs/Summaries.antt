@@ -7,7 +7,7 @@ use Rattle.std.specs.Ordering.{nat_cmp}
 use Rattle.std.specs.FinMap.Entries.{by_order}
 use Rattle.hash_path.specs.Fan.{under, fan, Rise, at}
 use Rattle.hash_path.specs.Map.{by_key}
-use Rattle.hash_path.specs.Summary.{Calls, under_index, under_prefix, one_present, present, summary_of, summary_at, sums}
+use Rattle.hash_path.specs.Summary.{SummaryCalls, under_index, under_prefix, one_present, present, summary_of, summary_at, sums}
 use Rattle.hash_path.proofs.Orders.{less, same, more, is_more}
 
 module _ {V : Type 0} where
@@ -85,7 +85,7 @@ module _ {V M : Type 0} (s : List (List ℕ × V) → Option M) (none_is : s [] 
   present_is i (suc n) (c ∷ cs) e r =
       present_step i n c cs (nat_cmp i c.0) refl r (present_is (suc i) n (c ∷ cs) (omega arith)) (present_is (suc i) n cs (omega arith))
 
-module _ {V M : Type 0} (c : Calls V M) where
+module _ {V M : Type 0} (c : SummaryCalls V M) where
   several : (below : ℕ) (es : List (List ℕ × V)) → 2 ≤ length es → summary_of c (suc below) es ≡ Some (c.branch (present 0 32 (λ i. summary_of c below (under_index i es))))
   several below [] h = absurd (omega arith)
   several below (e ∷ []) h = absurd (omega arith)

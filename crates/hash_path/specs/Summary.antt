@@ -7,7 +7,7 @@ use Rattle.hash_path.specs.Word.{key_in}
 use Rattle.hash_path.specs.Map.{by_key}
 
 -- the three calls. A list is by key bytes, the children of a branch are by index
-pub record Calls (V M : Type 0) : Type 0 where
+pub record SummaryCalls (V M : Type 0) : Type 0 where
   pub leaf : List ℕ → V → M
   pub list : List (List ℕ × V) → M
   pub branch : List (ℕ × M) → M
@@ -32,14 +32,14 @@ present i zero summary = []
 present i (suc count) summary = one_present i (summary i) (present (suc i) count summary)
 
 -- the summary of the entries below a node of this height: no key has none, one key is a leaf at any height
-abbrev pub summary_of : {V M : Type 0} → Calls V M → ℕ → List (List ℕ × V) → Option M
+abbrev pub summary_of : {V M : Type 0} → SummaryCalls V M → ℕ → List (List ℕ × V) → Option M
 summary_of c height [] = None
 summary_of c height (e ∷ []) = Some (c.leaf (key_in height e.0) e.1)
 summary_of c zero (e ∷ f ∷ es) = Some (c.list (by_key 0 (e ∷ f ∷ es)))
 summary_of c (suc below) (e ∷ f ∷ es) = Some (c.branch (present 0 32 (λ i. summary_of c below (under_index i (e ∷ f ∷ es)))))
 
 -- the summary of those whose word begins with a prefix
-abbrev pub summary_at : {V M : Type 0} → Calls V M → List ℕ → ℕ → List (List ℕ × V) → Option M
+abbrev pub summary_at : {V M : Type 0} → SummaryCalls V M → List ℕ → ℕ → List (List ℕ × V) → Option M
 summary_at c [] height es = summary_of c height es
 summary_at c (i ∷ p) zero es = None
 summary_at c (i ∷ p) (suc below) es = summary_at c p below (under_index i es)

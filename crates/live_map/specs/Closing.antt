@@ -9,8 +9,8 @@ use Rattle.trie_map.specs.Keyed.{TrieMapValue}
 use Rattle.live_map.specs.Index.{PlaceValue, names, has_key}
 
 -- the hash and the stores of a trie
-abbrev pub entries_of : {Hash S : Type 0} → Shown Hash S → TrieMapValue Hash S
-entries_of trie = (trie.hash, trie.map)
+abbrev pub stores_of : {Hash S : Type 0} → Shown Hash S → TrieMapValue Hash S
+stores_of trie = (trie.hash, trie.map)
 
 -- at a key that is none of these a map holds what its join with another one does
 abbrev pub ChangesOnlyAt : {P H : Type 0} → (H → H → H) → (mine : List ℕ × P → DotValue → Option H) (own : DotValue → Bool) (yours : List ℕ × P → DotValue → Option H) (theirs : DotValue → Bool)

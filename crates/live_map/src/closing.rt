@@ -5,7 +5,7 @@ ghost use Rattle.std.specs.FinMap as finite;
 ghost use Rattle.causal_context.specs.Context.{has, known_up_to};
 ghost use Rattle.dot_store.specs.Store.{HoldsSame, state_with};
 ghost use Rattle.dots.specs.Dot.{DotValue};
-ghost use Rattle.live_map.specs.Closing.{entries_of, ChangesOnlyAt, IsTouchedSince};
+ghost use Rattle.live_map.specs.Closing.{stores_of, ChangesOnlyAt, IsTouchedSince};
 ghost use Rattle.live_map.specs.Index.{names, has_key};
 ghost use Rattle.op_model.specs.State.{join};
 ghost use Rattle.trie_map.specs.Joined.{IsJoinedAt, IsEitherAt};
@@ -142,11 +142,11 @@ pub(crate) fn closed<S: DotStore<A>, M: Summary<S>, H: PathHash, A: Allocator + 
     theirs: &Context<A>,
     keys: &BTreeSet<Key<A>, A>,
 ) -> Result<TrieMap<S, M, H, A>, Refusal>
-    requires { ChangesOnlyAt S.greater (at_keys S.at mine.now) (has own.now) (at_keys S.at (entries_of built.now)) (has theirs.now)
+    requires { ChangesOnlyAt S.greater (at_keys S.at mine.now) (has own.now) (at_keys S.at (stores_of built.now)) (has theirs.now)
         keys.now.keys }
     ensures hash { IfOk result (λ both. both.0 ≡ mine.now.0) }
     ensures ok { IfOk result (λ both. HoldsSame (at_keys S.at both) (join S.greater (state_with (at_keys S.at mine.now) (has own.now))
-        (state_with (at_keys S.at (entries_of built.now)) (has theirs.now))).at) }
+        (state_with (at_keys S.at (stores_of built.now)) (has theirs.now))).at) }
     ensures err { IsOkUnless result Refusal.OutOfMemory }
 {
     let mut draft = mine.draft()?;
@@ -167,9 +167,9 @@ fn join_built_at<S: DotStore<A>, M: Summary<S>, H: PathHash, A: Allocator + Copy
     requires { draft.old ≡ mine.now }
     ensures hash { draft.new.0 ≡ draft.old.0 }
     ensures either { OnOk result ((q : List ℕ) → IsEitherAt S.at S.greater (at_keys S.at mine.now) (has own.now)
-        (at_keys S.at (entries_of built.now)) (has theirs.now) draft.new.1 q) }
+        (at_keys S.at (stores_of built.now)) (has theirs.now) draft.new.1 q) }
     ensures there { OnOk result ((q : List ℕ) → IsTrue (has_key keys.now.keys q) → IsJoinedAt S.at S.greater (at_keys S.at mine.now)
-        (has own.now) (at_keys S.at (entries_of built.now)) (has theirs.now) draft.new.1 q) }
+        (has own.now) (at_keys S.at (stores_of built.now)) (has theirs.now) draft.new.1 q) }
     ensures err { IsOkUnless result Refusal.OutOfMemory }
 {
     let empty = S::empty(alloc);
@@ -189,7 +189,7 @@ pub(crate) fn name_built<S: DotStore<A>, M: Summary<S>, H: PathHash, A: Allocato
     keys: &BTreeSet<Key<A>, A>,
 ) -> Result<(), Refusal>
     ensures there { OnOk result ((q : List ℕ) → IsTrue (has_key keys.now.keys q) → (place : S.Place) (d : DotValue)
-        → IsSome (at_keys S.at (entries_of built.now) (q, place) d) → IsTrue (names index.new d q)) }
+        → IsSome (at_keys S.at (stores_of built.now) (q, place) d) → IsTrue (names index.new d q)) }
     ensures kept { (d : DotValue) (q : List ℕ) → IsTrue (names index.old d q) → IsTrue (names index.new d q) }
     ensures err { IsOkUnless result Refusal.OutOfMemory }
 {
@@ -206,7 +206,7 @@ fn name_key<S: DotStore<A>, M: Summary<S>, H: PathHash, A: Allocator + Copy>(
     built: &Frozen<S, M, H, A>,
     key: &Key<A>,
 ) -> Result<(), Refusal>
-    ensures there { OnOk result ((place : S.Place) (d : DotValue) → IsSome (at_keys S.at (entries_of built.now) (key.now, place) d)
+    ensures there { OnOk result ((place : S.Place) (d : DotValue) → IsSome (at_keys S.at (stores_of built.now) (key.now, place) d)
         → IsTrue (names index.new d key.now)) }
     ensures kept { (d : DotValue) (q : List ℕ) → IsTrue (names index.old d q) → IsTrue (names index.new d q) }
     ensures err { IsOkUnless result Refusal.OutOfMemory }

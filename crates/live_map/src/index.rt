@@ -1,4 +1,4 @@
-ghost use Rattle.std.specs.Prelude.{◌≡◌, ◌≤◌, cond, true, false, [], ℕ, List, IsTrue, IfOk, OnOk, OnErr, IsOkUnless};
+ghost use Rattle.std.specs.Prelude.{◌≡◌, ◌≤◌, cond, false, [], ℕ, List, IsTrue, IfOk, OnOk, IsOkUnless};
 ghost use Rattle.std.specs.List.{All};
 ghost use Rattle.std.specs.Ordering.{is_eq};
 ghost use Rattle.causal_context.specs.Context.{has};

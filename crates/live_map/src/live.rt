@@ -6,7 +6,7 @@ ghost use Rattle.dot_store.specs.Store.{HasNothing, HoldsSame, state_with};
 ghost use Rattle.dot_store.specs.Stores.{at_stores};
 ghost use Rattle.dots.specs.Bytes.{bytes_cmp};
 ghost use Rattle.op_model.specs.State.{join, Same, IsInside};
-ghost use Rattle.live_map.specs.Closing.{entries_of};
+ghost use Rattle.live_map.specs.Closing.{stores_of};
 ghost use Rattle.live_map.specs.Index.{AreAllTouched, IsIndexed};
 ghost use Rattle.trie_map.specs.Keyed.{at_keys, NoStoreIsEmpty, EachIsCanonical};
 
@@ -163,13 +163,13 @@ impl<S: DotStore<A>, M: Summary<S>, H: PathHash, A: Allocator + Copy> Live<S, M,
         context: &Context<A>,
     ) -> Result<Prepared<S, M, H, A>, Refusal>
         requires below { Same (join S.greater (state_of (at_keys S.at) self.old.0)
-            (state_of (at_keys S.at) (entries_of base.now, seen.now))) (state_of (at_keys S.at) self.old.0) }
+            (state_of (at_keys S.at) (stores_of base.now, seen.now))) (state_of (at_keys S.at) self.old.0) }
         requires rest { (key : List ℕ) → finite.get touched.now.map key ≡ None
             → finite.get built.now.map key ≡ finite.get base.now.map key }
-        requires inside { IsInside (state_of (at_keys S.at) (entries_of built.now, context.now)) }
+        requires inside { IsInside (state_of (at_keys S.at) (stores_of built.now, context.now)) }
         ensures hash { IfOk result (λ next. next.0.0 ≡ self.old.0.0.0) }
         ensures ok { IfOk result (λ next. Same (state_of (at_keys S.at) next) (join S.greater
-            (state_of (at_keys S.at) self.old.0) (state_of (at_keys S.at) (entries_of built.now, context.now)))) }
+            (state_of (at_keys S.at) self.old.0) (state_of (at_keys S.at) (stores_of built.now, context.now)))) }
         ensures fits { IfOk result (λ next. IsIndexed (at_keys S.at next.0) self.new.1) }
         ensures unchanged { self.new.0 ≡ self.old.0 }
         ensures err { IsOkUnless result Refusal.OutOfMemory }

@@ -1,4 +1,4 @@
-ghost use Rattle.std.specs.Prelude.{◌≡◌, [], ℕ, List, IsTrue, OnOk, OnErr, IsOkUnless};
+ghost use Rattle.std.specs.Prelude.{◌≡◌, [], ℕ, List, IsTrue, OnOk, IsOkUnless};
 ghost use Rattle.live_map.specs.Index.{has_key};
 
 use dots::{Dot, Key, Refusal};

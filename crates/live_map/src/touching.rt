@@ -1,8 +1,7 @@
 // The keys that a delta can change, and the join at these keys.
-ghost use Rattle.std.specs.Prelude.{◌≡◌, ◌≤◌, false, None, ℕ, List, IsTrue, IsSome, IfOk, OnOk, OnErr, IsOkUnless};
+ghost use Rattle.std.specs.Prelude.{◌≡◌, ◌≤◌, false, None, ℕ, List, IsTrue, IsSome, IfOk, OnOk, IsOkUnless};
 ghost use Rattle.std.specs.List.{All};
 ghost use Rattle.causal_context.specs.Context.{has};
-ghost use Rattle.causal_context.specs.Canonical.{HasNoZero};
 ghost use Rattle.dot_store.specs.Stores.{at_stores};
 ghost use Rattle.dots.specs.Bytes.{bytes_cmp};
 ghost use Rattle.dots.specs.Dot.{DotValue};

@@ -1,6 +1,5 @@
 // A node that is served: a client that takes in what comes by a post, and sends what is answered.
-ghost use Rattle.std.specs.Prelude.{◌≡◌, ◌+◌, IfOk, OnErr};
-ghost use Rattle.shared_object.specs.Calling.{HasNotCalled};
+ghost use Rattle.std.specs.Prelude.{◌≡◌, ◌+◌};
 ghost use Rattle.node_threads.specs.Serving.{TookIn};
 
 use crate::acts::Delivering;

@@ -10,7 +10,7 @@ use Rattle.op_model.specs.Operation.{Write, Operation, Wrote, Erased, has, ids, 
 use Rattle.op_model.specs.Shown.{shown, shown_within, shown_anywhere}
 use Rattle.op_model.specs.Meaning.{MapState, greater, state}
 use Rattle.op_model.specs.Made.{put_at, erasure, remove_at, remove_field_at, clear_at, IsPutAt, IsRemoveAt, IsFieldRemoveAt, IsClearAt}
-use Rattle.op_model.specs.World.{World, Means, IsUntouched, replica_of, Event, Node, Put, Remove, RemoveField, Clear, Flush, Deliver, is_among, is_node, message, makes, happens, after}
+use Rattle.op_model.specs.World.{AbstractWorld, Means, IsUntouched, replica_of, AbstractEvent, Node, Put, Remove, RemoveField, Clear, Flush, Deliver, is_among, is_node, message, makes, happens, after}
 use Rattle.op_model.proofs.Joins.{same-chain, or_assoc}
 use Rattle.op_model.proofs.Dots.{same_dot-self, has-append}
 use Rattle.op_model.proofs.Making.{put_made, remove_made, field_remove_made, clear_made}
@@ -18,10 +18,10 @@ use Rattle.op_model.proofs.Members.{at_head}
 use Rattle.op_model.proofs.Fresh.{IsNew, put-new, erasure-new, sound-after, after-push}
 use Rattle.op_model.proofs.Pairs.{grown-there, emptied-here, emptied-there, makes_live, makes_group, learns_live}
 
-then_after : (events : List Event) (e : Event) (p g : MapState) (name : ℕ) → Means p g (happens (after events) e) name → Means p g (after (events ++ e ∷ [])) name
-then_after events e p g name h = let P : World → Type 0 = λ w. Means p g w name in subst P (sym (after-push events e)) h
+then_after : (events : List AbstractEvent) (e : AbstractEvent) (p g : MapState) (name : ℕ) → Means p g (happens (after events) e) name → Means p g (after (events ++ e ∷ [])) name
+then_after events e p g name h = let P : AbstractWorld → Type 0 = λ w. Means p g w name in subst P (sym (after-push events e)) h
 
-module _ (events : List Event) (name : ℕ) (p g : MapState) (means : Means p g (after events) name) where
+module _ (events : List AbstractEvent) (name : ℕ) (p g : MapState) (means : Means p g (after events) name) where
   makes_means : (more : List Operation) → IsNew ((after events).seen name) name more → (d : MapState) → Same d (state more) →
       Means (join greater p d) (join greater g d) (makes name more (after events)) name
   makes_means more new d delta = record {
@@ -111,7 +111,7 @@ module _ (events : List Event) (name : ℕ) (p g : MapState) (means : Means p g 
       })
 
 -- an event leaves every other replica as it was
-pub untouched : (w : World) (e : Event) (n : ℕ) → n ≢ replica_of e → IsUntouched w (happens w e) n
+pub untouched : (w : AbstractWorld) (e : AbstractEvent) (n : ℕ) → n ≢ replica_of e → IsUntouched w (happens w e) n
 untouched w (Node name) n apart = record { seen = refl; outgoing = refl }
 untouched w (Put name place value) n apart = record { seen = grown-there n name (w.seen n) (put_at (w.seen name) name place value) apart; outgoing = grown-there n name (w.outgoing n) (put_at (w.seen name) name place value) apart }
 untouched w (Remove name key) n apart = record { seen = grown-there n name (w.seen n) (remove_at (w.seen name) key) apart; outgoing = grown-there n name (w.outgoing n) (remove_at (w.seen name) key) apart }
@@ -120,11 +120,11 @@ untouched w (Clear name) n apart = record { seen = grown-there n name (w.seen n)
 untouched w (Flush name) n apart = record { seen = refl; outgoing = emptied-there n name (w.outgoing n) apart }
 untouched w (Deliver number name) n apart = record { seen = grown-there n name (w.seen n) (message w.messages number) apart; outgoing = refl }
 
-pub after_elsewhere : (events : List Event) (e : Event) (n : ℕ) → n ≢ replica_of e → IsUntouched (after events) (after (events ++ e ∷ [])) n
-after_elsewhere events e n apart = let P : World → Type 0 = λ w. IsUntouched (after events) w n in subst P (sym (after-push events e)) (untouched (after events) e n apart)
+pub after_elsewhere : (events : List AbstractEvent) (e : AbstractEvent) (n : ℕ) → n ≢ replica_of e → IsUntouched (after events) (after (events ++ e ∷ [])) n
+after_elsewhere events e n apart = let P : AbstractWorld → Type 0 = λ w. IsUntouched (after events) w n in subst P (sym (after-push events e)) (untouched (after events) e n apart)
 
 -- and what another replica's pairs meant they mean
-pub means_elsewhere : (events : List Event) (e : Event) (n : ℕ) (p g : MapState) → n ≢ replica_of e → Means p g (after events) n → Means p g (after (events ++ e ∷ [])) n
+pub means_elsewhere : (events : List AbstractEvent) (e : AbstractEvent) (n : ℕ) (p g : MapState) → n ≢ replica_of e → Means p g (after events) n → Means p g (after (events ++ e ∷ [])) n
 means_elsewhere events e n p g apart means =
     let still = after_elsewhere events e n apart in
     record {
@@ -133,7 +133,7 @@ means_elsewhere events e n p g apart means =
     }
 
 -- what the messages carry: a flush adds the group, if there is anything in it, and no other event adds any
-pub messages_after : (events : List Event) (e : Event) → (after (events ++ e ∷ [])).messages ≡ (happens (after events) e).messages
+pub messages_after : (events : List AbstractEvent) (e : AbstractEvent) → (after (events ++ e ∷ [])).messages ≡ (happens (after events) e).messages
 messages_after events e = ap (λ w. w.messages) (after-push events e)
 
 -- a new replica's name is there, and the pairs mean what they meant
@@ -145,9 +145,9 @@ or_false : (b : Bool) → (b || false) ≡ b
 or_false true = refl
 or_false false = refl
 
-pub node_there : (events : List Event) (name n : ℕ) → is_node (after (events ++ Node name ∷ [])) n ≡ (is_node (after events) n || name == n)
+pub node_there : (events : List AbstractEvent) (name n : ℕ) → is_node (after (events ++ Node name ∷ [])) n ≡ (is_node (after events) n || name == n)
 node_there events name n =
     ap (λ w. is_node w n) (after-push events (Node name)) ∙ among-append (after events).nodes (name ∷ []) n ∙ ap (λ b. is_node (after events) n || b) (or_false (name == n))
 
-pub node_means : (events : List Event) (name n : ℕ) (p g : MapState) → Means p g (after events) n → Means p g (after (events ++ Node name ∷ [])) n
+pub node_means : (events : List AbstractEvent) (name n : ℕ) (p g : MapState) → Means p g (after events) n → Means p g (after (events ++ Node name ∷ [])) n
 node_means events name n p g means = then_after events (Node name) p g n (record { seen = means.seen; outgoing = means.outgoing })

@@ -8,7 +8,7 @@ use Rattle.op_model.specs.Operation.{Write, Operation, Wrote, Erased, writes, ob
 use Rattle.op_model.specs.Place.{Place}
 use Rattle.op_model.specs.Shown.{is_on, shown, shown_where, shown_within, shown_anywhere}
 use Rattle.op_model.specs.Made.{greatest_number, next, put_at, erasure, remove_at, remove_field_at, clear_at}
-use Rattle.op_model.specs.World.{World, IsSound, Event, Node, Put, Remove, RemoveField, Clear, Flush, Deliver, nothing, message, grown, emptied, sent, makes, sends, shows, learns, happens, after}
+use Rattle.op_model.specs.World.{AbstractWorld, IsSound, AbstractEvent, Node, Put, Remove, RemoveField, Clear, Flush, Deliver, nothing, message, grown, emptied, group_messages, makes, sends, shows, learns, happens, after}
 use Rattle.op_model.proofs.Dots.{has-append, in_has, from_has}
 use Rattle.op_model.proofs.Members.{nothing_in, head_or_tail, at_same, in_map, from_map}
 use Rattle.op_model.proofs.Union.{in_writes_left, in_writes_right, in_writes_either}
@@ -148,13 +148,13 @@ one_message S T f zero = nothing_part T
 one_message S T f (suc zero) = f
 one_message S T f (suc (suc n)) = nothing_part T
 
-sent_message : (S T : List Operation) → IsPartOf S T → (number : ℕ) → IsPartOf (message (sent S) number) T
+sent_message : (S T : List Operation) → IsPartOf S T → (number : ℕ) → IsPartOf (message (group_messages S) number) T
 sent_message [] T f zero = nothing_part T
 sent_message [] T f (suc n) = nothing_part T
 sent_message (o ∷ S) T f number = one_message (o ∷ S) T f number
 
 -- what was made has no reuse, also with new operations
-makes_no_reuse : (w : World) (name : ℕ) (more : List Operation) → IsSound w → IsNew (w.seen name) name more → NoReuse (w.made ++ more)
+makes_no_reuse : (w : AbstractWorld) (name : ℕ) (more : List Operation) → IsSound w → IsNew (w.seen name) name more → NoReuse (w.made ++ more)
 makes_no_reuse w name more s n = record {
   one_write = λ u v h g e.
       elim (in_writes_either w.made more u h) [
@@ -170,7 +170,7 @@ makes_no_reuse w name more s n = record {
         let here : Contains (writes (w.seen name)) u = subst (λ k. Contains (writes (w.seen k)) u) named (s.own u a) in
         false≢true (sym (n.fresh v b) ∙ sym (ap (has (known (w.seen name))) e) ∙ written_known (w.seen name) u here)
 
-pub sound-makes : (w : World) (name : ℕ) (more : List Operation) → IsSound w → IsNew (w.seen name) name more → IsSound (makes name more w)
+pub sound-makes : (w : AbstractWorld) (name : ℕ) (more : List Operation) → IsSound w → IsNew (w.seen name) name more → IsSound (makes name more w)
 sound-makes w name more s n =
     let added : IsPartOf more (w.made ++ more) = λ o h. Contains-append_right w.made more o h in
     record {
@@ -186,17 +186,17 @@ sound-makes w name more s n =
       no_reuse = makes_no_reuse w name more s n;
     }
 
-pub sound-sends : (w : World) (name : ℕ) → IsSound w → IsSound (sends name w)
+pub sound-sends : (w : AbstractWorld) (name : ℕ) → IsSound w → IsSound (sends name w)
 sound-sends w name s = record {
   seen = s.seen;
   outgoing = λ k. emptied_part (k == name) (w.outgoing k) w.made (s.outgoing k);
-  messages = message-append w.messages (sent (w.outgoing name)) w.made s.messages (sent_message (w.outgoing name) w.made (s.outgoing name));
+  messages = message-append w.messages (group_messages (w.outgoing name)) w.made s.messages (sent_message (w.outgoing name) w.made (s.outgoing name));
   own = s.own;
   told = s.told;
   no_reuse = s.no_reuse;
 }
 
-pub sound-shows : (w : World) (name : ℕ) → IsSound w → IsSound (shows name w)
+pub sound-shows : (w : AbstractWorld) (name : ℕ) → IsSound w → IsSound (shows name w)
 sound-shows w name s = record {
   seen = s.seen;
   outgoing = s.outgoing;
@@ -206,7 +206,7 @@ sound-shows w name s = record {
   no_reuse = s.no_reuse;
 }
 
-pub sound-learns : (w : World) (name : ℕ) (more : List Operation) → IsSound w → IsPartOf more w.made → IsSound (learns name more w)
+pub sound-learns : (w : AbstractWorld) (name : ℕ) (more : List Operation) → IsSound w → IsPartOf more w.made → IsSound (learns name more w)
 sound-learns w name more s part = record {
   seen = λ k. grown_part (k == name) (w.seen k) more w.made (s.seen k) part;
   outgoing = s.outgoing;
@@ -230,7 +230,7 @@ sound-nothing = record {
     none_there zero = nothing_part []
     none_there (suc k) = nothing_part []
 
-pub sound-happens : (w : World) (e : Event) → IsSound w → IsSound (happens w e)
+pub sound-happens : (w : AbstractWorld) (e : AbstractEvent) → IsSound w → IsSound (happens w e)
 sound-happens w (Node name) s = record { seen = s.seen; outgoing = s.outgoing; messages = s.messages; own = s.own; told = s.told; no_reuse = s.no_reuse }
 sound-happens w (Put name place value) s = sound-makes w name (put_at (w.seen name) name place value) s (put-new (w.seen name) name place value)
 sound-happens w (Remove name key) s = sound-makes w name (remove_at (w.seen name) key) s (erasure-new (w.seen name) name (ids (shown_within (w.seen name) key)))
@@ -239,19 +239,19 @@ sound-happens w (Clear name) s = sound-makes w name (clear_at (w.seen name)) s (
 sound-happens w (Flush name) s = sound-sends w name s
 sound-happens w (Deliver number name) s = sound-learns w name (message w.messages number) s (s.messages number)
 
-sound-fold : (events : List Event) (w : World) → IsSound w → IsSound (fold happens w events)
+sound-fold : (events : List AbstractEvent) (w : AbstractWorld) → IsSound w → IsSound (fold happens w events)
 sound-fold [] w s = s
 sound-fold (e ∷ events) w s = sound-fold events (happens w e) (sound-happens w e s)
 
-pub sound-after : (events : List Event) → IsSound (after events)
+pub sound-after : (events : List AbstractEvent) → IsSound (after events)
 sound-after events = sound-fold events nothing sound-nothing
 
-pub fold-push : (events : List Event) (e : Event) (w : World) → fold happens w (events ++ e ∷ []) ≡ happens (fold happens w events) e
+pub fold-push : (events : List AbstractEvent) (e : AbstractEvent) (w : AbstractWorld) → fold happens w (events ++ e ∷ []) ≡ happens (fold happens w events) e
 fold-push [] e w = refl
 fold-push (f ∷ events) e w = fold-push events e (happens w f)
 
-pub after-push : (events : List Event) (e : Event) → after (events ++ e ∷ []) ≡ happens (after events) e
+pub after-push : (events : List AbstractEvent) (e : AbstractEvent) → after (events ++ e ∷ []) ≡ happens (after events) e
 after-push events e = fold-push events e nothing
 
-pub seen-NoReuse : (events : List Event) (name : ℕ) → NoReuse ((after events).seen name)
+pub seen-NoReuse : (events : List AbstractEvent) (name : ℕ) → NoReuse ((after events).seen name)
 seen-NoReuse events name = NoReuse-part ((after events).seen name) (after events).made ((sound-after events).seen name) (sound-after events).no_reuse

@@ -8,7 +8,7 @@ use Rattle.std.proofs.lemmas.List.Elements.{Contains-append_right}
 use Rattle.op_model.specs.State.{join, Same}
 use Rattle.op_model.specs.Operation.{Operation, NoReuse, IsPartOf}
 use Rattle.op_model.specs.Meaning.{MapState, greater, state}
-use Rattle.op_model.specs.World.{World, IsSound, Means, message, grown, emptied, sent, makes, learns}
+use Rattle.op_model.specs.World.{AbstractWorld, IsSound, Means, message, grown, emptied, group_messages, makes, learns}
 use Rattle.op_model.proofs.Joins.{join-same, same-chain}
 use Rattle.op_model.proofs.Union.{join-states}
 use Rattle.op_model.proofs.Fresh.{IsNew, sound-makes, NoReuse-part, part_both, part_left}
@@ -38,7 +38,7 @@ means : (p : MapState) (S T : List Operation) → S ≡ T → Same p (state T) �
 means p S T e h = let P : List Operation → Type 0 = λ U. Same p (state U) in subst P (sym e) h
 
 -- the live pair and the group of a replica that makes operations, from its own and a delta that means these
-module _ (w : World) (sound : IsSound w) (name : ℕ) (more : List Operation) (new : IsNew (w.seen name) name more) where
+module _ (w : AbstractWorld) (sound : IsSound w) (name : ℕ) (more : List Operation) (new : IsNew (w.seen name) name more) where
   part_seen : IsPartOf (w.seen name) (w.made ++ more)
   part_seen = part_left (w.seen name) w.made more (sound.seen name)
 
@@ -59,7 +59,7 @@ module _ (w : World) (sound : IsSound w) (name : ℕ) (more : List Operation) (n
       (joins (w.outgoing name) more (w.made ++ more) g d (sound-makes w name more sound new).no_reuse part_outgoing part_more group delta)
 
 -- the live pair of a replica that learns a part of what was made
-pub learns_live : (w : World) → IsSound w → (name : ℕ) (more : List Operation) → IsPartOf more w.made → (p d : MapState) →
+pub learns_live : (w : AbstractWorld) → IsSound w → (name : ℕ) (more : List Operation) → IsPartOf more w.made → (p d : MapState) →
     Same p (state (w.seen name)) → Same d (state more) → Same (join greater p d) (state ((learns name more w).seen name))
 learns_live w sound name more part p d live delta =
     means (join greater p d) ((learns name more w).seen name) (w.seen name ++ more) (grown-here name (w.seen name) more)
@@ -73,12 +73,12 @@ message-kept ms more (suc n) h = let inside : n < length ms = omega arith in get
 pub message-added : (ms : List (List Operation)) (S : List Operation) → message (ms ++ S ∷ []) (length ms + 1) ≡ S
 message-added ms S = rw add-one (get_or_push ms S [] (length ms) refl)
 
-pub sent-some : (S : List Operation) → S ≢ [] → sent S ≡ S ∷ []
+pub sent-some : (S : List Operation) → S ≢ [] → group_messages S ≡ S ∷ []
 sent-some [] h = absurd (h refl)
 sent-some (o ∷ S) h = refl
 
 -- pairs that are the same mean the same
-pub means-same : (p q g h : MapState) (w : World) (name : ℕ) → Same q p → Same h g → Means p g w name → Means q h w name
+pub means-same : (p q g h : MapState) (w : AbstractWorld) (name : ℕ) → Same q p → Same h g → Means p g w name → Means q h w name
 means-same p q g h w name live group means = record {
   seen = same-chain q p (state (w.seen name)) live means.seen;
   outgoing = same-chain h g (state (w.outgoing name)) group means.outgoing;

@@ -4,7 +4,7 @@ use Rattle.std.specs.Prelude.{Contains, ◌↔◌, IsSome, is_some, IsTrue}
 use Rattle.std.proofs.lemmas.Bool.{false≢true}
 use Rattle.dots.specs.declared.dot.Dot.{Dot}
 use Rattle.op_model.specs.Place.{Place, place_of}
-use Rattle.op_model.specs.State.{State, Same}
+use Rattle.op_model.specs.State.{Same}
 use Rattle.op_model.specs.Operation.{Write, Operation, writes, observed, ids, has, NoReuse, IsSameSet}
 use Rattle.op_model.specs.Shown.{is_on, is_within, is_anywhere, shown, shown_where, shown_within, shown_anywhere, ascending, IsAscending, values, values_of_key, fields, keys}
 use Rattle.op_model.specs.Meaning.{MapState, value_under, state, Stands, StandsWithin, HoldsField, HoldsKey}

@@ -3,7 +3,7 @@ use Rattle.std.specs.Prelude.{List, [], ◌∷◌, ◌++◌, ℕ, codes}
 use Rattle.dots.specs.declared.dot.Dot.{Dot}
 use Rattle.op_model.specs.Place.{place_of, plain}
 use Rattle.op_model.specs.Operation.{Operation, Wrote, Erased}
-use Rattle.op_model.specs.World.{Event, Node, Put, Remove, RemoveField, Clear, Flush, Deliver}
+use Rattle.op_model.specs.World.{AbstractEvent, Node, Put, Remove, RemoveField, Clear, Flush, Deliver}
 
 abbrev pub a : List ℕ
 a = codes "a"
@@ -64,33 +64,33 @@ abbrev pub equal_fields : List Operation
 equal_fields = wrote (dot 1 1) a x [] ∷ wrote_field (dot 1 2) a f x [] ∷ []
 
 -- Worlds. Two replicas put on one key before either has heard of the other.
-abbrev pub concurrent_puts : List Event
+abbrev pub concurrent_puts : List AbstractEvent
 concurrent_puts = Node 1 ∷ Node 2 ∷ Put 1 (plain a) x ∷ Put 2 (plain a) y ∷ Flush 1 ∷ Flush 2 ∷ Deliver 1 2 ∷ Deliver 2 1 ∷ []
 
 -- One of them then overwrites both values.
-abbrev pub overwrite_both : List Event
+abbrev pub overwrite_both : List AbstractEvent
 overwrite_both = concurrent_puts ++ Put 1 (plain a) z ∷ Flush 1 ∷ Deliver 3 2 ∷ []
 
 -- A replica hears of a remove before it hears of the put that was removed.
-abbrev pub remove_overtakes : List Event
+abbrev pub remove_overtakes : List AbstractEvent
 remove_overtakes = Node 1 ∷ Node 2 ∷ Node 3 ∷ Put 1 (plain a) x ∷ Flush 1 ∷ Deliver 1 2 ∷ Remove 2 a ∷ Flush 2 ∷ Deliver 2 3 ∷ []
 
-abbrev pub remove_overtakes_put : List Event
+abbrev pub remove_overtakes_put : List AbstractEvent
 remove_overtakes_put = remove_overtakes ++ Deliver 1 3 ∷ Deliver 2 1 ∷ Remove 1 a ∷ Flush 1 ∷ []
 
 -- A remove and a put that have not seen each other, and then a clear.
-abbrev pub remove_and_put : List Event
+abbrev pub remove_and_put : List AbstractEvent
 remove_and_put = Node 1 ∷ Node 2 ∷ Put 1 (plain a) x ∷ Flush 1 ∷ Deliver 1 2 ∷ Remove 1 a ∷ Put 2 (plain a) y ∷ Flush 1 ∷ Flush 2 ∷ Deliver 2 2 ∷ Deliver 3 1 ∷ []
 
-abbrev pub clear_and_group : List Event
+abbrev pub clear_and_group : List AbstractEvent
 clear_and_group = remove_and_put ++ Clear 1 ∷ Flush 1 ∷ Deliver 4 2 ∷ []
 
 -- Replica 1 puts on a field while replica 2 puts on the key; then 2 overwrites the field while 1 removes it.
-abbrev pub fields_apart : List Event
+abbrev pub fields_apart : List AbstractEvent
 fields_apart = Node 1 ∷ Node 2 ∷ Put 1 (place_of a f) x ∷ Put 2 (plain a) y ∷ Flush 1 ∷ Flush 2 ∷ Deliver 1 2 ∷ Deliver 2 1 ∷ []
 
-abbrev pub field_removed : List Event
+abbrev pub field_removed : List AbstractEvent
 field_removed = fields_apart ++ Put 2 (place_of a f) z ∷ RemoveField 1 (place_of a f) ∷ Flush 2 ∷ Flush 1 ∷ Deliver 3 1 ∷ Deliver 4 2 ∷ []
 
-abbrev pub key_removed : List Event
+abbrev pub key_removed : List AbstractEvent
 key_removed = field_removed ++ Remove 1 a ∷ []

@@ -8,7 +8,6 @@ use Rattle.std.specs.Set.{distinct_count}
 use Rattle.dots.specs.declared.dot.Dot.{Dot}
 use Rattle.dots.specs.Dot.{same_dot}
 use Rattle.op_model.specs.Place.{Place, place_of}
-use Rattle.op_model.specs.State.{State}
 use Rattle.op_model.specs.Operation.{Write, Operation, Wrote, Erased, ids, has, known}
 use Rattle.op_model.specs.Shown.{shown, shown_within, shown_anywhere}
 use Rattle.op_model.specs.Meaning.{MapState}

@@ -2,13 +2,12 @@
 //! definitions mean.
 
 ghost use Rattle.std.specs.Prelude.{◌≡◌, ◌≢◌, ◌∷◌, [], true, false, Some, None, length, map};
-ghost use Rattle.dots.specs.declared.dot.Dot.{Dot};
-ghost use Rattle.op_model.specs.Operation.{Operation, Wrote, Erased, writes, observed, ids, has, known, NoReuse, IsSameSet};
+ghost use Rattle.op_model.specs.Operation.{Erased, writes, observed, ids, has, known, NoReuse, IsSameSet};
 ghost use Rattle.op_model.specs.Place.{place_of, plain};
 ghost use Rattle.op_model.specs.Shown.{shown, values, values_of_key, fields, keys, size, ascending, IsAscending};
-ghost use Rattle.op_model.specs.Meaning.{greater, state, Stands, StandsWithin, HoldsField, HoldsKey};
+ghost use Rattle.op_model.specs.Meaning.{state, Stands, StandsWithin, HoldsField, HoldsKey};
 ghost use Rattle.op_model.specs.Made.{dot_at, put_at, remove_at, remove_field_at, clear_at, removed_at, field_removed_at, cleared_at};
-ghost use Rattle.op_model.specs.World.{after, message, is_node, is_message, nothing, Node, Flush, Deliver};
+ghost use Rattle.op_model.specs.World.{after, message, is_node, is_message, Node, Flush};
 ghost use Rattle.op_model.specs.Examples.{a, b, f, x, y, z, dot, wrote, wrote_field, overwritten, side_by_side, equal_values, removed, reused, two_fields, equal_fields};
 ghost use Rattle.op_model.specs.Examples.{concurrent_puts, overwrite_both, remove_overtakes, remove_overtakes_put, remove_and_put, clear_and_group, fields_apart, field_removed, key_removed};
 

@@ -13,23 +13,23 @@ use Rattle.page_taking.proofs.Picks.{Each}
 use Rattle.page_taking.proofs.Dots.{IsSome}
 use Rattle.sync_model.specs.Filled.{Made, made_map, checked, fill_seen, fill_unseen, then_fields, then_entries}
 use Rattle.sync_model.specs.Opened.{with_values}
-use Rattle.page_taking.specs.Adding.{Adds, fill_dot}
+use Rattle.page_taking.specs.Adding.{AddsPart, fill_dot}
 
 module _ (seen : DotValue → Bool) (held : DotValue → Option (List ℕ)) (n : DotValue × List ℕ) where
   -- what the checked value adds, whatever values are left
   abbrev pub AddsChecked : List ℕ → ValuesValue → ValuesValue → Bool → Type 0
-  AddsChecked v old new right = (left : List (List ℕ)) → Adds right old new (λ rest. checked n.0 n.1 v (rest left)) left
+  AddsChecked v old new right = (left : List (List ℕ)) → AddsPart right old new (λ rest. checked n.0 n.1 v (rest left)) left
 
   pub as_held : (v : List ℕ) (old new : ValuesValue) (sent : List (List ℕ)) → seen n.0 ≡ true → held n.0 ≡ Some v
-      → (right : Bool) → AddsChecked v old new right → Adds right old new (fill_dot seen held n sent) sent
-  as_held v old new sent s h right adds = subst (λ part. Adds right old new part sent) same (adds sent)
+      → (right : Bool) → AddsChecked v old new right → AddsPart right old new (fill_dot seen held n sent) sent
+  as_held v old new sent s h right adds = subst (λ part. AddsPart right old new part sent) same (adds sent)
     where
       same : (λ rest. checked n.0 n.1 v (rest sent)) ≡ fill_dot seen held n sent
       same = λ i rest. cond (sym s i) (fill_seen n.0 n.1 (sym h i) rest sent) (fill_unseen n.0 n.1 rest sent)
 
   pub as_sent : (v : List ℕ) (old new : ValuesValue) (sent left : List (List ℕ)) → seen n.0 ≡ false → sent ≡ v ∷ left
-      → (right : Bool) → AddsChecked v old new right → Adds right old new (fill_dot seen held n sent) left
-  as_sent v old new sent left s is right adds = subst (λ part. Adds right old new part left) same (adds left)
+      → (right : Bool) → AddsChecked v old new right → AddsPart right old new (fill_dot seen held n sent) left
+  as_sent v old new sent left s is right adds = subst (λ part. AddsPart right old new part left) same (adds left)
     where
       same : (λ rest. checked n.0 n.1 v (rest left)) ≡ fill_dot seen held n sent
       same = λ i rest. cond (sym s i) (fill_seen n.0 n.1 (held n.0) rest sent) (fill_unseen n.0 n.1 rest (sym is i))
@@ -39,14 +39,14 @@ module _ (field : List ℕ) (m : Made ValuesValue) where
   pub no_values : None ≡ m → (rest : List (List ℕ) → Made FieldsValue) → then_fields field rest m ≡ None
   no_values e rest = ap (then_fields field rest) (sym e)
 
-  pub empty_values : (vs : ValuesValue) (old new : FieldsValue) (left : List (List ℕ)) → Some (vs, left) ≡ m → vs ≡ [] → new ≡ old → Adds true old new (λ rest. then_fields field rest m) left
+  pub empty_values : (vs : ValuesValue) (old new : FieldsValue) (left : List (List ℕ)) → Some (vs, left) ≡ m → vs ≡ [] → new ≡ old → AddsPart true old new (λ rest. then_fields field rest m) left
   empty_values vs old new left e none same = ([], same ∙ sym (append-nil old), λ rest. ap (then_fields field rest) (sym e) ∙ ap (λ l. made_map (with_values field l) (rest left)) none)
 
   with_some : (vs : ValuesValue) → vs ≢ [] → with_values field vs ≡ (λ xs. ((field, vs) ∷ []) ++ xs)
   with_some [] some = absurd (some refl)
   with_some (v ∷ vs) some = refl
 
-  pub some_values : (vs : ValuesValue) (old new : FieldsValue) (left : List (List ℕ)) → Some (vs, left) ≡ m → vs ≢ [] → new ≡ old ++ (field, vs) ∷ [] → Adds true old new (λ rest. then_fields field rest m) left
+  pub some_values : (vs : ValuesValue) (old new : FieldsValue) (left : List (List ℕ)) → Some (vs, left) ≡ m → vs ≢ [] → new ≡ old ++ (field, vs) ∷ [] → AddsPart true old new (λ rest. then_fields field rest m) left
   some_values vs old new left e some put = ((field, vs) ∷ [], put, λ rest. ap (then_fields field rest) (sym e) ∙ ap (λ f. made_map f (rest left)) (with_some vs some))
 
 -- one key of a page, of what its fields came to
@@ -54,7 +54,7 @@ module _ (key : List ℕ) (m : Made FieldsValue) where
   pub no_fields : None ≡ m → (rest : List (List ℕ) → Made (List (List ℕ × FieldsValue))) → then_entries key rest m ≡ None
   no_fields e rest = ap (then_entries key rest) (sym e)
 
-  pub some_fields : (fs : FieldsValue) (old new : List (List ℕ × FieldsValue)) (left : List (List ℕ)) → Some (fs, left) ≡ m → new ≡ old ++ (key, fs) ∷ [] → Adds true old new (λ rest. then_entries key rest m) left
+  pub some_fields : (fs : FieldsValue) (old new : List (List ℕ × FieldsValue)) (left : List (List ℕ)) → Some (fs, left) ≡ m → new ≡ old ++ (key, fs) ∷ [] → AddsPart true old new (λ rest. then_entries key rest m) left
   some_fields fs old new left e put = ((key, fs) ∷ [], put, λ rest. ap (then_entries key rest) (sym e))
 
 -- a field in which nothing is held has no values
@@ -87,9 +87,9 @@ no_field_is_empty fs all = All-from_recursion (λ store. ¬ HasNothing (at_value
 
 -- a page of one key
 pub one_key : (key : List ℕ) (fill : List (List ℕ) → Made FieldsValue) (sent left : List (List ℕ)) (new none : List (List ℕ × FieldsValue)) → none ≡ [] → (right : Bool) → right ≡ true
-    → Adds right none new (λ rest. then_entries key rest (fill sent)) left → Some (new, left) ≡ then_entries key (λ sent. Some ([], sent)) (fill sent)
+    → AddsPart right none new (λ rest. then_entries key rest (fill sent)) left → Some (new, left) ≡ then_entries key (λ sent. Some ([], sent)) (fill sent)
 one_key key fill sent left new none is right is_right adds =
-    step (subst (λ l. Adds true l new (λ rest. then_entries key rest (fill sent)) left) is (subst (λ b. Adds b none new (λ rest. then_entries key rest (fill sent)) left) is_right adds))
+    step (subst (λ l. AddsPart true l new (λ rest. then_entries key rest (fill sent)) left) is (subst (λ b. AddsPart b none new (λ rest. then_entries key rest (fill sent)) left) is_right adds))
   where
-    step : Adds true [] new (λ rest. then_entries key rest (fill sent)) left → Some (new, left) ≡ then_entries key (λ sent. Some ([], sent)) (fill sent)
+    step : AddsPart true [] new (λ rest. then_entries key rest (fill sent)) left → Some (new, left) ≡ then_entries key (λ sent. Some ([], sent)) (fill sent)
     step (more, put, made) = ap (λ l. Some (l, left)) (put ∙ sym (append-nil more)) ∙ sym (made (λ sent. Some ([], sent)))

@@ -2,7 +2,7 @@
 use Rattle.std.proofs.Common.{◌≡◌, ℕ, zero, suc, ◌+◌, ◌<◌, ◌≤◌, List, [], ◌∷◌, ◌++◌, length, drop, get_or, Bool, true, false, Some, None, arith, refl, sym, ◌∙◌, ap, subst, append_assoc, append-nil}
 use Rattle.std.proofs.lemmas.List.{drop_more}
 use Rattle.sync_model.specs.Filled.{Made, made_map}
-use Rattle.page_taking.specs.Adding.{Adds}
+use Rattle.page_taking.specs.Adding.{AddsPart}
 
 module _ {X : Type 0} where
   none_before : (m : Made (List X)) → m ≡ made_map (λ xs. [] ++ xs) m
@@ -32,14 +32,14 @@ module _ {N X : Type 0} (fill : List N → List (List ℕ) → Made (List X)) (p
 
   -- one part more is as it should be
   part_more : (all : Made (List X)) (old new : List X) (left right : List N) (n : N) (sent rest : List (List ℕ))
-      → all ≡ made_map (λ xs. old ++ xs) (fill left sent) → left ≡ n ∷ right → Adds true old new (part n sent) rest → all ≡ made_map (λ xs. new ++ xs) (fill right rest)
+      → all ≡ made_map (λ xs. old ++ xs) (fill left sent) → left ≡ n ∷ right → AddsPart true old new (part n sent) rest → all ≡ made_map (λ xs. new ++ xs) (fill right rest)
   part_more all old new left right n sent rest before is (more, put, made) =
       before ∙ ap (λ ns. made_map (λ xs. old ++ xs) (fill ns sent)) is ∙ ap (made_map (λ xs. old ++ xs)) (by_part n right sent ∙ made (fill right))
       ∙ further old more (fill right rest) ∙ ap (λ l. made_map (λ xs. l ++ xs) (fill right rest)) (sym put)
 
   -- or it is not
   part_wrong : (all : Made (List X)) (old new : List X) (left right : List N) (n : N) (sent rest : List (List ℕ))
-      → all ≡ made_map (λ xs. old ++ xs) (fill left sent) → left ≡ n ∷ right → Adds false old new (part n sent) rest → all ≡ None
+      → all ≡ made_map (λ xs. old ++ xs) (fill left sent) → left ≡ n ∷ right → AddsPart false old new (part n sent) rest → all ≡ None
   part_wrong all old new left right n sent rest before is wrong =
       before ∙ ap (λ ns. made_map (λ xs. old ++ xs) (fill ns sent)) is ∙ ap (made_map (λ xs. old ++ xs)) (by_part n right sent ∙ wrong (fill right))
 
@@ -51,15 +51,15 @@ module _ {N X : Type 0} (fill : List N → List (List ℕ) → Made (List X)) (p
 
   -- the same where the loop stands at the part
   pub one_more : (all : Made (List X)) (old new : List X) (ns : List N) (i : ℕ) (n : N) (sent rest : List (List ℕ)) (right : Bool)
-      → all ≡ made_map (λ xs. old ++ xs) (fill (drop i ns) sent) → i < length ns → n ≡ get_or ns i n → right ≡ true → Adds right old new (part n sent) rest
+      → all ≡ made_map (λ xs. old ++ xs) (fill (drop i ns) sent) → i < length ns → n ≡ get_or ns i n → right ≡ true → AddsPart right old new (part n sent) rest
       → all ≡ made_map (λ xs. new ++ xs) (fill (drop (i + 1) ns) rest)
   one_more all old new ns i n sent rest right before within is is_right adds =
-      part_more all old new (drop i ns) (drop (i + 1) ns) n sent rest before (stands_at ns i n within is) (subst (λ b. Adds b old new (part n sent) rest) is_right adds)
+      part_more all old new (drop i ns) (drop (i + 1) ns) n sent rest before (stands_at ns i n within is) (subst (λ b. AddsPart b old new (part n sent) rest) is_right adds)
 
   pub one_wrong : (all : Made (List X)) (old new : List X) (ns : List N) (i : ℕ) (n : N) (sent rest : List (List ℕ)) (right : Bool)
-      → all ≡ made_map (λ xs. old ++ xs) (fill (drop i ns) sent) → i < length ns → n ≡ get_or ns i n → right ≡ false → Adds right old new (part n sent) rest → all ≡ None
+      → all ≡ made_map (λ xs. old ++ xs) (fill (drop i ns) sent) → i < length ns → n ≡ get_or ns i n → right ≡ false → AddsPart right old new (part n sent) rest → all ≡ None
   one_wrong all old new ns i n sent rest right before within is is_wrong adds =
-      part_wrong all old new (drop i ns) (drop (i + 1) ns) n sent rest before (stands_at ns i n within is) (subst (λ b. Adds b old new (part n sent) rest) is_wrong adds)
+      part_wrong all old new (drop i ns) (drop (i + 1) ns) n sent rest before (stands_at ns i n within is) (subst (λ b. AddsPart b old new (part n sent) rest) is_wrong adds)
 
   pub all_past : (all : Made (List X)) (made : List X) (ns : List N) (i : ℕ) (sent : List (List ℕ)) → fill [] sent ≡ Some ([], sent)
       → all ≡ made_map (λ xs. made ++ xs) (fill (drop i ns) sent) → length ns ≤ i → all ≡ Some (made, sent)

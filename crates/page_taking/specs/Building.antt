@@ -6,8 +6,7 @@ use Rattle.std.specs.Coded.{Coded, code_by, coded×, coded_list, coded_ℕ}
 use base.Stored.{coded_unit}
 use Rattle.std.specs.FinMap as finite
 use Rattle.dots.specs.Bytes.{bytes_cmp}
-use Rattle.dots.specs.Dot.{DotValue}
-use Rattle.causal_join.specs.OrMap.{FieldsValue}
+use Rattle.causal_join.specs.Code.{fields_code}
 use Rattle.hash_path.specs.Word.{begins}
 use Rattle.hash_path.specs.Map.{path}
 use Rattle.sync_model.specs.Differ.{Held}
@@ -22,14 +21,7 @@ pub record BuiltValue (Hash : Type 0) : Type 0 where
   pub entries : Held
   pub touched : KeySet
 
--- a dot is stored as the pair of its numbers, and fields as the list of their parts
-abbrev pub dot_code : Coded DotValue
-dot_code = code_by (ℕ × ℕ) (coded× coded_ℕ coded_ℕ) (λ d. (d.name, d.number)) (λ p. record { name = p.0; number = p.1 }) (λ _. refl)
-
-abbrev pub fields_code : Coded FieldsValue
-fields_code = coded_list (coded× (coded_list coded_ℕ) (coded_list (coded× dot_code (coded_list coded_ℕ))))
-
--- and what is built as the triple of its parts
+-- what is built is stored as the triple of its parts
 abbrev pub built_code : {Hash : Type 0} → Coded Hash → Coded (BuiltValue Hash)
 built_code {Hash} hash =
     code_by (Hash × (Held × KeySet)) (coded× hash (coded× (finite.code (coded_list coded_ℕ) fields_code) (finite.code (coded_list coded_ℕ) coded_unit)))

@@ -1,6 +1,5 @@
 ghost use Rattle.std.specs.Prelude.{◌≡◌, IfOk, IsOkUnless};
 ghost use Rattle.std.specs.FinMap as finite;
-ghost use Rattle.hash_path.specs.Map.{path};
 ghost use Rattle.sync_model.specs.Fetch.{put_entries, stays};
 ghost use Rattle.page_taking.specs.Building.{GoesOn};
 

@@ -1,5 +1,5 @@
 // What a page says stands no more under its prefix is taken out of what is built.
-ghost use Rattle.std.specs.Prelude.{◌≡◌, ◌<◌, ◌++◌, ◌∷◌, ◌&&◌, [], not, length, cond, is_some, nat_eq, get_or, None, OnOk, IsOkUnless};
+ghost use Rattle.std.specs.Prelude.{◌≡◌, ◌<◌, ◌++◌, ◌∷◌, ◌&&◌, length, nat_eq, OnOk, IsOkUnless};
 ghost use Rattle.std.specs.List.{list_any};
 ghost use Rattle.std.specs.FinMap as finite;
 ghost use Rattle.hash_path.specs.Map.{path, walk_under};

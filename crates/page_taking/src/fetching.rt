@@ -2,7 +2,7 @@ ghost use Rattle.std.specs.Prelude.{◌≡◌, ◌↔◌, IsTrue, List, ℕ, Non
 ghost use Rattle.std.specs.FinMap as finite;
 ghost use Rattle.causal_context.specs.Context.{has};
 ghost use Rattle.sync_model.specs.Fetch as model;
-ghost use Rattle.sync_model.specs.Laws.{IsWithin};
+ghost use Rattle.sync_model.specs.Laws.{KnowsEachDot};
 ghost use Rattle.page_taking.specs.Taking.{begun, ArePrefixes};
 
 use crate::built::Built;
@@ -47,7 +47,7 @@ impl<H: PathHash, A: Allocator + Copy> Fetching<H, A> {
         known: &Context<A>,
         root: &[u8; 32],
     ) -> Result<Option<Fetching<H, A>>, Refusal>
-        requires { IsWithin (has seen.now) own.now.map }
+        requires { KnowsEachDot (has seen.now) own.now.map }
         ensures ok { (told : Option (List ℕ)) → told ≡ Some root.now
             → IfOk result (λ next. begun next ≡ model.take_opening (H.hash_of own.now.hash) own.now.map (has seen.now) (has known.now) told) }
         ensures built { IfOk result (λ next. IfSome next (λ f. f.built ≡ record { hash = own.now.hash; entries = own.now.map; touched = finite.empty })) }

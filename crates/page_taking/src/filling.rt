@@ -9,7 +9,7 @@ ghost use Rattle.wire_form.specs.Page as form;
 ghost use Rattle.sync_model.specs.Opened.{held_in};
 ghost use Rattle.sync_model.specs.Filled.{checked, fill_values, fill_fields, fill_entries, then_fields, then_entries, filled};
 ghost use Rattle.sync_model.specs.Fetch.{entries_of};
-ghost use Rattle.page_taking.specs.Adding.{made_of, Adds, fill_dot};
+ghost use Rattle.page_taking.specs.Adding.{made_of, AddsPart, fill_dot};
 
 use causal_context::Context;
 use causal_join::Fields;
@@ -37,7 +37,7 @@ fn add_value<A: Allocator + Copy>(
     named: &(Dot, [u8; 32]),
     value: &Value<A>,
 ) -> Result<bool, Refusal>
-    ensures ok { IfOk result (λ right. (left : List (List ℕ)) → Adds right values.old.items values.new.items
+    ensures ok { IfOk result (λ right. (left : List (List ℕ)) → AddsPart right values.old.items values.new.items
         (λ rest. checked named.now.0 named.now.1 value.now (rest left)) left) }
     ensures err { IsOkUnless result Refusal.OutOfMemory }
 {
@@ -68,7 +68,7 @@ fn add_dot<A: Allocator + Copy>(
     seen: &Context<A>,
     sent: &mut &[Value<A>],
 ) -> Result<bool, Refusal>
-    ensures ok { IfOk result (λ right. Adds right values.old.items values.new.items
+    ensures ok { IfOk result (λ right. AddsPart right values.old.items values.new.items
         (fill_dot (has seen.now) (held_by at_values (option_copied own.entry) tt) named.now sent.old.now) sent.new.now) }
     ensures err { IsOkUnless result Refusal.OutOfMemory }
 {
@@ -128,7 +128,7 @@ fn add_field<A: Allocator + Copy>(
     seen: &Context<A>,
     sent: &mut &[Value<A>],
 ) -> Result<bool, Refusal>
-    ensures ok { IfOk result (λ right. Adds right fields.old.items fields.new.items
+    ensures ok { IfOk result (λ right. AddsPart right fields.old.items fields.new.items
         (λ rest. then_fields named.now.0 rest (fill_values (has seen.now) (held_in (option_copied own.entry) named.now.0) named.now.1 sent.old.now)) sent.new.now) }
     ensures err { IsOkUnless result Refusal.OutOfMemory }
 {
@@ -179,7 +179,7 @@ fn add_entry<H: PathHash, A: Allocator + Copy>(
     seen: &Context<A>,
     sent: &mut &[Value<A>],
 ) -> Result<bool, Refusal>
-    ensures ok { IfOk result (λ right. Adds right entries.old.items entries.new.items
+    ensures ok { IfOk result (λ right. AddsPart right entries.old.items entries.new.items
         (λ rest. then_entries key.now rest (fill_fields (has seen.now) (held_in (finite.get own.now.map key.now)) named.now sent.old.now)) sent.new.now) }
     ensures err { IsOkUnless result Refusal.OutOfMemory }
 {

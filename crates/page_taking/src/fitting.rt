@@ -1,6 +1,6 @@
 // Whether a page can be that of the peer, and what has to be asked for after it.
 ghost use Rattle.std.specs.Prelude.{◌≡◌, ◌<◌, ◌≤◌, ◌||◌, ◌++◌, ◌∷◌, [], not, length, IfOk, IsOkUnless, OnOk};
-ghost use Rattle.std.specs.List.{list_all, filter, AllByRecursion};
+ghost use Rattle.std.specs.List.{list_all, AllByRecursion};
 ghost use Rattle.causal_context.specs.Context.{has};
 ghost use Rattle.hash_path.specs.Path.{last_index};
 ghost use Rattle.hash_path.specs.Word.{begins};
@@ -8,7 +8,7 @@ ghost use Rattle.hash_path.specs.Map.{path, walk_under};
 ghost use Rattle.wire_form.specs.Page as form;
 ghost use Rattle.sync_model.specs.Fetch.{entries_of, children_of, within};
 ghost use Rattle.sync_model.specs.Fetch as model;
-ghost use Rattle.sync_model.specs.Laws.{IsWithin};
+ghost use Rattle.sync_model.specs.Laws.{KnowsEachDot};
 
 use crate::known::{knows_page, knows_under};
 use causal_context::Context;
@@ -186,7 +186,7 @@ fn keeps_known<H: PathHash, A: Allocator + Copy>(
 ) -> bool
     requires depth { length prefix < 7 }
     requires indices { AllByRecursion (λ c. c.0 ≤ last_index (length prefix)) children.now }
-    requires within { IsWithin (has seen.now) own.now.map }
+    requires within { KnowsEachDot (has seen.now) own.now.map }
     ensures { result ≡ list_all (λ c. not (model.is_own (H.hash_of own.now.hash) own.now.map prefix c)
         || within (has known.now) (walk_under (H.hash_of own.now.hash) (prefix ++ c.0 ∷ []) own.now.map)) children.now }
 {
@@ -206,7 +206,7 @@ pub fn fits<H: PathHash, A: Allocator + Copy>(
     known: &Context<A>,
     sent: &SentPage<A>,
 ) -> bool
-    requires { IsWithin (has seen.now) own.now.map }
+    requires { KnowsEachDot (has seen.now) own.now.map }
     ensures { result ≡ model.fits (H.hash_of own.now.hash) own.now.map (has known.now) sent.now.prefix sent.now.page }
 {
     let prefix = sent.prefix();

@@ -5,7 +5,7 @@ ghost use Rattle.hash_path.specs.Map.{walk_under};
 ghost use Rattle.wire_form.specs.Page as form;
 ghost use Rattle.sync_model.specs.Fetch.{entries_of, within_values, within_fields, within};
 ghost use Rattle.sync_model.specs.Fetch as model;
-ghost use Rattle.sync_model.specs.Laws.{IsWithin};
+ghost use Rattle.sync_model.specs.Laws.{KnowsEachDot};
 ghost use Rattle.prefix_digest.specs.Page.{digest_at};
 
 use causal_context::Context;
@@ -89,7 +89,7 @@ pub fn knows_all<H: PathHash, A: Allocator + Copy>(
     seen: &Context<A>,
     known: &Context<A>,
 ) -> bool
-    requires { IsWithin (has seen.now) own.now.map }
+    requires { KnowsEachDot (has seen.now) own.now.map }
     ensures { result ≡ within (has known.now) (walk_under (H.hash_of own.now.hash) [] own.now.map) }
 {
     if known.includes(seen) {

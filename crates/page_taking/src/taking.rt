@@ -6,7 +6,7 @@ ghost use Rattle.prefix_digest.specs.Page.{digest_of};
 ghost use Rattle.wire_form.specs.Page as form;
 ghost use Rattle.sync_model.specs.Fetch.{children_of, to_ask, put_entries, stays, put_children};
 ghost use Rattle.sync_model.specs.Fetch as model;
-ghost use Rattle.sync_model.specs.Laws.{IsWithin};
+ghost use Rattle.sync_model.specs.Laws.{KnowsEachDot};
 ghost use Rattle.std.specs.FinMap as finite;
 ghost use Rattle.page_taking.specs.Building.{GoesOn};
 ghost use Rattle.page_taking.specs.Taking.{fetch_of};
@@ -74,7 +74,7 @@ impl<H: PathHash, A: Allocator + Copy> Fetching<H, A> {
         sent: &SentPage<A>,
     ) -> Result<Taken<H, A>, Refusal>
         requires hash { self.now.built.hash ≡ own.now.hash }
-        requires within { IsWithin (has seen.now) own.now.map }
+        requires within { KnowsEachDot (has seen.now) own.now.map }
         ensures ok { IfOk result (λ taken. taken_of taken ≡ model.take_page (H.hash_of own.now.hash) own.now.map (has seen.now) (has known.now)
             (fetch_of self.now) sent.now.prefix sent.now.page sent.now.values) }
         ensures asks { IfOk result (λ taken. asked_of taken (map (λ c. sent.now.prefix ++ c.0 ∷ []) (to_ask (H.hash_of own.now.hash) own.now.map sent.now.prefix (children_of sent.now.page)))) }

@@ -1,6 +1,5 @@
 // The prefixes that an asker waits for, each with the digest that was promised of it.
-ghost use Rattle.std.specs.Prelude.{◌≡◌, ◌<◌, ◌≤◌, ◌++◌, ◌∷◌, [], length, IfOk, OnOk, IsOkUnless};
-ghost use Rattle.std.specs.Option.{option_map};
+ghost use Rattle.std.specs.Prelude.{◌≡◌, ◌<◌, ◌≤◌, ◌++◌, ◌∷◌, [], IfOk, OnOk, IsOkUnless};
 ghost use Rattle.std.specs.FinMap as finite;
 ghost use Rattle.sync_model.specs.Fetch.{put_children};
 

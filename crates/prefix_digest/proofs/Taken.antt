@@ -7,15 +7,15 @@ use Rattle.std.specs.Int.{w16, to_be_bytes}
 use Rattle.sha2.specs.Hashers.{Holds256}
 use Rattle.sha2.specs.declared.Sha256.{Sha256}
 use Rattle.wire_form.specs.Spelling.{number, counted}
-use Rattle.prefix_digest.specs.Taking.{Takes}
+use Rattle.prefix_digest.specs.Taking.{TakesBytes}
 
-pub takes_both : (a b c : Sha256) (x y : List ℕ) → Takes a b x → Takes b c y → Takes a c (x ++ y)
+pub takes_both : (a b c : Sha256) (x y : List ℕ) → TakesBytes a b x → TakesBytes b c y → TakesBytes a c (x ++ y)
 takes_both a b c x y p q = λ held h. subst (Holds256 c) (append_assoc held x y) (q (held ++ x) (p held h))
 
-pub takes_same : (a b : Sha256) (x y : List ℕ) → x ≡ y → Takes a b x → Takes a b y
-takes_same a b x y e p = subst (Takes a b) e p
+pub takes_same : (a b : Sha256) (x y : List ℕ) → x ≡ y → TakesBytes a b x → TakesBytes a b y
+takes_same a b x y e p = subst (TakesBytes a b) e p
 
-pub takes_none : (a : Sha256) → Takes a a []
+pub takes_none : (a : Sha256) → TakesBytes a a []
 takes_none a = λ held h. subst (Holds256 a) (sym (append-nil held)) h
 
 -- two bytes hold a number by what it is modulo 2 ^ 16
@@ -34,23 +34,23 @@ counted_of item told xs = λ i. number (sym (length-map xs told) i) ++ sym (flat
 
 module _ {X : Type 0} (item : X → List ℕ) where
   -- an item more behind those that are held
-  pub item_held : (b c : Sha256) (front : List ℕ) (xs : List X) (x : X) → Holds256 b (front ++ flat_map item xs) → Takes b c (item x) → Holds256 c (front ++ flat_map item (xs ++ x ∷ []))
+  pub item_held : (b c : Sha256) (front : List ℕ) (xs : List X) (x : X) → Holds256 b (front ++ flat_map item xs) → TakesBytes b c (item x) → Holds256 c (front ++ flat_map item (xs ++ x ∷ []))
   item_held b c front xs x p q = subst (Holds256 c) (flat_map_more item front xs x) (q (front ++ flat_map item xs) p)
 
   -- no items, those that a loop has gone through and one more, and all of them
-  pub none_taken : (a b : Sha256) (front : List ℕ) → Takes a b front → Takes a b (front ++ flat_map item [])
+  pub none_taken : (a b : Sha256) (front : List ℕ) → TakesBytes a b front → TakesBytes a b (front ++ flat_map item [])
   none_taken a b front p = takes_same a b front (front ++ []) (sym (append-nil front)) p
 
-  pub more_taken : (a b c : Sha256) (front : List ℕ) (xs : List X) (i : ℕ) (d : X) → Takes a b (front ++ flat_map item (take i xs)) → i < length xs → Takes b c (item (get_or xs i d))
-      → Takes a c (front ++ flat_map item (take (i + 1) xs))
+  pub more_taken : (a b c : Sha256) (front : List ℕ) (xs : List X) (i : ℕ) (d : X) → TakesBytes a b (front ++ flat_map item (take i xs)) → i < length xs → TakesBytes b c (item (get_or xs i d))
+      → TakesBytes a c (front ++ flat_map item (take (i + 1) xs))
   more_taken a b c front xs i d p h q =
       takes_same a c ((front ++ flat_map item (take i xs)) ++ item (get_or xs i d)) (front ++ flat_map item (take (i + 1) xs))
       (flat_map_more item front (take i xs) (get_or xs i d) ∙ ap (λ ys. front ++ flat_map item ys) (sym (take_more xs i d h)))
       (takes_both a b c (front ++ flat_map item (take i xs)) (item (get_or xs i d)) p q)
 
-  pub next_taken : (a b c : Sha256) (front : List ℕ) (xs : List X) (i : ℕ) (x : X) → Takes a b (front ++ flat_map item (take i xs)) → i < length xs → x ≡ get_or xs i x → Takes b c (item x)
-      → Takes a c (front ++ flat_map item (take (i + 1) xs))
+  pub next_taken : (a b c : Sha256) (front : List ℕ) (xs : List X) (i : ℕ) (x : X) → TakesBytes a b (front ++ flat_map item (take i xs)) → i < length xs → x ≡ get_or xs i x → TakesBytes b c (item x)
+      → TakesBytes a c (front ++ flat_map item (take (i + 1) xs))
   next_taken a b c front xs i x p h is q = more_taken a b c front xs i x p h (takes_same b c (item x) (item (get_or xs i x)) (ap item is) q)
 
-  pub all_taken : (a b : Sha256) (front : List ℕ) (xs : List X) (i : ℕ) → Takes a b (front ++ flat_map item (take i xs)) → length xs ≤ i → Takes a b (front ++ flat_map item xs)
+  pub all_taken : (a b : Sha256) (front : List ℕ) (xs : List X) (i : ℕ) → TakesBytes a b (front ++ flat_map item (take i xs)) → length xs ≤ i → TakesBytes a b (front ++ flat_map item xs)
   all_taken a b front xs i p h = takes_same a b (front ++ flat_map item (take i xs)) (front ++ flat_map item xs) (ap (λ ys. front ++ flat_map item ys) (take_all i xs h)) p

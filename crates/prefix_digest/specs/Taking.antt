@@ -4,5 +4,5 @@ use Rattle.sha2.specs.Hashers.{Holds256}
 use Rattle.sha2.specs.declared.Sha256.{Sha256}
 
 -- whatever the old one held, the new one holds it with these bytes behind
-abbrev pub Takes : Sha256 → Sha256 → List ℕ → Type 0
-Takes old new bytes = (held : List ℕ) → Holds256 old held → Holds256 new (held ++ bytes)
+abbrev pub TakesBytes : Sha256 → Sha256 → List ℕ → Type 0
+TakesBytes old new bytes = (held : List ℕ) → Holds256 old held → Holds256 new (held ++ bytes)

@@ -1,7 +1,5 @@
 // Fields with each value by its name.
 ghost use Rattle.std.specs.Prelude.{◌≡◌, IfOk, IsOkUnless};
-ghost use Rattle.std.specs.List.Sorted.{IsStrictlySortedBy};
-ghost use Rattle.std.specs.Map.{keys_of};
 ghost use Rattle.sha2.specs.Sha256.{sha256};
 ghost use Rattle.prefix_digest.specs.Page as page;
 

@@ -3,7 +3,7 @@ ghost use Rattle.std.specs.Prelude.{◌≡◌, ◌∷◌};
 ghost use Rattle.std.specs.List.{flat_map};
 ghost use Rattle.wire_form.specs.Page as form;
 ghost use Rattle.prefix_digest.specs.Page as page;
-ghost use Rattle.prefix_digest.specs.Taking.{Takes};
+ghost use Rattle.prefix_digest.specs.Taking.{TakesBytes};
 
 use crate::feeding::{feed_dot, feed_number, feed_text};
 use dots::Key;
@@ -35,7 +35,7 @@ pub fn digest_of<A: Allocator + Copy>(told: &Page<A>) -> [u8; 32]
 }
 
 fn feed_names<A: Allocator + Copy>(hasher: &mut Sha256, names: &Names<A>)
-    ensures { Takes hasher.old hasher.new (form.names names.now) }
+    ensures { TakesBytes hasher.old hasher.new (form.names names.now) }
 {
     let entries = names.entries();
     feed_number(hasher, entries.len() as u64);
@@ -46,7 +46,7 @@ fn feed_names<A: Allocator + Copy>(hasher: &mut Sha256, names: &Names<A>)
 }
 
 fn feed_named<A: Allocator + Copy>(hasher: &mut Sha256, fields: &NamedFields<A>)
-    ensures { Takes hasher.old hasher.new (form.named fields.now) }
+    ensures { TakesBytes hasher.old hasher.new (form.named fields.now) }
 {
     let entries = fields.entries();
     feed_number(hasher, entries.len() as u64);
@@ -57,14 +57,14 @@ fn feed_named<A: Allocator + Copy>(hasher: &mut Sha256, fields: &NamedFields<A>)
 }
 
 fn feed_named_entry<A: Allocator + Copy>(hasher: &mut Sha256, key: &Key<A>, fields: &NamedFields<A>)
-    ensures { Takes hasher.old hasher.new (form.entry (key.now, fields.now)) }
+    ensures { TakesBytes hasher.old hasher.new (form.entry (key.now, fields.now)) }
 {
     feed_text(hasher, key.bytes());
     feed_named(hasher, fields);
 }
 
 fn feed_entries<A: Allocator + Copy>(hasher: &mut Sha256, entries: &[(Key<A>, NamedFields<A>)])
-    ensures { Takes hasher.old hasher.new (flat_map form.entry entries.now) }
+    ensures { TakesBytes hasher.old hasher.new (flat_map form.entry entries.now) }
 {
     for (key, fields) in entries {
         feed_named_entry(hasher, key, fields);
@@ -72,7 +72,7 @@ fn feed_entries<A: Allocator + Copy>(hasher: &mut Sha256, entries: &[(Key<A>, Na
 }
 
 fn feed_children(hasher: &mut Sha256, children: &[(u8, [u8; 32])])
-    ensures { Takes hasher.old hasher.new (flat_map form.child children.now) }
+    ensures { TakesBytes hasher.old hasher.new (flat_map form.child children.now) }
 {
     for (index, digest) in children {
         hasher.update([*index]);

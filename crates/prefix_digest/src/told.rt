@@ -1,6 +1,6 @@
 // How much a part of a map has to tell.
 ghost use Rattle.hash_path.specs.Map.{walk_under};
-ghost use Rattle.prefix_digest.specs.Told.{Tells};
+ghost use Rattle.prefix_digest.specs.Told.{TellsEntries};
 
 use crate::pages::FrozenMap;
 use causal_join::Fields;
@@ -24,7 +24,7 @@ pub(crate) fn look_under<'a, H: PathHash, A: Allocator + Copy>(
     frozen: &'a FrozenMap<H, A>,
     prefix: Prefix,
 ) -> Told<'a, A>
-    ensures { Tells (walk_under (H.hash_of frozen.now.hash) prefix frozen.now.map) result }
+    ensures { TellsEntries (walk_under (H.hash_of frozen.now.hash) prefix frozen.now.map) result }
 {
     let mut entries = frozen.iter_under(prefix);
     let Some((key, fields)) = entries.next() else {

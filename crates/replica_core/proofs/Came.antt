@@ -8,16 +8,16 @@ use Rattle.op_model.specs.Meaning.{MapState}
 use Rattle.prefix_digest.specs.MapOf.{IsMapOf}
 use Rattle.wire_form.specs.Message.{MessageValue}
 use Rattle.wire_form.specs.Sent.{SentValue}
-use Rattle.wire_form.specs.Session.{SessionValue}
+use Rattle.wire_form.specs.Session.{SessionValue, same_session}
 use Rattle.sync_protocol.specs.Answering.{kept_after, told_of, opening_of, answer_of}
 use Rattle.sync_protocol.specs.Asking.{AskerValue, is_over, stage_with}
 use Rattle.sync_protocol.specs.Snapshot.{SnapshotValue}
 use Rattle.sync_protocol.specs.Turning as turning
-use Rattle.sync_protocol.specs.Turning.{Outcome}
+use Rattle.sync_protocol.specs.Turning.{StateAndStep}
 use Rattle.replica_model.specs.Mail.{Mail, Delta, Hello, Opening, Ask, Page, Gone, is_for, mail_of}
-use Rattle.replica_model.specs.Replica.{same_session, joins, open_at}
+use Rattle.replica_model.specs.Replica.{joins}
 use Rattle.replica_model.specs.Delivery as model
-use Rattle.replica_model.specs.Delivery.{turn, ignored, Joined, Sent, Ignored, taken, took_hello, took_ask, took_opening, took_page, took_gone}
+use Rattle.replica_model.specs.Delivery.{turn, ignored, Joined, Sent, Ignored, taken, took_hello, took_opening, took_page, took_gone}
 use Rattle.replica_model.specs.Step.{Take, Came}
 use Rattle.replica_model.proofs.Found.{same_is_one}
 use Rattle.replica_core.specs.Meaning.{ReplicaValue, hash_in, kept_of, meaning}
@@ -84,7 +84,7 @@ module _ {Hash : Type 0} (hash_of : Hash → List ℕ → ℕ) (old : ReplicaVal
   for_asker s a named same = eq-eqb s.asker old.name (ap (λ (x : SessionValue). x.asker) (sym (same_is_one a.session s same)) ∙ named)
 
   module _ (new : ReplicaValue Hash) (s : SessionValue) (place : ℕ) (a : AskerValue Hash) (first : IsFirstAt (λ b. same_session b.session s) old.sessions place a) (named : a.session.asker ≡ old.name)
-      (unended : is_over a.stage ≡ false) (t : Outcome) (outcome : model.Outcome) (out : List Mail) (came : turned (meaning old) t.0 t.1 ≡ turn (meaning new) outcome out) (hash : hash_in new ≡ hash_in old) where
+      (unended : is_over a.stage ≡ false) (t : StateAndStep) (outcome : model.Outcome) (out : List Mail) (came : turned (meaning old) t.0 t.1 ≡ turn (meaning new) outcome out) (hash : hash_in new ≡ hash_in old) where
     pub opening_came : (context : ContextValue) (root : Option (List ℕ)) → t ≡ turning.opening_at (hash_of (hash_in old)) a.session (stage_with a.own a.seen a.stage) context root
         → Steps hash_of old new (Take (Opening s (has context) root)) (Came outcome) out
     opening_came context root is =

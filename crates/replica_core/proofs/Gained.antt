@@ -10,8 +10,8 @@ use Rattle.sync_model.specs.Fetch.{Fetch, take_opening, take_page}
 use Rattle.sync_model.specs.Fetch as model
 use Rattle.page_taking.specs.Building.{BuiltValue}
 use Rattle.page_taking.specs.Taking.{FetchingValue, fetch_of}
-use Rattle.sync_protocol.specs.Asking.{AskerValue, StageValue, Asked, Fetching, Complete, Over, Stage, Waits, Fetches, Has, Ended, State, IsFrom, is_over, stage_with, state_of}
-use Rattle.sync_protocol.specs.Turning.{StepValue, Sent, Done, Ignored, Mismatch, IsGone, Outcome, at, goes_on, comes_to, opening_at, page_at_stage, asks_for, gone_at}
+use Rattle.sync_protocol.specs.Asking.{AskerValue, StageValue, Asked, Fetching, Complete, Over, Stage, Waits, Fetches, Has, Ended, AskerState, IsFrom, is_over, stage_with, asker_state}
+use Rattle.sync_protocol.specs.Turning.{StepValue, Sent, Done, Ignored, Mismatch, IsGone, StateAndStep, at_stage, goes_on, comes_to, opening_at, page_at_stage, asks_for, gone_at}
 use Rattle.replica_core.specs.Known.{IsKnown}
 use Rattle.replica_core.specs.Own.{KnowsBuilt}
 use Rattle.replica_core.specs.Turning.{IsGoingOn, IsWhole, Gives, CanTake}
@@ -35,21 +35,21 @@ has_back (Complete d b) own seen c m e = let same : d ≡ c = cc in (b, ap (λ x
 has_back Over own seen c m e = absurd cc
 
 -- a session, and the step that it made
-abbrev pub outcome : State → StepValue → Outcome
+abbrev pub outcome : AskerState → StepValue → StateAndStep
 outcome state step = (state, step)
 
 module _ {Hash : Type 0} (hash_of : Hash → List ℕ → ℕ) (a next : AskerValue Hash) (goes_from : IsFrom a next) where
-  session_is : (step is : StepValue) (stage : Stage) → outcome (state_of next) step ≡ outcome (at a.session stage) is → next.session ≡ a.session
-  session_is step is stage e = ap (λ (t : Outcome). t.0.session) e
+  session_is : (step is : StepValue) (stage : Stage) → outcome (asker_state next) step ≡ outcome (at_stage a.session stage) is → next.session ≡ a.session
+  session_is step is stage e = ap (λ (t : StateAndStep). t.0.session) e
 
-  step_is : (step is : StepValue) (stage : Stage) → outcome (state_of next) step ≡ outcome (at a.session stage) is → is ≡ step
-  step_is step is stage e = sym (ap (λ (t : Outcome). t.1) e)
+  step_is : (step is : StepValue) (stage : Stage) → outcome (asker_state next) step ≡ outcome (at_stage a.session stage) is → is ≡ step
+  step_is step is stage e = sym (ap (λ (t : StateAndStep). t.1) e)
 
-  stage_is : (step is : StepValue) (stage : Stage) → outcome (state_of next) step ≡ outcome (at a.session stage) is → stage_with next.own next.seen next.stage ≡ stage
-  stage_is step is stage e = ap (λ (t : Outcome). t.0.stage) e
+  stage_is : (step is : StepValue) (stage : Stage) → outcome (asker_state next) step ≡ outcome (at_stage a.session stage) is → stage_with next.own next.seen next.stage ≡ stage
+  stage_is step is stage e = ap (λ (t : StateAndStep). t.0.stage) e
 
   -- it gives nothing
-  nothing_given : (step is : StepValue) (stage : Stage) → Gives hash_of a next is → outcome (state_of next) step ≡ outcome (at a.session stage) is → CanTake hash_of a next step
+  nothing_given : (step is : StepValue) (stage : Stage) → Gives hash_of a next is → outcome (asker_state next) step ≡ outcome (at_stage a.session stage) is → CanTake hash_of a next step
   nothing_given step is stage gives e = record {
     session = session_is step is stage e;
     goes_from = goes_from;
@@ -78,11 +78,11 @@ module _ {Hash : Type 0} (hash_of : Hash → List ℕ → ℕ) (a next : AskerVa
       }
 
   goes_take : (step : StepValue) (c : ContextValue) (asks : List MessageValue) (f : Fetch) → IsKnown (hash_of a.hash) a.own (has c) f
-      → outcome (state_of next) step ≡ goes_on a.session a.own a.seen c asks f → CanTake hash_of a next step
+      → outcome (asker_state next) step ≡ goes_on a.session a.own a.seen c asks f → CanTake hash_of a next step
   goes_take step c asks f known e = split (finite.len f.waiting == 0) refl e
     where
       split : (b : Bool) → (finite.len f.waiting == 0) ≡ b
-          → outcome (state_of next) step ≡ cond b (outcome (at a.session (Has c f.built)) Done) (outcome (at a.session (Fetches a.own a.seen c f)) (Sent asks)) → CanTake hash_of a next step
+          → outcome (asker_state next) step ≡ cond b (outcome (at_stage a.session (Has c f.built)) Done) (outcome (at_stage a.session (Fetches a.own a.seen c f)) (Sent asks)) → CanTake hash_of a next step
       split true complete is = record {
         session = session_is step Done (Has c f.built) is;
         goes_from = goes_from;
@@ -95,13 +95,13 @@ module _ {Hash : Type 0} (hash_of : Hash → List ℕ → ℕ) (a next : AskerVa
       }
 
   comes_take : (step : StepValue) (c : ContextValue) (stage : Stage) (asks : List MessageValue) (t : model.Taken) → ((f : Fetch) → t ≡ model.Took f → IsKnown (hash_of a.hash) a.own (has c) f)
-      → outcome (state_of next) step ≡ comes_to a.session a.own a.seen c stage asks t → CanTake hash_of a next step
+      → outcome (asker_state next) step ≡ comes_to a.session a.own a.seen c stage asks t → CanTake hash_of a next step
   comes_take step c stage asks model.Ignored known e = nothing_given step Ignored stage tt e
   comes_take step c stage asks model.Mismatch known e = nothing_given step Mismatch stage tt e
   comes_take step c stage asks (model.Took f) known e = goes_take step c asks f (known f refl) e
 
   opening_step : (step : StepValue) (context : ContextValue) (root : Option (List ℕ)) (s : StageValue Hash) → is_over s ≡ false
-      → outcome (state_of next) step ≡ opening_at (hash_of a.hash) a.session (stage_with a.own a.seen s) context root → CanTake hash_of a next step
+      → outcome (asker_state next) step ≡ opening_at (hash_of a.hash) a.session (stage_with a.own a.seen s) context root → CanTake hash_of a next step
   opening_step step context root Asked unended e =
       comes_take step context (Waits a.own a.seen) (Rattle.wire_form.specs.Message.Ask a.session [] ∷ []) (take_opening (hash_of a.hash) a.own (has a.seen) (has context) root)
       (λ f is. known_opening (hash_of a.hash) a.own (has a.seen) (has context) root f is) e
@@ -111,11 +111,11 @@ module _ {Hash : Type 0} (hash_of : Hash → List ℕ → ℕ) (a next : AskerVa
 
   -- an opening
   pub opening_gives : (step : StepValue) (context : ContextValue) (root : Option (List ℕ)) → is_over a.stage ≡ false
-      → outcome (state_of next) step ≡ opening_at (hash_of a.hash) a.session (stage_with a.own a.seen a.stage) context root → CanTake hash_of a next step
+      → outcome (asker_state next) step ≡ opening_at (hash_of a.hash) a.session (stage_with a.own a.seen a.stage) context root → CanTake hash_of a next step
   opening_gives step context root = opening_step step context root a.stage
 
   page_step : (step : StepValue) (sent : SentValue) (s : StageValue Hash) → KnowsBuilt hash_of a.hash a.own s
-      → outcome (state_of next) step ≡ page_at_stage (hash_of a.hash) a.session (stage_with a.own a.seen s) sent → CanTake hash_of a next step
+      → outcome (asker_state next) step ≡ page_at_stage (hash_of a.hash) a.session (stage_with a.own a.seen s) sent → CanTake hash_of a next step
   page_step step sent Asked knows e = nothing_given step Ignored (Waits a.own a.seen) tt e
   page_step step sent (Fetching c f) knows e =
       comes_take step c (Fetches a.own a.seen c (fetch_of f)) (asks_for (hash_of a.hash) a.session a.own sent)
@@ -126,15 +126,15 @@ module _ {Hash : Type 0} (hash_of : Hash → List ℕ → ℕ) (a next : AskerVa
 
   -- a page
   pub page_gives : (step : StepValue) (sent : SentValue) → KnowsBuilt hash_of a.hash a.own a.stage
-      → outcome (state_of next) step ≡ page_at_stage (hash_of a.hash) a.session (stage_with a.own a.seen a.stage) sent → CanTake hash_of a next step
+      → outcome (asker_state next) step ≡ page_at_stage (hash_of a.hash) a.session (stage_with a.own a.seen a.stage) sent → CanTake hash_of a next step
   page_gives step sent = page_step step sent a.stage
 
-  gone_step : (step : StepValue) (s : StageValue Hash) → outcome (state_of next) step ≡ gone_at a.session (stage_with a.own a.seen s) → CanTake hash_of a next step
+  gone_step : (step : StepValue) (s : StageValue Hash) → outcome (asker_state next) step ≡ gone_at a.session (stage_with a.own a.seen s) → CanTake hash_of a next step
   gone_step step Asked e = nothing_given step IsGone Ended tt e
   gone_step step (Fetching c f) e = nothing_given step IsGone Ended tt e
   gone_step step (Complete c b) e = nothing_given step Ignored (Has c b.entries) tt e
   gone_step step Over e = nothing_given step Ignored Ended tt e
 
   -- a gone
-  pub gone_gives : (step : StepValue) → outcome (state_of next) step ≡ gone_at a.session (stage_with a.own a.seen a.stage) → CanTake hash_of a next step
+  pub gone_gives : (step : StepValue) → outcome (asker_state next) step ≡ gone_at a.session (stage_with a.own a.seen a.stage) → CanTake hash_of a next step
   gone_gives step = gone_step step a.stage

@@ -9,10 +9,10 @@ use Rattle.page_taking.specs.Building.{BuiltValue}
 use Rattle.sync_model.specs.Closing as closing
 use Rattle.sync_model.specs.Closing.{IsBelow}
 use Rattle.sync_model.specs.Differ.{Held}
-use Rattle.sync_model.specs.Laws.{IsWithin}
+use Rattle.sync_model.specs.Laws.{KnowsEachDot}
 use Rattle.wire_form.specs.declared.message.Message.{Message}
 use Rattle.wire_form.specs.Message.{MessageValue}
-use Rattle.sync_protocol.specs.Asking.{AskerValue, StageValue, Complete, is_complete, state_of}
+use Rattle.sync_protocol.specs.Asking.{AskerValue, StageValue, Complete, has_completed, asker_state}
 use Rattle.sync_protocol.specs.Turning as turning
 use Rattle.replica_model.specs.Delivery.{turn, Sent, Done, Ended}
 use Rattle.replica_model.specs.Mail.{Mail, mail_of}
@@ -45,7 +45,7 @@ module _ {Hash : Type 0} (hash_of : Hash → List ℕ → ℕ) (old new : Replic
     pub sent_is : IsReplica hash_of new
     sent_is = advanced_is hash_of old new is rest place a there next can.session sessions live (own_next hash_of old.name (hash_in old) (live_state old.live.0) a next own_at can.session can.goes_from can.gives)
 
-    pub sent_taken : (out : List Mail) → out ≡ map mail_of messages → turned (meaning old) (state_of next) (turning.Sent messages) ≡ turn (meaning new) Sent out
+    pub sent_taken : (out : List Mail) → out ≡ map mail_of messages → turned (meaning old) (asker_state next) (turning.Sent messages) ≡ turn (meaning new) Sent out
     sent_taken out said =
         sent_turned (meaning old) (meaning new) next messages (advanced_meaning hash_of old new is rest place a there next can.session sessions live) can.gives.is_open
         ∙ ap (turn (meaning new) Sent) (sym said)
@@ -59,42 +59,42 @@ module _ {Hash : Type 0} (hash_of : Hash → List ℕ → ℕ) (old new : Replic
     pub out_meaning : meaning new ≡ closes (meaning old) a.session
     out_meaning = closed_meaning hash_of old new is rest place a there sessions (live_state old.live.0) (ap live_state live)
 
-    pub gone_taken : next.session ≡ a.session → turned (meaning old) (state_of next) turning.IsGone ≡ turn (meaning new) Ended []
+    pub gone_taken : next.session ≡ a.session → turned (meaning old) (asker_state next) turning.IsGone ≡ turn (meaning new) Ended []
     gone_taken session = ap (λ r. turn r Ended []) (ap (closes (meaning old)) session ∙ sym out_meaning)
 
 -- ---- what a session built is joined in, and it is taken out
 
 module _ {Hash : Type 0} (hash_of : Hash → List ℕ → ℕ) (name : ℕ) (hash : Hash) (live : MapState) (a : AskerValue Hash) (own : IsOwn hash_of name hash live a) (next : AskerValue Hash) (can : CanTake hash_of a next turning.Done) where
   -- its base is below what the replica holds
-  pub base_is_below : (base : Held) (seen : ContextValue) → base ≡ next.own → seen ≡ next.seen → IsBelow (closing.state_of base (has seen)) live
+  pub base_is_below : (base : Held) (seen : ContextValue) → base ≡ next.own → seen ≡ next.seen → IsBelow (closing.held_state base (has seen)) live
   base_is_below base seen same known =
-      let B : Held → ContextValue → Type 0 = λ m c. IsBelow (closing.state_of m (has c)) live in
+      let B : Held → ContextValue → Type 0 = λ m c. IsBelow (closing.held_state m (has c)) live in
       subst (λ m. B m seen) (sym same) (subst (B next.own) (sym known) (base_below hash_of name hash live a next own can.goes_from))
 
-  pub built_known : (c : ContextValue) (b : BuiltValue Hash) → next.stage ≡ Complete c b → IsWithin (has c) b.entries
+  pub built_known : (c : ContextValue) (b : BuiltValue Hash) → next.stage ≡ Complete c b → KnowsEachDot (has c) b.entries
   built_known c b complete =
       let whole : IsWhole hash_of next = can.gives in
       let same = whole_back next.stage whole.context c whole.built b whole.complete complete in
-      subst (λ k. IsWithin (has k) b.entries) same.0 (subst (λ x. IsWithin (has whole.context) x.entries) same.1 whole.known)
+      subst (λ k. KnowsEachDot (has k) b.entries) same.0 (subst (λ x. KnowsEachDot (has whole.context) x.entries) same.1 whole.known)
 
   -- one that is not complete is not whole
-  pub not_whole : is_complete next.stage ≡ false → ⊥
-  not_whole unended = let whole : IsWhole hash_of next = can.gives in false≢true (sym unended ∙ ap is_complete whole.complete)
+  pub not_whole : has_completed next.stage ≡ false → ⊥
+  not_whole unended = let whole : IsWhole hash_of next = can.gives in false≢true (sym unended ∙ ap has_completed whole.complete)
 
   -- by whichever parts of a complete session it is told
-  pub joined_as : (r m : Replica) (d : ContextValue) (e : BuiltValue Hash) → next.stage ≡ Complete d e → m ≡ joins r (closing.state_of e.entries (has d))
-      → (c : ContextValue) (b : BuiltValue Hash) → next.stage ≡ Complete c b → m ≡ joins r (closing.state_of b.entries (has c))
+  pub joined_as : (r m : Replica) (d : ContextValue) (e : BuiltValue Hash) → next.stage ≡ Complete d e → m ≡ joins r (closing.held_state e.entries (has d))
+      → (c : ContextValue) (b : BuiltValue Hash) → next.stage ≡ Complete c b → m ≡ joins r (closing.held_state b.entries (has c))
   joined_as r m d e first is c b second =
-      let same = whole_back next.stage d c e b first second in is ∙ (λ i. joins r (closing.state_of (same.1 i).entries (has (same.0 i))))
+      let same = whole_back next.stage d c e b first second in is ∙ (λ i. joins r (closing.held_state (same.1 i).entries (has (same.0 i))))
 
-  pub done_taken : (r mid new : Replica) → ((c : ContextValue) (b : BuiltValue Hash) → next.stage ≡ Complete c b → mid ≡ joins r (closing.state_of b.entries (has c))) → new ≡ closes mid a.session
-      → turned r (state_of next) turning.Done ≡ turn new Done []
+  pub done_taken : (r mid new : Replica) → ((c : ContextValue) (b : BuiltValue Hash) → next.stage ≡ Complete c b → mid ≡ joins r (closing.held_state b.entries (has c))) → new ≡ closes mid a.session
+      → turned r (asker_state next) turning.Done ≡ turn new Done []
   done_taken r mid new joined closed =
       let whole : IsWhole hash_of next = can.gives in
       let c = whole.context in
       let b = whole.built in
       ap (λ x. turn x Done [])
-      (closed_by r next c b whole.complete ∙ ap (closes (joins r (closing.state_of b.entries (has c)))) can.session ∙ ap (λ x. closes x a.session) (sym (joined c b whole.complete)) ∙ sym closed)
+      (closed_by r next c b whole.complete ∙ ap (closes (joins r (closing.held_state b.entries (has c)))) can.session ∙ ap (λ x. closes x a.session) (sym (joined c b whole.complete)) ∙ sym closed)
 
 -- what was told without a reply
 pub silent_turn : {A : Type 0} (r : Replica) (outcome kind : Outcome) (replies : List (Message A)) → outcome ≡ kind → replies ≡ [] → turn r (outcome_of kind) [] ≡ turn r (outcome_of outcome) (mails_of replies)

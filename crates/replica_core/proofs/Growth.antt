@@ -22,7 +22,7 @@ module _ {Hash : Type 0} (hash_of : Hash → List ℕ → ℕ) where
       → All (IsOwn hash_of name hash before) them → All (IsOwn hash_of name hash after) them
   own_grows name hash before after them grew =
       All-weaker (IsOwn hash_of name hash before) (IsOwn hash_of name hash after)
-      (λ a own. record { asker = own.asker; hash_is = own.hash_is; is_open = own.is_open; below = below_below (closing.state_of a.own (has a.seen)) before after own.below grew; built = own.built })
+      (λ a own. record { asker = own.asker; hash_is = own.hash_is; is_open = own.is_open; below = below_below (closing.held_state a.own (has a.seen)) before after own.below grew; built = own.built })
       them
 
   -- with the same sessions and kept snapshots

@@ -20,7 +20,7 @@ use Rattle.sync_model.specs.Opened.{held_in, with_values}
 use Rattle.sync_model.specs.Filled.{Made, made_map, checked, fill_unseen, fill_seen, fill_values, then_fields, fill_fields, then_entries, fill_entries, all_used, filled}
 use Rattle.sync_model.specs.Differ.{Held}
 use Rattle.sync_model.specs.Fetch.{Fetch, Waiting, Taken, Ignored, Mismatch, Took, entries_of, children_of, is_digest, is_own, to_ask, within_values, within_fields, within, fits, stays, put_children, put_entry, put_entries, took, promised, take_page, take_opening}
-use Rattle.sync_model.specs.Laws.{IsWithin}
+use Rattle.sync_model.specs.Laws.{KnowsEachDot}
 use Rattle.sync_model.proofs.Members.{In, In-filter, filter-In, part_has}
 use Rattle.sync_model.proofs.Found.{same_Some}
 use Rattle.sync_model.proofs.Prefixes.{begins_further}
@@ -496,7 +496,7 @@ module _ (hash_of : List ℕ → ℕ) (own : Held) (seen opened : DotValue → B
 
   -- ---- the whole
 
-  pub known_whole : (f : Fetch) → IsKnown hash_of own opened f → ((p : List ℕ) → finite.get f.waiting p ≡ None) → IsWithin opened f.built
+  pub known_whole : (f : Fetch) → IsKnown hash_of own opened f → ((p : List ℕ) → finite.get f.waiting p ≡ None) → KnowsEachDot opened f.built
   known_whole f is none key fs e = is.known key fs e (λ p u. let no : false ≡ true = ap is_some (sym (none p)) ∙ u.0 in cc)
 
 -- nothing is waited for where the map of it has no entry

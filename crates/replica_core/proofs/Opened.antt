@@ -23,7 +23,7 @@ use Rattle.sync_model.specs.Closing as closing
 use Rattle.sync_model.specs.Closing.{IsBelow}
 use Rattle.sync_model.specs.Differ.{Held}
 use Rattle.sync_model.specs.Fetch.{within_values, within_fields}
-use Rattle.sync_model.specs.Laws.{IsWithin}
+use Rattle.sync_model.specs.Laws.{KnowsEachDot}
 use Rattle.trie_map.specs.Keyed.{at_keys}
 
 and_left : (a b : Bool) → (a && b) ≡ true → a ≡ true
@@ -69,12 +69,12 @@ module _ (known : DotValue → Bool) (dot : DotValue) where
 
 module _ {Hash : Type 0} (hash : Hash) (live : PairValue Hash FieldsValue) (m : Held) (context : ContextValue) where
   -- a map that is known under a context is inside it
-  pub built_inside : IsWithin (has context) m → IsInside (state_of (at_keys fields_at) ((hash, m), context))
+  pub built_inside : KnowsEachDot (has context) m → IsInside (state_of (at_keys fields_at) ((hash, m), context))
   unfolding at_keys
   built_inside within path dot some = key_held (has context) dot path.1.0 (finite.get m path.0) (λ fs is. within path.0 fs is) some
 
   -- what is below the live state is below the pair
-  pub below_pair : IsBelow (closing.state_of m (has context)) (live_state live)
+  pub below_pair : IsBelow (closing.held_state m (has context)) (live_state live)
       → Same (join greater (state_of (at_keys fields_at) live) (state_of (at_keys fields_at) ((hash, m), context))) (state_of (at_keys fields_at) live)
   unfolding at_keys
   below_pair below = record {
@@ -87,9 +87,9 @@ module _ {Hash : Type 0} (hash : Hash) (live : PairValue Hash FieldsValue) (m : 
   -- and the pair with the map joined in is the live state with it joined in
   pub opened_joined : (next : PairValue Hash FieldsValue)
       → Same (state_of (at_keys fields_at) next) (join greater (state_of (at_keys fields_at) live) (state_of (at_keys fields_at) ((hash, m), context)))
-      → live_state next ≡ join greater (live_state live) (closing.state_of m (has context))
+      → live_state next ≡ join greater (live_state live) (closing.held_state m (has context))
   unfolding at_keys
-  opened_joined next same = same_is (live_state next) (join greater (live_state live) (closing.state_of m (has context))) (record {
+  opened_joined next same = same_is (live_state next) (join greater (live_state live) (closing.held_state m (has context))) (record {
     at = λ place dot. as_entries next.0 (path_of place) dot ∙ same.at (path_of place) dot
         ∙ ap (λ own. joined greater own (has live.1 dot) (held_by fields_at (finite.get m place.key) (place.field, tt) dot) (has context dot)) (sym (as_entries live.0 (path_of place) dot));
     has = same.has;

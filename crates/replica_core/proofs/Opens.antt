@@ -41,9 +41,9 @@ one_more (x ∷ xs) a n sorted below above =
 
 -- ---- the map of a state is below it
 
-pub map_below : (m : Held) (live : MapState) → IsMapOf m live → IsBelow (closing.state_of m live.has) live
+pub map_below : (m : Held) (live : MapState) → IsMapOf m live → IsBelow (closing.held_state m live.has) live
 map_below m live mapped =
-    subst (λ p. IsBelow p live) (sym (same_is (closing.state_of m live.has) live (record { at = λ place dot. mapped.at place dot; has = λ dot. refl }))) (below_itself live)
+    subst (λ p. IsBelow p live) (sym (same_is (closing.held_state m live.has) live (record { at = λ place dot. mapped.at place dot; has = λ dot. refl }))) (below_itself live)
 
 -- ---- the session is opened
 

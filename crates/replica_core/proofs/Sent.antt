@@ -8,7 +8,7 @@ use Rattle.replica_model.proofs.States.{same_is}
 use Rattle.replica_model.specs.Mail.{Delta}
 use Rattle.replica_model.specs.Replica.{flushed}
 use Rattle.replica_model.specs.Step.{Do, Flush, Nothing, KnowsNone}
-use Rattle.replica_core.specs.Meaning.{ReplicaValue, hash_in, meaning}
+use Rattle.replica_core.specs.Meaning.{ReplicaValue, meaning}
 use Rattle.replica_core.specs.Stepping.{Steps}
 use Rattle.replica_core.proofs.Meant.{meaning_by}
 

@@ -1,9 +1,8 @@
 -- The steps of own operations.
 use Rattle.std.proofs.Common.{◌≡◌, ◌<◌, ◌≤◌, ◌-◌, ◌^◌, ℕ, List, [], ◌∷◌, inl, inr, refl, sym, ap, ◌∙◌, subst, length, arith, is_some, IsSome, IsTrue}
-use Rattle.std.specs.Prelude.{◌↔◌, ◌⊎◌, IfErr, IfSome, Result, Ok, Err, Option, Some, None}
+use Rattle.std.specs.Prelude.{◌↔◌, ◌⊎◌, Option}
 use Rattle.std.specs.FinMap as finite
 use Rattle.std.specs.List.{IsDistinct}
-use Rattle.std.specs.Option.{option_copied}
 use Rattle.causal_context.specs.Context.{IsGreatest}
 use Rattle.causal_join.specs.OrMap.{FieldsValue, OrMapValue, or_map_state}
 use Rattle.delta_ops.specs.LiveMap.{live_state}

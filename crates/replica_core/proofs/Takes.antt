@@ -5,14 +5,13 @@ use Rattle.delta_ops.specs.LiveMap.{live_state}
 use Rattle.prefix_digest.specs.MapOf.{IsMapOf}
 use Rattle.wire_form.specs.Message.{MessageValue, Opening, Page, Gone}
 use Rattle.wire_form.specs.Sent.{SentValue}
-use Rattle.wire_form.specs.Session.{SessionValue}
-use Rattle.sync_protocol.specs.Asking.{AskerValue, IsFrom, stage_with, state_of}
+use Rattle.wire_form.specs.Session.{SessionValue, same_session}
+use Rattle.sync_protocol.specs.Asking.{AskerValue, IsFrom, stage_with, asker_state}
 use Rattle.sync_protocol.specs.Turning as turning
-use Rattle.sync_protocol.specs.Turning.{StepValue, Outcome, Ignored, opening_at, page_at_stage, gone_at}
+use Rattle.sync_protocol.specs.Turning.{StepValue, Ignored, opening_at, page_at_stage, gone_at}
 use Rattle.replica_model.specs.Delivery as model
 use Rattle.replica_model.specs.Delivery.{turn}
 use Rattle.replica_model.specs.Mail.{Mail, mail_of}
-use Rattle.replica_model.specs.Replica.{same_session}
 use Rattle.replica_model.specs.Step.{Take, Came}
 use Rattle.replica_core.specs.Meaning.{ReplicaValue, hash_in, meaning}
 use Rattle.replica_core.specs.Own.{IsOwn, IsReplica, KnowsBuilt}
@@ -30,32 +29,32 @@ module _ {Hash : Type 0} (hash_of : Hash → List ℕ → ℕ) (old : ReplicaVal
   own_at = at_place (IsOwn hash_of old.name (hash_in old) (live_state old.live.0)) old.sessions place a first.0 is.own
 
   -- an opening
-  module _ (context : ContextValue) (root : Option (List ℕ)) (said : message ≡ Opening s context root) (told : outcome (state_of next) step ≡ turning.on_opening (hash_of a.hash) (state_of a) message) where
-    opening_is : outcome (state_of next) step ≡ opening_at (hash_of a.hash) a.session (stage_with a.own a.seen a.stage) context root
+  module _ (context : ContextValue) (root : Option (List ℕ)) (said : message ≡ Opening s context root) (told : outcome (asker_state next) step ≡ turning.on_opening (hash_of a.hash) (asker_state a) message) where
+    opening_is : outcome (asker_state next) step ≡ opening_at (hash_of a.hash) a.session (stage_with a.own a.seen a.stage) context root
     opening_is =
-        told ∙ ap (turning.on_opening (hash_of a.hash) (state_of a)) said
-        ∙ ap (λ b. cond b (opening_at (hash_of a.hash) a.session (stage_with a.own a.seen a.stage) context root) (outcome (state_of a) Ignored)) first.1
+        told ∙ ap (turning.on_opening (hash_of a.hash) (asker_state a)) said
+        ∙ ap (λ b. cond b (opening_at (hash_of a.hash) a.session (stage_with a.own a.seen a.stage) context root) (outcome (asker_state a) Ignored)) first.1
 
     pub opening_can : CanTake hash_of a next step
     opening_can = opening_gives hash_of a next goes_from step context root own_at.is_open opening_is
 
-    pub opening_stepped : IsMapOf old.live.0.0.1 (live_state old.live.0) → (new : ReplicaValue Hash) (o : model.Outcome) (out : List Mail) → turned (meaning old) (state_of next) step ≡ turn (meaning new) o out
+    pub opening_stepped : IsMapOf old.live.0.0.1 (live_state old.live.0) → (new : ReplicaValue Hash) (o : model.Outcome) (out : List Mail) → turned (meaning old) (asker_state next) step ≡ turn (meaning new) o out
         → hash_in new ≡ hash_in old → Steps hash_of old new (Take (mail_of message)) (Came o) out
     opening_stepped mapped new o out came hash =
         subst (λ m. Steps hash_of old new (Take (mail_of m)) (Came o) out) (sym said)
-        (opening_came hash_of old mapped new s place a first own_at.asker own_at.is_open (outcome (state_of next) step) o out came hash context root
+        (opening_came hash_of old mapped new s place a first own_at.asker own_at.is_open (outcome (asker_state next) step) o out came hash context root
         (opening_is ∙ ap (λ h. opening_at (hash_of h) a.session (stage_with a.own a.seen a.stage) context root) own_at.hash_is))
 
   -- a page, or that the session is not kept
-  module _ (said : ((sent : SentValue) × (message ≡ Page s sent)) ⊎ (message ≡ Gone s)) (told : outcome (state_of next) step ≡ turning.on_page (hash_of a.hash) (state_of a) message) where
-    page_is : (sent : SentValue) → message ≡ Page s sent → outcome (state_of next) step ≡ page_at_stage (hash_of a.hash) a.session (stage_with a.own a.seen a.stage) sent
+  module _ (said : ((sent : SentValue) × (message ≡ Page s sent)) ⊎ (message ≡ Gone s)) (told : outcome (asker_state next) step ≡ turning.on_page (hash_of a.hash) (asker_state a) message) where
+    page_is : (sent : SentValue) → message ≡ Page s sent → outcome (asker_state next) step ≡ page_at_stage (hash_of a.hash) a.session (stage_with a.own a.seen a.stage) sent
     page_is sent e =
-        told ∙ ap (turning.on_page (hash_of a.hash) (state_of a)) e
-        ∙ ap (λ b. cond b (page_at_stage (hash_of a.hash) a.session (stage_with a.own a.seen a.stage) sent) (outcome (state_of a) Ignored)) first.1
+        told ∙ ap (turning.on_page (hash_of a.hash) (asker_state a)) e
+        ∙ ap (λ b. cond b (page_at_stage (hash_of a.hash) a.session (stage_with a.own a.seen a.stage) sent) (outcome (asker_state a) Ignored)) first.1
 
-    gone_is : message ≡ Gone s → outcome (state_of next) step ≡ gone_at a.session (stage_with a.own a.seen a.stage)
+    gone_is : message ≡ Gone s → outcome (asker_state next) step ≡ gone_at a.session (stage_with a.own a.seen a.stage)
     gone_is e =
-        told ∙ ap (turning.on_page (hash_of a.hash) (state_of a)) e ∙ ap (λ b. cond b (gone_at a.session (stage_with a.own a.seen a.stage)) (outcome (state_of a) Ignored)) first.1
+        told ∙ ap (turning.on_page (hash_of a.hash) (asker_state a)) e ∙ ap (λ b. cond b (gone_at a.session (stage_with a.own a.seen a.stage)) (outcome (asker_state a) Ignored)) first.1
 
     pub page_can : CanTake hash_of a next step
     page_can = either said
@@ -65,18 +64,18 @@ module _ {Hash : Type 0} (hash_of : Hash → List ℕ → ℕ) (old : ReplicaVal
             page_gives hash_of a next goes_from step sent (subst (λ h. KnowsBuilt hash_of h a.own a.stage) (sym own_at.hash_is) own_at.built) (page_is sent e)
         either (inr e) = gone_gives hash_of a next goes_from step (gone_is e)
 
-    pub page_stepped : IsMapOf old.live.0.0.1 (live_state old.live.0) → (new : ReplicaValue Hash) (o : model.Outcome) (out : List Mail) → turned (meaning old) (state_of next) step ≡ turn (meaning new) o out
+    pub page_stepped : IsMapOf old.live.0.0.1 (live_state old.live.0) → (new : ReplicaValue Hash) (o : model.Outcome) (out : List Mail) → turned (meaning old) (asker_state next) step ≡ turn (meaning new) o out
         → hash_in new ≡ hash_in old → Steps hash_of old new (Take (mail_of message)) (Came o) out
     page_stepped mapped new o out came hash = either said
       where
         either : ((sent : SentValue) × (message ≡ Page s sent)) ⊎ (message ≡ Gone s) → Steps hash_of old new (Take (mail_of message)) (Came o) out
         either (inl (sent, e)) =
             subst (λ m. Steps hash_of old new (Take (mail_of m)) (Came o) out) (sym e)
-            (page_came hash_of old mapped new s place a first own_at.asker own_at.is_open (outcome (state_of next) step) o out came hash sent
+            (page_came hash_of old mapped new s place a first own_at.asker own_at.is_open (outcome (asker_state next) step) o out came hash sent
             (page_is sent e ∙ ap (λ h. page_at_stage (hash_of h) a.session (stage_with a.own a.seen a.stage) sent) own_at.hash_is))
         either (inr e) =
             subst (λ m. Steps hash_of old new (Take (mail_of m)) (Came o) out) (sym e)
-            (gone_came hash_of old mapped new s place a first own_at.asker own_at.is_open (outcome (state_of next) step) o out came hash (gone_is e))
+            (gone_came hash_of old mapped new s place a first own_at.asker own_at.is_open (outcome (asker_state next) step) o out came hash (gone_is e))
 
 -- where there is no such session
 module _ {Hash : Type 0} (hash_of : Hash → List ℕ → ℕ) (old : ReplicaValue Hash) (mapped : IsMapOf old.live.0.0.1 (live_state old.live.0)) (s : SessionValue) (missing : NoneIs (λ b. same_session b.session s) old.sessions)

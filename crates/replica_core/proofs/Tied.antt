@@ -14,13 +14,13 @@ use Rattle.wire_form.specs.Sent.{SentValue}
 use Rattle.wire_form.specs.Session.{SessionValue}
 use Rattle.prefix_digest.specs.Page.{digest_at}
 use Rattle.hash_path.specs.Map.{walk_under}
-use Rattle.sync_model.specs.Closing.{state_of}
+use Rattle.sync_model.specs.Closing.{held_state}
 use Rattle.sync_model.specs.Fetch as fetch
 use Rattle.sync_model.specs.Fetch.{Fetch, is_digest, within, take_opening, take_page}
 use Rattle.page_taking.specs.Taking.{fetch_of}
 use Rattle.sync_protocol.specs.Asking.{AskerValue, StageValue, Asked, Fetching, Complete, Over, is_over, Waits, Fetches, Has, stage_with}
 use Rattle.sync_protocol.specs.Turning as turning
-use Rattle.sync_protocol.specs.Turning.{Outcome, goes_on, comes_to, gone_at, opening_at, page_at_stage}
+use Rattle.sync_protocol.specs.Turning.{StateAndStep, goes_on, comes_to, gone_at, opening_at, page_at_stage}
 use Rattle.replica_model.specs.Mail.{Mail, Ask, mail_of}
 use Rattle.replica_model.specs.Replica.{Replica, Open, joins, advances, closes}
 use Rattle.replica_model.specs.Delivery.{Turn, turn, Sent, Done, is_complete, asks_for, asks_of, fetching, went_on, took_gone, opening_taken, took_first, child_prefixes, page_taken, took_further}
@@ -62,7 +62,7 @@ asks_mail s (p ∷ ps) = ap (λ ms. Ask s p ∷ ms) (asks_mail s ps)
 -- ---- turns
 
 module _ (hash_of : List ℕ → ℕ) (r : Replica) where
-  abbrev by : Outcome → Turn
+  abbrev by : StateAndStep → Turn
   by t = turned r t.0 t.1
 
   module _ {Hash : Type 0} (a : AskerValue Hash) (context : ContextValue) where
@@ -71,7 +71,7 @@ module _ (hash_of : List ℕ → ℕ) (r : Replica) where
     on f = fetching (open_of a) (has context) f
 
     abbrev ending : Fetch → Turn
-    ending f = turn (closes (joins r (state_of f.built (has context))) a.session) Done []
+    ending f = turn (closes (joins r (held_state f.built (has context))) a.session) Done []
 
     went : (f : Fetch) (asks : List MessageValue) (mails : List Mail) → (is_complete f ≡ false → mails ≡ map mail_of asks)
         → went_on r (open_of a) (has context) f mails ≡ by (goes_on a.session a.own a.seen context asks f)
@@ -79,12 +79,12 @@ module _ (hash_of : List ℕ → ℕ) (r : Replica) where
         ∙ step (finite.len f.waiting == 0) (complete_is f)
       where
         step : (c : Bool) → is_complete f ≡ c → cond c (ending f) (turn (advances r (on f)) Sent mails)
-            ≡ by (cond c (turning.at a.session (Has context f.built), turning.Done) (turning.at a.session (Fetches a.own a.seen context f), turning.Sent asks))
+            ≡ by (cond c (turning.at_stage a.session (Has context f.built), turning.Done) (turning.at_stage a.session (Fetches a.own a.seen context f), turning.Sent asks))
         step true e = refl
         step false e = ap (λ ms. turn (advances r (on f)) Sent ms) (same e)
 
     -- a first opening
-    abbrev opens_with : fetch.Taken → Outcome
+    abbrev opens_with : fetch.Taken → StateAndStep
     opens_with t = comes_to a.session a.own a.seen context (Waits a.own a.seen) (message.Ask a.session [] ∷ []) t
 
     -- where it leaves nothing to be fetched, no ask is sent
@@ -148,7 +148,7 @@ page_tied {Hash} hash_of r a going sent t e = step a.stage going ∙ ap (by hash
     step Over going = absurd (true≢false going)
 
 pub gone_tied : {Hash : Type 0} → GonesAreTied Hash
-gone_tied {Hash} r a going t e = step a.stage going ∙ ap (λ (x : Outcome). turned r x.0 x.1) (sym e)
+gone_tied {Hash} r a going t e = step a.stage going ∙ ap (λ (x : StateAndStep). turned r x.0 x.1) (sym e)
   where
     step : (stage : StageValue Hash) → is_over stage ≡ false
         → took_gone r (Some (open_of a))

@@ -7,14 +7,14 @@ use Rattle.std.proofs.lemmas.List.Elements.{All-head, All-tail}
 use Rattle.causal_context.specs.Context.{has}
 use Rattle.dots.specs.Dot.{DotValue}
 use Rattle.wire_form.specs.Page.{PageValue}
-use Rattle.wire_form.specs.Session.{SessionValue}
+use Rattle.wire_form.specs.Session.{SessionValue, same_session}
 use Rattle.prefix_digest.specs.Page.{page_at, digest_at}
 use Rattle.sync_protocol.specs.Answering as answering
-use Rattle.sync_protocol.specs.Answering.{snapshot_of, with_place, kept_with, kept_after, told_with, told_of, answer_with, answer_of}
+use Rattle.sync_protocol.specs.Answering.{snapshot_of, with_place, kept_with, told_with, answer_with}
 use Rattle.sync_protocol.specs.Snapshot.{SnapshotValue, KeptValue}
 use Rattle.replica_model.specs.Mail.{Opening, mail_of}
 use Rattle.replica_model.specs.Replica as model
-use Rattle.replica_model.specs.Replica.{Replica, Kept, same_session, kept_at}
+use Rattle.replica_model.specs.Replica.{Replica, Kept, kept_at}
 use Rattle.replica_model.specs.Delivery.{Turn, turn, Sent, took_hello, answered, took_ask}
 use Rattle.replica_model.proofs.Found.{same_is_one, one_is_same}
 use Rattle.replica_core.specs.Meaning.{kept_of}
@@ -61,7 +61,7 @@ module _ {Hash : Type 0} where
   found_of : (hash : Hash) (kept : KeptValue Hash) (s : SessionValue) → AreOf hash kept → (k : SnapshotValue Hash)
       → snapshot_of kept s ≡ Some k → k.hash ≡ hash
   found_of hash [] s are k e = absurd cc
-  found_of hash (x ∷ xs) s are k e = step (answering.same_session s x.0) e (found_of hash xs s (All-tail (λ e. e.1.hash ≡ hash) x xs are) k)
+  found_of hash (x ∷ xs) s are k e = step (same_session s x.0) e (found_of hash xs s (All-tail (λ e. e.1.hash ≡ hash) x xs are) k)
     where
       step : (b : Bool) → cond b (Some x.1) (snapshot_of xs s) ≡ Some k → (snapshot_of xs s ≡ Some k → k.hash ≡ hash) → k.hash ≡ hash
       step true e rest =

@@ -5,9 +5,9 @@ use Rattle.std.specs.List.{find, slice_get, remove, AllByRecursion}
 use Rattle.std.specs.List.Sorted.{IsStrictlySortedBy}
 use Rattle.std.specs.Ordering.{nat_cmp}
 use Rattle.hash_path.proofs.Orders.{less}
-use Rattle.wire_form.specs.Session.{SessionValue}
+use Rattle.wire_form.specs.Session.{SessionValue, same_session}
 use Rattle.sync_protocol.specs.Asking.{AskerValue}
-use Rattle.replica_model.specs.Replica.{Open, same_session, open_at, open_numbered, advanced, without}
+use Rattle.replica_model.specs.Replica.{Open, open_at, open_numbered, advanced, without_session}
 use Rattle.replica_model.proofs.Found.{same_is_one, one_is_same}
 use Rattle.replica_core.specs.Meaning.{open_of}
 use Rattle.replica_core.specs.Tied.{IsFirstAt, NoneIs, AreApart, OpensAreFound, OpensAreMissed, NumbersAreFound, NumbersAreMissed, AdvancesInPlace, ClosesInPlace}
@@ -113,7 +113,7 @@ module _ {Hash : Type 0} where
   rest_stays b [] other = refl
   rest_stays b (x ∷ xs) other = λ i. cond (other.0 i) (open_of b) (open_of x) ∷ rest_stays b xs other.1 i
 
-  rest_kept : (s : SessionValue) (list : List (AskerValue Hash)) → AllOther s list → without s (map open_of list) ≡ map open_of list
+  rest_kept : (s : SessionValue) (list : List (AskerValue Hash)) → AllOther s list → without_session s (map open_of list) ≡ map open_of list
   rest_kept s [] other = refl
   rest_kept s (x ∷ xs) other = λ i. cond (not (other.0 i)) (open_of x ∷ rest_kept s xs other.1 i) (rest_kept s xs other.1 i)
 
@@ -139,13 +139,13 @@ module _ {Hash : Type 0} where
       λ j. cond (before x xs i a b.session apart e is j) (open_of b) (open_of x) ∷ advances_there xs i a b (apart_tail x xs apart) e is j
 
   closes_there : (list : List (AskerValue Hash)) (i : ℕ) (a : AskerValue Hash) → AreApart list → slice_get list i ≡ Some a
-      → without a.session (map open_of list) ≡ map open_of (remove list i)
+      → without_session a.session (map open_of list) ≡ map open_of (remove list i)
   closes_there [] i a apart e = absurd cc
   closes_there (x ∷ xs) zero a apart e =
       let one : x ≡ a = cc in
       let same : a.session ≡ x.session = ap (λ (y : AskerValue Hash). y.session) (sym one) in
       let rest = rest_kept a.session xs (all_other x.session.number xs a.session (ap (λ (u : SessionValue). u.number) same) (apart_head x xs apart)) in
-      (λ j. cond (not (one_is_same x.session a.session (sym same) j)) (open_of x ∷ without a.session (map open_of xs)) (without a.session (map open_of xs))) ∙ rest
+      (λ j. cond (not (one_is_same x.session a.session (sym same) j)) (open_of x ∷ without_session a.session (map open_of xs)) (without_session a.session (map open_of xs))) ∙ rest
   closes_there (x ∷ xs) (suc i) a apart e =
       let rest = closes_there xs i a (apart_tail x xs apart) e in
       λ j. cond (not (before x xs i a a.session apart e refl j)) (open_of x ∷ rest j) (rest j)

@@ -12,7 +12,7 @@ use Rattle.sync_model.specs.Closing.{IsBelow}
 use Rattle.sync_model.specs.Differ.{Held}
 use Rattle.sync_model.specs.Opened.{held_in}
 use Rattle.wire_form.specs.Message.{MessageValue}
-use Rattle.sync_protocol.specs.Asking.{AskerValue, StageValue, Asked, Fetching, Complete, Over, IsFrom, is_over, stage_with, state_of}
+use Rattle.sync_protocol.specs.Asking.{AskerValue, StageValue, Asked, Fetching, Complete, Over, IsFrom, is_over, stage_with, asker_state}
 use Rattle.sync_protocol.specs.Turning as turning
 use Rattle.replica_model.specs.Mail.{mail_of}
 use Rattle.replica_model.specs.Replica.{Replica, advances, closes, joins}
@@ -32,7 +32,7 @@ advanced_open r next (Complete c b) unended = absurd (false≢true (sym unended)
 advanced_open r next Over unended = absurd (false≢true (sym unended))
 
 pub sent_turned : {Hash : Type 0} (r m : Replica) (next : AskerValue Hash) (messages : List MessageValue) → m ≡ advances r (open_of next) → is_over next.stage ≡ false
-    → turned r (state_of next) (turning.Sent messages) ≡ turn m Sent (map mail_of messages)
+    → turned r (asker_state next) (turning.Sent messages) ≡ turn m Sent (map mail_of messages)
 sent_turned r m next messages is unended = ap (λ x. turn x Sent (map mail_of messages)) (advanced_open r next next.stage unended ∙ sym is)
 
 module _ {Hash : Type 0} (hash_of : Hash → List ℕ → ℕ) (name : ℕ) (hash : Hash) (live : MapState) (a next : AskerValue Hash) (own : IsOwn hash_of name hash live a) where
@@ -42,7 +42,7 @@ module _ {Hash : Type 0} (hash_of : Hash → List ℕ → ℕ) (name : ℕ) (has
     hash_is = goes_from.hash ∙ own.hash_is;
     is_open = on.is_open;
     below =
-        let B : Held → ContextValue → Type 0 = λ m c. IsBelow (closing.state_of m (has c)) live in
+        let B : Held → ContextValue → Type 0 = λ m c. IsBelow (closing.held_state m (has c)) live in
         subst (λ m. B m next.seen) (sym on.own) (subst (B a.own) (sym on.seen) own.below);
     built =
         let K : Hash → Held → Type 0 = λ h m. KnowsBuilt hash_of h m next.stage in
@@ -59,7 +59,7 @@ module _ {Hash : Type 0} (hash_of : Hash → List ℕ → ℕ) (name : ℕ) (has
   or_none true = refl
   or_none false = refl
 
-  nothing_below : (c : ContextValue) → HasNone c → IsBelow (closing.state_of finite.empty (has c)) live
+  nothing_below : (c : ContextValue) → HasNone c → IsBelow (closing.held_state finite.empty (has c)) live
   nothing_below c none = record {
     at = λ place dot.
         (λ i. joined greater (live.at place dot) (live.has dot) (held_in (get-empty bytes_cmp place.key i) place.field dot) (none dot i)) ∙ nothing_joined (live.at place dot) (live.has dot);
@@ -67,17 +67,17 @@ module _ {Hash : Type 0} (hash_of : Hash → List ℕ → ℕ) (name : ℕ) (has
   }
 
   -- what it was built from is below what the replica holds
-  pub base_below : IsFrom a next → IsBelow (closing.state_of next.own (has next.seen)) live
+  pub base_below : IsFrom a next → IsBelow (closing.held_state next.own (has next.seen)) live
   base_below goes_from = either goes_from.base
     where
-      either : (((next.own ≡ a.own) × (next.seen ≡ a.seen)) ⊎ ((next.own ≡ finite.empty) × HasNone next.seen)) → IsBelow (closing.state_of next.own (has next.seen)) live
+      either : (((next.own ≡ a.own) × (next.seen ≡ a.seen)) ⊎ ((next.own ≡ finite.empty) × HasNone next.seen)) → IsBelow (closing.held_state next.own (has next.seen)) live
       either (inl same) =
-          let B : Held → ContextValue → Type 0 = λ m c. IsBelow (closing.state_of m (has c)) live in
+          let B : Held → ContextValue → Type 0 = λ m c. IsBelow (closing.held_state m (has c)) live in
           subst (λ m. B m next.seen) (sym same.0) (subst (B a.own) (sym same.1) own.below)
       either (inr nothing) =
-          subst (λ m. IsBelow (closing.state_of m (has next.seen)) live) (sym nothing.0) (nothing_below next.seen nothing.1)
+          subst (λ m. IsBelow (closing.held_state m (has next.seen)) live) (sym nothing.0) (nothing_below next.seen nothing.1)
 
 -- a whole session is closed with what it built
 pub closed_by : {Hash : Type 0} (r : Replica) (asker : AskerValue Hash) (c : ContextValue) (b : _) → asker.stage ≡ Complete c b
-    → closed_with r asker.session (stage_with asker.own asker.seen asker.stage) ≡ closes (joins r (closing.state_of b.entries (has c))) asker.session
+    → closed_with r asker.session (stage_with asker.own asker.seen asker.stage) ≡ closes (joins r (closing.held_state b.entries (has c))) asker.session
 closed_by r asker c b is = ap (λ s. closed_with r asker.session (stage_with asker.own asker.seen s)) is

@@ -20,7 +20,7 @@ use Rattle.live_map.specs.Live.{PairValue}
 use Rattle.op_model.specs.State.{IsInside}
 use Rattle.ordered_list.proofs.Places.{greater_from_less}
 use Rattle.sync_model.specs.Fetch.{within_values, within_fields}
-use Rattle.sync_model.specs.Laws.{IsWithin}
+use Rattle.sync_model.specs.Laws.{KnowsEachDot}
 use Rattle.sync_model.proofs.Fits.{all_pass}
 use Rattle.sync_model.proofs.Members.{In}
 use Rattle.trie_map.specs.Keyed.{at_keys}
@@ -64,7 +64,7 @@ module _ (known : DotValue → Bool) where
       all f.0 d (subst (λ (o : Option ValuesValue). IsSome (held_by at_values o tt d)) (sym (found fs f.0 f.1 sorted h)) some)))
 
 module _ {Hash : Type 0} (live : PairValue Hash FieldsValue) where
-  pub live_within : IsInside (state_of (at_keys fields_at) live) → ((key : List ℕ) (fs : FieldsValue) → finite.get live.0.1 key ≡ Some fs → IsStrictlySortedBy bytes_cmp (keys_of fs)) → IsWithin (has live.1) live.0.1
+  pub live_within : IsInside (state_of (at_keys fields_at) live) → ((key : List ℕ) (fs : FieldsValue) → finite.get live.0.1 key ≡ Some fs → IsStrictlySortedBy bytes_cmp (keys_of fs)) → KnowsEachDot (has live.1) live.0.1
   unfolding at_keys
   live_within inside sorted key fs e =
       fields_within (has live.1) fs (sorted key fs e) (λ field d some.

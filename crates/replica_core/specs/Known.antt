@@ -8,7 +8,7 @@ use Rattle.hash_path.specs.Map.{path}
 use Rattle.sync_model.specs.Differ.{Held}
 use Rattle.wire_form.specs.Page.{PageValue}
 use Rattle.sync_model.specs.Fetch.{Fetch, Waiting, Took, within_fields, take_opening, take_page}
-use Rattle.sync_model.specs.Laws.{IsWithin}
+use Rattle.sync_model.specs.Laws.{KnowsEachDot}
 
 module _ (hash_of : List ℕ → ℕ) where
   -- a key is under a prefix that is waited for
@@ -30,7 +30,7 @@ module _ (hash_of : List ℕ → ℕ) (own : Held) (seen opened : DotValue → B
     pub opening : (root : Option (List ℕ)) (f : Fetch) → take_opening hash_of own seen opened root ≡ Took f → IsKnown hash_of own opened f
     pub page : (f g : Fetch) (p : List ℕ) (page : PageValue) (sent : List (List ℕ)) → IsKnown hash_of own opened f
         → take_page hash_of own seen opened f p page sent ≡ Took g → IsKnown hash_of own opened g
-    pub whole : (f : Fetch) → IsKnown hash_of own opened f → ((p : List ℕ) → finite.get f.waiting p ≡ None) → IsWithin opened f.built
+    pub whole : (f : Fetch) → IsKnown hash_of own opened f → ((p : List ℕ) → finite.get f.waiting p ≡ None) → KnowsEachDot opened f.built
 
 abbrev pub KnownSteps : Type 0
 KnownSteps = (hash_of : List ℕ → ℕ) (own : Held) (seen opened : DotValue → Bool) → KeepsKnown hash_of own seen opened

@@ -1,7 +1,9 @@
 -- What a contract sees of a replica, and the replica of the model that it is. Of this project.
 use Rattle.std.specs.Prelude.{ℕ, List, Option, Some, None, map, refl}
 use Rattle.std.specs.Coded.{Coded, code_by, coded×, coded_list, coded_ℕ}
+use Rattle.causal_context.specs.Code.{context_code}
 use Rattle.causal_context.specs.Context.{has}
+use Rattle.causal_join.specs.Code.{fields_code}
 use Rattle.causal_join.specs.OrMap.{FieldsValue, OrMapValue}
 use Rattle.delta_ops.specs.Group.{group_state}
 use Rattle.delta_ops.specs.LiveMap.{live_state}
@@ -9,7 +11,7 @@ use Rattle.live_map.specs.Live.{LiveValue, live_code}
 use Rattle.page_taking.specs.Taking.{fetch_of}
 use Rattle.wire_form.specs.Session.{SessionValue}
 use Rattle.sync_protocol.specs.Asking.{AskerValue, StageValue, Asked, Fetching, Complete, Over, asker_code}
-use Rattle.sync_protocol.specs.Snapshot.{KeptValue, SnapshotValue, kept_code, context_code, fields_code}
+use Rattle.sync_protocol.specs.Snapshot.{KeptValue, SnapshotValue, kept_code}
 use Rattle.replica_model.specs.Replica.{Replica, Open, Accepted, Kept}
 
 -- its name; what it holds, with its index; what it is to send; the number of its last own session; its own sessions that are open,

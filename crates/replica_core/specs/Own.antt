@@ -32,7 +32,7 @@ module _ {Hash : Type 0} (hash_of : Hash → List ℕ → ℕ) where
     pub asker : a.session.asker ≡ name
     pub hash_is : a.hash ≡ hash
     pub is_open : is_over a.stage ≡ false
-    pub below : IsBelow (closing.state_of a.own (has a.seen)) live
+    pub below : IsBelow (closing.held_state a.own (has a.seen)) live
     pub built : KnowsBuilt hash a.own a.stage
 
   -- the numbers of its own sessions ascend, and none is above that of the last that it opened; and the keys' paths of what it keeps are by

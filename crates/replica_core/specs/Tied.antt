@@ -7,16 +7,16 @@ use Rattle.std.specs.Option.{option_map}
 use Rattle.std.specs.Ordering.{nat_cmp}
 use Rattle.causal_context.specs.Context.{ContextValue, has}
 use Rattle.wire_form.specs.Sent.{SentValue}
-use Rattle.wire_form.specs.Session.{SessionValue}
+use Rattle.wire_form.specs.Session.{SessionValue, same_session}
 use Rattle.sync_protocol.specs.Answering as answering
 use Rattle.sync_protocol.specs.Answering.{snapshot_of, kept_after, told_of, opening_of, answer_of}
 use Rattle.sync_protocol.specs.Asking.{AskerValue, is_over, stage_with}
 use Rattle.sync_protocol.specs.Snapshot.{SnapshotValue, KeptValue}
 use Rattle.sync_protocol.specs.Turning as turning
-use Rattle.sync_protocol.specs.Turning.{Outcome, gone_at, opening_at, page_at_stage}
+use Rattle.sync_protocol.specs.Turning.{StateAndStep, gone_at, opening_at, page_at_stage}
 use Rattle.replica_model.specs.Mail.{mail_of}
 use Rattle.replica_model.specs.Replica as model
-use Rattle.replica_model.specs.Replica.{Replica, same_session, open_at, open_numbered, kept_at, advanced, without}
+use Rattle.replica_model.specs.Replica.{Replica, open_at, open_numbered, kept_at, advanced, without_session}
 use Rattle.replica_model.specs.Delivery.{turn, Sent, took_gone, took_hello, took_ask, took_first, took_further}
 use Rattle.replica_model.specs.Step.{again}
 use Rattle.replica_core.specs.Meaning.{accepted_of, open_of, kept_of}
@@ -42,18 +42,18 @@ module _ (Hash : Type 0) where
 
   abbrev pub OpeningsAreTied : Type 0
   OpeningsAreTied = (hash_of : List ℕ → ℕ) (r : Replica) (a : AskerValue Hash) → is_over a.stage ≡ false
-      → (context : ContextValue) (root : Option (List ℕ)) (t : Outcome)
+      → (context : ContextValue) (root : Option (List ℕ)) (t : StateAndStep)
       → t ≡ opening_at hash_of a.session (stage_with a.own a.seen a.stage) context root
       → took_first hash_of r (open_of a) (has context) root (accepted_of a.stage) ≡ turned r t.0 t.1
 
   abbrev pub PagesAreTied : Type 0
   PagesAreTied = (hash_of : List ℕ → ℕ) (r : Replica) (a : AskerValue Hash) → is_over a.stage ≡ false
-      → (sent : SentValue) (t : Outcome) → t ≡ page_at_stage hash_of a.session (stage_with a.own a.seen a.stage) sent
+      → (sent : SentValue) (t : StateAndStep) → t ≡ page_at_stage hash_of a.session (stage_with a.own a.seen a.stage) sent
       → took_further hash_of r (open_of a) sent (accepted_of a.stage) ≡ turned r t.0 t.1
 
   abbrev pub GonesAreTied : Type 0
   GonesAreTied = (r : Replica) (a : AskerValue Hash) → is_over a.stage ≡ false
-      → (t : Outcome) → t ≡ gone_at a.session (stage_with a.own a.seen a.stage) → took_gone r (Some (open_of a)) ≡ turned r t.0 t.1
+      → (t : StateAndStep) → t ≡ gone_at a.session (stage_with a.own a.seen a.stage) → took_gone r (Some (open_of a)) ≡ turned r t.0 t.1
 
   -- what is sent again
   abbrev pub RetriesAreTied : Type 0
@@ -100,7 +100,7 @@ module _ (Hash : Type 0) where
   abbrev pub ClosesInPlace : Type 0
   ClosesInPlace = (list : List (AskerValue Hash)) (i : ℕ) (a : AskerValue Hash)
       → AreApart list → slice_get list i ≡ Some a
-      → (without a.session (map open_of list) ≡ map open_of (remove list i)) × AreApart (remove list i)
+      → (without_session a.session (map open_of list) ≡ map open_of (remove list i)) × AreApart (remove list i)
 
 module _ {Hash : Type 0} where
   -- the keys' paths of all kept snapshots are by one hash

@@ -5,7 +5,7 @@ use Rattle.wire_form.specs.Message.{MessageValue}
 use Rattle.wire_form.specs.Session.{SessionValue}
 use Rattle.sync_model.specs.Closing as closing
 use Rattle.sync_protocol.specs.Asking as asking
-use Rattle.sync_protocol.specs.Asking.{State, Stage}
+use Rattle.sync_protocol.specs.Asking.{AskerState, Stage}
 use Rattle.sync_protocol.specs.Turning as turning
 use Rattle.sync_protocol.specs.Turning.{StepValue}
 use Rattle.replica_model.specs.Mail.{mail_of}
@@ -24,11 +24,11 @@ advanced_to r s asking.Ended = r
 abbrev pub closed_with : Replica → SessionValue → Stage → Replica
 closed_with r s (asking.Waits own seen) = r
 closed_with r s (asking.Fetches own seen context f) = r
-closed_with r s (asking.Has context built) = closes (joins r (closing.state_of built (has context))) s
+closed_with r s (asking.Has context built) = closes (joins r (closing.held_state built (has context))) s
 closed_with r s asking.Ended = r
 
 -- the turn of the replica by that of one of its sessions
-abbrev pub turned : Replica → State → StepValue → Turn
+abbrev pub turned : Replica → AskerState → StepValue → Turn
 turned r state (turning.Sent messages) = turn (advanced_to r state.session state.stage) Sent (map mail_of messages)
 turned r state turning.Done = turn (closed_with r state.session state.stage) Done []
 turned r state turning.Ignored = ignored r

@@ -1,7 +1,7 @@
 -- What the turn of a session gives its replica to take in. Of this project.
 use Rattle.std.specs.Prelude.{◌≡◌, ℕ, false, List}
 use Rattle.causal_context.specs.Context.{ContextValue, has}
-use Rattle.sync_model.specs.Laws.{IsWithin}
+use Rattle.sync_model.specs.Laws.{KnowsEachDot}
 use Rattle.page_taking.specs.Building.{BuiltValue}
 use Rattle.sync_protocol.specs.Asking.{AskerValue, Complete, IsFrom, is_over}
 use Rattle.sync_protocol.specs.Turning.{StepValue, Sent, Done, Ignored, Mismatch, IsGone}
@@ -20,7 +20,7 @@ module _ {Hash : Type 0} (hash_of : Hash → List ℕ → ℕ) where
     pub context : ContextValue
     pub built : BuiltValue Hash
     pub complete : next.stage ≡ Complete context built
-    pub known : IsWithin (has context) built.entries
+    pub known : KnowsEachDot (has context) built.entries
 
   abbrev pub Gives : AskerValue Hash → AskerValue Hash → StepValue → Type 0
   Gives a next (Sent messages) = IsGoingOn a next

@@ -1,5 +1,5 @@
 // The own sessions of a replica: one is opened, asked again, and given up.
-ghost use Rattle.std.specs.Prelude.{◌≡◌, ◌<◌, ◌≤◌, ◌+◌, ◌++◌, ◌^◌, ◌↔◌, [], ◌∷◌, ℕ, List, IfSome, IsNone, IfOk, IfErr, OnOk, OnErr, IsOkUnless};
+ghost use Rattle.std.specs.Prelude.{◌≡◌, ◌<◌, ◌≤◌, ◌+◌, ◌++◌, ◌^◌, ◌↔◌, [], ◌∷◌, IfSome, IsNone, IfOk, IfErr, OnOk, OnErr, IsOkUnless};
 ghost use Rattle.std.specs.Vec.{vec_len, vec_capacity};
 ghost use Rattle.wire_form.specs.Message.{message_of};
 ghost use Rattle.wire_form.specs.Message as form;

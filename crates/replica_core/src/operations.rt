@@ -1,5 +1,5 @@
 // The own operations of a replica, and what it is to send of them.
-ghost use Rattle.std.specs.Prelude.{◌≡◌, ◌<◌, ◌^◌, true, ℕ, List, [], IfOk, IfErr, OnOk, OnErr, IsOkUnless};
+ghost use Rattle.std.specs.Prelude.{◌≡◌, ◌<◌, ◌^◌, true, [], IfOk, IfErr, OnOk, OnErr, IsOkUnless};
 ghost use Rattle.causal_join.specs.OrMap.{or_map_state};
 ghost use Rattle.op_model.specs.Place.{place_of, plain};
 ghost use Rattle.replica_model.specs.Replica.{makes};

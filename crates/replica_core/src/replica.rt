@@ -1,7 +1,6 @@
 ghost use Rattle.std.specs.Prelude.{◌≡◌, IfOk, IsOkUnless};
 ghost use Rattle.std.specs.FinMap as finite;
 ghost use Rattle.causal_context.specs.Context.{has};
-ghost use Rattle.op_model.specs.Meaning.{HoldsKey};
 ghost use Rattle.replica_model.specs.Replica.{fresh};
 ghost use Rattle.replica_core.specs.Meaning.{hash_in, meaning};
 

@@ -1,6 +1,6 @@
 // The own sessions of a replica: where one is, and copies of them.
 ghost use Rattle.std.specs.Prelude.{◌≡◌, ◌==◌, IfSome, IsNone, IfOk, IsOkUnless};
-ghost use Rattle.replica_model.specs.Replica.{same_session};
+ghost use Rattle.wire_form.specs.Session.{same_session};
 ghost use Rattle.sync_protocol.specs.Asking.{AskerValue};
 ghost use Rattle.replica_core.specs.Tied.{IsFirstAt, NoneIs};
 

@@ -8,9 +8,9 @@ ghost use Rattle.wire_form.specs.Message as form;
 ghost use Rattle.wire_form.specs.Sent.{SentValue};
 ghost use Rattle.sync_model.specs.Closing.{IsBelow};
 ghost use Rattle.sync_model.specs.Closing as closing;
-ghost use Rattle.sync_model.specs.Laws.{IsWithin};
+ghost use Rattle.sync_model.specs.Laws.{KnowsEachDot};
 ghost use Rattle.page_taking.specs.Building.{BuiltValue, GoesOn};
-ghost use Rattle.sync_protocol.specs.Asking.{AskerValue, Complete, IsFrom, state_of};
+ghost use Rattle.sync_protocol.specs.Asking.{AskerValue, Complete, IsFrom, asker_state};
 ghost use Rattle.sync_protocol.specs.Posting.{IsPosted};
 ghost use Rattle.sync_protocol.specs.Turning as turning;
 ghost use Rattle.sync_protocol.specs.Turns.{step_of};
@@ -90,7 +90,7 @@ impl<H: PathHash, A: Allocator + Copy> Replica<H, A> {
         outbox: &mut O,
     ) -> Result<Delivered<A>, Refusal>
         requires { (a : AskerValue H) × (slice_get self.old.sessions place ≡ Some a) × CanTake H.hash_of a turn.next (step_of turn.step) }
-        ensures ok { IfOk result (λ told. turned (meaning self.old) (state_of turn.next) (step_of turn.step) ≡ model.turn (meaning self.new) (outcome_of told.outcome) (mails_of told.replies.items)) }
+        ensures ok { IfOk result (λ told. turned (meaning self.old) (asker_state turn.next) (step_of turn.step) ≡ model.turn (meaning self.new) (outcome_of told.outcome) (mails_of told.replies.items)) }
         ensures posted { IfOk result (λ told. IsPosted O.gains outbox.old outbox.new (map message_of told.replies.items)) }
         ensures unposted { OnErr result (outbox.new ≡ outbox.old) }
         ensures hash { hash_in self.new ≡ hash_in self.old }
@@ -119,7 +119,7 @@ impl<H: PathHash, A: Allocator + Copy> Replica<H, A> {
         outbox: &mut O,
     ) -> Result<Delivered<A>, Refusal>
         requires { (a : AskerValue H) × (slice_get self.old.sessions place ≡ Some a) × CanTake H.hash_of a next (turning.Sent (map message_of replies.items)) }
-        ensures ok { IfOk result (λ told. turned (meaning self.old) (state_of next) (turning.Sent (map message_of replies.items)) ≡ model.turn (meaning self.new) (outcome_of told.outcome) (mails_of told.replies.items)) }
+        ensures ok { IfOk result (λ told. turned (meaning self.old) (asker_state next) (turning.Sent (map message_of replies.items)) ≡ model.turn (meaning self.new) (outcome_of told.outcome) (mails_of told.replies.items)) }
         ensures posted { IfOk result (λ told. O.gains outbox.old outbox.new (map message_of told.replies.items)) }
         ensures unposted { OnErr result (outbox.new ≡ outbox.old) }
         ensures hash { hash_in self.new ≡ hash_in self.old }
@@ -155,7 +155,7 @@ impl<H: PathHash, A: Allocator + Copy> Replica<H, A> {
     // Closes the session at this place, which is done: what it built is joined in.
     fn close(&mut self, place: usize, next: Asker<H, A>) -> Result<Delivered<A>, Refusal>
         requires { (a : AskerValue H) × (slice_get self.old.sessions place ≡ Some a) × CanTake H.hash_of a next turning.Done }
-        ensures ok { IfOk result (λ told. turned (meaning self.old) (state_of next) turning.Done ≡ model.turn (meaning self.new) (outcome_of told.outcome) (mails_of told.replies.items)) }
+        ensures ok { IfOk result (λ told. turned (meaning self.old) (asker_state next) turning.Done ≡ model.turn (meaning self.new) (outcome_of told.outcome) (mails_of told.replies.items)) }
         ensures silent { IfOk result (λ told. told.replies.items ≡ []) }
         ensures hash { hash_in self.new ≡ hash_in self.old }
         ensures refused { IsOkUnless result Refusal.OutOfMemory }
@@ -179,7 +179,7 @@ impl<H: PathHash, A: Allocator + Copy> Replica<H, A> {
     // Joins in what a session gives that is done.
     fn join_session(&mut self, next: Asker<H, A>) -> Result<(), Refusal>
         requires { (a : AskerValue H) × IsOwn H.hash_of self.old.name (hash_in self.old) (meaning self.old).live a × CanTake H.hash_of a next turning.Done }
-        ensures ok { OnOk result ((c : ContextValue) → (b : BuiltValue H) → next.stage ≡ Complete c b → meaning self.new ≡ joins (meaning self.old) (closing.state_of b.entries (has c))) }
+        ensures ok { OnOk result ((c : ContextValue) → (b : BuiltValue H) → next.stage ≡ Complete c b → meaning self.new ≡ joins (meaning self.old) (closing.held_state b.entries (has c))) }
         ensures sessions { self.new.sessions ≡ self.old.sessions }
         ensures hash { hash_in self.new ≡ hash_in self.old }
         ensures refused { IsOkUnless result Refusal.OutOfMemory }
@@ -193,10 +193,10 @@ impl<H: PathHash, A: Allocator + Copy> Replica<H, A> {
 
     // Joins in what a session has built.
     fn join_opened(&mut self, opened: &Opened<H, A>) -> Result<(), Refusal>
-        requires below { IsBelow (closing.state_of opened.now.base.map (has opened.now.seen)) (meaning self.old).live }
+        requires below { IsBelow (closing.held_state opened.now.base.map (has opened.now.seen)) (meaning self.old).live }
         requires rest { GoesOn (record { hash = opened.now.base.hash; entries = opened.now.base.map; touched = finite.empty }) opened.now.built }
-        requires known { IsWithin (has opened.now.context) opened.now.built.entries }
-        ensures ok { OnOk result (meaning self.new ≡ joins (meaning self.old) (closing.state_of opened.now.built.entries (has opened.now.context))) }
+        requires known { KnowsEachDot (has opened.now.context) opened.now.built.entries }
+        ensures ok { OnOk result (meaning self.new ≡ joins (meaning self.old) (closing.held_state opened.now.built.entries (has opened.now.context))) }
         ensures sessions { self.new.sessions ≡ self.old.sessions }
         ensures hash { hash_in self.new ≡ hash_in self.old }
         ensures refused { IsOkUnless result Refusal.OutOfMemory }

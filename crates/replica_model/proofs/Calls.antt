@@ -14,7 +14,7 @@ use Rattle.replica_model.specs.Replica.{Replica, Open, Accepted, Kept, open_numb
 use Rattle.replica_model.specs.Delivery.{asks_for}
 use Rattle.replica_model.specs.Step.{Call, Put, Remove, RemoveField, Clear, Flush, Retry, Abandon, Answer, Removes, Abandons, IsCall, again, retried}
 use Rattle.replica_model.specs.Step as call
-use Rattle.replica_model.specs.World.{World, Message, Snapshot, shown, sent_as, calls, goes}
+use Rattle.replica_model.specs.World.{World, Message, Snapshot, snapshot_with, sent_as, calls, goes}
 use Rattle.replica_model.proofs.Found.{in_one, in_without}
 use Rattle.replica_model.proofs.Ties.{MailTie, SessionTie, AllKept, AllOpen, AllSent}
 use Rattle.replica_model.proofs.Carried.{Ties, at_either, by_name}
@@ -91,10 +91,10 @@ module _ (hash_of : List ℕ → ℕ) (Snap : SessionValue → List Operation �
     asks_sent : (ks : List Kept) (s : SessionValue) (prefixes : List (List ℕ)) → AllSent hash_of Snap Asked Sends group w.kept ks (asks_for s prefixes)
     asks_sent ks s prefixes mail h =
         let found = from_map (Ask s) prefixes mail h in
-        subst (λ y. MailTie hash_of Snap Asked Sends y (shown group w.kept ks y)) found.2 tt
+        subst (λ y. MailTie hash_of Snap Asked Sends y (snapshot_with group w.kept ks y)) found.2 tt
 
     again_sent : (ks : List Kept) (o : Open) (a : Option Accepted) → AllSent hash_of Snap Asked Sends group w.kept ks (again o a)
-    again_sent ks o None mail h = subst (λ y. MailTie hash_of Snap Asked Sends y (shown group w.kept ks y)) (sym (in_one (Hello o.session o.seen) mail h)) tt
+    again_sent ks o None mail h = subst (λ y. MailTie hash_of Snap Asked Sends y (snapshot_with group w.kept ks y)) (sym (in_one (Hello o.session o.seen) mail h)) tt
     again_sent ks o (Some a) mail h = asks_sent ks o.session _ mail h
 
     retried_sent : (ks : List Kept) (o : Option Open) → AllSent hash_of Snap Asked Sends group w.kept ks (retried (w.replica name) o).replies
@@ -115,7 +115,7 @@ module _ (hash_of : List ℕ → ℕ) (Snap : SessionValue → List Operation �
       name_stays = t.named name;
       kept_here = t.kept name;
       open_here = λ x h. either x (Contains-append_cases (w.replica name).sessions (asking (w.replica name) peer own ∷ []) x h);
-      sent = λ mail h. subst (λ y. MailTie hash_of Snap Asked Sends y (shown group w.kept (w.replica name).kept y)) (sym (in_one (Hello (next_session (w.replica name) peer) (w.replica name).live.has) mail h)) tt;
+      sent = λ mail h. subst (λ y. MailTie hash_of Snap Asked Sends y (snapshot_with group w.kept (w.replica name).kept y)) (sym (in_one (Hello (next_session (w.replica name) peer) (w.replica name).live.has) mail h)) tt;
     }
       where
         either : (x : Open) → Contains (w.replica name).sessions x ⊎ Contains (asking (w.replica name) peer own ∷ []) x → SessionTie hash_of Snap Asked Sends w.accepted w.taken name x
@@ -129,7 +129,7 @@ module _ (hash_of : List ℕ → ℕ) (Snap : SessionValue → List Operation �
       name_stays = t.named name;
       kept_here = t.kept name;
       open_here = t.sessions name;
-      sent = λ mail h. subst (λ y. MailTie hash_of Snap Asked Sends y (shown (w.outgoing name) w.kept (w.replica name).kept y)) (sym (in_one (Delta (w.replica name).group) mail h)) sends;
+      sent = λ mail h. subst (λ y. MailTie hash_of Snap Asked Sends y (snapshot_with (w.outgoing name) w.kept (w.replica name).kept y)) (sym (in_one (Delta (w.replica name).group) mail h)) sends;
     }
 
     call_goes : (c : Call) → ((peer : ℕ) (own : Held) → c ≡ call.Ask peer → IsMapOf own (w.replica name).live → Asked name (next_session (w.replica name) peer) own (w.replica name).live.has)

@@ -4,9 +4,9 @@ use Rattle.std.proofs.lemmas.Bool.{false≢true}
 use Rattle.replica_model.specs.Mail.{Mail}
 use Rattle.replica_model.specs.Replica.{Replica}
 use Rattle.replica_model.specs.Delivery.{Outcome}
-use Rattle.replica_model.specs.Step.{Call, Do, Take, Answer, Came, IsStep}
+use Rattle.replica_model.specs.Step.{Do, Take, Answer, Came, IsStep}
 use Rattle.replica_model.specs.World.{World, Event, Node, At, Deliver, Message, message_at, nothing, calls, takes, goes, Happens, Runs}
-use Rattle.replica_model.specs.Laws.{EventsAreOne, WorldsAreOne, RefusedDoesNotHappen, GoesOn}
+use Rattle.replica_model.specs.Laws.{EventsAreOne, WorldsAreOne, RefusedDoesNotHappen, RunsGoOn}
 use Rattle.replica_model.proofs.One.{steps_one, refused_none}
 
 -- what comes of a message that is delivered
@@ -76,5 +76,5 @@ runs_on : (hash_of : List ℕ → ℕ) (events : List Event) (u w v : World) (e 
 runs_on hash_of [] u w v e answer same step = (answer, v, subst (λ s. Happens hash_of s e answer v) same step, refl)
 runs_on hash_of (x ∷ events) u w v e answer (a, t, first, rest) step = (a, t, first, runs_on hash_of events t w v e answer rest step)
 
-pub goes_on : GoesOn
+pub goes_on : RunsGoOn
 goes_on hash_of events w v e answer = runs_on hash_of events nothing w v e answer

@@ -5,7 +5,7 @@ use Rattle.op_model.specs.Meaning.{MapState, greater}
 use Rattle.op_model.specs.State.{join}
 use Rattle.op_model.proofs.Pairs.{grown-here}
 use Rattle.prefix_digest.specs.MapOf.{IsMapOf}
-use Rattle.sync_model.specs.Closing.{state_of}
+use Rattle.sync_model.specs.Closing.{held_state}
 use Rattle.sync_model.specs.Differ.{Held}
 use Rattle.sync_model.proofs.Closings.{closing}
 use Rattle.sync_model.proofs.Fetches.{fetching}
@@ -27,8 +27,8 @@ pub here_new : (name : ℕ) (new old : Replica) → cond (name == name) new old 
 here_new name new old = ap (λ b. cond b new old) (eq-eqb name name refl)
 
 -- a map that stands for a state, under the dots that it knows, is that state
-pub one_state : (m : Held) (c : DotValue → Bool) (p : MapState) → IsMapOf m p → c ≡ p.has → state_of m c ≡ p
-one_state m c p is e = ap (state_of m) e ∙ map_state m p is
+pub one_state : (m : Held) (c : DotValue → Bool) (p : MapState) → IsMapOf m p → c ≡ p.has → held_state m c ≡ p
+one_state m c p is e = ap (held_state m) e ∙ map_state m p is
 
 module _ (hash_of : List ℕ → ℕ) (events : List Event) (w v : World) (number name : ℕ) (runs : Runs hash_of nothing events w) (answer : Answer) (d : Delivered hash_of w number name answer v) where
   ending_is : Ending hash_of (IsTakenOf hash_of events) (AskedIn hash_of events w) (SendsAny hash_of) w name d.message.mail d.message.of (turn d.new d.outcome d.out) → IsEnd hash_of events w v name

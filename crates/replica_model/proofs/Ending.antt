@@ -13,7 +13,7 @@ use Rattle.op_model.specs.State.{join}
 use Rattle.wire_form.specs.Sent.{SentValue}
 use Rattle.wire_form.specs.Session.{SessionValue}
 use Rattle.prefix_digest.specs.Page.{digest_at}
-use Rattle.sync_model.specs.Closing.{state_of}
+use Rattle.sync_model.specs.Closing.{held_state}
 use Rattle.sync_model.specs.Differ.{Held}
 use Rattle.sync_model.specs.Fetch.{Fetch, take_opening, take_page}
 use Rattle.sync_model.specs.Fetch as fetch
@@ -55,7 +55,7 @@ module _ (hash_of : List ℕ → ℕ) (Snap : SessionValue → List Operation �
     pub takings : List Taking
     pub snap : Snap session.session snapshot.seen snapshot.map context
     pub is_fetched : Fetched hash_of session.own session.seen context (digest_at hash_of snapshot.map []) takings fetched
-    pub live : t.new.live ≡ join greater (w.replica name).live (state_of fetched.built context)
+    pub live : t.new.live ≡ join greater (w.replica name).live (held_state fetched.built context)
     pub sets : takes name (w.replica name) mail of t.outcome w ≡ ends name session.own snapshot takings w
 
   pub record Stays (mail : Mail) (of : Snapshot) (t : Turn) : Type 0 where
@@ -88,7 +88,7 @@ module _ (hash_of : List ℕ → ℕ) (Snap : SessionValue → List Operation �
 
   module _ (t : Ties hash_of Snap Asked Sends w) where
     opening_ends : (s : SessionValue) (c : DotValue → Bool) (root : Option (List ℕ)) (o : Open) (f : Fetch) → open_at r.sessions s ≡ Some o → take_opening hash_of o.own o.seen c root ≡ fetch.Took f → is_complete f ≡ true
-        → (of : Snapshot) → MailTie hash_of Snap Asked Sends (Opening s c root) of → Comes (Opening s c root) of (turn (closes (joins r (state_of f.built c)) o.session) Done [])
+        → (of : Snapshot) → MailTie hash_of Snap Asked Sends (Opening s c root) of → Comes (Opening s c root) of (turn (closes (joins r (held_state f.built c)) o.session) Done [])
     opening_ends s c root o f there took complete of tie =
         let found = found_open r.sessions s o there in
         inr (inl (record {
@@ -108,7 +108,7 @@ module _ (hash_of : List ℕ → ℕ) (Snap : SessionValue → List Operation �
 
     page_ends : (s : SessionValue) (sent : SentValue) (o : Open) (a : Accepted) (f : Fetch) → open_at r.sessions s ≡ Some o → o.accepted ≡ Some a
         → take_page hash_of o.own o.seen a.context a.fetch sent.prefix sent.page sent.values ≡ fetch.Took f → is_complete f ≡ true
-        → (of : Snapshot) → Comes (Page s sent) of (turn (closes (joins r (state_of f.built a.context)) o.session) Done [])
+        → (of : Snapshot) → Comes (Page s sent) of (turn (closes (joins r (held_state f.built a.context)) o.session) Done [])
     page_ends s sent o a f there accepted took complete of =
         let found = found_open r.sessions s o there in
         let before = (t.sessions name o found.0).fetched a accepted in

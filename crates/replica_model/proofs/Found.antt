@@ -4,8 +4,8 @@ use Rattle.std.specs.Prelude.{◌==◌, Contains, length, nat_lt}
 use Rattle.std.proofs.lemmas.Bool.{false≢true}
 use Rattle.std.proofs.lemmas.List.Elements.{Contains-append_cases}
 use Rattle.op_model.proofs.Members.{nothing_in, at_head, in_tail, head_or_tail, from_map, from_filter}
-use Rattle.wire_form.specs.Session.{SessionValue}
-use Rattle.replica_model.specs.Replica.{Open, Kept, same_session, open_at, kept_at, advanced, without, LIMIT, all_but_first, keeping}
+use Rattle.wire_form.specs.Session.{SessionValue, same_session}
+use Rattle.replica_model.specs.Replica.{Open, Kept, open_at, kept_at, advanced, without_session, LIMIT, all_but_first, keeping}
 use Rattle.replica_model.specs.World.{changed}
 
 -- ---- sessions that are one
@@ -85,7 +85,7 @@ in_advanced next os o h =
     step x true same there e = inl (sym e)
     step x false apart there e = inr (subst (λ y. Contains os y) e there, ap (λ (y : Open). same_session y.session next.session) (sym e) ∙ apart)
 
-pub in_without : (s : SessionValue) (os : List Open) (o : Open) → Contains (without s os) o → Contains os o
+pub in_without : (s : SessionValue) (os : List Open) (o : Open) → Contains (without_session s os) o → Contains os o
 in_without s os o h = (from_filter (λ x. not (same_session x.session s)) os o h).0
 
 in_rest : (ks : List Kept) (k : Kept) → Contains (all_but_first ks) k → Contains ks k

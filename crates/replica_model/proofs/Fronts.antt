@@ -1,17 +1,17 @@
 -- What holds by fronts of the events: each open session is of an ask, and each snapshot of a hello that was taken.
-use Rattle.std.proofs.Common.{◌≡◌, ◌≢◌, inl, inr, ℕ, ◌+◌, ◌==◌, List, [], ◌∷◌, ◌++◌, Bool, true, false, Option, Some, None, cond, refl, sym, ap, ◌∙◌, subst, append_assoc}
+use Rattle.std.proofs.Common.{◌≡◌, ◌≢◌, ℕ, ◌+◌, ◌==◌, List, [], ◌∷◌, ◌++◌, Bool, Some, cond, refl, sym, ap, ◌∙◌, subst, append_assoc}
 use Rattle.std.proofs.lemmas.List.{append-nil}
 use Rattle.dots.specs.Dot.{DotValue}
 use Rattle.op_model.specs.Meaning.{MapState}
 use Rattle.op_model.specs.Operation.{Operation}
 use Rattle.wire_form.specs.Session.{SessionValue}
 use Rattle.prefix_digest.specs.MapOf.{IsMapOf}
-use Rattle.sync_model.specs.Closing.{state_of, IsBelow}
+use Rattle.sync_model.specs.Closing.{held_state, IsBelow}
 use Rattle.sync_model.specs.Differ.{Held}
 use Rattle.replica_model.specs.Mail.{Mail, Hello}
 use Rattle.replica_model.specs.Replica.{Replica, next_session}
 use Rattle.replica_model.specs.Delivery.{Outcome, turn, delivered}
-use Rattle.replica_model.specs.Step.{Call, Ask, Do, Take, Answer, Came, IsCall, IsStep}
+use Rattle.replica_model.specs.Step.{Call, Ask, Answer, Came, IsCall}
 use Rattle.replica_model.specs.World.{World, Event, Node, At, Deliver, Message, message_at, nothing, calls, takes, goes, Happens, Runs}
 use Rattle.replica_model.specs.Sessions.{IsTakenOf, IsAskOf}
 use Rattle.replica_model.specs.Laws.{Sessions, Openings}
@@ -107,7 +107,7 @@ module _ (hash_of : List ℕ → ℕ) where
 
   -- what is said of an ask, and of a delta
   abbrev pub AskedIn : List Event → World → ℕ → SessionValue → Held → (DotValue → Bool) → Type 0
-  AskedIn events w name s own known = IsAskOf hash_of events s own known × IsBelow (state_of own known) (w.replica name).live
+  AskedIn events w name s own known = IsAskOf hash_of events s own known × IsBelow (held_state own known) (w.replica name).live
 
   abbrev pub SendsAny : MapState → List Operation → Type 0
   SendsAny d S = Unit {0}
@@ -119,7 +119,7 @@ module _ (hash_of : List ℕ → ℕ) where
   more_told events e w v grew =
       more_ties hash_of (IsTakenOf hash_of events) (IsTakenOf hash_of (events ++ e ∷ [])) (AskedIn events w) (AskedIn (events ++ e ∷ []) v) SendsAny SendsAny
       (taken_more events e)
-      (λ n s m c a. (ask_more events e s m c a.0, below_below (state_of m c) (w.replica n).live (v.replica n).live a.1 (grew n)))
+      (λ n s m c a. (ask_more events e s m c a.0, below_below (held_state m c) (w.replica n).live (v.replica n).live a.1 (grew n)))
       (λ d S h. h)
       w
 
@@ -161,7 +161,7 @@ module _ (hash_of : List ℕ → ℕ) where
       called_ties hash_of (IsTakenOf hash_of (events ++ At name c ∷ [])) (AskedIn (events ++ At name c ∷ []) v) SendsAny w name (more_told events (At name c) w v grew t) tt c
       (λ peer own is_ask is. (
         subst (λ x. IsAskOf hash_of (events ++ At name x ∷ []) (next_session (w.replica name) peer) own (w.replica name).live.has) (sym is_ask) (asked_now events w name peer own runs (t.named name) is),
-        below_below (state_of own (w.replica name).live.has) (w.replica name).live (v.replica name).live (map_below own (w.replica name).live is) (grew name),
+        below_below (held_state own (w.replica name).live.has) (w.replica name).live (v.replica name).live (map_below own (w.replica name).live is) (grew name),
       ))
       new answer out step
 

@@ -5,7 +5,7 @@ use Rattle.op_model.specs.State.{join}
 use Rattle.op_model.proofs.Greater.{greater-comm, greater-idem, greater-assoc}
 use Rattle.op_model.proofs.Joins.{join-comm, join-assoc, join-idem}
 use Rattle.prefix_digest.specs.MapOf.{IsMapOf}
-use Rattle.sync_model.specs.Closing.{state_of, IsBelow}
+use Rattle.sync_model.specs.Closing.{held_state, IsBelow}
 use Rattle.sync_model.specs.Differ.{Held}
 use Rattle.replica_model.specs.Mail.{Mail}
 use Rattle.replica_model.specs.Replica.{Replica, Open, open_numbered}
@@ -38,10 +38,10 @@ below_below p q r first second =
     is_same (join greater r p) r (ap (λ x. join greater x p) (sym g) ∙ grouped r q p ∙ ap (join greater r) f ∙ g)
 
 -- a map that stands for a state is one with it
-pub map_state : (m : Held) (p : MapState) → IsMapOf m p → state_of m p.has ≡ p
-map_state m p is = same_is (state_of m p.has) p (record { at = λ place dot. is.at place dot; has = λ dot. refl })
+pub map_state : (m : Held) (p : MapState) → IsMapOf m p → held_state m p.has ≡ p
+map_state m p is = same_is (held_state m p.has) p (record { at = λ place dot. is.at place dot; has = λ dot. refl })
 
-pub map_below : (m : Held) (p : MapState) → IsMapOf m p → IsBelow (state_of m p.has) p
+pub map_below : (m : Held) (p : MapState) → IsMapOf m p → IsBelow (held_state m p.has) p
 map_below m p is = subst (λ q. IsBelow q p) (sym (map_state m p is)) (below_itself p)
 
 -- a delivery joins, or leaves the live state
@@ -54,9 +54,9 @@ delivery_grows hash_of own r = each_row hash_of own r (λ mail t. IsBelow r.live
   kept = λ s seen here none. below_itself r.live;
   gone = λ s p. below_itself r.live;
   page = λ s p k page. below_itself r.live;
-  opening_done = λ s c root o f there first took complete. below_join r.live (state_of f.built c);
+  opening_done = λ s c root o f there first took complete. below_join r.live (held_state f.built c);
   opening_sent = λ s c root o f there first took. below_itself r.live;
-  page_done = λ s sent o a f there accepted took complete. below_join r.live (state_of f.built a.context);
+  page_done = λ s sent o a f there accepted took complete. below_join r.live (held_state f.built a.context);
   page_sent = λ s sent o a f there accepted took. below_itself r.live;
   ended = λ s o there. below_itself r.live;
 })

@@ -5,7 +5,8 @@ use Rattle.std.proofs.lemmas.Bool.{ltb-true}
 use Rattle.std.proofs.lemmas.List.{length-map}
 use Rattle.sync_model.specs.Differ.{Held}
 use Rattle.replica_model.specs.Mail.{Mail}
-use Rattle.replica_model.specs.Replica.{Replica, Open, Kept, same_session, open_numbered, advanced, without, LIMIT, all_but_first, keeping}
+use Rattle.replica_model.specs.Replica.{Replica, Open, Kept, open_numbered, advanced, without_session, LIMIT, all_but_first, keeping}
+use Rattle.wire_form.specs.Session.{same_session}
 use Rattle.replica_model.specs.Delivery.{Turn, delivered}
 use Rattle.replica_model.specs.Step.{Call, Put, Remove, RemoveField, Clear, Flush, Ask, Retry, Abandon, Answer, Abandons, IsCall}
 use Rattle.replica_model.specs.World.{World, Event, Node, At, Deliver, nothing, Happens, Runs}
@@ -21,13 +22,13 @@ lower : (low high : ℕ) (os : List Open) (last : ℕ) → low ≤ high → AreN
 lower low high [] last le n = omega (arith, le, n)
 lower low high (o ∷ os) last le n = let first = n.0 in (omega (arith, le, first), n.1)
 
-numbered_without : (s : Rattle.wire_form.specs.Session.SessionValue) (low : ℕ) (os : List Open) (last : ℕ) → AreNumbered low os last → AreNumbered low (without s os) last
+numbered_without : (s : Rattle.wire_form.specs.Session.SessionValue) (low : ℕ) (os : List Open) (last : ℕ) → AreNumbered low os last → AreNumbered low (without_session s os) last
 numbered_without s low [] last n = n
 numbered_without s low (o ∷ os) last n = step (not (same_session o.session s)) (numbered_without s o.session.number os last n.1)
   where
-    step : (b : Bool) → AreNumbered o.session.number (without s os) last → AreNumbered low (cond b (o ∷ without s os) (without s os)) last
+    step : (b : Bool) → AreNumbered o.session.number (without_session s os) last → AreNumbered low (cond b (o ∷ without_session s os) (without_session s os)) last
     step true rest = (n.0, rest)
-    step false rest = let first = n.0 in lower low o.session.number (without s os) last (omega (arith, first)) rest
+    step false rest = let first = n.0 in lower low o.session.number (without_session s os) last (omega (arith, first)) rest
 
 numbered_advanced : (next : Open) (low : ℕ) (os : List Open) (last : ℕ) → AreNumbered low os last → AreNumbered low (advanced next os) last
 numbered_advanced next low [] last n = n
@@ -45,11 +46,11 @@ numbered_opened low (o ∷ os) last next e n = (n.0, numbered_opened o.session.n
 
 -- ---- lengths
 
-fewer : (s : Rattle.wire_form.specs.Session.SessionValue) (os : List Open) → length (without s os) ≤ length os
+fewer : (s : Rattle.wire_form.specs.Session.SessionValue) (os : List Open) → length (without_session s os) ≤ length os
 fewer s [] = omega arith
 fewer s (o ∷ os) = step (not (same_session o.session s)) (fewer s os)
   where
-    step : (b : Bool) → length (without s os) ≤ length os → length (cond b (o ∷ without s os) (without s os)) ≤ length (o ∷ os)
+    step : (b : Bool) → length (without_session s os) ≤ length os → length (cond b (o ∷ without_session s os) (without_session s os)) ≤ length (o ∷ os)
     step true rest = omega (arith, rest)
     step false rest = omega (arith, rest)
 
@@ -66,7 +67,7 @@ few_kept k ks le = step (nat_lt (length ks) LIMIT) refl
 
 -- ---- steps
 
-closing : (r : Replica) (s : Rattle.wire_form.specs.Session.SessionValue) → IsWithinLimits r → length (without s r.sessions) ≤ LIMIT
+closing : (r : Replica) (s : Rattle.wire_form.specs.Session.SessionValue) → IsWithinLimits r → length (without_session s r.sessions) ≤ LIMIT
 closing r s l = let few = fewer s r.sessions in let before = l.sessions in omega (arith, few, before)
 
 same_limits : (old new : Replica) → new.sessions ≡ old.sessions → new.kept ≡ old.kept → new.opened ≡ old.opened → IsWithinLimits old → IsWithinLimits new

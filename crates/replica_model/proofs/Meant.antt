@@ -10,7 +10,7 @@ use Rattle.op_model.specs.Meaning.{MapState, greater, state}
 use Rattle.op_model.specs.Operation.{Operation, Wrote, Erased, NoReuse, IsPartOf, has, ids, known, writes, observed}
 use Rattle.op_model.specs.Shown.{shown_within, shown_anywhere}
 use Rattle.op_model.specs.State.{Same, join}
-use Rattle.op_model.specs.World.{grown, emptied}
+use Rattle.op_model.specs.World.{grown}
 use Rattle.op_model.specs.World as sets
 use Rattle.op_model.proofs.Dots.{same_dot-self, has-append}
 use Rattle.op_model.proofs.Members.{at_head, nothing_in}
@@ -22,7 +22,7 @@ use Rattle.wire_form.specs.Session.{SessionValue}
 use Rattle.prefix_digest.specs.MapOf.{IsMapOf, map_of, root_digest}
 use Rattle.prefix_digest.specs.Page.{digest_at}
 use Rattle.prefix_digest.proofs.MapsOf.{map_is, maps_one}
-use Rattle.sync_model.specs.Closing.{state_of}
+use Rattle.sync_model.specs.Closing.{held_state}
 use Rattle.sync_model.specs.Differ.{Held}
 use Rattle.sync_model.specs.Fetch.{Fetch}
 use Rattle.sync_model.specs.Laws.{Taking, NoClash, Fetched}
@@ -32,7 +32,7 @@ use Rattle.replica_model.specs.Replica.{Replica, Open, open_numbered, makes, ope
 use Rattle.replica_model.specs.Delivery.{Outcome, Turn, turn, delivered}
 use Rattle.replica_model.specs.Step.{Call, Put, Remove, RemoveField, Clear, Flush, Retry, Abandon, Answer, Abandons, KnowsNone, IsCall}
 use Rattle.replica_model.specs.Step as call
-use Rattle.replica_model.specs.World.{World, Event, Node, At, Deliver, Message, Snapshot, Met, sets_of, message_at, nothing, learns, calls, own_of, ends, takes, taking_of, accepts, takes_page, is_joined, is_sent, is_done, goes, Happens, Runs, Unclashed}
+use Rattle.replica_model.specs.World.{World, Event, Node, At, Deliver, Snapshot, Met, sets_of, nothing, learns, calls, own_of, ends, takes, taking_of, accepts, takes_page, is_joined, is_sent, is_done, goes, Happens, Runs, Unclashed}
 use Rattle.replica_model.specs.World as world
 use Rattle.replica_model.specs.Laws.{IsSound, MeansMail, Headline, SameSeen}
 use Rattle.replica_model.proofs.States.{same_is, is_same}
@@ -266,7 +266,7 @@ closed_by_call w name (Abandon number) = refl
 session_joins : (hash_of : List ℕ → ℕ) (S T seen : List Operation) (own theirs : Held) (known_own context : DotValue → Bool) (ts : List Taking) (f : Fetch)
     → own ≡ map_of S → known_own ≡ has (known S) → theirs ≡ map_of T → context ≡ has (known T) → IsPartOf S seen → NoReuse (seen ++ T) → NoClash hash_of own theirs ts
     → Fetched hash_of own known_own context (digest_at hash_of theirs []) ts f → ((p : List ℕ) → finite.get f.waiting p ≡ None)
-    → join greater (state seen) (state_of f.built context) ≡ state (seen ++ T)
+    → join greater (state seen) (held_state f.built context) ≡ state (seen ++ T)
 unfolding root_digest
 session_joins hash_of S T seen own theirs known_own context ts f own_is known_is theirs_is context_is part once no_clash fetched complete =
     let clean : NoClash hash_of (map_of S) (map_of T) ts = subst (λ o. NoClash hash_of o (map_of T) ts) own_is (subst (λ m. NoClash hash_of own m ts) theirs_is no_clash) in
@@ -274,7 +274,7 @@ session_joins hash_of S T seen own theirs known_own context ts f own_is known_is
     let second = subst (λ k. Fetched hash_of (map_of S) k context (digest_at hash_of theirs []) ts f) known_is first in
     let third = subst (λ c. Fetched hash_of (map_of S) (has (known S)) c (digest_at hash_of theirs []) ts f) context_is second in
     let fourth = subst (λ m. Fetched hash_of (map_of S) (has (known S)) (has (known T)) (digest_at hash_of m []) ts f) theirs_is third in
-    ap (λ c. join greater (state seen) (state_of f.built c)) context_is ∙ same_is _ _ (done hash_of S T seen ts f part once clean fourth complete)
+    ap (λ c. join greater (state seen) (held_state f.built c)) context_is ∙ same_is _ _ (done hash_of S T seen ts f part once clean fourth complete)
 
 module _ (hash_of : List ℕ → ℕ) (w v : World) (number name : ℕ) (answer : Answer) (sound_w : IsSound w) (meant : Meant hash_of w) (d : Delivered hash_of w number name answer v) where
   abbrev after : World
@@ -301,7 +301,7 @@ module _ (hash_of : List ℕ → ℕ) (w v : World) (number name : ℕ) (answer 
       let met : Met = record { own = e.session.own; theirs = e.snapshot.map; takings = e.takings } in
       let there : Contains after.closed met = subst (λ (x : World). Contains x.closed met) (sym e.sets) (Contains-append_right w.closed (met ∷ []) met (at_head met [])) in
       e.live
-      ∙ ap (λ p. join greater p (state_of e.fetched.built e.context)) (meant.live name)
+      ∙ ap (λ p. join greater p (held_state e.fetched.built e.context)) (meant.live name)
       ∙ session_joins hash_of asked.0 T (w.seen name) e.session.own e.snapshot.map e.session.seen e.context e.takings e.fetched asked.2 asked.3 e.snap.0 e.snap.1 asked.1
       (NoReuse-part (w.seen name ++ T) w.made (part_both (w.seen name) T w.made (sound_w.sets.seen name) part) sound_w.sets.no_reuse) (clean met there) e.is_fetched e.complete
       ∙ ap state (sym (grown-here name (w.seen name) T))

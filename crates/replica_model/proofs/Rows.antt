@@ -6,7 +6,7 @@ use Rattle.wire_form.specs.Page.{PageValue}
 use Rattle.wire_form.specs.Sent.{SentValue}
 use Rattle.wire_form.specs.Session.{SessionValue}
 use Rattle.prefix_digest.specs.Page.{page_at}
-use Rattle.sync_model.specs.Closing.{state_of}
+use Rattle.sync_model.specs.Closing.{held_state}
 use Rattle.sync_model.specs.Differ.{Held}
 use Rattle.sync_model.specs.Fetch.{Fetch, take_opening, take_page}
 use Rattle.sync_model.specs.Fetch as fetch
@@ -30,13 +30,13 @@ module _ (hash_of : List ℕ → ℕ) (own : Held) (r : Replica) (P : Mail → T
     pub page : (s : SessionValue) (prefix : List ℕ) (k : Kept) (page : PageValue) → P (Ask s prefix) (turn r Sent (page_for hash_of s k prefix page ∷ []))
     pub opening_done : (s : SessionValue) (context : DotValue → Bool) (root : Option (List ℕ)) (o : Open) (f : Fetch) → open_at r.sessions s ≡ Some o → o.accepted ≡ None →
         take_opening hash_of o.own o.seen context root ≡ fetch.Took f → is_complete f ≡ true →
-        P (Opening s context root) (turn (closes (joins r (state_of f.built context)) o.session) Done [])
+        P (Opening s context root) (turn (closes (joins r (held_state f.built context)) o.session) Done [])
     pub opening_sent : (s : SessionValue) (context : DotValue → Bool) (root : Option (List ℕ)) (o : Open) (f : Fetch) → open_at r.sessions s ≡ Some o → o.accepted ≡ None →
         take_opening hash_of o.own o.seen context root ≡ fetch.Took f →
         P (Opening s context root) (turn (advances r (fetching o context f)) Sent (asks_of o.session f))
     pub page_done : (s : SessionValue) (sent : SentValue) (o : Open) (a : Accepted) (f : Fetch) → open_at r.sessions s ≡ Some o → o.accepted ≡ Some a →
         take_page hash_of o.own o.seen a.context a.fetch sent.prefix sent.page sent.values ≡ fetch.Took f → is_complete f ≡ true →
-        P (Page s sent) (turn (closes (joins r (state_of f.built a.context)) o.session) Done [])
+        P (Page s sent) (turn (closes (joins r (held_state f.built a.context)) o.session) Done [])
     pub page_sent : (s : SessionValue) (sent : SentValue) (o : Open) (a : Accepted) (f : Fetch) → open_at r.sessions s ≡ Some o → o.accepted ≡ Some a →
         take_page hash_of o.own o.seen a.context a.fetch sent.prefix sent.page sent.values ≡ fetch.Took f →
         P (Page s sent) (turn (advances r (fetching o a.context f)) Sent (asks_for o.session (child_prefixes hash_of o sent)))
@@ -57,7 +57,7 @@ module _ (hash_of : List ℕ → ℕ) (own : Held) (r : Replica) (P : Mail → T
 
     module _ (s : SessionValue) (context : DotValue → Bool) (root : Option (List ℕ)) (o : Open) (there : open_at r.sessions s ≡ Some o) (first : o.accepted ≡ None) where
       opening_went : (f : Fetch) → take_opening hash_of o.own o.seen context root ≡ fetch.Took f → (b : Bool) → is_complete f ≡ b →
-          P (Opening s context root) (cond b (turn (closes (joins r (state_of f.built context)) o.session) Done []) (turn (advances r (fetching o context f)) Sent (asks_of o.session f)))
+          P (Opening s context root) (cond b (turn (closes (joins r (held_state f.built context)) o.session) Done []) (turn (advances r (fetching o context f)) Sent (asks_of o.session f)))
       opening_went f took true complete = rows.opening_done s context root o f there first took complete
       opening_went f took false complete = rows.opening_sent s context root o f there first took
 
@@ -77,7 +77,7 @@ module _ (hash_of : List ℕ → ℕ) (own : Held) (r : Replica) (P : Mail → T
 
     module _ (s : SessionValue) (sent : SentValue) (o : Open) (there : open_at r.sessions s ≡ Some o) (a : Accepted) (accepted : o.accepted ≡ Some a) where
       page_went : (f : Fetch) → take_page hash_of o.own o.seen a.context a.fetch sent.prefix sent.page sent.values ≡ fetch.Took f → (b : Bool) → is_complete f ≡ b →
-          P (Page s sent) (cond b (turn (closes (joins r (state_of f.built a.context)) o.session) Done []) (turn (advances r (fetching o a.context f)) Sent (asks_for o.session (child_prefixes hash_of o sent))))
+          P (Page s sent) (cond b (turn (closes (joins r (held_state f.built a.context)) o.session) Done []) (turn (advances r (fetching o a.context f)) Sent (asks_for o.session (child_prefixes hash_of o sent))))
       page_went f took true complete = rows.page_done s sent o a f there accepted took complete
       page_went f took false complete = rows.page_sent s sent o a f there accepted took
 

@@ -7,13 +7,13 @@ use Rattle.op_model.specs.Operation.{ids}
 use Rattle.op_model.specs.Shown.{shown_within, shown_anywhere}
 use Rattle.op_model.specs.World.{emptied, message}
 use Rattle.op_model.proofs.Fresh.{IsNew, put-new, erasure-new, part_left, nothing_part, message-append, sound-makes, sound-learns, sound-nothing}
-use Rattle.wire_form.specs.Session.{SessionValue}
+use Rattle.wire_form.specs.Session.{SessionValue, same_session}
 use Rattle.replica_model.specs.Mail.{Mail, Delta, Hello, Opening, Ask, Page, Gone}
-use Rattle.replica_model.specs.Replica.{Replica, Kept, same_session, open_at, kept_at}
+use Rattle.replica_model.specs.Replica.{Replica, Kept, open_at, kept_at}
 use Rattle.replica_model.specs.Delivery.{Outcome}
 use Rattle.replica_model.specs.Step.{Call, Put, Remove, RemoveField, Clear, Flush, Retry, Abandon, Answer}
 use Rattle.replica_model.specs.Step as call
-use Rattle.replica_model.specs.World.{World, Event, Node, At, Deliver, Message, Snapshot, no_snapshot, sets_of, nothing, message_at, changed, makes, learns, calls, is_joined, is_sent, is_done, first_kept, keeps, accepts, takes_page, taking_of, own_of, ends, takes, sent_as, goes, Happens, Runs}
+use Rattle.replica_model.specs.World.{World, Event, Node, At, Deliver, Message, Snapshot, sets_of, nothing, message_at, changed, makes, learns, calls, is_joined, is_sent, is_done, first_kept, keeps, accepts, takes_page, taking_of, own_of, ends, takes, sent_as, goes, Happens, Runs}
 use Rattle.replica_model.specs.World as world
 use Rattle.replica_model.specs.Laws.{IsSound, Sound}
 
@@ -38,7 +38,7 @@ map-append (m ∷ ms) more = ap (λ xs. m.of.seen ∷ xs) (map-append ms more)
 -- ---- the messages that a replica sends are part of what was made
 
 module _ (made group : List Operation) (kept : SessionValue → List Operation) (ks : List Kept) (here : IsPartOf group made) (there : (s : SessionValue) → IsPartOf (kept s) made) where
-  shown_part : (mail : Mail) → IsPartOf (world.shown group kept ks mail).seen made
+  shown_part : (mail : Mail) → IsPartOf (world.snapshot_with group kept ks mail).seen made
   shown_part (Delta d) = here
   shown_part (Hello s seen) = nothing_part made
   shown_part (Opening s context root) = there s

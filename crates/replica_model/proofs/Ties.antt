@@ -8,17 +8,17 @@ use Rattle.op_model.specs.Operation.{Operation}
 use Rattle.op_model.proofs.Members.{nothing_in, from_map}
 use Rattle.wire_form.specs.Page.{PageValue}
 use Rattle.wire_form.specs.Sent.{SentValue}
-use Rattle.wire_form.specs.Session.{SessionValue}
+use Rattle.wire_form.specs.Session.{SessionValue, same_session}
 use Rattle.prefix_digest.specs.Page.{digest_at}
-use Rattle.sync_model.specs.Closing.{state_of}
+use Rattle.sync_model.specs.Closing.{held_state}
 use Rattle.sync_model.specs.Differ.{Held}
 use Rattle.sync_model.specs.Fetch.{Fetch, take_opening, take_page}
 use Rattle.sync_model.specs.Fetch as fetch
 use Rattle.sync_model.specs.Laws.{Taking, Fetched}
 use Rattle.replica_model.specs.Mail.{Mail, Delta, Hello, Opening, Ask, Page, Gone}
-use Rattle.replica_model.specs.Replica.{Replica, Open, Accepted, Kept, same_session, open_at, kept_at, joins, advances, closes, keeps}
+use Rattle.replica_model.specs.Replica.{Replica, Open, Accepted, Kept, open_at, kept_at, joins, advances, closes, keeps}
 use Rattle.replica_model.specs.Delivery.{Turn, turn, ignored, Joined, Sent, Done, Mismatch, Ended, asks_for, asks_of, fetching, opening_of, page_for, child_prefixes, delivered}
-use Rattle.replica_model.specs.World.{World, Snapshot, changed, first_kept, takes, taking_of, shown, map_of_kept}
+use Rattle.replica_model.specs.World.{World, Snapshot, changed, first_kept, takes, taking_of, snapshot_with, map_of_kept}
 use Rattle.replica_model.proofs.Found.{askers_apart, answerers_apart, found_open, found_kept, none_kept, in_advanced, in_without, in_one, in_keeping, kept_new, changed_here, changed_elsewhere, changed_to_same}
 use Rattle.replica_model.proofs.Rows.{snapshot, each_row}
 
@@ -53,7 +53,7 @@ module _ (hash_of : List ℕ → ℕ) (Snap : SessionValue → List Operation �
   AllOpen accepted taken name r = (o : Open) → Contains r.sessions o → SessionTie accepted taken name o
 
   abbrev pub AllSent : List Operation → (SessionValue → List Operation) → List Kept → List Mail → Type 0
-  AllSent group kept ks out = (mail : Mail) → Contains out mail → MailTie mail (shown group kept ks mail)
+  AllSent group kept ks out = (mail : Mail) → Contains out mail → MailTie mail (snapshot_with group kept ks mail)
 
   -- a fact of the keys that a change left
   kept_stays : (f g : SessionValue → List Operation) (name : ℕ) (k : Kept) → g k.session ≡ f k.session → KeptTie f name k → KeptTie g name k
@@ -114,8 +114,8 @@ module _ (hash_of : List ℕ → ℕ) (Snap : SessionValue → List Operation �
     joined : (d : MapState) (of : Snapshot) → GoesOn (Delta d) of (turn (joins r d) Joined [])
     joined d of = record { name_stays = named; kept_here = kept name; kept_there = λ n a. kept n; open_here = open_ones name; open_there = λ n a. open_ones n; replies = nothing_sent w.kept r.kept }
 
-    no_tie : (f : SessionValue → List Operation) (ks : List Kept) (x : Mail) → MailTie x (shown [] f ks x) → AllSent [] f ks (x ∷ [])
-    no_tie f ks x tie mail h = subst (λ y. MailTie y (shown [] f ks y)) (sym (in_one x mail h)) tie
+    no_tie : (f : SessionValue → List Operation) (ks : List Kept) (x : Mail) → MailTie x (snapshot_with [] f ks x) → AllSent [] f ks (x ∷ [])
+    no_tie f ks x tie mail h = subst (λ y. MailTie y (snapshot_with [] f ks y)) (sym (in_one x mail h)) tie
 
     told_gone : (s : SessionValue) (p : List ℕ) (of : Snapshot) → GoesOn (Ask s p) of (turn r Sent (Gone s ∷ []))
     told_gone s p of = record { name_stays = named; kept_here = kept name; kept_there = λ n a. kept n; open_here = open_ones name; open_there = λ n a. open_ones n; replies = no_tie w.kept r.kept (Gone s) tt }
@@ -126,17 +126,17 @@ module _ (hash_of : List ℕ → ℕ) (Snap : SessionValue → List Operation �
     open_left : (s : SessionValue) (o : Open) → Contains (closes r s).sessions o → SessionTie w.accepted w.taken name o
     open_left s o h = open_ones name o (in_without s r.sessions o h)
 
-    opening_closes : (s : SessionValue) (c : DotValue → Bool) (root : Option (List ℕ)) (o : Open) (f : Fetch) (of : Snapshot) → GoesOn (Opening s c root) of (turn (closes (joins r (state_of f.built c)) o.session) Done [])
+    opening_closes : (s : SessionValue) (c : DotValue → Bool) (root : Option (List ℕ)) (o : Open) (f : Fetch) (of : Snapshot) → GoesOn (Opening s c root) of (turn (closes (joins r (held_state f.built c)) o.session) Done [])
     opening_closes s c root o f of = record { name_stays = named; kept_here = kept name; kept_there = λ n a. kept n; open_here = open_left o.session; open_there = λ n a. open_ones n; replies = nothing_sent w.kept r.kept }
 
-    page_closes : (s : SessionValue) (sent : SentValue) (o : Open) (a : Accepted) (f : Fetch) (of : Snapshot) → GoesOn (Page s sent) of (turn (closes (joins r (state_of f.built a.context)) o.session) Done [])
+    page_closes : (s : SessionValue) (sent : SentValue) (o : Open) (a : Accepted) (f : Fetch) (of : Snapshot) → GoesOn (Page s sent) of (turn (closes (joins r (held_state f.built a.context)) o.session) Done [])
     page_closes s sent o a f of = record { name_stays = named; kept_here = kept name; kept_there = λ n a. kept n; open_here = open_left o.session; open_there = λ n a. open_ones n; replies = nothing_sent w.kept r.kept }
 
     gone_closes : (s : SessionValue) (o : Open) (of : Snapshot) → GoesOn (Gone s) of (turn (closes r o.session) Ended [])
     gone_closes s o of = record { name_stays = named; kept_here = kept name; kept_there = λ n a. kept n; open_here = open_left o.session; open_there = λ n a. open_ones n; replies = nothing_sent w.kept r.kept }
 
     -- a hello
-    opening_tie : (f : SessionValue → List Operation) (ks : List Kept) (k : Kept) → kept_at ks k.session ≡ Some k → Snap k.session (f k.session) k.map k.context → MailTie (opening_of hash_of k) (shown [] f ks (opening_of hash_of k))
+    opening_tie : (f : SessionValue → List Operation) (ks : List Kept) (k : Kept) → kept_at ks k.session ≡ Some k → Snap k.session (f k.session) k.map k.context → MailTie (opening_of hash_of k) (snapshot_with [] f ks (opening_of hash_of k))
     opening_tie f ks k e snap =
         let same : k.map ≡ map_of_kept (kept_at ks k.session) = sym (ap map_of_kept e) in
         (subst (λ m. Snap k.session (f k.session) m k.context) same snap, ap (λ m. digest_at hash_of m []) same)
@@ -183,7 +183,7 @@ module _ (hash_of : List ℕ → ℕ) (Snap : SessionValue → List Operation �
     ask_tie : (g : SessionValue → List Operation) (ks : List Kept) (u : SessionValue) (prefixes : List (List ℕ)) → AllSent [] g ks (asks_for u prefixes)
     ask_tie g ks u prefixes mail h =
         let found = from_map (Ask u) prefixes mail h in
-        subst (λ y. MailTie y (shown [] g ks y)) found.2 tt
+        subst (λ y. MailTie y (snapshot_with [] g ks y)) found.2 tt
 
     accepted_is : (a x : Accepted) (P : Accepted → Type 0) → Some a ≡ Some x → P a → P x
     accepted_is a x P e p = let one : a ≡ x = cc in subst P one p

@@ -7,7 +7,7 @@ use Rattle.wire_form.specs.Session.{SessionValue}
 use Rattle.wire_form.specs.Sent.{SentValue}
 use Rattle.prefix_digest.specs.Page.{page_at, digest_at}
 use Rattle.prefix_digest.specs.Values.{unknown_at}
-use Rattle.sync_model.specs.Closing.{state_of}
+use Rattle.sync_model.specs.Closing.{held_state}
 use Rattle.sync_model.specs.Differ.{Held}
 use Rattle.sync_model.specs.Fetch.{Fetch, children_of, to_ask, take_opening, take_page}
 use Rattle.sync_model.specs.Fetch as fetch
@@ -56,7 +56,7 @@ fetching o context f = record o { accepted = Some (record { context = context; f
 abbrev pub went_on : Replica → Open → (DotValue → Bool) → Fetch → List Mail → Turn
 went_on r o context f asks =
     cond (is_complete f)
-    (turn (closes (joins r (state_of f.built context)) o.session) Done [])
+    (turn (closes (joins r (held_state f.built context)) o.session) Done [])
     (turn (advances r (fetching o context f)) Sent asks)
 
 -- a gone: the session, where it is open, ends

@@ -54,8 +54,8 @@ RefusedDoesNotHappen = (hash_of : List ℕ → ℕ) (w v : World) (e : Event) (a
     → RefusesEvent w e refusal → ¬ Happens hash_of w e answer v
 
 -- a list of events goes on by one
-abbrev pub GoesOn : Type 0
-GoesOn = (hash_of : List ℕ → ℕ) (events : List Event) (w v : World) (e : Event) (answer : Answer)
+abbrev pub RunsGoOn : Type 0
+RunsGoOn = (hash_of : List ℕ → ℕ) (events : List Event) (w v : World) (e : Event) (answer : Answer)
     → Runs hash_of nothing events w → Happens hash_of w e answer v → Runs hash_of nothing (events ++ e ∷ []) v
 
 -- ---- sound, whatever clashes
@@ -77,7 +77,7 @@ Sessions = (hash_of : List ℕ → ℕ) (events : List Event) (w : World) → Ru
     → (name : ℕ) (o : Open) → Contains (w.replica name).sessions o → IsSession hash_of events w name o
 
 -- each opening is that of a snapshot, and carries what its answerer had seen then
-pub record IsOpening (hash_of : List ℕ → ℕ) (events : List Event) (m : Message) (s : SessionValue) (context : DotValue → Bool)
+pub record CarriesSnapshot (hash_of : List ℕ → ℕ) (events : List Event) (m : Message) (s : SessionValue) (context : DotValue → Bool)
     (root : Option (List ℕ)) : Type 0 where
   pub snapshot : IsTakenOf hash_of events s m.of.seen m.of.map context
   pub digest : root ≡ digest_at hash_of m.of.map []
@@ -86,7 +86,7 @@ abbrev pub Openings : Type 0
 Openings = (hash_of : List ℕ → ℕ) (events : List Event) (w : World) → Runs hash_of nothing events w
     → (number : ℕ) (m : Message) → message_at w.messages number ≡ Some m
     → (s : SessionValue) (context : DotValue → Bool) (root : Option (List ℕ)) → m.mail ≡ Opening s context root
-    → IsOpening hash_of events m s context root
+    → CarriesSnapshot hash_of events m s context root
 
 -- a synchronisation that ends adds just what its peer had seen when it opened
 abbrev pub Ends : Type 0

@@ -1,11 +1,11 @@
 -- What one replica is: its live state and what it is to send, its own sessions that are open, and the snapshots that it keeps for the
 -- sessions of others. Of this project.
-use Rattle.std.specs.Prelude.{ℕ, ◌+◌, Bool, ◌==◌, ◌&&◌, not, nat_lt, List, [], ◌∷◌, ◌++◌, map, length, Option, Some, None, cond}
+use Rattle.std.specs.Prelude.{ℕ, ◌+◌, Bool, ◌==◌, not, nat_lt, List, [], ◌∷◌, ◌++◌, map, length, Option, Some, None, cond}
 use Rattle.std.specs.List.{filter}
 use Rattle.dots.specs.Dot.{DotValue}
 use Rattle.op_model.specs.Meaning.{MapState, greater, state}
 use Rattle.op_model.specs.State.{join}
-use Rattle.wire_form.specs.Session.{SessionValue}
+use Rattle.wire_form.specs.Session.{SessionValue, same_session}
 use Rattle.sync_model.specs.Differ.{Held}
 use Rattle.sync_model.specs.Fetch.{Fetch}
 
@@ -40,10 +40,6 @@ pub record Replica : Type 0 where
 abbrev pub fresh : ℕ → Replica
 fresh name = record { name = name; live = state []; group = state []; opened = 0; sessions = []; kept = [] }
 
--- whether two sessions are one
-abbrev pub same_session : SessionValue → SessionValue → Bool
-same_session s t = (s.asker == t.asker) && ((s.answerer == t.answerer) && (s.number == t.number))
-
 -- the open session, the one of this number, and the kept snapshot, if there is one
 abbrev pub open_at : List Open → SessionValue → Option Open
 open_at [] s = None
@@ -61,8 +57,8 @@ kept_at (k ∷ ks) s = cond (same_session k.session s) (Some k) (kept_at ks s)
 abbrev pub advanced : Open → List Open → List Open
 advanced next os = map (λ o. cond (same_session o.session next.session) next o) os
 
-abbrev pub without : SessionValue → List Open → List Open
-without s os = filter (λ o. not (same_session o.session s)) os
+abbrev pub without_session : SessionValue → List Open → List Open
+without_session s os = filter (λ o. not (same_session o.session s)) os
 
 -- at most so many own sessions are open, and so many snapshots kept
 abbrev pub LIMIT : ℕ
@@ -104,7 +100,7 @@ abbrev pub advances : Replica → Open → Replica
 advances r next = record r { sessions = advanced next r.sessions }
 
 abbrev pub closes : Replica → SessionValue → Replica
-closes r s = record r { sessions = without s r.sessions }
+closes r s = record r { sessions = without_session s r.sessions }
 
 -- it keeps a snapshot
 abbrev pub keeps : Replica → Kept → Replica

@@ -7,7 +7,7 @@ use Rattle.op_model.specs.State.{join}
 use Rattle.wire_form.specs.Session.{SessionValue}
 use Rattle.prefix_digest.specs.MapOf.{IsMapOf}
 use Rattle.prefix_digest.specs.Page.{digest_at}
-use Rattle.sync_model.specs.Closing.{state_of, IsBelow}
+use Rattle.sync_model.specs.Closing.{held_state, IsBelow}
 use Rattle.sync_model.specs.Differ.{Held}
 use Rattle.sync_model.specs.Laws.{Taking, Fetched, NoClash}
 use Rattle.replica_model.specs.Mail.{Hello}
@@ -55,7 +55,7 @@ module _ (hash_of : List ℕ → ℕ) where
   pub record IsSession (events : List Event) (w : World) (name : ℕ) (o : Open) : Type 0 where
     pub asker : o.session.asker ≡ name
     pub asked : IsAskOf events o.session o.own o.seen
-    pub below : IsBelow (state_of o.own o.seen) (w.replica name).live
+    pub below : IsBelow (held_state o.own o.seen) (w.replica name).live
     pub fetching : IsFetching events w o o.accepted
 
   -- How a session ends with Done: it adds to its asker just what its answerer had seen when the snapshot was taken; and unless two pages or values

@@ -14,11 +14,11 @@ use Rattle.op_model.specs.Operation.{Operation}
 use Rattle.op_model.specs.World.{is_among, grown, emptied}
 use Rattle.op_model.specs.World as sets
 use Rattle.wire_form.specs.Sent.{SentValue}
-use Rattle.wire_form.specs.Session.{SessionValue}
+use Rattle.wire_form.specs.Session.{SessionValue, same_session}
 use Rattle.sync_model.specs.Differ.{Held}
 use Rattle.sync_model.specs.Laws.{Taking, NoClash}
 use Rattle.replica_model.specs.Mail.{Mail, Delta, Hello, Opening, Ask, Page, Gone}
-use Rattle.replica_model.specs.Replica.{Replica, Open, Kept, fresh, same_session, open_at, kept_at}
+use Rattle.replica_model.specs.Replica.{Replica, Open, Kept, fresh, open_at, kept_at}
 use Rattle.replica_model.specs.Delivery.{Outcome, Joined, Sent, Done}
 use Rattle.replica_model.specs.Step.{Call, Put, Remove, RemoveField, Clear, Flush, Retry, Abandon, Do, Take, Answer, Nothing, Came, IsStep, Refuses}
 use Rattle.replica_model.specs.Step as call
@@ -71,7 +71,7 @@ nothing = record {
 }
 
 -- what a world is by its sets alone
-abbrev pub sets_of : World → sets.World
+abbrev pub sets_of : World → sets.AbstractWorld
 sets_of w = record { nodes = w.nodes; seen = w.seen; outgoing = w.outgoing; messages = map (λ m. m.of.seen) w.messages; made = w.made }
 
 -- whether a replica of the name is there
@@ -178,13 +178,13 @@ abbrev pub map_of_kept : Option Kept → Held
 map_of_kept None = finite.empty
 map_of_kept (Some k) = k.map
 
-abbrev pub shown : List Operation → (SessionValue → List Operation) → List Kept → Mail → Snapshot
-shown group kept ks (Delta d) = record { seen = group; map = finite.empty }
-shown group kept ks (Opening s context root) = record { seen = kept s; map = map_of_kept (kept_at ks s) }
-shown group kept ks other = no_snapshot
+abbrev pub snapshot_with : List Operation → (SessionValue → List Operation) → List Kept → Mail → Snapshot
+snapshot_with group kept ks (Delta d) = record { seen = group; map = finite.empty }
+snapshot_with group kept ks (Opening s context root) = record { seen = kept s; map = map_of_kept (kept_at ks s) }
+snapshot_with group kept ks other = no_snapshot
 
 abbrev pub sent_as : List Operation → (SessionValue → List Operation) → List Kept → Mail → Message
-sent_as group kept ks mail = record { mail = mail; of = shown group kept ks mail }
+sent_as group kept ks mail = record { mail = mail; of = snapshot_with group kept ks mail }
 
 -- the world with one replica as it is now and with the messages that it sent, where its sets followed; it was to send these operations
 abbrev pub goes : ℕ → Replica → List Mail → List Operation → World → World

@@ -1,5 +1,5 @@
 // The laws of worlds of replicas, over all lists of events.
-ghost use Rattle.replica_model.specs.Laws.{EventsAreOne, WorldsAreOne, RefusedDoesNotHappen, GoesOn, Sound};
+ghost use Rattle.replica_model.specs.Laws.{EventsAreOne, WorldsAreOne, RefusedDoesNotHappen, RunsGoOn, Sound};
 ghost use Rattle.replica_model.specs.Laws.{EventsLeave, StayWithinLimits, HappenOrAreRefused};
 
 /// An event decides its answer and the world after it, and so does a list of events; an event that is refused does not happen; and a list
@@ -8,7 +8,7 @@ pub fn worlds_are_one()
     ensures events { EventsAreOne }
     ensures one { WorldsAreOne }
     ensures refused { RefusedDoesNotHappen }
-    ensures goes_on { GoesOn }
+    ensures goes_on { RunsGoOn }
 {}
 
 /// After every list of events, whatever pages and values clash: no dot is used twice, and what each replica has seen, is to send, keeps

@@ -18,9 +18,9 @@ use Rattle.replica_model.proofs.Deciding.{worlds_one, goes_on}
 use Rattle.replica_model.proofs.Ended.{ends_are}
 use Rattle.replica_core.specs.Meaning.{ReplicaValue, hash_in, meaning}
 use Rattle.replica_world.specs.Accepting.{IsTold}
-use Rattle.replica_world.specs.Keeping.{Keeps, IsWorld, Makes, Leaves, IsRefusedEvent}
+use Rattle.replica_world.specs.Keeping.{Keeps, IsWorld, Makes, LeavesWorld, IsRefusedEvent}
 use Rattle.replica_world.specs.Replaces.{Replaces}
-use Rattle.replica_world.specs.Showing.{Shows}
+use Rattle.replica_world.specs.Showing.{ShowsOperations}
 use Rattle.replica_world.specs.Spelled.{IsSpelled}
 use Rattle.replica_world.proofs.Shown.{worlds_show}
 use Rattle.replica_world.proofs.Spelt.{as_many, spelled_at, spelled_past, map_back, map_past}
@@ -156,7 +156,7 @@ module _ {Hash : Type 0} (hash_of : Hash → List ℕ → ℕ) (hash : Hash) (ol
           ends = λ number name is done. ends_are (hash_of hash) past w after.0 number name runs answer (subst (λ x. Happens (hash_of hash) w x answer after.0) is after.1) done;
         }
 
-    pub event_left : Leaves hash old messages new more → IsWorld hash_of hash new more past
+    pub event_left : LeavesWorld hash old messages new more → IsWorld hash_of hash new more past
     event_left leaves = record { world = is.world; runs = is.runs; keeps = leaves is.world is.keeps }
 
   pub event_refused : (e : Event) (refusal : Refusal) → IsRefusedEvent hash old messages e refusal → (w : World) → Runs (hash_of hash) nothing past w → (refusal ≡ OutOfMemory) ⊎ RefusesEvent w e refusal
@@ -174,11 +174,11 @@ module _ {Hash : Type 0} (hash_of : Hash → List ℕ → ℕ) (hash : Hash) (ol
   replica_missing name (Some r) found none w runs = absurd cc
 
   pub replica_holds : (name : ℕ) (o : Option (Bor (ReplicaValue Hash))) → option_copied o ≡ get nat_cmp old name
-      → IfSome o (λ r. (w : World) → Runs (hash_of hash) nothing past w → Unclashed (hash_of hash) w → Shows (hash_of hash) (meaning r.now).live (w.seen name))
+      → IfSome o (λ r. (w : World) → Runs (hash_of hash) nothing past w → Unclashed (hash_of hash) w → ShowsOperations (hash_of hash) (meaning r.now).live (w.seen name))
   replica_holds name None found = tt
   replica_holds name (Some r) found =
       λ w runs unclashed. let keeps = keeps_any w runs in
-      subst (λ (q : Replica). Shows (hash_of hash) q.live (w.seen name)) (sym (keeps.means name r.now (sym found))) (worlds_show (hash_of hash) past w runs unclashed name)
+      subst (λ (q : Replica). ShowsOperations (hash_of hash) q.live (w.seen name)) (sym (keeps.means name r.now (sym found))) (worlds_show (hash_of hash) past w runs unclashed name)
 
   pub message_shown : (number : ℕ) (o : Option (Bor (List ℕ))) → option_copied o ≡ cond (nat_lt 0 number) (slice_get messages (number - 1)) None
       → IfSome o (λ b. (w : World) → Runs (hash_of hash) nothing past w → (m : Message) × (message_at w.messages number ≡ Some m) × IsSpelled b.now m.mail)

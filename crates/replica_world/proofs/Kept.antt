@@ -9,14 +9,14 @@ use Rattle.op_model.specs.World.{is_among}
 use Rattle.wire_form.specs.Session.{SessionValue}
 use Rattle.replica_model.specs.Mail.{Mail, mail_of}
 use Rattle.replica_model.specs.Replica.{Kept, fresh}
-use Rattle.replica_model.specs.Step.{Call, Answer, Do, Take, Came, Nothing, IsStep, Refuses}
+use Rattle.replica_model.specs.Step.{Call, Answer, Do, Take, IsStep}
 use Rattle.replica_model.specs.World.{World, Message, At, Deliver, is_node, has_peer, message_at, goes, calls, takes, sent_as, Happens}
 use Rattle.replica_model.proofs.Carried.{left_as_is, same_replicas, same_messages}
 use Rattle.replica_model.proofs.Fronts.{same_after_calls}
 use Rattle.replica_model.proofs.Leaving.{same_calls}
 use Rattle.replica_core.specs.Meaning.{ReplicaValue, hash_in, meaning}
 use Rattle.replica_core.specs.Stepping.{Steps, Stays}
-use Rattle.replica_world.specs.Keeping.{Keeps, Calls, Takes}
+use Rattle.replica_world.specs.Keeping.{Keeps, MakesCall, TakesMail}
 use Rattle.replica_world.specs.Replaces.{Replaces}
 use Rattle.replica_world.specs.Spelled.{AreSpelled}
 use Rattle.replica_world.proofs.Spelt.{posted_spelled}
@@ -101,7 +101,7 @@ module _ {Hash : Type 0} (hash : Hash) (old new : BTreeMap ℕ (ReplicaValue Has
         (subst (λ r. IsStep (hash_of (hash_in before)) r act (meaning after) answer out) (keeps.means name before replaces.was) steps.step)
 
     -- a call
-    pub call_keeps : (c : Call) (answer : Answer) → has_peer w c ≡ true → Calls hash_of before after c answer messages more → (v : World) × Happens (hash_of hash) w (At name c) answer v × Keeps hash new more v
+    pub call_keeps : (c : Call) (answer : Answer) → has_peer w c ≡ true → MakesCall hash_of before after c answer messages more → (v : World) × Happens (hash_of hash) w (At name c) answer v × Keeps hash new more v
     call_keeps c answer peer (out, steps, posted) =
         let group = w.outgoing name in
         let u = calls name c w in
@@ -115,7 +115,7 @@ module _ {Hash : Type 0} (hash : Hash) (old new : BTreeMap ℕ (ReplicaValue Has
         )
 
     -- a delivery
-    pub take_keeps : (number : ℕ) (m : Message) (answer : Answer) → message_at w.messages number ≡ Some m → Takes hash_of before after m.mail answer messages more
+    pub take_keeps : (number : ℕ) (m : Message) (answer : Answer) → message_at w.messages number ≡ Some m → TakesMail hash_of before after m.mail answer messages more
         → (v : World) × Happens (hash_of hash) w (Deliver number name) answer v × Keeps hash new more v
     take_keeps number m answer found (out, steps, posted) = with_outcome (step_at (Take m.mail) answer (map mail_of out) steps)
       where

@@ -11,7 +11,7 @@ use Rattle.replica_model.specs.Step.{Call, Answer, Refuses}
 use Rattle.replica_model.specs.World.{World, Event, Node, At, Deliver, has_peer, nothing}
 use Rattle.replica_core.specs.Meaning.{ReplicaValue}
 use Rattle.replica_core.specs.Stepping.{Stays, IsRefused}
-use Rattle.replica_world.specs.Keeping.{Keeps, IsWorld, Calls, Takes, Makes, Leaves, IsRefusedEvent}
+use Rattle.replica_world.specs.Keeping.{Keeps, IsWorld, MakesCall, TakesMail, Makes, LeavesWorld, IsRefusedEvent}
 use Rattle.replica_world.specs.Replaces.{Replaces}
 use Rattle.replica_world.specs.Spelled.{IsSpelled}
 use Rattle.replica_world.proofs.Kept.{keeps_stayed, call_keeps, take_keeps}
@@ -33,7 +33,7 @@ module _ {Hash : Type 0} (hash : Hash) (old new : BTreeMap ℕ (ReplicaValue Has
   no_peer name c found missing w keeps = inr (inr (sym (keeps.there name) ∙ sym found, inl (sym (missing w keeps), refl)))
 
   pub call_made : (hash_of : Hash → List ℕ → ℕ) (name : ℕ) (c : Call) (answer : Answer) → ((w : World) → Keeps hash old messages w → true ≡ has_peer w c)
-      → (before after : ReplicaValue Hash) × Replaces old new name before after × Calls hash_of before after c answer messages more
+      → (before after : ReplicaValue Hash) × Replaces old new name before after × MakesCall hash_of before after c answer messages more
       → Makes hash_of hash old messages (At name c) answer new more
   call_made hash_of name c answer peer (before, after, replaces, called) w keeps = call_keeps hash old new messages more w keeps hash_of name before after replaces c answer (sym (peer w keeps)) called
 
@@ -43,7 +43,7 @@ module _ {Hash : Type 0} (hash : Hash) (old new : BTreeMap ℕ (ReplicaValue Has
   call_refused name c refusal peer (before, was, inr refuses) w keeps =
       inr (inr (sym (keeps.there name) ∙ ap is_some was, inr (sym (peer w keeps), subst (λ r. Refuses r c refusal) (keeps.means name before was) refuses)))
 
-  pub stayed : (name : ℕ) → (before after : ReplicaValue Hash) × Replaces old new name before after × Stays before after → more ≡ messages → Leaves hash old messages new more
+  pub stayed : (name : ℕ) → (before after : ReplicaValue Hash) × Replaces old new name before after × Stays before after → more ≡ messages → LeavesWorld hash old messages new more
   stayed name (before, after, replaces, stays) same w keeps = keeps_stayed hash old new messages more w keeps name before after replaces stays same
 
   -- a delivery
@@ -63,15 +63,15 @@ module _ {Hash : Type 0} (hash : Hash) (old new : BTreeMap ℕ (ReplicaValue Has
 
   pub delivery_made : (hash_of : Hash → List ℕ → ℕ) (number name : ℕ) (bytes : List ℕ) (mail : Mail) (answer : Answer) → Some bytes ≡ cond (nat_lt 0 number) (slice_get messages (number - 1)) None
       → ((spelled : Mail) → IsSpelled bytes spelled → mail ≡ spelled)
-      → (before after : ReplicaValue Hash) × Replaces old new name before after × Takes hash_of before after mail answer messages more
+      → (before after : ReplicaValue Hash) × Replaces old new name before after × TakesMail hash_of before after mail answer messages more
       → Makes hash_of hash old messages (Deliver number name) answer new more
   delivery_made hash_of number name bytes mail answer found read (before, after, replaces, took) w keeps =
       let m = found_message hash old messages w keeps number bytes found in
       take_keeps hash old new messages more w keeps hash_of name before after replaces number m.0 answer m.1
-      (subst (λ x. Takes hash_of before after x answer messages more) (read m.0.mail m.2) took)
+      (subst (λ x. TakesMail hash_of before after x answer messages more) (read m.0.mail m.2) took)
 
 -- where the entries are as they were
-pub entries_stay : {Hash : Type 0} (hash : Hash) (old new : BTreeMap ℕ (ReplicaValue Hash)) (messages : List (List ℕ)) → new.entries ≡ old.entries → Leaves hash old messages new messages
+pub entries_stay : {Hash : Type 0} (hash : Hash) (old new : BTreeMap ℕ (ReplicaValue Hash)) (messages : List (List ℕ)) → new.entries ≡ old.entries → LeavesWorld hash old messages new messages
 entries_stay hash old new messages same w keeps =
     let at = λ (name : ℕ). ap (lookup (is_at (nat_cmp name))) same in
     record {

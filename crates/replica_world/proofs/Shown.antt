@@ -10,12 +10,12 @@ use Rattle.prefix_digest.specs.Page.{digest_at}
 use Rattle.prefix_digest.proofs.MapsOf.{map_is}
 use Rattle.replica_model.proofs.Meant.{headline}
 use Rattle.replica_model.proofs.Sound.{sound}
-use Rattle.replica_world.specs.Showing.{Shows, WorldsShow}
+use Rattle.replica_world.specs.Showing.{ShowsOperations, WorldsShow}
 
 is_same : (p q : MapState) → p ≡ q → Same p q
 is_same p q e = record { at = λ place dot. ap (λ (s : MapState). s.at place dot) e; has = λ dot. ap (λ (s : MapState). s.has dot) e }
 
-pub shows : (hash_of : List ℕ → ℕ) (live : MapState) (S : List Operation) → NoReuse S → live ≡ state S → Shows hash_of live S
+pub shows : (hash_of : List ℕ → ℕ) (live : MapState) (S : List Operation) → NoReuse S → live ≡ state S → ShowsOperations hash_of live S
 unfolding root_digest
 shows hash_of live S once is =
     let same = is_same live (state S) is in

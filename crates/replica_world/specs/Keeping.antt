@@ -45,15 +45,15 @@ abbrev pub IsRefusedEvent : {Hash : Type 0} → Hash → BTreeMap ℕ (ReplicaVa
 IsRefusedEvent hash replicas messages e refusal = (w : World) → Keeps hash replicas messages w → (refusal ≡ OutOfMemory) ⊎ RefusesEvent w e refusal
 
 -- what a refused event leaves
-abbrev pub Leaves : {Hash : Type 0} → Hash → BTreeMap ℕ (ReplicaValue Hash) → List (List ℕ) → BTreeMap ℕ (ReplicaValue Hash) → List (List ℕ) → Type 0
-Leaves hash old messages new more = (w : World) → Keeps hash old messages w → Keeps hash new more w
+abbrev pub LeavesWorld : {Hash : Type 0} → Hash → BTreeMap ℕ (ReplicaValue Hash) → List (List ℕ) → BTreeMap ℕ (ReplicaValue Hash) → List (List ℕ) → Type 0
+LeavesWorld hash old messages new more = (w : World) → Keeps hash old messages w → Keeps hash new more w
 
 -- a call of a replica was made and answered this, and what it sends is posted
-abbrev pub Calls : {Hash : Type 0} → (Hash → List ℕ → ℕ) → ReplicaValue Hash → ReplicaValue Hash → Call → Answer → List (List ℕ) → List (List ℕ) → Type 0
-Calls hash_of old new call answer messages more =
+abbrev pub MakesCall : {Hash : Type 0} → (Hash → List ℕ → ℕ) → ReplicaValue Hash → ReplicaValue Hash → Call → Answer → List (List ℕ) → List (List ℕ) → Type 0
+MakesCall hash_of old new call answer messages more =
     (out : List MessageValue) × Steps hash_of old new (Do call) answer (map mail_of out) × IsPosted Gains messages more out
 
 -- and a delivery
-abbrev pub Takes : {Hash : Type 0} → (Hash → List ℕ → ℕ) → ReplicaValue Hash → ReplicaValue Hash → Mail → Answer → List (List ℕ) → List (List ℕ) → Type 0
-Takes hash_of old new mail answer messages more =
+abbrev pub TakesMail : {Hash : Type 0} → (Hash → List ℕ → ℕ) → ReplicaValue Hash → ReplicaValue Hash → Mail → Answer → List (List ℕ) → List (List ℕ) → Type 0
+TakesMail hash_of old new mail answer messages more =
     (out : List MessageValue) × Steps hash_of old new (Take mail) answer (map mail_of out) × IsPosted Gains messages more out

@@ -13,7 +13,7 @@ use Rattle.replica_model.specs.World.{World, Event, nothing, Runs, Unclashed}
 
 -- what is read off this state is what these operations show: the values of each place and of each key over its fields, the fields of each key, the keys and their number,
 -- the known dots, and the root digest
-pub record Shows (hash_of : List ℕ → ℕ) (live : MapState) (S : List Operation) : Type 0 where
+pub record ShowsOperations (hash_of : List ℕ → ℕ) (live : MapState) (S : List Operation) : Type 0 where
   pub values : (place : Place) (found : List (List ℕ)) → Lists (Stands live place) found → found ≡ values S place
   pub values_of_key : (key : List ℕ) (found : List (List ℕ)) → Lists (StandsWithin live key) found → found ≡ values_of_key S key
   pub fields : (key : List ℕ) (found : List (List ℕ)) → Lists (HoldsField live key) found → found ≡ fields S key
@@ -25,4 +25,4 @@ pub record Shows (hash_of : List ℕ → ℕ) (live : MapState) (S : List Operat
 -- over all lists of events, unless pages or values met clash
 abbrev pub WorldsShow : Type 0
 WorldsShow = (hash_of : List ℕ → ℕ) (events : List Event) (w : World) → Runs hash_of nothing events w → Unclashed hash_of w
-    → (name : ℕ) → Shows hash_of (w.replica name).live (w.seen name)
+    → (name : ℕ) → ShowsOperations hash_of (w.replica name).live (w.seen name)

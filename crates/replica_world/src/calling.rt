@@ -5,7 +5,7 @@ ghost use Rattle.replica_model.specs.Step as step;
 ghost use Rattle.replica_model.specs.Step.{Do};
 ghost use Rattle.replica_core.specs.Stepping.{Steps, Stays, IsRefused};
 ghost use Rattle.replica_world.specs.Happening.{answer_value, call_value};
-ghost use Rattle.replica_world.specs.Keeping.{Calls};
+ghost use Rattle.replica_world.specs.Keeping.{MakesCall};
 
 use crate::answer::Answer;
 use crate::call::Call;
@@ -24,7 +24,7 @@ pub(crate) fn make<H: PathHash, A: Allocator + Copy>(
     posted: &mut Posted<A>,
     call: &Call<A>,
 ) -> Result<Answer, Refusal>
-    ensures ok { IfOk result (λ answer. Calls H.hash_of replica.old replica.new (call_value call.now) (answer_value answer) posted.old posted.new) }
+    ensures ok { IfOk result (λ answer. MakesCall H.hash_of replica.old replica.new (call_value call.now) (answer_value answer) posted.old posted.new) }
     ensures refused { IfErr result (IsRefused replica.old (call_value call.now)) }
     ensures unchanged { OnErr result (Stays replica.old replica.new) }
     ensures unposted { OnErr result (posted.new ≡ posted.old) }
@@ -117,7 +117,7 @@ fn flush<H: PathHash, A: Allocator + Copy>(
     replica: &mut Replica<H, A>,
     posted: &mut Posted<A>,
 ) -> Result<Answer, Refusal>
-    ensures ok { IfOk result (λ answer. Calls H.hash_of replica.old replica.new step.Flush (answer_value answer) posted.old posted.new) }
+    ensures ok { IfOk result (λ answer. MakesCall H.hash_of replica.old replica.new step.Flush (answer_value answer) posted.old posted.new) }
     ensures refused { IsOkUnless result Refusal.OutOfMemory }
     ensures unchanged { OnErr result (Stays replica.old replica.new) }
     ensures unposted { OnErr result (posted.new ≡ posted.old) }
@@ -133,7 +133,7 @@ fn ask<H: PathHash, A: Allocator + Copy>(
     posted: &mut Posted<A>,
     peer: Name,
 ) -> Result<Answer, Refusal>
-    ensures ok { IfOk result (λ answer. Calls H.hash_of replica.old replica.new (step.Ask peer) (answer_value answer) posted.old posted.new) }
+    ensures ok { IfOk result (λ answer. MakesCall H.hash_of replica.old replica.new (step.Ask peer) (answer_value answer) posted.old posted.new) }
     ensures refused { IfErr result (IsRefused replica.old (step.Ask peer)) }
     ensures unchanged { OnErr result (Stays replica.old replica.new) }
     ensures unposted { OnErr result (posted.new ≡ posted.old) }
@@ -157,7 +157,7 @@ fn retry<H: PathHash, A: Allocator + Copy>(
     posted: &mut Posted<A>,
     number: u64,
 ) -> Result<Answer, Refusal>
-    ensures ok { IfOk result (λ answer. Calls H.hash_of replica.now replica.now (step.Retry number) (answer_value answer) posted.old posted.new) }
+    ensures ok { IfOk result (λ answer. MakesCall H.hash_of replica.now replica.now (step.Retry number) (answer_value answer) posted.old posted.new) }
     ensures refused { IsOkUnless result Refusal.OutOfMemory }
     ensures unposted { OnErr result (posted.new ≡ posted.old) }
 {

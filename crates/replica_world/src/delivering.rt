@@ -4,7 +4,7 @@ ghost use Rattle.wire_form.specs.Message.{message_of};
 ghost use Rattle.replica_model.specs.Mail.{Mail, mail_of};
 ghost use Rattle.replica_core.specs.Stepping.{Stays};
 ghost use Rattle.replica_world.specs.Happening.{answer_value};
-ghost use Rattle.replica_world.specs.Keeping.{Takes};
+ghost use Rattle.replica_world.specs.Keeping.{TakesMail};
 ghost use Rattle.replica_world.specs.Spelled.{IsSpelled};
 
 use crate::answer::Answer;
@@ -31,7 +31,7 @@ pub(crate) fn take<H: PathHash, A: Allocator + Copy>(
     posted: &mut Posted<A>,
     message: &Message<A>,
 ) -> Result<Answer, Refusal>
-    ensures ok { IfOk result (λ answer. Takes H.hash_of replica.old replica.new (mail_of (message_of message.now)) (answer_value answer) posted.old posted.new) }
+    ensures ok { IfOk result (λ answer. TakesMail H.hash_of replica.old replica.new (mail_of (message_of message.now)) (answer_value answer) posted.old posted.new) }
     ensures refused { IsOkUnless result Refusal.OutOfMemory }
     ensures unchanged { OnErr result (Stays replica.old replica.new) }
     ensures unposted { OnErr result (posted.new ≡ posted.old) }

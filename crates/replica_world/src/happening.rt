@@ -8,7 +8,7 @@ ghost use Rattle.replica_model.specs.World as model;
 ghost use Rattle.replica_core.specs.Meaning.{ReplicaValue};
 ghost use Rattle.replica_core.specs.Stepping.{Stays, IsRefused};
 ghost use Rattle.replica_world.specs.Happening.{answer_value, call_value, event_value};
-ghost use Rattle.replica_world.specs.Keeping.{Calls, Takes, Keeps, Makes, Leaves, IsRefusedEvent};
+ghost use Rattle.replica_world.specs.Keeping.{MakesCall, TakesMail, Keeps, Makes, LeavesWorld, IsRefusedEvent};
 ghost use Rattle.replica_world.specs.Replaces.{Replaces};
 
 use crate::answer::Answer;
@@ -34,7 +34,7 @@ pub(crate) fn happen<H: PathHash, A: Allocator + Copy>(
 ) -> Result<Answer, Refusal>
     ensures ok { IfOk result (λ answer. Makes H.hash_of hash replicas.old posted.old (event_value event.now) (answer_value answer) replicas.new posted.new) }
     ensures refused { IfErr result (IsRefusedEvent hash replicas.old posted.old (event_value event.now)) }
-    ensures unchanged { OnErr result (Leaves hash replicas.old posted.old replicas.new posted.new) }
+    ensures unchanged { OnErr result (LeavesWorld hash replicas.old posted.old replicas.new posted.new) }
 {
     match event {
         Event::Node(name) => add(alloc, hash, replicas, *name),
@@ -52,7 +52,7 @@ fn add<H: PathHash, A: Allocator + Copy>(
 ) -> Result<Answer, Refusal>
     ensures ok { IfOk result (λ answer. (messages : List (List ℕ)) → Makes H.hash_of hash replicas.old messages (model.Node name) (answer_value answer) replicas.new messages) }
     ensures refused { IfErr result (λ refusal. (messages : List (List ℕ)) → IsRefusedEvent hash replicas.old messages (model.Node name) refusal) }
-    ensures unchanged { OnErr result ((messages : List (List ℕ)) → Leaves hash replicas.old messages replicas.new messages) }
+    ensures unchanged { OnErr result ((messages : List (List ℕ)) → LeavesWorld hash replicas.old messages replicas.new messages) }
 {
     if replicas.contains_key(&name) {
         return Err(Refusal::NameTaken);
@@ -71,7 +71,7 @@ fn call_at<H: PathHash, A: Allocator + Copy>(
 ) -> Result<Answer, Refusal>
     ensures ok { IfOk result (λ answer. (hash : H) → Makes H.hash_of hash replicas.old posted.old (model.At name (call_value call.now)) (answer_value answer) replicas.new posted.new) }
     ensures refused { IfErr result (λ refusal. (hash : H) → IsRefusedEvent hash replicas.old posted.old (model.At name (call_value call.now)) refusal) }
-    ensures unchanged { OnErr result ((hash : H) → Leaves hash replicas.old posted.old replicas.new posted.new) }
+    ensures unchanged { OnErr result ((hash : H) → LeavesWorld hash replicas.old posted.old replicas.new posted.new) }
 {
     if !replicas.contains_key(&name) {
         return Err(Refusal::UnknownReplica);
@@ -105,7 +105,7 @@ fn deliver_at<H: PathHash, A: Allocator + Copy>(
 ) -> Result<Answer, Refusal>
     ensures ok { IfOk result (λ answer. (hash : H) → Makes H.hash_of hash replicas.old posted.old (model.Deliver number name) (answer_value answer) replicas.new posted.new) }
     ensures refused { IfErr result (λ refusal. (hash : H) → IsRefusedEvent hash replicas.old posted.old (model.Deliver number name) refusal) }
-    ensures unchanged { OnErr result ((hash : H) → Leaves hash replicas.old posted.old replicas.new posted.new) }
+    ensures unchanged { OnErr result ((hash : H) → LeavesWorld hash replicas.old posted.old replicas.new posted.new) }
 {
     if !replicas.contains_key(&name) {
         return Err(Refusal::UnknownReplica);
@@ -130,7 +130,7 @@ fn make_at<H: PathHash, A: Allocator + Copy>(
 ) -> Result<Answer, Refusal>
     requires { IsSome (get nat_cmp replicas.old name) }
     ensures ok { IfOk result (λ answer. (before after : ReplicaValue H) × Replaces replicas.old replicas.new name before after
-        × Calls H.hash_of before after (call_value call.now) (answer_value answer) posted.old posted.new) }
+        × MakesCall H.hash_of before after (call_value call.now) (answer_value answer) posted.old posted.new) }
     ensures refused { IfErr result (λ refusal. (before : ReplicaValue H) × (get nat_cmp replicas.old name ≡ Some before) × IsRefused before (call_value call.now) refusal) }
     ensures unchanged { OnErr result ((before after : ReplicaValue H) × Replaces replicas.old replicas.new name before after × Stays before after) }
     ensures unposted { OnErr result (posted.new ≡ posted.old) }
@@ -150,7 +150,7 @@ fn take_at<H: PathHash, A: Allocator + Copy>(
 ) -> Result<Answer, Refusal>
     requires { IsSome (get nat_cmp replicas.old name) }
     ensures ok { IfOk result (λ answer. (before after : ReplicaValue H) × Replaces replicas.old replicas.new name before after
-        × Takes H.hash_of before after (mail_of (message_of message.now)) (answer_value answer) posted.old posted.new) }
+        × TakesMail H.hash_of before after (mail_of (message_of message.now)) (answer_value answer) posted.old posted.new) }
     ensures refused { IsOkUnless result Refusal.OutOfMemory }
     ensures unchanged { OnErr result ((before after : ReplicaValue H) × Replaces replicas.old replicas.new name before after × Stays before after) }
     ensures unposted { OnErr result (posted.new ≡ posted.old) }

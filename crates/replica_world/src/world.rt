@@ -1,4 +1,4 @@
-ghost use Rattle.std.specs.Prelude.{◌≡◌, ◌⊎◌, ◌+◌, ◌++◌, [], ◌∷◌, length, map, true, false, Some, None, IfOk, IfErr, OnOk, OnErr, IfSome, IsNone, IsOkUnless};
+ghost use Rattle.std.specs.Prelude.{◌≡◌, ◌⊎◌, ◌+◌, ◌++◌, [], ◌∷◌, map, true, false, Some, None, IfOk, IfErr, OnOk, OnErr, IfSome, IsNone, IsOkUnless};
 ghost use Rattle.dots.specs.declared.refusal.Refusal.TheVariants.{OutOfMemory};
 ghost use Rattle.wire_form.specs.Message.{message_of};
 ghost use Rattle.replica_model.specs.Mail.{mail_of};
@@ -6,7 +6,7 @@ ghost use Rattle.replica_model.specs.World as model;
 ghost use Rattle.replica_model.specs.World.{nothing, is_node, message_at, RefusesEvent, Runs, Unclashed};
 ghost use Rattle.replica_core.specs.Meaning.{hash_in, meaning};
 ghost use Rattle.replica_world.specs.Accepting.{IsTold};
-ghost use Rattle.replica_world.specs.Showing.{Shows};
+ghost use Rattle.replica_world.specs.Showing.{ShowsOperations};
 ghost use Rattle.replica_world.specs.Spelled.{IsSpelled};
 
 use crate::delivering::read;
@@ -103,7 +103,7 @@ impl<H: PathHash, A: Allocator + Copy> World<H, A> {
             → (is_node w name ≡ true) × (meaning replica.now ≡ w.replica name) × (hash_in replica.now ≡ self.now.hash)) }
         ensures none { IsNone result → (w : model.World) → Runs (H.hash_of self.now.hash) nothing self.now.past w → is_node w name ≡ false }
         ensures shown { IfSome result (λ replica. (w : model.World) → Runs (H.hash_of self.now.hash) nothing self.now.past w
-            → Unclashed (H.hash_of self.now.hash) w → Shows (H.hash_of self.now.hash) (meaning replica.now).live (w.seen name)) }
+            → Unclashed (H.hash_of self.now.hash) w → ShowsOperations (H.hash_of self.now.hash) (meaning replica.now).live (w.seen name)) }
     {
         self.replicas.get(&name)
     }

@@ -13,5 +13,5 @@ abbrev pub head_of : Book → Named
 head_of b = record { tracked = true; key = 0; book = b }
 
 -- What the step of adding tells: the event was added to all that had been seen; or the list was longer, and was seen.
-abbrev pub Adds : {E : Type 0} → Step E → View E ℕ → ℕ → View E ℕ → Type 0
-Adds s v found w = MatchBool (found == s.old) (w.0 ≡ v.0 ++ s.ask ∷ []) (length w.0 ≡ found)
+abbrev pub AddsEvent : {E : Type 0} → Step E → View E ℕ → ℕ → View E ℕ → Type 0
+AddsEvent s v found w = MatchBool (found == s.old) (w.0 ≡ v.0 ++ s.ask ∷ []) (length w.0 ≡ found)

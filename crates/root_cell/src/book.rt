@@ -39,9 +39,9 @@ pub struct Adding<M> {
 }
 
 impl<E, M> Play<E, u64> for Adding<M> {
-    ghost use Rattle.root_cell.specs.Book.{Adds};
+    ghost use Rattle.root_cell.specs.Book.{AddsEvent};
 
-    ghost then = { Adds };
+    ghost then = { AddsEvent };
 }
 
 impl<X, E, M: About<X, E>> Plain<X, E, u64> for Adding<M> {

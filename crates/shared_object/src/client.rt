@@ -1,7 +1,7 @@
-ghost use Rattle.std.specs.Prelude.{◌≡◌, ◌⊎◌, ◌<◌, ◌≤◌, ◌++◌, ◌∷◌, [], List, length, IfOk, IfErr, OnErr, OnOk, IsTrue};
+ghost use Rattle.std.specs.Prelude.{◌≡◌, ◌⊎◌, ◌<◌, ◌≤◌, ◌++◌, ◌∷◌, [], List, length, IfOk, IfErr, OnErr, IsTrue};
 ghost use mathlib.Core.List.{IsPrefix};
 ghost use Rattle.dots.specs.declared.refusal.Refusal.TheVariants.{NoPlace};
-ghost use Rattle.shared_object.specs.History.{calls_by, made};
+ghost use Rattle.shared_object.specs.History.{calls_by};
 ghost use Rattle.shared_object.specs.Calling.{HasNotCalled, IsAccepted, IsRefused};
 ghost use Rattle.shared_object.specs.Finishing.{IsOwn};
 

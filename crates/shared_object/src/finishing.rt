@@ -2,7 +2,6 @@
 ghost use Rattle.std.specs.Prelude.{◌≡◌, ◌<◌, ℕ, List, length, Some, IsTrue, IfSome, IfOk, IfErr};
 ghost use Rattle.std.specs.List.{slice_get, sum_by};
 ghost use Rattle.shared_object.specs.History.{Seat};
-ghost use Rattle.shared_object.specs.Calling.{HasNotCalled};
 ghost use Rattle.shared_object.specs.Finishing.{AreAll, HaveNotCalled, IsOwn};
 
 use crate::client::Client;

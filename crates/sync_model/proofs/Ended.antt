@@ -22,7 +22,7 @@ use Rattle.op_model.specs.Meaning.{greater, state, value_under}
 use Rattle.op_model.specs.Place.{Place, place_of}
 use Rattle.op_model.specs.Shown.{is_on}
 use Rattle.op_model.specs.Operation.{Write, Operation, writes, observed, has, known, NoReuse, IsPartOf}
-use Rattle.op_model.specs.State.{Same, join, joined, IsInside}
+use Rattle.op_model.specs.State.{Same, join, joined}
 use Rattle.std.proofs.lemmas.List.Elements.{Contains-append_right}
 use Rattle.op_model.proofs.Fresh.{NoReuse-part, part_left, part_both, itself_part}
 use Rattle.op_model.proofs.Making.{state-inside}
@@ -33,9 +33,9 @@ use Rattle.prefix_digest.specs.MapOf.{map_of, root_digest, IsMapOf}
 use Rattle.prefix_digest.proofs.MapsOf.{stands_for}
 use Rattle.sync_model.specs.Opened.{held_in}
 use Rattle.sync_model.specs.Fetch.{within_values}
-use Rattle.sync_model.specs.Laws.{IsLawfulMap, IsWithin, OneValue}
-use Rattle.sync_model.specs.Closing.{state_of, IsBelow}
-use Rattle.sync_model.specs.Sets.{Done, GoesOn, Opens}
+use Rattle.sync_model.specs.Laws.{IsLawfulMap, KnowsEachDot, OneValue}
+use Rattle.sync_model.specs.Closing.{held_state, IsBelow}
+use Rattle.sync_model.specs.Sets.{Done, FetchGoesOn, Opens}
 use Rattle.sync_model.proofs.Members.{In, In-Contains, Contains-In, In-All, In-map}
 use Rattle.sync_model.proofs.Held.{values_or_none, held_there}
 use Rattle.sync_model.proofs.Keeping.{dot_tied}
@@ -114,7 +114,7 @@ module _ (S : List Operation) (once : NoReuse S) where
       }
 
   -- and its state is that of the set
-  state_is : Same (state_of (map_of S) (has (known S))) (state S)
+  state_is : Same (held_state (map_of S) (has (known S))) (state S)
   state_is = record { at = λ place dot. is_map.at place dot; has = λ dot. refl }
 
   -- what stands at a dot of a key's field stands there in the state, and is known
@@ -127,7 +127,7 @@ module _ (S : List Operation) (once : NoReuse S) where
       sym (is_map.at (place_of key field) d) ∙ ap (λ o. held_in o field d) e ∙ held_there (Some fs) field d
       ∙ ap (λ o. find dot_cmp d (values_or_none o)) at_field ∙ at_dot
 
-  within_of : IsWithin (has (known S)) (map_of S)
+  within_of : KnowsEachDot (has (known S)) (map_of S)
   within_of key fs e =
       all_pass (λ f. within_values (has (known S)) f.1) fs (λ f h.
       all_pass (λ v. has (known S) v.0) f.1 (λ v i.
@@ -163,14 +163,14 @@ done hash_of asked opened seen ts f part once no_clash fetched none =
     let once_opened = NoReuse-part opened (seen ++ opened) (right_part seen opened) once in
     let once_asked = NoReuse-part asked seen part once_seen in
     let law = fetching hash_of (map_of asked) (map_of opened) (has (known asked)) (has (known opened)) ts f (lawful_of asked once_asked) no_clash fetched in
-    let below : IsBelow (state_of (map_of asked) (has (known asked))) (state seen) =
+    let below : IsBelow (held_state (map_of asked) (has (known asked))) (state seen) =
     same_same _ _ _ (joins_same greater (state seen) _ _ (state_is asked once_asked))
     (same_same _ _ _ (join-states seen asked (NoReuse-part (seen ++ asked) seen (part_both seen asked seen (itself_part seen) part) once_seen))
     (state-same (seen ++ asked) seen (record { there = part_both seen asked seen (itself_part seen) part; back = left_part seen asked }))) in
     let closed = closing (map_of asked) (map_of opened) f.built (has (known asked)) (has (known opened)) (state seen) (lawful_of opened once_opened) (law.done none).0 below in
     same_same _ _ _ closed (same_same _ _ _ (joins_same greater (state seen) _ _ (state_is opened once_opened)) (join-states seen opened once))
 
-pub goes_on : GoesOn
+pub goes_on : FetchGoesOn
 unfolding root_digest
 goes_on hash_of asked opened ts f once no_clash fetched p d w =
     let once_asked = NoReuse-part asked (asked ++ opened) (left_part asked opened) once in

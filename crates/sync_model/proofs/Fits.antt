@@ -19,7 +19,7 @@ use Rattle.sync_model.specs.Opened.{held_in, with_values, without_ended, open_fi
 use Rattle.sync_model.specs.Filled.{Made, made_map, checked, fill_unseen, fill_seen, fill_values, then_fields, fill_fields, then_entries, fill_entries, all_used, filled}
 use Rattle.sync_model.specs.Differ.{Held}
 use Rattle.sync_model.specs.Fetch.{is_own, within_values, within_fields, within}
-use Rattle.sync_model.specs.Laws.{IsWithin}
+use Rattle.sync_model.specs.Laws.{KnowsEachDot}
 use Rattle.sync_model.proofs.Members.{In, In-mapped, part_found}
 use Rattle.sync_model.proofs.Found.{same_Some}
 use Rattle.sync_model.proofs.Alike.{names_at}
@@ -93,7 +93,7 @@ module _ (seen : DotValue → Bool) where
 pub and_true : (a b : Bool) → a ≡ true → b ≡ true → a && b ≡ true
 and_true a b s t = (λ k. s k && t k)
 
-module _ (hash_of : List ℕ → ℕ) (own theirs : Held) (seen opened : DotValue → Bool) (known : IsWithin opened theirs) where
+module _ (hash_of : List ℕ → ℕ) (own theirs : Held) (seen opened : DotValue → Bool) (known : KnowsEachDot opened theirs) where
   -- what is kept of the own map where digests are equal is known to the opening, as the peer has it too
   pub kept_known : (key : List ℕ) (fs : FieldsValue) → finite.get own key ≡ Some fs → names_at own key ≡ names_at theirs key → within_fields opened fs ≡ true
   kept_known key fs e same = step (finite.get theirs key) refl (sym (ap (option_map named_fields) e) ∙ same)

@@ -17,7 +17,7 @@ use Rattle.sync_model.specs.Opened.{held_in}
 use Rattle.sync_model.specs.Filled.{filled}
 use Rattle.sync_model.specs.Differ.{Held}
 use Rattle.sync_model.specs.Fetch.{Fetch, Took, Mismatch, entries_of, is_digest, is_own, fits, took, promised, take_page, take_opening, within_fields, within}
-use Rattle.sync_model.specs.Laws.{IsLawfulMap, Taking, NoClash, IsWithin, OneValue, Fitting, Opening}
+use Rattle.sync_model.specs.Laws.{IsLawfulMap, Taking, NoClash, KnowsEachDot, OneValue, Fitting, Opening}
 use Rattle.sync_model.proofs.Prefixes.{length-further}
 use Rattle.sync_model.proofs.Members.{In, Contains-In, part_found}
 use Rattle.sync_model.proofs.Paged.{in_present}
@@ -29,7 +29,7 @@ use Rattle.sync_model.proofs.Fetched.{own_digest}
 use Rattle.sync_model.proofs.Fetches.{own_page, page_clash, kept_pages}
 use Rattle.sync_model.proofs.Fits.{and_true, fills, entries_fit, children_fit, kept_known, all_pass}
 
-module _ (hash_of : List ℕ → ℕ) (own theirs : Held) (seen opened : DotValue → Bool) (lawful : IsLawfulMap own) (ts : List Taking) (no_clash : NoClash hash_of own theirs ts) (known : IsWithin opened theirs) where
+module _ (hash_of : List ℕ → ℕ) (own theirs : Held) (seen opened : DotValue → Bool) (lawful : IsLawfulMap own) (ts : List Taking) (no_clash : NoClash hash_of own theirs ts) (known : KnowsEachDot opened theirs) where
   same_below_names : (p : List ℕ) → length p ≤ 7 → digest_at hash_of own p ≡ digest_at hash_of theirs p → (key : List ℕ) → begins p (path hash_of key) ≡ true → names_at own key ≡ names_at theirs key
   same_below_names p short e key under =
       same_names hash_of own theirs (λ p q a b x y s. page_clash hash_of own theirs seen opened lawful ts no_clash a b q (own_page hash_of own theirs seen opened lawful ts no_clash p a x) y s) p short e key under

@@ -11,8 +11,8 @@ use Rattle.sync_model.specs.Differ.{Held}
 use Rattle.sync_model.specs.Laws.{IsLawfulMap}
 
 -- the state of a map and the dots that are known with it
-abbrev pub state_of : Held → (Dot → Bool) → MapState
-state_of m known = record { at = λ place dot. held_in (finite.get m place.key) place.field dot; has = known }
+abbrev pub held_state : Held → (Dot → Bool) → MapState
+held_state m known = record { at = λ place dot. held_in (finite.get m place.key) place.field dot; has = known }
 
 -- joining the first state into the second gives the second
 abbrev pub IsBelow : MapState → MapState → Type 0
@@ -21,5 +21,5 @@ IsBelow p q = Same (join greater q p) q
 abbrev pub Closing : Type 0
 Closing = (own theirs built : Held) (seen opened : Dot → Bool) (live : MapState) → IsLawfulMap theirs
     → ((key : List ℕ) → finite.get built key ≡ opened_at seen (finite.get own key) (finite.get theirs key))
-    → IsBelow (state_of own seen) live
-    → Same (join greater live (state_of built opened)) (join greater live (state_of theirs opened))
+    → IsBelow (held_state own seen) live
+    → Same (join greater live (held_state built opened)) (join greater live (held_state theirs opened))

@@ -81,8 +81,8 @@ module _ (hash_of : List ℕ → ℕ) (own theirs : Held) (seen opened : DotValu
 -- ---- the law of fitting
 
 -- the opening knows each dot of a map
-abbrev pub IsWithin : (DotValue → Bool) → Held → Type 0
-IsWithin opened m = (key : List ℕ) (fs : FieldsValue) → finite.get m key ≡ Some fs → within_fields opened fs ≡ true
+abbrev pub KnowsEachDot : (DotValue → Bool) → Held → Type 0
+KnowsEachDot opened m = (key : List ℕ) (fs : FieldsValue) → finite.get m key ≡ Some fs → within_fields opened fs ≡ true
 
 -- a dot that stands at one place of both maps has one value there
 abbrev pub OneValue : Held → Held → Type 0
@@ -93,12 +93,12 @@ OneValue own theirs = (key : List ℕ) (gs : FieldsValue) → finite.get theirs 
 -- the peer's page with the values that the asker had not seen.
 module _ (hash_of : List ℕ → ℕ) (own theirs : Held) (seen opened : DotValue → Bool) where
   abbrev pub Fitting : Type 0
-  Fitting = (ts : List Taking) (f : Fetch) → IsLawfulMap own → NoClash hash_of own theirs ts → IsWithin opened theirs → OneValue own theirs
+  Fitting = (ts : List Taking) (f : Fetch) → IsLawfulMap own → NoClash hash_of own theirs ts → KnowsEachDot opened theirs → OneValue own theirs
       → Fetched hash_of own seen opened (digest_at hash_of theirs []) ts f
       → (p d : List ℕ) → finite.get f.waiting p ≡ Some d
       → (page : PageValue) × (page_at hash_of theirs p ≡ Some page)
       × ((g : Fetch) × (take_page hash_of own seen opened f p page (unknown_at seen hash_of theirs p) ≡ Took g))
 
   abbrev pub Opening : Type 0
-  Opening = IsLawfulMap own → NoClash hash_of own theirs [] → IsWithin opened theirs
+  Opening = IsLawfulMap own → NoClash hash_of own theirs [] → KnowsEachDot opened theirs
       → (f : Fetch) × (take_opening hash_of own seen opened (digest_at hash_of theirs []) ≡ Took f)

@@ -11,7 +11,7 @@ use Rattle.prefix_digest.specs.Page.{page_at}
 use Rattle.prefix_digest.specs.Values.{unknown_at}
 use Rattle.sync_model.specs.Fetch.{Fetch}
 use Rattle.sync_model.specs.Laws.{Taking, NoClash, Fetched}
-use Rattle.sync_model.specs.Closing.{state_of}
+use Rattle.sync_model.specs.Closing.{held_state}
 
 -- the asker had seen the first set when it asked, and its peer the second when it opened: what the asker has after the opening
 -- and these pages
@@ -28,11 +28,11 @@ abbrev pub Done : Type 0
 Done = (hash_of : List ℕ → ℕ) (asked opened seen : List Operation) (ts : List Taking) (f : Fetch)
     → IsPartOf asked seen → NoReuse (seen ++ opened) → NoClashOf hash_of asked opened ts → FetchedOf hash_of asked opened ts f
     → ((p : List ℕ) → finite.get f.waiting p ≡ None)
-    → Same (join greater (state seen) (state_of f.built (has (known opened)))) (state (seen ++ opened))
+    → Same (join greater (state seen) (held_state f.built (has (known opened)))) (state (seen ++ opened))
 
 -- And each page that it waits for the peer can tell, by the map of what it had seen when it opened, and it is taken.
-abbrev pub GoesOn : Type 0
-GoesOn = (hash_of : List ℕ → ℕ) (asked opened : List Operation) (ts : List Taking) (f : Fetch)
+abbrev pub FetchGoesOn : Type 0
+FetchGoesOn = (hash_of : List ℕ → ℕ) (asked opened : List Operation) (ts : List Taking) (f : Fetch)
     → NoReuse (asked ++ opened) → NoClashOf hash_of asked opened ts → FetchedOf hash_of asked opened ts f
     → (p d : List ℕ) → finite.get f.waiting p ≡ Some d
     → (t : Taking) × (t.prefix ≡ p) × (page_at hash_of (map_of opened) p ≡ Some t.page) × (t.sent ≡ unknown_at (has (known asked)) hash_of (map_of opened) p)

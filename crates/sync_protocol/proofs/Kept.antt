@@ -6,9 +6,9 @@ use Rattle.std.specs.Map.{lookup}
 use Rattle.std.proofs.lemmas.Bool.{ltb-true, eq-eqb}
 use Rattle.std.proofs.lemmas.List.Elements.{All-nil, All-cons, All-tail, All-append}
 use Rattle.wire_form.specs.Message.{MessageValue}
-use Rattle.wire_form.specs.Session.{SessionValue}
+use Rattle.wire_form.specs.Session.{SessionValue, same_session}
 use Rattle.sync_protocol.specs.Snapshot.{SnapshotValue, KeptValue}
-use Rattle.sync_protocol.specs.Answering.{same_session, LIMIT, snapshot_of, all_but_first, with_place, keeping, kept_with, kept_after, told_with, told_of, page_of, answer_with, answer_of}
+use Rattle.sync_protocol.specs.Answering.{LIMIT, snapshot_of, all_but_first, with_place, keeping, kept_with, kept_after, told_with, told_of, page_of, answer_with, answer_of}
 
 pub same_itself : (s : SessionValue) → same_session s s ≡ true
 same_itself s = (λ i. eq-eqb s.asker s.asker refl i && (eq-eqb s.answerer s.answerer refl i && eq-eqb s.number s.number refl i))

@@ -7,7 +7,7 @@ use Rattle.causal_context.specs.Context.{ContextValue, has}
 use Rattle.hash_path.specs.Map.{walk_under}
 use Rattle.sync_model.specs.Differ.{Held}
 use Rattle.sync_model.specs.Fetch.{within_fields, within}
-use Rattle.sync_model.specs.Laws.{IsWithin}
+use Rattle.sync_model.specs.Laws.{KnowsEachDot}
 use Rattle.sync_model.proofs.Members.{In, part_has}
 
 one_passes : {X : Type 0} (t : X → Bool) (xs : List X) (x : X) → list_all t xs ≡ true → In xs x → t x ≡ true
@@ -19,6 +19,6 @@ one_passes t (y ∷ ys) x all h = step (t y) refl all h (one_passes t ys x)
     step true e rest (inr there) further = further rest there
     step false e rest h further = absurd cc
 
-pub knows_each : (c : ContextValue) (f : List ℕ → ℕ) (m held : Held) (b : Bool) → m ≡ held → b ≡ within (has c) (walk_under f [] m) → b ≡ true → IsWithin (has c) held
+pub knows_each : (c : ContextValue) (f : List ℕ → ℕ) (m held : Held) (b : Bool) → m ≡ held → b ≡ within (has c) (walk_under f [] m) → b ≡ true → KnowsEachDot (has c) held
 knows_each c f m held b same is on key fs e =
     one_passes (λ x. within_fields (has c) x.1) (walk_under f [] m) (key, fs) (sym is ∙ on) (part_has f m [] key fs (subst (λ n. finite.get n key ≡ Some fs) (sym same) e) refl)

@@ -1,11 +1,9 @@
 -- The page of a map at a prefix, with the values that are missing, is one that can be sent.
-use Rattle.std.proofs.Common.{◌≡◌, ◌⊎◌, inl, inr, ℕ, ◌+◌, ◌^◌, ◌<◌, ◌≤◌, List, [], ◌∷◌, ◌++◌, length, get_or, Bool, true, nat_eq, Some, None, arith, refl, sym, ◌∙◌, ap, subst}
+use Rattle.std.proofs.Common.{◌≡◌, ◌⊎◌, inl, inr, ℕ, ◌+◌, ◌^◌, ◌<◌, ◌≤◌, List, [], ◌∷◌, ◌++◌, length, get_or, Bool, true, Some, None, arith, refl, sym, ◌∙◌, ap, subst}
 use Rattle.std.specs.Prelude.{Option, ◌&&◌}
 use Rattle.std.specs.Option.{option_map}
 use Rattle.std.specs.List.{AllByRecursion}
 use Rattle.std.specs.List.Sorted.{IsStrictlySortedBy}
-use Rattle.std.specs.Map.{keys_of}
-use Rattle.std.specs.Ordering.{nat_cmp}
 use Rattle.std.specs.FinMap as finite
 use Rattle.std.proofs.lemmas.Bool.{cases_lt, eq-eqb}
 use Rattle.std.proofs.lemmas.List.{length-map}
@@ -17,7 +15,7 @@ use Rattle.hash_path.specs.Path.{last_index}
 use Rattle.hash_path.specs.Summary.{present}
 use Rattle.hash_path.specs.Word.{begins}
 use Rattle.wire_form.specs.Page.{EntryValue, PageValue, OneKey, Keys, Branch}
-use Rattle.wire_form.specs.Sent.{SentValue, IsFilled, CanStand, CanCarry, CanBeSent}
+use Rattle.wire_form.specs.Sent.{IsFilled, CanStand, CanBeSent}
 use Rattle.prefix_digest.specs.Page.{named_fields, named_entry, named_entries, page_at, digest_at, digest_of}
 use Rattle.prefix_digest.specs.Values.{unknown_at}
 use Rattle.prefix_digest.proofs.KeptKeys.{keys_kept}

@@ -1,19 +1,12 @@
 -- What is answered is taken.
-use Rattle.std.proofs.Common.{◌≡◌, ℕ, List, [], Bool, Some, refl, sym, ◌∙◌, ap}
+use Rattle.std.proofs.Common.{◌≡◌, ℕ, List, ◌∙◌, ap}
 use Rattle.std.specs.Option.{option_map}
 use Rattle.std.specs.FinMap as finite
 use Rattle.causal_context.specs.Context.{has}
-use Rattle.wire_form.specs.Message.{MessageValue, Opening, Page, Gone}
-use Rattle.wire_form.specs.Session.{SessionValue}
-use Rattle.prefix_digest.specs.Page.{page_at, digest_at}
-use Rattle.prefix_digest.specs.Values.{unknown_at}
-use Rattle.sync_model.specs.Differ.{Held}
-use Rattle.sync_model.specs.Fetch.{Fetch, Took, take_page}
-use Rattle.sync_model.specs.Laws.{IsLawfulMap, Taking, Fetched, NoClash, IsWithin, OneValue}
 use Rattle.sync_model.proofs.Fitted.{fitting, opening}
-use Rattle.sync_protocol.specs.Snapshot.{SnapshotValue, KeptValue}
-use Rattle.sync_protocol.specs.Answering.{snapshot_of, told_of, opening_of, page_for, page_of, answer_with, answer_of}
-use Rattle.sync_protocol.specs.Laws.{TakesOpening, TakesPage, HellosAreTaken, AsksAreTaken}
+use Rattle.sync_protocol.specs.Snapshot.{SnapshotValue}
+use Rattle.sync_protocol.specs.Answering.{told_of, page_for, answer_with}
+use Rattle.sync_protocol.specs.Laws.{HellosAreTaken, AsksAreTaken}
 
 module _ {Hash : Type 0} (hash_of : Hash → List ℕ → ℕ) where
   pub hellos_taken : HellosAreTaken hash_of

@@ -9,18 +9,17 @@ use Rattle.causal_context.specs.Context.{ContextValue, has}
 use Rattle.wire_form.specs.Message.{MessageValue}
 use Rattle.sync_model.specs.Differ.{Held}
 use Rattle.sync_model.specs.Fetch.{Fetch}
-use Rattle.sync_model.specs.Laws.{IsWithin}
+use Rattle.sync_model.specs.Laws.{KnowsEachDot}
 use Rattle.page_taking.specs.Building.{BuiltValue, GoesOn}
 use Rattle.page_taking.specs.Taking.{FetchingValue, fetch_of, begun}
 use Rattle.page_taking.proofs.Asks.{complete_is}
 use Rattle.page_taking.proofs.Going.{goes_on_itself}
 use Rattle.page_taking.proofs.Loops.{stands_at, is_past}
 use Rattle.sync_protocol.specs.Asking as asking
-use Rattle.sync_protocol.specs.Asking.{AskerValue, StageValue, State, Stage, is_asked, is_fetching, Waits, Fetches, Has, stage_with, state_of, start}
-use Rattle.sync_protocol.specs.Turning.{Sent, Done, Outcome, again, goes_on, comes_to, page_at_stage}
-use Rattle.sync_protocol.specs.Answering.{same_session}
+use Rattle.sync_protocol.specs.Asking.{AskerValue, StageValue, AskerState, Stage, is_asked, is_fetching, Waits, Fetches, Has, stage_with, asker_state}
+use Rattle.sync_protocol.specs.Turning.{Sent, Done, StateAndStep, again, goes_on, comes_to, page_at_stage}
 use Rattle.wire_form.specs.Message.{Ask, Hello}
-use Rattle.wire_form.specs.Session.{SessionValue}
+use Rattle.wire_form.specs.Session.{SessionValue, same_session}
 use Rattle.sync_model.specs.Fetch as model
 use Rattle.sync_model.specs.Fetch.{children_of, to_ask, take_opening, take_page}
 use Rattle.wire_form.specs.Sent.{SentValue}
@@ -46,7 +45,7 @@ module _ {X Y Z : Type 0} (f : X → Z) (g : Y → Z) where
 
 -- ---- the empty map
 
-pub within_nothing : (seen : DotValue → Bool) (m : Held) → m ≡ finite.empty → IsWithin seen m
+pub within_nothing : (seen : DotValue → Bool) (m : Held) → m ≡ finite.empty → KnowsEachDot seen m
 within_nothing seen m none key fs e = let no = sym (get-empty bytes_cmp key) ∙ ap (λ n. finite.get n key) (sym none) ∙ e in absurd cc
 
 module _ {Hash : Type 0} where
@@ -65,32 +64,32 @@ module _ {Hash : Type 0} where
 
   pub done_turn : (a next : AskerValue Hash) (f : FetchingValue Hash) (context known : ContextValue) (built : BuiltValue Hash) (asks : List MessageValue) (b : Bool)
       → IsTrue b ↔ ((p : List ℕ) → finite.get f.waiting p ≡ None) → b ≡ true → next ≡ record a { stage = asking.Complete known built } → known ≡ context → built ≡ f.built
-      → (state_of next, Done) ≡ goes_on a.session a.own a.seen context asks (fetch_of f)
+      → (asker_state next, Done) ≡ goes_on a.session a.own a.seen context asks (fetch_of f)
   done_turn a next f context known built asks b h on is same from =
-      ap (λ n. (state_of n, Done)) is ∙ (λ k. (state_of (record a { stage = asking.Complete (same k) (from k) }), Done))
-      ∙ ap (λ c. cond c (state_of (record a { stage = asking.Complete context f.built }), Done) (state_of (record a { stage = asking.Fetching context f }), Sent asks)) (sym (empty_len f b h ∙ on))
+      ap (λ n. (asker_state n, Done)) is ∙ (λ k. (asker_state (record a { stage = asking.Complete (same k) (from k) }), Done))
+      ∙ ap (λ c. cond c (asker_state (record a { stage = asking.Complete context f.built }), Done) (asker_state (record a { stage = asking.Fetching context f }), Sent asks)) (sym (empty_len f b h ∙ on))
 
   pub sent_turn : (a next : AskerValue Hash) (f : FetchingValue Hash) (context known : ContextValue) (asks : List MessageValue) (b : Bool)
       → IsTrue b ↔ ((p : List ℕ) → finite.get f.waiting p ≡ None) → b ≡ false → next ≡ record a { stage = asking.Fetching known f } → known ≡ context
-      → (state_of next, Sent asks) ≡ goes_on a.session a.own a.seen context asks (fetch_of f)
+      → (asker_state next, Sent asks) ≡ goes_on a.session a.own a.seen context asks (fetch_of f)
   sent_turn a next f context known asks b h off is same =
-      ap (λ n. (state_of n, Sent asks)) is ∙ (λ k. (state_of (record a { stage = asking.Fetching (same k) f }), Sent asks))
-      ∙ ap (λ c. cond c (state_of (record a { stage = asking.Complete context f.built }), Done) (state_of (record a { stage = asking.Fetching context f }), Sent asks)) (sym (empty_len f b h ∙ off))
+      ap (λ n. (asker_state n, Sent asks)) is ∙ (λ k. (asker_state (record a { stage = asking.Fetching (same k) f }), Sent asks))
+      ∙ ap (λ c. cond c (asker_state (record a { stage = asking.Complete context f.built }), Done) (asker_state (record a { stage = asking.Fetching context f }), Sent asks)) (sym (empty_len f b h ∙ off))
 
   -- ---- an opening
 
   pub begun_built : (o : Option (FetchingValue Hash)) (f : FetchingValue Hash) (b : BuiltValue Hash) → o ≡ Some f → IfSome o (λ g. g.built ≡ b) → f.built ≡ b
   begun_built o f b is h = subst (λ p. IfSome p (λ g. g.built ≡ b)) is h
 
-  pub turn_begun : (a : AskerValue Hash) (out : Outcome) (context : ContextValue) (asks : List MessageValue) (f : FetchingValue Hash) (o : Option (FetchingValue Hash)) (taken : model.Taken)
+  pub turn_begun : (a : AskerValue Hash) (out : StateAndStep) (context : ContextValue) (asks : List MessageValue) (f : FetchingValue Hash) (o : Option (FetchingValue Hash)) (taken : model.Taken)
       → out ≡ goes_on a.session a.own a.seen context asks (fetch_of f) → asks ≡ Ask a.session [] ∷ [] → o ≡ Some f → begun o ≡ taken
       → out ≡ comes_to a.session a.own a.seen context (Waits a.own a.seen) (Ask a.session [] ∷ []) taken
   turn_begun a out context asks f o taken is told there made =
       is ∙ ap (λ ms. goes_on a.session a.own a.seen context ms (fetch_of f)) told ∙ ap (comes_to a.session a.own a.seen context (Waits a.own a.seen) (Ask a.session [] ∷ [])) (sym (ap begun there) ∙ made)
 
   pub turn_nothing : (hash_of : List ℕ → ℕ) (a next : AskerValue Hash) (context : ContextValue) (root : Option (List ℕ)) → root ≡ None
-      → state_of next ≡ record { session = a.session; stage = Has context finite.empty }
-      → (state_of next, Done) ≡ comes_to a.session a.own a.seen context (Waits a.own a.seen) (Ask a.session [] ∷ []) (take_opening hash_of a.own (has a.seen) (has context) root)
+      → asker_state next ≡ record { session = a.session; stage = Has context finite.empty }
+      → (asker_state next, Done) ≡ comes_to a.session a.own a.seen context (Waits a.own a.seen) (Ask a.session [] ∷ []) (take_opening hash_of a.own (has a.seen) (has context) root)
   turn_nothing hash_of a next context root none is =
       (λ k. (is k, Done)) ∙ ap (λ n. cond (nat_eq n 0) (ended, Done) (left, Sent (Ask a.session [] ∷ []))) (sym (len-empty bytes_cmp (List ℕ)))
       ∙ ap (λ r. comes_to a.session a.own a.seen context (Waits a.own a.seen) (Ask a.session [] ∷ []) (take_opening hash_of a.own (has a.seen) (has context) r)) (sym none)
@@ -98,21 +97,21 @@ module _ {Hash : Type 0} where
       nothing : Fetch
       nothing = record { waiting = finite.empty; built = finite.empty }
 
-      ended : State
+      ended : AskerState
       ended = record { session = a.session; stage = Has context finite.empty }
 
-      left : State
+      left : AskerState
       left = record { session = a.session; stage = Fetches a.own a.seen context nothing }
 
   -- ---- a page
 
-  pub turn_took : (a : AskerValue Hash) (out : Outcome) (context : ContextValue) (stage : Stage) (ms : List MessageValue) (f : FetchingValue Hash) (items asks : List (List ℕ)) (s : SessionValue)
+  pub turn_took : (a : AskerValue Hash) (out : StateAndStep) (context : ContextValue) (stage : Stage) (ms : List MessageValue) (f : FetchingValue Hash) (items asks : List (List ℕ)) (s : SessionValue)
       → out ≡ goes_on a.session a.own a.seen context ms (fetch_of f) → ms ≡ map (Ask s) items → s ≡ a.session → items ≡ asks
       → out ≡ comes_to a.session a.own a.seen context stage (map (Ask a.session) asks) (model.Took (fetch_of f))
   turn_took a out context stage ms f items asks s is told same those =
       is ∙ ap (λ l. goes_on a.session a.own a.seen context l (fetch_of f)) (told ∙ (λ k. map (Ask (same k)) (those k)))
 
-  pub turn_page : (hash_of : Hash → List ℕ → ℕ) (view a : AskerValue Hash) (context : ContextValue) (f : FetchingValue Hash) (out : Outcome) (taken : model.Taken) (sent : SentValue)
+  pub turn_page : (hash_of : Hash → List ℕ → ℕ) (view a : AskerValue Hash) (context : ContextValue) (f : FetchingValue Hash) (out : StateAndStep) (taken : model.Taken) (sent : SentValue)
       → view ≡ a → a.stage ≡ asking.Fetching context f
       → taken ≡ take_page (hash_of view.hash) view.own (has view.seen) (has context) (fetch_of f) sent.prefix sent.page sent.values
       → out ≡ comes_to a.session a.own a.seen context (stage_with a.own a.seen a.stage) (map (Ask a.session) (map (λ c. sent.prefix ++ c.0 ∷ []) (to_ask (hash_of view.hash) view.own sent.prefix (children_of sent.page)))) taken
@@ -144,5 +143,5 @@ module _ {Hash : Type 0} where
   again_asks a stage context f ms ps s is told same those = told ∙ (λ k. map (Ask (same k)) (those k)) ∙ ap (λ st. again a.session (stage_with a.own a.seen st)) (sym is)
 
 -- a session of one name is tested first
-pub by_session : (s t : SessionValue) (b : Bool) (x y : Outcome) → b ≡ same_session s t → b ≡ true → x ≡ cond (same_session s t) x y
+pub by_session : (s t : SessionValue) (b : Bool) (x y : StateAndStep) → b ≡ same_session s t → b ≡ true → x ≡ cond (same_session s t) x y
 by_session s t b x y is on = ap (λ c. cond c x y) (sym on ∙ is)

@@ -1,18 +1,14 @@
 -- What a replica answers to the hellos and the asks of others, off the snapshots that it keeps for their sessions. Of this project.
-use Rattle.std.specs.Prelude.{ℕ, Bool, ◌==◌, ◌&&◌, nat_lt, List, [], ◌∷◌, ◌++◌, length, Option, Some, None, cond}
+use Rattle.std.specs.Prelude.{ℕ, nat_lt, List, [], ◌∷◌, ◌++◌, length, Option, Some, None, cond}
 use Rattle.std.specs.Option.{option_map}
 use Rattle.std.specs.Map.{lookup}
 use Rattle.causal_context.specs.Context.{has}
 use Rattle.wire_form.specs.Message.{MessageValue, Opening, Page, Gone}
 use Rattle.wire_form.specs.Page.{PageValue}
-use Rattle.wire_form.specs.Session.{SessionValue}
+use Rattle.wire_form.specs.Session.{SessionValue, same_session}
 use Rattle.prefix_digest.specs.Page.{page_at, digest_at}
 use Rattle.prefix_digest.specs.Values.{unknown_at}
 use Rattle.sync_protocol.specs.Snapshot.{SnapshotValue, KeptValue}
-
--- whether two sessions are one
-abbrev pub same_session : SessionValue → SessionValue → Bool
-same_session s t = (s.asker == t.asker) && ((s.answerer == t.answerer) && (s.number == t.number))
 
 -- at most so many snapshots are kept
 abbrev pub LIMIT : ℕ

@@ -4,14 +4,16 @@ use Rattle.std.proofs.Common.{inl, inr}
 use Rattle.std.specs.Coded.{Coded, code_by, coded×, coded_list, coded_ℕ}
 use base.Stored.{coded⊎, coded_unit}
 use Rattle.std.specs.FinMap as finite
+use Rattle.causal_context.specs.Code.{context_code}
 use Rattle.causal_context.specs.Context.{ContextValue, has, HasNone}
+use Rattle.causal_join.specs.Code.{fields_code}
 use Rattle.wire_form.specs.Session.{SessionValue}
 use Rattle.sync_model.specs.Differ.{Held}
 use Rattle.sync_model.specs.Fetch.{Fetch}
-use Rattle.sync_model.specs.Laws.{IsWithin}
+use Rattle.sync_model.specs.Laws.{KnowsEachDot}
 use Rattle.page_taking.specs.Building.{BuiltValue, built_code, GoesOn}
 use Rattle.page_taking.specs.Taking.{FetchingValue, fetching_code, fetch_of}
-use Rattle.sync_protocol.specs.Snapshot.{context_code, session_code, fields_code}
+use Rattle.sync_protocol.specs.Snapshot.{session_code}
 
 -- how far it is: it asked; it accepted an opening, which knows these dots, and fetches; all is there, under these dots; or it ended
 -- with nothing
@@ -30,9 +32,9 @@ abbrev pub is_fetching : {Hash : Type 0} → StageValue Hash → Bool
 is_fetching (Fetching c f) = true
 is_fetching other = false
 
-abbrev pub is_complete : {Hash : Type 0} → StageValue Hash → Bool
-is_complete (Complete c b) = true
-is_complete other = false
+abbrev pub has_completed : {Hash : Type 0} → StageValue Hash → Bool
+has_completed (Complete c b) = true
+has_completed other = false
 
 abbrev pub is_over : {Hash : Type 0} → StageValue Hash → Bool
 is_over (Complete c b) = true
@@ -94,7 +96,7 @@ module _ {Hash : Type 0} where
 
   -- all dots of the own map had been seen, and what is built goes on from it
   abbrev pub IsAsker : AskerValue Hash → Type 0
-  IsAsker a = IsWithin (has a.seen) a.own × GoesOnFrom a a.stage
+  IsAsker a = KnowsEachDot (has a.seen) a.own × GoesOnFrom a a.stage
 
 -- An asker after a message: it goes on from the own map of the first with the dots seen with it, or from the empty map with none seen, as where
 -- its peer had no key.
@@ -110,7 +112,7 @@ pub data Stage : Type 0 where
   Has : ContextValue → Held → Stage
   Ended : Stage
 
-pub record State : Type 0 where
+pub record AskerState : Type 0 where
   pub session : SessionValue
   pub stage : Stage
 
@@ -120,5 +122,5 @@ stage_with own seen (Fetching c f) = Fetches own seen c (fetch_of f)
 stage_with own seen (Complete c b) = Has c b.entries
 stage_with own seen Over = Ended
 
-abbrev pub state_of : {Hash : Type 0} → AskerValue Hash → State
-state_of a = record { session = a.session; stage = stage_with a.own a.seen a.stage }
+abbrev pub asker_state : {Hash : Type 0} → AskerValue Hash → AskerState
+asker_state a = record { session = a.session; stage = stage_with a.own a.seen a.stage }

@@ -1,5 +1,5 @@
 -- What the answers to hellos and asks are to who gets them, and what stays of the snapshots that are kept. Of this project.
-use Rattle.std.specs.Prelude.{◌≡◌, ◌≤◌, ℕ, Bool, List, [], length, Option, Some}
+use Rattle.std.specs.Prelude.{◌≡◌, ◌≤◌, ℕ, Bool, List, [], length, Some}
 use Rattle.std.specs.List.{All}
 use Rattle.std.specs.FinMap as finite
 use Rattle.causal_context.specs.Context.{has}
@@ -9,7 +9,7 @@ use Rattle.wire_form.specs.Session.{SessionValue}
 use Rattle.prefix_digest.specs.Page.{digest_at}
 use Rattle.sync_model.specs.Differ.{Held}
 use Rattle.sync_model.specs.Fetch.{Fetch, Took, take_opening, take_page}
-use Rattle.sync_model.specs.Laws.{IsLawfulMap, Taking, Fetched, NoClash, IsWithin, OneValue}
+use Rattle.sync_model.specs.Laws.{IsLawfulMap, Taking, Fetched, NoClash, KnowsEachDot, OneValue}
 use Rattle.sync_protocol.specs.Snapshot.{SnapshotValue, KeptValue}
 use Rattle.sync_protocol.specs.Answering.{LIMIT, snapshot_of, kept_after, told_of, opening_of, answer_of}
 
@@ -39,7 +39,7 @@ module _ {Hash : Type 0} (hash_of : Hash → List ℕ → ℕ) where
   abbrev pub HellosAreTaken : Type 0
   HellosAreTaken = (kept : KeptValue Hash) (s : SessionValue) (new : SnapshotValue Hash) (own : Held)
       → let k = told_of kept s new in
-      IsLawfulMap own → NoClash (hash_of k.hash) own k.map [] → IsWithin (has k.context) k.map
+      IsLawfulMap own → NoClash (hash_of k.hash) own k.map [] → KnowsEachDot (has k.context) k.map
       → (f : Fetch) × TakesOpening (hash_of k.hash) own (has k.seen) (opening_of hash_of s k) f
 
   -- Whatever was taken since of a session that is kept: the ask for each prefix that is then waited for is answered, and what it
@@ -47,7 +47,7 @@ module _ {Hash : Type 0} (hash_of : Hash → List ℕ → ℕ) where
   abbrev pub AsksAreTaken : Type 0
   AsksAreTaken = (kept : KeptValue Hash) (s : SessionValue) (k : SnapshotValue Hash) (own : Held) (ts : List Taking) (f : Fetch)
       → snapshot_of kept s ≡ Some k
-      → IsLawfulMap own → NoClash (hash_of k.hash) own k.map ts → IsWithin (has k.context) k.map → OneValue own k.map
+      → IsLawfulMap own → NoClash (hash_of k.hash) own k.map ts → KnowsEachDot (has k.context) k.map → OneValue own k.map
       → Fetched (hash_of k.hash) own (has k.seen) (has k.context) (digest_at (hash_of k.hash) k.map []) ts f
       → (p d : List ℕ) → finite.get f.waiting p ≡ Some d
       → (answer : MessageValue) × (answer_of hash_of kept s p ≡ Some answer)

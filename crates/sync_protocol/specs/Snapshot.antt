@@ -2,9 +2,9 @@
 use Rattle.std.specs.Prelude.{ℕ, List, refl}
 use Rattle.std.specs.Coded.{Coded, code_by, coded×, coded_list, coded_ℕ}
 use Rattle.std.specs.FinMap as finite
+use Rattle.causal_context.specs.Code.{context_code}
 use Rattle.causal_context.specs.Context.{ContextValue}
-use Rattle.causal_join.specs.OrMap.{FieldsValue}
-use Rattle.dots.specs.Dot.{DotValue}
+use Rattle.causal_join.specs.Code.{fields_code}
 use Rattle.wire_form.specs.Session.{SessionValue}
 use Rattle.sync_model.specs.Differ.{Held}
 
@@ -20,26 +20,13 @@ pub record SnapshotValue (Hash : Type 0) : Type 0 where
 abbrev pub KeptValue : Type 0 → Type 0
 KeptValue Hash = List (SessionValue × SnapshotValue Hash)
 
--- a dot is stored as the pair of its numbers, a context as that of its lists, and a session as the triple of its numbers
-abbrev pub dot_code : Coded DotValue
-dot_code = code_by (ℕ × ℕ) (coded× coded_ℕ coded_ℕ) (λ d. (d.name, d.number)) (λ p. record { name = p.0; number = p.1 }) (λ _. refl)
-
-abbrev pub context_code : Coded ContextValue
-context_code =
-    code_by (List (ℕ × ℕ) × List DotValue) (coded× (coded_list (coded× coded_ℕ coded_ℕ)) (coded_list dot_code))
-    (λ c. (c.vector, c.cloud))
-    (λ p. record { vector = p.0; cloud = p.1 })
-    (λ _. refl)
-
+-- a session is stored as the triple of its numbers
 abbrev pub session_code : Coded SessionValue
 session_code =
     code_by (ℕ × (ℕ × ℕ)) (coded× coded_ℕ (coded× coded_ℕ coded_ℕ))
     (λ s. (s.asker, (s.answerer, s.number)))
     (λ p. record { asker = p.0; answerer = p.1.0; number = p.1.1 })
     (λ _. refl)
-
-abbrev pub fields_code : Coded FieldsValue
-fields_code = coded_list (coded× (coded_list coded_ℕ) (coded_list (coded× dot_code (coded_list coded_ℕ))))
 
 -- and a snapshot as its parts
 abbrev pub snapshot_code : {Hash : Type 0} → Coded Hash → Coded (SnapshotValue Hash)

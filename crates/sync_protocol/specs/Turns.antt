@@ -1,12 +1,12 @@
 -- What a turn says, wherever it lies in memory. Of this project.
 use Rattle.std.specs.Prelude.{map}
 use Rattle.wire_form.specs.Message.{message_of}
-use Rattle.sync_protocol.specs.Asking.{state_of}
+use Rattle.sync_protocol.specs.Asking.{asker_state}
 use Rattle.page_taking.specs.Building.{BuiltValue, GoesOn}
 use Rattle.page_taking.specs.declared.taken.Taken.{Taken}
 use Rattle.page_taking.specs.declared.taken.Taken.TheVariants as page
 use Rattle.sync_protocol.specs.Turning as turning
-use Rattle.sync_protocol.specs.Turning.{StepValue, Outcome}
+use Rattle.sync_protocol.specs.Turning.{StepValue, StateAndStep}
 use Rattle.sync_protocol.specs.declared.step.Step.{Step}
 use Rattle.sync_protocol.specs.declared.step.Step.TheVariants.{Sent, Done, Ignored, Mismatch, Gone}
 use Rattle.sync_protocol.specs.declared.turn.Turn.{Turn}
@@ -19,8 +19,8 @@ module _ {A : Type 0} where
   step_of Mismatch = turning.Mismatch
   step_of Gone = turning.IsGone
 
-abbrev pub turn_of : {H A : Type 0} → Turn H A → Outcome
-turn_of turn = (state_of turn.next, step_of turn.step)
+abbrev pub turn_of : {H A : Type 0} → Turn H A → StateAndStep
+turn_of turn = (asker_state turn.next, step_of turn.step)
 
 -- what is built goes on from this where a page is taken
 abbrev pub GoesOnBy : {H A : Type 0} → BuiltValue H → Taken H A → Type 0

@@ -2,10 +2,10 @@ ghost use Rattle.std.specs.Prelude.{◌≡◌, false, IfSome, IsNone, IfOk, IfEr
 ghost use Rattle.std.specs.FinMap as finite;
 ghost use Rattle.causal_context.specs.Context.{has};
 ghost use Rattle.wire_form.specs.Message.{Hello, message_of};
-ghost use Rattle.sync_model.specs.Laws.{IsWithin};
+ghost use Rattle.sync_model.specs.Laws.{KnowsEachDot};
 ghost use Rattle.page_taking.specs.Building.{GoesOn};
-ghost use Rattle.sync_protocol.specs.Answering.{same_session};
-ghost use Rattle.sync_protocol.specs.Asking.{Asked, Has, is_asked, is_complete, is_fetching, is_over, start, state_of, GoesOnFrom, IsFrom};
+ghost use Rattle.wire_form.specs.Session.{same_session};
+ghost use Rattle.sync_protocol.specs.Asking.{Asked, Has, is_asked, has_completed, is_fetching, is_over, start, asker_state, GoesOnFrom, IsFrom};
 ghost use Rattle.sync_protocol.specs.Asking as asking;
 ghost use Rattle.sync_protocol.specs.Staged.{staged};
 
@@ -55,7 +55,7 @@ impl<H: PathHash, A: Allocator + Copy> Asker<H, A> {
         store: &FieldStore<H, A>,
         context: &Context<A>,
     ) -> Result<(Asker<H, A>, Message<A>), Refusal>
-        requires { IsWithin (has context.now) store.now.1 }
+        requires { KnowsEachDot (has context.now) store.now.1 }
         ensures asker { IfOk result (λ opened. opened.0 ≡ record { session = session; hash = store.now.0; own = store.now.1; seen = context.now; stage = Asked }) }
         ensures hello { IfOk result (λ opened. message_of opened.1 ≡ Hello session context.now) }
         ensures err { IsOkUnless result Refusal.OutOfMemory }
@@ -101,8 +101,8 @@ impl<H: PathHash, A: Allocator + Copy> Asker<H, A> {
         ensures done { IfOk result (λ opened. self.stage ≡ asking.Complete opened.context opened.built) }
         ensures base { IfOk result (λ opened. (opened.base.hash ≡ self.hash) × (opened.base.map ≡ self.own) × (opened.seen ≡ self.seen)) }
         ensures stays { IfOk result (λ opened. GoesOn (record { hash = opened.base.hash; entries = opened.base.map; touched = finite.empty }) opened.built) }
-        ensures within { IfOk result (λ opened. IsWithin (has opened.seen) opened.base.map) }
-        ensures back { IfErr result (λ asker. (asker ≡ self) × (is_complete self.stage ≡ false)) }
+        ensures within { IfOk result (λ opened. KnowsEachDot (has opened.seen) opened.base.map) }
+        ensures back { IfErr result (λ asker. (asker ≡ self) × (has_completed self.stage ≡ false)) }
     {
         let Asker {
             session,
@@ -160,7 +160,7 @@ impl<H: PathHash, A: Allocator + Copy> Asker<H, A> {
         alloc: A,
         context: &Context<A>,
     ) -> Result<Asker<H, A>, Refusal>
-        ensures ok { IfOk result (λ asker. state_of asker ≡ record { session = self.now.session; stage = Has context.now finite.empty }) }
+        ensures ok { IfOk result (λ asker. asker_state asker ≡ record { session = self.now.session; stage = Has context.now finite.empty }) }
         ensures from { IfOk result (λ asker. IsFrom self.now asker) }
         ensures err { IsOkUnless result Refusal.OutOfMemory }
     {
@@ -192,7 +192,7 @@ impl<H: PathHash, A: Allocator + Copy> Asker<H, A> {
         ensures found { IfSome result (λ parts. self.now.stage ≡ asking.Fetching parts.0.now parts.1.now) }
         ensures none { IsNone result → is_fetching self.now.stage ≡ false }
         ensures goes { IfSome result (λ parts. GoesOn (start self.now) parts.1.now.built) }
-        ensures within { IsWithin (has self.now.seen) self.now.own }
+        ensures within { KnowsEachDot (has self.now.seen) self.now.own }
     {
         match &self.stage {
             Stage::Fetching(context, fetching) => Some((context, fetching)),

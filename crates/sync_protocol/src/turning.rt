@@ -1,15 +1,14 @@
 // What an asker makes of a message.
 ghost use Rattle.std.specs.Prelude.{◌≡◌, ℕ, List, [], ◌∷◌, map, cond, Option, Some, IfOk, IsOkUnless};
-ghost use Rattle.causal_context.specs.Context.{has};
 ghost use Rattle.page_taking.specs.Building.{GoesOn};
 ghost use Rattle.page_taking.specs.Taken.{taken_of, asked_of};
 ghost use Rattle.page_taking.specs.Taking.{fetch_of};
 ghost use Rattle.wire_form.specs.Message.{Ask, Hello, message_of};
-ghost use Rattle.sync_protocol.specs.Asking.{Asked, IsFrom, Waits, stage_with, state_of, start};
+ghost use Rattle.sync_protocol.specs.Asking.{Asked, IsFrom, Waits, stage_with, asker_state, start};
 ghost use Rattle.sync_protocol.specs.Turning.{Ignored, again, goes_on, comes_to, opening_at, page_at_stage, gone_at};
 ghost use Rattle.sync_protocol.specs.Turning as turning;
 ghost use Rattle.sync_protocol.specs.Turns.{step_of, turn_of, GoesOnBy};
-ghost use Rattle.sync_protocol.specs.Answering.{same_session};
+ghost use Rattle.wire_form.specs.Session.{same_session};
 
 use crate::asker::Asker;
 use crate::stage::Stage;
@@ -44,7 +43,7 @@ fn stays<H: PathHash, A: Allocator + Copy>(
     asker: &Asker<H, A>,
     step: Step<A>,
 ) -> Result<Turn<H, A>, Refusal>
-    ensures ok { IfOk result (λ turn. turn_of turn ≡ (state_of asker.now, step_of step)) }
+    ensures ok { IfOk result (λ turn. turn_of turn ≡ (asker_state asker.now, step_of step)) }
     ensures from { IfOk result (λ turn. IsFrom asker.now turn.next) }
     ensures err { IsOkUnless result Refusal.OutOfMemory }
 {
@@ -135,7 +134,7 @@ fn opening<H: PathHash, A: Allocator + Copy>(
     root: &Option<[u8; 32]>,
 ) -> Result<Turn<H, A>, Refusal>
     ensures ok { IfOk result (λ turn. turn_of turn ≡ cond (same_session asker.now.session session)
-        (opening_at (H.hash_of asker.now.hash) asker.now.session (stage_with asker.now.own asker.now.seen asker.now.stage) context.now root.now) (state_of asker.now, Ignored)) }
+        (opening_at (H.hash_of asker.now.hash) asker.now.session (stage_with asker.now.own asker.now.seen asker.now.stage) context.now root.now) (asker_state asker.now, Ignored)) }
     ensures from { IfOk result (λ turn. IsFrom asker.now turn.next) }
     ensures err { IsOkUnless result Refusal.OutOfMemory }
 {
@@ -181,7 +180,7 @@ fn page<H: PathHash, A: Allocator + Copy>(
     sent: &SentPage<A>,
 ) -> Result<Turn<H, A>, Refusal>
     ensures ok { IfOk result (λ turn. turn_of turn ≡ cond (same_session asker.now.session session)
-        (page_at_stage (H.hash_of asker.now.hash) asker.now.session (stage_with asker.now.own asker.now.seen asker.now.stage) sent.now) (state_of asker.now, Ignored)) }
+        (page_at_stage (H.hash_of asker.now.hash) asker.now.session (stage_with asker.now.own asker.now.seen asker.now.stage) sent.now) (asker_state asker.now, Ignored)) }
     ensures from { IfOk result (λ turn. IsFrom asker.now turn.next) }
     ensures err { IsOkUnless result Refusal.OutOfMemory }
 {
@@ -203,7 +202,7 @@ fn gone<H: PathHash, A: Allocator + Copy>(
     session: Session,
 ) -> Result<Turn<H, A>, Refusal>
     ensures ok { IfOk result (λ turn. turn_of turn ≡ cond (same_session asker.now.session session)
-        (gone_at asker.now.session (stage_with asker.now.own asker.now.seen asker.now.stage)) (state_of asker.now, Ignored)) }
+        (gone_at asker.now.session (stage_with asker.now.own asker.now.seen asker.now.stage)) (asker_state asker.now, Ignored)) }
     ensures from { IfOk result (λ turn. IsFrom asker.now turn.next) }
     ensures err { IsOkUnless result Refusal.OutOfMemory }
 {
@@ -261,7 +260,7 @@ impl<H: PathHash, A: Allocator + Copy> Asker<H, A> {
     /// contexts; where the opening does not know all that was seen, and has the own root digest, time in the own map.
     /// Its only refusal is OutOfMemory.
     pub fn on_opening(&self, alloc: A, message: &Message<A>) -> Result<Turn<H, A>, Refusal>
-        ensures ok { IfOk result (λ turn. turn_of turn ≡ turning.on_opening (H.hash_of self.now.hash) (state_of self.now) (message_of message.now)) }
+        ensures ok { IfOk result (λ turn. turn_of turn ≡ turning.on_opening (H.hash_of self.now.hash) (asker_state self.now) (message_of message.now)) }
         ensures from { IfOk result (λ turn. IsFrom self.now turn.next) }
         ensures err { IsOkUnless result Refusal.OutOfMemory }
     {
@@ -286,7 +285,7 @@ impl<H: PathHash, A: Allocator + Copy> Asker<H, A> {
     /// in the contexts, each times the logarithm of the map.
     /// Its only refusal is OutOfMemory.
     pub fn on_page(&self, alloc: A, message: &Message<A>) -> Result<Turn<H, A>, Refusal>
-        ensures ok { IfOk result (λ turn. turn_of turn ≡ turning.on_page (H.hash_of self.now.hash) (state_of self.now) (message_of message.now)) }
+        ensures ok { IfOk result (λ turn. turn_of turn ≡ turning.on_page (H.hash_of self.now.hash) (asker_state self.now) (message_of message.now)) }
         ensures from { IfOk result (λ turn. IsFrom self.now turn.next) }
         ensures err { IsOkUnless result Refusal.OutOfMemory }
     {

@@ -4,12 +4,12 @@ use Rattle.std.proofs.lemmas.List.{append-nil, take_more, take-append-drop}
 use Rattle.std.proofs.lemmas.Bool.Decides.{nat_tests}
 use Rattle.std.proofs.lemmas.Bool.{true≢false}
 use Rattle.dots.specs.declared.refusal.Refusal.{Refusal}
-use Rattle.trace_words.specs.Answer.{Answer, Silent, Told, Faulted}
+use Rattle.trace_words.specs.Answer.{LineAnswer, Silent, Told, Faulted}
 use Rattle.trace_world.specs.Line.{Past, Answers}
 use Rattle.trace_cli.specs.Lines.{lines_of, has_newline, ends_line, ends_line_after}
 use Rattle.trace_cli.specs.Output.{Given, nothing_given, prepend, Gives, GivesFirst, GivesFront, answer_text}
-use Rattle.trace_words.specs.Reply.{GoesOn}
-use Rattle.trace_cli.specs.Session.{Point, GivesAt, Leads, Stops, Begins}
+use Rattle.trace_words.specs.Reply.{TraceGoesOn}
+use Rattle.trace_cli.specs.Session.{Point, GivesAt, Leads, Stops, IsFrontFrom}
 use Rattle.watched_io.specs.Streams.{IsFront, Written}
 use Rattle.watched_io.proofs.StreamLemmas.{Appends-trans}
 
@@ -67,12 +67,12 @@ line_given : (old : Point) (more : List ℕ) (given : Given) → has_newline old
 line_given old more given h gives = subst (λ lines. Gives old.past old.number lines given) (sym (lines_of-line old.line more h)) gives
 
 -- an answer after which the trace goes on comes before what is given to the rest
-goes_first : (answer : Answer) (number : ℕ) (Later : Given → Type 0) (later : Given) → GoesOn answer → Later later → GivesFirst answer number Later (prepend (answer_text answer number) later)
+goes_first : (answer : LineAnswer) (number : ℕ) (Later : Given → Type 0) (later : Given) → TraceGoesOn answer → Later later → GivesFirst answer number Later (prepend (answer_text answer number) later)
 goes_first Silent number Later later on is = is
 goes_first (Told text) number Later later on is = (later, is, refl)
 goes_first (Faulted refusal) number Later later on is = absurd on
 
-pub Leads-answer : (old : Point) (next : Past) (answer : Answer) → has_newline old.line ≡ false → Answers old.past old.line answer next → GoesOn answer
+pub Leads-answer : (old : Point) (next : Past) (answer : LineAnswer) → has_newline old.line ≡ false → Answers old.past old.line answer next → TraceGoesOn answer
     → Leads old (10 ∷ []) (answer_text answer old.number) (next_line old next)
 Leads-answer old next answer h is on = record {
   whole = old.line ++ 10 ∷ [];
@@ -84,25 +84,25 @@ Leads-answer old next answer h is on = record {
       subst (λ bytes. Gives old.past old.number (lines_of bytes) given) (sym (append_assoc old.line (10 ∷ []) more)) (line_given old more given h (answer, next, is, first));
 }
 
-pub Stops-told : (old : Point) (next : Past) (answer : Answer) (refusal : Refusal) → has_newline old.line ≡ false → Answers old.past old.line answer next
+pub Stops-told : (old : Point) (next : Past) (answer : LineAnswer) (refusal : Refusal) → has_newline old.line ≡ false → Answers old.past old.line answer next
     → answer ≡ Faulted refusal → Stops old (10 ∷ []) (answer_text answer old.number) refusal
 Stops-told old next answer refusal h is fault =
-    let P : Answer → Type 0 = λ a. Stops old (10 ∷ []) (answer_text a old.number) refusal in
+    let P : LineAnswer → Type 0 = λ a. Stops old (10 ∷ []) (answer_text a old.number) refusal in
     subst P (sym fault) (record {
       stops = λ more. line_given old more (record { text = answer_text (Faulted refusal) old.number; fault = Some refusal }) h
           (Faulted refusal, next, subst (λ a. Answers old.past old.line a next) fault is, refl);
     })
 
 -- what is given to one line with this answer, of which the text is a front
-one_line : (answer : Answer) (number : ℕ) (Later : Given → Type 0) (part : List ℕ) → Later nothing_given → IsFront part (answer_text answer number)
+one_line : (answer : LineAnswer) (number : ℕ) (Later : Given → Type 0) (part : List ℕ) → Later nothing_given → IsFront part (answer_text answer number)
     → (given : Given) × GivesFirst answer number Later given × IsFront part given.text
 one_line Silent number Later part none front = (nothing_given, none, front)
 one_line (Told text) number Later part none front =
     (prepend (answer_text (Told text) number) nothing_given, (nothing_given, none, refl), record { rest = front.rest; joined = append-nil _ ∙ front.joined })
 one_line (Faulted refusal) number Later part none front = (record { text = answer_text (Faulted refusal) number; fault = Some refusal }, refl, front)
 
-pub Begins-answer : (old : Point) (next : Past) (answer : Answer) (part : List ℕ) → has_newline old.line ≡ false → Answers old.past old.line answer next
-    → IsFront part (answer_text answer old.number) → Begins old (10 ∷ []) part
+pub Begins-answer : (old : Point) (next : Past) (answer : LineAnswer) (part : List ℕ) → has_newline old.line ≡ false → Answers old.past old.line answer next
+    → IsFront part (answer_text answer old.number) → IsFrontFrom old (10 ∷ []) part
 Begins-answer old next answer part h is front =
     let one = one_line answer old.number (λ given. Gives next (old.number + 1) [] given) part refl front in
     record {
@@ -116,7 +116,7 @@ Begins-answer old next answer part h is front =
     }
 
 -- nothing was written yet
-pub Begins-nothing : (old : Point) (piece : List ℕ) → Begins old piece []
+pub Begins-nothing : (old : Point) (piece : List ℕ) → IsFrontFrom old piece []
 Begins-nothing old piece = record {
   lines = [];
   rest = old.line ++ piece;
@@ -179,7 +179,7 @@ Stops-more a p q t refusal first = record {
 pub front-prepend : (t u : List ℕ) (given : Given) → IsFront u given.text → IsFront (t ++ u) (prepend t given).text
 front-prepend t u given front = record { rest = front.rest; joined = ap (λ w. t ++ w) front.joined ∙ sym (append_assoc t u front.rest) }
 
-pub Begins-after : (a b : Point) (p q t u : List ℕ) → Leads a p t b → Begins b q u → Begins a (p ++ q) (t ++ u)
+pub Begins-after : (a b : Point) (p q t u : List ℕ) → Leads a p t b → IsFrontFrom b q u → IsFrontFrom a (p ++ q) (t ++ u)
 Begins-after a b p q t u first then = record {
   lines = first.whole ++ then.lines;
   rest = then.rest;
@@ -223,7 +223,7 @@ Stops-next a b old mid new piece i refusal within first then = (
 )
 
 -- of more bytes
-Begins-more : (a : Point) (p q t : List ℕ) → Begins a p t → Begins a (p ++ q) t
+Begins-more : (a : Point) (p q t : List ℕ) → IsFrontFrom a p t → IsFrontFrom a (p ++ q) t
 Begins-more a p q t begin = record {
   lines = begin.lines;
   rest = begin.rest ++ q;
@@ -235,12 +235,12 @@ Begins-more a p q t begin = record {
 }
 
 pub Begins-next : (a b : Point) (old mid new : Option (List ℕ)) (piece : List ℕ) (i : ℕ) → i < length piece
-    → Written old mid (λ text. Leads a (take i piece) text b) → Written mid new (λ text. Begins b (get_or piece i 0 ∷ []) text)
-    → Written old new (λ text. Begins a piece text)
+    → Written old mid (λ text. Leads a (take i piece) text b) → Written mid new (λ text. IsFrontFrom b (get_or piece i 0 ∷ []) text)
+    → Written old new (λ text. IsFrontFrom a piece text)
 Begins-next a b old mid new piece i within first then = (
   first.0 ++ then.0,
   Appends-trans old mid new first.0 then.0 first.1 then.1,
-  (let P : List ℕ → Type 0 = λ p. Begins a p (first.0 ++ then.0) in
+  (let P : List ℕ → Type 0 = λ p. IsFrontFrom a p (first.0 ++ then.0) in
       subst P (sym (piece_is piece i within))
       (Begins-more a (take i piece ++ get_or piece i 0 ∷ []) (drop (i + 1) piece) (first.0 ++ then.0)
       (Begins-after a b (take i piece) (get_or piece i 0 ∷ []) first.0 then.0 first.2 then.2))),
@@ -293,7 +293,7 @@ cut (byte ∷ line) (x ∷ (y ∷ ys)) rest is ends h = shorter (cut line (y ∷
     shorter (inr none) = inr none
 
 pub Begins-last : (old : Point) (text : List ℕ) → has_newline old.line ≡ false → (length old.line ≡ 0 → ⊥)
-    → Begins old (10 ∷ []) text → GivesFront old.past old.number old.line text
+    → IsFrontFrom old (10 ∷ []) text → GivesFront old.past old.number old.line text
 Begins-last old text h some begin = by (cut old.line begin.lines begin.rest begin.parts begin.ends h)
   where
     by : (begin.lines ≡ []) ⊎ (begin.rest ≡ []) → GivesFront old.past old.number old.line text

@@ -9,18 +9,18 @@ use Rattle.dots.specs.declared.refusal.Refusal.{Refusal}
 use Rattle.dots.specs.declared.refusal.Refusal.TheVariants.{OutOfMemory, TooLong, ReadOnly, NumbersSpent, SessionsFull, NotAMessage, NoPlace, NameTaken, UnknownReplica, UnknownMessage, BadLine, Input, Output}
 use Rattle.watched_io.specs.declared.watched.Watched.{Watched}
 use Rattle.watched_io.specs.Watched.{has_failed, has_gone_on, is_flushed}
-use Rattle.trace_cli.specs.Ends.{Leaves}
+use Rattle.trace_cli.specs.Ends.{LeavesWriter}
 use Rattle.trace_cli.specs.Lines.{has_newline, ends_line, IsWholeLinesOf}
 use Rattle.trace_cli.specs.Output.{Given, nothing_given, prepend, IsGiven, IsGivenFront, GivesFront}
 use Rattle.trace_cli.specs.declared.session.Session.{Session}
-use Rattle.trace_cli.specs.Session.{Point, start_point, point_of, GivesAt, Leads, Stops, Begins}
-use Rattle.watched_io.specs.Streams.{Taken, Written}
+use Rattle.trace_cli.specs.Session.{Point, start_point, point_of, GivesAt, Leads, Stops, IsFrontFrom}
+use Rattle.watched_io.specs.Streams.{TakenBytes, Written}
 use Rattle.trace_cli.proofs.LineLemmas.{ends_line-append, given_at-Leads, Leads-nothing, Leads-trans, Stops-after, Begins-after, front-prepend}
 use Rattle.watched_io.proofs.StreamLemmas.{Appends-nothing, Appends-trans, Consumes-nothing, Consumes-trans, Consumes-kept}
 
 -- from the start of a run, what was read led to this point by writing what was written
 abbrev pub Ran : Option (List ℕ) → Option (List ℕ) → Option (List ℕ) → Option (List ℕ) → Point → Type 0
-Ran ro rn wo wn point = Taken ro rn (λ read. Written wo wn (λ text. Leads start_point read text point))
+Ran ro rn wo wn point = TakenBytes ro rn (λ read. Written wo wn (λ text. Leads start_point read text point))
 
 -- what is given to all that was read, by what is given at the point that it led to
 given-Leads : (read text : List ℕ) (point : Point) (later : Given) → Leads start_point read text point → GivesAt point [] later → IsGiven read (prepend text later)
@@ -28,7 +28,7 @@ given-Leads read text point later led gives = subst (λ bytes. IsGiven bytes (pr
 
 -- the whole lines that were read were answered
 pub Ran-answered : (ro rm rn wo wn : Option (List ℕ)) (point : Point) → Ran ro rm wo wn point → has_newline point.line ≡ false → Keeps rm rn
-    → Taken ro rn (λ read. (whole : List ℕ) × IsWholeLinesOf whole read × ((given : Given) × IsGiven whole given × Appends wo wn given.text × (given.fault ≡ None)))
+    → TakenBytes ro rn (λ read. (whole : List ℕ) × IsWholeLinesOf whole read × ((given : Given) × IsGiven whole given × Appends wo wn given.text × (given.fault ≡ None)))
 Ran-answered ro rm rn wo wn point ran no_end kept =
     let read = ran.0 in
     let text = ran.2.0 in
@@ -46,8 +46,8 @@ Ran-answered ro rm rn wo wn point ran no_end kept =
     )
 
 -- at most n bytes were read, and then a piece
-pub Pieces-more : (ro rm rn : Option (List ℕ)) (piece : List ℕ) (n m : ℕ) → Taken ro rm (λ read. length read ≤ n) → Consumes rm rn piece → n + length piece ≤ m
-    → Taken ro rn (λ read. length read ≤ m)
+pub Pieces-more : (ro rm rn : Option (List ℕ)) (piece : List ℕ) (n m : ℕ) → TakenBytes ro rm (λ read. length read ≤ n) → Consumes rm rn piece → n + length piece ≤ m
+    → TakenBytes ro rn (λ read. length read ≤ m)
 Pieces-more ro rm rn piece n m taken took within = (taken.0 ++ piece, Consumes-trans ro rm rn taken.0 piece taken.1 took, omega (arith, length-append taken.0 piece, taken.2))
 
 -- one more piece
@@ -65,7 +65,7 @@ Ran-more ro rm rn wo wm wn mid new piece ran took then = (
 
 pub Ran-stops : (ro rm rn wo wm wn : Option (List ℕ)) (mid : Point) (piece : List ℕ) (refusal : Refusal) → Ran ro rm wo wm mid → Consumes rm rn piece
     → Written wm wn (λ text. Stops mid piece text refusal)
-    → Taken ro rn (λ read. (given : Given) × IsGiven read given × Appends wo wn given.text × (given.fault ≡ Some refusal) × IfSome rn (λ rest. IsGiven (read ++ rest) given))
+    → TakenBytes ro rn (λ read. (given : Given) × IsGiven read given × Appends wo wn given.text × (given.fault ≡ Some refusal) × IfSome rn (λ rest. IsGiven (read ++ rest) given))
 Ran-stops ro rm rn wo wm wn mid piece refusal ran took then =
     let read = ran.0 ++ piece in
     let text = ran.2.0 ++ then.0 in
@@ -87,11 +87,11 @@ Ran-stops ro rm rn wo wm wn mid piece refusal ran took then =
     at_rest (Some rest) all = all rest
 
 pub Ran-begins : (ro rm rn wo wm wn : Option (List ℕ)) (mid : Point) (piece : List ℕ) → Ran ro rm wo wm mid → Consumes rm rn piece
-    → Written wm wn (λ text. Begins mid piece text) → Taken ro rn (λ read. Written wo wn (λ text. IsGivenFront read text))
+    → Written wm wn (λ text. IsFrontFrom mid piece text) → TakenBytes ro rn (λ read. Written wo wn (λ text. IsGivenFront read text))
 Ran-begins ro rm rn wo wm wn mid piece ran took then =
     let read = ran.0 ++ piece in
     let text = ran.2.0 ++ then.0 in
-    let begin : Begins start_point read text = Begins-after start_point mid ran.0 piece ran.2.0 then.0 ran.2.2 then.2 in (
+    let begin : IsFrontFrom start_point read text = Begins-after start_point mid ran.0 piece ran.2.0 then.0 ran.2.2 then.2 in (
       read,
       Consumes-trans ro rm rn ran.0 piece ran.1 took,
       (
@@ -114,7 +114,7 @@ finished wo wm wn read text mid fault wrote led then = (
 -- the end of the input, and what is given to the last line
 pub Ran-finishes : (ro rm rn wo wm wn : Option (List ℕ)) (mid : Point) (fault : Option Refusal) → Ran ro rm wo wm mid → Consumes rm rn []
     → Written wm wn (λ text. GivesAt mid [] (record { text = text; fault = fault }))
-    → Taken ro rn (λ read. (given : Given) × IsGiven read given × Appends wo wn given.text × (given.fault ≡ fault))
+    → TakenBytes ro rn (λ read. (given : Given) × IsGiven read given × Appends wo wn given.text × (given.fault ≡ fault))
 Ran-finishes ro rm rn wo wm wn mid fault ran took then =
     let P : List ℕ → Type 0 = λ bytes. Consumes ro rn bytes in
     (ran.0, subst P (append-nil ran.0) (Consumes-trans ro rm rn ran.0 [] ran.1 took), finished wo wm wn ran.0 ran.2.0 mid fault ran.2.1 ran.2.2 then)
@@ -141,7 +141,7 @@ at_end read given (Some rest) ended is = subst (λ bytes. IsGiven bytes given) (
 
 -- a front of what is given to the last line, after what was read
 pub Ran-ends : (ro rm rn wo wm wn : Option (List ℕ)) (mid : Point) → Ran ro rm wo wm mid → Consumes rm rn []
-    → Written wm wn (λ text. GivesFront mid.past mid.number mid.line text) → Taken ro rn (λ read. Written wo wn (λ text. IsGivenFront read text))
+    → Written wm wn (λ text. GivesFront mid.past mid.number mid.line text) → TakenBytes ro rn (λ read. Written wo wn (λ text. IsGivenFront read text))
 Ran-ends ro rm rn wo wm wn mid ran took then =
     let read = ran.0 in
     let P : List ℕ → Type 0 = λ bytes. Consumes ro rn bytes in
@@ -163,7 +163,7 @@ Ran-ends ro rm rn wo wm wn mid ran took then =
     }
 
 -- nothing was read or written more
-pub Ran-kept : (ro rm rn wo wn : Option (List ℕ)) (point : Point) → Ran ro rm wo wn point → Keeps rm rn → Taken ro rn (λ read. Written wo wn (λ text. IsGivenFront read text))
+pub Ran-kept : (ro rm rn wo wn : Option (List ℕ)) (point : Point) → Ran ro rm wo wn point → Keeps rm rn → TakenBytes ro rn (λ read. Written wo wn (λ text. IsGivenFront read text))
 Ran-kept ro rm rn wo wn point ran kept =
     Ran-ends ro rm rn wo wn wn point ran (Consumes-kept rm rn kept)
     ([], Appends-nothing wn, record { lines = []; rest = point.line; parts = refl; whole = inl refl; given = nothing_given; gives = refl; front = record { rest = []; joined = refl } })
@@ -205,7 +205,7 @@ input_is_other {T = T} is = let e : 12 ≡ 13 = ap number is in omega (arith, e)
     number (Err refusal) = number_of refusal
 
 -- what an outcome tells of the writer that it leaves
-pub writer_failed : {W T : Type 0} (result : Result T Refusal) (writer : Watched W) → Leaves result writer → has_failed writer ≡ true → IsErrOf result Output
+pub writer_failed : {W T : Type 0} (result : Result T Refusal) (writer : Watched W) → LeavesWriter result writer → has_failed writer ≡ true → IsErrOf result Output
 writer_failed (Ok value) writer left failed = absurd (true≢false (sym failed ∙ left.no_failure))
 writer_failed {T = T} (Err refusal) writer left failed = by (by_output refusal)
   where
@@ -213,7 +213,7 @@ writer_failed {T = T} (Err refusal) writer left failed = by (by_output refusal)
     by (inl is) = ap Err is
     by (inr other) = absurd (true≢false (sym failed ∙ (left.sound other).no_failure))
 
-pub never_gone_on : {W T : Type 0} (result : Result T Refusal) (writer : Watched W) → Leaves result writer → has_gone_on writer ≡ false
+pub never_gone_on : {W T : Type 0} (result : Result T Refusal) (writer : Watched W) → LeavesWriter result writer → has_gone_on writer ≡ false
 never_gone_on (Ok value) writer left = left.not_gone_on
 never_gone_on (Err refusal) writer left = by (by_output refusal)
   where
@@ -221,7 +221,7 @@ never_gone_on (Err refusal) writer left = by (by_output refusal)
     by (inl is) = (left.broken is).not_gone_on
     by (inr other) = (left.sound other).not_gone_on
 
-pub all_flushed : {W T : Type 0} (result : Result T Refusal) (writer : Watched W) → Leaves result writer → has_failed writer ≡ false → is_flushed writer ≡ true
+pub all_flushed : {W T : Type 0} (result : Result T Refusal) (writer : Watched W) → LeavesWriter result writer → has_failed writer ≡ false → is_flushed writer ≡ true
 all_flushed (Ok value) writer left sound = left.flushed
 all_flushed (Err refusal) writer left sound = by (by_output refusal)
   where

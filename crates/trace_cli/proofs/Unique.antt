@@ -1,6 +1,6 @@
 -- A trace is given one text.
 use Rattle.std.proofs.Common.{◌≡◌, ℕ, ◌+◌, List, [], ◌∷◌, sym, ap, subst, ◌∙◌}
-use Rattle.trace_words.specs.Answer.{Answer, Silent, Told, Faulted}
+use Rattle.trace_words.specs.Answer.{LineAnswer, Silent, Told, Faulted}
 use Rattle.trace_world.specs.Line.{Past, start}
 use Rattle.trace_world.proofs.Unique.{answers_one}
 use Rattle.trace_cli.specs.Laws.{TracesAreGivenOne}
@@ -8,7 +8,7 @@ use Rattle.trace_cli.specs.Lines.{lines_of}
 use Rattle.trace_cli.specs.Output.{Given, prepend, Gives, GivesFirst, answer_text}
 
 -- one answer, in front of one that is later given
-first_one : (answer : Answer) (number : ℕ) (Later : Given → Type 0) → ((l l' : Given) → Later l → Later l' → l ≡ l')
+first_one : (answer : LineAnswer) (number : ℕ) (Later : Given → Type 0) → ((l l' : Given) → Later l → Later l' → l ≡ l')
     → (given given' : Given) → GivesFirst answer number Later given → GivesFirst answer number Later given' → given ≡ given'
 first_one Silent number Later one given given' first second = one given given' first second
 first_one (Told text) number Later one given given' (later, is, e) (later', is', e') = e ∙ ap (prepend (answer_text (Told text) number)) (one later later' is is') ∙ sym e'

@@ -5,7 +5,7 @@ use Rattle.std.specs.Prelude.{◌≡◌, ◌⊎◌, ℕ, ◌+◌, true, List, []
 use Rattle.std.specs.Fmt.{decimal}
 use Rattle.dots.specs.Refusal.{word_of}
 use Rattle.dots.specs.declared.refusal.Refusal.{Refusal}
-use Rattle.trace_words.specs.Answer.{Answer, Silent, Told, Faulted}
+use Rattle.trace_words.specs.Answer.{LineAnswer, Silent, Told, Faulted}
 use Rattle.trace_world.specs.Line.{Past, start, Answers}
 use Rattle.watched_io.specs.Streams.{IsFront}
 use Rattle.trace_cli.specs.Lines.{lines_of, ends_line}
@@ -28,13 +28,13 @@ abbrev pub fault_line : ℕ → Refusal → List ℕ
 fault_line number refusal = codes "error line " ++ (decimal number ++ (codes ": " ++ (word_of refusal ++ (10 ∷ []))))
 
 -- the text of an answer to the line of this number
-abbrev pub answer_text : Answer → ℕ → List ℕ
+abbrev pub answer_text : LineAnswer → ℕ → List ℕ
 answer_text Silent number = []
 answer_text (Told text) number = text ++ (10 ∷ [])
 answer_text (Faulted refusal) number = fault_line number refusal
 
 -- an answer to the line of this number, in front of what is given to the lines after it; after a fault, these are given nothing
-abbrev pub GivesFirst : Answer → ℕ → (Given → Type 0) → Given → Type 0
+abbrev pub GivesFirst : LineAnswer → ℕ → (Given → Type 0) → Given → Type 0
 GivesFirst Silent number Later given = Later given
 GivesFirst (Told text) number Later given = (later : Given) × Later later × (given ≡ prepend (answer_text (Told text) number) later)
 GivesFirst (Faulted refusal) number Later given = given ≡ record { text = answer_text (Faulted refusal) number; fault = Some refusal }
@@ -43,7 +43,7 @@ GivesFirst (Faulted refusal) number Later given = given ≡ record { text = answ
 abbrev pub Gives : Past → ℕ → List (List ℕ) → Given → Type 0
 Gives past number [] given = given ≡ nothing_given
 Gives past number (line ∷ lines) given =
-    (answer : Answer) × (next : Past) × Answers past line answer next × GivesFirst answer number (λ later. Gives next (number + 1) lines later) given
+    (answer : LineAnswer) × (next : Past) × Answers past line answer next × GivesFirst answer number (λ later. Gives next (number + 1) lines later) given
 
 -- what is given to a whole trace
 abbrev pub IsGiven : List ℕ → Given → Type 0

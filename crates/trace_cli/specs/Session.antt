@@ -36,7 +36,7 @@ pub record Stops (old : Point) (piece text : List ℕ) (refusal : Refusal) : Typ
   pub stops : (more : List ℕ) → GivesAt old (piece ++ more) (record { text = text; fault = Some refusal })
 
 -- From old, the text is a front of what is given to some whole lines up to the end of the piece.
-pub record Begins (old : Point) (piece text : List ℕ) : Type 0 where
+pub record IsFrontFrom (old : Point) (piece text : List ℕ) : Type 0 where
   pub lines : List ℕ
   pub rest : List ℕ
   pub parts : old.line ++ piece ≡ lines ++ rest

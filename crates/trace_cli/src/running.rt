@@ -3,8 +3,8 @@ ghost use Rattle.std.specs.Io.KnownBytes.{Appends, IsAtEnd};
 ghost use Rattle.trace_cli.specs.Lines.{IsWholeLinesOf};
 ghost use Rattle.trace_words.specs.Fault.{is_fault, ends_run};
 ghost use Rattle.trace_cli.specs.Output.{Given, IsGiven, IsGivenFront};
-ghost use Rattle.watched_io.specs.Streams.{Taken, Written};
-ghost use Rattle.watched_io.specs.Watched.{inner_of, calls_of, has_failed, has_gone_on, is_flushed, IsNew, IsSound};
+ghost use Rattle.watched_io.specs.Streams.{TakenBytes, Written};
+ghost use Rattle.watched_io.specs.Watched.{inner_of, calls_of, has_failed, has_gone_on, is_flushed, IsNew, IsSettled};
 
 use crate::session::Session;
 use dots::Refusal;
@@ -31,21 +31,21 @@ pub fn run<R: Read, W: Write, A: Allocator + Copy>(
     requires writer_is_new { IsNew writer.old }
 
     // The whole input was read, and what it is given was written, and nothing else.
-    ensures ok { OnOk result (Taken (R.remaining (inner_of reader.old)) (R.remaining (inner_of reader.new)) (λ input.
+    ensures ok { OnOk result (TakenBytes (R.remaining (inner_of reader.old)) (R.remaining (inner_of reader.new)) (λ input.
         IsAtEnd (R.remaining (inner_of reader.new)) × ((given : Given) × IsGiven input given ×
         Appends (W.contents (inner_of writer.old)) (W.contents (inner_of writer.new)) given.text × (given.fault ≡ None)))) }
     // What was read is given just this fault, whatever the reader has left.
     ensures fault { IfErr result (λ refusal. is_fault refusal ≡ true →
-        Taken (R.remaining (inner_of reader.old)) (R.remaining (inner_of reader.new)) (λ read.
+        TakenBytes (R.remaining (inner_of reader.old)) (R.remaining (inner_of reader.new)) (λ read.
         (given : Given) × IsGiven read given ×
         Appends (W.contents (inner_of writer.old)) (W.contents (inner_of writer.new)) given.text × (given.fault ≡ Some refusal) ×
         IfSome (R.remaining (inner_of reader.new)) (λ rest. IsGiven (read ++ rest) given))) }
     // Whatever the refusal, a front of what is given to whole lines that were read, or to all of them, was written.
-    ensures front { OnErr result (Taken (R.remaining (inner_of reader.old)) (R.remaining (inner_of reader.new)) (λ read.
+    ensures front { OnErr result (TakenBytes (R.remaining (inner_of reader.old)) (R.remaining (inner_of reader.new)) (λ read.
         Written (W.contents (inner_of writer.old)) (W.contents (inner_of writer.new)) (λ text. IsGivenFront read text))) }
     // Where reading failed, each whole line that was read was answered.
     ensures answered { IsErrOf result Refusal.Input →
-        Taken (R.remaining (inner_of reader.old)) (R.remaining (inner_of reader.new)) (λ read.
+        TakenBytes (R.remaining (inner_of reader.old)) (R.remaining (inner_of reader.new)) (λ read.
         (whole : List ℕ) × IsWholeLinesOf whole read × ((given : Given) × IsGiven whole given ×
         Appends (W.contents (inner_of writer.old)) (W.contents (inner_of writer.new)) given.text × (given.fault ≡ None))) }
 
@@ -59,7 +59,7 @@ pub fn run<R: Read, W: Write, A: Allocator + Copy>(
     // All that was written was flushed.
     ensures flushed { has_failed writer.new ≡ false → is_flushed writer.new ≡ true }
     ensures calls { calls_of reader.new ≤ READ_CALLS }
-    ensures pieces { Taken (R.remaining (inner_of reader.old)) (R.remaining (inner_of reader.new)) (λ read.
+    ensures pieces { TakenBytes (R.remaining (inner_of reader.old)) (R.remaining (inner_of reader.new)) (λ read.
         length read ≤ 4096 * calls_of reader.new) }
 {
     let mut session = Session::new(alloc);
@@ -82,7 +82,7 @@ fn run_all<W: Write, A: Allocator + Copy>(
     input: &[u8],
     writer: &mut Watched<W>,
 ) -> Result<(), Refusal>
-    requires sound { IsSound writer.old }
+    requires sound { IsSettled writer.old }
     ensures ok { OnOk result ((given : Given) × IsGiven input.now given ×
         Appends (W.contents (inner_of writer.old)) (W.contents (inner_of writer.new)) given.text) }
     ensures fault { IfErr result (λ refusal. is_fault refusal ≡ true → (given : Given) × IsGiven input.now given ×

@@ -1,10 +1,8 @@
-ghost use Rattle.std.specs.Prelude.{◌≡◌, ◌≢◌, ◌+◌, ◌<◌, ◌≤◌, ◌^◌, ◌++◌, ◌∷◌, [], length, true, false, Some, None, OnOk, OnErr, IfErr, IfOk, IsErrOf};
-ghost use Rattle.std.specs.Fmt.{decimal};
+ghost use Rattle.std.specs.Prelude.{◌≡◌, ◌≢◌, ◌+◌, ◌<◌, ◌≤◌, ◌^◌, ◌++◌, ◌∷◌, [], length, true, false, Some, None, OnOk, OnErr, IfErr};
 ghost use Rattle.trace_cli.specs.Lines.{has_newline};
 ghost use Rattle.trace_words.specs.Fault.{is_fault, ends_run};
 ghost use Rattle.trace_cli.specs.Output.{GivesFront};
 ghost use Rattle.watched_io.specs.Streams.{Written};
-ghost use Rattle.std.specs.Io.KnownBytes.{Appends};
 
 use crate::writing::write_reply;
 use dots::Refusal;
@@ -23,9 +21,9 @@ pub(crate) struct Session<A: Allocator + Copy = Global> {
 }
 
 impl<A: Allocator + Copy> Session<A> {
-    ghost use Rattle.trace_cli.specs.Session.{point_of, start_point, GivesAt, Leads, Stops, Begins};
-    ghost use Rattle.watched_io.specs.Watched.{inner_of, IsSound};
-    ghost use Rattle.trace_cli.specs.Ends.{Leaves};
+    ghost use Rattle.trace_cli.specs.Session.{point_of, start_point, GivesAt, Leads, Stops, IsFrontFrom};
+    ghost use Rattle.watched_io.specs.Watched.{inner_of, IsSettled};
+    ghost use Rattle.trace_cli.specs.Ends.{LeavesWriter};
 
     /// The start of a trace.
     pub fn new(alloc: A) -> Session<A>
@@ -41,7 +39,7 @@ impl<A: Allocator + Copy> Session<A> {
 
     /// Carries out the line that was read, and writes its answer.
     fn end_line<W: Write>(&mut self, writer: &mut Watched<W>) -> Result<(), Refusal>
-        requires sound { IsSound writer.old }
+        requires sound { IsSettled writer.old }
         requires room { self.old.number + 1 < 2 ^ 64 }
         requires one_line { has_newline self.old.line.items ≡ false }
         ensures ok { OnOk result (Written (W.contents (inner_of writer.old)) (W.contents (inner_of writer.new)) (λ text.
@@ -52,10 +50,10 @@ impl<A: Allocator + Copy> Session<A> {
             Written (W.contents (inner_of writer.old)) (W.contents (inner_of writer.new)) (λ text.
             Stops (point_of self.old) (10 ∷ []) text refusal)) }
         ensures front { OnErr result (Written (W.contents (inner_of writer.old)) (W.contents (inner_of writer.new)) (λ text.
-            Begins (point_of self.old) (10 ∷ []) text)) }
+            IsFrontFrom (point_of self.old) (10 ∷ []) text)) }
         ensures refusal { IfErr result (λ refusal. ends_run refusal ≡ true) }
         ensures input { IfErr result (λ refusal. refusal ≢ Refusal.Input) }
-        ensures writer { Leaves result writer.new }
+        ensures writer { LeavesWriter result writer.new }
     {
         let reply = self.machine.carry_out(self.line.as_slice())?;
         write_reply(self.alloc, writer, self.number, reply)?;
@@ -66,7 +64,7 @@ impl<A: Allocator + Copy> Session<A> {
 
     /// Takes the next byte of the trace.
     fn take<W: Write>(&mut self, writer: &mut Watched<W>, byte: u8) -> Result<(), Refusal>
-        requires sound { IsSound writer.old }
+        requires sound { IsSettled writer.old }
         requires room { self.old.number + 1 < 2 ^ 64 }
         requires one_line { has_newline self.old.line.items ≡ false }
         ensures ok { OnOk result (Written (W.contents (inner_of writer.old)) (W.contents (inner_of writer.new)) (λ text.
@@ -77,10 +75,10 @@ impl<A: Allocator + Copy> Session<A> {
             Written (W.contents (inner_of writer.old)) (W.contents (inner_of writer.new)) (λ text.
             Stops (point_of self.old) (byte ∷ []) text refusal)) }
         ensures front { OnErr result (Written (W.contents (inner_of writer.old)) (W.contents (inner_of writer.new)) (λ text.
-            Begins (point_of self.old) (byte ∷ []) text)) }
+            IsFrontFrom (point_of self.old) (byte ∷ []) text)) }
         ensures refusal { IfErr result (λ refusal. ends_run refusal ≡ true) }
         ensures input { IfErr result (λ refusal. refusal ≢ Refusal.Input) }
-        ensures writer { Leaves result writer.new }
+        ensures writer { LeavesWriter result writer.new }
     {
         if byte == b'\n' {
             return self.end_line(writer);
@@ -91,7 +89,7 @@ impl<A: Allocator + Copy> Session<A> {
 
     /// Takes the next piece of the trace, of any length.
     pub fn feed<W: Write>(&mut self, writer: &mut Watched<W>, piece: &[u8]) -> Result<(), Refusal>
-        requires sound { IsSound writer.old }
+        requires sound { IsSettled writer.old }
         requires room { self.old.number + length piece.now < 2 ^ 64 }
         requires one_line { has_newline self.old.line.items ≡ false }
         ensures ok { OnOk result (Written (W.contents (inner_of writer.old)) (W.contents (inner_of writer.new)) (λ text.
@@ -102,10 +100,10 @@ impl<A: Allocator + Copy> Session<A> {
             Written (W.contents (inner_of writer.old)) (W.contents (inner_of writer.new)) (λ text.
             Stops (point_of self.old) piece.now text refusal)) }
         ensures front { OnErr result (Written (W.contents (inner_of writer.old)) (W.contents (inner_of writer.new)) (λ text.
-            Begins (point_of self.old) piece.now text)) }
+            IsFrontFrom (point_of self.old) piece.now text)) }
         ensures refusal { IfErr result (λ refusal. ends_run refusal ≡ true) }
         ensures input { IfErr result (λ refusal. refusal ≢ Refusal.Input) }
-        ensures writer { Leaves result writer.new }
+        ensures writer { LeavesWriter result writer.new }
     {
         for byte in piece {
             self.take(writer, *byte)?;
@@ -115,7 +113,7 @@ impl<A: Allocator + Copy> Session<A> {
 
     /// Ends the trace: a last line without its end is carried out where it has a byte.
     pub fn finish<W: Write>(&mut self, writer: &mut Watched<W>) -> Result<(), Refusal>
-        requires sound { IsSound writer.old }
+        requires sound { IsSettled writer.old }
         requires room { self.old.number + 1 < 2 ^ 64 }
         requires one_line { has_newline self.old.line.items ≡ false }
         ensures ok { OnOk result (Written (W.contents (inner_of writer.old)) (W.contents (inner_of writer.new)) (λ text.
@@ -127,7 +125,7 @@ impl<A: Allocator + Copy> Session<A> {
             GivesFront self.old.machine self.old.number self.old.line.items text)) }
         ensures refusal { IfErr result (λ refusal. ends_run refusal ≡ true) }
         ensures input { IfErr result (λ refusal. refusal ≢ Refusal.Input) }
-        ensures writer { Leaves result writer.new }
+        ensures writer { LeavesWriter result writer.new }
     {
         if self.line.is_empty() {
             return Ok(());

@@ -1,12 +1,12 @@
-ghost use Rattle.std.specs.Prelude.{◌≡◌, ◌≢◌, ◌+◌, ◌<◌, ◌≤◌, ◌++◌, ◌∷◌, [], length, true, OnOk, OnErr, IfErr, IsErrOf, IfOk, IsOkUnless, string_bytes, ◌⊎◌};
+ghost use Rattle.std.specs.Prelude.{◌≡◌, ◌≢◌, ◌+◌, ◌<◌, ◌≤◌, ◌++◌, ◌∷◌, [], true, OnOk, OnErr, IfErr, IfOk, IsOkUnless, string_bytes, ◌⊎◌};
 ghost use Rattle.std.specs.Io.KnownBytes.{Appends};
 ghost use Rattle.trace_words.specs.Answer.{Faulted};
 ghost use Rattle.trace_words.specs.Fault.{is_fault, ends_run};
 ghost use Rattle.trace_cli.specs.Output.{fault_line, answer_text};
-ghost use Rattle.trace_words.specs.Reply.{answer_of, TellsFaults, GoesOn};
+ghost use Rattle.trace_words.specs.Reply.{answer_of, TellsFaults, TraceGoesOn};
 ghost use Rattle.watched_io.specs.Streams.{Written, IsFront};
-ghost use Rattle.watched_io.specs.Watched.{inner_of, IsSound};
-ghost use Rattle.trace_cli.specs.Ends.{Leaves};
+ghost use Rattle.watched_io.specs.Watched.{inner_of, IsSettled};
+ghost use Rattle.trace_cli.specs.Ends.{LeavesWriter};
 
 use dots::Refusal;
 use std::alloc::Allocator;
@@ -19,12 +19,12 @@ fn write_line<W: Write, A: Allocator + Copy>(
     writer: &mut Watched<W>,
     mut text: Vec<u8, A>,
 ) -> Result<(), Refusal>
-    requires sound { IsSound writer.old }
+    requires sound { IsSettled writer.old }
     ensures ok { OnOk result (Appends (W.contents (inner_of writer.old)) (W.contents (inner_of writer.new)) (text.items ++ 10 ∷ [])) }
     ensures front { OnErr result (Written (W.contents (inner_of writer.old)) (W.contents (inner_of writer.new)) (λ part.
         IsFront part (text.items ++ 10 ∷ []))) }
     ensures refusal { IfErr result (λ refusal. (refusal ≡ Refusal.Output) ⊎ (refusal ≡ Refusal.OutOfMemory)) }
-    ensures writer { Leaves result writer.new }
+    ensures writer { LeavesWriter result writer.new }
 {
     text.push(b'\n')?;
     write_out(writer, text.as_slice())
@@ -52,12 +52,12 @@ fn write_fault<W: Write, A: Allocator + Copy>(
     number: u64,
     refusal: Refusal,
 ) -> Result<(), Refusal>
-    requires sound { IsSound writer.old }
+    requires sound { IsSettled writer.old }
     ensures ok { OnOk result (Appends (W.contents (inner_of writer.old)) (W.contents (inner_of writer.new)) (fault_line number refusal)) }
     ensures front { OnErr result (Written (W.contents (inner_of writer.old)) (W.contents (inner_of writer.new)) (λ part.
         IsFront part (fault_line number refusal))) }
     ensures refusal { IfErr result (λ refusal. (refusal ≡ Refusal.Output) ⊎ (refusal ≡ Refusal.OutOfMemory)) }
-    ensures writer { Leaves result writer.new }
+    ensures writer { LeavesWriter result writer.new }
 {
     let text = fault_text(alloc, number, refusal)?;
     write_out(writer, text.as_bytes())
@@ -72,17 +72,17 @@ pub(crate) fn write_reply<W: Write, A: Allocator + Copy>(
     reply: Reply<A>,
 ) -> Result<(), Refusal>
     requires tells { TellsFaults reply }
-    requires sound { IsSound writer.old }
+    requires sound { IsSettled writer.old }
     ensures ok { OnOk result (Appends (W.contents (inner_of writer.old)) (W.contents (inner_of writer.new))
         (answer_text (answer_of reply) number)) }
-    ensures goes_on { OnOk result (GoesOn (answer_of reply)) }
+    ensures goes_on { OnOk result (TraceGoesOn (answer_of reply)) }
     ensures fault { IfErr result (λ refusal. is_fault refusal ≡ true → (answer_of reply ≡ Faulted refusal) ×
         Appends (W.contents (inner_of writer.old)) (W.contents (inner_of writer.new)) (answer_text (answer_of reply) number)) }
     ensures front { OnErr result (Written (W.contents (inner_of writer.old)) (W.contents (inner_of writer.new)) (λ part.
         IsFront part (answer_text (answer_of reply) number))) }
     ensures refusal { IfErr result (λ refusal. ends_run refusal ≡ true) }
     ensures input { IfErr result (λ refusal. refusal ≢ Refusal.Input) }
-    ensures writer { Leaves result writer.new }
+    ensures writer { LeavesWriter result writer.new }
 {
     match reply {
         Reply::Silent => Ok(()),

@@ -8,7 +8,7 @@ use Rattle.std.specs.List.{list_all}
 use Rattle.std.specs.Result.{result_ok, OkIff}
 use Rattle.std.specs.Str.{IsUtf8, IsAscii}
 use Rattle.std.specs.Str.Parse.{ParsesUnsigned}
-use Rattle.trace_words.specs.Word.{is_numeral, value_after, number_of}
+use Rattle.trace_words.specs.Word.{is_numeral, value_after, numeral_value}
 
 -- the test of a list of digits, as std's lemmas on numerals want it
 digits_test : IsDigitsTest (λ ds. list_all is_ascii_digit ds ≡ true)
@@ -61,7 +61,7 @@ fits (Ok x) v n h = let small : v < 2 ^ 64 = h.0.1 in let same : x ≡ v = h.1 i
 fits (Err e) v n h = let large : (v < 2 ^ 64) → ⊥ = λ small. h (n, small) in grind (arith, nat_tests)
 
 -- what `parse` gives for a numeral
-pub number_of-parse : {E : Type 0} (word text : List ℕ) (r : Result ℕ E) (o : Option ℕ) → is_numeral word ≡ true → text ≡ word → ParsesUnsigned 64 10 text r → o ≡ result_ok r → o ≡ number_of word
+pub number_of-parse : {E : Type 0} (word text : List ℕ) (r : Result ℕ E) (o : Option ℕ) → is_numeral word ≡ true → text ≡ word → ParsesUnsigned 64 10 text r → o ≡ result_ok r → o ≡ numeral_value word
 number_of-parse word text r o h same p is =
     let parsed = rw same at p in
     is ∙ rw h (fits r (value_after 0 word) (numeral_nonempty word h) (parse_digits own 64 word r parsed (numeral_digits word h)))
@@ -90,7 +90,7 @@ if_some true v n h = (refl, cc)
 if_some false v n h = absurd cc
 
 -- a number is from 1 on
-pub number_of-positive : (word : List ℕ) (n : ℕ) → Some n ≡ number_of word → n ≢ 0
+pub number_of-positive : (word : List ℕ) (n : ℕ) → Some n ≡ numeral_value word → n ≢ 0
 number_of-positive word n is zero_is =
     let parts = if_some (is_numeral word && nat_lt (value_after 0 word) (2 ^ 64)) (value_after 0 word) n is in
     let one = numeral_positive word (and_left (is_numeral word) (nat_lt (value_after 0 word) (2 ^ 64)) parts.0) in

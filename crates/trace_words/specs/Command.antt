@@ -1,7 +1,7 @@
 -- The commands of the trace language. Of this project.
 use Rattle.std.specs.Prelude.{ℕ, cond, List, [], ◌∷◌, Option, Some, None, codes}
 use Rattle.std.specs.Str.{bytes_eq}
-use Rattle.trace_words.specs.Word.{words_of, number_of, text_of}
+use Rattle.trace_words.specs.Word.{words_of, numeral_value, text_of}
 
 -- what a contract sees of a command: names and numbers of messages are numbers, keys, fields and values are bytes. A command
 -- that names no field is one at the empty field, but a remove, which is of the key with all its fields
@@ -53,39 +53,39 @@ with_three_texts command number first second third = None
 -- the commands by how many words follow the first
 abbrev pub one_word_command : List ℕ → List ℕ → Option CommandValue
 one_word_command verb first =
-    cond (bytes_eq verb (codes "node")) (with_number Node (number_of first))
-    (cond (bytes_eq verb (codes "flush")) (with_number Flush (number_of first))
-    (cond (bytes_eq verb (codes "clear")) (with_number Clear (number_of first))
-    (cond (bytes_eq verb (codes "show")) (with_number Show (number_of first))
-    (cond (bytes_eq verb (codes "size")) (with_number Size (number_of first))
-    (cond (bytes_eq verb (codes "context")) (with_number Context (number_of first))
-    (cond (bytes_eq verb (codes "pin")) (with_number Pin (number_of first))
-    (cond (bytes_eq verb (codes "digest")) (with_number Digest (number_of first)) None)))))))
+    cond (bytes_eq verb (codes "node")) (with_number Node (numeral_value first))
+    (cond (bytes_eq verb (codes "flush")) (with_number Flush (numeral_value first))
+    (cond (bytes_eq verb (codes "clear")) (with_number Clear (numeral_value first))
+    (cond (bytes_eq verb (codes "show")) (with_number Show (numeral_value first))
+    (cond (bytes_eq verb (codes "size")) (with_number Size (numeral_value first))
+    (cond (bytes_eq verb (codes "context")) (with_number Context (numeral_value first))
+    (cond (bytes_eq verb (codes "pin")) (with_number Pin (numeral_value first))
+    (cond (bytes_eq verb (codes "digest")) (with_number Digest (numeral_value first)) None)))))))
 
 abbrev pub session_command : List ℕ → List ℕ → List ℕ → Option CommandValue
 session_command verb first second =
-    cond (bytes_eq verb (codes "sync")) (with_numbers Sync (number_of first) (number_of second))
-    (cond (bytes_eq verb (codes "retry")) (with_numbers Retry (number_of first) (number_of second))
-    (cond (bytes_eq verb (codes "abandon")) (with_numbers Abandon (number_of first) (number_of second)) None))
+    cond (bytes_eq verb (codes "sync")) (with_numbers Sync (numeral_value first) (numeral_value second))
+    (cond (bytes_eq verb (codes "retry")) (with_numbers Retry (numeral_value first) (numeral_value second))
+    (cond (bytes_eq verb (codes "abandon")) (with_numbers Abandon (numeral_value first) (numeral_value second)) None))
 
 abbrev pub two_word_command : List ℕ → List ℕ → List ℕ → Option CommandValue
 two_word_command verb first second =
-    cond (bytes_eq verb (codes "get")) (with_text (λ name key. Get name key []) (number_of first) (text_of second))
-    (cond (bytes_eq verb (codes "remove")) (with_text Remove (number_of first) (text_of second))
-    (cond (bytes_eq verb (codes "deliver")) (with_numbers Deliver (number_of first) (number_of second))
-    (cond (bytes_eq verb (codes "look")) (with_text Look (number_of first) (text_of second))
-    (cond (bytes_eq verb (codes "fields")) (with_text Fields (number_of first) (text_of second))
+    cond (bytes_eq verb (codes "get")) (with_text (λ name key. Get name key []) (numeral_value first) (text_of second))
+    (cond (bytes_eq verb (codes "remove")) (with_text Remove (numeral_value first) (text_of second))
+    (cond (bytes_eq verb (codes "deliver")) (with_numbers Deliver (numeral_value first) (numeral_value second))
+    (cond (bytes_eq verb (codes "look")) (with_text Look (numeral_value first) (text_of second))
+    (cond (bytes_eq verb (codes "fields")) (with_text Fields (numeral_value first) (text_of second))
     (session_command verb first second)))))
 
 abbrev pub three_word_command : List ℕ → List ℕ → List ℕ → List ℕ → Option CommandValue
 three_word_command verb first second third =
-    cond (bytes_eq verb (codes "put")) (with_texts (λ name key value. Put name key [] value) (number_of first) (text_of second) (text_of third))
-    (cond (bytes_eq verb (codes "getf")) (with_texts Get (number_of first) (text_of second) (text_of third))
-    (cond (bytes_eq verb (codes "removef")) (with_texts RemoveField (number_of first) (text_of second) (text_of third)) None))
+    cond (bytes_eq verb (codes "put")) (with_texts (λ name key value. Put name key [] value) (numeral_value first) (text_of second) (text_of third))
+    (cond (bytes_eq verb (codes "getf")) (with_texts Get (numeral_value first) (text_of second) (text_of third))
+    (cond (bytes_eq verb (codes "removef")) (with_texts RemoveField (numeral_value first) (text_of second) (text_of third)) None))
 
 abbrev pub four_word_command : List ℕ → List ℕ → List ℕ → List ℕ → List ℕ → Option CommandValue
 four_word_command verb first second third fourth =
-    cond (bytes_eq verb (codes "putf")) (with_three_texts Put (number_of first) (text_of second) (text_of third) (text_of fourth)) None
+    cond (bytes_eq verb (codes "putf")) (with_three_texts Put (numeral_value first) (text_of second) (text_of third) (text_of fourth)) None
 
 -- the command that these words are, if they are one
 abbrev pub command_of_words : List (List ℕ) → Option CommandValue

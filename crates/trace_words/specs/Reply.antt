@@ -3,10 +3,10 @@ use Rattle.std.specs.Prelude.{◌≡◌, true}
 use Rattle.trace_words.specs.declared.reply.Reply.{Reply}
 use Rattle.trace_words.specs.declared.reply.Reply.TheVariants as reply
 use Rattle.trace_words.specs.Fault.{is_fault}
-use Rattle.trace_words.specs.Answer.{Answer, Silent, Told, Faulted}
+use Rattle.trace_words.specs.Answer.{LineAnswer, Silent, Told, Faulted}
 
 -- the answer that a reply holds
-abbrev pub answer_of : {A : Type 0} → Reply A → Answer
+abbrev pub answer_of : {A : Type 0} → Reply A → LineAnswer
 answer_of reply.Silent = Silent
 answer_of (reply.Told text) = Told text.items
 answer_of (reply.Faulted refusal) = Faulted refusal
@@ -17,6 +17,6 @@ TellsFaults (reply.Faulted refusal) = is_fault refusal ≡ true
 TellsFaults other = Unit {0}
 
 -- an answer after which the trace goes on
-abbrev pub GoesOn : Answer → Type 0
-GoesOn (Faulted refusal) = ⊥
-GoesOn other = Unit {0}
+abbrev pub TraceGoesOn : LineAnswer → Type 0
+TraceGoesOn (Faulted refusal) = ⊥
+TraceGoesOn other = Unit {0}

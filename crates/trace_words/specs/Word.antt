@@ -1,8 +1,9 @@
 -- The words of a trace's lines: numbers and texts. Of this project; hexadecimal digits are those of RFC 4648.
-use Rattle.std.specs.Prelude.{ℕ, ◌+◌, ◌-◌, ◌*◌, ◌^◌, ◌==◌, ◌&&◌, nat_lt, nat_le, not, Bool, false, cond, List, [], ◌∷◌, Option, Some, None}
+use Rattle.std.specs.Prelude.{ℕ, ◌+◌, ◌-◌, ◌*◌, ◌^◌, ◌==◌, ◌&&◌, nat_lt, not, Bool, false, cond, List, [], ◌∷◌, Option, Some, None}
 use Rattle.std.specs.Char.{is_ascii_digit}
 use Rattle.std.specs.List.{slice_split, list_all}
 use Rattle.std.specs.Result.{result_ok}
+use Rattle.dots.specs.Printed.{is_plain, is_visible}
 use Rattle.hex.specs.Hex.{decode_of, encode_lower}
 
 -- The words of a line, which stand between its spaces. Two spaces together have an empty word between them, which
@@ -21,17 +22,8 @@ is_numeral [] = false
 is_numeral (digit ∷ digits) = not (digit == 48) && list_all is_ascii_digit (digit ∷ digits)
 
 -- the number that a word is: a numeral below 2^64, and so from 1 on
-abbrev pub number_of : List ℕ → Option ℕ
-number_of word = cond (is_numeral word && nat_lt (value_after 0 word) (2 ^ 64)) (Some (value_after 0 word)) None
-
--- whether a byte is shown as itself in a text
-abbrev pub is_visible : ℕ → Bool
-is_visible byte = nat_le 33 byte && nat_le byte 126
-
--- whether a text is shown as itself: it has a byte, each is shown as itself, and the first is not `#`
-abbrev pub is_plain : List ℕ → Bool
-is_plain [] = false
-is_plain (byte ∷ bytes) = not (byte == 35) && list_all is_visible (byte ∷ bytes)
+abbrev pub numeral_value : List ℕ → Option ℕ
+numeral_value word = cond (is_numeral word && nat_lt (value_after 0 word) (2 ^ 64)) (Some (value_after 0 word)) None
 
 -- the bytes that a text word stands for: itself, or after `#` the bytes of an even number of hexadecimal digits
 abbrev pub text_of : List ℕ → Option (List ℕ)

@@ -1,8 +1,6 @@
 ghost use Rattle.std.specs.Prelude.{◌≡◌, ◌≢◌, Err, ◌++◌, ◌∷◌, IfOk, OnOk, IsOkUnless, string_bytes, codes};
 ghost use Rattle.std.specs.List.{flat_map};
 ghost use Rattle.std.specs.Fmt.{decimal};
-ghost use Rattle.dots.specs.Refusal.{word_of};
-ghost use Rattle.trace_words.specs.Word.{shown_as};
 ghost use Rattle.trace_words.specs.Fault.{is_fault};
 ghost use Rattle.trace_words.specs.Answer.{refused_as, answered_as};
 ghost use Rattle.trace_words.specs.Text.{put_text, values_text, listed_text, erased_text, size_text, pin_text, digest_text, entry_text, dot_text, context_text, session_text};

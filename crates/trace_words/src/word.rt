@@ -1,8 +1,9 @@
-ghost use Rattle.std.specs.Prelude.{◌≡◌, true, ◌≤◌, ◌<◌, ◌++◌, map, IfOk, OnOk, OnErr, IsOkUnless, IfSome, ◌==◌};
+ghost use Rattle.std.specs.Prelude.{◌≡◌, true, ◌≤◌, ◌<◌, ◌++◌, map, IfOk, OnOk, IsOkUnless, ◌==◌};
 ghost use Rattle.std.specs.Option.{option_map};
 ghost use Rattle.std.specs.List.{list_all};
 ghost use Rattle.std.specs.Char.{is_ascii_digit};
-ghost use Rattle.trace_words.specs.Word.{words_of, number_of, text_of, shown_as, is_visible, is_plain, is_numeral};
+ghost use Rattle.dots.specs.Printed.{is_visible, is_plain};
+ghost use Rattle.trace_words.specs.Word.{words_of, numeral_value, text_of, shown_as, is_numeral};
 
 use dots::{Name, Refusal};
 use hex::FromHexError;
@@ -37,21 +38,21 @@ fn is_numeral(word: &[u8]) -> bool
 /// What a numeral stands for, where that is below 2^64.
 fn value(word: &[u8]) -> Option<u64>
     requires { is_numeral word.now ≡ true }
-    ensures { result ≡ number_of word.now }
+    ensures { result ≡ numeral_value word.now }
 {
     str::from_utf8(word).ok()?.parse().ok()
 }
 
 /// The number that a word is, from 1 to 2^64 - 1 in decimal digits without a leading zero.
 pub(crate) fn number(word: &[u8]) -> Option<u64>
-    ensures { result ≡ number_of word.now }
+    ensures { result ≡ numeral_value word.now }
 {
     if is_numeral(word) { value(word) } else { None }
 }
 
 /// The name that a word is.
 pub(crate) fn name(word: &[u8]) -> Option<Name>
-    ensures { result ≡ number_of word.now }
+    ensures { result ≡ numeral_value word.now }
 {
     Name::new(number(word)?)
 }

@@ -1,5 +1,5 @@
 -- What commands come to at a replica, with keys, fields and values: over plain variables.
-use Rattle.std.proofs.Common.{◌≡◌, ◌⊎◌, inl, inr, ℕ, Bool, true, false, List, [], length, refl, sym, ap, ◌∙◌, subst, append-nil, Result, Ok, Err, IfOk, Option}
+use Rattle.std.proofs.Common.{◌≡◌, ◌⊎◌, inl, inr, ℕ, true, false, List, [], length, refl, sym, ap, ◌∙◌, subst, append-nil, Result, Ok, Err, IfOk, Option}
 use Rattle.std.specs.Prelude.{nat_le}
 use Rattle.std.specs.declared.vec.Vec.{Vec}
 use Rattle.dots.specs.Bytes.{MAX_LENGTH}
@@ -11,24 +11,24 @@ use Rattle.op_model.specs.Place.{Place}
 use Rattle.dots.specs.Dot.{DotValue}
 use Rattle.replica_model.specs.Replica.{Replica}
 use Rattle.replica_model.specs.World.{World, Event, is_node, nothing, Runs}
-use Rattle.trace_world.specs.Does.{Does, In, Tells, IsThere, IsAbsent}
-use Rattle.trace_world.specs.Outcome.{Outcome, Refused, Done, at_replica, with_bytes}
+use Rattle.trace_world.specs.Does.{Does, In, TellsText, IsThere, IsAbsent}
+use Rattle.trace_world.specs.Outcome.{CommandOutcome, Refused, Done, at_replica, with_bytes}
 
 -- a command at a replica that is not there
-pub does_absent : (P : World → Outcome → Type 0) (name : ℕ) (old : List Event) → IsAbsent old name
+pub does_absent : (P : World → CommandOutcome → Type 0) (name : ℕ) (old : List Event) → IsAbsent old name
     → Does {A = ℕ} (In old (λ w. at_replica w name (P w))) old old (Err UnknownReplica)
 does_absent P name old absent = inr ((λ w runs. inl (absent w runs, refl)), refl)
 
 -- with bytes that are too long
-pub does_long : (P : World → Outcome → Type 0) (bytes : List ℕ) (old : List Event) (refusal : Refusal)
+pub does_long : (P : World → CommandOutcome → Type 0) (bytes : List ℕ) (old : List Event) (refusal : Refusal)
     → (refusal ≡ OutOfMemory) ⊎ ((refusal ≡ TooLong) × (nat_le (length bytes) MAX_LENGTH ≡ false))
     → Does {A = ℕ} (In old (λ w. with_bytes bytes (P w))) old old (Err refusal)
 does_long P bytes old refusal (inl memory) = inl memory
 does_long P bytes old refusal (inr (is, long)) = inr ((λ w runs. inl (long, ap Refused is)), refl)
 
 -- and a read with such
-pub tells_long : (P : Outcome → Type 0) (bytes : List ℕ) (refusal : Refusal)
-    → (refusal ≡ OutOfMemory) ⊎ ((refusal ≡ TooLong) × (nat_le (length bytes) MAX_LENGTH ≡ false)) → Tells {A = ℕ} (with_bytes bytes P) (Err refusal)
+pub tells_long : (P : CommandOutcome → Type 0) (bytes : List ℕ) (refusal : Refusal)
+    → (refusal ≡ OutOfMemory) ⊎ ((refusal ≡ TooLong) × (nat_le (length bytes) MAX_LENGTH ≡ false)) → TellsText {A = ℕ} (with_bytes bytes P) (Err refusal)
 tells_long P bytes refusal (inl memory) = inl memory
 tells_long P bytes refusal (inr (is, long)) = inr (inl (long, ap Refused is))
 
@@ -45,27 +45,27 @@ store_holds at name events meant (Err refusal) is holds = tt
 
 module _ {A : Type 0} where
   -- what follows from each way in which a command can come out
-  does_weaker : (P Q : Outcome → Type 0) (old new : List Event) (r : Result (Vec ℕ A) Refusal) → ((o : Outcome) → P o → Q o) → Does P old new r → Does Q old new r
+  does_weaker : (P Q : CommandOutcome → Type 0) (old new : List Event) (r : Result (Vec ℕ A) Refusal) → ((o : CommandOutcome) → P o → Q o) → Does P old new r → Does Q old new r
   does_weaker P Q old new (Ok text) more (events, comes, is) = (events, more (Done text.items events) comes, is)
   does_weaker P Q old new (Err refusal) more (inl memory) = inl memory
   does_weaker P Q old new (Err refusal) more (inr (comes, same)) = inr (more (Refused refusal) comes, same)
 
   -- a command at a replica that is there
-  pub does_at : (P : World → Outcome → Type 0) (name : ℕ) (old new : List Event) (r : Result (Vec ℕ A) Refusal) → IsThere old name
+  pub does_at : (P : World → CommandOutcome → Type 0) (name : ℕ) (old new : List Event) (r : Result (Vec ℕ A) Refusal) → IsThere old name
       → Does (In old P) old new r → Does (In old (λ w. at_replica w name (P w))) old new r
   does_at P name old new r there =
       does_weaker (In old P) (In old (λ w. at_replica w name (P w))) old new r (λ o comes w runs. inr (there w runs, comes w runs))
 
   -- with bytes that are not too long
-  pub does_with : (P : World → Outcome → Type 0) (bytes : List ℕ) (old new : List Event) (r : Result (Vec ℕ A) Refusal) → nat_le (length bytes) MAX_LENGTH ≡ true
+  pub does_with : (P : World → CommandOutcome → Type 0) (bytes : List ℕ) (old new : List Event) (r : Result (Vec ℕ A) Refusal) → nat_le (length bytes) MAX_LENGTH ≡ true
       → Does (In old P) old new r → Does (In old (λ w. with_bytes bytes (P w))) old new r
   does_with P bytes old new r short =
       does_weaker (In old P) (In old (λ w. with_bytes bytes (P w))) old new r (λ o comes w runs. inr (short, comes w runs))
 
   -- a read of a replica, as a command
-  pub does_read : (P : MapState → Outcome → Type 0) (name : ℕ) (events : List Event) (meant : Replica) (r : Result (Vec ℕ A) Refusal)
+  pub does_read : (P : MapState → CommandOutcome → Type 0) (name : ℕ) (events : List Event) (meant : Replica) (r : Result (Vec ℕ A) Refusal)
       → ((w : World) → Runs fnv1a nothing events w → (is_node w name ≡ true) × (meant ≡ w.replica name))
-      → Tells (P meant.live) r → Does (In events (λ w. at_replica w name (P (w.replica name).live))) events events r
+      → TellsText (P meant.live) r → Does (In events (λ w. at_replica w name (P (w.replica name).live))) events events r
   does_read P name events meant (Ok text) is tells =
       ([], (λ w runs. inr ((is w runs).0, subst (λ (s : Replica). P s.live (Done text.items [])) (is w runs).1 tells)), sym (append-nil events))
   does_read P name events meant (Err refusal) is (inl memory) = inl memory
@@ -73,7 +73,7 @@ module _ {A : Type 0} where
       inr ((λ w runs. inr ((is w runs).0, subst (λ (s : Replica). P s.live (Refused refusal)) (is w runs).1 tells)), refl)
 
   -- reads with bytes
-  pub tells_with : (P : Outcome → Type 0) (bytes : List ℕ) (r : Result (Vec ℕ A) Refusal) → nat_le (length bytes) MAX_LENGTH ≡ true → Tells P r → Tells (with_bytes bytes P) r
+  pub tells_with : (P : CommandOutcome → Type 0) (bytes : List ℕ) (r : Result (Vec ℕ A) Refusal) → nat_le (length bytes) MAX_LENGTH ≡ true → TellsText P r → TellsText (with_bytes bytes P) r
   tells_with P bytes (Ok text) short tells = inr (short, tells)
   tells_with P bytes (Err refusal) short (inl memory) = inl memory
   tells_with P bytes (Err refusal) short (inr tells) = inr (inr (short, tells))

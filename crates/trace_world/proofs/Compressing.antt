@@ -26,7 +26,7 @@ use Rattle.op_model.specs.Made.{greatest_number}
 use Rattle.op_model.specs.Operation.{has}
 use Rattle.op_model.proofs.Dots.{same_dot-true, same_dot-symm, from_has}
 use Rattle.op_model.proofs.Fresh.{greatest_number-above}
-use Rattle.trace_world.specs.Compressed.{has_up_to, run_within, run_of, names_of, with_entry, entries_of, vector_of, in_order, cloud_of}
+use Rattle.trace_world.specs.Compressed.{has_up_to, run_within, run_of, names_of, with_entry, run_entries, vector_of, in_order, cloud_of}
 
 -- the number up to which all dots of a name pass the test
 record IsTop (test : DotValue → Bool) (name n : ℕ) : Type 0 where
@@ -162,22 +162,22 @@ dots_sorted [] = sorted_none dot_cmp
 dots_sorted (dot ∷ dots) = sorted_insert dot_cmp dot_cmp_total dot (in_order dots) (dots_sorted dots)
 
 -- the entries stand in the order of their names
-keys_above : (dots : List DotValue) (n k run : ℕ) (names : List ℕ) → nat_cmp n k ≡ Less → AllByRecursion (λ y. nat_cmp n y ≡ Less) (keys_of (entries_of dots names))
-    → AllByRecursion (λ y. nat_cmp n y ≡ Less) (keys_of (with_entry k run (entries_of dots names)))
+keys_above : (dots : List DotValue) (n k run : ℕ) (names : List ℕ) → nat_cmp n k ≡ Less → AllByRecursion (λ y. nat_cmp n y ≡ Less) (keys_of (run_entries dots names))
+    → AllByRecursion (λ y. nat_cmp n y ≡ Less) (keys_of (with_entry k run (run_entries dots names)))
 keys_above dots n k zero names below all = all
 keys_above dots n k (suc run) names below all = (below, all)
 
-entries_above : (dots : List DotValue) (n : ℕ) (names : List ℕ) → AllByRecursion (λ y. nat_cmp n y ≡ Less) names → AllByRecursion (λ y. nat_cmp n y ≡ Less) (keys_of (entries_of dots names))
+entries_above : (dots : List DotValue) (n : ℕ) (names : List ℕ) → AllByRecursion (λ y. nat_cmp n y ≡ Less) names → AllByRecursion (λ y. nat_cmp n y ≡ Less) (keys_of (run_entries dots names))
 entries_above dots n [] all = tt
 entries_above dots n (k ∷ names) all = keys_above dots n k (run_of dots k) names all.0 (entries_above dots n names all.1)
 
-entry_sorted : (dots : List DotValue) (k run : ℕ) (names : List ℕ) → IsStrictlySortedBy nat_cmp (k ∷ names) → IsStrictlySortedBy nat_cmp (keys_of (entries_of dots names))
-    → IsStrictlySortedBy nat_cmp (keys_of (with_entry k run (entries_of dots names)))
+entry_sorted : (dots : List DotValue) (k run : ℕ) (names : List ℕ) → IsStrictlySortedBy nat_cmp (k ∷ names) → IsStrictlySortedBy nat_cmp (keys_of (run_entries dots names))
+    → IsStrictlySortedBy nat_cmp (keys_of (with_entry k run (run_entries dots names)))
 unfolding IsStrictlySortedBy
 entry_sorted dots k zero names sorted rest = rest
 entry_sorted dots k (suc run) names sorted rest = (entries_above dots k names sorted.0, rest)
 
-entries_sorted : (dots : List DotValue) (names : List ℕ) → IsStrictlySortedBy nat_cmp names → IsStrictlySortedBy nat_cmp (keys_of (entries_of dots names))
+entries_sorted : (dots : List DotValue) (names : List ℕ) → IsStrictlySortedBy nat_cmp names → IsStrictlySortedBy nat_cmp (keys_of (run_entries dots names))
 entries_sorted dots [] sorted = sorted_none nat_cmp
 entries_sorted dots (k ∷ names) sorted = entry_sorted dots k (run_of dots k) names sorted (entries_sorted dots names (sorted_tail nat_cmp nat_cmp_total k names sorted))
 
@@ -186,10 +186,10 @@ at_itself : (m n : ℕ) → is_at (nat_cmp m) n ≡ true → m ≡ n
 at_itself m n is = grind (arith, nat_tests)
 
 found_entry : (dots : List DotValue) (name k : ℕ) (names : List ℕ) (b : Bool) (run : ℕ) → is_at (nat_cmp name) k ≡ b → run_of dots k ≡ run
-    → lookup (is_at (nat_cmp name)) (entries_of dots names) ≢ Some 0
-    → known_up_to (entries_of dots names) name ≡ cond (list_any (is_at (nat_cmp name)) names) (run_of dots name) 0
-    → (lookup (is_at (nat_cmp name)) (with_entry k run (entries_of dots names)) ≢ Some 0)
-    × (known_up_to (with_entry k run (entries_of dots names)) name ≡ cond (b || list_any (is_at (nat_cmp name)) names) (run_of dots name) 0)
+    → lookup (is_at (nat_cmp name)) (run_entries dots names) ≢ Some 0
+    → known_up_to (run_entries dots names) name ≡ cond (list_any (is_at (nat_cmp name)) names) (run_of dots name) 0
+    → (lookup (is_at (nat_cmp name)) (with_entry k run (run_entries dots names)) ≢ Some 0)
+    × (known_up_to (with_entry k run (run_entries dots names)) name ≡ cond (b || list_any (is_at (nat_cmp name)) names) (run_of dots name) 0)
 found_entry dots name k names true zero at is not_zero before =
     (not_zero, before ∙ either (list_any (is_at (nat_cmp name)) names) (run_of dots name) (ap (run_of dots) (at_itself name k at) ∙ is))
   where
@@ -205,8 +205,8 @@ found_entry dots name k names true (suc run) at is not_zero before =
 found_entry dots name k names false (suc run) at is not_zero before = rw at (not_zero, before)
 
 found_entries : (dots : List DotValue) (name : ℕ) (names : List ℕ)
-    → (lookup (is_at (nat_cmp name)) (entries_of dots names) ≢ Some 0)
-    × (known_up_to (entries_of dots names) name ≡ cond (list_any (is_at (nat_cmp name)) names) (run_of dots name) 0)
+    → (lookup (is_at (nat_cmp name)) (run_entries dots names) ≢ Some 0)
+    × (known_up_to (run_entries dots names) name ≡ cond (list_any (is_at (nat_cmp name)) names) (run_of dots name) 0)
 found_entries dots name [] = ((λ none. absurd cc), refl)
 found_entries dots name (k ∷ names) =
     let before = found_entries dots name names in

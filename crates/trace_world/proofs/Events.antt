@@ -6,11 +6,11 @@ use Rattle.dots.specs.declared.refusal.Refusal.TheVariants.{OutOfMemory, TooLong
 use Rattle.dots.specs.Refusal.{number_of}
 use Rattle.hash_path.specs.Fnv1a.{fnv1a}
 use Rattle.replica_model.specs.Step.{Answer}
-use Rattle.replica_model.specs.World.{World, Event, nothing, Happens, RefusesEvent, Runs}
+use Rattle.replica_model.specs.World.{World, Event, nothing, RefusesEvent, Runs}
 use Rattle.replica_model.proofs.Deciding.{goes_on}
 use Rattle.replica_world.specs.Accepting.{IsTold}
 use Rattle.trace_world.specs.Does.{Does, In}
-use Rattle.trace_world.specs.Outcome.{Outcome, Refused, Done, IsEvent}
+use Rattle.trace_world.specs.Outcome.{Done, IsEvent}
 use Rattle.trace_world.specs.Pins.{Grows}
 use Rattle.trace_world.specs.Told.{event_text, happened_text}
 

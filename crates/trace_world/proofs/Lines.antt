@@ -1,16 +1,16 @@
 -- What a line is answered, by what its command came to: over plain variables.
-use Rattle.std.proofs.Common.{◌≡◌, ◌≢◌, ◌⊎◌, inl, inr, ℕ, suc, Bool, true, false, ◌==◌, List, [], ◌∷◌, length, refl, sym, ap, subst, ◌∙◌, arith, Option, Some, None, Result, Ok, Err}
+use Rattle.std.proofs.Common.{◌≡◌, ◌≢◌, ◌⊎◌, inl, inr, ℕ, suc, true, false, ◌==◌, List, [], ◌∷◌, length, refl, ap, subst, ◌∙◌, arith, Option, Some, Result, Ok, Err}
 use Rattle.std.proofs.lemmas.Bool.Decides.{nat_tests}
 use Rattle.std.specs.declared.vec.Vec.{Vec}
 use Rattle.dots.specs.declared.refusal.Refusal.{Refusal}
 use Rattle.dots.specs.declared.refusal.Refusal.TheVariants.{OutOfMemory}
 use Rattle.hash_path.specs.Fnv1a.{fnv1a}
 use Rattle.replica_model.specs.World.{World, nothing, Runs}
-use Rattle.trace_words.specs.Answer.{Answer, Silent, answered_as}
+use Rattle.trace_words.specs.Answer.{LineAnswer, Silent, answered_as}
 use Rattle.trace_words.specs.Command.{CommandValue, command_of}
 use Rattle.trace_world.specs.Does.{Brings, In}
 use Rattle.trace_world.specs.Line.{Past, Answers, LineComes}
-use Rattle.trace_world.specs.Outcome.{Outcome, Refused, Comes}
+use Rattle.trace_world.specs.Outcome.{Refused, Comes}
 
 zero_length : (n : ℕ) → true ≡ (suc n == 0) → ⊥
 zero_length n h = grind (arith, nat_tests)
@@ -19,7 +19,7 @@ pub answers_nothing : (past : Past) (line : List ℕ) → true ≡ (length line 
 answers_nothing past [] h = (refl, refl)
 answers_nothing past (byte ∷ line) h = absurd (zero_length (length line) h)
 
-pub answers_command : {A : Type 0} (past next : Past) (line : List ℕ) (done : Result (Vec ℕ A) Refusal) (answer : Answer) → false ≡ (length line == 0)
+pub answers_command : {A : Type 0} (past next : Past) (line : List ℕ) (done : Result (Vec ℕ A) Refusal) (answer : LineAnswer) → false ≡ (length line == 0)
     → Brings (LineComes past (command_of line)) past next done → answer ≡ answered_as done → done ≢ Err OutOfMemory → Answers past line answer next
 answers_command past next [] done answer h brings is other = absurd cc
 answers_command past next (byte ∷ line) (Ok text) answer h (outcome, comes, told, after) is other = (outcome, comes, is ∙ told, after)

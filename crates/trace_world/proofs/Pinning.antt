@@ -12,21 +12,20 @@ use Rattle.std.specs.declared.vec.Vec.{Vec}
 use Rattle.delta_ops.specs.LiveMap.{store_state}
 use Rattle.dots.specs.Dot.{DotValue}
 use Rattle.dots.specs.declared.refusal.Refusal.{Refusal}
-use Rattle.dots.specs.declared.refusal.Refusal.TheVariants.{OutOfMemory, UnknownReplica, BadLine}
+use Rattle.dots.specs.declared.refusal.Refusal.TheVariants.{OutOfMemory, BadLine}
 use Rattle.hash_path.specs.Fnv1a.{fnv1a}
 use Rattle.op_model.specs.Meaning.{MapState}
 use Rattle.op_model.specs.Place.{Place, plain}
-use Rattle.replica_model.specs.Step.{Answer}
-use Rattle.replica_model.specs.World.{World, Event, is_node, nothing, Happens, Runs}
+use Rattle.replica_model.specs.World.{World, Event, is_node, nothing, Runs}
 use Rattle.trace_words.specs.Command.{CommandValue, Node, Put, Get, Flush, Deliver, Sync, Retry, Abandon, Remove, RemoveField, Clear, Fields, Show, Size, Context, Digest, Look}
 use Rattle.trace_words.specs.Command as command
 use Rattle.trace_words.specs.Parsed.{command_value}
 use Rattle.trace_words.specs.Text.{pin_text}
 use Rattle.trace_words.specs.declared.command.Command as parsed
 use Rattle.trace_words.specs.declared.command.Command.TheVariants as parsed_command
-use Rattle.trace_world.specs.Does.{Does, Brings, In, Tells}
-use Rattle.trace_world.specs.Line.{Past, past_by}
-use Rattle.trace_world.specs.Outcome.{Outcome, Refused, Done, Pinned, PinValue, Comes, LooksAt, ReadsValues, at_replica, with_bytes, is_at_world, pin_at}
+use Rattle.trace_world.specs.Does.{Does, Brings, In, TellsText}
+use Rattle.trace_world.specs.Line.{Past}
+use Rattle.trace_world.specs.Outcome.{CommandOutcome, Refused, Done, Pinned, PinValue, Comes, LooksAt, ReadsValues, at_replica, with_bytes, is_at_world, pin_at}
 use Rattle.trace_world.specs.Pins.{Grows, pinned, pins_of, IsPinned, AllPinned}
 use Rattle.trace_world.specs.declared.pin.Pin.{Pin}
 use Rattle.trace_world.proofs.Events.{is_memory}
@@ -37,7 +36,7 @@ take_front (suc n) [] ys h = absurd (omega (arith, h))
 take_front (suc n) (x ∷ xs) ys h = ap (λ zs. x ∷ zs) (take_front n xs ys (omega (arith, h)))
 
 -- a command that speaks of no pin comes to the same after any
-world_only : (w : World) (pins : List PinValue) (c : CommandValue) (o : Outcome) → is_at_world c ≡ true → Comes fnv1a w [] c o → Comes fnv1a w pins c o
+world_only : (w : World) (pins : List PinValue) (c : CommandValue) (o : CommandOutcome) → is_at_world c ≡ true → Comes fnv1a w [] c o → Comes fnv1a w pins c o
 world_only w pins (Node name) o h comes = comes
 world_only w pins (Put name key field value) o h comes = comes
 world_only w pins (Get name key field) o h comes = comes
@@ -191,7 +190,7 @@ module _ {A : Type 0} where
 
   module _ (events : List Event) (pin : Pin A) (pinned_is : IsPinned events pin) (key : List ℕ) where
     -- what a store tells is what the pin's replica told then
-    looked : (w : World) → Runs fnv1a nothing events w → (o : Outcome)
+    looked : (w : World) → Runs fnv1a nothing events w → (o : CommandOutcome)
         → ((live : MapState) → ((place : Place) (dot : DotValue) → (store_state pin.store).at place dot ≡ live.at place dot) → with_bytes key (ReadsValues (plain key) live) o)
         → LooksAt fnv1a (Some (pinned events pin)) key o
     looked w runs o tells =
@@ -203,13 +202,13 @@ module _ {A : Type 0} where
         by u runs (inr (short, reads)) = inr (short, (u, runs, reads))
 
     look_brings : (past : Past) (r : Result (Vec ℕ A) Refusal)
-        → ((live : MapState) → ((place : Place) (dot : DotValue) → (store_state pin.store).at place dot ≡ live.at place dot) → Tells (with_bytes key (ReadsValues (plain key) live)) r)
+        → ((live : MapState) → ((place : Place) (dot : DotValue) → (store_state pin.store).at place dot ≡ live.at place dot) → TellsText (with_bytes key (ReadsValues (plain key) live)) r)
         → Brings (In events (λ w. LooksAt fnv1a (Some (pinned events pin)) key)) past past r
     look_brings past (Ok text) tells = (Done text.items [], (λ w runs. looked w runs (Done text.items []) tells), refl, ap (λ es. record past { events = es }) (sym (append-nil past.events)))
     look_brings past (Err refusal) tells = by (is_memory refusal)
       where
         read : refusal ≢ OutOfMemory → (live : MapState) → ((place : Place) (dot : DotValue) → (store_state pin.store).at place dot ≡ live.at place dot)
-            → Tells {A = A} (with_bytes key (ReadsValues (plain key) live)) (Err refusal) → with_bytes key (ReadsValues (plain key) live) (Refused refusal)
+            → TellsText {A = A} (with_bytes key (ReadsValues (plain key) live)) (Err refusal) → with_bytes key (ReadsValues (plain key) live) (Refused refusal)
         read other live same (inl memory) = absurd (other memory)
         read other live same (inr told) = told
 
@@ -219,7 +218,7 @@ module _ {A : Type 0} where
 
   -- a look at a pin that is there
   pub look_done : (events : List Event) (pins : List (Pin A)) (n : ℕ) (pin : Pin A) (key : List ℕ) (r : Result (Vec ℕ A) Refusal) → AllPinned events pins → Some pin ≡ cond (nat_lt 0 n) (slice_get pins (n - 1)) None
-      → ((live : MapState) → ((place : Place) (dot : DotValue) → (store_state pin.store).at place dot ≡ live.at place dot) → Tells (with_bytes key (ReadsValues (plain key) live)) r)
+      → ((live : MapState) → ((place : Place) (dot : DotValue) → (store_state pin.store).at place dot ≡ live.at place dot) → TellsText (with_bytes key (ReadsValues (plain key) live)) r)
       → Brings (In events (λ w. LooksAt fnv1a (pin_at (pins_of events pins) n) key)) (past events pins) (past events pins) r
   look_done events pins n pin key r all found tells =
       subst (λ p. Brings (In events (λ w. LooksAt fnv1a p key)) (past events pins) (past events pins) r) (sym (found_pin events pins n pin found))

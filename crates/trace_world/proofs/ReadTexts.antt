@@ -1,8 +1,8 @@
 -- What is read of a replica, and how it is told: over plain variables.
 use Rattle.std.proofs.Common.{◌≡◌, ℕ, zero, suc, ◌+◌, ◌<◌, List, [], ◌∷◌, ◌++◌, length, map, refl, arith, sym, ap, subst, ◌∙◌, append_assoc, append-nil, codes}
-use Rattle.std.specs.Prelude.{◌↔◌, Contains}
+use Rattle.std.specs.Prelude.{◌↔◌}
 use Rattle.std.specs.Fmt.{decimal}
-use Rattle.std.specs.List.{All, flat_map}
+use Rattle.std.specs.List.{All}
 use Rattle.std.specs.Map.{keys_of}
 use Rattle.std.proofs.lemmas.List.{map-append}
 use Rattle.std.proofs.lemmas.List.Elements.{All-append}
@@ -10,9 +10,9 @@ use Rattle.dots.specs.Dot.{DotValue}
 use Rattle.op_model.specs.Meaning.{MapState, Stands, StandsWithin, HoldsField, HoldsKey}
 use Rattle.op_model.specs.Place.{Place, place_of}
 use Rattle.replica_core.specs.Reading.{Lists}
-use Rattle.trace_words.specs.Text.{entry_text, entries_text, fields_text, map_text, values_text}
-use Rattle.trace_world.specs.Does.{Adds}
-use Rattle.trace_world.specs.Outcome.{Outcome, Done, ReadsValues, ReadsFields, ReadsKeys}
+use Rattle.trace_words.specs.Text.{entry_text, entries_text, values_text}
+use Rattle.trace_world.specs.Does.{AddsEntries}
+use Rattle.trace_world.specs.Outcome.{Done, ReadsValues, ReadsFields, ReadsKeys}
 
 -- the values at a place
 pub values_told : (live : MapState) (place there : Place) (found told : List (List ℕ)) (text : List ℕ) → there ≡ place → Lists (Stands live there) found → told ≡ found → text ≡ values_text told
@@ -39,14 +39,14 @@ length_keys [] = refl
 length_keys (e ∷ es) = ap suc (length_keys es)
 
 module _ (P : List ℕ → List (List ℕ) → Type 0) where
-  pub adds_none : (old : List ℕ) → Adds P [] old old
+  pub adds_none : (old : List ℕ) → AddsEntries P [] old old
   adds_none old = ([], refl, none, sym (append-nil old))
     where
       none : All {X = List ℕ × List (List ℕ)} (λ e. P e.0 e.1) []
       none k d l = absurd (omega (arith, l))
 
   pub adds_more : (labels : List (List ℕ)) (found told : List (List ℕ)) (label old mid new : List ℕ)
-      → Adds P labels old mid → P label found → told ≡ found → new ≡ mid ++ entry_text label told → Adds P (labels ++ label ∷ []) old new
+      → AddsEntries P labels old mid → P label found → told ≡ found → new ≡ mid ++ entry_text label told → AddsEntries P (labels ++ label ∷ []) old new
   adds_more labels found told label old mid new (entries, labelled, all, text) has same adds = (
     entries ++ (label, found) ∷ [],
     map-append (λ e. e.0) entries ((label, found) ∷ []) ∙ ap (λ ls. ls ++ label ∷ []) labelled,
@@ -61,7 +61,7 @@ module _ (P : List ℕ → List (List ℕ) → Type 0) where
 
 -- the fields of a key with their values
 pub fields_told : (live : MapState) (key key' : List ℕ) (fields : List (List ℕ)) (front text : List ℕ) → key' ≡ key → Lists (HoldsField live key') fields → front ≡ codes "fields " ++ decimal (length fields)
-    → Adds (λ field. Lists (Stands live (place_of key' field))) fields front text → ReadsFields key live (Done text [])
+    → AddsEntries (λ field. Lists (Stands live (place_of key' field))) fields front text → ReadsFields key live (Done text [])
 fields_told live key key' fields front text same lists begins (entries, labelled, all, is) =
     subst (λ k. ReadsFields k live (Done text [])) same (
       entries,
@@ -72,7 +72,7 @@ fields_told live key key' fields front text same lists begins (entries, labelled
 
 -- all keys with their values
 pub keys_told : (live : MapState) (keys : List (List ℕ)) (front text : List ℕ) → Lists (HoldsKey live) keys → front ≡ codes "map " ++ decimal (length keys)
-    → Adds (λ key. Lists (StandsWithin live key)) keys front text → ReadsKeys live (Done text [])
+    → AddsEntries (λ key. Lists (StandsWithin live key)) keys front text → ReadsKeys live (Done text [])
 keys_told live keys front text lists begins (entries, labelled, all, is) = (
   entries,
   subst (Lists (HoldsKey live)) (sym labelled) lists,

@@ -1,41 +1,39 @@
 -- A read is told by what its replica has seen.
-use Rattle.std.proofs.Common.{◌≡◌, ◌⊎◌, inl, inr, ℕ, Bool, true, false, List, [], ◌∷◌, length, map, refl, sym, ap, subst, ◌∙◌, arith, Option, Some, None, cond}
+use Rattle.std.proofs.Common.{◌≡◌, ◌⊎◌, inl, inr, ℕ, Bool, List, [], ◌∷◌, length, map, refl, sym, ap, ◌∙◌, arith, Option, Some, None}
 use Rattle.std.specs.Prelude.{nat_le}
 use Rattle.std.specs.List.{All}
 use Rattle.std.specs.Map.{keys_of}
 use Rattle.std.proofs.lemmas.Bool.{cond-true, cond-false}
 use Rattle.std.proofs.lemmas.List.Elements.{All-tail}
-use Rattle.causal_context.specs.Context.{ContextValue}
 use Rattle.dots.specs.Dot.{DotValue}
 use Rattle.dots.specs.Bytes.{MAX_LENGTH}
 use Rattle.dots.specs.declared.refusal.Refusal.TheVariants.{TooLong, UnknownReplica}
 use Rattle.hash_path.specs.Fnv1a.{fnv1a}
 use Rattle.op_model.specs.Meaning.{MapState, Stands, StandsWithin}
-use Rattle.op_model.specs.Operation.{Operation, has, known}
+use Rattle.op_model.specs.Operation.{Operation, known}
 use Rattle.op_model.specs.Place.{place_of}
 use Rattle.op_model.specs.Shown.{values, values_of_key, fields, keys, size}
 use Rattle.prefix_digest.specs.MapOf.{root_digest}
 use Rattle.replica_core.specs.Reading.{Lists}
-use Rattle.replica_world.specs.Showing.{Shows}
+use Rattle.replica_world.specs.Showing.{ShowsOperations}
 use Rattle.replica_world.proofs.Shown.{worlds_show}
-use Rattle.replica_model.specs.World.{World, Event, is_node}
+use Rattle.replica_model.specs.World.{World, is_node}
 use Rattle.trace_words.specs.Command.{CommandValue, Node, Put, Get, Flush, Deliver, Sync, Retry, Abandon, Remove, RemoveField, Clear, Fields, Show, Size, Context, Pin, Digest, Look}
 use Rattle.trace_words.specs.Text.{values_text, fields_text, map_text, size_text, context_text, digest_text}
-use Rattle.trace_world.specs.Compressed.{vector_of, cloud_of}
 use Rattle.trace_world.specs.Laws.{ReadsAreSeen}
-use Rattle.trace_world.specs.Outcome.{Outcome, Refused, Done, PinValue, ReadsValues, ReadsFields, ReadsKeys, ReadsSize, ReadsContext, ReadsDigest, at_replica, with_bytes, Comes}
+use Rattle.trace_world.specs.Outcome.{CommandOutcome, Refused, Done, ReadsValues, ReadsFields, ReadsKeys, ReadsSize, ReadsContext, ReadsDigest, at_replica, with_bytes, Comes}
 use Rattle.trace_world.specs.Seen.{if_there, if_short, entries_by, fields_seen, keys_seen, context_seen, read_of}
 use Rattle.trace_world.proofs.Compressing.{compressed_vector, compressed_cloud}
 
 -- all that comes is this
-abbrev IsJust : (Outcome → Type 0) → Outcome → Type 0
-IsJust P told = (o : Outcome) → P o → o ≡ told
+abbrev IsJust : (CommandOutcome → Type 0) → CommandOutcome → Type 0
+IsJust P told = (o : CommandOutcome) → P o → o ≡ told
 
-there_just : (w : World) (name : ℕ) (P : Outcome → Type 0) (told : Outcome) → IsJust P told → IsJust (at_replica w name P) (if_there w name told)
+there_just : (w : World) (name : ℕ) (P : CommandOutcome → Type 0) (told : CommandOutcome) → IsJust P told → IsJust (at_replica w name P) (if_there w name told)
 there_just w name P told just o (inl (none, is)) = is ∙ sym (cond-false (is_node w name) told (Refused UnknownReplica) none)
 there_just w name P told just o (inr (there, comes)) = just o comes ∙ sym (cond-true (is_node w name) told (Refused UnknownReplica) there)
 
-short_just : (bytes : List ℕ) (P : Outcome → Type 0) (told : Outcome) → IsJust P told → IsJust (with_bytes bytes P) (if_short bytes told)
+short_just : (bytes : List ℕ) (P : CommandOutcome → Type 0) (told : CommandOutcome) → IsJust P told → IsJust (with_bytes bytes P) (if_short bytes told)
 short_just bytes P told just o (inl (long, is)) = is ∙ sym (cond-false (nat_le (length bytes) MAX_LENGTH) told (Refused TooLong) long)
 short_just bytes P told just o (inr (short, comes)) = just o comes ∙ sym (cond-true (nat_le (length bytes) MAX_LENGTH) told (Refused TooLong) short)
 
@@ -55,7 +53,7 @@ all_are P at is (e ∷ es) all k d l = all_map_here (all k d l)
     all_map_here : {x : List ℕ × List (List ℕ)} → Lists (P x.0) x.1 → x.1 ≡ at x.0
     all_map_here {x} lists = is x.0 x.1 lists
 
-module _ (live : MapState) (S : List Operation) (shows : Shows fnv1a live S) where
+module _ (live : MapState) (S : List Operation) (shows : ShowsOperations fnv1a live S) where
   values_just : (key field : List ℕ) → IsJust (ReadsValues (place_of key field) live) (Done (values_text (values S (place_of key field))) [])
   values_just key field o (found, lists, is) = is ∙ ap (λ f. Done (values_text f) []) (shows.values (place_of key field) found lists)
 
@@ -90,13 +88,13 @@ some_is {X} {x} {y} is = ap the is
     the None = x
     the (Some z) = z
 
-told_none : (o told : Outcome) → None ≡ Some told → o ≡ told
+told_none : (o told : CommandOutcome) → None ≡ Some told → o ≡ told
 told_none o told is = absurd cc
 
 pub reads_seen : ReadsAreSeen
 reads_seen events w runs clean pins c outcome told = by c
   where
-    shown : (name : ℕ) → Shows fnv1a (w.replica name).live (w.seen name)
+    shown : (name : ℕ) → ShowsOperations fnv1a (w.replica name).live (w.seen name)
     shown name = worlds_show fnv1a events w runs clean name
 
     by : (c : CommandValue) → read_of w c ≡ Some told → Comes fnv1a w pins c outcome → outcome ≡ told

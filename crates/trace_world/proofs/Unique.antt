@@ -1,16 +1,14 @@
 -- A command comes to one outcome, and a line has one answer.
 use Rattle.std.proofs.Common.{◌≡◌, ◌⊎◌, inl, inr, ℕ, ◌+◌, ◌^◌, ◌<◌, ◌≤◌, Bool, true, false, List, [], ◌∷◌, length, map, refl, sym, ap, subst, ◌∙◌, arith, Option, Some, None}
-use Rattle.std.specs.Prelude.{Contains, nat_le, ◌↔◌}
+use Rattle.std.specs.Prelude.{◌↔◌}
 use Rattle.std.specs.List.{All}
 use Rattle.std.specs.Map.{keys_of}
 use Rattle.std.proofs.lemmas.Bool.{false≢true}
 use Rattle.std.proofs.lemmas.List.Elements.{All-tail}
-use Rattle.causal_context.specs.Context.{ContextValue, has}
+use Rattle.causal_context.specs.Context.{ContextValue}
 use Rattle.causal_context.proofs.Forms.{one_form}
 use Rattle.dots.specs.Dot.{DotValue}
-use Rattle.dots.specs.Bytes.{MAX_LENGTH}
 use Rattle.dots.specs.declared.refusal.Refusal.{Refusal}
-use Rattle.dots.specs.declared.refusal.Refusal.TheVariants.{SessionsFull, NumbersSpent}
 use Rattle.hash_path.specs.Fnv1a.{fnv1a}
 use Rattle.op_model.specs.Meaning.{MapState, Stands, StandsWithin, HoldsField, HoldsKey}
 use Rattle.op_model.specs.Place.{Place, place_of, plain}
@@ -20,20 +18,20 @@ use Rattle.prefix_digest.proofs.MapsOf.{maps_one}
 use Rattle.replica_core.specs.Reading.{Lists}
 use Rattle.replica_model.specs.Replica.{Replica}
 use Rattle.replica_model.specs.Step as step
-use Rattle.replica_model.specs.Step.{Answer, Refuses}
+use Rattle.replica_model.specs.Step.{Refuses}
 use Rattle.replica_model.specs.World as world
-use Rattle.replica_model.specs.World.{World, Event, is_node, has_peer, nothing, Happens, RefusesEvent, Runs}
+use Rattle.replica_model.specs.World.{World, Event, nothing, RefusesEvent, Runs}
 use Rattle.replica_model.proofs.Deciding.{events_one, worlds_one, refused_not}
 use Rattle.trace_words.specs.Command.{CommandValue, Node, Put, Get, Flush, Deliver, Sync, Retry, Abandon, Remove, RemoveField, Clear, Fields, Show, Size, Context, Pin, Digest, Look, command_of}
 use Rattle.trace_words.specs.Text.{values_text, fields_text, map_text, size_text, context_text, digest_text, pin_text}
 use Rattle.trace_world.specs.Laws.{AnswersAreOne}
-use Rattle.trace_world.specs.Line.{Past, Answers, LineComes, answer_by, past_by}
-use Rattle.trace_world.specs.Outcome.{Outcome, Refused, Done, Pinned, PinValue, ReadsValues, ReadsFields, ReadsKeys, ReadsSize, ReadsContext, ReadsDigest, at_replica, with_bytes, pin_at, IsEvent, LooksAt, Comes}
+use Rattle.trace_world.specs.Line.{Past, LineComes, answer_by, past_by}
+use Rattle.trace_world.specs.Outcome.{CommandOutcome, Refused, Done, Pinned, PinValue, ReadsValues, ReadsFields, ReadsKeys, ReadsSize, ReadsContext, ReadsDigest, at_replica, with_bytes, pin_at, IsEvent, LooksAt, Comes}
 use Rattle.trace_world.specs.Told.{happened_text}
 
 -- one outcome at most is as P says
-abbrev IsOne : (Outcome → Type 0) → Type 0
-IsOne P = (o o' : Outcome) → P o → P o' → o ≡ o'
+abbrev IsOne : (CommandOutcome → Type 0) → Type 0
+IsOne P = (o o' : CommandOutcome) → P o → P o' → o ≡ o'
 
 pub lists_one : (P : List ℕ → Type 0) (xs ys : List (List ℕ)) → Lists P xs → Lists P ys → xs ≡ ys
 lists_one P xs ys first second = one_ascending xs ys first.ascending second.ascending (λ z there. (second.just z).1 ((first.just z).0 there)) (λ z there. (first.just z).1 ((second.just z).0 there))
@@ -82,13 +80,13 @@ digest_one : (live : MapState) → IsOne (ReadsDigest fnv1a live)
 digest_one live o o' (map, is_map, is) (map', is_map', is') = is ∙ ap (λ m. Done (digest_text (digest_at fnv1a m [])) []) (maps_one map map' live is_map is_map') ∙ sym is'
 
 -- at a replica, and with bytes
-at_one : (w : World) (name : ℕ) (P : Outcome → Type 0) → IsOne P → IsOne (at_replica w name P)
+at_one : (w : World) (name : ℕ) (P : CommandOutcome → Type 0) → IsOne P → IsOne (at_replica w name P)
 at_one w name P one o o' (inl (none, is)) (inl (none', is')) = is ∙ sym is'
 at_one w name P one o o' (inl (none, is)) (inr (there, comes)) = absurd (false≢true (sym none ∙ there))
 at_one w name P one o o' (inr (there, comes)) (inl (none, is)) = absurd (false≢true (sym none ∙ there))
 at_one w name P one o o' (inr (there, comes)) (inr (there', comes')) = one o o' comes comes'
 
-with_one : (bytes : List ℕ) (P : Outcome → Type 0) → IsOne P → IsOne (with_bytes bytes P)
+with_one : (bytes : List ℕ) (P : CommandOutcome → Type 0) → IsOne P → IsOne (with_bytes bytes P)
 with_one bytes P one o o' (inl (long, is)) (inl (long', is')) = is ∙ sym is'
 with_one bytes P one o o' (inl (long, is)) (inr (short, comes)) = absurd (false≢true (sym long ∙ short))
 with_one bytes P one o o' (inr (short, comes)) (inl (long, is)) = absurd (false≢true (sym long ∙ short))

@@ -35,13 +35,13 @@ abbrev pub with_entry : ℕ → ℕ → List (ℕ × ℕ) → List (ℕ × ℕ)
 with_entry name zero entries = entries
 with_entry name (suc n) entries = (name, suc n) ∷ entries
 
-abbrev pub entries_of : List DotValue → List ℕ → List (ℕ × ℕ)
-entries_of dots [] = []
-entries_of dots (name ∷ names) = with_entry name (run_of dots name) (entries_of dots names)
+abbrev pub run_entries : List DotValue → List ℕ → List (ℕ × ℕ)
+run_entries dots [] = []
+run_entries dots (name ∷ names) = with_entry name (run_of dots name) (run_entries dots names)
 
 -- the version vector of these dots
 abbrev pub vector_of : List DotValue → List (ℕ × ℕ)
-vector_of dots = entries_of dots (names_of dots)
+vector_of dots = run_entries dots (names_of dots)
 
 -- these dots in their order, each once
 abbrev pub in_order : List DotValue → List DotValue

@@ -2,18 +2,18 @@
 use Rattle.std.specs.Prelude.{◌≡◌, ℕ, List, Some}
 use Rattle.hash_path.specs.Fnv1a.{fnv1a}
 use Rattle.replica_model.specs.World.{World, Event, nothing, Runs, Unclashed}
-use Rattle.trace_words.specs.Answer.{Answer}
+use Rattle.trace_words.specs.Answer.{LineAnswer}
 use Rattle.trace_words.specs.Command.{CommandValue}
 use Rattle.trace_world.specs.Line.{Past, Answers}
-use Rattle.trace_world.specs.Outcome.{Outcome, PinValue, Comes}
+use Rattle.trace_world.specs.Outcome.{CommandOutcome, PinValue, Comes}
 use Rattle.trace_world.specs.Seen.{read_of}
 
 -- a line has one answer, and one past after it
 abbrev pub AnswersAreOne : Type 0
-AnswersAreOne = (past : Past) (line : List ℕ) (answer answer' : Answer) (next next' : Past)
+AnswersAreOne = (past : Past) (line : List ℕ) (answer answer' : LineAnswer) (next next' : Past)
     → Answers past line answer next → Answers past line answer' next' → (answer ≡ answer') × (next ≡ next')
 
 -- a read is told by what its replica has seen, unless pages or values that one session met clash
 abbrev pub ReadsAreSeen : Type 0
 ReadsAreSeen = (events : List Event) (w : World) → Runs fnv1a nothing events w → Unclashed fnv1a w
-    → (pins : List PinValue) (c : CommandValue) (outcome told : Outcome) → read_of w c ≡ Some told → Comes fnv1a w pins c outcome → outcome ≡ told
+    → (pins : List PinValue) (c : CommandValue) (outcome told : CommandOutcome) → read_of w c ≡ Some told → Comes fnv1a w pins c outcome → outcome ≡ told

@@ -23,10 +23,10 @@ use Rattle.trace_world.specs.Told.{happened_text}
 
 -- a command is refused and changes nothing; or is done: its text, and the event that it was, if it was one; or pins what a replica holds:
 -- its text, and whose it is
-pub data Outcome : Type 0 where
-  Refused : Refusal → Outcome
-  Done : List ℕ → List Event → Outcome
-  Pinned : List ℕ → ℕ → Outcome
+pub data CommandOutcome : Type 0 where
+  Refused : Refusal → CommandOutcome
+  Done : List ℕ → List Event → CommandOutcome
+  Pinned : List ℕ → ℕ → CommandOutcome
 
 -- a pin: whose it is, and the events before it
 pub record PinValue : Type 0 where
@@ -36,41 +36,41 @@ pub record PinValue : Type 0 where
 -- ---- what is read of a replica that holds this
 
 -- the values at a place
-abbrev pub ReadsValues : Place → MapState → Outcome → Type 0
+abbrev pub ReadsValues : Place → MapState → CommandOutcome → Type 0
 ReadsValues place live outcome = (found : List (List ℕ)) × Lists (Stands live place) found × (outcome ≡ Done (values_text found) [])
 
 -- the fields of a key, with the values at each
-abbrev pub ReadsFields : List ℕ → MapState → Outcome → Type 0
+abbrev pub ReadsFields : List ℕ → MapState → CommandOutcome → Type 0
 ReadsFields key live outcome =
     (entries : List (List ℕ × List (List ℕ))) × Lists (HoldsField live key) (keys_of entries)
     × All (λ e. Lists (Stands live (place_of key e.0)) e.1) entries × (outcome ≡ Done (fields_text entries) [])
 
 -- all keys, with the values at each over all its fields
-abbrev pub ReadsKeys : MapState → Outcome → Type 0
+abbrev pub ReadsKeys : MapState → CommandOutcome → Type 0
 ReadsKeys live outcome =
     (entries : List (List ℕ × List (List ℕ))) × Lists (HoldsKey live) (keys_of entries)
     × All (λ e. Lists (StandsWithin live e.0) e.1) entries × (outcome ≡ Done (map_text entries) [])
 
 -- the number of keys
-abbrev pub ReadsSize : MapState → Outcome → Type 0
+abbrev pub ReadsSize : MapState → CommandOutcome → Type 0
 ReadsSize live outcome = (found : List (List ℕ)) × Lists (HoldsKey live) found × (outcome ≡ Done (size_text (length found)) [])
 
 -- the known dots, as a version vector and a cloud
-abbrev pub ReadsContext : MapState → Outcome → Type 0
+abbrev pub ReadsContext : MapState → CommandOutcome → Type 0
 ReadsContext live outcome = (context : ContextValue) × IsCanonical context × (has context ≡ live.has) × (outcome ≡ Done (context_text context.vector context.cloud) [])
 
 -- the root digest of the map
-abbrev pub ReadsDigest : (List ℕ → ℕ) → MapState → Outcome → Type 0
+abbrev pub ReadsDigest : (List ℕ → ℕ) → MapState → CommandOutcome → Type 0
 ReadsDigest hash_of live outcome = (map : Held) × IsMapOf map live × (outcome ≡ Done (digest_text (digest_at hash_of map [])) [])
 
 -- ---- what a command comes to
 
 -- at a replica that is there; else it is unknown
-abbrev pub at_replica : World → ℕ → (Outcome → Type 0) → Outcome → Type 0
+abbrev pub at_replica : World → ℕ → (CommandOutcome → Type 0) → CommandOutcome → Type 0
 at_replica w name Comes outcome = ((is_node w name ≡ false) × (outcome ≡ Refused UnknownReplica)) ⊎ ((is_node w name ≡ true) × Comes outcome)
 
 -- with a key, field or value of at most so many bytes; else it is too long
-abbrev pub with_bytes : List ℕ → (Outcome → Type 0) → Outcome → Type 0
+abbrev pub with_bytes : List ℕ → (CommandOutcome → Type 0) → CommandOutcome → Type 0
 with_bytes bytes Comes outcome = ((nat_le (length bytes) MAX_LENGTH ≡ false) × (outcome ≡ Refused TooLong)) ⊎ ((nat_le (length bytes) MAX_LENGTH ≡ true) × Comes outcome)
 
 -- the pins are numbered from 1 on
@@ -80,23 +80,23 @@ pin_at pins (suc n) = slice_get pins n
 
 module _ (hash_of : List ℕ → ℕ) where
   -- an event happens, or is refused
-  abbrev pub IsEvent : World → Event → Outcome → Type 0
+  abbrev pub IsEvent : World → Event → CommandOutcome → Type 0
   IsEvent w e outcome =
       ((answer : Answer) × (v : World) × Happens hash_of w e answer v × (outcome ≡ Done (happened_text e answer w v) (e ∷ [])))
       ⊎ ((refusal : Refusal) × RefusesEvent w e refusal × (outcome ≡ Refused refusal))
 
   -- a call of a replica
-  abbrev pub IsCall : World → ℕ → step.Call → Outcome → Type 0
+  abbrev pub IsCall : World → ℕ → step.Call → CommandOutcome → Type 0
   IsCall w name call outcome = IsEvent w (world.At name call) outcome
 
   -- the values that a key shows in a pin, as a get of the key reads them. A pin that was never made is no word of the language
-  abbrev pub LooksAt : Option PinValue → List ℕ → Outcome → Type 0
+  abbrev pub LooksAt : Option PinValue → List ℕ → CommandOutcome → Type 0
   LooksAt None key outcome = outcome ≡ Refused BadLine
   LooksAt (Some pin) key outcome =
       with_bytes key (λ o. (w : World) × Runs hash_of nothing pin.events w × ReadsValues (plain key) (w.replica pin.name).live o) outcome
 
   -- what a command comes to in this world, after these pins
-  abbrev pub Comes : World → List PinValue → CommandValue → Outcome → Type 0
+  abbrev pub Comes : World → List PinValue → CommandValue → CommandOutcome → Type 0
   Comes w pins (Node name) outcome = IsEvent w (world.Node name) outcome
   Comes w pins (Put name key field value) outcome =
       at_replica w name (with_bytes key (with_bytes field (with_bytes value (IsCall w name (step.Put (place_of key field) value))))) outcome

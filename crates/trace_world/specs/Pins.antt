@@ -1,13 +1,11 @@
 -- How the pins are kept: each with its replica's name, how many events had been accepted, and the replica's store. Of this project.
 use Rattle.std.specs.Prelude.{◌≡◌, ◌≤◌, List, map, take, length, ◌++◌}
 use Rattle.std.specs.List.{All}
-use Rattle.causal_join.specs.OrMap.{FieldsValue}
 use Rattle.delta_ops.specs.LiveMap.{store_state}
 use Rattle.dots.specs.Dot.{DotValue}
 use Rattle.hash_path.specs.Fnv1a.{fnv1a}
 use Rattle.op_model.specs.Place.{Place}
 use Rattle.replica_model.specs.World.{World, Event, nothing, Runs}
-use Rattle.trie_map.specs.Keyed.{TrieMapValue}
 use Rattle.trace_world.specs.Outcome.{PinValue}
 use Rattle.trace_world.specs.declared.pin.Pin.{Pin}
 

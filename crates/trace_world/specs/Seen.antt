@@ -1,5 +1,5 @@
 -- What a read comes to, off what the replicas have seen alone: here are no stores, no contexts and no messages. Of this project.
-use Rattle.std.specs.Prelude.{ℕ, Bool, cond, nat_le, List, [], length, map, Option, Some, None}
+use Rattle.std.specs.Prelude.{ℕ, cond, nat_le, List, [], length, map, Option, Some, None}
 use Rattle.dots.specs.Bytes.{MAX_LENGTH}
 use Rattle.dots.specs.declared.refusal.Refusal.TheVariants.{TooLong, UnknownReplica}
 use Rattle.hash_path.specs.Fnv1a.{fnv1a}
@@ -11,13 +11,13 @@ use Rattle.replica_model.specs.World.{World, is_node}
 use Rattle.trace_words.specs.Command.{CommandValue, Get, Fields, Show, Size, Context, Digest}
 use Rattle.trace_words.specs.Text.{values_text, fields_text, map_text, size_text, context_text, digest_text}
 use Rattle.trace_world.specs.Compressed.{vector_of, cloud_of}
-use Rattle.trace_world.specs.Outcome.{Outcome, Refused, Done}
+use Rattle.trace_world.specs.Outcome.{CommandOutcome, Refused, Done}
 
 -- at a replica that is there, and with bytes that are not too long
-abbrev pub if_there : World → ℕ → Outcome → Outcome
+abbrev pub if_there : World → ℕ → CommandOutcome → CommandOutcome
 if_there w name then = cond (is_node w name) then (Refused UnknownReplica)
 
-abbrev pub if_short : List ℕ → Outcome → Outcome
+abbrev pub if_short : List ℕ → CommandOutcome → CommandOutcome
 if_short bytes then = cond (nat_le (length bytes) MAX_LENGTH) then (Refused TooLong)
 
 -- each of these labels with its values
@@ -35,7 +35,7 @@ abbrev pub context_seen : List Operation → List ℕ
 context_seen S = context_text (vector_of (known S)) (cloud_of (known S))
 
 -- what a command that reads a replica comes to
-abbrev pub read_of : World → CommandValue → Option Outcome
+abbrev pub read_of : World → CommandValue → Option CommandOutcome
 read_of w (Get name key field) = Some (if_there w name (if_short key (if_short field (Done (values_text (values (w.seen name) (place_of key field))) []))))
 read_of w (Fields name key) = Some (if_there w name (if_short key (Done (fields_seen (w.seen name) key) [])))
 read_of w (Show name) = Some (if_there w name (Done (keys_seen (w.seen name)) []))

@@ -7,7 +7,7 @@ ghost use Rattle.op_model.specs.Meaning.{MapState, Stands, StandsWithin};
 ghost use Rattle.op_model.specs.Place.{Place, place_of, plain};
 ghost use Rattle.replica_core.specs.Meaning.{meaning};
 ghost use Rattle.replica_core.specs.Reading.{Lists};
-ghost use Rattle.trace_world.specs.Does.{Adds, Tells};
+ghost use Rattle.trace_world.specs.Does.{AddsEntries, TellsText};
 ghost use Rattle.trace_world.specs.Outcome.{with_bytes, ReadsValues, ReadsFields, ReadsKeys, ReadsSize, ReadsContext, ReadsDigest};
 
 use crate::texts::{field_of, key_of};
@@ -28,7 +28,7 @@ pub(crate) fn read_values<A: Allocator + Copy>(
     key: &[u8],
     field: &[u8],
 ) -> Result<Vec<u8, A>, Refusal>
-    ensures { Tells (with_bytes key.now (with_bytes field.now (ReadsValues (place_of key.now field.now) (meaning replica.now).live))) result }
+    ensures { TellsText (with_bytes key.now (with_bytes field.now (ReadsValues (place_of key.now field.now) (meaning replica.now).live))) result }
 {
     let key = key_of(alloc, key)?;
     let field = field_of(alloc, field)?;
@@ -44,7 +44,7 @@ pub(crate) fn look_at<A: Allocator + Copy>(
     key: &[u8],
 ) -> Result<Vec<u8, A>, Refusal>
     ensures { (live : MapState) → ((place : Place) (dot : DotValue) → (store_state store.now).at place dot ≡ live.at place dot)
-        → Tells (with_bytes key.now (ReadsValues (plain key.now) live)) result }
+        → TellsText (with_bytes key.now (ReadsValues (plain key.now) live)) result }
 {
     let key = key_of(alloc, key)?;
     let found = values(alloc, store, &key, &Field::empty())?;
@@ -58,7 +58,7 @@ pub(crate) fn read_fields<A: Allocator + Copy>(
     replica: &Replica<Fnv1a, A>,
     key: &[u8],
 ) -> Result<Vec<u8, A>, Refusal>
-    ensures { Tells (with_bytes key.now (ReadsFields key.now (meaning replica.now).live)) result }
+    ensures { TellsText (with_bytes key.now (ReadsFields key.now (meaning replica.now).live)) result }
 {
     let key = key_of(alloc, key)?;
     let fields = replica.fields(&key)?;
@@ -75,7 +75,7 @@ fn push_fields<A: Allocator + Copy>(
     key: &Key<A>,
     fields: &[Field<A>],
 ) -> Result<(), Refusal>
-    ensures ok { OnOk result (Adds (λ field. Lists (Stands (meaning replica.now).live (place_of key.now field))) fields.now out.old.items out.new.items) }
+    ensures ok { OnOk result (AddsEntries (λ field. Lists (Stands (meaning replica.now).live (place_of key.now field))) fields.now out.old.items out.new.items) }
     ensures err { IsOkUnless result Refusal.OutOfMemory }
 {
     for field in fields {
@@ -90,7 +90,7 @@ pub(crate) fn read_keys<A: Allocator + Copy>(
     alloc: A,
     replica: &Replica<Fnv1a, A>,
 ) -> Result<Vec<u8, A>, Refusal>
-    ensures { Tells (ReadsKeys (meaning replica.now).live) result }
+    ensures { TellsText (ReadsKeys (meaning replica.now).live) result }
 {
     let keys = replica.keys()?;
     let mut text = map_answer(alloc, keys.len() as u64)?.into_bytes();
@@ -105,7 +105,7 @@ fn push_keys<A: Allocator + Copy>(
     replica: &Replica<Fnv1a, A>,
     keys: &[Key<A>],
 ) -> Result<(), Refusal>
-    ensures ok { OnOk result (Adds (λ key. Lists (StandsWithin (meaning replica.now).live key)) keys.now out.old.items out.new.items) }
+    ensures ok { OnOk result (AddsEntries (λ key. Lists (StandsWithin (meaning replica.now).live key)) keys.now out.old.items out.new.items) }
     ensures err { IsOkUnless result Refusal.OutOfMemory }
 {
     for key in keys {
@@ -120,7 +120,7 @@ pub(crate) fn read_size<A: Allocator + Copy>(
     alloc: A,
     replica: &Replica<Fnv1a, A>,
 ) -> Result<Vec<u8, A>, Refusal>
-    ensures { Tells (ReadsSize (meaning replica.now).live) result }
+    ensures { TellsText (ReadsSize (meaning replica.now).live) result }
 {
     Ok(size_answer(alloc, replica.size())?.into_bytes())
 }
@@ -130,7 +130,7 @@ pub(crate) fn read_context<A: Allocator + Copy>(
     alloc: A,
     replica: &Replica<Fnv1a, A>,
 ) -> Result<Vec<u8, A>, Refusal>
-    ensures { Tells (ReadsContext (meaning replica.now).live) result }
+    ensures { TellsText (ReadsContext (meaning replica.now).live) result }
 {
     let context = replica.context();
     let text = context_answer(alloc, context.vector(), context.cloud())?;
@@ -142,7 +142,7 @@ pub(crate) fn read_digest<A: Allocator + Copy>(
     alloc: A,
     replica: &Replica<Fnv1a, A>,
 ) -> Result<Vec<u8, A>, Refusal>
-    ensures { Tells (ReadsDigest fnv1a (meaning replica.now).live) result }
+    ensures { TellsText (ReadsDigest fnv1a (meaning replica.now).live) result }
 {
     Ok(digest_answer(alloc, replica.digest())?.into_bytes())
 }

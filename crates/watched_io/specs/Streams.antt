@@ -3,8 +3,8 @@ use Rattle.std.specs.Prelude.{◌≡◌, ℕ, List, ◌++◌, Option}
 use Rattle.std.specs.Io.KnownBytes.{Appends, Consumes}
 
 -- some bytes were read, and the fact holds of them
-abbrev pub Taken : Option (List ℕ) → Option (List ℕ) → (List ℕ → Type 0) → Type 0
-Taken old new P = (bytes : List ℕ) × Consumes old new bytes × P bytes
+abbrev pub TakenBytes : Option (List ℕ) → Option (List ℕ) → (List ℕ → Type 0) → Type 0
+TakenBytes old new P = (bytes : List ℕ) × Consumes old new bytes × P bytes
 
 -- some text was written, and the fact holds of it
 abbrev pub Written : Option (List ℕ) → Option (List ℕ) → (List ℕ → Type 0) → Type 0

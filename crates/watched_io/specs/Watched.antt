@@ -30,7 +30,7 @@ pub record IsNew {T : Type 0} (watched : Watched T) : Type 0 where
   pub flushed : is_flushed watched ≡ true
 
 -- nothing failed, and all that was written was flushed
-pub record IsSound {T : Type 0} (watched : Watched T) : Type 0 where
+pub record IsSettled {T : Type 0} (watched : Watched T) : Type 0 where
   pub no_failure : has_failed watched ≡ false
   pub not_gone_on : has_gone_on watched ≡ false
   pub flushed : is_flushed watched ≡ true

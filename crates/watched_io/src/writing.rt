@@ -1,7 +1,7 @@
 ghost use Rattle.std.specs.Prelude.{◌≡◌, OnOk, OnErr, IfErr};
 ghost use Rattle.std.specs.Io.KnownBytes.{Appends};
 ghost use Rattle.watched_io.specs.Streams.{Written, IsFront};
-ghost use Rattle.watched_io.specs.Watched.{inner_of, IsSound, IsBroken};
+ghost use Rattle.watched_io.specs.Watched.{inner_of, IsSettled, IsBroken};
 
 use crate::watched::Watched;
 use dots::Refusal;
@@ -10,12 +10,12 @@ use std::io::Write;
 /// Writes the whole text and flushes it, or answers Output at the first failure. A piece that is taken in part is written
 /// on from there; an empty text is a flush alone.
 pub fn write_out<W: Write>(writer: &mut Watched<W>, text: &[u8]) -> Result<(), Refusal>
-    requires sound { IsSound writer.old }
+    requires sound { IsSettled writer.old }
     ensures ok { OnOk result (Appends (W.contents (inner_of writer.old)) (W.contents (inner_of writer.new)) text.now) }
     ensures front { OnErr result (Written (W.contents (inner_of writer.old)) (W.contents (inner_of writer.new)) (λ part.
         IsFront part text.now)) }
     ensures refusal { IfErr result (λ refusal. refusal ≡ Refusal.Output) }
-    ensures sound { OnOk result (IsSound writer.new) }
+    ensures sound { OnOk result (IsSettled writer.new) }
     ensures broken { OnErr result (IsBroken writer.new) }
 {
     let mut rest = text;

@@ -3,7 +3,7 @@ use Rattle.std.proofs.Common.{◌≡◌, ℕ, ◌<◌, ◌≤◌, ◌+◌, List,
 use Rattle.std.specs.List.{flat_map, AllByRecursion}
 use Rattle.std.proofs.lemmas.List.{append-nil}
 use Rattle.std.proofs.lemmas.List.Concat.{flat_map-append}
-use Rattle.wire_form.specs.Spelling.{number, IsNumber, counted, AreCounted, Begins, HasNone}
+use Rattle.wire_form.specs.Spelling.{number, IsNumber, counted, AreCounted, Begins, HasNoSpelling}
 use Rattle.wire_form.specs.Unique.{IsUnique, number_unique}
 
 module _ {X : Type 0} (item : X → List ℕ) (Item : X → Type 0) where
@@ -38,8 +38,8 @@ module _ {X : Type 0} (item : X → List ℕ) (Item : X → Type 0) where
         let first = one x y (flat_map item xs ++ rest) (flat_map item ys ++ end) p.0 q.0 (sym (append_assoc (item x) (flat_map item xs) rest) ∙ e ∙ append_assoc (item y) (flat_map item ys) end) in
         behind xs ys rest end p.1 q.1 (omega arith) first.1
 
-    pub none_more : (bytes : List ℕ) (i n : ℕ) (xs : List X) (rest : List ℕ) → Begins (flat_map item) (AreSo i) bytes xs rest → i < n → HasNone item Item rest
-        → HasNone (flat_map item) (AreSo n) bytes
+    pub none_more : (bytes : List ℕ) (i n : ℕ) (xs : List X) (rest : List ℕ) → Begins (flat_map item) (AreSo i) bytes xs rest → i < n → HasNoSpelling item Item rest
+        → HasNoSpelling (flat_map item) (AreSo n) bytes
     none_more bytes i n xs rest read l none ys end h =
         let b = behind xs ys rest end read.fits.1 h.fits.1 (omega (arith, read.fits.0, h.fits.0)) (sym read.parts ∙ h.parts) in
         none b.0 b.1 b.2
@@ -61,10 +61,10 @@ module _ {X : Type 0} (item : X → List ℕ) (Item : X → Type 0) where
         ∙ sym (append_assoc (number (length xs)) (flat_map item xs) end);
   }
 
-  pub no_count : (bytes : List ℕ) → HasNone number IsNumber bytes → HasNone (counted item) (AreCounted Item) bytes
+  pub no_count : (bytes : List ℕ) → HasNoSpelling number IsNumber bytes → HasNoSpelling (counted item) (AreCounted Item) bytes
   no_count bytes none xs end h = none (length xs) (flat_map item xs ++ end) (record { fits = h.fits.0; parts = h.parts ∙ append_assoc (number (length xs)) (flat_map item xs) end })
 
-  pub none_counted : (bytes : List ℕ) (n : ℕ) (rest : List ℕ) → Begins number IsNumber bytes n rest → HasNone (flat_map item) (AreSo n) rest → HasNone (counted item) (AreCounted Item) bytes
+  pub none_counted : (bytes : List ℕ) (n : ℕ) (rest : List ℕ) → Begins number IsNumber bytes n rest → HasNoSpelling (flat_map item) (AreSo n) rest → HasNoSpelling (counted item) (AreCounted Item) bytes
   none_counted bytes n rest read none xs end h = none xs end (at_count bytes n rest read xs end h)
 
   module _ (starts : (x : X) → Item x → 0 < length (item x)) where
@@ -73,7 +73,7 @@ module _ {X : Type 0} (item : X → List ℕ) (Item : X → Type 0) where
     least [] p = omega arith
     least (x ∷ xs) p = omega (arith, starts x p.0, least xs p.1, length-append (item x) (flat_map item xs))
 
-    pub too_many : (bytes : List ℕ) (n : ℕ) (rest : List ℕ) → Begins number IsNumber bytes n rest → length rest < n → HasNone (counted item) (AreCounted Item) bytes
+    pub too_many : (bytes : List ℕ) (n : ℕ) (rest : List ℕ) → Begins number IsNumber bytes n rest → length rest < n → HasNoSpelling (counted item) (AreCounted Item) bytes
     too_many bytes n rest read more xs end h =
         let each = at_count bytes n rest read xs end h in
         omega (arith, least xs each.fits.1, each.fits.0, ap length each.parts, length-append (flat_map item xs) end)

@@ -6,9 +6,9 @@ use Rattle.causal_context.specs.Context.{ContextValue}
 use Rattle.op_model.specs.State.{State, IsInside}
 use Rattle.causal_join.specs.Causal.{state_of}
 use Rattle.causal_join.specs.OrMap.{OrMapStoreValue, OrMapValue, or_map_at}
-use Rattle.wire_form.specs.Spelling.{pair, IsPair, Begins, HasNone}
+use Rattle.wire_form.specs.Spelling.{pair, IsPair, Begins, HasNoSpelling}
 use Rattle.wire_form.specs.Parts.{context, IsContext}
-use Rattle.wire_form.specs.Store.{is_plain, store, IsStore, IsStoreOf}
+use Rattle.wire_form.specs.Store.{is_plain_form, store, IsStore, IsStoreOf}
 use Rattle.wire_form.specs.Message.{SpellsBody, SpellsDelta, version_of}
 use Rattle.wire_form.specs.Unique.{pair_unique}
 use Rattle.wire_form.specs.Writing.{Appends}
@@ -27,17 +27,17 @@ inside_from_not_outside p f place dot h = by_test (p.has dot) refl
 -- ---- bodies
 
 module _ (plain : Bool) (bytes : List ℕ) where
-  no_body : HasNone (pair context (store plain)) (IsPair IsContext (IsStoreOf plain)) bytes → (d : OrMapValue) → SpellsBody plain bytes d → ⊥
+  no_body : HasNoSpelling (pair context (store plain)) (IsPair IsContext (IsStoreOf plain)) bytes → (d : OrMapValue) → SpellsBody plain bytes d → ⊥
   no_body none d h = none (d.1, d.0) [] (record {
     fits = (h.lawful.context, record { lawful = h.lawful.store; form = h.form });
     parts = h.spelling ∙ sym (append-nil (context d.1 ++ store plain d.0));
   })
 
-  pub no_body_context : HasNone context IsContext bytes → (d : OrMapValue) → SpellsBody plain bytes d → ⊥
+  pub no_body_context : HasNoSpelling context IsContext bytes → (d : OrMapValue) → SpellsBody plain bytes d → ⊥
   no_body_context none = no_body (none_first context IsContext (store plain) (IsStoreOf plain) bytes none)
 
   module _ (c : ContextValue) (rest : List ℕ) (first : Begins context IsContext bytes c rest) where
-    pub no_body_store : HasNone (store plain) (IsStoreOf plain) rest → (d : OrMapValue) → SpellsBody plain bytes d → ⊥
+    pub no_body_store : HasNoSpelling (store plain) (IsStoreOf plain) rest → (d : OrMapValue) → SpellsBody plain bytes d → ⊥
     no_body_store none = no_body (none_second context IsContext (store plain) (IsStoreOf plain) context_unique bytes c rest first none)
 
     module _ (s : OrMapStoreValue) (end : List ℕ) (second : Begins (store plain) (IsStoreOf plain) rest s end) where
@@ -83,7 +83,7 @@ one_body plain bytes d e p q =
 
 -- a context and a store behind the version and the kind
 pub delta_written : (plain : Bool) (head mid bytes : List ℕ) (d : OrMapValue) → head ≡ version_of plain ∷ 1 ∷ [] → Appends context IsContext head mid d.1 → Appends (store plain) IsStore mid bytes d.0
-    → IsInside (state_of or_map_at d) → is_plain d.0 ≡ plain → SpellsDelta bytes d
+    → IsInside (state_of or_map_at d) → is_plain_form d.0 ≡ plain → SpellsDelta bytes d
 delta_written plain head mid bytes d is p q inside form = record {
   lawful = record { context = p.fits; store = q.fits; inside = inside };
   spelling = q.parts ∙ ap (λ (t : List ℕ). t ++ store plain d.0) (p.parts ∙ ap (λ (t : List ℕ). t ++ context d.1) is)

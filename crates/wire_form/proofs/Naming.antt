@@ -6,8 +6,8 @@ use Rattle.std.specs.Map.{keys_of}
 use Rattle.std.proofs.lemmas.List.{append-nil, take-append-drop, length-take}
 use Rattle.dots.specs.Bytes.{bytes_cmp}
 use Rattle.causal_context.specs.Dots.{dot_cmp}
-use Rattle.wire_form.specs.Spelling.{pair, IsPair, counted, AreCounted, IsWhole, Begins, HasNone}
-use Rattle.wire_form.specs.Parts.{text, IsText, dot, IsDot}
+use Rattle.wire_form.specs.Spelling.{pair, IsPair, counted, AreCounted, IsWhole, Begins, HasNoSpelling}
+use Rattle.wire_form.specs.Parts.{text, IsText, dot_bytes, IsDot}
 use Rattle.wire_form.specs.Page.{NamesValue, NamedValue, EntryValue, PageValue, OneKey, Keys, Branch, digest, IsDigest, names, AreNames, named, AreNamed, entry, IsEntry, child, IsChild, spelled, ArePartsOf}
 use Rattle.wire_form.specs.Unique.{IsUnique, pair_unique, dot_unique, text_unique, counted_unique}
 use Rattle.wire_form.specs.UniquePages.{digest_unique, names_unique}
@@ -34,18 +34,18 @@ digest_whole bytes front rest f r long short =
 
 -- ---- names
 
-names_parts_unique : IsUnique (counted (pair dot digest)) (AreCounted (IsPair IsDot IsDigest))
-names_parts_unique = counted_unique (pair dot digest) (IsPair IsDot IsDigest) (pair_unique dot IsDot digest IsDigest dot_unique digest_unique)
+names_parts_unique : IsUnique (counted (pair dot_bytes digest)) (AreCounted (IsPair IsDot IsDigest))
+names_parts_unique = counted_unique (pair dot_bytes digest) (IsPair IsDot IsDigest) (pair_unique dot_bytes IsDot digest IsDigest dot_unique digest_unique)
 
-pub names_begin : (bytes : List ℕ) (ns made : NamesValue) (rest : List ℕ) → Begins (counted (pair dot digest)) (AreCounted (IsPair IsDot IsDigest)) bytes ns rest
+pub names_begin : (bytes : List ℕ) (ns made : NamesValue) (rest : List ℕ) → Begins (counted (pair dot_bytes digest)) (AreCounted (IsPair IsDot IsDigest)) bytes ns rest
     → IsStrictlySortedBy dot_cmp (keys_of ns) → made ≡ ns → Begins names AreNames bytes made rest
 names_begin bytes ns made rest read ascend is =
     subst (λ (m : NamesValue). Begins names AreNames bytes m rest) (sym is) (record { fits = record { each = read.fits; ascend = ascend }; parts = read.parts })
 
-pub no_names : (bytes : List ℕ) (ns : NamesValue) (rest : List ℕ) → Begins (counted (pair dot digest)) (AreCounted (IsPair IsDot IsDigest)) bytes ns rest
-    → (IsStrictlySortedBy dot_cmp (keys_of ns) → false ≡ true) → HasNone names AreNames bytes
+pub no_names : (bytes : List ℕ) (ns : NamesValue) (rest : List ℕ) → Begins (counted (pair dot_bytes digest)) (AreCounted (IsPair IsDot IsDigest)) bytes ns rest
+    → (IsStrictlySortedBy dot_cmp (keys_of ns) → false ≡ true) → HasNoSpelling names AreNames bytes
 no_names bytes ns rest read bad =
-    none_lawful (counted (pair dot digest)) (AreCounted (IsPair IsDot IsDigest)) AreNames names_parts_unique (λ v h. h.each) bytes ns rest read (λ h. absurd (cc (bad h.ascend)))
+    none_lawful (counted (pair dot_bytes digest)) (AreCounted (IsPair IsDot IsDigest)) AreNames names_parts_unique (λ v h. h.each) bytes ns rest read (λ h. absurd (cc (bad h.ascend)))
 
 named_parts_unique : IsUnique (counted (pair text names)) (AreCounted (IsPair IsText AreNames))
 named_parts_unique = counted_unique (pair text names) (IsPair IsText AreNames) (pair_unique text IsText names AreNames text_unique names_unique)
@@ -56,7 +56,7 @@ named_begin bytes fs made rest read ascend is =
     subst (λ (m : NamedValue). Begins named AreNamed bytes m rest) (sym is) (record { fits = record { each = read.fits; ascend = ascend }; parts = read.parts })
 
 pub no_named : (bytes : List ℕ) (fs : NamedValue) (rest : List ℕ) → Begins (counted (pair text names)) (AreCounted (IsPair IsText AreNames)) bytes fs rest
-    → (IsStrictlySortedBy bytes_cmp (keys_of fs) → false ≡ true) → HasNone named AreNamed bytes
+    → (IsStrictlySortedBy bytes_cmp (keys_of fs) → false ≡ true) → HasNoSpelling named AreNamed bytes
 no_named bytes fs rest read bad =
     none_lawful (counted (pair text names)) (AreCounted (IsPair IsText AreNames)) AreNamed named_parts_unique (λ v h. h.each) bytes fs rest read (λ h. absurd (cc (bad h.ascend)))
 
@@ -85,7 +85,7 @@ no_entry bytes none (OneKey e) h = none e (record { fits = h.fits; spelling = ap
 no_entry bytes none (Keys es) h = let differ = h.spelling in absurd (cc differ)
 no_entry bytes none (Branch cs) h = let differ = h.spelling in absurd (cc differ)
 
-pub no_one_key : (bytes : List ℕ) → HasNone entry IsEntry bytes → SpellsNoPage (0 ∷ bytes)
+pub no_one_key : (bytes : List ℕ) → HasNoSpelling entry IsEntry bytes → SpellsNoPage (0 ∷ bytes)
 no_one_key bytes none = no_entry bytes (none_whole entry IsEntry bytes none)
 
 pub no_one_key_end : (bytes : List ℕ) (e : EntryValue) (rest : List ℕ) → Begins entry IsEntry bytes e rest → false ≡ eqb (length rest) 0 → SpellsNoPage (0 ∷ bytes)

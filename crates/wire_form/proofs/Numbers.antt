@@ -4,8 +4,8 @@ use Rattle.std.specs.Int.{w64, to_be_bytes, from_be_bytes}
 use Rattle.std.proofs.lemmas.Bool.{cases_lt}
 use Rattle.std.proofs.lemmas.List.{take-append-drop, length-take, get_or-take, get_or_past}
 use Rattle.std.proofs.lemmas.Nat.{be_bytes_8}
-use Rattle.wire_form.specs.Spelling.{number, IsNumber, pair, IsPair, Begins, HasNone}
-use Rattle.wire_form.specs.Parts.{IsName, dot, IsDot}
+use Rattle.wire_form.specs.Spelling.{number, IsNumber, pair, IsPair, Begins, HasNoSpelling}
+use Rattle.wire_form.specs.Parts.{IsName, dot_bytes, IsDot}
 use Rattle.wire_form.specs.Unique.{length-number, number_unique, pair_unique}
 use Rattle.wire_form.proofs.Pairs.{pair_begins, none_second}
 use Rattle.wire_form.proofs.Reading.{none_lawful}
@@ -34,12 +34,12 @@ number_begins bytes front rest n fits long f r is =
     }
 
 -- fewer are none
-pub no_number : (bytes : List ℕ) → length bytes < 8 → HasNone number IsNumber bytes
+pub no_number : (bytes : List ℕ) → length bytes < 8 → HasNoSpelling number IsNumber bytes
 no_number bytes short n rest h = omega (arith, ap length h.parts, length-append (number n) rest, length-number n)
 
 -- ---- names
 
-pub no_name : (bytes : List ℕ) (n : ℕ) (rest : List ℕ) → Begins number IsNumber bytes n rest → n ≡ 0 → HasNone number IsName bytes
+pub no_name : (bytes : List ℕ) (n : ℕ) (rest : List ℕ) → Begins number IsNumber bytes n rest → n ≡ 0 → HasNoSpelling number IsName bytes
 no_name bytes n rest read nought = none_lawful number IsNumber IsName number_unique (λ v h. h.1) bytes n rest read (λ h. omega (arith, h.0))
 
 pub name_begins : (bytes : List ℕ) (n : ℕ) (rest : List ℕ) → Begins number IsNumber bytes n rest → 1 ≤ n → Begins number IsName bytes n rest
@@ -52,14 +52,14 @@ zero_unless (suc n) h = absurd (cc (h (λ e. omega arith)))
 
 -- ---- dots
 
-pub no_dot_parts : (bytes : List ℕ) → HasNone (pair number number) (IsPair IsNumber IsNumber) bytes → HasNone dot IsDot bytes
+pub no_dot_parts : (bytes : List ℕ) → HasNoSpelling (pair number number) (IsPair IsNumber IsNumber) bytes → HasNoSpelling dot_bytes IsDot bytes
 no_dot_parts bytes none d rest h = none (d.name, d.number) rest (record { fits = (h.fits.0.1, h.fits.1.1); parts = h.parts })
 
-pub no_dot_number : (bytes : List ℕ) (name : ℕ) (rest : List ℕ) → Begins number IsNumber bytes name rest → HasNone number IsNumber rest → HasNone dot IsDot bytes
+pub no_dot_number : (bytes : List ℕ) (name : ℕ) (rest : List ℕ) → Begins number IsNumber bytes name rest → HasNoSpelling number IsNumber rest → HasNoSpelling dot_bytes IsDot bytes
 no_dot_number bytes name rest read none = no_dot_parts bytes (none_second number IsNumber number IsNumber number_unique bytes name rest read none)
 
 pub no_dot : (bytes : List ℕ) (name : ℕ) (rest : List ℕ) (n : ℕ) (end : List ℕ) → Begins number IsNumber bytes name rest → Begins number IsNumber rest n end → ((1 ≤ name) × (1 ≤ n) → false ≡ true)
-    → HasNone dot IsDot bytes
+    → HasNoSpelling dot_bytes IsDot bytes
 no_dot bytes name rest n end first second bad d after h =
     let read = pair_begins number IsNumber number IsNumber bytes name rest n end first second in
     let same = pair_unique number IsNumber number IsNumber number_unique number_unique (name, n) (d.name, d.number) end after read.fits (h.fits.0.1, h.fits.1.1) (sym read.parts ∙ h.parts) in

@@ -7,11 +7,11 @@ use Rattle.std.specs.Map.{keys_of}
 use Rattle.dots.specs.Bytes.{bytes_cmp}
 use Rattle.causal_context.specs.Dots.{dot_cmp}
 use Rattle.wire_form.specs.Spelling.{pair, IsPair, counted, AreCounted}
-use Rattle.wire_form.specs.Parts.{text, IsText, dot, IsDot}
+use Rattle.wire_form.specs.Parts.{text, IsText, dot_bytes, IsDot}
 use Rattle.wire_form.specs.Page.{NamesValue, NamedValue, digest, IsDigest, names, AreNames, named, AreNamed}
 use Rattle.wire_form.specs.Writing.{Appends}
 
-pub names_appended : (old now : List ℕ) (ns made : NamesValue) → Appends (counted (pair dot digest)) (AreCounted (IsPair IsDot IsDigest)) old now made → made ≡ ns
+pub names_appended : (old now : List ℕ) (ns made : NamesValue) → Appends (counted (pair dot_bytes digest)) (AreCounted (IsPair IsDot IsDigest)) old now made → made ≡ ns
     → IsStrictlySortedBy dot_cmp (keys_of made) → Appends names AreNames old now ns
 names_appended old now ns made p e s = subst (λ (m : NamesValue). Appends names AreNames old now m) e (record { fits = record { each = p.fits; ascend = s }; parts = p.parts })
 

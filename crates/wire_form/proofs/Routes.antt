@@ -3,8 +3,8 @@ use Rattle.std.proofs.Common.{◌≡◌, ℕ, suc, ◌<◌, ◌≤◌, ◌+◌, 
 use Rattle.std.specs.Prelude.{◌⊎◌}
 use Rattle.std.proofs.lemmas.List.{append-nil}
 use Rattle.hash_path.specs.Path.{AreIndices, last_index}
-use Rattle.wire_form.specs.Spelling.{Begins, HasNone}
-use Rattle.wire_form.specs.Prefix.{prefix, IsPrefix, IsLonger}
+use Rattle.wire_form.specs.Spelling.{Begins, HasNoSpelling}
+use Rattle.wire_form.specs.Prefix.{prefix, IsPrefix, IsOneLonger}
 use Rattle.wire_form.specs.Writing.{Appends}
 
 -- so many indices
@@ -23,14 +23,14 @@ next_index at (r ∷ read) (i ∷ path) rest end short e h =
 
 -- no index comes next, where none is lawful
 pub no_next_index : (bytes : List ℕ) (depth : ℕ) (read rest : List ℕ) → bytes ≡ read ++ rest → length read < depth
-    → ((index : ℕ) (more : List ℕ) → rest ≡ index ∷ more → (length read ≡ 7) ⊎ (last_index (length read) < index)) → HasNone (λ path. path) (IsPrefixOf depth) bytes
+    → ((index : ℕ) (more : List ℕ) → rest ≡ index ∷ more → (length read ≡ 7) ⊎ (last_index (length read) < index)) → HasNoSpelling (λ path. path) (IsPrefixOf depth) bytes
 no_next_index bytes depth read rest parts short bad path end h =
     let x = next_index 0 read path rest end (omega (arith, h.fits.1)) (sym h.parts ∙ parts) h.fits.0.indices in
     let least : x.0 ≤ last_index (length read) = subst (λ (n : ℕ). x.0 ≤ last_index n) (omega arith) x.3 in
     let most = h.fits.0.short in
     elim (bad x.0 x.1 x.2) [ inl e ↦ omega (arith, h.fits.1) | inr l ↦ omega arith ]
 
-pub longer_parts : (bytes read rest longer after : List ℕ) → bytes ≡ read ++ rest → IsLonger read rest longer after → bytes ≡ longer ++ after
+pub longer_parts : (bytes read rest longer after : List ℕ) → bytes ≡ read ++ rest → IsOneLonger read rest longer after → bytes ≡ longer ++ after
 longer_parts bytes read rest longer after e h = e ∙ sym h.moved
 
 pub indices_begin : (bytes : List ℕ) (depth : ℕ) (path rest : List ℕ) → bytes ≡ path ++ rest → length path ≡ depth → length path ≤ 7 → AreIndices 0 path → Begins (λ p. p) (IsPrefixOf depth) bytes path rest
@@ -39,7 +39,7 @@ indices_begin bytes depth path rest parts long short lawful = record { fits = (r
 pub prefix_begins : (bytes : List ℕ) (depth : ℕ) (path rest : List ℕ) → Begins (λ p. p) (IsPrefixOf depth) bytes path rest → Begins prefix IsPrefix (depth ∷ bytes) path rest
 prefix_begins bytes depth path rest h = record { fits = h.fits.0; parts = let long = sym h.fits.1 in λ i. long i ∷ h.parts i }
 
-pub no_prefix : (bytes : List ℕ) (depth : ℕ) → HasNone (λ p. p) (IsPrefixOf depth) bytes → HasNone prefix IsPrefix (depth ∷ bytes)
+pub no_prefix : (bytes : List ℕ) (depth : ℕ) → HasNoSpelling (λ p. p) (IsPrefixOf depth) bytes → HasNoSpelling prefix IsPrefix (depth ∷ bytes)
 no_prefix bytes depth none path rest h =
     let long : depth ≡ length path = let e = h.parts in cc in
     let behind : bytes ≡ path ++ rest = let e = h.parts in cc in

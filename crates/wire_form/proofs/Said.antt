@@ -6,7 +6,7 @@ use Rattle.wire_form.specs.Parts.{text, IsText, context, IsContext}
 use Rattle.wire_form.specs.Prefix.{prefix, IsPrefix}
 use Rattle.wire_form.specs.Page.{PageValue, OneKey, Keys, Branch, digest, IsDigest, named, AreNamed, entry, IsEntry, child, IsChild, spelled, ArePartsOf}
 use Rattle.wire_form.specs.Sent.{sent, IsSent}
-use Rattle.wire_form.specs.Message.{root, IsRoot, opening, IsOpening, nothing, IsNothing}
+use Rattle.wire_form.specs.Message.{root, IsRoot, opening, IsOpening, empty_spelling, IsNothing}
 use Rattle.wire_form.specs.Unique.{IsUnique, HasBytes, same_front, pair_unique, pair_starts, text_unique, text_starts, counted_unique}
 use Rattle.wire_form.specs.UniquePages.{byte_unique, byte_starts, digest_unique, named_unique}
 use Rattle.wire_form.proofs.Wholes.{IsOneWhole, one_whole, one_list}
@@ -34,7 +34,7 @@ root_unique (Some d) (Some f) a b p q e =
 pub opening_unique : IsUnique opening IsOpening
 opening_unique = pair_unique context IsContext root IsRoot context_unique root_unique
 
-pub one_nothing : IsOneWhole nothing IsNothing
+pub one_nothing : IsOneWhole empty_spelling IsNothing
 one_nothing bytes v w p q = refl
 
 -- ---- pages

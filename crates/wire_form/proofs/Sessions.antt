@@ -1,6 +1,6 @@
 -- Sessions at the front of bytes, and behind what was written.
 use Rattle.std.proofs.Common.{◌≡◌, ℕ, ◌≤◌, true, false, List, ◌++◌, sym, ap, subst, ◌∙◌, append_assoc}
-use Rattle.wire_form.specs.Spelling.{number, IsNumber, pair, IsPair, Begins, HasNone}
+use Rattle.wire_form.specs.Spelling.{number, IsNumber, pair, IsPair, Begins, HasNoSpelling}
 use Rattle.wire_form.specs.Parts.{IsName}
 use Rattle.wire_form.specs.Session.{SessionValue, session, IsSession}
 use Rattle.wire_form.specs.Unique.{IsUnique, pair_unique, number_unique}
@@ -37,22 +37,22 @@ session_unique s t a b p q e =
     let made : Numbers → SessionValue = λ x. record { asker = x.0.0; answerer = x.0.1; number = x.1 } in
     (ap made both.0, both.1)
 
-no_numbers : (bytes : List ℕ) → HasNone numbers AreNumbers bytes → HasNone session IsSession bytes
+no_numbers : (bytes : List ℕ) → HasNoSpelling numbers AreNumbers bytes → HasNoSpelling session IsSession bytes
 unfolding numbers_of
 no_numbers bytes none s rest h = none (numbers_of s) rest (record { fits = are_numbers s h.fits; parts = h.parts })
 
-pub no_asker : (bytes : List ℕ) → HasNone number IsNumber bytes → HasNone session IsSession bytes
+pub no_asker : (bytes : List ℕ) → HasNoSpelling number IsNumber bytes → HasNoSpelling session IsSession bytes
 no_asker bytes none =
     let two = none_first number IsNumber number IsNumber bytes none in
     no_numbers bytes (none_first (pair number number) (IsPair IsNumber IsNumber) number IsNumber bytes two)
 
-pub no_answerer : (bytes : List ℕ) (asker : ℕ) (rest : List ℕ) → Begins number IsNumber bytes asker rest → HasNone number IsNumber rest → HasNone session IsSession bytes
+pub no_answerer : (bytes : List ℕ) (asker : ℕ) (rest : List ℕ) → Begins number IsNumber bytes asker rest → HasNoSpelling number IsNumber rest → HasNoSpelling session IsSession bytes
 no_answerer bytes asker rest read none =
     let two = none_second number IsNumber number IsNumber number_unique bytes asker rest read none in
     no_numbers bytes (none_first (pair number number) (IsPair IsNumber IsNumber) number IsNumber bytes two)
 
 pub no_session_number : (bytes : List ℕ) (asker : ℕ) (rest : List ℕ) (answerer : ℕ) (after : List ℕ) → Begins number IsNumber bytes asker rest → Begins number IsNumber rest answerer after
-    → HasNone number IsNumber after → HasNone session IsSession bytes
+    → HasNoSpelling number IsNumber after → HasNoSpelling session IsSession bytes
 no_session_number bytes asker rest answerer after first second none =
     let two = pair_begins number IsNumber number IsNumber bytes asker rest answerer after first second in
     no_numbers bytes (none_second (pair number number) (IsPair IsNumber IsNumber) number IsNumber two_unique bytes (asker, answerer) after two none)
@@ -73,7 +73,7 @@ session_begins bytes asker rest answerer after n end s first second third ones i
 
 -- and none, where one is 0
 pub no_session : (bytes : List ℕ) (asker : ℕ) (rest : List ℕ) (answerer : ℕ) (after : List ℕ) (n : ℕ) (end : List ℕ) → Begins number IsNumber bytes asker rest → Begins number IsNumber rest answerer after
-    → Begins number IsNumber after n end → ((1 ≤ asker) × (1 ≤ answerer) × (1 ≤ n) → false ≡ true) → HasNone session IsSession bytes
+    → Begins number IsNumber after n end → ((1 ≤ asker) × (1 ≤ answerer) × (1 ≤ n) → false ≡ true) → HasNoSpelling session IsSession bytes
 unfolding numbers_of
 no_session bytes asker rest answerer after n end first second third bad s behind h =
     let read = numbers_begin bytes asker rest answerer after n end first second third in

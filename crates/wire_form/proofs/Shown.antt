@@ -1,7 +1,7 @@
 -- What an opening and a page message say, from all the bytes behind their session.
 use Rattle.std.proofs.Common.{◌≡◌, false, true, subst, ℕ, Option, List, ◌++◌, sym, ap, ◌∙◌}
 use Rattle.causal_context.specs.Context.{ContextValue}
-use Rattle.wire_form.specs.Spelling.{IsWhole, Begins, HasNone}
+use Rattle.wire_form.specs.Spelling.{IsWhole, Begins, HasNoSpelling}
 use Rattle.wire_form.specs.Parts.{context, IsContext}
 use Rattle.wire_form.specs.Spelling.{counted, AreCounted}
 use Rattle.wire_form.specs.Parts.{text, IsText}
@@ -16,7 +16,7 @@ use Rattle.wire_form.proofs.Said.{prefix_unique, texts_unique, one_page}
 abbrev pub SpellsNoOpening : List ℕ → Type 0
 SpellsNoOpening bytes = (o : ContextValue × Option (List ℕ)) → IsWhole opening IsOpening bytes o → ⊥
 
-pub no_opening_context : (bytes : List ℕ) → HasNone context IsContext bytes → SpellsNoOpening bytes
+pub no_opening_context : (bytes : List ℕ) → HasNoSpelling context IsContext bytes → SpellsNoOpening bytes
 no_opening_context bytes none o h = none o.0 (root o.1) (record { fits = h.fits.0; parts = h.spelling })
 
 pub no_opening_root : (bytes : List ℕ) (c : ContextValue) (rest : List ℕ) → Begins context IsContext bytes c rest → ((r : Option (List ℕ)) → IsWhole root IsRoot rest r → ⊥) → SpellsNoOpening bytes
@@ -38,7 +38,7 @@ module _ (p bytes : List ℕ) (lawful : IsPrefix p) where
   behind_prefix : (s : SentValue) → IsWhole sent IsSent (prefix p ++ bytes) s → (p ≡ s.prefix) × (bytes ≡ counted text s.values ++ spelled s.page)
   behind_prefix s h = prefix_unique p s.prefix bytes (counted text s.values ++ spelled s.page) lawful h.fits.prefix h.spelling
 
-  pub no_sent_values : HasNone (counted text) (AreCounted IsText) bytes → SpellsNoSent (prefix p ++ bytes)
+  pub no_sent_values : HasNoSpelling (counted text) (AreCounted IsText) bytes → SpellsNoSent (prefix p ++ bytes)
   no_sent_values none s h = none s.values (spelled s.page) (record { fits = h.fits.values; parts = (behind_prefix s h).1 })
 
   module _ (vs : List (List ℕ)) (rest : List ℕ) (read : Begins (counted text) (AreCounted IsText) bytes vs rest) where

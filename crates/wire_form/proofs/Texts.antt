@@ -7,14 +7,14 @@ use Rattle.std.proofs.lemmas.Nat.{be_bytes_2}
 use Rattle.dots.specs.Bytes.{MAX_LENGTH}
 use Rattle.dots.specs.declared.refusal.Refusal.{Refusal}
 use Rattle.dots.specs.declared.refusal.Refusal.TheVariants.{OutOfMemory, TooLong}
-use Rattle.wire_form.specs.Spelling.{Begins, HasNone}
+use Rattle.wire_form.specs.Spelling.{Begins, HasNoSpelling}
 use Rattle.wire_form.specs.Parts.{text, IsText}
-use Rattle.wire_form.specs.Reading.{Refuses}
+use Rattle.wire_form.specs.Reading.{RefusesReading}
 use Rattle.wire_form.specs.Unique.{same_front, length_again}
 use Rattle.wire_form.proofs.Numbers.{AreBytes, AreBytes-take}
 
 -- fewer than two bytes are no text
-pub no_length : (bytes : List ℕ) → length bytes < 2 → HasNone text IsText bytes
+pub no_length : (bytes : List ℕ) → length bytes < 2 → HasNoSpelling text IsText bytes
 unfolding text
 no_length bytes short v rest h = omega (arith, ap length h.parts, length-append (to_be_bytes w16 (length v) ++ v) rest, length-append (to_be_bytes w16 (length v)) v)
 
@@ -29,7 +29,7 @@ length_begins bytes front rest n fits long f r is =
     )
 
 -- fewer bytes than the length says are no text
-pub no_text : (bytes rest : List ℕ) (n : ℕ) → bytes ≡ to_be_bytes w16 n ++ rest → n ≤ MAX_LENGTH → length rest < n → HasNone text IsText bytes
+pub no_text : (bytes rest : List ℕ) (n : ℕ) → bytes ≡ to_be_bytes w16 n ++ rest → n ≤ MAX_LENGTH → length rest < n → HasNoSpelling text IsText bytes
 unfolding text
 no_text bytes rest n parts most short v end h =
     let long = same_front 2 (to_be_bytes w16 n) (to_be_bytes w16 (length v)) rest (v ++ end) refl refl (sym parts ∙ h.parts ∙ append_assoc (to_be_bytes w16 (length v)) v end) in
@@ -48,5 +48,5 @@ text_begins bytes rest front end n parts most long f e =
     }
 
 -- a text is not too long for a key or a value
-pub refuses_text : (P : Type 0) (bytes : List ℕ) (e : Refusal) → IsText bytes → (e ≡ TooLong → MAX_LENGTH < length bytes) → (e ≡ TooLong) ⊎ (e ≡ OutOfMemory) → Refuses P e
-refuses_text P bytes e fits long why = elim why [ inl l ↦ absurd (omega (arith, long l)) | inr m ↦ subst (Refuses P) (sym m) tt ]
+pub refuses_text : (P : Type 0) (bytes : List ℕ) (e : Refusal) → IsText bytes → (e ≡ TooLong → MAX_LENGTH < length bytes) → (e ≡ TooLong) ⊎ (e ≡ OutOfMemory) → RefusesReading P e
+refuses_text P bytes e fits long why = elim why [ inl l ↦ absurd (omega (arith, long l)) | inr m ↦ subst (RefusesReading P) (sym m) tt ]

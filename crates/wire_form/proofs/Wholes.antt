@@ -4,7 +4,7 @@ use Rattle.std.specs.List.{flat_map, AllByRecursion}
 use Rattle.std.proofs.lemmas.Bool.{eqb-true}
 use Rattle.std.proofs.lemmas.List.{append-nil}
 use Rattle.std.proofs.lemmas.List.Concat.{flat_map-append}
-use Rattle.wire_form.specs.Spelling.{IsWhole, Begins, HasNone}
+use Rattle.wire_form.specs.Spelling.{IsWhole, Begins, HasNoSpelling}
 use Rattle.wire_form.specs.Unique.{IsUnique, HasBytes}
 
 module _ {V : Type 0} (spell : V → List ℕ) (Fits : V → Type 0) where
@@ -16,7 +16,7 @@ module _ {V : Type 0} (spell : V → List ℕ) (Fits : V → Type 0) where
   whole_spelled bytes v (x ∷ xs) read e = absurd (omega (arith, eqb-true (length (x ∷ xs)) 0 (sym e)))
   whole_spelled bytes v [] read e = record { fits = read.fits; spelling = read.parts ∙ append-nil (spell v) }
 
-  pub none_whole : (bytes : List ℕ) → HasNone spell Fits bytes → (v : V) → IsWhole spell Fits bytes v → ⊥
+  pub none_whole : (bytes : List ℕ) → HasNoSpelling spell Fits bytes → (v : V) → IsWhole spell Fits bytes v → ⊥
   none_whole bytes none v h = none v [] (record { fits = h.fits; parts = h.spelling ∙ sym (append-nil (spell v)) })
 
   pub one_whole : IsUnique spell Fits → IsOneWhole
@@ -67,7 +67,7 @@ module _ {X : Type 0} (item : X → List ℕ) (Item : X → Type 0) where
           let first = one x y (flat_map item xs ++ rest) (flat_map item ys) p.0 q.0 (sym (append_assoc (item x) (flat_map item xs) rest) ∙ e) in
           begins_behind xs ys rest p.1 q.1 first.1 more
 
-      pub none_items : (bytes : List ℕ) (xs : List X) (rest : List ℕ) → Begins (flat_map item) (AllByRecursion Item) bytes xs rest → 0 < length rest → HasNone item Item rest
+      pub none_items : (bytes : List ℕ) (xs : List X) (rest : List ℕ) → Begins (flat_map item) (AllByRecursion Item) bytes xs rest → 0 < length rest → HasNoSpelling item Item rest
           → (ys : List X) → IsWhole (flat_map item) (AllByRecursion Item) bytes ys → ⊥
       none_items bytes xs rest read more none ys h =
           let b = begins_behind xs ys rest read.fits h.fits (sym read.parts ∙ h.spelling) more in

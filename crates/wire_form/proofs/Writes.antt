@@ -13,7 +13,7 @@ use Rattle.causal_context.specs.Canonical.{IsCanonical}
 use Rattle.causal_context.specs.Dots.{dot_cmp}
 use Rattle.dot_store.specs.Stores.{at_values, NoKeyIsEmpty}
 use Rattle.causal_join.specs.OrMap.{ValuesValue, FieldsValue, OrMapStoreValue, fields_at}
-use Rattle.wire_form.specs.Parts.{text, IsText, dot, IsDot, entry, IsEntry, values, AreValues, fields, AreFields, context, IsContext}
+use Rattle.wire_form.specs.Parts.{text, IsText, dot_bytes, IsDot, entry, IsEntry, values_bytes, AreValues, fields_bytes, AreFields, context, IsContext}
 use Rattle.wire_form.specs.Store.{is_sole, alone, first_values, sole, AreSole, store, IsStore}
 use Rattle.wire_form.specs.Unique.{sole_is}
 use Rattle.wire_form.specs.Writing.{Appends}
@@ -73,14 +73,14 @@ module _ {X : Type 0} (item : X → List ℕ) (Item : X → Type 0) where
 
 -- ---- values, fields, stores and contexts
 
-pub values_appended : (old now : List ℕ) (vs made : ValuesValue) → Appends (counted (pair dot text)) (AreCounted (IsPair IsDot IsText)) old now made → made ≡ vs
-    → IsStrictlySortedBy dot_cmp (keys_of made) → Appends values AreValues old now vs
-values_appended old now vs made p e s = subst (λ (m : ValuesValue). Appends values AreValues old now m) e (record { fits = record { each = p.fits; ascend = s }; parts = p.parts })
+pub values_appended : (old now : List ℕ) (vs made : ValuesValue) → Appends (counted (pair dot_bytes text)) (AreCounted (IsPair IsDot IsText)) old now made → made ≡ vs
+    → IsStrictlySortedBy dot_cmp (keys_of made) → Appends values_bytes AreValues old now vs
+values_appended old now vs made p e s = subst (λ (m : ValuesValue). Appends values_bytes AreValues old now m) e (record { fits = record { each = p.fits; ascend = s }; parts = p.parts })
 
-pub fields_appended : (old now : List ℕ) (fs made : FieldsValue) → Appends (counted (pair text values)) (AreCounted (IsPair IsText AreValues)) old now made → made ≡ fs
-    → IsStrictlySortedBy bytes_cmp (keys_of made) → NoKeyIsEmpty at_values made → Appends fields AreFields old now fs
+pub fields_appended : (old now : List ℕ) (fs made : FieldsValue) → Appends (counted (pair text values_bytes)) (AreCounted (IsPair IsText AreValues)) old now made → made ≡ fs
+    → IsStrictlySortedBy bytes_cmp (keys_of made) → NoKeyIsEmpty at_values made → Appends fields_bytes AreFields old now fs
 fields_appended old now fs made p e ascend filled =
-    subst (λ (m : FieldsValue). Appends fields AreFields old now m) e (record { fits = record { each = p.fits; ascend = ascend; filled = filled }; parts = p.parts })
+    subst (λ (m : FieldsValue). Appends fields_bytes AreFields old now m) e (record { fits = record { each = p.fits; ascend = ascend; filled = filled }; parts = p.parts })
 
 -- the values of the empty field, where it is alone
 sole_lawful : (fs : FieldsValue) → fs ≡ alone (first_values fs) → AreValues (first_values fs) → IsStrictlySortedBy bytes_cmp (keys_of fs) → NoKeyIsEmpty at_values fs → AreFields fs
@@ -89,12 +89,12 @@ sole_lawful fs is lawful ascend filled =
     record { each = each; ascend = ascend; filled = filled }
 
 pub sole_appended : (old now : List ℕ) (fs : FieldsValue) (vs : ValuesValue) → is_sole fs ≡ true → IsStrictlySortedBy bytes_cmp (keys_of fs) → NoKeyIsEmpty at_values fs → vs ≡ first_values fs
-    → Appends values AreValues old now vs → Appends sole AreSole old now fs
+    → Appends values_bytes AreValues old now vs → Appends sole AreSole old now fs
 sole_appended old now fs vs t ascend filled is p =
-    let written = subst (λ (ws : ValuesValue). Appends values AreValues old now ws) is p in
+    let written = subst (λ (ws : ValuesValue). Appends values_bytes AreValues old now ws) is p in
     record { fits = record { lawful = sole_lawful fs (sole_is fs t) written.fits ascend filled; form = t }; parts = written.parts }
 
-pub full_store_appended : (old now : List ℕ) (s made : OrMapStoreValue) → Appends (counted (pair text fields)) (AreCounted (IsPair IsText AreFields)) old now made → made ≡ s
+pub full_store_appended : (old now : List ℕ) (s made : OrMapStoreValue) → Appends (counted (pair text fields_bytes)) (AreCounted (IsPair IsText AreFields)) old now made → made ≡ s
     → IsStrictlySortedBy bytes_cmp (keys_of made) → NoKeyIsEmpty fields_at made → Appends (store false) IsStore old now s
 full_store_appended old now s made p e ascend filled =
     subst (λ (m : OrMapStoreValue). Appends (store false) IsStore old now m) e (record { fits = record { each = p.fits; ascend = ascend; filled = filled }; parts = p.parts })
@@ -106,7 +106,7 @@ plain_store_appended old now s made p e ascend filled =
     subst (λ (m : OrMapStoreValue). Appends (store true) IsStore old now m) e (record { fits = record { each = each; ascend = ascend; filled = filled }; parts = p.parts })
 
 pub context_appended : (old mid new : List ℕ) (c : ContextValue) → Appends (counted entry) (AreCounted IsEntry) old mid c.vector → IsCanonical c
-    → Appends (counted dot) (AreCounted IsDot) mid new c.cloud → Appends context IsContext old new c
+    → Appends (counted dot_bytes) (AreCounted IsDot) mid new c.cloud → Appends context IsContext old new c
 context_appended old mid new c p canonical q =
-    let both = pair_appends (counted entry) (AreCounted IsEntry) (counted dot) (AreCounted IsDot) old mid new c.vector c.cloud p q in
+    let both = pair_appends (counted entry) (AreCounted IsEntry) (counted dot_bytes) (AreCounted IsDot) old mid new c.vector c.cloud p q in
     record { fits = record { entries = p.fits; dots = q.fits; canonical = canonical }; parts = both.parts }

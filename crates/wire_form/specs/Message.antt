@@ -16,7 +16,7 @@ use Rattle.wire_form.specs.declared.message.Message.{Message}
 use Rattle.wire_form.specs.declared.message.Message.TheVariants as variants
 use Rattle.wire_form.specs.Spelling.{pair, IsPair}
 use Rattle.wire_form.specs.Parts.{context, IsContext}
-use Rattle.wire_form.specs.Store.{is_plain, store, IsStore}
+use Rattle.wire_form.specs.Store.{is_plain_form, store, IsStore}
 use Rattle.wire_form.specs.Session.{SessionValue, session, IsSession}
 use Rattle.wire_form.specs.Prefix.{prefix, IsPrefix}
 use Rattle.wire_form.specs.Page.{digest, IsDigest}
@@ -88,13 +88,13 @@ pub record IsDelta (d : OrMapValue) : Type 0 where
 -- the bytes spell the body of the delta, whose store is of this form
 pub record SpellsBody (plain : Bool) (bytes : List ℕ) (d : OrMapValue) : Type 0 where
   pub lawful : IsDelta d
-  pub form : is_plain d.0 ≡ plain
+  pub form : is_plain_form d.0 ≡ plain
   pub spelling : bytes ≡ context d.1 ++ store plain d.0
 
 -- the bytes spell the delta
 pub record SpellsDelta (bytes : List ℕ) (d : OrMapValue) : Type 0 where
   pub lawful : IsDelta d
-  pub spelling : bytes ≡ version_of (is_plain d.0) ∷ DELTA ∷ context d.1 ++ store (is_plain d.0) d.0
+  pub spelling : bytes ≡ version_of (is_plain_form d.0) ∷ DELTA ∷ context d.1 ++ store (is_plain_form d.0) d.0
 
 -- the digest of a map, where the map has a key: 00 for none, and else 01 and the digest
 abbrev pub root : Option (List ℕ) → List ℕ
@@ -112,8 +112,8 @@ opening = pair context root
 abbrev pub IsOpening : ContextValue × Option (List ℕ) → Type 0
 IsOpening = IsPair IsContext IsRoot
 
-abbrev pub nothing : Unit {0} → List ℕ
-nothing u = []
+abbrev pub empty_spelling : Unit {0} → List ℕ
+empty_spelling u = []
 
 abbrev pub IsNothing : Unit {0} → Type 0
 IsNothing u = Unit {0}
@@ -131,7 +131,7 @@ Spells bytes (Hello s c) = SpellsIn HELLO context IsContext bytes s c
 Spells bytes (Opening s c r) = SpellsIn OPENING opening IsOpening bytes s (c, r)
 Spells bytes (Ask s p) = SpellsIn ASK prefix IsPrefix bytes s p
 Spells bytes (Page s p) = SpellsIn PAGE sent IsSent bytes s p
-Spells bytes (Gone s) = SpellsIn GONE nothing IsNothing bytes s tt
+Spells bytes (Gone s) = SpellsIn GONE empty_spelling IsNothing bytes s tt
 
 -- the bytes spell no message
 abbrev pub SpellsNone : List ℕ → Type 0

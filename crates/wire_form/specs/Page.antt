@@ -17,7 +17,7 @@ use Rattle.causal_context.specs.Dots.{dot_cmp}
 use Rattle.wire_form.specs.declared.page.Page.{Page}
 use Rattle.wire_form.specs.declared.page.Page.TheVariants as variants
 use Rattle.wire_form.specs.Spelling.{byte, IsByte, pair, IsPair, counted, AreCounted}
-use Rattle.wire_form.specs.Parts.{text, IsText, dot, IsDot}
+use Rattle.wire_form.specs.Parts.{text, IsText, dot_bytes, IsDot}
 
 -- what a contract sees of the names in a field, of the fields of a key, and of a key with its fields
 abbrev pub NamesValue : Type 0
@@ -50,7 +50,7 @@ IsDigest bytes = length bytes ≡ 32
 
 -- the names in a field: by ascending dot, each dot once, a dot and a digest each
 abbrev pub names : NamesValue → List ℕ
-names = counted (pair dot digest)
+names = counted (pair dot_bytes digest)
 
 pub record AreNames (ns : NamesValue) : Type 0 where
   pub each : AreCounted (IsPair IsDot IsDigest) ns

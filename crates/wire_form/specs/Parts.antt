@@ -26,8 +26,8 @@ abbrev pub IsText : List ℕ → Type 0
 IsText bytes = length bytes ≤ MAX_LENGTH
 
 -- a dot: its name and its number, both from 1
-abbrev pub dot : DotValue → List ℕ
-dot d = number d.name ++ number d.number
+abbrev pub dot_bytes : DotValue → List ℕ
+dot_bytes d = number d.name ++ number d.number
 
 abbrev pub IsDot : DotValue → Type 0
 IsDot d = IsName d.name × IsName d.number
@@ -41,7 +41,7 @@ IsEntry = IsPair IsName IsNumber
 
 -- a causal context: the entries of the vector, and the dots of the cloud
 abbrev pub context : ContextValue → List ℕ
-context c = counted entry c.vector ++ counted dot c.cloud
+context c = counted entry c.vector ++ counted dot_bytes c.cloud
 
 pub record IsContext (c : ContextValue) : Type 0 where
   pub entries : AreCounted IsEntry c.vector
@@ -49,16 +49,16 @@ pub record IsContext (c : ContextValue) : Type 0 where
   pub canonical : IsCanonical c
 
 -- the values of a field: by ascending dot, each dot once, a dot and a value each
-abbrev pub values : ValuesValue → List ℕ
-values = counted (pair dot text)
+abbrev pub values_bytes : ValuesValue → List ℕ
+values_bytes = counted (pair dot_bytes text)
 
 pub record AreValues (vs : ValuesValue) : Type 0 where
   pub each : AreCounted (IsPair IsDot IsText) vs
   pub ascend : IsStrictlySortedBy dot_cmp (keys_of vs)
 
 -- the fields of a key: by ascending field, each field once, a field and its values each, of which there is at least one
-abbrev pub fields : FieldsValue → List ℕ
-fields = counted (pair text values)
+abbrev pub fields_bytes : FieldsValue → List ℕ
+fields_bytes = counted (pair text values_bytes)
 
 pub record AreFields (fs : FieldsValue) : Type 0 where
   pub each : AreCounted (IsPair IsText AreValues) fs

@@ -14,6 +14,6 @@ pub record IsPrefix (path : List ℕ) : Type 0 where
   pub indices : AreIndices 0 path
 
 -- the longer path has one index more, which is the first of the bytes, and the rest of them stays
-pub record IsLonger (path bytes longer rest : List ℕ) : Type 0 where
+pub record IsOneLonger (path bytes longer rest : List ℕ) : Type 0 where
   pub more : length longer ≡ length path + 1
   pub moved : longer ++ rest ≡ path ++ bytes

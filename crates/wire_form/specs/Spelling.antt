@@ -47,5 +47,5 @@ pub record IsWhole {V : Type 0} (spell : V → List ℕ) (Fits : V → Type 0) (
   pub spelling : bytes ≡ spell value
 
 -- no spelling stands at the front of the bytes
-abbrev pub HasNone : {V : Type 0} → (V → List ℕ) → (V → Type 0) → List ℕ → Type 0
-HasNone {V} spell Fits bytes = (value : V) (rest : List ℕ) → Begins spell Fits bytes value rest → ⊥
+abbrev pub HasNoSpelling : {V : Type 0} → (V → List ℕ) → (V → Type 0) → List ℕ → Type 0
+HasNoSpelling {V} spell Fits bytes = (value : V) (rest : List ℕ) → Begins spell Fits bytes value rest → ⊥

@@ -13,7 +13,7 @@ use Rattle.dots.specs.Bytes.{bytes_cmp}
 use Rattle.dot_store.specs.Stores.{NoKeyIsEmpty}
 use Rattle.causal_join.specs.OrMap.{ValuesValue, FieldsValue, OrMapStoreValue, fields_at}
 use Rattle.wire_form.specs.Spelling.{pair, IsPair, counted, AreCounted}
-use Rattle.wire_form.specs.Parts.{text, IsText, values, fields, AreFields}
+use Rattle.wire_form.specs.Parts.{text, IsText, values_bytes, fields_bytes, AreFields}
 
 -- whether the empty field is there, and no other
 abbrev pub is_sole : FieldsValue → Bool
@@ -31,13 +31,13 @@ first_values [] = []
 first_values (f ∷ fs) = f.1
 
 -- whether each key has the empty field alone
-abbrev pub is_plain : OrMapStoreValue → Bool
-is_plain [] = true
-is_plain (e ∷ es) = is_sole e.1 && is_plain es
+abbrev pub is_plain_form : OrMapStoreValue → Bool
+is_plain_form [] = true
+is_plain_form (e ∷ es) = is_sole e.1 && is_plain_form es
 
 -- the fields of a key by the values of the empty one, and all fields that are spelled so
 abbrev pub sole : FieldsValue → List ℕ
-sole fs = values (first_values fs)
+sole fs = values_bytes (first_values fs)
 
 pub record AreSole (fs : FieldsValue) : Type 0 where
   pub lawful : AreFields fs
@@ -46,7 +46,7 @@ pub record AreSole (fs : FieldsValue) : Type 0 where
 -- a store in either form: by ascending key, each key once, a key and its fields each, of which there is at least one
 abbrev pub store : Bool → OrMapStoreValue → List ℕ
 store true = counted (pair text sole)
-store false = counted (pair text fields)
+store false = counted (pair text fields_bytes)
 
 pub record IsStore (s : OrMapStoreValue) : Type 0 where
   pub each : AreCounted (IsPair IsText AreFields) s
@@ -56,4 +56,4 @@ pub record IsStore (s : OrMapStoreValue) : Type 0 where
 -- which stores are spelled in this form
 pub record IsStoreOf (plain : Bool) (s : OrMapStoreValue) : Type 0 where
   pub lawful : IsStore s
-  pub form : is_plain s ≡ plain
+  pub form : is_plain_form s ≡ plain

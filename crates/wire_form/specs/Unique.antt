@@ -10,7 +10,7 @@ use Rattle.dots.specs.Bytes.{MAX_LENGTH}
 use Rattle.dots.specs.Dot.{DotValue}
 use Rattle.wire_form.specs.Spelling.{number, IsNumber, pair, IsPair, counted, AreCounted}
 use Rattle.causal_join.specs.OrMap.{FieldsValue}
-use Rattle.wire_form.specs.Parts.{IsName, text, IsText, dot, IsDot, values, AreValues, fields, AreFields}
+use Rattle.wire_form.specs.Parts.{IsName, text, IsText, dot_bytes, IsDot, values_bytes, AreValues, fields_bytes, AreFields}
 use Rattle.wire_form.specs.Store.{is_sole, alone, first_values, sole, AreSole}
 
 -- no two spellings stand at the front of the same bytes
@@ -65,13 +65,13 @@ name_unique m n a b p q e = number_unique m n a b p.1 q.1 e
 pub name_starts : (n : ℕ) → IsName n → 0 < length (number n)
 name_starts n p = number_starts n p.1
 
-pub dot_unique : IsUnique dot IsDot
+pub dot_unique : IsUnique dot_bytes IsDot
 dot_unique d e a b p q h =
     let both = pair_unique number IsName number IsName name_unique name_unique (d.name, d.number) (e.name, e.number) a b p q h in
     let made : ℕ × ℕ → DotValue = λ x. record { name = x.0; number = x.1 } in
     (ap made both.0, both.1)
 
-pub dot_starts : (d : DotValue) → IsDot d → 0 < length (dot d)
+pub dot_starts : (d : DotValue) → IsDot d → 0 < length (dot_bytes d)
 dot_starts d p = pair_starts number IsName number IsName name_starts (d.name, d.number) p
 
 -- ---- texts
@@ -114,19 +114,19 @@ module _ {X : Type 0} (item : X → List ℕ) (Item : X → Type 0) where
 
 -- ---- the values of a field, and the fields of a key
 
-pub values_unique : IsUnique values AreValues
+pub values_unique : IsUnique values_bytes AreValues
 values_unique vs ws a b p q e =
-    counted_unique (pair dot text) (IsPair IsDot IsText) (pair_unique dot IsDot text IsText dot_unique text_unique) vs ws a b p.each q.each e
+    counted_unique (pair dot_bytes text) (IsPair IsDot IsText) (pair_unique dot_bytes IsDot text IsText dot_unique text_unique) vs ws a b p.each q.each e
 
-pub values_starts : HasBytes values AreValues
-values_starts vs p = counted_starts (pair dot text) (IsPair IsDot IsText) vs p.each
+pub values_starts : HasBytes values_bytes AreValues
+values_starts vs p = counted_starts (pair dot_bytes text) (IsPair IsDot IsText) vs p.each
 
-pub fields_unique : IsUnique fields AreFields
+pub fields_unique : IsUnique fields_bytes AreFields
 fields_unique fs gs a b p q e =
-    counted_unique (pair text values) (IsPair IsText AreValues) (pair_unique text IsText values AreValues text_unique values_unique) fs gs a b p.each q.each e
+    counted_unique (pair text values_bytes) (IsPair IsText AreValues) (pair_unique text IsText values_bytes AreValues text_unique values_unique) fs gs a b p.each q.each e
 
-pub fields_starts : HasBytes fields AreFields
-fields_starts fs p = counted_starts (pair text values) (IsPair IsText AreValues) fs p.each
+pub fields_starts : HasBytes fields_bytes AreFields
+fields_starts fs p = counted_starts (pair text values_bytes) (IsPair IsText AreValues) fs p.each
 
 -- ---- the empty field alone
 

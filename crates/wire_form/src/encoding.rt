@@ -77,7 +77,7 @@ fn write_cloud<A: Allocator + Copy>(
     out: &mut Vec<u8, A>,
     context: &Context<A>,
 ) -> Result<(), Refusal>
-    ensures ok { OnOk result (Appends (counted part.dot) (AreCounted part.IsDot) out.old.items out.new.items context.now.cloud) }
+    ensures ok { OnOk result (Appends (counted part.dot_bytes) (AreCounted part.IsDot) out.old.items out.new.items context.now.cloud) }
     ensures err { IsOkUnless result Refusal.OutOfMemory }
 {
     let dots = context.cloud();
@@ -94,7 +94,7 @@ fn write_store<A: Allocator + Copy>(
     plain: bool,
     store: &OrMapStore<A>,
 ) -> Result<(), Refusal>
-    requires { form.is_plain store.now ≡ plain }
+    requires { form.is_plain_form store.now ≡ plain }
     ensures ok { OnOk result (Appends (form.store plain) form.IsStore out.old.items out.new.items store.now) }
     ensures err { IsOkUnless result Refusal.OutOfMemory }
 {
@@ -109,7 +109,7 @@ fn write_plain_store<A: Allocator + Copy>(
     out: &mut Vec<u8, A>,
     store: &OrMapStore<A>,
 ) -> Result<(), Refusal>
-    requires { form.is_plain store.now ≡ true }
+    requires { form.is_plain_form store.now ≡ true }
     ensures ok { OnOk result (Appends (form.store true) form.IsStore out.old.items out.new.items store.now) }
     ensures err { IsOkUnless result Refusal.OutOfMemory }
 {
@@ -154,7 +154,7 @@ fn write_fields<A: Allocator + Copy>(
     out: &mut Vec<u8, A>,
     fields: &Fields<A>,
 ) -> Result<(), Refusal>
-    ensures ok { OnOk result (Appends part.fields part.AreFields out.old.items out.new.items fields.now) }
+    ensures ok { OnOk result (Appends part.fields_bytes part.AreFields out.old.items out.new.items fields.now) }
     ensures err { IsOkUnless result Refusal.OutOfMemory }
 {
     let entries = fields.entries();
@@ -170,7 +170,7 @@ fn write_values<A: Allocator + Copy>(
     out: &mut Vec<u8, A>,
     values: &DotFun<Value<A>, A>,
 ) -> Result<(), Refusal>
-    ensures ok { OnOk result (Appends part.values part.AreValues out.old.items out.new.items values.now) }
+    ensures ok { OnOk result (Appends part.values_bytes part.AreValues out.old.items out.new.items values.now) }
     ensures err { IsOkUnless result Refusal.OutOfMemory }
 {
     let entries = values.entries();
@@ -196,7 +196,7 @@ pub(crate) fn write_text<A: Allocator + Copy>(
 }
 
 pub(crate) fn write_dot<A: Allocator + Copy>(out: &mut Vec<u8, A>, dot: Dot) -> Result<(), Refusal>
-    ensures ok { OnOk result (Appends part.dot part.IsDot out.old.items out.new.items dot) }
+    ensures ok { OnOk result (Appends part.dot_bytes part.IsDot out.old.items out.new.items dot) }
     ensures err { IsOkUnless result Refusal.OutOfMemory }
 {
     write_name(out, dot.name())?;

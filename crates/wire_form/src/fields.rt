@@ -1,5 +1,5 @@
 // The fields of a key as a part of a message.
-ghost use Rattle.wire_form.specs.Parts.{fields, AreFields};
+ghost use Rattle.wire_form.specs.Parts.{fields_bytes, AreFields};
 ghost use Rattle.wire_form.specs.Unique.{fields_starts, fields_unique};
 
 use crate::items::read_items;
@@ -10,7 +10,7 @@ use dots::{Field, Refusal, Value};
 use std::alloc::Allocator;
 
 impl<A: Allocator + Copy> Spelled<A> for Fields<A> {
-    ghost spell = { fields };
+    ghost spell = { fields_bytes };
 
     ghost fits = { AreFields };
 

@@ -1,5 +1,5 @@
 // Counted parts: how many, and then each.
-ghost use Rattle.std.specs.Prelude.{◌≡◌, List, length};
+ghost use Rattle.std.specs.Prelude.{◌≡◌, length};
 ghost use Rattle.std.specs.List.{flat_map, AllByRecursion};
 ghost use Rattle.wire_form.specs.Spelling.{counted, AreCounted};
 ghost use Rattle.wire_form.specs.Reading.{Reads};

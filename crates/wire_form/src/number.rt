@@ -1,7 +1,7 @@
 // Numbers, names and dots as parts.
 ghost use Rattle.std.specs.Prelude.{◌≡◌, ◌≤◌, ◌↔◌, IsSome, IfSome};
 ghost use Rattle.wire_form.specs.Spelling.{number, IsNumber};
-ghost use Rattle.wire_form.specs.Parts.{IsName, dot, IsDot};
+ghost use Rattle.wire_form.specs.Parts.{IsName, dot_bytes, IsDot};
 ghost use Rattle.wire_form.specs.Unique.{number_starts, number_unique, name_starts, name_unique, dot_starts, dot_unique};
 
 use crate::spelled::Spelled;
@@ -56,7 +56,7 @@ fn dot_of(name: u64, number: u64) -> Option<Dot>
 }
 
 impl<A: Allocator + Copy> Spelled<A> for Dot {
-    ghost spell = { dot };
+    ghost spell = { dot_bytes };
 
     ghost fits = { IsDot };
 

@@ -4,7 +4,7 @@ ghost use Rattle.std.specs.List.Sorted.{IsStrictlySortedBy};
 ghost use Rattle.std.specs.Map.{keys_of};
 ghost use Rattle.dots.specs.Bytes.{bytes_cmp};
 ghost use Rattle.dot_store.specs.Stores.{at_values, NoKeyIsEmpty};
-ghost use Rattle.wire_form.specs.Store.{is_plain, is_sole, alone, first_values, sole, AreSole};
+ghost use Rattle.wire_form.specs.Store.{is_plain_form, is_sole, alone, first_values, sole, AreSole};
 ghost use Rattle.wire_form.specs.Unique.{sole_starts, sole_unique};
 
 use crate::spelled::Spelled;
@@ -100,7 +100,7 @@ fn is_alone<A: Allocator + Copy>(fields: &Fields<A>) -> bool
 
 // Whether each key of the store has the empty field alone.
 pub(crate) fn is_plain_store<A: Allocator + Copy>(store: &OrMapStore<A>) -> bool
-    ensures { result ≡ is_plain store.now }
+    ensures { result ≡ is_plain_form store.now }
 {
     let entries = store.entries();
     for (_, fields) in entries {

@@ -40,7 +40,7 @@ fn read_indices(depth: u8, bytes: &[u8]) -> Result<(Prefix, &[u8]), Refusal>
 fn read_index(prefix: Prefix, bytes: &[u8]) -> Option<(Prefix, &[u8])>
     ensures { MatchOption result
         ((index : _) (rest : _) → bytes.now ≡ index ∷ rest → (length prefix ≡ 7) ⊎ (last_index (length prefix) < index))
-        (λ r. form.IsLonger prefix bytes.now r.0 r.1.now) }
+        (λ r. form.IsOneLonger prefix bytes.now r.0 r.1.now) }
 {
     let (index, rest) = bytes.split_first()?;
     let child = prefix.child(u32::from(*index))?;

@@ -2,7 +2,7 @@
 ghost use Rattle.std.specs.Prelude.{◌∷◌};
 ghost use Rattle.wire_form.specs.Spelling.{IsWhole};
 ghost use Rattle.wire_form.specs.Parts.{context, IsContext};
-ghost use Rattle.wire_form.specs.Message.{message_of, Spells, VERSION, HELLO, OPENING, ASK, PAGE, GONE, root, IsRoot, opening, IsOpening, nothing, IsNothing};
+ghost use Rattle.wire_form.specs.Message.{message_of, Spells, VERSION, HELLO, OPENING, ASK, PAGE, GONE, root, IsRoot, opening, IsOpening, empty_spelling, IsNothing};
 ghost use Rattle.wire_form.specs.Reading.{ReadsAll};
 
 use crate::context::read_context;
@@ -107,7 +107,7 @@ fn read_root(bytes: &[u8]) -> Result<Option<[u8; 32]>, Refusal>
 
 // No bytes at all.
 fn read_nothing(bytes: &[u8]) -> Result<(), Refusal>
-    ensures { ReadsAll (λ u. u) (IsWhole nothing IsNothing bytes.now) result }
+    ensures { ReadsAll (λ u. u) (IsWhole empty_spelling IsNothing bytes.now) result }
 {
     if !bytes.is_empty() {
         return Err(Refusal::NotAMessage);

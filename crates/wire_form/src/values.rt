@@ -1,5 +1,5 @@
 // The values of a field as a part of a message.
-ghost use Rattle.wire_form.specs.Parts.{values, AreValues};
+ghost use Rattle.wire_form.specs.Parts.{values_bytes, AreValues};
 ghost use Rattle.wire_form.specs.Unique.{values_starts, values_unique};
 
 use crate::items::read_items;
@@ -9,7 +9,7 @@ use dots::{Dot, Refusal, Value};
 use std::alloc::Allocator;
 
 impl<A: Allocator + Copy> Spelled<A> for DotFun<Value<A>, A> {
-    ghost spell = { values };
+    ghost spell = { values_bytes };
 
     ghost fits = { AreValues };
 

@@ -1,5 +1,5 @@
 // Readers beside the Writer, each in a thread of its own.
-ghost use Rattle.std.specs.Prelude.{◌≡◌, ◌+◌, ◌<◌, ℕ, List, [], ◌∷◌, ◌++◌, sum, length};
+ghost use Rattle.std.specs.Prelude.{◌≡◌, ◌+◌, ◌<◌, ℕ, List, [], ◌∷◌, ◌++◌, sum};
 
 use super::look;
 use root_cell::{Brand, Cell, Itself, Note, OpenedBook, View, Writer};

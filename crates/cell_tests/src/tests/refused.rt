@@ -1,5 +1,5 @@
 // A cell in a small heap, which refuses what does not fit.
-ghost use Rattle.std.specs.Prelude.{◌≡◌, ℕ, List, [], sum};
+ghost use Rattle.std.specs.Prelude.{◌≡◌, ℕ, List, sum};
 
 use super::sees;
 use dots::Refusal;

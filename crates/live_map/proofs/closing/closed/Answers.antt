@@ -3,7 +3,7 @@ use Rattle.causal_context.specs.Context.{has}
 use Rattle.trie_map.specs.Keyed.{at_keys}
 use Rattle.trie_map.specs.Joined.{IsJoinedAt, IsEitherAt}
 use Rattle.trie_map.proofs.Written.{if_ok}
-use Rattle.live_map.specs.Closing.{entries_of}
+use Rattle.live_map.specs.Closing.{stores_of}
 use Rattle.live_map.proofs.Changing.{only_joined}
 use Rattle.live_map.proofs.closing.closed.Goals as goal
 
@@ -13,7 +13,7 @@ returns-clause-ok g c =
     let greater = g.S.DotStore.greater in
     let mine = c.args.mine.now in
     let own = has c.args.own.now in
-    let yours = at_keys at (entries_of c.args.built.now) in
+    let yours = at_keys at (stores_of c.args.built.now) in
     let theirs = has c.args.theirs.now in
     if_ok c.finish.result
     (λ both is. only_joined at greater mine own yours theirs c.args.keys.now.keys c.requires both

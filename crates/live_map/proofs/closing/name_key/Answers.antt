@@ -3,14 +3,14 @@ use Rattle.std.specs.Prelude.{is_some}
 use Rattle.std.specs.Borrow.{Bor}
 use Rattle.trie_map.specs.Keyed.{at_keys}
 use Rattle.trie_map.proofs.Written.{on_ok, holds_either}
-use Rattle.live_map.specs.Closing.{entries_of}
+use Rattle.live_map.specs.Closing.{stores_of}
 use Rattle.live_map.proofs.closing.name_key.Goals as goal
 
 pub returns-clause-there : goal.returns-clause-there
 returns-clause-there g c =
     let at = g.S.DotStore.at in
     let key = c.args.key.now in
-    let holds : (place : _) (d : _) → at_keys at (entries_of c.args.built.now) (key, place) d ≡ at c.unwrap_or.result.now place d =
-    subst (λ (b : Bor g.row.S.Denot). (place : _) (d : _) → at_keys at (entries_of c.args.built.now) (key, place) d ≡ at b.now place d) (sym c.unwrap_or.ensures)
-    (holds_either at (entries_of c.args.built.now) key c.lookup.result _ c.lookup.ensures c.empty-empty.ensures) in
+    let holds : (place : _) (d : _) → at_keys at (stores_of c.args.built.now) (key, place) d ≡ at c.unwrap_or.result.now place d =
+    subst (λ (b : Bor g.row.S.Denot). (place : _) (d : _) → at_keys at (stores_of c.args.built.now) (key, place) d ≡ at b.now place d) (sym c.unwrap_or.ensures)
+    (holds_either at (stores_of c.args.built.now) key c.lookup.result _ c.lookup.ensures c.empty-empty.ensures) in
     on_ok c.add_dots.result (λ there place d h. there d (c.in_ok-dots.ensures.all place d (ap is_some (sym (holds place d)) ∙ h))) c.add_dots.ensures.there

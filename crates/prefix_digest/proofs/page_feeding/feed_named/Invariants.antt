@@ -3,8 +3,8 @@ use Rattle.std.specs.List.{flat_map}
 use Rattle.wire_form.specs.Spelling.{number, pair}
 use Rattle.wire_form.specs.Parts.{text}
 use Rattle.wire_form.specs.Page.{names}
-use Rattle.prefix_digest.specs.Taking.{Takes}
+use Rattle.prefix_digest.specs.Taking.{TakesBytes}
 use Rattle.prefix_digest.proofs.page_feeding.feed_named.Given as goal
 
 abbrev pub invariant-loop-field : goal.invariant-loop-field
-invariant-loop-field g l = Takes l.fn.hasher l.hasher (number (length l.entries) ++ flat_map (pair text names) (take l.field-index l.entries))
+invariant-loop-field g l = TakesBytes l.fn.hasher l.hasher (number (length l.entries) ++ flat_map (pair text names) (take l.field-index l.entries))

@@ -1,7 +1,6 @@
 use Rattle.std.proofs.Common.{sym, ap, ◌∙◌, arith}
-use Rattle.replica_model.specs.Replica.{same_session}
 use Rattle.sync_protocol.specs.Asking.{AskerValue}
-use Rattle.wire_form.specs.Session.{SessionValue}
+use Rattle.wire_form.specs.Session.{SessionValue, same_session}
 use Rattle.replica_core.proofs.Firsts.{first_here, none_here, none_anywhere}
 use Rattle.replica_core.proofs.sessions.place_of.Goals as goal
 

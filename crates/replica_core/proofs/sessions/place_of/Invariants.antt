@@ -1,5 +1,5 @@
 use Rattle.replica_core.proofs.Firsts.{NoneBefore}
-use Rattle.replica_model.specs.Replica.{same_session}
+use Rattle.wire_form.specs.Session.{same_session}
 use Rattle.sync_protocol.specs.Asking.{AskerValue}
 use Rattle.replica_core.proofs.sessions.place_of.Given as goal
 

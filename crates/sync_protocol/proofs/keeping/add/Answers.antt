@@ -1,6 +1,6 @@
 use Rattle.std.proofs.Common.{◌∙◌}
 use Rattle.indexmap.proofs.CallerLemmas.{insert_entry-new}
-use Rattle.sync_protocol.specs.Answering.{same_session}
+use Rattle.wire_form.specs.Session.{same_session}
 use Rattle.sync_protocol.proofs.keeping.add.Goals as goal
 
 pub returns : goal.returns

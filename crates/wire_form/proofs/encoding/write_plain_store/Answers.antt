@@ -1,7 +1,7 @@
 use Rattle.std.proofs.Common.{length, subst, ap, ◌∙◌}
 use Rattle.wire_form.specs.Spelling.{pair, IsPair}
 use Rattle.wire_form.specs.Parts.{text, IsText}
-use Rattle.wire_form.specs.Store.{is_plain, sole, AreSole}
+use Rattle.wire_form.specs.Store.{is_plain_form, sole, AreSole}
 use Rattle.wire_form.specs.Writing.{Appends}
 use Rattle.wire_form.proofs.Plains.{sole_at}
 use Rattle.wire_form.proofs.Writes.{pair_appends, next_written, list_written, plain_store_appended}
@@ -9,7 +9,7 @@ use Rattle.wire_form.proofs.encoding.write_plain_store.Goals as goal
 
 pub write_alone-requires : goal.write_alone-requires
 write_alone-requires g c =
-    sole_at c.entries-entries.result.now c.loop-key.key-index c.loop-key-item.result c.loop-key-test.true c.loop-key-item.is (ap is_plain c.entries-entries.ensures.rest ∙ c.requires)
+    sole_at c.entries-entries.result.now c.loop-key.key-index c.loop-key-item.result c.loop-key-test.true c.loop-key-item.is (ap is_plain_form c.entries-entries.ensures.rest ∙ c.requires)
 
 pub loop-key-preserved : goal.loop-key-preserved
 loop-key-preserved g c =

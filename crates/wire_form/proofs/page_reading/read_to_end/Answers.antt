@@ -1,7 +1,7 @@
 use Rattle.std.proofs.Common.{List}
 use Rattle.std.proofs.lemmas.Result.{err_from_is_err_and}
 use Rattle.std.specs.List.{flat_map, AllByRecursion}
-use Rattle.wire_form.specs.Spelling.{IsWhole, HasNone}
+use Rattle.wire_form.specs.Spelling.{IsWhole, HasNoSpelling}
 use Rattle.wire_form.proofs.Reading.{refuses_weaker}
 use Rattle.wire_form.proofs.Wholes.{whole_spelled, items_none, items_more, items_shorter, none_items, some_bytes}
 use Rattle.wire_form.proofs.page_reading.read_to_end.Goals as goal
@@ -15,7 +15,7 @@ returns-in_err-item g c =
     let fits = g.T.Spelled.fits in
     let p = err_from_is_err_and c.from_residual.result c.from_residual.ensures.1 in
     rw (p.1, p.2)
-    (refuses_weaker (HasNone spell fits c.loop-rest.rest.now) ((ys : List g.row.T.Denot) → IsWhole (flat_map spell) (AllByRecursion fits) c.args.bytes.now ys → ⊥) c.in_err-item.field-0.0
+    (refuses_weaker (HasNoSpelling spell fits c.loop-rest.rest.now) ((ys : List g.row.T.Denot) → IsWhole (flat_map spell) (AllByRecursion fits) c.args.bytes.now ys → ⊥) c.in_err-item.field-0.0
     (none_items spell fits g.met.T.Spelled.starts g.met.T.Spelled.unique c.args.bytes.now c.loop-rest.items.items c.loop-rest.rest.now c.loop-rest.invariant (some_bytes c.loop-rest.rest.now c.loop-rest-test.ensures)) c.in_err-item.ensures)
 
 pub loop-rest-smaller : goal.loop-rest-smaller

@@ -1,6 +1,6 @@
 use Rattle.std.proofs.Common.{◌++◌}
 use Rattle.std.proofs.lemmas.Result.{err_from_is_err_and}
-use Rattle.wire_form.specs.Spelling.{counted, AreCounted, IsWhole, HasNone}
+use Rattle.wire_form.specs.Spelling.{counted, AreCounted, IsWhole, HasNoSpelling}
 use Rattle.wire_form.specs.Parts.{text, IsText}
 use Rattle.wire_form.specs.Prefix.{prefix}
 use Rattle.wire_form.specs.Page.{PageValue, value_of, spelled, ArePartsOf}
@@ -12,7 +12,7 @@ pub returns-in_err-values : goal.returns-in_err-values
 returns-in_err-values g c =
     let p = err_from_is_err_and c.from_residual.result c.from_residual.ensures.1 in
     rw (p.1, p.2)
-    (refuses_weaker (HasNone (counted text) (AreCounted IsText) c.args.bytes.now) (SpellsNoSent (prefix c.args.prefix ++ c.args.bytes.now)) c.in_err-values.field-0.0
+    (refuses_weaker (HasNoSpelling (counted text) (AreCounted IsText) c.args.bytes.now) (SpellsNoSent (prefix c.args.prefix ++ c.args.bytes.now)) c.in_err-values.field-0.0
     (no_sent_values c.args.prefix c.args.bytes.now c.requires) c.in_err-values.ensures)
 
 pub returns-in_err-page : goal.returns-in_err-page

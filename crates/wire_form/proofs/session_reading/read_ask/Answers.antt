@@ -1,6 +1,6 @@
 use Rattle.std.specs.Prelude.{ℕ, List, ◌∷◌}
 use Rattle.std.proofs.lemmas.Result.{err_from_is_err_and}
-use Rattle.wire_form.specs.Spelling.{HasNone, IsWhole}
+use Rattle.wire_form.specs.Spelling.{HasNoSpelling, IsWhole}
 use Rattle.wire_form.specs.Session.{session, IsSession}
 use Rattle.wire_form.specs.Prefix.{prefix, IsPrefix}
 use Rattle.wire_form.specs.Message.{SpellsNone}
@@ -18,5 +18,5 @@ returns-in_err-read_whole_prefix-in-Ok g c =
 
 pub returns-in-Err : goal.returns-in-Err
 returns-in-Err g c =
-    refuses_weaker (HasNone session IsSession c.args.bytes.now) (SpellsNone (3 ∷ 5 ∷ c.args.bytes.now)) c.in-Err.refusal
+    refuses_weaker (HasNoSpelling session IsSession c.args.bytes.now) (SpellsNone (3 ∷ 5 ∷ c.args.bytes.now)) c.in-Err.refusal
     (λ none. no_ask c.args.bytes.now (none_in_session 5 prefix IsPrefix c.args.bytes.now none)) c.in-Err.ensures

@@ -1,8 +1,8 @@
 use Rattle.std.specs.Prelude.{◌∷◌}
 use Rattle.std.proofs.lemmas.Result.{err_from_is_err_and}
-use Rattle.wire_form.specs.Spelling.{HasNone, IsWhole}
+use Rattle.wire_form.specs.Spelling.{HasNoSpelling, IsWhole}
 use Rattle.wire_form.specs.Session.{session, IsSession}
-use Rattle.wire_form.specs.Message.{SpellsNone, nothing, IsNothing}
+use Rattle.wire_form.specs.Message.{SpellsNone, empty_spelling, IsNothing}
 use Rattle.wire_form.proofs.Reading.{refuses_weaker}
 use Rattle.wire_form.proofs.Messages.{none_in_session, none_in_said, no_gone}
 use Rattle.wire_form.proofs.session_reading.read_gone.Goals as goal
@@ -12,10 +12,10 @@ returns-in_err-read_nothing-in-Ok g c =
     let p = err_from_is_err_and c.from_residual.result c.from_residual.ensures.1 in
     let rest = c.in-Ok.front.1.now in
     rw (p.1, p.2)
-    (refuses_weaker ((v : Unit {0}) → IsWhole nothing IsNothing rest v → ⊥) (SpellsNone (3 ∷ 7 ∷ c.args.bytes.now)) c.in_err-read_nothing-in-Ok.field-0.0
-    (λ none. no_gone c.args.bytes.now (none_in_said 7 nothing IsNothing c.args.bytes.now c.in-Ok.front.0 rest c.in-Ok.ensures none)) c.in_err-read_nothing-in-Ok.ensures)
+    (refuses_weaker ((v : Unit {0}) → IsWhole empty_spelling IsNothing rest v → ⊥) (SpellsNone (3 ∷ 7 ∷ c.args.bytes.now)) c.in_err-read_nothing-in-Ok.field-0.0
+    (λ none. no_gone c.args.bytes.now (none_in_said 7 empty_spelling IsNothing c.args.bytes.now c.in-Ok.front.0 rest c.in-Ok.ensures none)) c.in_err-read_nothing-in-Ok.ensures)
 
 pub returns-in-Err : goal.returns-in-Err
 returns-in-Err g c =
-    refuses_weaker (HasNone session IsSession c.args.bytes.now) (SpellsNone (3 ∷ 7 ∷ c.args.bytes.now)) c.in-Err.refusal
-    (λ none. no_gone c.args.bytes.now (none_in_session 7 nothing IsNothing c.args.bytes.now none)) c.in-Err.ensures
+    refuses_weaker (HasNoSpelling session IsSession c.args.bytes.now) (SpellsNone (3 ∷ 7 ∷ c.args.bytes.now)) c.in-Err.refusal
+    (λ none. no_gone c.args.bytes.now (none_in_session 7 empty_spelling IsNothing c.args.bytes.now none)) c.in-Err.ensures

@@ -1,7 +1,7 @@
 use Rattle.std.specs.Prelude.{◌∷◌}
 use Rattle.std.proofs.lemmas.Result.{err_from_is_err_and}
 use Rattle.causal_context.specs.Context.{ContextValue}
-use Rattle.wire_form.specs.Spelling.{HasNone, IsWhole}
+use Rattle.wire_form.specs.Spelling.{HasNoSpelling, IsWhole}
 use Rattle.wire_form.specs.Session.{session, IsSession}
 use Rattle.wire_form.specs.Parts.{context, IsContext}
 use Rattle.wire_form.specs.Message.{SpellsNone}
@@ -19,5 +19,5 @@ returns-in_err-read_known-in-Ok g c =
 
 pub returns-in-Err : goal.returns-in-Err
 returns-in-Err g c =
-    refuses_weaker (HasNone session IsSession c.args.bytes.now) (SpellsNone (3 ∷ 3 ∷ c.args.bytes.now)) c.in-Err.refusal
+    refuses_weaker (HasNoSpelling session IsSession c.args.bytes.now) (SpellsNone (3 ∷ 3 ∷ c.args.bytes.now)) c.in-Err.refusal
     (λ none. no_hello c.args.bytes.now (none_in_session 3 context IsContext c.args.bytes.now none)) c.in-Err.ensures

@@ -1,7 +1,7 @@
 use Rattle.std.specs.Prelude.{ℕ, List, Option, ◌∷◌}
 use Rattle.std.proofs.lemmas.Result.{err_from_is_err_and}
 use Rattle.causal_context.specs.Context.{ContextValue}
-use Rattle.wire_form.specs.Spelling.{HasNone, IsWhole}
+use Rattle.wire_form.specs.Spelling.{HasNoSpelling, IsWhole}
 use Rattle.wire_form.specs.Session.{session, IsSession}
 use Rattle.wire_form.specs.Message.{SpellsNone, opening, IsOpening}
 use Rattle.wire_form.proofs.Reading.{refuses_weaker}
@@ -18,5 +18,5 @@ returns-in_err-shown-in-Ok g c =
 
 pub returns-in-Err : goal.returns-in-Err
 returns-in-Err g c =
-    refuses_weaker (HasNone session IsSession c.args.bytes.now) (SpellsNone (3 ∷ 4 ∷ c.args.bytes.now)) c.in-Err.refusal
+    refuses_weaker (HasNoSpelling session IsSession c.args.bytes.now) (SpellsNone (3 ∷ 4 ∷ c.args.bytes.now)) c.in-Err.refusal
     (λ none. no_opening c.args.bytes.now (none_in_session 4 opening IsOpening c.args.bytes.now none)) c.in-Err.ensures

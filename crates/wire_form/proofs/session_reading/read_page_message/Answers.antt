@@ -1,6 +1,6 @@
 use Rattle.std.specs.Prelude.{◌∷◌}
 use Rattle.std.proofs.lemmas.Result.{err_from_is_err_and}
-use Rattle.wire_form.specs.Spelling.{HasNone, IsWhole}
+use Rattle.wire_form.specs.Spelling.{HasNoSpelling, IsWhole}
 use Rattle.wire_form.specs.Session.{session, IsSession}
 use Rattle.wire_form.specs.Sent.{SentValue, sent, IsSent}
 use Rattle.wire_form.specs.Message.{SpellsNone}
@@ -18,5 +18,5 @@ returns-in_err-read_sent-in-Ok g c =
 
 pub returns-in-Err : goal.returns-in-Err
 returns-in-Err g c =
-    refuses_weaker (HasNone session IsSession c.args.bytes.now) (SpellsNone (3 ∷ 6 ∷ c.args.bytes.now)) c.in-Err.refusal
+    refuses_weaker (HasNoSpelling session IsSession c.args.bytes.now) (SpellsNone (3 ∷ 6 ∷ c.args.bytes.now)) c.in-Err.refusal
     (λ none. no_page c.args.bytes.now (none_in_session 6 sent IsSent c.args.bytes.now none)) c.in-Err.ensures

@@ -1,7 +1,7 @@
 use Rattle.std.proofs.Common.{false, refl, sym}
 use Rattle.std.proofs.lemmas.Result.{err_from_is_err_and}
-use Rattle.wire_form.specs.Spelling.{pair, IsPair, counted, AreCounted, HasNone}
-use Rattle.wire_form.specs.Parts.{text, IsText, fields, AreFields}
+use Rattle.wire_form.specs.Spelling.{pair, IsPair, counted, AreCounted, HasNoSpelling}
+use Rattle.wire_form.specs.Parts.{text, IsText, fields_bytes, AreFields}
 use Rattle.wire_form.specs.Store.{store, IsStoreOf}
 use Rattle.wire_form.proofs.Reading.{refuses_weaker}
 use Rattle.wire_form.proofs.Stores.{full_store_begins, no_full_items, no_full_store, no_fields_of_plain}
@@ -11,7 +11,7 @@ pub returns-in_err-entries : goal.returns-in_err-entries
 returns-in_err-entries g c =
     let p = err_from_is_err_and c.from_residual.result c.from_residual.ensures.1 in
     rw (p.1, p.2)
-    (refuses_weaker (HasNone (counted (pair text fields)) (AreCounted (IsPair IsText AreFields)) c.args.bytes.now) (HasNone (store false) (IsStoreOf false) c.args.bytes.now) c.in_err-entries.field-0.0
+    (refuses_weaker (HasNoSpelling (counted (pair text fields_bytes)) (AreCounted (IsPair IsText AreFields)) c.args.bytes.now) (HasNoSpelling (store false) (IsStoreOf false) c.args.bytes.now) c.in_err-entries.field-0.0
     (no_full_items c.args.bytes.now) c.in_err-entries.ensures)
 
 pub returns-then-is_plain_store : goal.returns-then-is_plain_store

@@ -1,6 +1,6 @@
 use Rattle.std.proofs.Common.{true, refl, ◌∙◌}
 use Rattle.std.proofs.lemmas.Result.{err_from_is_err_and}
-use Rattle.wire_form.specs.Spelling.{pair, IsPair, counted, AreCounted, HasNone}
+use Rattle.wire_form.specs.Spelling.{pair, IsPair, counted, AreCounted, HasNoSpelling}
 use Rattle.wire_form.specs.Parts.{text, IsText}
 use Rattle.wire_form.specs.Store.{sole, AreSole, store, IsStoreOf}
 use Rattle.wire_form.proofs.Reading.{refuses_weaker}
@@ -11,7 +11,7 @@ pub returns-in_err-entries : goal.returns-in_err-entries
 returns-in_err-entries g c =
     let p = err_from_is_err_and c.from_residual.result c.from_residual.ensures.1 in
     rw (p.1, p.2)
-    (refuses_weaker (HasNone (counted (pair text sole)) (AreCounted (IsPair IsText AreSole)) c.args.bytes.now) (HasNone (store true) (IsStoreOf true) c.args.bytes.now) c.in_err-entries.field-0.0
+    (refuses_weaker (HasNoSpelling (counted (pair text sole)) (AreCounted (IsPair IsText AreSole)) c.args.bytes.now) (HasNoSpelling (store true) (IsStoreOf true) c.args.bytes.now) c.in_err-entries.field-0.0
     (no_plain_items c.args.bytes.now) c.in_err-entries.ensures)
 
 pub returns-in-Some : goal.returns-in-Some

@@ -3,7 +3,7 @@ use Rattle.std.specs.FinMap as finite
 use Rattle.hash_path.specs.Word.{word}
 use Rattle.hash_path.specs.Cut.{cut}
 use Rattle.gen_trie.specs.Root.{root_entries}
-use Rattle.gen_trie.specs.Shown.{shown}
+use Rattle.gen_trie.specs.Shown.{trie_shown}
 use Rattle.gen_trie.proofs.Puts.{ok_so, either_so, if_ok_so}
 use Rattle.gen_trie.proofs.Roots.{IsTrie-cut, IsTrie-same, remove_is, lookup_at}
 use Rattle.gen_trie.proofs.trie.GenTrie.remove.Goals as goal
@@ -33,6 +33,6 @@ returns-clause-ok g c =
     let hashed = c.hash-hash.ensures ∙ ap f c.bytes.ensures.value in
     let read = λ (k : List ℕ). cut (word 7 c.hash-hash.result k) (root_entries c.self.inside.root) in
     ok_so c.remove_at.result
-    (λ is. ap (λ m. shown c.self.inside.hash m c.self.inside.generation) (remove_is f c.self.inside.root c.remove_at.new.root c.self.inside.count c.hash-hash.result c.args.key.now c.self.invariant hashed (is ∙ ap read c.bytes-2.ensures.value))
-    ∙ ap (λ x. shown x.hash (finite.remove x.map c.args.key.now) x.generation) c.self.view_is)
+    (λ is. ap (λ m. trie_shown c.self.inside.hash m c.self.inside.generation) (remove_is f c.self.inside.root c.remove_at.new.root c.self.inside.count c.hash-hash.result c.args.key.now c.self.invariant hashed (is ∙ ap read c.bytes-2.ensures.value))
+    ∙ ap (λ x. trie_shown x.hash (finite.remove x.map c.args.key.now) x.generation) c.self.view_is)
     c.remove_at.ensures.ok

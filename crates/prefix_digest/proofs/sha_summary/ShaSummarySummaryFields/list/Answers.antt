@@ -9,7 +9,7 @@ use Rattle.sha2.specs.Hashers.{Holds256}
 use Rattle.causal_join.specs.OrMap.{FieldsValue}
 use Rattle.wire_form.specs.Page.{entry}
 use Rattle.prefix_digest.specs.Page.{named_entry}
-use Rattle.prefix_digest.specs.Taking.{Takes}
+use Rattle.prefix_digest.specs.Taking.{TakesBytes}
 use Rattle.prefix_digest.proofs.Branches.{one_taken}
 use Rattle.prefix_digest.proofs.Taken.{takes_same, item_held}
 use Rattle.prefix_digest.proofs.sha_summary.ShaSummarySummaryFields.list.Goals as goal
@@ -27,7 +27,7 @@ pub loop-entry-preserved : goal.loop-entry-preserved
 loop-entry-preserved g c =
     let key = c.bytes.ensures.value ∙ c.key.ensures ∙ ap (λ e. e.key) c.deref.ensures in
     let held = c.value.ensures ∙ ap (λ e. e.value) c.deref-in-loop-entry.ensures in
-    let taken : Takes c.loop-entry.hasher c.feed_entry.new.hasher (entry_bytes (shows c.entry-item.result)) =
+    let taken : TakesBytes c.loop-entry.hasher c.feed_entry.new.hasher (entry_bytes (shows c.entry-item.result)) =
     takes_same c.loop-entry.hasher c.feed_entry.new.hasher _ (entry_bytes (shows c.entry-item.result)) (λ i. entry_bytes (key i, held i)) c.feed_entry.ensures in
     subst (λ xs. Holds256 c.feed_entry.new.hasher (1 ∷ flat_map entry_bytes xs)) (sym (one_taken shows c.args.entries.now c.loop-entry.entry-index c.entry-item.result c.loop-entry-test.true c.entry-item.is))
     (item_held entry_bytes c.loop-entry.hasher c.feed_entry.new.hasher (1 ∷ []) (map shows (take c.loop-entry.entry-index c.args.entries.now)) (shows c.entry-item.result) c.loop-entry.invariant taken)

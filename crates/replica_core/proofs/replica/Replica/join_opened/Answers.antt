@@ -6,7 +6,7 @@ use Rattle.op_model.specs.State.{join}
 use Rattle.sync_model.specs.Closing as closing
 use Rattle.sync_model.specs.Closing.{IsBelow}
 use Rattle.sync_model.specs.Differ.{Held}
-use Rattle.sync_model.specs.Laws.{IsWithin}
+use Rattle.sync_model.specs.Laws.{KnowsEachDot}
 use Rattle.replica_model.specs.Replica.{joins}
 use Rattle.replica_core.specs.Meaning.{ReplicaValue, meaning}
 use Rattle.replica_core.proofs.Growth.{same_grown, joined_grown}
@@ -17,12 +17,12 @@ use Rattle.replica_core.proofs.replica.Replica.join_opened.Goals as goal
 pub prepare_opened-requires-clause-below : goal.prepare_opened-requires-clause-below
 prepare_opened-requires-clause-below g c =
     below_pair c.args.opened.now.base.hash c.self.inside.live.0 c.args.opened.now.base.map c.args.opened.now.seen
-    (subst (λ (r : ReplicaValue _). IsBelow (closing.state_of c.args.opened.now.base.map (has c.args.opened.now.seen)) (meaning r).live) (sym c.self.view_is) c.requires.below)
+    (subst (λ (r : ReplicaValue _). IsBelow (closing.held_state c.args.opened.now.base.map (has c.args.opened.now.seen)) (meaning r).live) (sym c.self.view_is) c.requires.below)
 
 pub prepare_opened-requires-clause-inside : goal.prepare_opened-requires-clause-inside
 prepare_opened-requires-clause-inside g c =
     built_inside c.entries.result.now.hash c.self.inside.live.0 c.entries.result.now.map c.args.opened.now.context
-    (subst (IsWithin (has c.args.opened.now.context)) (sym c.entries.ensures.map) c.requires.known)
+    (subst (KnowsEachDot (has c.args.opened.now.context)) (sym c.entries.ensures.map) c.requires.known)
 
 pub invariant_of-self : goal.invariant_of-self
 invariant_of-self g c = same_grown g.H.PathHash.hash_of _ _ c.self.invariant refl refl refl refl c.in_err-next.ensures.unchanged
@@ -35,13 +35,13 @@ returns-in_err-next-clause-unchanged g c =
 
 pub invariant_of-self-2 : goal.invariant_of-self-2
 invariant_of-self-2 g c =
-    joined_grown g.H.PathHash.hash_of _ _ (closing.state_of c.entries.result.now.map (has c.args.opened.now.context)) c.self.invariant refl refl refl refl (ap (λ p. p.0.0) c.commit.ensures ∙ c.in_ok-next.ensures.hash)
+    joined_grown g.H.PathHash.hash_of _ _ (closing.held_state c.entries.result.now.map (has c.args.opened.now.context)) c.self.invariant refl refl refl refl (ap (λ p. p.0.0) c.commit.ensures ∙ c.in_ok-next.ensures.hash)
     (ap live_state c.commit.ensures ∙ opened_joined c.entries.result.now.hash c.self.inside.live.0 c.entries.result.now.map c.args.opened.now.context c.in_ok-next.next c.in_ok-next.ensures.ok)
 
 pub returns-clause-ok : goal.returns-clause-ok
 returns-clause-ok g c =
     let old : ReplicaValue _ = record { name = c.self.inside.name; live = c.self.inside.live; group = c.self.inside.group; opened = c.self.inside.opened; sessions = c.self.inside.sessions.items; kept = c.self.inside.answerer } in
     let new : ReplicaValue _ = record { name = c.self.inside.name; live = c.commit.new.self; group = c.self.inside.group; opened = c.self.inside.opened; sessions = c.self.inside.sessions.items; kept = c.self.inside.answerer } in
-    rw (← c.self.view_is) (meaning_by new (joins (meaning old) (closing.state_of c.args.opened.now.built.entries (has c.args.opened.now.context))) refl
+    rw (← c.self.view_is) (meaning_by new (joins (meaning old) (closing.held_state c.args.opened.now.built.entries (has c.args.opened.now.context))) refl
     (ap live_state c.commit.ensures ∙ opened_joined c.entries.result.now.hash c.self.inside.live.0 c.entries.result.now.map c.args.opened.now.context c.in_ok-next.next c.in_ok-next.ensures.ok
-    ∙ ap (λ (m : Held). join greater (live_state c.self.inside.live.0) (closing.state_of m (has c.args.opened.now.context))) c.entries.ensures.map) refl refl refl refl)
+    ∙ ap (λ (m : Held). join greater (live_state c.self.inside.live.0) (closing.held_state m (has c.args.opened.now.context))) c.entries.ensures.map) refl refl refl refl)

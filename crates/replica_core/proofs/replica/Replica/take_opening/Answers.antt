@@ -3,11 +3,11 @@ use Rattle.std.proofs.lemmas.Option.{slice_get_within, get_or_from_slice_get}
 use Rattle.delta_ops.specs.LiveMap.{live_state}
 use Rattle.prefix_digest.specs.MapOf.{IsMapOf}
 use Rattle.wire_form.specs.Message.{message_of}
-use Rattle.sync_protocol.specs.Asking.{AskerValue, IsFrom, state_of}
+use Rattle.sync_protocol.specs.Asking.{AskerValue, IsFrom, asker_state}
 use Rattle.sync_protocol.specs.Turning as turning
 use Rattle.sync_protocol.specs.Turns.{step_of}
 use Rattle.replica_model.specs.Mail.{mail_of}
-use Rattle.replica_model.specs.Replica.{same_session}
+use Rattle.wire_form.specs.Session.{same_session}
 use Rattle.replica_model.specs.Step.{Take}
 use Rattle.replica_core.specs.declared.outcome.Outcome.TheVariants as told
 use Rattle.replica_core.specs.Answered.{outcome_of}
@@ -43,7 +43,7 @@ take_turn-requires g c =
       ap (λ (r : ReplicaValue _). Rattle.std.specs.List.slice_get r.sessions c.in-Some.place) (sym c.self.view_is) ∙ found.1.0,
       opening_can g.H.PathHash.hash_of old c.self.invariant c.args.session c.in-Some.place found.0 found.1 c.in_ok-turn.turn.next (step_of c.in_ok-turn.turn.step)
           (subst (λ (a : AskerValue _). IsFrom a c.in_ok-turn.turn.next) here c.in_ok-turn.ensures.from) (message_of c.args.message.now) c.requires.0 c.requires.1 c.requires.2
-          (c.in_ok-turn.ensures.ok ∙ ap (λ (a : AskerValue _). turning.on_opening (g.H.PathHash.hash_of a.hash) (state_of a) (message_of c.args.message.now)) here),
+          (c.in_ok-turn.ensures.ok ∙ ap (λ (a : AskerValue _). turning.on_opening (g.H.PathHash.hash_of a.hash) (asker_state a) (message_of c.args.message.now)) here),
     )
 
 pub returns-clause-ok : goal.returns-clause-ok
@@ -57,7 +57,7 @@ returns-clause-ok g c =
     if_ok c.take_turn.result
     (λ told came. opening_stepped g.H.PathHash.hash_of now is c.args.session c.in-Some.place found.0 first c.in_ok-turn.turn.next (step_of c.in_ok-turn.turn.step)
     (subst (λ (a : AskerValue _). IsFrom a c.in_ok-turn.turn.next) here c.in_ok-turn.ensures.from) (message_of c.args.message.now) c.requires.0 c.requires.1 c.requires.2
-    (c.in_ok-turn.ensures.ok ∙ ap (λ (a : AskerValue _). turning.on_opening (g.H.PathHash.hash_of a.hash) (state_of a) (message_of c.args.message.now)) here)
+    (c.in_ok-turn.ensures.ok ∙ ap (λ (a : AskerValue _). turning.on_opening (g.H.PathHash.hash_of a.hash) (asker_state a) (message_of c.args.message.now)) here)
     map_is c.take_turn.new.self (outcome_of told.outcome) (mails_of told.replies.items) came c.take_turn.ensures.hash)
     c.take_turn.ensures.ok
 

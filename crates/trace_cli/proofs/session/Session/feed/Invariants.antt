@@ -2,7 +2,7 @@ use Rattle.std.proofs.Common.{◌≡◌, ◌+◌, ◌≤◌, false, take}
 use Rattle.trace_cli.specs.Session.{point_of, Leads}
 use Rattle.trace_cli.specs.Lines.{has_newline}
 use Rattle.watched_io.specs.Streams.{Written}
-use Rattle.watched_io.specs.Watched.{inner_of, IsSound}
+use Rattle.watched_io.specs.Watched.{inner_of, IsSettled}
 use Rattle.trace_cli.proofs.session.Session.feed.Given as goal
 
 abbrev pub invariant-loop-byte : goal.invariant-loop-byte
@@ -11,5 +11,5 @@ invariant-loop-byte g l = record {
       Leads (point_of l.initial.self) (take l.byte-index l.piece) text (point_of l.self));
   one_line : has_newline l.self.line.items ≡ false;
   number : l.self.number ≤ l.initial.self.number + l.byte-index;
-  sound : IsSound l.writer;
+  sound : IsSettled l.writer;
 }
