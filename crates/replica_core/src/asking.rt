@@ -38,11 +38,7 @@ impl<H: PathHash, A: Allocator + Copy> Replica<H, A> {
         ensures refused { IfErr result (IsRefused self.old (Ask peer)) }
         ensures unchanged { OnErr result (Stays self.old self.new) }
     {
-        let mut outbox = Unposted;
-        match self.ask_to(peer, &mut outbox) {
-            Ok(asked) => Ok(asked),
-            Err(refusal) => Err(refusal),
-        }
+        self.ask_to(peer, &mut Unposted)
     }
 
     /// Opens a synchronisation with a peer, as `ask` does, and posts its hello in this outbox before it is open: where the outbox refuses

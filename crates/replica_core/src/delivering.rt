@@ -38,11 +38,7 @@ impl<H: PathHash, A: Allocator + Copy> Replica<H, A> {
         ensures refused { IsOkUnless result Refusal.OutOfMemory }
         ensures unchanged { OnErr result (Stays self.old self.new) }
     {
-        let mut outbox = Unposted;
-        match self.deliver_to(message, &mut outbox) {
-            Ok(told) => Ok(told),
-            Err(refusal) => Err(refusal),
-        }
+        self.deliver_to(message, &mut Unposted)
     }
 
     /// Takes a message in, as `deliver` does, and posts what is to be sent for it in this outbox before it changes anything: where the
@@ -81,14 +77,8 @@ impl<H: PathHash, A: Allocator + Copy> Replica<H, A> {
         ensures refused { IfErr result (λ refusal. (refusal ≡ Refusal.OutOfMemory) ⊎ ((refusal ≡ Refusal.NotAMessage) × SpellsNone bytes.now)) }
         ensures unchanged { OnErr result (Stays self.old self.new) }
     {
-        let message = match decode(self.alloc, bytes) {
-            Ok(message) => message,
-            Err(refusal) => return Err(refusal),
-        };
-        match self.deliver(&message) {
-            Ok(told) => Ok(told),
-            Err(refusal) => Err(refusal),
-        }
+        let message = decode(self.alloc, bytes)?;
+        self.deliver(&message)
     }
 
     // Joins a delta in.

@@ -28,8 +28,7 @@ impl<H: PathHash, A: Allocator + Copy> Replica<H, A> {
         ensures refused { IfErr result (IsRefused self.old (Put (plain key.now) value.now)) }
         ensures unchanged { OnErr result (Stays self.old self.new) }
     {
-        let dot = self.put_field(key, &Field::empty(), value)?;
-        Ok(dot)
+        self.put_field(key, &Field::empty(), value)
     }
 
     /// Writes the value on the field of the key, in the place of the values that stand there; those of its other fields stay. The dot of
@@ -107,11 +106,7 @@ impl<H: PathHash, A: Allocator + Copy> Replica<H, A> {
         ensures refused { IsOkUnless result Refusal.OutOfMemory }
         ensures unchanged { OnErr result (Stays self.old self.new) }
     {
-        let mut outbox = Unposted;
-        match self.flush_to(&mut outbox) {
-            Ok(sent) => Ok(sent),
-            Err(refusal) => Err(refusal),
-        }
+        self.flush_to(&mut Unposted)
     }
 
     /// The delta of all that it made since the last flush, as `flush` gives it, which is posted in this outbox before it counts as sent:

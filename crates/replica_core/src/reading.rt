@@ -25,8 +25,7 @@ impl<H: PathHash, A: Allocator + Copy> Replica<H, A> {
         ensures ok { IfOk result (λ found. Lists (Stands (meaning self.now).live (plain key.now)) found.items) }
         ensures refused { IsOkUnless result Refusal.OutOfMemory }
     {
-        let found = self.get_field(key, &Field::empty())?;
-        Ok(found)
+        self.get_field(key, &Field::empty())
     }
 
     /// The distinct values of the field of the key, ascending by bytes. Takes two look-ups, and time and memory in them.
@@ -35,8 +34,7 @@ impl<H: PathHash, A: Allocator + Copy> Replica<H, A> {
         ensures ok { IfOk result (λ found. Lists (Stands (meaning self.now).live (place_of key.now field.now)) found.items) }
         ensures refused { IsOkUnless result Refusal.OutOfMemory }
     {
-        let found = values(self.alloc, self.live.store(), key, field)?;
-        Ok(found)
+        values(self.alloc, self.live.store(), key, field)
     }
 
     /// The distinct values of the key over all its fields, ascending by bytes. Takes a look-up, and time and memory in what stands at the key.
@@ -45,8 +43,7 @@ impl<H: PathHash, A: Allocator + Copy> Replica<H, A> {
         ensures ok { IfOk result (λ found. Lists (StandsWithin (meaning self.now).live key.now) found.items) }
         ensures refused { IsOkUnless result Refusal.OutOfMemory }
     {
-        let found = values_of_key(self.alloc, self.live.store(), key)?;
-        Ok(found)
+        values_of_key(self.alloc, self.live.store(), key)
     }
 
     /// The fields of the key that hold a value, ascending by bytes. Takes a look-up, and time and memory in their number.
@@ -55,8 +52,7 @@ impl<H: PathHash, A: Allocator + Copy> Replica<H, A> {
         ensures ok { IfOk result (λ found. Lists (HoldsField (meaning self.now).live key.now) found.items) }
         ensures refused { IsOkUnless result Refusal.OutOfMemory }
     {
-        let found = fields(self.alloc, self.live.store(), key)?;
-        Ok(found)
+        fields(self.alloc, self.live.store(), key)
     }
 
     /// Whether the key holds a value at some field. Takes a look-up, and no memory.
@@ -72,8 +68,7 @@ impl<H: PathHash, A: Allocator + Copy> Replica<H, A> {
         ensures ok { IfOk result (λ found. Lists (HoldsKey (meaning self.now).live) found.items) }
         ensures refused { IsOkUnless result Refusal.OutOfMemory }
     {
-        let found = keys(self.alloc, self.live.store())?;
-        Ok(found)
+        keys(self.alloc, self.live.store())
     }
 
     /// How many keys hold a value at some field. Takes constant time.
@@ -99,8 +94,7 @@ impl<H: PathHash, A: Allocator + Copy> Replica<H, A> {
         ensures map { IfOk result (λ frozen. IsMapOf frozen.map (meaning self.now).live) }
         ensures refused { IsOkUnless result Refusal.OutOfMemory }
     {
-        let frozen = self.live.store().frozen().copy()?;
-        Ok(frozen)
+        self.live.store().frozen().copy()
     }
 
     /// What it holds as it is, which stays so whatever is written: `values`, `values_of_key`, `fields`, `keys` and `size` of `delta_ops`
@@ -111,7 +105,6 @@ impl<H: PathHash, A: Allocator + Copy> Replica<H, A> {
         ensures ok { IfOk result (λ store. (store_state store).at ≡ (meaning self.now).live.at) }
         ensures refused { IsOkUnless result Refusal.OutOfMemory }
     {
-        let store = self.live.store().share()?;
-        Ok(store)
+        self.live.store().share()
     }
 }

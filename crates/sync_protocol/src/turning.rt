@@ -97,8 +97,7 @@ fn begin<H: PathHash, A: Allocator + Copy>(
         return stays(alloc, asker, Step::Mismatch);
     };
     let asks = asks_for(alloc, asker.session, &[Prefix::root()])?;
-    let turn = go_on(alloc, asker, context, fetching, asks)?;
-    Ok(turn)
+    go_on(alloc, asker, context, fetching, asks)
 }
 
 // An opening, where none was accepted yet.
@@ -121,8 +120,7 @@ fn open_with<H: PathHash, A: Allocator + Copy>(
             step: Step::Done,
         });
     };
-    let turn = begin(alloc, asker, context, root)?;
-    Ok(turn)
+    begin(alloc, asker, context, root)
 }
 
 // An opening of a session.
@@ -144,8 +142,7 @@ fn opening<H: PathHash, A: Allocator + Copy>(
     if !asker.is_asked() {
         return stays(alloc, asker, Step::Ignored);
     }
-    let turn = open_with(alloc, asker, context, root)?;
-    Ok(turn)
+    open_with(alloc, asker, context, root)
 }
 
 // What came of a page that was looked at while these dots are known.
@@ -166,8 +163,7 @@ fn taken<H: PathHash, A: Allocator + Copy>(
         Taken::Mismatch => stays(alloc, asker, Step::Mismatch),
         Taken::Took(fetching, prefixes) => {
             let asks = asks_for(alloc, asker.session, &prefixes)?;
-            let turn = go_on(alloc, asker, context, fetching, asks)?;
-            Ok(turn)
+            go_on(alloc, asker, context, fetching, asks)
         }
     }
 }
@@ -191,8 +187,7 @@ fn page<H: PathHash, A: Allocator + Copy>(
         return stays(alloc, asker, Step::Ignored);
     };
     let came = fetching.take(alloc, &asker.own, &asker.seen, context, sent)?;
-    let turn = taken(alloc, asker, context, came)?;
-    Ok(turn)
+    taken(alloc, asker, context, came)
 }
 
 // That the answerer does not keep a session.
@@ -242,15 +237,13 @@ impl<H: PathHash, A: Allocator + Copy> Asker<H, A> {
         ensures err { IsOkUnless result Refusal.OutOfMemory }
     {
         if self.is_asked() {
-            let messages = hello_again(alloc, self)?;
-            return Ok(messages);
+            return hello_again(alloc, self);
         }
         let Some((_, fetching)) = self.fetching() else {
             return Ok(Vec::new(alloc));
         };
         let prefixes = fetching.prefixes(alloc)?;
-        let messages = asks_for(alloc, self.session, &prefixes)?;
-        Ok(messages)
+        asks_for(alloc, self.session, &prefixes)
     }
 
     /// What an opening comes to. Where the session is another one, an opening was accepted before, or the message is of another

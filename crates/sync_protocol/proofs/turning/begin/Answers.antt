@@ -1,4 +1,5 @@
 use Rattle.std.proofs.Common.{[], ◌∷◌, ◌∙◌, ap}
+use Rattle.std.proofs.lemmas.Result.{IfOk-weaker}
 use Rattle.std.specs.Prelude.{map}
 use Rattle.std.specs.FinMap as finite
 use Rattle.causal_context.specs.Context.{has}
@@ -17,7 +18,9 @@ go_on-requires g c =
 
 pub returns-clause-ok : goal.returns-clause-ok
 returns-clause-ok g c told is =
-    turn_begun c.args.asker.now (turn_of c.in_ok-turn.turn) c.args.context.now (map message_of c.in_ok-asks.asks.items) c.in-Some.fetching c.in_ok-begun.begun
+    IfOk-weaker c.go_on.result _ _
+    (λ turn came. turn_begun c.args.asker.now (turn_of turn) c.args.context.now (map message_of c.in_ok-asks.asks.items) c.in-Some.fetching c.in_ok-begun.begun
     (take_opening (g.H.PathHash.hash_of c.args.asker.now.hash) c.args.asker.now.own (has c.args.asker.now.seen) (has c.args.context.now) told)
-    c.in_ok-turn.ensures.ok (c.in_ok-asks.ensures.ok ∙ (λ k. Ask (c.asker.view_is k).session (c.root.ensures k) ∷ [])) c.in-Some.is
-    (c.in_ok-begun.ensures.ok told is ∙ ap (λ a. take_opening (g.H.PathHash.hash_of a.hash) a.own (has a.seen) (has c.args.context.now) told) c.asker.view_is)
+    came (c.in_ok-asks.ensures.ok ∙ (λ k. Ask (c.asker.view_is k).session (c.root.ensures k) ∷ [])) c.in-Some.is
+    (c.in_ok-begun.ensures.ok told is ∙ ap (λ a. take_opening (g.H.PathHash.hash_of a.hash) a.own (has a.seen) (has c.args.context.now) told) c.asker.view_is))
+    c.go_on.ensures.ok
