@@ -144,14 +144,24 @@ impl<H: PathHash, A: Allocator + Copy> Asker<H, A> {
         ensures ok { IfOk result (λ asker. asker ≡ record self.now { stage = staged stage }) }
         ensures err { IsOkUnless result Refusal.OutOfMemory }
     {
-        let own = self.own.copy()?;
-        let seen = self.seen.copy(alloc)?;
+        let (own, seen) = self.ground(alloc)?;
         Ok(Asker {
             session: self.session,
             own,
             seen,
             stage,
         })
+    }
+
+    // What it asked by, once more: the own map, and the dots seen with it.
+    fn ground(&self, alloc: A) -> Result<(FrozenMap<H, A>, Context<A>), Refusal>
+        ensures own { IfOk result (λ ground. (ground.0.hash ≡ self.now.hash) × (ground.0.map ≡ self.now.own)) }
+        ensures seen { IfOk result (λ ground. ground.1 ≡ self.now.seen) }
+        ensures err { IsOkUnless result Refusal.OutOfMemory }
+    {
+        let seen = self.seen.copy(alloc)?;
+        let own = self.own.copy()?;
+        Ok((own, seen))
     }
 
     // The same session where its peer had no key: it is complete with the empty map, which is built from the empty map.

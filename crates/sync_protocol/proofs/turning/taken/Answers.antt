@@ -9,8 +9,8 @@ use Rattle.sync_protocol.specs.Turns.{turn_of}
 use Rattle.sync_protocol.proofs.Turned.{turn_took}
 use Rattle.sync_protocol.proofs.turning.taken.Goals as goal
 
-pub returns-in-Took-clause-ok : goal.returns-in-Took-clause-ok
-returns-in-Took-clause-ok g c asks =
+pub returns-in_ok-asks-in-Took-clause-ok : goal.returns-in_ok-asks-in-Took-clause-ok
+returns-in_ok-asks-in-Took-clause-ok g c asks =
     subst (λ t. asked_of t asks → IfOk c.go_on.result (λ turn. turn_of turn ≡ comes_to c.args.asker.now.session c.args.asker.now.own c.args.asker.now.seen c.args.context.now
     (stage_with c.args.asker.now.own c.args.asker.now.seen c.args.asker.now.stage) (map (Ask c.args.asker.now.session) asks) (taken_of t))) (sym c.in-Took.is)
     (λ same. IfOk-weaker c.go_on.result _ _
