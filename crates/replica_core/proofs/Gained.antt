@@ -73,7 +73,7 @@ module _ {Hash : Type 0} (hash_of : Hash → List ℕ → ℕ) (a next : AskerVa
         context = c;
         built = back.0;
         complete = back.1;
-        known = subst (Rattle.sync_model.specs.Laws.IsWithin (has c)) (sym back.2)
+        known = subst (Rattle.sync_model.specs.Laws.KnowsEachDot (has c)) (sym back.2)
             (known_whole (hash_of a.hash) a.own (has a.seen) (has c) f known (complete_whole f complete));
       }
 

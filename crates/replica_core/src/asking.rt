@@ -123,21 +123,33 @@ impl<H: PathHash, A: Allocator + Copy> Replica<H, A> {
     {
         self.live.seal()?;
         self.sessions.reserve(1)?;
-        let (asker, hello) = self.begin(session)?;
-        outbox.post(self.alloc, &hello)?;
+        let (asker, hello) = self.begin(session, outbox)?;
         add(&mut self.sessions, asker);
         self.opened = session.number();
         Ok(hello)
     }
 
-    // A session of what the replica holds, and its hello.
-    fn begin(&self, session: Session) -> Result<(Asker<H, A>, Message<A>), Refusal>
+    // A session of what the replica holds, and its hello, which is posted.
+    fn begin<O: Outbox<A>>(
+        &self,
+        session: Session,
+        outbox: &mut O,
+    ) -> Result<(Asker<H, A>, Message<A>), Refusal>
         ensures asker { IfOk result (λ begun. begun.0 ≡ record { session = session; hash = hash_in self.now; own = self.now.live.0.0.1; seen = self.now.live.0.1; stage = Asked }) }
         ensures hello { IfOk result (λ begun. message_of begun.1 ≡ form.Hello session self.now.live.0.1) }
-        ensures map { IsMapOf self.now.live.0.0.1 (meaning self.now).live }
+        ensures posted { IfOk result (λ begun. O.gains outbox.old outbox.new (message_of begun.1 ∷ [])) }
+        ensures unposted { OnErr result (outbox.new ≡ outbox.old) }
+        ensures map { OnOk result (IsMapOf self.now.live.0.0.1 (meaning self.now).live) }
         ensures refused { IsOkUnless result Refusal.OutOfMemory }
     {
-        Asker::open(self.alloc, session, self.live.store(), self.live.context())
+        let (asker, hello) = Asker::open(
+            self.alloc,
+            session,
+            self.live.store(),
+            self.live.context(),
+        )?;
+        outbox.post(self.alloc, &hello)?;
+        Ok((asker, hello))
     }
 }
 

@@ -72,10 +72,10 @@ impl<H: PathHash, A: Allocator + Copy> Replica<H, A> {
         ensures hash { IfOk result (λ copy. hash_in copy ≡ hash_in self.now) }
         ensures err { IsOkUnless result Refusal.OutOfMemory }
     {
-        let live = self.live.copy(self.alloc)?;
         let group = self.group.copy(self.alloc)?;
-        let sessions = copy_sessions(self.alloc, &self.sessions)?;
         let answerer = self.answerer.copy(self.alloc)?;
+        let sessions = copy_sessions(self.alloc, &self.sessions)?;
+        let live = self.live.copy(self.alloc)?;
         Ok(Replica {
             alloc: self.alloc,
             name: self.name,

@@ -8,6 +8,6 @@ pub returns-clause-ok : goal.returns-clause-ok
 returns-clause-ok g c =
     both_ok c.fields.result
     (λ found ascending held.
-        let listed : Lists (HoldsField (store_state c.store.result.now) c.args.key.now) found.items = record { ascending = ascending; just = held } in
-        rw (← c.self.view_is) (rw c.store.ensures.value at listed))
+    let listed : Lists (HoldsField (store_state c.store.result.now) c.args.key.now) found.items = record { ascending = ascending; just = held } in
+    rw (← c.self.view_is) (rw c.store.ensures.value at listed))
     c.fields.ensures.ascending c.fields.ensures.held

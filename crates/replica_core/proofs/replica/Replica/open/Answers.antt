@@ -23,13 +23,6 @@ returns-in_err-asker-clause-unchanged g c =
     let same = meaning_by mid (meaning old) refl (ap (λ (l : LiveValue _ _). live_state l.0) c.seal.ensures.same) refl refl (ap (map open_of) c.reserve.ensures.items) refl in
     on_err c.from_residual-in_err-asker.result (rw (← c.self.view_is) same)
 
-pub returns-in_err-post-clause-unchanged : goal.returns-in_err-post-clause-unchanged
-returns-in_err-post-clause-unchanged g c =
-    let old : ReplicaValue _ = record { name = c.self.inside.name; live = c.self.inside.live; group = c.self.inside.group; opened = c.self.inside.opened; sessions = c.self.inside.sessions.items; kept = c.self.inside.answerer } in
-    let mid : ReplicaValue _ = record { name = c.self.inside.name; live = c.seal.new.self; group = c.self.inside.group; opened = c.self.inside.opened; sessions = c.reserve.new.self.items; kept = c.self.inside.answerer } in
-    let same = meaning_by mid (meaning old) refl (ap (λ (l : LiveValue _ _). live_state l.0) c.seal.ensures.same) refl refl (ap (map open_of) c.reserve.ensures.items) refl in
-    on_err c.from_residual-in_err-post.result (rw (← c.self.view_is) same)
-
 pub invariant_of-self-3 : goal.invariant_of-self-3
 invariant_of-self-3 g c =
     let old : ReplicaValue _ = record { name = c.self.inside.name; live = c.self.inside.live; group = c.self.inside.group; opened = c.self.inside.opened; sessions = c.self.inside.sessions.items; kept = c.self.inside.answerer } in

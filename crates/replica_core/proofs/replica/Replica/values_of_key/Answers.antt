@@ -9,6 +9,6 @@ pub returns-clause-ok : goal.returns-clause-ok
 returns-clause-ok g c =
     both_ok c.values_of_key.result
     (λ found ascending held.
-        let listed : Lists (StandsWithin (store_state c.store.result.now) c.args.key.now) found.items = record { ascending = ascending; just = held } in
-        rw (sym c.self.view_is) (rw c.store.ensures.value at listed))
+    let listed : Lists (StandsWithin (store_state c.store.result.now) c.args.key.now) found.items = record { ascending = ascending; just = held } in
+    rw (sym c.self.view_is) (rw c.store.ensures.value at listed))
     c.values_of_key.ensures.ascending c.values_of_key.ensures.held
