@@ -18,7 +18,7 @@ use Rattle.replica_model.specs.Laws.{Ends}
 use Rattle.replica_model.proofs.Deciding.{came_one}
 use Rattle.replica_model.proofs.States.{same_is}
 use Rattle.replica_model.proofs.Growing.{map_state}
-use Rattle.replica_model.proofs.Lawful.{map_lawful}
+use Rattle.sync_model.proofs.Lawful.{map_lawful}
 use Rattle.replica_model.proofs.Ending.{Ending, Comes, comes}
 use Rattle.replica_model.proofs.Fronts.{Delivered, delivery, AskedIn, SendsAny, told}
 

@@ -9,7 +9,6 @@ pub mod Carried
 pub mod Growing
 pub mod Calls
 pub mod Fronts
-pub mod Lawful
 pub mod Ending
 pub mod Ended
 pub mod Meant

@@ -1,12 +1,8 @@
 -- Sessions between replicas that have seen sets of operations.
-use Rattle.std.proofs.Common.{◌≡◌, inl, inr, ℕ, List, [], ◌∷◌, ◌++◌, Bool, true, false, cond, Some, None, refl, sym, ◌∙◌, ap, subst}
+use Rattle.std.proofs.Common.{◌≡◌, ℕ, List, ◌∷◌, ◌++◌, Bool, true, false, cond, Some, None, refl, sym, ◌∙◌, ap, subst}
 use Rattle.std.specs.Prelude.{◌||◌, IsSome}
-use Rattle.std.specs.List.{AllByRecursion, Contains, filter}
-use Rattle.std.specs.List.Sorted.{IsStrictlySortedBy}
-use Rattle.std.specs.Map.{keys_of, values_of}
-use Rattle.std.specs.declared.cmp.Ordering.{Ordering}
-use Rattle.std.specs.declared.cmp.Ordering.TheVariants.{Less}
-use Rattle.std.specs.Ordering.{is_eq, eq_by_cmp}
+use Rattle.std.specs.List.{Contains, filter}
+use Rattle.std.specs.Ordering.{eq_by_cmp}
 use Rattle.std.specs.FinMap as finite
 use Rattle.std.specs.FinMap.Entries.{find}
 use Rattle.dots.specs.Bytes.{bytes_cmp}
@@ -15,9 +11,7 @@ use Rattle.causal_context.specs.Dots.{dot_cmp}
 use Rattle.causal_context.proofs.Dots.{is_eq-dot_cmp, same_from_test}
 use Rattle.prefix_digest.specs.Values.{unknown_at}
 use Rattle.hash_path.proofs.Words.{tied_same, same_tied}
-use Rattle.causal_join.specs.OrMap.{ValuesValue, FieldsValue, fields_at}
-use Rattle.dot_store.specs.Store.{HasNothing}
-use Rattle.dot_store.specs.Stores.{at_values, at_stores}
+use Rattle.causal_join.specs.OrMap.{ValuesValue, FieldsValue}
 use Rattle.op_model.specs.Meaning.{greater, state, value_under}
 use Rattle.op_model.specs.Place.{Place, place_of}
 use Rattle.op_model.specs.Shown.{is_on}
@@ -36,9 +30,10 @@ use Rattle.sync_model.specs.Fetch.{within_values}
 use Rattle.sync_model.specs.Laws.{IsLawfulMap, KnowsEachDot, OneValue}
 use Rattle.sync_model.specs.Closing.{held_state, IsBelow}
 use Rattle.sync_model.specs.Sets.{Done, FetchGoesOn, Opens}
-use Rattle.sync_model.proofs.Members.{In, In-Contains, Contains-In, In-All, In-map}
+use Rattle.sync_model.proofs.Members.{In, In-Contains, Contains-In}
 use Rattle.sync_model.proofs.Held.{values_or_none, held_there}
 use Rattle.sync_model.proofs.Keeping.{dot_tied}
+use Rattle.sync_model.proofs.Lawful.{map_lawful, found}
 use Rattle.sync_model.proofs.Closings.{closing}
 use Rattle.sync_model.proofs.Fetches.{fetching}
 use Rattle.sync_model.proofs.Fitted.{fitting, opening}
@@ -64,54 +59,15 @@ right_part S T = λ o h. Contains-append_right S T o h
 
 -- ---- the map of a set is lawful
 
-each_rec : {X : Type 0} (P : X → Type 0) (xs : List X) (x : X) → AllByRecursion P xs → In xs x → P x
-each_rec P [] x all h = absurd h
-each_rec P (y ∷ ys) x all (inl e) = subst P e all.0
-each_rec P (y ∷ ys) x all (inr h) = each_rec P ys x all.1 h
-
-less_apart : {K : Type 0} (R : K → K → Ordering) (f : K) → eq_by_cmp R f f ≡ true → R f f ≡ Less → ⊥
-less_apart R f same e = absurd (let off : true ≡ false = sym same ∙ ap is_eq e in cc)
-
-module _ {K X : Type 0} (R : K → K → Ordering) (exact : (x y : K) → eq_by_cmp R x y ≡ true → x ≡ y) (same : (x : K) → eq_by_cmp R x x ≡ true) where
-  found : (es : List (K × X)) (f : K) (v : X) → IsStrictlySortedBy R (keys_of es) → In es (f, v) → find R f es ≡ Some v
-  unfolding IsStrictlySortedBy
-  found [] f v sorted h = absurd h
-  found (x ∷ es) f v sorted h = step (eq_by_cmp R f x.0) refl h (found es f v sorted.1)
-    where
-      step : (b : Bool) → eq_by_cmp R f x.0 ≡ b → In (x ∷ es) (f, v) → (In es (f, v) → find R f es ≡ Some v) → cond b (Some x.1) (find R f es) ≡ Some v
-      step true e (inl here) further = ap (λ c. Some c.1) here
-      step true e (inr i) further =
-          let key = exact f x.0 e in
-          let less = each_rec (λ y. R x.0 y ≡ Less) (keys_of es) f sorted.0 (In-map (λ e. e.0) es (f, v) i) in
-          absurd (less_apart R f (same f) (ap (λ g. R g f) key ∙ less))
-      step false e (inl here) further = absurd (let on : true ≡ false = sym (ap (λ c. eq_by_cmp R f c.0) here ∙ same f) ∙ e in cc)
-      step false e (inr i) further = further i
-
 dots_exact : (d e : Dot) → eq_by_cmp dot_cmp d e ≡ true → d ≡ e
 dots_exact d e t = same_from_test d e (sym (is_eq-dot_cmp d e) ∙ t)
-
-nothing_held : HasNothing (fields_at [])
-unfolding at_stores
-nothing_held place dot = refl
-
-no_value : HasNothing (at_values {V = List ℕ} [])
-unfolding at_values
-no_value place dot = refl
 
 module _ (S : List Operation) (once : NoReuse S) where
   is_map : IsMapOf (map_of S) (state S)
   is_map = stands_for S once
 
   lawful_of : IsLawfulMap (map_of S)
-  lawful_of key fs e =
-      let order = is_map.ordered key fs e in
-      record {
-        some = λ none. is_map.filled key fs e (subst (λ l. HasNothing (fields_at l)) (sym none) nothing_held);
-        each = λ f vs h. (
-          (λ none. In-All (λ v. ¬ HasNothing (at_values v)) (values_of fs) vs order.filled (In-map (λ x. x.1) fs (f, vs) (In-Contains fs (f, vs) h)) (subst (λ l. HasNothing (at_values l)) (sym none) no_value)),
-          found bytes_cmp tied_same (λ f. same_tied f f refl) fs f vs order.ordered (In-Contains fs (f, vs) h),
-        );
-      }
+  lawful_of = map_lawful (map_of S) (state S) is_map
 
   -- and its state is that of the set
   state_is : Same (held_state (map_of S) (has (known S))) (state S)

@@ -13,4 +13,5 @@ pub mod Fetches
 pub mod Fits
 pub mod Fitted
 pub mod Closings
+pub mod Lawful
 pub mod Ended

@@ -1,4 +1,4 @@
--- A map that stands for a state is lawful: each key has fields, each field a value, and each field is there once.
+-- A map that stands for a state is lawful: each key has fields, each field a value, and each field is there once; and what is in a sorted list is found in it.
 use Rattle.std.proofs.Common.{◌≡◌, inl, inr, ℕ, List, [], ◌∷◌, Bool, true, false, cond, Some, refl, sym, ◌∙◌, ap, subst}
 use Rattle.std.specs.List.{AllByRecursion}
 use Rattle.std.specs.List.Sorted.{IsStrictlySortedBy}
@@ -27,7 +27,7 @@ less_apart : {K : Type 0} (R : K → K → Ordering) (f : K) → eq_by_cmp R f f
 less_apart R f same e = absurd (let off : true ≡ false = sym same ∙ ap is_eq e in cc)
 
 module _ {K X : Type 0} (R : K → K → Ordering) (exact : (x y : K) → eq_by_cmp R x y ≡ true → x ≡ y) (same : (x : K) → eq_by_cmp R x x ≡ true) where
-  found : (es : List (K × X)) (f : K) (v : X) → IsStrictlySortedBy R (keys_of es) → In es (f, v) → find R f es ≡ Some v
+  pub found : (es : List (K × X)) (f : K) (v : X) → IsStrictlySortedBy R (keys_of es) → In es (f, v) → find R f es ≡ Some v
   unfolding IsStrictlySortedBy
   found [] f v sorted h = absurd h
   found (x ∷ es) f v sorted h = step (eq_by_cmp R f x.0) refl h (found es f v sorted.1)
