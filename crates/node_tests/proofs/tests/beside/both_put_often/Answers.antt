@@ -12,4 +12,4 @@ use Rattle.node_tests.proofs.tests.beside.both_put_often.Goals as goal
 -- the handle, the allocator and a client
 pub join-one-requires-send-F : goal.join-one-requires-send-F
 join-one-requires-send-F g c κs within = of_three _ _ _ _ _ _ (shr_send _ _ _ c.type_bounds.sync-R) (shr_send _ _ _ std.sync)
-    (mut_send _ _ _ (declared_send (Held.the_type (param 0 g.row.K) NoGate.the_row (copied 1 g.row.R) g.K.Naming) (client_send (param 0 g.row.K) g.K.Naming NoGate.the_row (copied 1 g.row.R) NoGates.the_send NoGates.the_sync c.type_bounds.send-R), tt))
+    (mut_send _ _ _ (declared_send (Held.the_type (param 0 g.row.K) NoGate.the_row (copied 1 g.row.R) g.K.Naming) (client_send (param 0 g.row.K) g.K.Naming NoGate.the_row (copied 1 g.row.R) NoGates.the_send NoGates.the_sync c.type_bounds.send-R, tt)))

@@ -19,4 +19,4 @@ gate_sync = search (crosses, sendable) depth 20
 -- the handle, the allocator and a client
 pub join-put_later-requires-send-F : goal.join-put_later-requires-send-F
 join-put_later-requires-send-F g c κs within = of_three _ _ _ _ _ _ (shr_send _ _ _ c.type_bounds.sync-R) (shr_send _ _ _ std.sync)
-    (mut_send _ _ _ (declared_send (Held.the_type (param 0 g.row.K) Holding.the_row (copied 1 g.row.R) g.K.Naming) (client_send (param 0 g.row.K) g.K.Naming Holding.the_row (copied 1 g.row.R) gate_send gate_sync c.type_bounds.send-R), tt))
+    (mut_send _ _ _ (declared_send (Held.the_type (param 0 g.row.K) Holding.the_row (copied 1 g.row.R) g.K.Naming) (client_send (param 0 g.row.K) g.K.Naming Holding.the_row (copied 1 g.row.R) gate_send gate_sync c.type_bounds.send-R, tt)))
