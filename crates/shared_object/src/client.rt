@@ -5,8 +5,8 @@ ghost use Rattle.shared_object.specs.History.{calls_by};
 ghost use Rattle.shared_object.specs.Calling.{HasNotCalled, IsAccepted, IsRefused};
 ghost use Rattle.shared_object.specs.Finishing.{IsOwn};
 
-use crate::desk::Desk;
 use crate::gate::Gate;
+use crate::guarded::Guarded;
 use crate::look::Look;
 use crate::object::Object;
 use crate::placed::Placed;
@@ -144,15 +144,15 @@ impl<
         }
     }
 
-    /// Whether the calls of its place at the desk are just those that it made. It has learnt the history in any case.
-    pub(crate) fn meet(&mut self, desk: &Desk<D, R, E, J, W, A>) -> bool
-        ensures own { IsTrue result → IsOwn E.place desk.now self.old }
+    /// Whether the calls of its place at what is guarded are just those that it made. It has learnt the history in any case.
+    pub(crate) fn meet(&mut self, guarded: &Guarded<D, R, E, J, W, A>) -> bool
+        ensures own { IsTrue result → IsOwn E.place guarded.now self.old }
         ensures not_called { HasNotCalled E.place self.old self.new }
     {
         let Some(view) = self.view.take() else {
             unreachable!()
         };
-        let (view, is_met) = desk.meet(view, self.place, self.operations);
+        let (view, is_met) = guarded.meet(view, self.place, self.operations);
         self.view = Some(view);
         is_met
     }

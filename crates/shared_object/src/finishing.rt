@@ -5,8 +5,8 @@ ghost use Rattle.shared_object.specs.History.{Seat};
 ghost use Rattle.shared_object.specs.Finishing.{AreAll, HaveNotCalled, IsOwn};
 
 use crate::client::Client;
-use crate::desk::Desk;
 use crate::gate::Gate;
+use crate::guarded::Guarded;
 use crate::object::Object;
 use crate::owner::Owner;
 use crate::placed::Placed;
@@ -56,7 +56,7 @@ impl<
     {
         let mut clients = clients;
         match take_out(self.shared(), rt, self.taken(), &mut clients) {
-            Some(desk) => Ok(desk.close()),
+            Some(guarded) => Ok(guarded.close()),
             None => Err(Unfinished {
                 owner: self,
                 clients,
@@ -65,7 +65,7 @@ impl<
     }
 }
 
-// Takes the desk out of the lock, where these are all clients.
+// Takes what is guarded out of the lock, where these are all clients.
 fn take_out<
     D: Drop,
     R: Drop,
@@ -80,20 +80,20 @@ fn take_out<
     rt: &T,
     taken: usize,
     clients: &mut [Client<R, E, J, Shared<D, R, E, J, G, W, A>, A>],
-) -> Option<Desk<D, R, E, J, W, A>>
-    ensures all { IfSome result (λ desk. AreAll E.place desk taken clients.old) }
+) -> Option<Guarded<D, R, E, J, W, A>>
+    ensures all { IfSome result (λ guarded. AreAll E.place guarded taken clients.old) }
     ensures not_called { HaveNotCalled E.place clients.old clients.new }
 {
     let mut guard = shared.lock.lock(rt);
-    let desk = guard.take()?;
-    if are_all(&desk, taken, clients) {
-        return Some(desk);
+    let guarded = guard.take()?;
+    if are_all(&guarded, taken, clients) {
+        return Some(guarded);
     }
-    *guard = Some(desk);
+    *guard = Some(guarded);
     None
 }
 
-// Whether these are all clients of the places that were taken, and the desk has their calls and no others.
+// Whether these are all clients of the places that were taken, and what is guarded has their calls and no others.
 fn are_all<
     D: Drop,
     R: Drop,
@@ -103,11 +103,11 @@ fn are_all<
     W: Wait + Drop,
     A: Allocator + Copy,
 >(
-    desk: &Desk<D, R, E, J, W, A>,
+    guarded: &Guarded<D, R, E, J, W, A>,
     taken: usize,
     clients: &mut [Client<R, E, J, Shared<D, R, E, J, G, W, A>, A>],
 ) -> bool
-    ensures all { IsTrue result → AreAll E.place desk.now taken clients.old }
+    ensures all { IsTrue result → AreAll E.place guarded.now taken clients.old }
     ensures not_called { HaveNotCalled E.place clients.old clients.new }
 {
     if clients.len() != taken {
@@ -116,19 +116,19 @@ fn are_all<
     if !has_each(clients, taken) {
         return false;
     }
-    if !desk.has_none_from(taken) {
+    if !guarded.has_none_from(taken) {
         return false;
     }
     let Some(sum) = total(clients) else {
         return false;
     };
-    if sum != desk.events() {
+    if sum != guarded.events() {
         return false;
     }
-    meet_all(desk, clients)
+    meet_all(guarded, clients)
 }
 
-// Whether the desk has just the calls that each client made. The clients have learnt the history in any case.
+// Whether what is guarded has just the calls that each client made. The clients have learnt the history in any case.
 fn meet_all<
     D: Drop,
     R: Drop,
@@ -138,14 +138,14 @@ fn meet_all<
     W: Wait + Drop,
     A: Allocator + Copy,
 >(
-    desk: &Desk<D, R, E, J, W, A>,
+    guarded: &Guarded<D, R, E, J, W, A>,
     clients: &mut [Client<R, E, J, Shared<D, R, E, J, G, W, A>, A>],
 ) -> bool
-    ensures own { IsTrue result → ((i : ℕ) (s : Seat E) → slice_get clients.old i ≡ Some s → IsOwn E.place desk.now s) }
+    ensures own { IsTrue result → ((i : ℕ) (s : Seat E) → slice_get clients.old i ≡ Some s → IsOwn E.place guarded.now s) }
     ensures not_called { HaveNotCalled E.place clients.old clients.new }
 {
     for client in clients.iter_mut() {
-        if !client.meet(desk) {
+        if !client.meet(guarded) {
             return false;
         }
     }

@@ -5,9 +5,9 @@
 #![tactic(auto)]
 
 mod client;
-mod desk;
 mod finishing;
 mod gate;
+mod guarded;
 mod look;
 mod object;
 mod owner;

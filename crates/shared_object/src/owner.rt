@@ -3,8 +3,8 @@ ghost use Rattle.std.specs.Vec.{vec_len};
 ghost use Rattle.dots.specs.declared.refusal.Refusal.TheVariants.{NoPlace, OutOfMemory};
 
 use crate::client::Client;
-use crate::desk::Desk;
 use crate::gate::Gate;
+use crate::guarded::Guarded;
 use crate::object::Object;
 use crate::placed::Placed;
 use crate::returned::Returned;
@@ -81,7 +81,7 @@ impl<
                 });
             }
         };
-        *shared.lock.lock(rt) = Some(Desk::new(object, writer, handle));
+        *shared.lock.lock(rt) = Some(Guarded::new(object, writer, handle));
         Ok(Owner {
             shared,
             views,

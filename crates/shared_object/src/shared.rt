@@ -4,8 +4,8 @@ ghost use Rattle.dots.specs.declared.refusal.Refusal.TheVariants.{NoPlace};
 ghost use Rattle.shared_object.specs.History.{calls_by};
 ghost use Rattle.shared_object.specs.Calling.{IsRefused};
 
-use crate::desk::Desk;
 use crate::gate::{Gate, Point};
+use crate::guarded::Guarded;
 use crate::object::Object;
 use crate::placed::Placed;
 use crate::update::Update;
@@ -27,7 +27,7 @@ pub struct Shared<
     A: Allocator + Copy = Global,
 > {
     pub(crate) gate: G,
-    pub(crate) lock: Mutex<Option<Desk<D, R, E, J, W, A>>>,
+    pub(crate) lock: Mutex<Option<Guarded<D, R, E, J, W, A>>>,
 }
 
 /// Takes the turn of a client: makes its call, once the lock is free. The View has seen the history with the call afterwards, or where it
@@ -58,11 +58,11 @@ pub(crate) fn take_turn<
 {
     shared.gate.pass(Point::Before);
     let mut guard = shared.lock.lock(rt);
-    let Some(desk) = guard.take() else {
+    let Some(guarded) = guard.take() else {
         return (view, Err(Refusal::NoPlace));
     };
     shared.gate.pass(Point::Locked);
-    let (desk, view, answer) = desk.turn(rt, view, place, operations, update);
-    *guard = Some(desk);
+    let (guarded, view, answer) = guarded.turn(rt, view, place, operations, update);
+    *guard = Some(guarded);
     (view, answer)
 }

@@ -9,7 +9,7 @@ use Rattle.trace_world.specs.Line.{Past, Answers}
 use Rattle.trace_cli.specs.Lines.{lines_of, has_newline, ends_line, ends_line_after}
 use Rattle.trace_cli.specs.Output.{Given, nothing_given, prepend, Gives, GivesFirst, GivesFront, answer_text}
 use Rattle.trace_words.specs.Reply.{TraceGoesOn}
-use Rattle.trace_cli.specs.Session.{Point, GivesAt, Leads, Stops, IsFrontFrom}
+use Rattle.trace_cli.specs.TraceRun.{Point, GivesAt, Leads, Stops, IsFrontFrom}
 use Rattle.watched_io.specs.Streams.{IsFront, Written}
 use Rattle.watched_io.proofs.StreamLemmas.{Appends-trans}
 

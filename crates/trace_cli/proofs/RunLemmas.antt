@@ -12,8 +12,8 @@ use Rattle.watched_io.specs.Watched.{has_failed, has_gone_on, is_flushed}
 use Rattle.trace_cli.specs.Ends.{LeavesWriter}
 use Rattle.trace_cli.specs.Lines.{has_newline, ends_line, IsWholeLinesOf}
 use Rattle.trace_cli.specs.Output.{Given, nothing_given, prepend, IsGiven, IsGivenFront, GivesFront}
-use Rattle.trace_cli.specs.declared.session.Session.{Session}
-use Rattle.trace_cli.specs.Session.{Point, start_point, point_of, GivesAt, Leads, Stops, IsFrontFrom}
+use Rattle.trace_cli.specs.declared.trace_run.TraceRun.{TraceRun}
+use Rattle.trace_cli.specs.TraceRun.{Point, start_point, point_of, GivesAt, Leads, Stops, IsFrontFrom}
 use Rattle.watched_io.specs.Streams.{TakenBytes, Written}
 use Rattle.trace_cli.proofs.LineLemmas.{ends_line-append, given_at-Leads, Leads-nothing, Leads-trans, Stops-after, Begins-after, front-prepend}
 use Rattle.watched_io.proofs.StreamLemmas.{Appends-nothing, Appends-trans, Consumes-nothing, Consumes-trans, Consumes-kept}
@@ -119,18 +119,18 @@ Ran-finishes ro rm rn wo wm wn mid fault ran took then =
     let P : List ℕ → Type 0 = λ bytes. Consumes ro rn bytes in
     (ran.0, subst P (append-nil ran.0) (Consumes-trans ro rm rn ran.0 [] ran.1 took), finished wo wm wn ran.0 ran.2.0 mid fault ran.2.1 ran.2.2 then)
 
--- a whole input that was fed to a session from its start, and finished
-pub finished_all : {A : Type 0} (wo wm wn : Option (List ℕ)) (session : Session A) (input : List ℕ) (mid : Point) (fault : Option Refusal) → point_of session ≡ start_point
-    → Written wo wm (λ text. Leads (point_of session) input text mid) → Written wm wn (λ last. GivesAt mid [] (record { text = last; fault = fault }))
+-- a whole input that was fed to a run of a trace from its start, and finished
+pub finished_all : {A : Type 0} (wo wm wn : Option (List ℕ)) (trace_run : TraceRun A) (input : List ℕ) (mid : Point) (fault : Option Refusal) → point_of trace_run ≡ start_point
+    → Written wo wm (λ text. Leads (point_of trace_run) input text mid) → Written wm wn (λ last. GivesAt mid [] (record { text = last; fault = fault }))
     → (given : Given) × IsGiven input given × Appends wo wn given.text
-finished_all wo wm wn session input mid fault at_start fed then =
+finished_all wo wm wn trace_run input mid fault at_start fed then =
     let P : Point → Type 0 = λ point. Leads point input fed.0 mid in
     let all = finished wo wm wn input fed.0 mid fault fed.1 (subst P at_start fed.2) then in
     (all.0, all.1, all.2)
 
 -- nothing was read or written yet
-pub Ran-start : {A : Type 0} (ro wo : Option (List ℕ)) (session : Session A) → point_of session ≡ start_point → Ran ro ro wo wo (point_of session)
-Ran-start ro wo session at_start =
+pub Ran-start : {A : Type 0} (ro wo : Option (List ℕ)) (trace_run : TraceRun A) → point_of trace_run ≡ start_point → Ran ro ro wo wo (point_of trace_run)
+Ran-start ro wo trace_run at_start =
     let P : Point → Type 0 = λ point. Ran ro ro wo wo point in
     subst P (sym at_start) ([], Consumes-nothing ro, ([], Appends-nothing wo, Leads-nothing start_point))
 
@@ -169,9 +169,9 @@ Ran-kept ro rm rn wo wn point ran kept =
     ([], Appends-nothing wn, record { lines = []; rest = point.line; parts = refl; whole = inl refl; given = nothing_given; gives = refl; front = record { rest = []; joined = refl } })
 
 -- a fault in the whole input
-pub Stops-written : {A : Type 0} (wo wn : Option (List ℕ)) (session : Session A) (input : List ℕ) (refusal : Refusal) → point_of session ≡ start_point
-    → Written wo wn (λ text. Stops (point_of session) input text refusal) → (given : Given) × IsGiven input given × Appends wo wn given.text
-Stops-written wo wn session input refusal at_start then =
+pub Stops-written : {A : Type 0} (wo wn : Option (List ℕ)) (trace_run : TraceRun A) (input : List ℕ) (refusal : Refusal) → point_of trace_run ≡ start_point
+    → Written wo wn (λ text. Stops (point_of trace_run) input text refusal) → (given : Given) × IsGiven input given × Appends wo wn given.text
+Stops-written wo wn trace_run input refusal at_start then =
     let P : Point → Type 0 = λ point. Stops point input then.0 refusal in
     let stop : Stops start_point input then.0 refusal = subst P at_start then.2 in
     let given : Given = record { text = then.0; fault = Some refusal } in

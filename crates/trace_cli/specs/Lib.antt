@@ -1,5 +1,5 @@
 pub mod Lines
 pub mod Output
-pub mod Session
+pub mod TraceRun
 pub mod Ends
 pub mod Laws

@@ -4,7 +4,7 @@
 
 mod laws;
 mod running;
-mod session;
+mod trace_run;
 mod writing;
 
 pub use laws::a_trace_is_given_one_text;

@@ -6,7 +6,7 @@ ghost use Rattle.trace_cli.specs.Output.{Given, IsGiven, IsGivenFront};
 ghost use Rattle.watched_io.specs.Streams.{TakenBytes, Written};
 ghost use Rattle.watched_io.specs.Watched.{inner_of, calls_of, has_failed, has_gone_on, is_flushed, IsNew, IsSettled};
 
-use crate::session::Session;
+use crate::trace_run::TraceRun;
 use dots::Refusal;
 use std::alloc::Allocator;
 use std::io::{Read, Write};
@@ -62,21 +62,21 @@ pub fn run<R: Read, W: Write, A: Allocator + Copy>(
     ensures pieces { TakenBytes (R.remaining (inner_of reader.old)) (R.remaining (inner_of reader.new)) (λ read.
         length read ≤ 4096 * calls_of reader.new) }
 {
-    let mut session = Session::new(alloc);
+    let mut trace_run = TraceRun::new(alloc);
     'calls: for _ in 0..READ_CALLS {
         let mut piece = [0; 4096];
         let Ok(count) = reader.read(&mut piece) else {
             return Err(Refusal::Input);
         };
         if count == 0 {
-            return session.finish(writer);
+            return trace_run.finish(writer);
         }
-        session.feed(writer, &piece[..count])?;
+        trace_run.feed(writer, &piece[..count])?;
     }
     Err(Refusal::Input)
 }
 
-/// Feeds the whole input to a new session, and ends it.
+/// Feeds the whole input to a new run of a trace, and ends it.
 fn run_all<W: Write, A: Allocator + Copy>(
     alloc: A,
     input: &[u8],
@@ -88,9 +88,9 @@ fn run_all<W: Write, A: Allocator + Copy>(
     ensures fault { IfErr result (λ refusal. is_fault refusal ≡ true → (given : Given) × IsGiven input.now given ×
         Appends (W.contents (inner_of writer.old)) (W.contents (inner_of writer.new)) given.text) }
 {
-    let mut session = Session::new(alloc);
-    session.feed(writer, input)?;
-    session.finish(writer)
+    let mut trace_run = TraceRun::new(alloc);
+    trace_run.feed(writer, input)?;
+    trace_run.finish(writer)
 }
 
 /// The text that the whole trace is given, its fault's line with it. The one refusal is OutOfMemory.

@@ -2,11 +2,11 @@
 // Offered to the crate that reads the lines and writes the answers.
 #![tactic(auto)]
 
-mod desk;
 mod laws;
 mod machine;
 mod pin;
 mod reading;
+mod teller;
 mod telling;
 mod texts;
 

@@ -7,9 +7,9 @@ ghost use Rattle.trace_words.specs.Text.{pin_text};
 ghost use Rattle.trace_world.specs.Line.{start, Answers, LineComes};
 ghost use Rattle.trace_world.specs.Outcome.{Pinned, Comes, LooksAt, at_replica, pin_at};
 
-use crate::desk::Desk;
 use crate::pin::Pin;
 use crate::reading::look_at;
+use crate::teller::Teller;
 use dots::{Name, Refusal};
 use std::alloc::{Allocator, Global};
 use std::marker::Model;
@@ -20,7 +20,7 @@ use trace_words::{Command, Reply, parse, pin_answer, reply_of};
 #[derive(Drop)]
 pub struct Machine<A: Allocator + Copy = Global> {
     alloc: A,
-    desk: Desk<A>,
+    teller: Teller<A>,
     pins: Vec<Pin<A>, A>,
 }
 
@@ -30,9 +30,9 @@ impl<A: Allocator + Copy> Model for Machine<A> {
 
     ghost Value = { Past };
 
-    ghost view = { λ m. record { events = m.desk; pins = pins_of m.desk m.pins.items } };
+    ghost view = { λ m. record { events = m.teller; pins = pins_of m.teller m.pins.items } };
 
-    ghost invariant = { λ m. AllPinned m.desk m.pins.items };
+    ghost invariant = { λ m. AllPinned m.teller m.pins.items };
 }
 
 impl<A: Allocator + Copy> Machine<A> {
@@ -46,7 +46,7 @@ impl<A: Allocator + Copy> Machine<A> {
     {
         Machine {
             alloc,
-            desk: Desk::new(alloc),
+            teller: Teller::new(alloc),
             pins: Vec::new(alloc),
         }
     }
@@ -69,7 +69,7 @@ impl<A: Allocator + Copy> Machine<A> {
         ensures { Brings (LineComes self.old (command_of line.now)) self.old self.new result }
     {
         // That the events so far lead to a world, in constant time.
-        let _ = self.desk.age();
+        let _ = self.teller.age();
         match parse(self.alloc, line)? {
             Some(command) => self.obey(command),
             None => Err(Refusal::BadLine),
@@ -83,16 +83,16 @@ impl<A: Allocator + Copy> Machine<A> {
         match command {
             Command::Pin(name) => self.pin(name),
             Command::Look { pin, key } => self.look(pin, key.as_slice()),
-            command => self.desk.obey(command),
+            command => self.teller.obey(command),
         }
     }
 
     fn pin(&mut self, name: Name) -> Result<Vec<u8, A>, Refusal>
         ensures { Brings (In self.old.events (λ w. at_replica w name (λ o. o ≡ Pinned (pin_text (length self.old.pins + 1)) name))) self.old self.new result }
     {
-        let store = self.desk.store(name)?;
+        let store = self.teller.store(name)?;
         let text = pin_answer(self.alloc, self.pins.len() as u64 + 1)?;
-        let age = self.desk.age();
+        let age = self.teller.age();
         self.pins.push(Pin { name, age, store })?;
         Ok(text.into_bytes())
     }

@@ -21,7 +21,7 @@ loop-client-preserved g c =
     record {
       own =
           own_more c.args.clients.now c.loop-client.clients c.loop-client.client-index it here c.loop-client.invariant.rest
-          (IsOwn g.E.Placed.place c.args.desk.now) (c.meet.ensures.own c.if-not-meet.false) c.loop-client.invariant.own;
+          (IsOwn g.E.Placed.place c.args.guarded.now) (c.meet.ensures.own c.if-not-meet.false) c.loop-client.invariant.own;
       not_called =
           tied_more c.args.clients.now c.loop-client.clients c.loop-client.client-index it here c.loop-client.invariant.rest
           (HasNotCalled g.E.Placed.place) c.meet.new.self c.meet.ensures.not_called c.loop-client.invariant.not_called;

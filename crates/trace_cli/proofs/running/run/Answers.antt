@@ -3,7 +3,7 @@ use Rattle.std.proofs.lemmas.Result.{err_from_is_err_and, on_ok_weaker, on_err_w
 use Rattle.trace_cli.proofs.RunLemmas.{Ran-start, Ran-kept, Ran-answered, Ran-more, Ran-stops, Ran-begins, Ran-finishes, Ran-ends, Pieces-more, at_end, writer_failed, never_gone_on, all_flushed, input_is_other}
 use Rattle.watched_io.proofs.StreamLemmas.{Keeps-itself, Consumes-nothing, Consumes-kept}
 use Rattle.trace_cli.specs.Lines.{has_newline}
-use Rattle.trace_cli.specs.Session.{Point}
+use Rattle.trace_cli.specs.TraceRun.{Point}
 use Rattle.trace_cli.proofs.running.run.Goals as goal
 
 pub returns-in_default-clause-answered : goal.returns-in_default-clause-answered
@@ -62,9 +62,9 @@ calls-preserved g c = record {
 
 pub calls-init : goal.calls-init
 calls-init g c =
-    let at_start = c.new-session.ensures in
+    let at_start = c.new-trace_run.ensures in
     record {
-      led = Ran-start _ _ c.new-session.result at_start;
+      led = Ran-start _ _ c.new-trace_run.result at_start;
       one_line = ap (λ (point : Point). has_newline point.line) at_start;
       number = (let first = ap (λ (point : Point). point.number) at_start in omega (arith, first));
       calls = c.requires.reader_is_new.no_calls;

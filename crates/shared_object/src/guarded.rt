@@ -1,0 +1,282 @@
+ghost use Rattle.std.specs.Prelude.{◌≡◌, ◌≢◌, ◌⊎◌, ◌<◌, ◌≤◌, ◌+◌, ◌-◌, ◌^◌, ◌++◌, ◌∷◌, [], ℕ, length, slice_index, IfOk, IfErr, IsTrue};
+ghost use mathlib.Core.List.{IsPrefix};
+ghost use Rattle.dots.specs.declared.refusal.Refusal.TheVariants.{NoPlace};
+ghost use Rattle.shared_object.specs.History.{AreCounts, calls_by};
+ghost use Rattle.shared_object.specs.Calling.{IsRefused};
+
+use crate::finishing::Finished;
+use crate::object::Object;
+use crate::placed::Placed;
+use crate::update::{Made, Making, Update};
+use dots::Refusal;
+use root_cell::{Note, View, Writer};
+use std::alloc::{Allocator, Global};
+use std::marker::Model;
+use std::sync::Wait;
+
+/// As many clients as a cell can have.
+pub(crate) const PLACES: usize = 64;
+
+/// What lies under the lock: the object, with the writer of its roots, and how many of its calls came from each place. Contracts see
+/// its history. It keeps a handle to end the writer with.
+pub(crate) struct Guarded<
+    D: Drop,
+    R: Drop,
+    E: Placed,
+    J: Object<D, R, E>,
+    W: Wait + Drop,
+    A: Allocator + Copy = Global,
+> {
+    object: D,
+    events: u64,
+    counts: [u64; PLACES],
+    writer: Writer<R, E, J, A>,
+    rt: W,
+}
+
+impl<D: Drop, R: Drop, E: Placed, J: Object<D, R, E>, W: Wait + Drop, A: Allocator + Copy> Model
+    for Guarded<D, R, E, J, W, A> {
+    ghost use Rattle.std.specs.Prelude.{◌≡◌, List, length};
+    ghost use Rattle.shared_object.specs.History.{AreCounts};
+
+    ghost Value = { List E };
+
+    ghost view = { λ d. d.writer };
+
+    ghost invariant = { λ d. J.after d.object d.writer × (d.events ≡ length d.writer) × AreCounts E.place d.counts d.writer };
+}
+
+impl<D: Drop, R: Drop, E: Placed, J: Object<D, R, E>, W: Wait + Drop, A: Allocator + Copy> Drop
+    for Guarded<D, R, E, J, W, A> {
+    fn drop(self) {
+        let Guarded {
+            object: _,
+            events: _,
+            counts: _,
+            writer,
+            rt,
+        } = self;
+        writer.end(&rt);
+    }
+}
+
+impl<D: Drop, R: Drop, E: Placed, J: Object<D, R, E>, W: Wait + Drop, A: Allocator + Copy> Guarded<
+    D,
+    R,
+    E,
+    J,
+    W,
+    A,
+> {
+    /// An object to which nothing happened yet.
+    pub(crate) fn new(object: D, writer: Writer<R, E, J, A>, rt: W) -> Guarded<D, R, E, J, W, A>
+        requires object { J.after object [] }
+        requires writer { writer ≡ [] }
+        ensures { result ≡ [] }
+    {
+        Guarded {
+            object,
+            events: 0,
+            counts: no_counts(),
+            writer,
+            rt,
+        }
+    }
+
+    /// How many calls came from this place.
+    fn count(&self, place: usize) -> u64
+        requires { place < 64 }
+        ensures { result ≡ length (calls_by E.place place self.now) }
+    {
+        self.counts[place]
+    }
+
+    /// How many calls it had.
+    pub(crate) fn events(&self) -> u64
+        ensures { result ≡ length self.now }
+    {
+        self.events
+    }
+
+    /// Whether no call came from the places from this one on.
+    pub(crate) fn has_none_from(&self, taken: usize) -> bool
+        ensures { IsTrue result → ((p : ℕ) → taken ≤ p → calls_by E.place p self.now ≡ []) }
+    {
+        is_zero_from(&self.counts, taken)
+    }
+
+    /// Ends the writer, and gives the object out.
+    pub(crate) fn close(self) -> Finished<D>
+        ensures object { J.after result.object self }
+        ensures operations { result.operations ≡ length self }
+    {
+        let Guarded {
+            object,
+            events,
+            counts: _,
+            writer,
+            rt,
+        } = self;
+        writer.end(&rt);
+        Finished {
+            object,
+            operations: events,
+        }
+    }
+
+    /// Whether the View, once it has learnt all that is published, has seen the history, and so many of its calls came from this place. It
+    /// has learnt in any case.
+    pub(crate) fn meet(
+        &self,
+        view: View<R, E, J, A>,
+        place: usize,
+        operations: u64,
+    ) -> (View<R, E, J, A>, bool)
+        requires { place < 64 }
+        ensures seen { IsPrefix view result.0 }
+        ensures whole { IsTrue result.1 → result.0 ≡ self.now }
+        ensures own { IsTrue result.1 → length (calls_by E.place place self.now) ≡ operations }
+    {
+        let mut view = view;
+        view.learn(self.writer.tell());
+        let entered = match view.enter() {
+            Ok(entered) => entered,
+            Err(view) => return (view, false),
+        };
+        let is_whole = entered.events() == self.events;
+        let view = entered.leave();
+        if self.count(place) != operations {
+            return (view, false);
+        }
+        (view, is_whole)
+    }
+
+    /// Takes the turn of a client: makes its call, where the client's calls that are known here are just those that it made.
+    pub(crate) fn turn<T: Wait, C: Update<D, R, E, J, A>>(
+        self,
+        rt: &T,
+        view: View<R, E, J, A>,
+        place: usize,
+        operations: u64,
+        update: &C,
+    ) -> (
+        Guarded<D, R, E, J, W, A>,
+        View<R, E, J, A>,
+        Result<(C::Reply, Note<R, E, J>), Refusal>,
+    )
+        requires { place < 64 }
+        ensures seen { IfOk result.2 (λ r. IsPrefix view self) }
+        ensures own { IfOk result.2 (λ r. length (calls_by E.place place self) ≡ operations) }
+        ensures room { IfOk result.2 (λ r. length self < 2 ^ 64 - 1) }
+        ensures reply { IfOk result.2 (λ r. C.answers update.now self r.0) }
+        ensures receipt { IfOk result.2 (λ r. r.1 ≡ self ++ C.event update.now place ∷ []) }
+        ensures front { IfOk result.2 (λ r. result.1 ≡ self ++ C.event update.now place ∷ []) }
+        ensures guarded { IfOk result.2 (λ r. result.0 ≡ self ++ C.event update.now place ∷ []) }
+        ensures refused { IfErr result.2 (λ e. (e ≡ NoPlace) ⊎ IsRefused (C.refuses update.now) result.1 e) }
+        ensures learnt { IfErr result.2 (λ _. IsPrefix view result.1) }
+        ensures unchanged { IfErr result.2 (λ _. result.0 ≡ self) }
+    {
+        let (view, is_met) = self.meet(view, place, operations);
+        if !is_met {
+            return (self, view, Err(Refusal::NoPlace));
+        }
+        match self.accept(rt, place, update) {
+            (guarded, Ok(told)) => {
+                let mut view = view;
+                view.learn(guarded.writer.tell());
+                (guarded, view, Ok(told))
+            }
+            (guarded, Err(refusal)) => (guarded, view, Err(refusal)),
+        }
+    }
+
+    /// Makes a call for the client at this place, and publishes what the object then is. A refused call changes nothing, and publishes
+    /// nothing.
+    pub(crate) fn accept<T: Wait, C: Update<D, R, E, J, A>>(
+        self,
+        rt: &T,
+        place: usize,
+        update: &C,
+    ) -> (
+        Guarded<D, R, E, J, W, A>,
+        Result<(C::Reply, Note<R, E, J>), Refusal>,
+    )
+        requires { place < 64 }
+        ensures ok { IfOk result.1 (λ r. result.0 ≡ self ++ C.event update.now place ∷ []) }
+        ensures room { IfOk result.1 (λ r. length self < 2 ^ 64 - 1) }
+        ensures reply { IfOk result.1 (λ r. C.answers update.now self r.0) }
+        ensures receipt { IfOk result.1 (λ r. r.1 ≡ self ++ C.event update.now place ∷ []) }
+        ensures refused { IfErr result.1 (IsRefused (C.refuses update.now) self) }
+        ensures unchanged { IfErr result.1 (λ _. result.0 ≡ self) }
+    {
+        if self.events == u64::MAX {
+            return (self, Err(Refusal::NumbersSpent));
+        }
+        let Guarded {
+            object,
+            events,
+            counts,
+            writer,
+            rt: own,
+        } = self;
+        let mut object = object;
+        match update.update(rt, &mut object) {
+            Ok((reply, root)) => {
+                let made = Made { place, update };
+                let writer = writer.publish_placed::<Made<C>, Making<D, R, J, A>, T>(
+                    rt, root, &made,
+                );
+                let receipt = writer.tell();
+                let guarded = Guarded {
+                    object,
+                    events: events + 1,
+                    counts: counted(counts, place),
+                    writer,
+                    rt: own,
+                };
+                (guarded, Ok((reply, receipt)))
+            }
+            Err(refusal) => {
+                let guarded = Guarded {
+                    object,
+                    events,
+                    counts,
+                    writer,
+                    rt: own,
+                };
+                (guarded, Err(refusal))
+            }
+        }
+    }
+}
+
+// Whether all counts from this place on are 0.
+fn is_zero_from(counts: &[u64; PLACES], taken: usize) -> bool
+    ensures { IsTrue result → ((p : ℕ) → taken ≤ p → slice_index counts.now p ≡ 0) }
+{
+    for place in taken..PLACES {
+        if counts[place] != 0 {
+            return false;
+        }
+    }
+    true
+}
+
+// The counts of no calls.
+fn no_counts() -> [u64; PLACES]
+    ensures { (p : ℕ) → slice_index result p ≡ 0 }
+{
+    [0; PLACES]
+}
+
+// The counts with one more at this place.
+fn counted(counts: [u64; PLACES], place: usize) -> [u64; PLACES]
+    requires within { place < 64 }
+    requires room { slice_index counts place < 2 ^ 64 - 1 }
+    ensures here { slice_index result place ≡ slice_index counts place + 1 }
+    ensures elsewhere { (p : ℕ) → p ≢ place → slice_index result p ≡ slice_index counts p }
+{
+    let mut counts = counts;
+    counts[place] += 1;
+    counts
+}

@@ -1,4 +1,0 @@
-use Rattle.trace_world.proofs.desk.Desk.age.Goals as goal
-
-pub returns-clause-runs : goal.returns-clause-runs
-returns-clause-runs g c = rw (← c.self.view_is) c.past.ensures.runs
