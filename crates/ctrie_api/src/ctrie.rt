@@ -203,6 +203,7 @@ impl<V: Drop, H: PathHash, M: Summary<V>, A: Allocator + Copy> Ctrie<V, H, M, A>
     pub fn freeze(&mut self) -> Result<Frozen<V, M, H, A>, Refusal>
         ensures hash { IfOk result (λ frozen. frozen.hash ≡ self.old.hash) }
         ensures map { IfOk result (λ frozen. frozen.map ≡ self.old.map) }
+        ensures sealed { IfOk result (λ frozen. frozen.sealed ≡ true) }
         ensures same { self.new ≡ self.old }
         ensures err { IsOkUnless result Refusal.OutOfMemory }
     {

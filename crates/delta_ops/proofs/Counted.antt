@@ -19,36 +19,12 @@ use Rattle.delta_ops.proofs.AsOrMap.{lookup_is}
 use Rattle.delta_ops.proofs.Keeping.{key_holds, holds_fields}
 use Rattle.delta_ops.proofs.Listing.{ascends-from_sorted}
 use Rattle.dots.specs.Bytes.{bytes_cmp}
+use Rattle.gen_trie.proofs.Ordered.{sorted_keys}
 use Rattle.live_map.specs.Live.{PairValue}
 use Rattle.op_model.proofs.Places.{same_bytes-true}
 use Rattle.op_model.specs.Meaning.{HoldsKey}
 use Rattle.op_model.specs.Shown.{IsAscending}
 use Rattle.trie_map.specs.Keyed.{NoStoreIsEmpty}
-
-front : (a b : Bool) → T (a && b) → T a
-front true b h = tt
-front false b h = h
-
-back : (a b : Bool) → T (a && b) → T b
-back true b h = h
-back false b h = absurd h
-
-is_less : (o : Ordering) → T (is_lt o) → o ≡ Less
-is_less Less h = refl
-is_less Equal h = absurd h
-is_less Greater h = absurd h
-
--- the keys of ordered entries are in strict order
-all_less : {V : Type 0} (key : List ℕ) (entries : List (List ℕ × V)) → T (below_all bytes_cmp key entries) → AllByRecursion (λ other. bytes_cmp key other ≡ Less) (keys_of entries)
-all_less key [] below = tt
-all_less key (e ∷ entries) below =
-    (is_less (bytes_cmp key e.0) (front (is_lt (bytes_cmp key e.0)) (below_all bytes_cmp key entries) below), all_less key entries (back (is_lt (bytes_cmp key e.0)) (below_all bytes_cmp key entries) below))
-
-sorted_keys : {V : Type 0} (entries : List (List ℕ × V)) → T (is_sorted bytes_cmp entries) → IsStrictlySortedBy bytes_cmp (keys_of entries)
-unfolding IsStrictlySortedBy
-sorted_keys [] sorted = tt
-sorted_keys (e ∷ entries) sorted =
-    (all_less e.0 entries (front (below_all bytes_cmp e.0 entries) (is_sorted bytes_cmp entries) sorted), sorted_keys entries (back (below_all bytes_cmp e.0 entries) (is_sorted bytes_cmp entries) sorted))
 
 some_of : {V : Type 0} (o : Option V) → IsSome o → (v : V) × (o ≡ Some v)
 some_of None h = absurd cc

@@ -21,7 +21,7 @@ use Rattle.gen_trie.specs.declared.node.Shape.{Shape}
 use Rattle.gen_trie.specs.declared.node.Shape.TheVariants.{Branch, Keys}
 use Rattle.gen_trie.specs.declared.node.Slot.{Slot}
 use Rattle.gen_trie.specs.declared.node.Slot.TheVariants.{One, Many}
-use Rattle.gen_trie.specs.Shapes.{children, child, listed, height_and_entries, StandsBelow, IsBranch, IsCanonical}
+use Rattle.gen_trie.specs.Shapes.{children, child, listed, height_and_entries, stands_for, StandsBelow, IsBranch, IsCanonical}
 use Rattle.hash_path.specs.Map.{by_key}
 use Rattle.gen_trie.specs.Left.{item, slots_left, levels_left, root_left, LevelsStand, NoneBelow}
 
@@ -69,11 +69,11 @@ module _ {V M A : Type 0} where
 -- ---- a slot that is gone into
 
 module _ {V M A : Type 0} (below : ℕ) (s : Slot V M A) (i : ℕ) (n : Arc (Node V M A) A) (x : Node V M A) (shape : Shape V M A)
-    (many : s ≡ Many i n) (read : x ≡ n.value) (fits : StandsBelow below s) (seen : height_and_entries shape ≡ x) where
+    (many : s ≡ Many i n) (read : x ≡ n.value) (fits : StandsBelow below s) (seen : height_and_entries shape ≡ stands_for x) where
   -- the node of a slot has its height, two entries or more, and those of the slot
   node_is : ((height_and_entries shape).0 ≡ below) × (2 ≤ length (height_and_entries shape).1) × ((child below s).1 ≡ (height_and_entries shape).1)
   node_is =
-      let is : height_and_entries shape ≡ n.value = seen ∙ read in
+      let is : height_and_entries shape ≡ stands_for n.value = seen ∙ ap stands_for read in
       let low = subst (StandsBelow below) many fits in
       (ap (λ y. y.0) is ∙ low.0, subst (λ y. 2 ≤ length y.1) (sym is) low.1, ap (λ t. (child below t).1) many ∙ ap (λ y. y.1) (sym is))
 

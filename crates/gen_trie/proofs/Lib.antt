@@ -2,6 +2,8 @@ pub mod Seats
 pub mod Lookups
 pub mod Puts
 pub mod Roots
+pub mod Marks
+pub mod Ordered
 pub mod Pairs
 pub mod Takes
 pub mod Iters

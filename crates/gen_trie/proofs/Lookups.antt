@@ -40,8 +40,8 @@ module _ {V M A : Type 0} (shape : Shape V M A) (node : ℕ × List (List ℕ ×
 
   pub look_many : (s : Slot V M A) (i : ℕ) (n : Arc (Node V M A) A) (x : Node V M A) (r : Option V) → s ≡ Many i n → x ≡ n.value
       → (child below s ≡ (digit below hash, at (digit below hash) (children below slots.items))) × StandsBelow below s
-      → r ≡ find bytes_cmp (word x.0 hash key) x.1 → r ≡ find bytes_cmp (word node.0 hash key) node.1
+      → r ≡ find bytes_cmp (word x.0 hash key) x.1.0 → r ≡ find bytes_cmp (word node.0 hash key) node.1
   look_many s i n x r many q h f =
-      let entries : n.value.1 ≡ at (digit below hash) (children below slots.items) = ap (λ c. c.1) (ap (child below) (sym many) ∙ h.0) in
+      let entries : n.value.1.0 ≡ at (digit below hash) (children below slots.items) = ap (λ c. c.1) (ap (child below) (sym many) ∙ h.0) in
       let low = subst (StandsBelow below) many h.1 in
-      f ∙ ap (λ y. find bytes_cmp (word y.0 hash key) y.1) q ∙ ap (λ k. find bytes_cmp (word k hash key) n.value.1) low.0 ∙ ap (find bytes_cmp (word below hash key)) entries ∙ sym below_it
+      f ∙ ap (λ y. find bytes_cmp (word y.0 hash key) y.1.0) q ∙ ap (λ k. find bytes_cmp (word k hash key) n.value.1.0) low.0 ∙ ap (find bytes_cmp (word below hash key)) entries ∙ sym below_it

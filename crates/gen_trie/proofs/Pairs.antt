@@ -79,18 +79,18 @@ module _ {V M A : Type 0} (below : ℕ) where
 
   pub pair_many : {X : Type 0} (a b : X → Entry V A) (m : ℕ) (ss : List (Slot V M A)) (i : ℕ) (n : Arc (Node V M A) A) (node : ℕ × List (List ℕ × V)) (r : Option X)
       → node ≡ (suc below, fan (children below ss)) → IsBranch below m ss → ss ≡ Many i n ∷ []
-      → MatchOption r (length n.value.1 ≢ 2) (λ x. n.value.1 ≡ entry_at n.value.0 (a x) ∷ entry_at n.value.0 (b x) ∷ [])
+      → MatchOption r (length n.value.1.0 ≢ 2) (λ x. n.value.1.0 ≡ entry_at n.value.0 (a x) ∷ entry_at n.value.0 (b x) ∷ [])
       → MatchOption r (length node.1 ≢ 2) (λ x. node.1 ≡ entry_at node.0 (a x) ∷ entry_at node.0 (b x) ∷ [])
   pair_many a b m ss i n node r e br is h =
       let fits = All-head (StandsBelow below) (Many i n) [] (subst (All (StandsBelow below)) is br.fits) in
       let words = subst (λ l. AllWords (suc below) (fan (children below l))) is br.words in
-      let seen : node ≡ (suc below, under i n.value.1 ++ []) = e ∙ ap (λ l. (suc below, fan (children below l))) is in
-      let long = length-append (under i n.value.1) [] in
-      let own = length-under i n.value.1 in
+      let seen : node ≡ (suc below, under i n.value.1.0 ++ []) = e ∙ ap (λ l. (suc below, fan (children below l))) is in
+      let long = length-append (under i n.value.1.0) [] in
+      let own = length-under i n.value.1.0 in
       option_so r
       (λ f two. f (let same = ap (λ x. length x.1) seen in omega arith))
       (λ x q.
-      let q' : n.value.1 ≡ entry_at below (a x) ∷ entry_at below (b x) ∷ [] = q ∙ ap (λ k. entry_at k (a x) ∷ entry_at k (b x) ∷ []) fits.0 in
+      let q' : n.value.1.0 ≡ entry_at below (a x) ∷ entry_at below (b x) ∷ [] = q ∙ ap (λ k. entry_at k (a x) ∷ entry_at k (b x) ∷ []) fits.0 in
       let w = subst (λ l. AllWords (suc below) (under i l ++ [])) q' words in
       let first = word_index below i (a x).hash (a x).key w.0 in
       let second = word_index below i (b x).hash (b x).key w.1.0 in

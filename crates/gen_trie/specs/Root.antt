@@ -1,5 +1,5 @@
 -- What the root of a trie stands for. It is empty, one entry, or a node of two entries or more. Of this project.
-use Rattle.std.specs.Prelude.{◌≡◌, ℕ, List, [], length}
+use Rattle.std.specs.Prelude.{◌≡◌, ℕ, List, [], length, Bool, true}
 use Rattle.std.specs.Prelude.{T}
 use Rattle.std.specs.declared.option.Option.{Option}
 use Rattle.std.specs.declared.option.Option.TheVariants.{None, Some}
@@ -7,13 +7,18 @@ use Rattle.std.specs.FinMap.Entries.{is_sorted}
 use Rattle.dots.specs.Bytes.{bytes_cmp}
 use Rattle.hash_path.specs.Map.{HashedBy}
 use Rattle.gen_trie.specs.declared.node.Slot.{Slot}
-use Rattle.gen_trie.specs.Shapes.{child, StandsBelow}
+use Rattle.gen_trie.specs.Shapes.{child, is_sealed, StandsBelow}
 
 module _ {V M A : Type 0} where
   -- the entries by path. The root's slot has all seven levels of branches below it, and its index is not looked at
   abbrev pub root_entries : Option (Slot V M A) → List (List ℕ × V)
   root_entries None = []
   root_entries (Some slot) = (child 7 slot).1
+
+  -- whether each node keeps the summary of its entries: the root's does only where each below it does
+  abbrev pub root_sealed : Option (Slot V M A) → Bool
+  root_sealed None = true
+  root_sealed (Some slot) = is_sealed slot
 
   abbrev pub RootStands : Option (Slot V M A) → Type 0
   RootStands None = Unit {0}

@@ -1,8 +1,10 @@
 -- What a node stands for: its height, which is the number of indices that are left on the paths of its keys, and its
 -- entries by word. After Prokopec, Bronson, Bagwell and Odersky, "Concurrent Tries with Efficient Non-Blocking
 -- Snapshots" (2012); the lists of keys with equal hashes and the canonical form are this project's own.
-use Rattle.std.specs.Prelude.{◌≡◌, ℕ, suc, ◌+◌, ◌<◌, ◌≤◌, Bool, true, cond, List, [], ◌∷◌, map, length}
+use Rattle.std.specs.Prelude.{◌≡◌, ℕ, suc, ◌+◌, ◌<◌, ◌≤◌, Bool, true, false, cond, List, [], ◌∷◌, map, length}
 use Rattle.std.specs.List.{All}
+use Rattle.std.specs.Prelude.{is_some}
+use Rattle.std.specs.declared.option.Option.{Option}
 use Rattle.std.specs.FinMap.Entries.{put}
 use Rattle.std.specs.declared.sync.Arc.{Arc}
 use Rattle.dots.specs.Bytes.{bytes_cmp}
@@ -41,11 +43,20 @@ module _ {V A : Type 0} where
   abbrev pub listed : List (Arc (Entry V A) A) → List (List ℕ × V)
   listed = map (λ e. entry_at 0 e.value)
 
+module _ {V : Type 0} where
+  -- what a node stands for, whether it is sealed or not
+  abbrev pub stands_for : ℕ × (List (List ℕ × V) × Bool) → ℕ × List (List ℕ × V)
+  stands_for node = (node.0, node.1.0)
+
+  -- a node that keeps no summary
+  abbrev pub unsealed : ℕ × List (List ℕ × V) → ℕ × (List (List ℕ × V) × Bool)
+  unsealed node = (node.0, (node.1, false))
+
 module _ {V M A : Type 0} where
   -- a child of a branch that has so many levels of branches below
   abbrev pub child : ℕ → Slot V M A → ℕ × List (List ℕ × V)
   child below (One index e) = (index, entry_at below e.value ∷ [])
-  child below (Many index n) = (index, n.value.1)
+  child below (Many index n) = (index, n.value.1.0)
 
   abbrev pub children : ℕ → List (Slot V M A) → List (ℕ × List (List ℕ × V))
   children below = map (child below)
@@ -54,10 +65,27 @@ module _ {V M A : Type 0} where
   height_and_entries (Branch below bitmap slots) = (suc below, fan (children below slots.items))
   height_and_entries (Keys es) = (0, listed es.items)
 
+  -- what a node shows: its height, its entries, and whether it is sealed, which is to keep their summary
+  abbrev pub shows : Option M → Shape V M A → ℕ × (List (List ℕ × V) × Bool)
+  shows kept shape = ((height_and_entries shape).0, ((height_and_entries shape).1, is_some kept))
+
+  -- whether a child is sealed. A key alone keeps no summary
+  abbrev pub is_sealed : Slot V M A → Bool
+  is_sealed (One index e) = true
+  is_sealed (Many index n) = n.value.1.1
+
+  abbrev pub IsSealed : Slot V M A → Type 0
+  IsSealed slot = is_sealed slot ≡ true
+
+  -- all children of a node are sealed
+  abbrev pub AreSealed : Shape V M A → Type 0
+  AreSealed (Branch below bitmap slots) = All IsSealed slots.items
+  AreSealed (Keys es) = Unit {0}
+
   -- a node below a branch is one level lower, and has two keys or more
   abbrev pub StandsBelow : ℕ → Slot V M A → Type 0
   StandsBelow below (One index e) = Unit {0}
-  StandsBelow below (Many index n) = (n.value.0 ≡ below) × (2 ≤ length n.value.1)
+  StandsBelow below (Many index n) = (n.value.0 ≡ below) × (2 ≤ length n.value.1.0)
 
   pub record IsBranch (below bitmap : ℕ) (slots : List (Slot V M A)) : Type 0 where
     pub height : below ≤ 6

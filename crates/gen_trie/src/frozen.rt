@@ -1,4 +1,4 @@
-ghost use Rattle.std.specs.Prelude.{◌≡◌, ◌↔◌, ℕ, List, length, IfOk, IsOkUnless};
+ghost use Rattle.std.specs.Prelude.{◌≡◌, ◌↔◌, ℕ, List, length, true, OnOk, OnErr, IfOk, IsOkUnless};
 ghost use Rattle.std.specs.declared.option.Option.TheVariants.{None};
 ghost use Rattle.std.specs.Option.{option_map};
 ghost use Rattle.std.specs.FinMap as finite;
@@ -37,7 +37,7 @@ impl<V, M: Summary<V>, H: PathHash, A: Allocator> Model for Frozen<V, M, H, A> {
 impl<V, M: Summary<V>, H: PathHash, A: Allocator + Copy> Frozen<V, M, H, A> {
     /// The map with no keys, whose paths are by this hash. Takes no memory.
     pub fn new(alloc: A, hash: H) -> Frozen<V, M, H, A>
-        ensures { result ≡ trie_shown hash finite.empty 0 }
+        ensures { result ≡ trie_shown hash finite.empty 0 true }
     {
         Frozen {
             trie: GenTrie::new(alloc, hash),
@@ -115,7 +115,8 @@ impl<V: Drop, M: Summary<V>, H: PathHash, A: Allocator + Copy> Frozen<V, M, H, A
     /// no other memory.
     /// Its only refusal is OutOfMemory.
     pub fn seal(&mut self) -> Result<(), Refusal>
-        ensures same { self.new ≡ self.old }
+        ensures ok { OnOk result (self.new ≡ record self.old { sealed = true }) }
+        ensures same { OnErr result (self.new ≡ self.old) }
         ensures err { IsOkUnless result OutOfMemory }
     {
         self.trie.seal()

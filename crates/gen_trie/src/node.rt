@@ -13,8 +13,8 @@ use std::alloc::Allocator;
 use std::marker::Model;
 use std::sync::Arc;
 
-// A node of the trie, seen as its height and its entries by word. It is stamped with the generation that wrote it, and keeps
-// the summary of its entries from a seal on to the next write.
+// A node of the trie, seen as its height, its entries by word, and whether it is sealed. It is stamped with the generation
+// that wrote it, and keeps the summary of its entries from a seal on to the next write: then each node below it keeps its own.
 #[cycle(node)]
 #[derive(Drop)]
 pub(crate) struct Node<V, M: Summary<V>, A: Allocator> {
@@ -43,16 +43,16 @@ pub(crate) enum Slot<V, M: Summary<V>, A: Allocator> {
 }
 
 impl<V, M: Summary<V>, A: Allocator> Model for Node<V, M, A> {
-    ghost use Rattle.std.specs.Prelude.{ℕ, List};
+    ghost use Rattle.std.specs.Prelude.{ℕ, List, Bool};
 
-    ghost Value = { ℕ × List (List ℕ × V) };
+    ghost Value = { ℕ × (List (List ℕ × V) × Bool) };
 
-    ghost use Rattle.gen_trie.specs.Shapes.{height_and_entries, IsCanonical};
+    ghost use Rattle.gen_trie.specs.Shapes.{shows, IsCanonical};
     ghost use Rattle.gen_trie.specs.Kept.{IsKept};
 
-    ghost view = { λ a. height_and_entries a.shape };
+    ghost view = { λ a. shows a.kept a.shape };
 
-    ghost invariant = { λ a. IsCanonical a.shape × IsKept M.calls a.kept (height_and_entries a.shape) };
+    ghost invariant = { λ a. IsCanonical a.shape × IsKept M.calls a.kept a.shape };
 
     ghost size = { λ d. d.0 };
 
@@ -198,7 +198,7 @@ fn in_list<'a, V, A: Allocator>(
 impl<V, M: Summary<V>, A: Allocator> Node<V, M, A> {
     // The entry of this hash and these bytes.
     pub fn lookup<'a>(&'a self, hash: u32, key: &[u8]) -> Option<&'a Arc<Entry<V, A>, A>>
-        ensures value { option_map (λ found. found.now.value.value) result ≡ find bytes_cmp (word self.now.0 hash key.now) self.now.1 }
+        ensures value { option_map (λ found. found.now.value.value) result ≡ find bytes_cmp (word self.now.0 hash key.now) self.now.1.0 }
         ensures key { IfSome result (λ found. found.now.value.key ≡ key.now) }
     {
         match &self.shape {

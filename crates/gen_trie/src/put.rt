@@ -4,7 +4,7 @@ ghost use Rattle.std.specs.Prelude.{◌≡◌, suc, ◌≤◌, [], ◌∷◌, ve
 ghost use Rattle.dots.specs.declared.refusal.Refusal.TheVariants.{OutOfMemory};
 ghost use Rattle.hash_path.specs.Word.{digit};
 ghost use Rattle.hash_path.specs.Fan.{fan};
-ghost use Rattle.gen_trie.specs.Shapes.{children, child, entry_at, with_entry, HasMore, StandsBelow, IsBranch, IsSeat};
+ghost use Rattle.gen_trie.specs.Shapes.{children, child, entry_at, with_entry, HasMore, stands_for, StandsBelow, IsBranch, IsSeat};
 
 use crate::entry::{Entry, same_key};
 use crate::listing::put_in_list;
@@ -22,9 +22,9 @@ pub(crate) fn put<V: Drop, M: Summary<V>, A: Allocator + Copy>(
     generation: u64,
     leaf: Arc<Entry<V, A>, A>,
 ) -> Result<bool, Refusal>
-    ensures ok { OnOk result (node.new ≡ (node.old.0, with_entry node.old.0 leaf.value node.old.1)) }
-    ensures fresh { IfOk result (λ fresh. HasMore fresh node.old.1 node.new.1) }
-    ensures same { OnErr result (node.new ≡ node.old) }
+    ensures ok { OnOk result (stands_for node.new ≡ (node.old.0, with_entry node.old.0 leaf.value node.old.1.0)) }
+    ensures fresh { IfOk result (λ fresh. HasMore fresh node.old.1.0 node.new.1.0) }
+    ensures same { OnErr result (stands_for node.new ≡ stands_for node.old) }
     ensures err { IsOkUnless result OutOfMemory }
 {
     node.kept = None;
@@ -122,7 +122,7 @@ fn pair<V: Drop, M: Summary<V>, A: Allocator + Copy>(
     leaf: Arc<Entry<V, A>, A>,
 ) -> Result<Arc<Node<V, M, A>, A>, Refusal>
     requires { height ≤ 7 }
-    ensures ok { IfOk result (λ node. node.value ≡ (height, with_entry height leaf.value (entry_at height first.now.value ∷ []))) }
+    ensures ok { IfOk result (λ node. stands_for node.value ≡ (height, with_entry height leaf.value (entry_at height first.now.value ∷ []))) }
     ensures err { IsOkUnless result OutOfMemory }
 {
     let mut node = Node::single(alloc, generation, height, Arc::try_clone(first)?)?;
@@ -138,9 +138,9 @@ fn put_shared<V: Drop, M: Summary<V>, A: Allocator + Copy>(
     generation: u64,
     leaf: Arc<Entry<V, A>, A>,
 ) -> Result<bool, Refusal>
-    ensures ok { OnOk result (node.new.value ≡ (node.old.value.0, with_entry node.old.value.0 leaf.value node.old.value.1)) }
-    ensures fresh { IfOk result (λ fresh. HasMore fresh node.old.value.1 node.new.value.1) }
-    ensures same { OnErr result (node.new.value ≡ node.old.value) }
+    ensures ok { OnOk result (stands_for node.new.value ≡ (node.old.value.0, with_entry node.old.value.0 leaf.value node.old.value.1.0)) }
+    ensures fresh { IfOk result (λ fresh. HasMore fresh node.old.value.1.0 node.new.value.1.0) }
+    ensures same { OnErr result (stands_for node.new.value ≡ stands_for node.old.value) }
     ensures err { IsOkUnless result OutOfMemory }
 {
     if node.stamp == generation && generation != u64::MAX {

@@ -7,7 +7,7 @@ ghost use Rattle.dots.specs.Bytes.{bytes_cmp};
 ghost use Rattle.hash_path.specs.Word.{word};
 ghost use Rattle.hash_path.specs.Cut.{cut};
 ghost use Rattle.gen_trie.specs.Shapes.{with_entry, HasMore};
-ghost use Rattle.gen_trie.specs.Root.{root_entries, RootStands, IsRoot};
+ghost use Rattle.gen_trie.specs.Root.{root_entries, root_sealed, RootStands, IsRoot};
 
 use crate::copied::shared;
 use crate::entry::{Entry, entry_for};
@@ -44,6 +44,7 @@ pub(crate) fn share_root<V: Drop, M: Summary<V>, A: Allocator + Copy>(
     root: &Option<Slot<V, M, A>>,
 ) -> Result<Option<Slot<V, M, A>>, Refusal>
     ensures same { IfOk result (λ copy. root_entries copy ≡ root_entries root.now) }
+    ensures sealed { IfOk result (λ copy. root_sealed copy ≡ root_sealed root.now) }
     ensures is_root { IfOk result (λ copy. (count : ℕ) → IsRoot root.now count → IsRoot copy count) }
     ensures err { IsOkUnless result OutOfMemory }
 {
@@ -62,6 +63,8 @@ pub(crate) fn seal_root<V: Drop, M: Summary<V>, A: Allocator + Copy>(
     requires { RootStands root.old }
     ensures same { root_entries root.new ≡ root_entries root.old }
     ensures stands { RootStands root.new }
+    ensures ok { OnOk result (root_sealed root.new ≡ true) }
+    ensures refused { OnErr result (root_sealed root.new ≡ root_sealed root.old) }
     ensures err { IsOkUnless result OutOfMemory }
 {
     match root {

@@ -1,8 +1,8 @@
 // Renewing the summaries that writes took away. A node that keeps one is passed over, with all that stands below it.
-ghost use Rattle.std.specs.Prelude.{◌≡◌, ◌≤◌, length, IsOkUnless};
+ghost use Rattle.std.specs.Prelude.{◌≡◌, ◌≤◌, length, true, false, OnOk, OnErr, IsOkUnless};
 ghost use Rattle.std.specs.List.{All};
 ghost use Rattle.dots.specs.declared.refusal.Refusal.TheVariants.{OutOfMemory};
-ghost use Rattle.gen_trie.specs.Shapes.{children, child, StandsBelow};
+ghost use Rattle.gen_trie.specs.Shapes.{children, child, height_and_entries, is_sealed, stands_for, AreSealed, IsCanonical, IsSealed, StandsBelow};
 
 use crate::node::{Node, Shape, Slot};
 use crate::summary::Summary;
@@ -11,7 +11,7 @@ use dots::Refusal;
 use std::alloc::Allocator;
 use std::sync::Arc;
 
-// Gives a child its summary. A refused call may leave some of the nodes below it renewed.
+// Gives a child its summary. A refused call may leave some of the nodes below it renewed, but not its own.
 #[cycle(sealing)]
 pub(crate) fn seal_slot<V: Drop, M: Summary<V>, A: Allocator + Copy>(
     slot: &mut Slot<V, M, A>,
@@ -22,6 +22,8 @@ pub(crate) fn seal_slot<V: Drop, M: Summary<V>, A: Allocator + Copy>(
     requires { StandsBelow below slot.old }
     ensures same { child below slot.new ≡ child below slot.old }
     ensures fits { StandsBelow below slot.new }
+    ensures ok { OnOk result (IsSealed slot.new) }
+    ensures refused { OnErr result (is_sealed slot.new ≡ is_sealed slot.old) }
     ensures err { IsOkUnless result OutOfMemory }
 {
     match slot {
@@ -37,8 +39,10 @@ fn seal_shared<V: Drop, M: Summary<V>, A: Allocator + Copy>(
     alloc: A,
     generation: u64,
 ) -> Result<(), Refusal>
-    requires { 2 ≤ length node.old.value.1 }
-    ensures same { node.new.value ≡ node.old.value }
+    requires { 2 ≤ length node.old.value.1.0 }
+    ensures same { stands_for node.new.value ≡ stands_for node.old.value }
+    ensures ok { OnOk result (node.new.value.1.1 ≡ true) }
+    ensures refused { OnErr result (node.new.value.1.1 ≡ node.old.value.1.1) }
     ensures err { IsOkUnless result OutOfMemory }
 {
     if node.kept.is_some() {
@@ -53,18 +57,21 @@ fn seal_shared<V: Drop, M: Summary<V>, A: Allocator + Copy>(
     Ok(())
 }
 
-// Gives a node its summary, after those below it, and the stamp of the generation.
+// Gives a node that keeps no summary its own, after those below it, and the stamp of the generation.
 #[cycle(sealing)]
 fn seal_node<V: Drop, M: Summary<V>, A: Allocator + Copy>(
     node: &mut Node<V, M, A>,
     alloc: A,
     generation: u64,
 ) -> Result<(), Refusal>
-    requires { 2 ≤ length node.old.1 }
-    ensures same { node.new ≡ node.old }
+    requires several { 2 ≤ length node.old.1.0 }
+    requires unsealed { node.old.1.1 ≡ false }
+    ensures same { stands_for node.new ≡ stands_for node.old }
+    ensures ok { OnOk result (node.new.1.1 ≡ true) }
+    ensures refused { OnErr result (node.new.1.1 ≡ false) }
     ensures err { IsOkUnless result OutOfMemory }
 {
-    seal_below(node, alloc, generation)?;
+    seal_below(&mut node.shape, alloc, generation)?;
     node.kept = Some(summary(node));
     node.stamp = generation;
     Ok(())
@@ -73,14 +80,17 @@ fn seal_node<V: Drop, M: Summary<V>, A: Allocator + Copy>(
 // Gives the children of a node their summaries.
 #[cycle(sealing)]
 fn seal_below<V: Drop, M: Summary<V>, A: Allocator + Copy>(
-    node: &mut Node<V, M, A>,
+    shape: &mut Shape<V, M, A>,
     alloc: A,
     generation: u64,
 ) -> Result<(), Refusal>
-    ensures same { node.new ≡ node.old }
+    requires { IsCanonical shape.old }
+    ensures same { height_and_entries shape.new ≡ height_and_entries shape.old }
+    ensures canonical { IsCanonical shape.new }
+    ensures ok { OnOk result (AreSealed shape.new) }
     ensures err { IsOkUnless result OutOfMemory }
 {
-    match &mut node.shape {
+    match shape {
         Shape::Branch(below, _, slots) => seal_slots(slots, *below, alloc, generation),
         Shape::Keys(_) => Ok(()),
     }
@@ -96,6 +106,7 @@ fn seal_slots<V: Drop, M: Summary<V>, A: Allocator + Copy>(
     requires { All (StandsBelow below) slots.old.items }
     ensures same { children below slots.new.items ≡ children below slots.old.items }
     ensures fits { All (StandsBelow below) slots.new.items }
+    ensures ok { OnOk result (All IsSealed slots.new.items) }
     ensures err { IsOkUnless result OutOfMemory }
 {
     for at in 0..slots.len() {

@@ -44,8 +44,8 @@ fn slot_under<'a, V, M: Summary<V>, A: Allocator>(
 ) -> Option<&'a Slot<V, M, A>>
     requires index { index < 32 }
     requires short { suc (length rest) ≤ node.now.0 }
-    ensures { MatchOption result (under_prefix (index ∷ rest) node.now.1 ≡ [])
-        (λ found. (under_prefix (index ∷ rest) node.now.1 ≡ (child (node.now.0 - suc (length rest)) found.now).1) × StandsBelow (node.now.0 - suc (length rest)) found.now) }
+    ensures { MatchOption result (under_prefix (index ∷ rest) node.now.1.0 ≡ [])
+        (λ found. (under_prefix (index ∷ rest) node.now.1.0 ≡ (child (node.now.0 - suc (length rest)) found.now).1) × StandsBelow (node.now.0 - suc (length rest)) found.now) }
 {
     match &node.shape {
         Shape::Branch(below, bitmap, slots) => match slot_of(slots, *below, *bitmap, index) {

@@ -29,8 +29,8 @@ fn sum_of<V, M: Summary<V>, A: Allocator + Copy>(slot: &Slot<V, M, A>, below: u3
 // The summary of a node's entries, which are two or more.
 #[cycle(summing)]
 pub(crate) fn summary<V, M: Summary<V>, A: Allocator + Copy>(node: &Node<V, M, A>) -> M
-    requires { 2 ≤ length node.now.1 }
-    ensures { summary_of M.calls node.now.0 node.now.1 ≡ Some result }
+    requires { 2 ≤ length node.now.1.0 }
+    ensures { summary_of M.calls node.now.0 node.now.1.0 ≡ Some result }
 {
     if let Some(summary) = node.kept {
         return summary;

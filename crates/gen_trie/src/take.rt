@@ -7,7 +7,7 @@ ghost use Rattle.dots.specs.Bytes.{bytes_cmp};
 ghost use Rattle.hash_path.specs.Word.{word, digit};
 ghost use Rattle.hash_path.specs.Cut.{cut};
 ghost use Rattle.hash_path.specs.Fan.{fan, at};
-ghost use Rattle.gen_trie.specs.Shapes.{children, child, entry_at, StandsBelow, IsBranch, IsSeat};
+ghost use Rattle.gen_trie.specs.Shapes.{children, child, entry_at, stands_for, StandsBelow, IsBranch, IsSeat};
 
 use crate::entry::Entry;
 use crate::listing::take_from_list;
@@ -49,7 +49,7 @@ fn two_of<'a, V, M: Summary<V>, A: Allocator>(
 impl<V, M: Summary<V>, A: Allocator> Node<V, M, A> {
     // Its two entries, where it has just two.
     pub fn pair(&self) -> Option<(&Arc<Entry<V, A>, A>, &Arc<Entry<V, A>, A>)>
-        ensures { MatchOption result (length self.now.1 ≢ 2) (λ both. self.now.1 ≡ entry_at self.now.0 both.0.now.value ∷ entry_at self.now.0 both.1.now.value ∷ []) }
+        ensures { MatchOption result (length self.now.1.0 ≢ 2) (λ both. self.now.1.0 ≡ entry_at self.now.0 both.0.now.value ∷ entry_at self.now.0 both.1.now.value ∷ []) }
     {
         match &self.shape {
             Shape::Branch(_, _, slots) => match slots.as_slice() {
@@ -89,9 +89,9 @@ fn lone_after<V: Drop, M: Summary<V>, A: Allocator + Copy>(
     hash: u32,
     key: &[u8],
 ) -> Result<Option<Arc<Entry<V, A>, A>>, Refusal>
-    requires sorted { T (is_sorted bytes_cmp node.now.1) }
-    requires found { is_some (find bytes_cmp (word node.now.0 hash key.now) node.now.1) ≡ true }
-    ensures ok { IfOk result (λ left. MatchOption left (length node.now.1 ≢ 2) (λ entry. cut (word node.now.0 hash key.now) node.now.1 ≡ entry_at node.now.0 entry.value ∷ [])) }
+    requires sorted { T (is_sorted bytes_cmp node.now.1.0) }
+    requires found { is_some (find bytes_cmp (word node.now.0 hash key.now) node.now.1.0) ≡ true }
+    ensures ok { IfOk result (λ left. MatchOption left (length node.now.1.0 ≢ 2) (λ entry. cut (word node.now.0 hash key.now) node.now.1.0 ≡ entry_at node.now.0 entry.value ∷ [])) }
     ensures err { IsOkUnless result OutOfMemory }
 {
     match node.pair() {
@@ -109,10 +109,10 @@ fn take<V: Drop, M: Summary<V>, A: Allocator + Copy>(
     hash: u32,
     key: &[u8],
 ) -> Result<(), Refusal>
-    requires sorted { T (is_sorted bytes_cmp node.old.1) }
-    requires found { is_some (find bytes_cmp (word node.old.0 hash key.now) node.old.1) ≡ true }
-    ensures ok { OnOk result (node.new ≡ (node.old.0, cut (word node.old.0 hash key.now) node.old.1)) }
-    ensures same { OnErr result (node.new ≡ node.old) }
+    requires sorted { T (is_sorted bytes_cmp node.old.1.0) }
+    requires found { is_some (find bytes_cmp (word node.old.0 hash key.now) node.old.1.0) ≡ true }
+    ensures ok { OnOk result (stands_for node.new ≡ (node.old.0, cut (word node.old.0 hash key.now) node.old.1.0)) }
+    ensures same { OnErr result (stands_for node.new ≡ stands_for node.old) }
     ensures err { IsOkUnless result OutOfMemory }
 {
     node.kept = None;
@@ -213,10 +213,10 @@ fn take_shared<V: Drop, M: Summary<V>, A: Allocator + Copy>(
     hash: u32,
     key: &[u8],
 ) -> Result<(), Refusal>
-    requires sorted { T (is_sorted bytes_cmp node.old.value.1) }
-    requires found { is_some (find bytes_cmp (word node.old.value.0 hash key.now) node.old.value.1) ≡ true }
-    ensures ok { OnOk result (node.new.value ≡ (node.old.value.0, cut (word node.old.value.0 hash key.now) node.old.value.1)) }
-    ensures same { OnErr result (node.new.value ≡ node.old.value) }
+    requires sorted { T (is_sorted bytes_cmp node.old.value.1.0) }
+    requires found { is_some (find bytes_cmp (word node.old.value.0 hash key.now) node.old.value.1.0) ≡ true }
+    ensures ok { OnOk result (stands_for node.new.value ≡ (node.old.value.0, cut (word node.old.value.0 hash key.now) node.old.value.1.0)) }
+    ensures same { OnErr result (stands_for node.new.value ≡ stands_for node.old.value) }
     ensures err { IsOkUnless result OutOfMemory }
 {
     if node.stamp == generation && generation != u64::MAX {

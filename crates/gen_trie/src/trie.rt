@@ -1,4 +1,4 @@
-ghost use Rattle.std.specs.Prelude.{◌≡◌, ◌↔◌, ℕ, List, length, IfSome, OnOk, OnErr, IfOk, IsOkUnless};
+ghost use Rattle.std.specs.Prelude.{◌≡◌, ◌↔◌, ℕ, List, true, length, IfSome, OnOk, OnErr, IfOk, IsOkUnless};
 ghost use Rattle.std.specs.declared.option.Option.TheVariants.{None};
 ghost use Rattle.std.specs.Option.{option_map};
 ghost use Rattle.std.specs.FinMap as finite;
@@ -54,7 +54,7 @@ impl<V, M: Summary<V>, H: PathHash, A: Allocator> Model for GenTrie<V, M, H, A> 
 impl<V, M: Summary<V>, H: PathHash, A: Allocator + Copy> GenTrie<V, M, H, A> {
     /// The map with no keys, whose paths are by this hash. Takes no memory.
     pub fn new(alloc: A, hash: H) -> GenTrie<V, M, H, A>
-        ensures { result ≡ trie_shown hash finite.empty 0 }
+        ensures { result ≡ trie_shown hash finite.empty 0 true }
     {
         GenTrie {
             alloc,
@@ -121,8 +121,8 @@ impl<V: Drop, M: Summary<V>, H: PathHash, A: Allocator + Copy> GenTrie<V, M, H, 
     /// the value. A map of 2^64 - 1 keys refuses a new one as for want of memory. Touches eight nodes at most, and
     /// copies those that a frozen map shares.
     pub fn insert(&mut self, key: Key<A>, value: V) -> Result<(), Refusal>
-        ensures ok { OnOk result (self.new ≡ record self.old { map = finite.insert self.old.map key value }) }
-        ensures same { OnErr result (self.new ≡ self.old) }
+        ensures ok { OnOk result (self.new ≡ record self.old { map = finite.insert self.old.map key value; sealed = self.new.sealed }) }
+        ensures same { OnErr result (self.new ≡ record self.old { sealed = self.new.sealed }) }
         ensures err { IsOkUnless result OutOfMemory }
     {
         let hash = self.hash.hash(key.bytes());
@@ -143,8 +143,8 @@ impl<V: Drop, M: Summary<V>, H: PathHash, A: Allocator + Copy> GenTrie<V, M, H, 
     pub fn remove(&mut self, key: &Key<A>) -> Result<Option<Arc<Entry<V, A>, A>>, Refusal>
         ensures value { IfOk result (λ taken. option_map (λ entry. entry.value.value) taken ≡ finite.get self.old.map key.now) }
         ensures key { IfOk result (λ taken. IfSome taken (λ entry. entry.value.key ≡ key.now)) }
-        ensures ok { OnOk result (self.new ≡ record self.old { map = finite.remove self.old.map key.now }) }
-        ensures same { OnErr result (self.new ≡ self.old) }
+        ensures ok { OnOk result (self.new ≡ record self.old { map = finite.remove self.old.map key.now; sealed = self.new.sealed }) }
+        ensures same { OnErr result (self.new ≡ record self.old { sealed = self.new.sealed }) }
         ensures err { IsOkUnless result OutOfMemory }
     {
         let hash = self.hash.hash(key.bytes());
@@ -160,18 +160,20 @@ impl<V: Drop, M: Summary<V>, H: PathHash, A: Allocator + Copy> GenTrie<V, M, H, 
 
     /// Takes all keys out.
     pub fn clear(&mut self)
-        ensures { self.new ≡ record self.old { map = finite.empty } }
+        ensures { self.new ≡ record self.old { map = finite.empty; sealed = true } }
     {
         self.root = None;
         self.count = 0;
     }
 
     /// Renews the summaries that writes took away: of the nodes that were written since the last seal, and of those above
-    /// them. Nodes that keep one are passed over. The map stays as it is, also where it is refused; a further call goes on
-    /// from there. Copies the nodes without a summary that a frozen map shares, and takes no other memory.
+    /// them. Nodes that keep one are passed over. So each node keeps the summary of its entries. The map stays as it is,
+    /// also where it is refused; a further call goes on from there. Copies the nodes without a summary that a frozen map
+    /// shares, and takes no other memory.
     /// Its only refusal is OutOfMemory.
     pub fn seal(&mut self) -> Result<(), Refusal>
-        ensures same { self.new ≡ self.old }
+        ensures ok { OnOk result (self.new ≡ record self.old { sealed = true }) }
+        ensures same { OnErr result (self.new ≡ self.old) }
         ensures err { IsOkUnless result OutOfMemory }
     {
         seal_root(&mut self.root, self.alloc, self.generation)
@@ -181,9 +183,9 @@ impl<V: Drop, M: Summary<V>, H: PathHash, A: Allocator + Copy> GenTrie<V, M, H, 
     /// generation as they were.
     /// Its only refusal is OutOfMemory.
     pub fn freeze(&mut self) -> Result<Frozen<V, M, H, A>, Refusal>
-        ensures ok { IfOk result (λ frozen. frozen ≡ self.old) }
-        ensures next { OnOk result (self.new ≡ record self.old { generation = generation_after self.old.generation }) }
-        ensures same { OnErr result (self.new ≡ self.old) }
+        ensures ok { IfOk result (λ frozen. frozen ≡ record self.old { sealed = true }) }
+        ensures next { OnOk result (self.new ≡ record self.old { generation = generation_after self.old.generation; sealed = true }) }
+        ensures same { OnErr result (self.new ≡ record self.old { sealed = self.new.sealed }) }
         ensures err { IsOkUnless result OutOfMemory }
     {
         self.seal()?;

@@ -14,6 +14,7 @@ use Rattle.std.specs.FinMap.{entries_sorted, contains_key-keys}
 use Rattle.std.specs.FinMap.Entries.{is_sorted, below_all}
 use Rattle.std.proofs.lemmas.Map.Lookups.{btree_set_from_contains, exact_bytes}
 use Rattle.dots.specs.Bytes.{bytes_cmp}
+use Rattle.gen_trie.proofs.Ordered.{sorted_keys}
 use Rattle.hash_path.specs.Path.{AreIndices, prefix_cmp}
 use Rattle.hash_path.specs.Map.{walk}
 use Rattle.hash_path.proofs.Parts.{walk_found, walk_has}
@@ -30,33 +31,7 @@ or_false : (b : Bool) → (b || false) ≡ b
 or_false true = refl
 or_false false = refl
 
--- ---- the keys of a finite map ascend
-
-front : (a b : Bool) → T (a && b) → T a
-front true b h = tt
-front false b h = h
-
-back : (a b : Bool) → T (a && b) → T b
-back true b h = h
-back false b h = absurd h
-
-is_less : (o : Ordering) → T (is_lt o) → o ≡ Less
-is_less Less h = refl
-is_less Equal h = absurd h
-is_less Greater h = absurd h
-
 module _ {V : Type 0} where
-  all_less : (key : List ℕ) (es : List (List ℕ × V)) → T (below_all bytes_cmp key es) → AllByRecursion (λ other. bytes_cmp key other ≡ Less) (map (λ e. e.0) es)
-  all_less key [] below = tt
-  all_less key (e ∷ es) below =
-      (is_less (bytes_cmp key e.0) (front (is_lt (bytes_cmp key e.0)) (below_all bytes_cmp key es) below), all_less key es (back (is_lt (bytes_cmp key e.0)) (below_all bytes_cmp key es) below))
-
-  ascending : (es : List (List ℕ × V)) → T (is_sorted bytes_cmp es) → IsStrictlySortedBy bytes_cmp (map (λ e. e.0) es)
-  unfolding IsStrictlySortedBy
-  ascending [] sorted = tt
-  ascending (e ∷ es) sorted =
-      (all_less e.0 es (front (below_all bytes_cmp e.0 es) (is_sorted bytes_cmp es) sorted), ascending es (back (below_all bytes_cmp e.0 es) (is_sorted bytes_cmp es) sorted))
-
   -- ---- whether entries have a key
 
   abbrev pub has_entry : List (List ℕ × V) → List ℕ → Bool
@@ -132,5 +107,5 @@ module _ (f : List ℕ → ℕ) (w : Waiting) where
   pub all_gathered : (s : BTreeSet (List ℕ)) → Gathers f w s [] → s.keys ≡ map (λ e. e.0) (finite.entries w)
   all_gathered s g =
       let mine : BTreeSet (List ℕ) = record { keys = map (λ e. e.0) (finite.entries w) } in
-      btree_set_from_contains nat_list_cmp_total s mine g.ordered (ascending (finite.entries w) (entries_sorted w))
+      btree_set_from_contains nat_list_cmp_total s mine g.ordered (sorted_keys (finite.entries w) (entries_sorted w))
       (λ q. sym (or_false (contains prefix_cmp s q)) ∙ g.same q ∙ walk_keys f w q ∙ contains_key-keys w q) exact_bytes

@@ -18,21 +18,10 @@ use Rattle.hash_path.specs.Path.{indices}
 use Rattle.hash_path.specs.PathLaws.{same_bits}
 use Rattle.hash_path.specs.Summary.{one_present, present}
 use Rattle.hash_path.specs.Word.{digit, word, begins}
+use Rattle.gen_trie.proofs.Ordered as ordered
+use Rattle.gen_trie.proofs.Ordered.{less_from, first_below, rest_below, first_sorted}
 use Rattle.hash_path.proofs.Orders.{is_less}
 use Rattle.hash_path.proofs.Parts.{HashedBy-by_path, begins-path}
-
-front : (a b : Bool) → T (a && b) → T a
-front true b h = tt
-front false b h = h
-
-back : (a b : Bool) → T (a && b) → T b
-back true b h = h
-back false b h = absurd h
-
-less_from : (o : Ordering) → T (is_lt o) → o ≡ Less
-less_from Less h = refl
-less_from Equal h = absurd h
-less_from Greater h = absurd h
 
 -- words of one hash are ordered as their keys
 one_word : (height hash : ℕ) (k l : List ℕ) → bytes_cmp (word height hash k) (word height hash l) ≡ bytes_cmp k l
@@ -60,7 +49,7 @@ module _ (f : List ℕ → ℕ) (bounded : (key : List ℕ) → f key < 2 ^ 32) 
         → AllByRecursion (λ y. bytes_cmp k y ≡ Less) (keys_of (filter (λ e. begins p (path f e.0)) (by_key 7 es)))
     below_rest k w [] is here hashed below = tt
     below_rest k w (e ∷ es) is here hashed below =
-        step (begins p (path f (key_of e.0))) refl (below_rest k w es is here hashed.1 (back (is_lt (bytes_cmp w e.0)) (below_all bytes_cmp w es) below))
+        step (begins p (path f (key_of e.0))) refl (below_rest k w es is here hashed.1 (rest_below w e es below))
       where
         rest : List (List ℕ × V)
         rest = filter (λ e. begins p (path f e.0)) (by_key 7 es)
@@ -68,20 +57,20 @@ module _ (f : List ℕ → ℕ) (bounded : (key : List ℕ) → f key < 2 ^ 32) 
         step : (b : Bool) → begins p (path f (key_of e.0)) ≡ b → AllByRecursion (λ y. bytes_cmp k y ≡ Less) (keys_of rest)
             → AllByRecursion (λ y. bytes_cmp k y ≡ Less) (keys_of (cond b ((key_of e.0, e.1) ∷ rest) rest))
         step true there further =
-            (below_here k (key_of e.0) e.0 hashed.0 here there (subst (λ v. T (is_lt (bytes_cmp v e.0))) is (front (is_lt (bytes_cmp w e.0)) (below_all bytes_cmp w es) below)), further)
+            (below_here k (key_of e.0) e.0 hashed.0 here there (subst (λ v. T (is_lt (bytes_cmp v e.0))) is (first_below w e es below)), further)
         step false there further = further
 
     rest_sorted : (es : List (List ℕ × V)) → HashedBy f es → T (is_sorted bytes_cmp es) → IsStrictlySortedBy bytes_cmp (keys_of (filter (λ e. begins p (path f e.0)) (by_key 7 es)))
     unfolding IsStrictlySortedBy
     rest_sorted [] hashed sorted = tt
     rest_sorted (e ∷ es) hashed sorted =
-        step (begins p (path f (key_of e.0))) refl (rest_sorted es hashed.1 (back (below_all bytes_cmp e.0 es) (is_sorted bytes_cmp es) sorted))
+        step (begins p (path f (key_of e.0))) refl (rest_sorted es hashed.1 (ordered.rest_sorted e es sorted))
       where
         rest : List (List ℕ × V)
         rest = filter (λ e. begins p (path f e.0)) (by_key 7 es)
 
         step : (b : Bool) → begins p (path f (key_of e.0)) ≡ b → IsStrictlySortedBy bytes_cmp (keys_of rest) → IsStrictlySortedBy bytes_cmp (keys_of (cond b ((key_of e.0, e.1) ∷ rest) rest))
-        step true here further = (below_rest (key_of e.0) e.0 es hashed.0 here hashed.1 (front (below_all bytes_cmp e.0 es) (is_sorted bytes_cmp es) sorted), further)
+        step true here further = (below_rest (key_of e.0) e.0 es hashed.0 here hashed.1 (first_sorted e es sorted), further)
         step false here further = further
 
     -- the keys under a whole path stand by their bytes

@@ -1,7 +1,7 @@
 use Rattle.std.proofs.Common.{rules, ◌≡◌, ◌<◌, length, true, vec_len, sym, ◌∙◌, ap, subst, refl, arith}
 use Rattle.hash_path.specs.Fan.{fan}
 use Rattle.hash_path.specs.Word.{digit}
-use Rattle.gen_trie.specs.Shapes.{children, child, listed, height_and_entries, HasMore, StandsBelow, IsSeat}
+use Rattle.gen_trie.specs.Shapes.{children, child, listed, height_and_entries, stands_for, HasMore, StandsBelow, IsSeat}
 use Rattle.gen_trie.proofs.Puts.{put_old_is, put_none_is, replaced, two_keys, one_more_key, more_keys, grown, ok_with, if_ok_so, ok_so, err_so, either_so, not_false}
 use Rattle.gen_trie.proofs.put.+put.Goals.{put-in-Branch, put-in-Keys}
 use Rattle.gen_trie.proofs.put.+put.Goals as goal
@@ -49,11 +49,11 @@ put_slot-returns-then-same_key-clause-ok g t c = replaced c.args.below c.in-One.
 
 pub put_slot-returns-in_ok-node-in-One-clause-fits : goal.put_slot-returns-in_ok-node-in-One-clause-fits
 put_slot-returns-in_ok-node-in-One-clause-fits g t c =
-    two_keys c.args.below c.args.below c.in-One.entry.value c.args.leaf.value c.in_ok-node-in-One.node.value c.in_ok-node-in-One.ensures.ok c.if-same_key.ensures
+    two_keys c.args.below c.args.below c.in-One.entry.value c.args.leaf.value (stands_for c.in_ok-node-in-One.node.value) c.in_ok-node-in-One.ensures.ok c.if-same_key.ensures
 
 pub put_slot-returns-in-Many-clause-fits : goal.put_slot-returns-in-Many-clause-fits
 put_slot-returns-in-Many-clause-fits g t c =
-    more_keys c.put_shared.result c.args.below c.args.leaf.value c.put_shared.new.node.value c.in-Many.node.value c.put_shared.ensures.ok c.put_shared.ensures.same
+    more_keys c.put_shared.result c.args.below c.args.leaf.value (stands_for c.put_shared.new.node.value) (stands_for c.in-Many.node.value) c.put_shared.ensures.ok c.put_shared.ensures.same
     (subst (StandsBelow c.args.below) c.in-Many.is c.requires.fits)
 
 pub put-returns-clause-fresh : goal.put-returns-clause-fresh
@@ -61,30 +61,30 @@ put-returns-clause-fresh g t c =
     elim c.match-node.branch [
       | put-in-Branch w ↦
           rw (w.result-is, w.node-inside-is)
-          (if_ok_so w.put_branch.result (λ fresh more. subst (λ n. HasMore fresh n.1 (fan (children w.in-Branch.below w.put_branch.new.slots.items))) (ap height_and_entries (sym w.in-Branch.is) ∙ c.node.view_is) more) w.put_branch.ensures.fresh)
+          (if_ok_so w.put_branch.result (λ fresh more. subst (λ n. HasMore fresh n.1 (fan (children w.in-Branch.below w.put_branch.new.slots.items))) (ap height_and_entries (sym w.in-Branch.is) ∙ ap stands_for c.node.view_is) more) w.put_branch.ensures.fresh)
       | put-in-Keys w ↦
           rw (w.result-is, w.node-inside-is)
-          (if_ok_so w.put_in_list.result (λ fresh more. subst (λ n. HasMore fresh n.1 (listed w.put_in_list.new.entries.items)) (ap height_and_entries (sym w.in-Keys.is) ∙ c.node.view_is) more) w.put_in_list.ensures.fresh)
+          (if_ok_so w.put_in_list.result (λ fresh more. subst (λ n. HasMore fresh n.1 (listed w.put_in_list.new.entries.items)) (ap height_and_entries (sym w.in-Keys.is) ∙ ap stands_for c.node.view_is) more) w.put_in_list.ensures.fresh)
     ]
 
 pub put_shared-returns-in-Some-clause-fresh : goal.put_shared-returns-in-Some-clause-fresh
-put_shared-returns-in-Some-clause-fresh g t c = if_ok_so c.put.result (λ fresh more. subst (λ n. HasMore fresh n.1 c.put.new.node.1) c.in-Some.ensures.value more) c.put.ensures.fresh
+put_shared-returns-in-Some-clause-fresh g t c = if_ok_so c.put.result (λ fresh more. subst (λ n. HasMore fresh n.1.0 c.put.new.node.1.0) c.in-Some.ensures.value more) c.put.ensures.fresh
 
 pub put_shared-returns-clause-fresh : goal.put_shared-returns-clause-fresh
 put_shared-returns-clause-fresh g t c =
     let same : c.if-deref-generation.node.value ≡ c.args.node.now.value = search rules in
-    let copied : c.in_ok-copy.copy ≡ c.args.node.now.value = c.in_ok-copy.ensures.ok ∙ c.deref-2.ensures ∙ same in
-    subst (λ n. HasMore c.in_ok-fresh.fresh n.1 c.in_ok-node.field-0.value.1) copied
-    (subst (λ n. HasMore c.in_ok-fresh.fresh c.in_ok-copy.copy.1 n.1) (sym c.in_ok-node.ensures.ok) c.in_ok-fresh.ensures.fresh)
+    let copied : stands_for c.in_ok-copy.copy ≡ stands_for c.args.node.now.value = ap stands_for c.in_ok-copy.ensures.ok ∙ ap stands_for (c.deref-2.ensures ∙ same) in
+    subst (λ n. HasMore c.in_ok-fresh.fresh n.1 c.in_ok-node.field-0.value.1.0) copied
+    (subst (λ n. HasMore c.in_ok-fresh.fresh c.in_ok-copy.copy.1.0 n.1.0) (sym c.in_ok-node.ensures.ok) c.in_ok-fresh.ensures.fresh)
 
 pub put_slot-returns-in_ok-node-in-One-clause-fresh : goal.put_slot-returns-in_ok-node-in-One-clause-fresh
 put_slot-returns-in_ok-node-in-One-clause-fresh g t c =
-    subst (λ s. HasMore true (child c.args.below s).1 c.in_ok-node-in-One.node.value.1) (sym c.in-One.is)
-    (one_more_key c.args.below c.in-One.entry.value c.args.leaf.value c.in_ok-node-in-One.node.value c.in_ok-node-in-One.ensures.ok c.if-same_key.ensures)
+    subst (λ s. HasMore true (child c.args.below s).1 c.in_ok-node-in-One.node.value.1.0) (sym c.in-One.is)
+    (one_more_key c.args.below c.in-One.entry.value c.args.leaf.value (stands_for c.in_ok-node-in-One.node.value) c.in_ok-node-in-One.ensures.ok c.if-same_key.ensures)
 
 pub put_slot-returns-in-Many-clause-fresh : goal.put_slot-returns-in-Many-clause-fresh
 put_slot-returns-in-Many-clause-fresh g t c =
-    if_ok_so c.put_shared.result (λ fresh more. subst (λ s. HasMore fresh (child c.args.below s).1 c.put_shared.new.node.value.1) (sym c.in-Many.is) more) c.put_shared.ensures.fresh
+    if_ok_so c.put_shared.result (λ fresh more. subst (λ s. HasMore fresh (child c.args.below s).1 c.put_shared.new.node.value.1.0) (sym c.in-Many.is) more) c.put_shared.ensures.fresh
 
 pub put-invariant_of-node : goal.put-invariant_of-node
 put-invariant_of-node g t c =

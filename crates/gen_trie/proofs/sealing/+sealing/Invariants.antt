@@ -1,6 +1,6 @@
-use Rattle.std.proofs.Common.{◌≡◌, length, ◌+◌, ◌*◌}
+use Rattle.std.proofs.Common.{◌≡◌, length, take, ◌+◌, ◌*◌}
 use Rattle.std.specs.List.{All}
-use Rattle.gen_trie.specs.Shapes.{children, StandsBelow}
+use Rattle.gen_trie.specs.Shapes.{children, height_and_entries, IsSealed, StandsBelow}
 use Rattle.gen_trie.proofs.sealing.+sealing.Given as goal
 
 -- the levels that are left, each of which is gone through in five steps
@@ -15,7 +15,7 @@ abbrev pub decreases-seal_node : goal.decreases-seal_node
 decreases-seal_node g l = 5 * l.node.now.0 + 1
 
 abbrev pub decreases-seal_below : goal.decreases-seal_below
-decreases-seal_below g l = 5 * l.node.now.0
+decreases-seal_below g l = 5 * (height_and_entries l.shape.now).0
 
 abbrev pub decreases-seal_slots : goal.decreases-seal_slots
 decreases-seal_slots g l = 5 * l.below + 4
@@ -25,3 +25,4 @@ invariant-seal_slots-loop-at g l =
     (children l.below l.slots.items ≡ children l.below l.fn.slots.items)
     × All (StandsBelow l.below) l.slots.items
     × (length l.slots.items ≡ length l.fn.slots.items)
+    × All IsSealed (take l.at l.slots.items)

@@ -2,7 +2,7 @@ use Rattle.std.proofs.Common.{◌≡◌, [], ◌-◌, suc, length, arith, sym, �
 use Rattle.hash_path.specs.Word.{digit}
 use Rattle.hash_path.specs.Summary.{under_prefix}
 use Rattle.hash_path.proofs.Summaries.{under_none}
-use Rattle.gen_trie.specs.Shapes.{child, StandsBelow, height_and_entries, IsCanonical}
+use Rattle.gen_trie.specs.Shapes.{child, StandsBelow, height_and_entries, stands_for, IsCanonical}
 use Rattle.gen_trie.proofs.Seeks.{one_away, branch_there, finds_same}
 use Rattle.gen_trie.proofs.seeking.+seeking.Goals as goal
 
@@ -24,15 +24,15 @@ slot_below-slot_below-requires g t c κs within =
 
 pub slot_under-returns-in-None : goal.slot_under-returns-in-None
 slot_under-returns-in-None g t c =
-    let e = sym c.node.view_is ∙ ap height_and_entries c.in-Branch.is in
+    let e = ap stands_for (sym c.node.view_is) ∙ ap height_and_entries c.in-Branch.is in
     let b = subst IsCanonical c.in-Branch.is c.node.invariant.0 in
-    branch_there c.args.node.now c.args.index c.args.rest c.in-Branch.below _ [] e b.rise c.in-None.ensures ∙ under_none c.args.rest
+    branch_there (stands_for c.args.node.now) c.args.index c.args.rest c.in-Branch.below _ [] e b.rise c.in-None.ensures ∙ under_none c.args.rest
 
 pub slot_under-returns-in-Some : goal.slot_under-returns-in-Some
 slot_under-returns-in-Some g t c =
-    let e = sym c.node.view_is ∙ ap height_and_entries c.in-Branch.is in
+    let e = ap stands_for (sym c.node.view_is) ∙ ap height_and_entries c.in-Branch.is in
     let b = subst IsCanonical c.in-Branch.is c.node.invariant.0 in
     let up = ap (λ n. n.0) e in
     finds_same (λ x. x.now) _ _ _ _ c.slot_below.result
-    (sym (branch_there c.args.node.now c.args.index c.args.rest c.in-Branch.below _ (child c.in-Branch.below c.in-Some.slot.now).1 e b.rise (sym (ap (λ k. k.1) c.in-Some.ensures.0))))
+    (sym (branch_there (stands_for c.args.node.now) c.args.index c.args.rest c.in-Branch.below _ (child c.in-Branch.below c.in-Some.slot.now).1 e b.rise (sym (ap (λ k. k.1) c.in-Some.ensures.0))))
     (omega (arith, up)) c.slot_below.ensures

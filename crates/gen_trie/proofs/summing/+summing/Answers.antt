@@ -2,7 +2,7 @@ use Rattle.std.proofs.Common.{◌≡◌, suc, arith, sym, ◌∙◌, ap, subst}
 use Rattle.std.specs.List.{All}
 use Rattle.hash_path.specs.Fan.{Rise}
 use Rattle.hash_path.specs.Summary.{summary_of}
-use Rattle.gen_trie.specs.Shapes.{children, StandsBelow, IsCanonical, height_and_entries}
+use Rattle.gen_trie.specs.Shapes.{children, StandsBelow, IsCanonical, height_and_entries, stands_for}
 use Rattle.gen_trie.proofs.Sums.{one_before, front_fits, few_slots, children_rise, one_key, of_children, of_keys}
 use Rattle.gen_trie.proofs.summing.+summing.Goals as goal
 
@@ -40,7 +40,7 @@ branch_of-returns-in-Some g t c =
 
 pub summary-branch_of-requires : goal.summary-branch_of-requires
 summary-branch_of-requires g t c κs within =
-    let e = sym c.node.view_is ∙ ap height_and_entries c.in-Branch.is in
+    let e = ap stands_for (sym c.node.view_is) ∙ ap height_and_entries c.in-Branch.is in
     let b = subst IsCanonical c.in-Branch.is c.node.invariant.0 in
     let few = few_slots c.in-Branch.below c.deref.result.now (subst (λ l. Rise 0 (children c.in-Branch.below l)) (sym c.deref.ensures.value) b.rise) in
     let rise = children_rise g.M.Summary.calls c.in-Branch.below c.in-Branch.slots.items c.deref.result.now c.none.result b.rise c.deref.ensures.value c.none.ensures in
@@ -49,10 +49,10 @@ summary-branch_of-requires g t c κs within =
 
 pub summary-returns-in-Branch : goal.summary-returns-in-Branch
 summary-returns-in-Branch g t c =
-    let e = sym c.node.view_is ∙ ap height_and_entries c.in-Branch.is in
+    let e = ap stands_for (sym c.node.view_is) ∙ ap height_and_entries c.in-Branch.is in
     let b = subst IsCanonical c.in-Branch.is c.node.invariant.0 in
-    of_children g.M.Summary.calls c.args.node.now c.in-Branch.below c.in-Branch.slots.items c.deref.result.now c.none.result c.branch_of.result e b.rise c.requires c.deref.ensures.value c.none.ensures c.branch_of.ensures
+    of_children g.M.Summary.calls (stands_for c.args.node.now) c.in-Branch.below c.in-Branch.slots.items c.deref.result.now c.none.result c.branch_of.result e b.rise c.requires c.deref.ensures.value c.none.ensures c.branch_of.ensures
 
 pub summary-returns-in-Keys : goal.summary-returns-in-Keys
 summary-returns-in-Keys g t c =
-    of_keys g.M.Summary.calls c.args.node.now c.in-Keys.entries.items c.deref-in-Keys.result.now c.list.result (sym c.node.view_is ∙ ap height_and_entries c.in-Keys.is) c.requires c.deref-in-Keys.ensures.value c.list.ensures
+    of_keys g.M.Summary.calls (stands_for c.args.node.now) c.in-Keys.entries.items c.deref-in-Keys.result.now c.list.result (ap stands_for (sym c.node.view_is) ∙ ap height_and_entries c.in-Keys.is) c.requires c.deref-in-Keys.ensures.value c.list.ensures

@@ -4,7 +4,7 @@ use Rattle.std.specs.FinMap.Entries.{find, is_sorted}
 use Rattle.dots.specs.Bytes.{bytes_cmp}
 use Rattle.hash_path.specs.Word.{word}
 use Rattle.hash_path.specs.Cut.{cut}
-use Rattle.gen_trie.specs.Shapes.{child, StandsBelow, height_and_entries}
+use Rattle.gen_trie.specs.Shapes.{child, StandsBelow, height_and_entries, stands_for}
 use Rattle.gen_trie.proofs.Puts.{put_none_is, ok_so, err_so, either_so}
 use Rattle.gen_trie.proofs.Seats.{found}
 use Rattle.gen_trie.proofs.Takes.{taken_there, child_gives, one_gives, cut_old_is, left_none, two_left}
@@ -17,20 +17,20 @@ take-returns-clause-ok g t c =
       | take-in-Branch w ↦
           rw (w.result-is, w.node-inside-is)
           (ok_so w.take_branch.result
-          (λ e. ap (λ l. (suc w.in-Branch.below, l)) e ∙ ap (λ n. (n.0, cut (word n.0 c.args.hash c.args.key.now) n.1)) (ap height_and_entries (sym w.in-Branch.is) ∙ c.node.view_is))
+          (λ e. ap (λ l. (suc w.in-Branch.below, l)) e ∙ ap (λ n. (n.0, cut (word n.0 c.args.hash c.args.key.now) n.1)) (ap height_and_entries (sym w.in-Branch.is) ∙ ap stands_for c.node.view_is))
           w.take_branch.ensures.ok)
       | take-in-Keys w ↦
           rw (w.result-is, w.node-inside-is)
-          (ap (λ l. (0, l)) w.take_from_list.ensures ∙ ap (λ n. (n.0, cut (word n.0 c.args.hash c.args.key.now) n.1)) (ap height_and_entries (sym w.in-Keys.is) ∙ c.node.view_is))
+          (ap (λ l. (0, l)) w.take_from_list.ensures ∙ ap (λ n. (n.0, cut (word n.0 c.args.hash c.args.key.now) n.1)) (ap height_and_entries (sym w.in-Keys.is) ∙ ap stands_for c.node.view_is))
     ]
 
 pub take_below-returns-in-None-clause-fits : goal.take_below-returns-in-None-clause-fits
 take_below-returns-in-None-clause-fits g t c =
     let fits = subst (StandsBelow c.args.below) c.in-Many.is c.requires.fits in
     let two = left_none _ c.in_ok-entry-in-Many.field-0 c.in-None.is c.in_ok-entry-in-Many.ensures.ok in
-    two_left c.args.below c.args.hash c.args.key.now c.take_shared.result c.take_shared.new.node.value c.in-Many.node.value c.take_shared.ensures.ok c.take_shared.ensures.same fits (subst (λ n. length n.1 ≢ 2) c.deref.ensures two)
+    two_left c.args.below c.args.hash c.args.key.now c.take_shared.result (stands_for c.take_shared.new.node.value) (stands_for c.in-Many.node.value) c.take_shared.ensures.ok c.take_shared.ensures.same fits (subst (λ n. length n.1.0 ≢ 2) c.deref.ensures two)
     (subst (λ s. T (is_sorted bytes_cmp (child c.args.below s).1)) c.in-Many.is c.requires.sorted)
-    (subst (λ h. is_some (find bytes_cmp (word h c.args.hash c.args.key.now) c.in-Many.node.value.1) ≡ true) (sym fits.0) (subst (λ s. is_some (find bytes_cmp (word c.args.below c.args.hash c.args.key.now) (child c.args.below s).1) ≡ true) c.in-Many.is c.requires.found))
+    (subst (λ h. is_some (find bytes_cmp (word h c.args.hash c.args.key.now) c.in-Many.node.value.1.0) ≡ true) (sym fits.0) (subst (λ s. is_some (find bytes_cmp (word c.args.below c.args.hash c.args.key.now) (child c.args.below s).1) ≡ true) c.in-Many.is c.requires.found))
 
 pub take_branch-index-requires : goal.take_branch-index-requires
 take_branch-index-requires g t c =

@@ -1,7 +1,7 @@
 use Rattle.std.proofs.Common.{suc, sym, ◌∙◌, ap, subst}
 use Rattle.std.specs.List.{All}
 use Rattle.hash_path.specs.Fan.{fan}
-use Rattle.gen_trie.specs.Shapes.{children, StandsBelow, IsCanonical, height_and_entries}
+use Rattle.gen_trie.specs.Shapes.{children, StandsBelow, IsCanonical, height_and_entries, stands_for, unsealed}
 use Rattle.gen_trie.proofs.Puts.{same_branch}
 use Rattle.gen_trie.proofs.node.Node.copy.Goals as goal
 
@@ -15,5 +15,7 @@ invariant_of-result g c = (
 
 pub returns-in_ok-slots-in-Branch-clause-ok : goal.returns-in_ok-slots-in-Branch-clause-ok
 returns-in_ok-slots-in-Branch-clause-ok g c =
+    ap unsealed (
     ap (λ cs. (suc c.in-Branch.below, fan cs)) (c.in_ok-slots-in-Branch.ensures.same c.in-Branch.below ∙ ap (children c.in-Branch.below) c.deref.ensures.value)
-    ∙ ap height_and_entries (sym c.in-Branch.is) ∙ c.self.view_is
+    ∙ ap height_and_entries (sym c.in-Branch.is) ∙ ap stands_for c.self.view_is
+    )

@@ -2,9 +2,10 @@ use Rattle.std.proofs.Common.{ℕ, List, ◌∙◌, ap}
 use Rattle.std.specs.FinMap as finite
 use Rattle.hash_path.specs.Word.{word}
 use Rattle.hash_path.specs.Cut.{cut}
-use Rattle.gen_trie.specs.Root.{root_entries}
+use Rattle.hash_path.specs.Map.{as_map}
+use Rattle.gen_trie.specs.Root.{root_entries, root_sealed}
 use Rattle.gen_trie.specs.Shown.{trie_shown}
-use Rattle.gen_trie.proofs.Puts.{ok_so, either_so, if_ok_so}
+use Rattle.gen_trie.proofs.Puts.{ok_so, err_so, either_so, if_ok_so}
 use Rattle.gen_trie.proofs.Roots.{IsTrie-cut, IsTrie-same, remove_is, lookup_at}
 use Rattle.gen_trie.proofs.trie.GenTrie.remove.Goals as goal
 
@@ -33,6 +34,13 @@ returns-clause-ok g c =
     let hashed = c.hash-hash.ensures ∙ ap f c.bytes.ensures.value in
     let read = λ (k : List ℕ). cut (word 7 c.hash-hash.result k) (root_entries c.self.inside.root) in
     ok_so c.remove_at.result
-    (λ is. ap (λ m. trie_shown c.self.inside.hash m c.self.inside.generation) (remove_is f c.self.inside.root c.remove_at.new.root c.self.inside.count c.hash-hash.result c.args.key.now c.self.invariant hashed (is ∙ ap read c.bytes-2.ensures.value))
-    ∙ ap (λ x. trie_shown x.hash (finite.remove x.map c.args.key.now) x.generation) c.self.view_is)
+    (λ is. ap (λ m. trie_shown c.self.inside.hash m c.self.inside.generation (root_sealed c.remove_at.new.root)) (remove_is f c.self.inside.root c.remove_at.new.root c.self.inside.count c.hash-hash.result c.args.key.now c.self.invariant hashed (is ∙ ap read c.bytes-2.ensures.value))
+    ∙ ap (λ x. trie_shown x.hash (finite.remove x.map c.args.key.now) x.generation (root_sealed c.remove_at.new.root)) c.self.view_is)
     c.remove_at.ensures.ok
+
+pub returns-clause-same : goal.returns-clause-same
+returns-clause-same g c =
+    err_so c.remove_at.result
+    (λ same. ap (λ entries. trie_shown c.self.inside.hash (as_map entries) c.self.inside.generation (root_sealed c.remove_at.new.root)) same
+    ∙ ap (λ x. trie_shown x.hash x.map x.generation (root_sealed c.remove_at.new.root)) c.self.view_is)
+    c.remove_at.ensures.same
