@@ -102,6 +102,25 @@ def generated():
     return "\n".join(maker.lines) + "\n"
 
 
+def synchronised(lines, asker, peer):
+    """The lines of a synchronisation, of which each message is delivered once, in order, up to its end."""
+    lines, mail = [*lines, f"sync {asker} {peer}"], []
+    while True:
+        last = text_of("\n".join(lines).encode()).split("\n")[-2]
+        if last == "done":
+            return lines
+        mail += [word.split(":") for word in last.split() if ":" in word]
+        number, kind = mail.pop(0)
+        lines.append(f"deliver {number} {peer if kind.startswith(('hello', 'ask')) else asker}")
+
+
+def one_hash():
+    """Two keys whose FNV-1a is one, so that they differ past the last index alone, and one beside them."""
+    lines = ["node 1", "node 2", "put 1 gwzx a", "flush 1", "deliver 1 2", "put 2 16cd b", "put 2 gwzy c"]
+    lines = [*synchronised(lines, 1, 2), "show 1", "digest 1", "digest 2", "remove 1 gwzx", "put 1 16cd d"]
+    return "\n".join([*synchronised(lines, 2, 1), "show 2", "context 2", "digest 1", "digest 2"]) + "\n"
+
+
 def test_of(name, trace):
     assert '"' not in trace and "\\" not in trace
     const = name.upper()
@@ -110,6 +129,7 @@ def test_of(name, trace):
 
 
 if __name__ == "__main__":
-    (TESTS / "generated.rt").write_text(HEAD + test_of("forty_keys", generated()))
+    tests = [test_of("forty_keys", generated()), test_of("keys_of_one_hash", one_hash())]
+    (TESTS / "generated.rt").write_text(HEAD + "".join(tests))
     examples = [test_of(path.stem, path.read_text()) for path in sorted(EXAMPLES.glob("*.trace"))]
     (TESTS / "examples.rt").write_text(HEAD + "".join(examples))

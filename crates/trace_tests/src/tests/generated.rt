@@ -579,3 +579,100 @@ fields 2 f 1 v35 g 1 v55
 fn forty_keys_has_its_text(rt: HostRuntime) {
     answers(&rt, rt.alloc(), FORTY_KEYS, FORTY_KEYS_TEXT);
 }
+
+const KEYS_OF_ONE_HASH: &str = "node 1
+node 2
+put 1 gwzx a
+flush 1
+deliver 1 2
+put 2 16cd b
+put 2 gwzy c
+sync 1 2
+deliver 2 2
+deliver 3 1
+deliver 4 2
+deliver 5 1
+deliver 6 2
+deliver 7 2
+deliver 8 1
+deliver 9 1
+deliver 10 2
+deliver 11 1
+deliver 12 2
+deliver 13 1
+deliver 14 2
+deliver 15 1
+deliver 16 2
+deliver 17 1
+deliver 18 2
+deliver 19 1
+deliver 20 2
+deliver 21 1
+show 1
+digest 1
+digest 2
+remove 1 gwzx
+put 1 16cd d
+sync 2 1
+deliver 22 1
+deliver 23 2
+deliver 24 1
+deliver 25 2
+deliver 26 1
+deliver 27 2
+show 2
+context 2
+digest 1
+digest 2
+";
+
+const KEYS_OF_ONE_HASH_TEXT: &str = "ok
+ok
+ok 1:1
+sent 1:delta
+joined
+ok 2:1
+ok 2:2
+session 1 sent 2:hello
+sent 3:opening
+sent 4:ask/
+sent 5:page/
+sent 6:ask/6 7:ask/25
+sent 8:page/6
+sent 9:page/25
+sent
+sent 10:ask/25/28
+sent 11:page/25/28
+sent 12:ask/25/28/2
+sent 13:page/25/28/2
+sent 14:ask/25/28/2/29
+sent 15:page/25/28/2/29
+sent 16:ask/25/28/2/29/19
+sent 17:page/25/28/2/29/19
+sent 18:ask/25/28/2/29/19/21
+sent 19:page/25/28/2/29/19/21
+sent 20:ask/25/28/2/29/19/21/1
+sent 21:page/25/28/2/29/19/21/1
+done
+map 3 16cd 1 b gwzx 1 a gwzy 1 c
+4a2f1928f7b06f6a7e26cf6042ba9ee2b60cb71fbfd625021067e82ee519b54d
+4a2f1928f7b06f6a7e26cf6042ba9ee2b60cb71fbfd625021067e82ee519b54d
+ok 1
+ok 1:2
+session 1 sent 22:hello
+sent 23:opening
+sent 24:ask/
+sent 25:page/
+sent 26:ask/25
+sent 27:page/25
+done
+map 2 16cd 1 d gwzy 1 c
+context 1:2 2:2
+b553f184706c035ceffb7b872e53091e785a9bb92c2c5cac93badf25d56d5883
+b553f184706c035ceffb7b872e53091e785a9bb92c2c5cac93badf25d56d5883
+";
+
+#[test]
+fn keys_of_one_hash_has_its_text(rt: HostRuntime) {
+    answers(&rt, rt.alloc(), KEYS_OF_ONE_HASH, KEYS_OF_ONE_HASH_TEXT);
+}
