@@ -76,6 +76,34 @@ pub(crate) fn finished_in_two<K: Naming, G: Gate + Drop, R: Wait + Drop>(
     Ok(told.filter(|_| is_full))
 }
 
+// The same of a node of three clients.
+pub(crate) fn finished_in_three<K: Naming, G: Gate + Drop, R: Wait + Drop>(
+    rt: &R,
+    alloc: Global,
+    node: Shared<K, G, R>,
+    first: Held<K, G, R>,
+    second: Held<K, G, R>,
+    third: Held<K, G, R>,
+) -> Result<Option<(u64, u64)>, Refusal> {
+    let mut clients = Vec::with_capacity(alloc, 3)?;
+    clients.push(first.client)?;
+    clients.push(second.client)?;
+    clients.push(third.client)?;
+    Ok(finished(rt, node, clients))
+}
+
+// The same of a node of one client.
+pub(crate) fn finished_alone<K: Naming, G: Gate + Drop, R: Wait + Drop>(
+    rt: &R,
+    alloc: Global,
+    node: Shared<K, G, R>,
+    only: Held<K, G, R>,
+) -> Result<Option<(u64, u64)>, Refusal> {
+    let mut clients = Vec::new(alloc);
+    clients.push(only.client)?;
+    Ok(finished(rt, node, clients))
+}
+
 // Puts a value on a field of a key, and gives the number of its dot.
 pub(crate) fn put<K: Naming, G: Gate + Drop, R: Wait + Drop>(
     rt: &R,

@@ -1,4 +1,5 @@
 // What clients of a node are told, and how it ends.
 mod beside;
+mod meanwhile;
 mod served;
 mod sessions;

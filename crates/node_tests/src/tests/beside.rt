@@ -143,7 +143,10 @@ fn write_beside<K: Naming + Send + Sync, R: Threads + Wait + Abort + Copy + Drop
 }
 
 // Whether both put a thousand times, each in a thread of its own.
-fn both_put_often<K: Naming + Send + Sync, R: Threads + Wait + Abort + Copy + Drop + Send + Sync>(
+pub(crate) fn both_put_often<
+    K: Naming + Send + Sync,
+    R: Threads + Wait + Abort + Copy + Drop + Send + Sync,
+>(
     rt: &R,
     alloc: Global,
     first: &mut Held<K, NoGate, R>,

@@ -1,7 +1,7 @@
 // Two nodes that are served, each in a thread of its own.
 ghost use Rattle.std.specs.Prelude.{◌≡◌};
 
-use crate::made::{Held, Shared, finished_in_two, hand_out, has, name, put};
+use crate::made::{Held, Shared, finished_alone, finished_in_two, hand_out, has, name, put};
 use crossbeam_channel::{Sender, unbounded};
 use dots::Refusal;
 use hash_path::Fnv1a;
@@ -141,6 +141,44 @@ fn serve_both<
         lost: 0,
     };
     told == all && peer_told == peer_all
+}
+
+#[test]
+fn serving_ends_once_the_channel_is_closed(rt: HostRuntime) -> Result<(), Fail> {
+    let alloc = rt.alloc();
+    let (to_node, inbox) = unbounded(alloc)?;
+    let _ = to_node.send(&rt, Letter::Mail(Vec::new(alloc)));
+    drop(to_node);
+    let post = Channels {
+        inbox: &inbox,
+        outboxes: &[],
+    };
+    let told = serve_alone::<marker::Brand, _, _>(rt, alloc, OpenedBook::new(), &post);
+    assert!(rt; told == Ok(true));
+    Ok(())
+}
+
+// Serves a node until its post ends. Whether one letter came, which is no message.
+fn serve_alone<K: Naming, P: Post, R: Wait + Abort + Copy + Drop>(
+    rt: R,
+    alloc: Global,
+    opened: OpenedBook<NodeEvent>,
+    post: &P,
+) -> Result<bool, Refusal>
+    requires book { opened.0 ≡ K.book }
+    requires name { K.name ≡ 1 }
+{
+    let own = name(&rt, 1);
+    let mut node: Shared<K, NoGate, R> = new_node(&rt, alloc, opened, own, 1, NoGate, rt)?;
+    let mut served = hand_out(&mut node)?;
+    let told = serve_held(&rt, alloc, &mut served, post);
+    let last = finished_alone(&rt, alloc, node, served);
+    let all = Served {
+        delivered: 0,
+        refused: 1,
+        lost: 0,
+    };
+    Ok(told == all && last == Ok(Some((0, 0))))
 }
 
 fn serve_held<K: Naming, P: Post, R: Wait + Drop>(

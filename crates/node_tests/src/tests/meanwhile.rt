@@ -1,0 +1,124 @@
+// A synchronisation that stays open while other clients of its node write.
+ghost use Rattle.std.specs.Prelude.{◌≡◌};
+
+use crate::made::{
+    Held, Shared, finished_alone, finished_in_three, hand_out, has, name, put, size,
+};
+use crate::tests::beside::both_put_often;
+use dots::Refusal;
+use node_threads::{Asking, Delivering, Naming, NodeEvent, new_node};
+use replica_core::{Delivered, Outcome};
+use root_cell::OpenedBook;
+use shared_object::NoGate;
+use std::alloc::Global;
+use std::marker;
+use std::process::Abort;
+use std::sync::Wait;
+use std::thread::Threads;
+use wire_form::Message;
+
+#[test]
+fn a_synchronisation_stays_open_while_others_write(rt: HostRuntime) {
+    let alloc = rt.alloc();
+    let (first, second) = (OpenedBook::new(), OpenedBook::new());
+    let told = write_meanwhile::<marker::Brand, marker::Brand, _>(rt, alloc, first, second);
+    assert!(rt; told == Ok(true));
+}
+
+fn write_meanwhile<
+    K: Naming + Send + Sync,
+    L: Naming,
+    R: Threads + Wait + Abort + Copy + Drop + Send + Sync,
+>(
+    rt: R,
+    alloc: Global,
+    first: OpenedBook<NodeEvent>,
+    second: OpenedBook<NodeEvent>,
+) -> Result<bool, Refusal>
+    requires first { first.0 ≡ K.book }
+    requires second { second.0 ≡ L.book }
+    requires one { K.name ≡ 1 }
+    requires two { L.name ≡ 2 }
+{
+    let (one, two) = (name(&rt, 1), name(&rt, 2));
+    let mut node: Shared<K, NoGate, R> = new_node(&rt, alloc, first, one, 3, NoGate, rt)?;
+    let mut peer: Shared<L, NoGate, R> = new_node(&rt, alloc, second, two, 1, NoGate, rt)?;
+    let (mut asker, mut answerer) = (hand_out(&mut node)?, hand_out(&mut peer)?);
+    let (mut left, mut right) = (hand_out(&mut node)?, hand_out(&mut node)?);
+    let told = is_done(&rt, alloc, &mut asker, &mut answerer, &mut left, &mut right);
+    let last = finished_in_three(&rt, alloc, node, asker, left, right);
+    let peer_last = finished_alone(&rt, alloc, peer, answerer);
+    let is_told = told == Ok(true);
+    Ok(is_told && last == Ok(Some((2003, 3))) && peer_last == Ok(Some((3, 1))))
+}
+
+// Whether the synchronisation ends after the others wrote a thousand times each, and the node then holds all of it.
+fn is_done<
+    K: Naming + Send + Sync,
+    L: Naming,
+    R: Threads + Wait + Abort + Copy + Drop + Send + Sync,
+>(
+    rt: &R,
+    alloc: Global,
+    asker: &mut Held<K, NoGate, R>,
+    answerer: &mut Held<L, NoGate, R>,
+    left: &mut Held<K, NoGate, R>,
+    right: &mut Held<K, NoGate, R>,
+) -> Result<bool, Refusal> {
+    put(rt, alloc, answerer, b"p", b"", b"q")?;
+    let opening = opened(rt, alloc, asker, answerer)?;
+    let is_written = both_put_often(rt, alloc, left, right)?;
+    let is_ended = ended(rt, alloc, asker, answerer, &opening)?;
+    let is_there = has(alloc, asker, b"p", b"", Some(b"q"))?;
+    Ok(is_written && is_ended && is_there && size(asker)? == 3)
+}
+
+// Has the one node ask the other, and gives what that one opens with.
+fn opened<K: Naming, L: Naming, R: Wait + Abort + Drop>(
+    rt: &R,
+    alloc: Global,
+    asker: &mut Held<K, NoGate, R>,
+    answerer: &mut Held<L, NoGate, R>,
+) -> Result<Delivered, Refusal> {
+    let peer = name(rt, 2);
+    let ((_number, hello), _receipt) = asker.client.call(rt, &Asking { alloc, peer })?;
+    taken(rt, alloc, answerer, &hello)
+}
+
+// Goes on from what the other node opened with. Whether the page of its root ends it.
+fn ended<K: Naming, L: Naming, R: Wait + Drop>(
+    rt: &R,
+    alloc: Global,
+    asker: &mut Held<K, NoGate, R>,
+    answerer: &mut Held<L, NoGate, R>,
+    opening: &Delivered,
+) -> Result<bool, Refusal> {
+    let asked = answered(rt, alloc, asker, opening)?;
+    let page = answered(rt, alloc, answerer, &asked)?;
+    let last = answered(rt, alloc, asker, &page)?;
+    Ok(last.outcome == Outcome::Done)
+}
+
+// Gives a node the first message that another one sends.
+fn answered<K: Naming, R: Wait + Drop>(
+    rt: &R,
+    alloc: Global,
+    held: &mut Held<K, NoGate, R>,
+    sent: &Delivered,
+) -> Result<Delivered, Refusal> {
+    match sent.replies.first() {
+        None => Err(Refusal::UnknownMessage),
+        Some(message) => taken(rt, alloc, held, message),
+    }
+}
+
+// Gives a node a message.
+fn taken<K: Naming, R: Wait + Drop>(
+    rt: &R,
+    alloc: Global,
+    held: &mut Held<K, NoGate, R>,
+    message: &Message,
+) -> Result<Delivered, Refusal> {
+    let (told, _receipt) = held.client.call(rt, &Delivering { alloc, message })?;
+    Ok(told)
+}
