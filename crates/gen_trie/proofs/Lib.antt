@@ -9,4 +9,5 @@ pub mod Takes
 pub mod Iters
 pub mod Sums
 pub mod Seals
+pub mod Stamps
 pub mod Seeks

@@ -7,7 +7,7 @@ use Rattle.std.specs.FinMap.Entries.{is_sorted}
 use Rattle.dots.specs.Bytes.{bytes_cmp}
 use Rattle.hash_path.specs.Map.{HashedBy}
 use Rattle.gen_trie.specs.declared.node.Slot.{Slot}
-use Rattle.gen_trie.specs.Shapes.{child, is_sealed, StandsBelow}
+use Rattle.gen_trie.specs.Shapes.{child, is_sealed, stamp_of, StandsBelow}
 
 module _ {V M A : Type 0} where
   -- the entries by path. The root's slot has all seven levels of branches below it, and its index is not looked at
@@ -19,6 +19,11 @@ module _ {V M A : Type 0} where
   abbrev pub root_sealed : Option (Slot V M A) → Bool
   root_sealed None = true
   root_sealed (Some slot) = is_sealed slot
+
+  -- the stamp of the root, above which no node's is
+  abbrev pub root_stamp : Option (Slot V M A) → ℕ
+  root_stamp None = 0
+  root_stamp (Some slot) = stamp_of slot
 
   abbrev pub RootStands : Option (Slot V M A) → Type 0
   RootStands None = Unit {0}

@@ -44,13 +44,13 @@ module _ {V A : Type 0} where
   listed = map (λ e. entry_at 0 e.value)
 
 module _ {V : Type 0} where
-  -- what a node stands for, whether it is sealed or not
-  abbrev pub stands_for : ℕ × (List (List ℕ × V) × Bool) → ℕ × List (List ℕ × V)
+  -- what a node stands for, whether it is sealed or not, and whatever its stamp
+  abbrev pub stands_for : ℕ × (List (List ℕ × V) × (Bool × ℕ)) → ℕ × List (List ℕ × V)
   stands_for node = (node.0, node.1.0)
 
-  -- a node that keeps no summary
-  abbrev pub unsealed : ℕ × List (List ℕ × V) → ℕ × (List (List ℕ × V) × Bool)
-  unsealed node = (node.0, (node.1, false))
+  -- a node of this generation that keeps no summary
+  abbrev pub unsealed : ℕ → ℕ × List (List ℕ × V) → ℕ × (List (List ℕ × V) × (Bool × ℕ))
+  unsealed generation node = (node.0, (node.1, (false, generation)))
 
 module _ {V M A : Type 0} where
   -- a child of a branch that has so many levels of branches below
@@ -65,14 +65,15 @@ module _ {V M A : Type 0} where
   height_and_entries (Branch below bitmap slots) = (suc below, fan (children below slots.items))
   height_and_entries (Keys es) = (0, listed es.items)
 
-  -- what a node shows: its height, its entries, and whether it is sealed, which is to keep their summary
-  abbrev pub shows : Option M → Shape V M A → ℕ × (List (List ℕ × V) × Bool)
-  shows kept shape = ((height_and_entries shape).0, ((height_and_entries shape).1, is_some kept))
+  -- what a node shows: its height, its entries, whether it is sealed, which is to keep their summary, and its stamp, which is
+  -- the generation that wrote it
+  abbrev pub shows : ℕ → Option M → Shape V M A → ℕ × (List (List ℕ × V) × (Bool × ℕ))
+  shows stamp kept shape = ((height_and_entries shape).0, ((height_and_entries shape).1, (is_some kept, stamp)))
 
   -- whether a child is sealed. A key alone keeps no summary
   abbrev pub is_sealed : Slot V M A → Bool
   is_sealed (One index e) = true
-  is_sealed (Many index n) = n.value.1.1
+  is_sealed (Many index n) = n.value.1.1.0
 
   abbrev pub IsSealed : Slot V M A → Type 0
   IsSealed slot = is_sealed slot ≡ true
@@ -81,6 +82,20 @@ module _ {V M A : Type 0} where
   abbrev pub AreSealed : Shape V M A → Type 0
   AreSealed (Branch below bitmap slots) = All IsSealed slots.items
   AreSealed (Keys es) = Unit {0}
+
+  -- the stamp of a child. A key alone has none, and is as if it were of the first generation
+  abbrev pub stamp_of : Slot V M A → ℕ
+  stamp_of (One index e) = 0
+  stamp_of (Many index n) = n.value.1.1.1
+
+  -- a child is of a generation or of one before it
+  abbrev pub IsNoNewer : ℕ → Slot V M A → Type 0
+  IsNoNewer generation slot = stamp_of slot ≤ generation
+
+  -- and so are all children of a node
+  abbrev pub AreNoNewer : ℕ → Shape V M A → Type 0
+  AreNoNewer generation (Branch below bitmap slots) = All (IsNoNewer generation) slots.items
+  AreNoNewer generation (Keys es) = Unit {0}
 
   -- a node below a branch is one level lower, and has two keys or more
   abbrev pub StandsBelow : ℕ → Slot V M A → Type 0

@@ -2,7 +2,7 @@
 ghost use Rattle.std.specs.Prelude.{◌≡◌, ℕ, ◌≤◌, [], ◌∷◌, IfOk, IsOkUnless};
 ghost use Rattle.std.specs.List.{All};
 ghost use Rattle.dots.specs.declared.refusal.Refusal.TheVariants.{OutOfMemory};
-ghost use Rattle.gen_trie.specs.Shapes.{children, child, entry_at, is_sealed, listed, stands_for, unsealed, StandsBelow};
+ghost use Rattle.gen_trie.specs.Shapes.{children, child, entry_at, is_sealed, listed, stamp_of, stands_for, unsealed, IsNoNewer, StandsBelow};
 
 use crate::entry::Entry;
 use crate::node::{Node, Shape, Slot, digit_of};
@@ -17,6 +17,7 @@ pub(crate) fn shared<V: Drop, M: Summary<V>, A: Allocator + Copy>(
 ) -> Result<Slot<V, M, A>, Refusal>
     ensures same { IfOk result (λ copy. (below : ℕ) → child below copy ≡ child below slot.now) }
     ensures sealed { IfOk result (λ copy. is_sealed copy ≡ is_sealed slot.now) }
+    ensures stamp { IfOk result (λ copy. stamp_of copy ≡ stamp_of slot.now) }
     ensures fits { IfOk result (λ copy. (below : ℕ) → StandsBelow below slot.now → StandsBelow below copy) }
     ensures err { IsOkUnless result OutOfMemory }
 {
@@ -32,6 +33,7 @@ fn shared_all<V: Drop, M: Summary<V>, A: Allocator + Copy>(
 ) -> Result<Vec<Slot<V, M, A>, A>, Refusal>
     ensures same { IfOk result (λ copies. (below : ℕ) → children below copies.items ≡ children below slots.now) }
     ensures fits { IfOk result (λ copies. (below : ℕ) → All (StandsBelow below) slots.now → All (StandsBelow below) copies.items) }
+    ensures stamps { IfOk result (λ copies. (generation : ℕ) → All (IsNoNewer generation) slots.now → All (IsNoNewer generation) copies.items) }
     ensures err { IsOkUnless result OutOfMemory }
 {
     let mut copies = Vec::new(alloc);
@@ -58,7 +60,8 @@ fn shared_list<V: Drop, A: Allocator + Copy>(
 impl<V: Drop, M: Summary<V>, A: Allocator + Copy> Node<V, M, A> {
     // The same node in a later generation, without its summary. What stands below it is shared.
     pub fn copy(&self, alloc: A, generation: u64) -> Result<Node<V, M, A>, Refusal>
-        ensures ok { IfOk result (λ copy. copy ≡ unsealed (stands_for self.now)) }
+        requires { self.now.1.1.1 ≤ generation }
+        ensures ok { IfOk result (λ copy. copy ≡ unsealed generation (stands_for self.now)) }
         ensures err { IsOkUnless result OutOfMemory }
     {
         match &self.shape {
@@ -89,7 +92,7 @@ impl<V: Drop, M: Summary<V>, A: Allocator + Copy> Node<V, M, A> {
         entry: Arc<Entry<V, A>, A>,
     ) -> Result<Node<V, M, A>, Refusal>
         requires { height ≤ 7 }
-        ensures ok { IfOk result (λ node. node ≡ unsealed (height, entry_at height entry.value ∷ [])) }
+        ensures ok { IfOk result (λ node. node ≡ unsealed generation (height, entry_at height entry.value ∷ [])) }
         ensures err { IsOkUnless result OutOfMemory }
     {
         if height == 0 {

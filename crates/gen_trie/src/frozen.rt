@@ -20,7 +20,7 @@ use std::marker::Model;
 /// what it is whatever they write.
 #[derive(Drop)]
 pub struct Frozen<V, M: Summary<V>, H: PathHash, A: Allocator = Global> {
-    // It is never written. No node of it has a stamp after its generation.
+    // It is never written.
     trie: GenTrie<V, M, H, A>,
 }
 
@@ -72,6 +72,13 @@ impl<V, M: Summary<V>, H: PathHash, A: Allocator + Copy> Frozen<V, M, H, A> {
         ensures { result ≡ finite.len self.now.map }
     {
         self.trie.size()
+    }
+
+    /// Whether each node keeps the summary of its entries, as after a seal. Takes constant time, and no memory.
+    pub fn is_sealed(&self) -> bool
+        ensures { result ≡ self.now.sealed }
+    {
+        self.trie.is_sealed()
     }
 
     /// The keys with their values, by ascending index sequence of the key's hash, and those of equal hashes by key bytes.

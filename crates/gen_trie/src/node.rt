@@ -4,7 +4,7 @@ ghost use Rattle.std.specs.FinMap.Entries.{find};
 ghost use Rattle.dots.specs.Bytes.{bytes_cmp};
 ghost use Rattle.hash_path.specs.Word.{word, digit};
 ghost use Rattle.hash_path.specs.Fan.{at, place, there};
-ghost use Rattle.gen_trie.specs.Shapes.{children, child, StandsBelow, IsBranch, IsSeat, listed};
+ghost use Rattle.gen_trie.specs.Shapes.{children, child, is_sealed, StandsBelow, IsBranch, IsSeat, listed};
 
 use crate::entry::{Entry, entry_for};
 use crate::summary::Summary;
@@ -13,8 +13,9 @@ use std::alloc::Allocator;
 use std::marker::Model;
 use std::sync::Arc;
 
-// A node of the trie, seen as its height, its entries by word, and whether it is sealed. It is stamped with the generation
-// that wrote it, and keeps the summary of its entries from a seal on to the next write: then each node below it keeps its own.
+// A node of the trie, seen as its height, its entries by word, whether it is sealed, and its stamp. It is stamped with the
+// generation that wrote it, and no node below it with a later one. It keeps the summary of its entries from a seal on to the next
+// write: then each node below it keeps its own.
 #[cycle(node)]
 #[derive(Drop)]
 pub(crate) struct Node<V, M: Summary<V>, A: Allocator> {
@@ -45,14 +46,14 @@ pub(crate) enum Slot<V, M: Summary<V>, A: Allocator> {
 impl<V, M: Summary<V>, A: Allocator> Model for Node<V, M, A> {
     ghost use Rattle.std.specs.Prelude.{ℕ, List, Bool};
 
-    ghost Value = { ℕ × (List (List ℕ × V) × Bool) };
+    ghost Value = { ℕ × (List (List ℕ × V) × (Bool × ℕ)) };
 
-    ghost use Rattle.gen_trie.specs.Shapes.{shows, IsCanonical};
+    ghost use Rattle.gen_trie.specs.Shapes.{shows, AreNoNewer, IsCanonical};
     ghost use Rattle.gen_trie.specs.Kept.{IsKept};
 
-    ghost view = { λ a. shows a.kept a.shape };
+    ghost view = { λ a. shows a.stamp a.kept a.shape };
 
-    ghost invariant = { λ a. IsCanonical a.shape × IsKept M.calls a.kept a.shape };
+    ghost invariant = { λ a. IsCanonical a.shape × IsKept M.calls a.kept a.shape × AreNoNewer a.stamp a.shape };
 
     ghost size = { λ d. d.0 };
 
@@ -68,6 +69,16 @@ impl<V, M: Summary<V>, A: Allocator> Slot<V, M, A> {
         match self {
             Slot::One(index, _) => *index,
             Slot::Many(index, _) => *index,
+        }
+    }
+
+    // Whether each node of the child keeps its summary.
+    pub(crate) fn keeps_summaries(&self) -> bool
+        ensures { result ≡ is_sealed self.now }
+    {
+        match self {
+            Slot::One(_, _) => true,
+            Slot::Many(_, node) => node.kept.is_some(),
         }
     }
 }

@@ -1,10 +1,11 @@
 // Putting an entry into a node: in place where the node is of the current generation and has no other owner, and else
 // into a copy.
-ghost use Rattle.std.specs.Prelude.{◌≡◌, suc, ◌≤◌, [], ◌∷◌, vec_len, false, OnOk, OnErr, IfOk, IsOkUnless};
+ghost use Rattle.std.specs.Prelude.{◌≡◌, ℕ, suc, ◌≤◌, [], ◌∷◌, vec_len, false, OnOk, OnErr, IfOk, IsOkUnless};
+ghost use Rattle.std.specs.List.{All};
 ghost use Rattle.dots.specs.declared.refusal.Refusal.TheVariants.{OutOfMemory};
 ghost use Rattle.hash_path.specs.Word.{digit};
 ghost use Rattle.hash_path.specs.Fan.{fan};
-ghost use Rattle.gen_trie.specs.Shapes.{children, child, entry_at, with_entry, HasMore, stands_for, StandsBelow, IsBranch, IsSeat};
+ghost use Rattle.gen_trie.specs.Shapes.{children, child, entry_at, with_entry, HasMore, stands_for, StandsBelow, IsBranch, IsNoNewer, IsSeat};
 
 use crate::entry::{Entry, same_key};
 use crate::listing::put_in_list;
@@ -22,9 +23,11 @@ pub(crate) fn put<V: Drop, M: Summary<V>, A: Allocator + Copy>(
     generation: u64,
     leaf: Arc<Entry<V, A>, A>,
 ) -> Result<bool, Refusal>
+    requires { node.old.1.1.1 ≡ generation }
     ensures ok { OnOk result (stands_for node.new ≡ (node.old.0, with_entry node.old.0 leaf.value node.old.1.0)) }
     ensures fresh { IfOk result (λ fresh. HasMore fresh node.old.1.0 node.new.1.0) }
     ensures same { OnErr result (stands_for node.new ≡ stands_for node.old) }
+    ensures stamp { node.new.1.1.1 ≡ generation }
     ensures err { IsOkUnless result OutOfMemory }
 {
     node.kept = None;
@@ -45,10 +48,12 @@ fn put_branch<V: Drop, M: Summary<V>, A: Allocator + Copy>(
     generation: u64,
     leaf: Arc<Entry<V, A>, A>,
 ) -> Result<bool, Refusal>
-    requires { IsBranch below bitmap.old slots.old.items }
+    requires branch { IsBranch below bitmap.old slots.old.items }
+    requires stamps { All (IsNoNewer generation) slots.old.items }
     ensures ok { OnOk result (fan (children below slots.new.items) ≡ with_entry (suc below) leaf.value (fan (children below slots.old.items))) }
     ensures fresh { IfOk result (λ fresh. HasMore fresh (fan (children below slots.old.items)) (fan (children below slots.new.items))) }
     ensures branch { IsBranch below bitmap.new slots.new.items }
+    ensures stamps { All (IsNoNewer generation) slots.new.items }
     ensures same { OnErr result (fan (children below slots.new.items) ≡ fan (children below slots.old.items)) }
     ensures err { IsOkUnless result OutOfMemory }
 {
@@ -73,6 +78,7 @@ fn put_new<V: Drop, M: Summary<V>, A: Allocator + Copy>(
     ensures ok { OnOk result (fan (children below slots.new.items) ≡ with_entry (suc below) leaf.value (fan (children below slots.old.items))) }
     ensures fresh { IfOk result (λ fresh. HasMore fresh (fan (children below slots.old.items)) (fan (children below slots.new.items))) }
     ensures branch { IsBranch below bitmap.new slots.new.items }
+    ensures stamps { (generation : ℕ) → All (IsNoNewer generation) slots.old.items → All (IsNoNewer generation) slots.new.items }
     ensures same { OnErr result (fan (children below slots.new.items) ≡ fan (children below slots.old.items)) }
     ensures err { IsOkUnless result OutOfMemory }
 {
@@ -91,10 +97,12 @@ pub(crate) fn put_slot<V: Drop, M: Summary<V>, A: Allocator + Copy>(
 ) -> Result<bool, Refusal>
     requires fits { StandsBelow below slot.old }
     requires height { below ≤ 7 }
+    requires stamp { IsNoNewer generation slot.old }
     ensures ok { OnOk result (child below slot.new ≡ ((child below slot.old).0, with_entry below leaf.value (child below slot.old).1)) }
     ensures fresh { IfOk result (λ fresh. HasMore fresh (child below slot.old).1 (child below slot.new).1) }
     ensures fits { StandsBelow below slot.new }
     ensures same { OnErr result (child below slot.new ≡ child below slot.old) }
+    ensures stamp { IsNoNewer generation slot.new }
     ensures err { IsOkUnless result OutOfMemory }
 {
     match slot {
@@ -123,6 +131,7 @@ fn pair<V: Drop, M: Summary<V>, A: Allocator + Copy>(
 ) -> Result<Arc<Node<V, M, A>, A>, Refusal>
     requires { height ≤ 7 }
     ensures ok { IfOk result (λ node. stands_for node.value ≡ (height, with_entry height leaf.value (entry_at height first.now.value ∷ []))) }
+    ensures stamp { IfOk result (λ node. node.value.1.1.1 ≡ generation) }
     ensures err { IsOkUnless result OutOfMemory }
 {
     let mut node = Node::single(alloc, generation, height, Arc::try_clone(first)?)?;
@@ -138,9 +147,11 @@ fn put_shared<V: Drop, M: Summary<V>, A: Allocator + Copy>(
     generation: u64,
     leaf: Arc<Entry<V, A>, A>,
 ) -> Result<bool, Refusal>
+    requires { node.old.value.1.1.1 ≤ generation }
     ensures ok { OnOk result (stands_for node.new.value ≡ (node.old.value.0, with_entry node.old.value.0 leaf.value node.old.value.1.0)) }
     ensures fresh { IfOk result (λ fresh. HasMore fresh node.old.value.1.0 node.new.value.1.0) }
     ensures same { OnErr result (stands_for node.new.value ≡ stands_for node.old.value) }
+    ensures stamp { node.new.value.1.1.1 ≤ generation }
     ensures err { IsOkUnless result OutOfMemory }
 {
     if node.stamp == generation && generation != u64::MAX {

@@ -1,5 +1,5 @@
 // The root of a trie: nothing, one entry, or a node.
-ghost use Rattle.std.specs.Prelude.{◌≡◌, ◌⊎◌, ◌<◌, ◌-◌, ◌^◌, ℕ, IsTrue, true, T, is_some, None, IfSome, OnOk, OnErr, IfOk, IsOkUnless};
+ghost use Rattle.std.specs.Prelude.{◌≡◌, ◌⊎◌, ◌<◌, ◌≤◌, ◌-◌, ◌^◌, ℕ, IsTrue, true, T, is_some, None, IfSome, OnOk, OnErr, IfOk, IsOkUnless};
 ghost use Rattle.std.specs.Option.{option_map};
 ghost use Rattle.std.specs.FinMap.Entries.{find, put, is_sorted};
 ghost use Rattle.dots.specs.declared.refusal.Refusal.TheVariants.{OutOfMemory};
@@ -7,7 +7,7 @@ ghost use Rattle.dots.specs.Bytes.{bytes_cmp};
 ghost use Rattle.hash_path.specs.Word.{word};
 ghost use Rattle.hash_path.specs.Cut.{cut};
 ghost use Rattle.gen_trie.specs.Shapes.{with_entry, HasMore};
-ghost use Rattle.gen_trie.specs.Root.{root_entries, root_sealed, RootStands, IsRoot};
+ghost use Rattle.gen_trie.specs.Root.{root_entries, root_sealed, root_stamp, RootStands, IsRoot};
 
 use crate::copied::shared;
 use crate::entry::{Entry, entry_for};
@@ -45,6 +45,7 @@ pub(crate) fn share_root<V: Drop, M: Summary<V>, A: Allocator + Copy>(
 ) -> Result<Option<Slot<V, M, A>>, Refusal>
     ensures same { IfOk result (λ copy. root_entries copy ≡ root_entries root.now) }
     ensures sealed { IfOk result (λ copy. root_sealed copy ≡ root_sealed root.now) }
+    ensures stamp { IfOk result (λ copy. root_stamp copy ≡ root_stamp root.now) }
     ensures is_root { IfOk result (λ copy. (count : ℕ) → IsRoot root.now count → IsRoot copy count) }
     ensures err { IsOkUnless result OutOfMemory }
 {
@@ -60,9 +61,11 @@ pub(crate) fn seal_root<V: Drop, M: Summary<V>, A: Allocator + Copy>(
     alloc: A,
     generation: u64,
 ) -> Result<(), Refusal>
-    requires { RootStands root.old }
+    requires stands { RootStands root.old }
+    requires stamp { root_stamp root.old ≤ generation }
     ensures same { root_entries root.new ≡ root_entries root.old }
     ensures stands { RootStands root.new }
+    ensures stamp { root_stamp root.new ≤ generation }
     ensures ok { OnOk result (root_sealed root.new ≡ true) }
     ensures refused { OnErr result (root_sealed root.new ≡ root_sealed root.old) }
     ensures err { IsOkUnless result OutOfMemory }
@@ -80,10 +83,12 @@ fn put_root<V: Drop, M: Summary<V>, A: Allocator + Copy>(
     generation: u64,
     leaf: Arc<Entry<V, A>, A>,
 ) -> Result<bool, Refusal>
-    requires { RootStands root.old }
+    requires stands { RootStands root.old }
+    requires stamp { root_stamp root.old ≤ generation }
     ensures ok { OnOk result (root_entries root.new ≡ with_entry 7 leaf.value (root_entries root.old)) }
     ensures fresh { IfOk result (λ fresh. HasMore fresh (root_entries root.old) (root_entries root.new)) }
     ensures stands { RootStands root.new }
+    ensures stamp { root_stamp root.new ≤ generation }
     ensures same { OnErr result (root_entries root.new ≡ root_entries root.old) }
     ensures err { IsOkUnless result OutOfMemory }
 {
@@ -135,7 +140,9 @@ pub(crate) fn insert_at<V: Drop, M: Summary<V>, A: Allocator + Copy>(
     key: Key<A>,
     value: V,
 ) -> Result<(), Refusal>
-    requires { IsRoot root.old count.old }
+    requires is_root { IsRoot root.old count.old }
+    requires stamp { root_stamp root.old ≤ generation }
+    ensures stamp { root_stamp root.new ≤ generation }
     ensures ok { OnOk result (root_entries root.new ≡ put bytes_cmp (word 7 hash key) value (root_entries root.old)) }
     ensures is_root { IsRoot root.new count.new }
     ensures same { OnErr result (root_entries root.new ≡ root_entries root.old) }
@@ -163,6 +170,8 @@ fn take_root<V: Drop, M: Summary<V>, A: Allocator + Copy>(
     requires stands { RootStands root.old }
     requires sorted { T (is_sorted bytes_cmp (root_entries root.old)) }
     requires found { is_some (find bytes_cmp (word 7 hash key.now) (root_entries root.old)) ≡ true }
+    requires stamp { root_stamp root.old ≤ generation }
+    ensures stamp { root_stamp root.new ≤ generation }
     ensures ok { OnOk result (root_entries root.new ≡ cut (word 7 hash key.now) (root_entries root.old)) }
     ensures stands { RootStands root.new }
     ensures same { OnErr result (root_entries root.new ≡ root_entries root.old) }
@@ -189,7 +198,9 @@ pub(crate) fn remove_at<V: Drop, M: Summary<V>, A: Allocator + Copy>(
     hash: u32,
     key: &[u8],
 ) -> Result<Option<Arc<Entry<V, A>, A>>, Refusal>
-    requires { IsRoot root.old count.old }
+    requires is_root { IsRoot root.old count.old }
+    requires stamp { root_stamp root.old ≤ generation }
+    ensures stamp { root_stamp root.new ≤ generation }
     ensures value { IfOk result (λ taken. option_map (λ entry. entry.value.value) taken ≡ find bytes_cmp (word 7 hash key.now) (root_entries root.old)) }
     ensures key { IfOk result (λ taken. IfSome taken (λ entry. entry.value.key ≡ key.now)) }
     ensures ok { OnOk result (root_entries root.new ≡ cut (word 7 hash key.now) (root_entries root.old)) }

@@ -2,7 +2,7 @@
 ghost use Rattle.std.specs.Prelude.{◌≡◌, ◌≤◌, length, true, false, OnOk, OnErr, IsOkUnless};
 ghost use Rattle.std.specs.List.{All};
 ghost use Rattle.dots.specs.declared.refusal.Refusal.TheVariants.{OutOfMemory};
-ghost use Rattle.gen_trie.specs.Shapes.{children, child, height_and_entries, is_sealed, stands_for, AreSealed, IsCanonical, IsSealed, StandsBelow};
+ghost use Rattle.gen_trie.specs.Shapes.{children, child, height_and_entries, is_sealed, stands_for, AreNoNewer, AreSealed, IsCanonical, IsNoNewer, IsSealed, StandsBelow};
 
 use crate::node::{Node, Shape, Slot};
 use crate::summary::Summary;
@@ -19,9 +19,11 @@ pub(crate) fn seal_slot<V: Drop, M: Summary<V>, A: Allocator + Copy>(
     alloc: A,
     generation: u64,
 ) -> Result<(), Refusal>
-    requires { StandsBelow below slot.old }
+    requires fits { StandsBelow below slot.old }
+    requires stamp { IsNoNewer generation slot.old }
     ensures same { child below slot.new ≡ child below slot.old }
     ensures fits { StandsBelow below slot.new }
+    ensures stamp { IsNoNewer generation slot.new }
     ensures ok { OnOk result (IsSealed slot.new) }
     ensures refused { OnErr result (is_sealed slot.new ≡ is_sealed slot.old) }
     ensures err { IsOkUnless result OutOfMemory }
@@ -39,10 +41,12 @@ fn seal_shared<V: Drop, M: Summary<V>, A: Allocator + Copy>(
     alloc: A,
     generation: u64,
 ) -> Result<(), Refusal>
-    requires { 2 ≤ length node.old.value.1.0 }
+    requires several { 2 ≤ length node.old.value.1.0 }
+    requires stamp { node.old.value.1.1.1 ≤ generation }
     ensures same { stands_for node.new.value ≡ stands_for node.old.value }
-    ensures ok { OnOk result (node.new.value.1.1 ≡ true) }
-    ensures refused { OnErr result (node.new.value.1.1 ≡ node.old.value.1.1) }
+    ensures stamp { node.new.value.1.1.1 ≤ generation }
+    ensures ok { OnOk result (node.new.value.1.1.0 ≡ true) }
+    ensures refused { OnErr result (node.new.value.1.1.0 ≡ node.old.value.1.1.0) }
     ensures err { IsOkUnless result OutOfMemory }
 {
     if node.kept.is_some() {
@@ -57,7 +61,7 @@ fn seal_shared<V: Drop, M: Summary<V>, A: Allocator + Copy>(
     Ok(())
 }
 
-// Gives a node that keeps no summary its own, after those below it, and the stamp of the generation.
+// Gives a node that keeps no summary the stamp of the generation, which those below it may get, and its own summary after theirs.
 #[cycle(sealing)]
 fn seal_node<V: Drop, M: Summary<V>, A: Allocator + Copy>(
     node: &mut Node<V, M, A>,
@@ -65,15 +69,17 @@ fn seal_node<V: Drop, M: Summary<V>, A: Allocator + Copy>(
     generation: u64,
 ) -> Result<(), Refusal>
     requires several { 2 ≤ length node.old.1.0 }
-    requires unsealed { node.old.1.1 ≡ false }
+    requires unsealed { node.old.1.1.0 ≡ false }
+    requires stamp { node.old.1.1.1 ≤ generation }
     ensures same { stands_for node.new ≡ stands_for node.old }
-    ensures ok { OnOk result (node.new.1.1 ≡ true) }
-    ensures refused { OnErr result (node.new.1.1 ≡ false) }
+    ensures stamp { node.new.1.1.1 ≡ generation }
+    ensures ok { OnOk result (node.new.1.1.0 ≡ true) }
+    ensures refused { OnErr result (node.new.1.1.0 ≡ false) }
     ensures err { IsOkUnless result OutOfMemory }
 {
+    node.stamp = generation;
     seal_below(&mut node.shape, alloc, generation)?;
     node.kept = Some(summary(node));
-    node.stamp = generation;
     Ok(())
 }
 
@@ -84,9 +90,11 @@ fn seal_below<V: Drop, M: Summary<V>, A: Allocator + Copy>(
     alloc: A,
     generation: u64,
 ) -> Result<(), Refusal>
-    requires { IsCanonical shape.old }
+    requires canonical { IsCanonical shape.old }
+    requires stamps { AreNoNewer generation shape.old }
     ensures same { height_and_entries shape.new ≡ height_and_entries shape.old }
     ensures canonical { IsCanonical shape.new }
+    ensures stamps { AreNoNewer generation shape.new }
     ensures ok { OnOk result (AreSealed shape.new) }
     ensures err { IsOkUnless result OutOfMemory }
 {
@@ -103,9 +111,11 @@ fn seal_slots<V: Drop, M: Summary<V>, A: Allocator + Copy>(
     alloc: A,
     generation: u64,
 ) -> Result<(), Refusal>
-    requires { All (StandsBelow below) slots.old.items }
+    requires fits { All (StandsBelow below) slots.old.items }
+    requires stamps { All (IsNoNewer generation) slots.old.items }
     ensures same { children below slots.new.items ≡ children below slots.old.items }
     ensures fits { All (StandsBelow below) slots.new.items }
+    ensures stamps { All (IsNoNewer generation) slots.new.items }
     ensures ok { OnOk result (All IsSealed slots.new.items) }
     ensures err { IsOkUnless result OutOfMemory }
 {

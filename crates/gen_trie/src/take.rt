@@ -1,13 +1,14 @@
 // Taking the entry of a key out of a node, where two entries or more remain. So a node of two entries is replaced by the
 // one that remains, by the slot that it stands in, and no branch is left with one key.
 ghost use Rattle.std.specs.Prelude.{◌≡◌, ◌≢◌, ◌+◌, ◌≤◌, ℕ, suc, [], ◌∷◌, length, true, vec_len, T, is_some, MatchOption, OnOk, OnErr, IfOk, IsOkUnless};
+ghost use Rattle.std.specs.List.{All};
 ghost use Rattle.std.specs.FinMap.Entries.{find, is_sorted};
 ghost use Rattle.dots.specs.declared.refusal.Refusal.TheVariants.{OutOfMemory};
 ghost use Rattle.dots.specs.Bytes.{bytes_cmp};
 ghost use Rattle.hash_path.specs.Word.{word, digit};
 ghost use Rattle.hash_path.specs.Cut.{cut};
 ghost use Rattle.hash_path.specs.Fan.{fan, at};
-ghost use Rattle.gen_trie.specs.Shapes.{children, child, entry_at, stands_for, StandsBelow, IsBranch, IsSeat};
+ghost use Rattle.gen_trie.specs.Shapes.{children, child, entry_at, stands_for, StandsBelow, IsBranch, IsNoNewer, IsSeat};
 
 use crate::entry::Entry;
 use crate::listing::take_from_list;
@@ -111,8 +112,10 @@ fn take<V: Drop, M: Summary<V>, A: Allocator + Copy>(
 ) -> Result<(), Refusal>
     requires sorted { T (is_sorted bytes_cmp node.old.1.0) }
     requires found { is_some (find bytes_cmp (word node.old.0 hash key.now) node.old.1.0) ≡ true }
+    requires stamp { node.old.1.1.1 ≡ generation }
     ensures ok { OnOk result (stands_for node.new ≡ (node.old.0, cut (word node.old.0 hash key.now) node.old.1.0)) }
     ensures same { OnErr result (stands_for node.new ≡ stands_for node.old) }
+    ensures stamp { node.new.1.1.1 ≡ generation }
     ensures err { IsOkUnless result OutOfMemory }
 {
     node.kept = None;
@@ -140,8 +143,10 @@ fn take_branch<V: Drop, M: Summary<V>, A: Allocator + Copy>(
     requires branch { IsBranch below bitmap.old slots.old.items }
     requires sorted { T (is_sorted bytes_cmp (fan (children below slots.old.items))) }
     requires found { is_some (find bytes_cmp (word (suc below) hash key.now) (fan (children below slots.old.items))) ≡ true }
+    requires stamps { All (IsNoNewer generation) slots.old.items }
     ensures ok { OnOk result (fan (children below slots.new.items) ≡ cut (word (suc below) hash key.now) (fan (children below slots.old.items))) }
     ensures branch { IsBranch below bitmap.new slots.new.items }
+    ensures stamps { All (IsNoNewer generation) slots.new.items }
     ensures same { OnErr result (fan (children below slots.new.items) ≡ fan (children below slots.old.items)) }
     ensures err { IsOkUnless result OutOfMemory }
 {
@@ -168,6 +173,7 @@ fn drop_slot<V: Drop, M: Summary<V>, A: Allocator + Copy>(
     requires one { cut (word below hash key.now) (at (digit below hash) (children below slots.old.items)) ≡ [] }
     ensures ok { fan (children below slots.new.items) ≡ cut (word (suc below) hash key.now) (fan (children below slots.old.items)) }
     ensures branch { IsBranch below bitmap.new slots.new.items }
+    ensures stamps { (generation : ℕ) → All (IsNoNewer generation) slots.old.items → All (IsNoNewer generation) slots.new.items }
 {
     let _ = slots.remove(seat.at);
     *bitmap -= 1 << seat.index;
@@ -186,9 +192,11 @@ pub(crate) fn take_below<V: Drop, M: Summary<V>, A: Allocator + Copy>(
     requires many { 2 ≤ length (child below slot.old).1 }
     requires sorted { T (is_sorted bytes_cmp (child below slot.old).1) }
     requires found { is_some (find bytes_cmp (word below hash key.now) (child below slot.old).1) ≡ true }
+    requires stamp { IsNoNewer generation slot.old }
     ensures ok { OnOk result (child below slot.new ≡ ((child below slot.old).0, cut (word below hash key.now) (child below slot.old).1)) }
     ensures fits { StandsBelow below slot.new }
     ensures same { OnErr result (child below slot.new ≡ child below slot.old) }
+    ensures stamp { IsNoNewer generation slot.new }
     ensures err { IsOkUnless result OutOfMemory }
 {
     match slot {
@@ -215,8 +223,10 @@ fn take_shared<V: Drop, M: Summary<V>, A: Allocator + Copy>(
 ) -> Result<(), Refusal>
     requires sorted { T (is_sorted bytes_cmp node.old.value.1.0) }
     requires found { is_some (find bytes_cmp (word node.old.value.0 hash key.now) node.old.value.1.0) ≡ true }
+    requires stamp { node.old.value.1.1.1 ≤ generation }
     ensures ok { OnOk result (stands_for node.new.value ≡ (node.old.value.0, cut (word node.old.value.0 hash key.now) node.old.value.1.0)) }
     ensures same { OnErr result (stands_for node.new.value ≡ stands_for node.old.value) }
+    ensures stamp { node.new.value.1.1.1 ≤ generation }
     ensures err { IsOkUnless result OutOfMemory }
 {
     if node.stamp == generation && generation != u64::MAX {

@@ -44,11 +44,12 @@ impl<V, M: Summary<V>, H: PathHash, A: Allocator> Model for GenTrie<V, M, H, A> 
     ghost coded = { shown_code H.code V.code };
 
     ghost use Rattle.gen_trie.specs.Shown.{shown_of};
-    ghost use Rattle.gen_trie.specs.Root.{IsTrie};
+    ghost use Rattle.std.specs.Prelude.{◌≤◌};
+    ghost use Rattle.gen_trie.specs.Root.{root_stamp, IsTrie};
 
     ghost view = { λ a. shown_of a.hash a.root a.generation };
 
-    ghost invariant = { λ a. IsTrie (H.hash_of a.hash) a.root a.count };
+    ghost invariant = { λ a. IsTrie (H.hash_of a.hash) a.root a.count × (root_stamp a.root ≤ a.generation) };
 }
 
 impl<V, M: Summary<V>, H: PathHash, A: Allocator + Copy> GenTrie<V, M, H, A> {
@@ -97,6 +98,16 @@ impl<V, M: Summary<V>, H: PathHash, A: Allocator + Copy> GenTrie<V, M, H, A> {
         ensures { result ≡ finite.len self.now.map }
     {
         self.count
+    }
+
+    /// Whether each node keeps the summary of its entries, as from a seal on to the next write. Takes constant time, and no memory.
+    pub fn is_sealed(&self) -> bool
+        ensures { result ≡ self.now.sealed }
+    {
+        match &self.root {
+            None => true,
+            Some(slot) => slot.keeps_summaries(),
+        }
     }
 
     /// The keys with their values, by ascending index sequence of the key's hash, and those of equal hashes by key bytes.

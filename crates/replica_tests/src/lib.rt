@@ -15,6 +15,8 @@ mod made;
 #[cfg(test)]
 mod playing;
 #[cfg(test)]
+mod sealing;
+#[cfg(test)]
 mod session_bytes;
 #[cfg(test)]
 mod sessions;

@@ -1,7 +1,9 @@
 use Rattle.std.proofs.Common.{rules, ◌≡◌, ◌<◌, length, true, vec_len, sym, ◌∙◌, ap, subst, refl, arith}
+use Rattle.std.specs.List.{All}
+use Rattle.std.proofs.lemmas.List.Elements.{All-set}
 use Rattle.hash_path.specs.Fan.{fan}
 use Rattle.hash_path.specs.Word.{digit}
-use Rattle.gen_trie.specs.Shapes.{children, child, listed, height_and_entries, stands_for, HasMore, StandsBelow, IsSeat}
+use Rattle.gen_trie.specs.Shapes.{children, child, listed, height_and_entries, stands_for, HasMore, StandsBelow, IsNoNewer, IsSeat}
 use Rattle.gen_trie.proofs.Puts.{put_old_is, put_none_is, replaced, two_keys, one_more_key, more_keys, grown, ok_with, if_ok_so, ok_so, err_so, either_so, not_false}
 use Rattle.gen_trie.proofs.put.+put.Goals.{put-in-Branch, put-in-Keys}
 use Rattle.gen_trie.proofs.put.+put.Goals as goal
@@ -11,7 +13,7 @@ put_branch-returns-clause-ok g t c =
     let taken = not_false c.seat_of-seat.result.taken c.if-not-seat.false in
     let seat = subst (λ e. IsSeat (digit c.args.below e.hash) (children c.args.below c.args.slots.now.items) (vec_len c.args.slots.now) c.seat_of-seat.result.index c.seat_of-seat.result.at c.seat_of-seat.result.taken) c.deref.ensures c.seat_of-seat.ensures in
     ok_so c.put_slot.result
-    (λ new. (put_old_is c.args.below c.args.bitmap.now _ _ _ _ c.args.leaf.value c.index_mut.result.now c.put_slot.new.slot c.args.slots.now.items _ c.requires seat taken c.index_mut.ensures.value refl new c.put_slot.ensures.fits).0)
+    (λ new. (put_old_is c.args.below c.args.bitmap.now _ _ _ _ c.args.leaf.value c.index_mut.result.now c.put_slot.new.slot c.args.slots.now.items _ c.requires.branch seat taken c.index_mut.ensures.value refl new c.put_slot.ensures.fits).0)
     c.put_slot.ensures.ok
 
 pub put_branch-returns-clause-fresh : goal.put_branch-returns-clause-fresh
@@ -19,7 +21,7 @@ put_branch-returns-clause-fresh g t c =
     let taken = not_false c.seat_of-seat.result.taken c.if-not-seat.false in
     let seat = subst (λ e. IsSeat (digit c.args.below e.hash) (children c.args.below c.args.slots.now.items) (vec_len c.args.slots.now) c.seat_of-seat.result.index c.seat_of-seat.result.at c.seat_of-seat.result.taken) c.deref.ensures c.seat_of-seat.ensures in
     ok_with c.put_slot.result
-    (λ new fresh more. grown fresh _ _ _ _ (put_old_is c.args.below c.args.bitmap.now _ _ _ _ c.args.leaf.value c.index_mut.result.now c.put_slot.new.slot c.args.slots.now.items _ c.requires seat taken c.index_mut.ensures.value refl new c.put_slot.ensures.fits).2 more)
+    (λ new fresh more. grown fresh _ _ _ _ (put_old_is c.args.below c.args.bitmap.now _ _ _ _ c.args.leaf.value c.index_mut.result.now c.put_slot.new.slot c.args.slots.now.items _ c.requires.branch seat taken c.index_mut.ensures.value refl new c.put_slot.ensures.fits).2 more)
     c.put_slot.ensures.ok c.put_slot.ensures.fresh
 
 pub put_branch-returns-clause-branch : goal.put_branch-returns-clause-branch
@@ -30,8 +32,8 @@ put_branch-returns-clause-branch g t c =
     let len = c.args.slots.now.ok.0 in
     let less : c.seat_of-seat.result.at < length c.args.slots.now.items = omega arith in
     either_so c.put_slot.result
-    (λ new. (put_old_is c.args.below c.args.bitmap.now _ _ _ _ c.args.leaf.value c.index_mut.result.now c.put_slot.new.slot c.args.slots.now.items _ c.requires seat taken c.index_mut.ensures.value refl new c.put_slot.ensures.fits).1)
-    (λ same. (put_none_is c.args.below c.args.bitmap.now c.seat_of-seat.result.at c.index_mut.result.now c.put_slot.new.slot c.args.slots.now.items _ c.requires less c.index_mut.ensures.value refl same c.put_slot.ensures.fits).1)
+    (λ new. (put_old_is c.args.below c.args.bitmap.now _ _ _ _ c.args.leaf.value c.index_mut.result.now c.put_slot.new.slot c.args.slots.now.items _ c.requires.branch seat taken c.index_mut.ensures.value refl new c.put_slot.ensures.fits).1)
+    (λ same. (put_none_is c.args.below c.args.bitmap.now c.seat_of-seat.result.at c.index_mut.result.now c.put_slot.new.slot c.args.slots.now.items _ c.requires.branch less c.index_mut.ensures.value refl same c.put_slot.ensures.fits).1)
     c.put_slot.ensures.ok c.put_slot.ensures.same
 
 pub put_branch-returns-clause-same : goal.put_branch-returns-clause-same
@@ -41,8 +43,12 @@ put_branch-returns-clause-same g t c =
     let len = c.args.slots.now.ok.0 in
     let less : c.seat_of-seat.result.at < length c.args.slots.now.items = omega arith in
     err_so c.put_slot.result
-    (λ same. (put_none_is c.args.below c.args.bitmap.now c.seat_of-seat.result.at c.index_mut.result.now c.put_slot.new.slot c.args.slots.now.items _ c.requires less c.index_mut.ensures.value refl same c.put_slot.ensures.fits).0)
+    (λ same. (put_none_is c.args.below c.args.bitmap.now c.seat_of-seat.result.at c.index_mut.result.now c.put_slot.new.slot c.args.slots.now.items _ c.requires.branch less c.index_mut.ensures.value refl same c.put_slot.ensures.fits).0)
     c.put_slot.ensures.same
+
+pub put_branch-returns-clause-stamps : goal.put_branch-returns-clause-stamps
+put_branch-returns-clause-stamps g t c =
+    All-set (IsNoNewer c.args.generation) c.args.slots.now.items c.seat_of-seat.result.at c.put_slot.new.slot c.put_slot.ensures.stamp c.requires.stamps
 
 pub put_slot-returns-then-same_key-clause-ok : goal.put_slot-returns-then-same_key-clause-ok
 put_slot-returns-then-same_key-clause-ok g t c = replaced c.args.below c.in-One.index c.in-One.entry c.args.leaf c.args.slot.now c.in-One.is c.if-same_key.ensures
@@ -89,8 +95,8 @@ put_slot-returns-in-Many-clause-fresh g t c =
 pub put-invariant_of-node : goal.put-invariant_of-node
 put-invariant_of-node g t c =
     elim c.match-node.branch [
-      | put-in-Branch w ↦ rw w.node-inside-is (w.put_branch.ensures.branch, tt)
-      | put-in-Keys w ↦ rw w.node-inside-is (tt, tt)
+      | put-in-Branch w ↦ rw w.node-inside-is (w.put_branch.ensures.branch, tt, subst (λ s. All (IsNoNewer s) w.put_branch.new.slots.items) (sym (ap (λ n. n.1.1.1) c.node.view_is ∙ c.requires)) w.put_branch.ensures.stamps)
+      | put-in-Keys w ↦ rw w.node-inside-is (tt, tt, tt)
     ]
 
 pub put_slot-returns-then-same_key-clause-fresh : goal.put_slot-returns-then-same_key-clause-fresh

@@ -1,6 +1,6 @@
 use Rattle.std.proofs.Common.{◌≡◌, length, take, ◌+◌, ◌*◌}
 use Rattle.std.specs.List.{All}
-use Rattle.gen_trie.specs.Shapes.{children, height_and_entries, IsSealed, StandsBelow}
+use Rattle.gen_trie.specs.Shapes.{children, height_and_entries, IsNoNewer, IsSealed, StandsBelow}
 use Rattle.gen_trie.proofs.sealing.+sealing.Given as goal
 
 -- the levels that are left, each of which is gone through in five steps
@@ -26,3 +26,4 @@ invariant-seal_slots-loop-at g l =
     × All (StandsBelow l.below) l.slots.items
     × (length l.slots.items ≡ length l.fn.slots.items)
     × All IsSealed (take l.at l.slots.items)
+    × All (IsNoNewer l.generation) l.slots.items

@@ -1,10 +1,12 @@
 use Rattle.std.proofs.Common.{rules, ◌≡◌, ◌≢◌, ◌≤◌, ◌<◌, suc, length, true, sym, ◌∙◌, ap, subst, refl, arith}
 use Rattle.std.specs.Prelude.{T, is_some}
+use Rattle.std.specs.List.{All}
+use Rattle.std.proofs.lemmas.List.Elements.{All-set}
 use Rattle.std.specs.FinMap.Entries.{find, is_sorted}
 use Rattle.dots.specs.Bytes.{bytes_cmp}
 use Rattle.hash_path.specs.Word.{word}
 use Rattle.hash_path.specs.Cut.{cut}
-use Rattle.gen_trie.specs.Shapes.{child, StandsBelow, height_and_entries, stands_for}
+use Rattle.gen_trie.specs.Shapes.{child, StandsBelow, IsNoNewer, height_and_entries, stands_for}
 use Rattle.gen_trie.proofs.Puts.{put_none_is, ok_so, err_so, either_so}
 use Rattle.gen_trie.proofs.Seats.{found}
 use Rattle.gen_trie.proofs.Takes.{taken_there, child_gives, one_gives, cut_old_is, left_none, two_left}
@@ -94,6 +96,10 @@ take_branch-returns-clause-same g t c =
 pub take-invariant_of-node : goal.take-invariant_of-node
 take-invariant_of-node g t c =
     elim c.match-node.branch [
-      | take-in-Branch w ↦ rw w.node-inside-is (w.take_branch.ensures.branch, tt)
-      | take-in-Keys w ↦ rw w.node-inside-is (tt, tt)
+      | take-in-Branch w ↦ rw w.node-inside-is (w.take_branch.ensures.branch, tt, subst (λ s. All (IsNoNewer s) w.take_branch.new.slots.items) (sym (ap (λ n. n.1.1.1) c.node.view_is ∙ c.requires.stamp)) w.take_branch.ensures.stamps)
+      | take-in-Keys w ↦ rw w.node-inside-is (tt, tt, tt)
     ]
+
+pub take_branch-returns-clause-stamps : goal.take_branch-returns-clause-stamps
+take_branch-returns-clause-stamps g t c =
+    All-set (IsNoNewer c.args.generation) c.args.slots.now.items c.seat_of-seat.result.at c.take_below.new.slot c.take_below.ensures.stamp c.requires.stamps

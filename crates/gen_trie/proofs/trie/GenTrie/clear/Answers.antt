@@ -1,4 +1,4 @@
-use Rattle.std.proofs.Common.{ap, refl, true}
+use Rattle.std.proofs.Common.{ap, refl, true, arith}
 use Rattle.std.specs.FinMap as finite
 use Rattle.gen_trie.specs.Shown.{Shown}
 use Rattle.gen_trie.proofs.trie.GenTrie.clear.Goals as goal
@@ -9,4 +9,4 @@ returns g c =
     ap emptied c.self.view_is
 
 pub invariant_of-self : goal.invariant_of-self
-invariant_of-self g c = record { root_is = record { stands = tt; sorted = tt; counted = refl }; hashed = tt }
+invariant_of-self g c = (record { root_is = record { stands = tt; sorted = tt; counted = refl }; hashed = tt }, omega arith)

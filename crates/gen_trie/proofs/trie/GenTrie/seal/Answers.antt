@@ -6,9 +6,11 @@ use Rattle.gen_trie.proofs.Roots.{IsTrie-same, same_root}
 use Rattle.gen_trie.proofs.trie.GenTrie.seal.Goals as goal
 
 pub invariant_of-self : goal.invariant_of-self
-invariant_of-self g c =
-    IsTrie-same (g.H.PathHash.hash_of c.self.inside.hash) c.self.inside.root c.seal_root.new.root c.self.inside.count c.self.inside.count c.self.invariant
-    (same_root c.self.inside.root c.seal_root.new.root c.self.inside.count c.seal_root.ensures.same (λ _. c.seal_root.ensures.stands) c.self.invariant.root_is) c.seal_root.ensures.same
+invariant_of-self g c = (
+  IsTrie-same (g.H.PathHash.hash_of c.self.inside.hash) c.self.inside.root c.seal_root.new.root c.self.inside.count c.self.inside.count c.self.invariant.0
+      (same_root c.self.inside.root c.seal_root.new.root c.self.inside.count c.seal_root.ensures.same (λ _. c.seal_root.ensures.stands) c.self.invariant.0.root_is) c.seal_root.ensures.same,
+  c.seal_root.ensures.stamp,
+)
 
 pub returns-clause-ok : goal.returns-clause-ok
 returns-clause-ok g c =

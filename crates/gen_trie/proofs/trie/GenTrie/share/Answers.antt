@@ -1,4 +1,4 @@
-use Rattle.std.proofs.Common.{ap, ◌∙◌}
+use Rattle.std.proofs.Common.{ap, ◌∙◌, arith}
 use Rattle.gen_trie.specs.Shown.{Shown, shown_of, generation_after}
 use Rattle.gen_trie.proofs.trie.GenTrie.share.Goals as goal
 
@@ -8,4 +8,7 @@ returns-clause-next g c =
     ap (shown_of c.self.inside.hash c.self.inside.root) c.saturating_add-self-inside.ensures ∙ ap started c.self.view_is
 
 pub invariant_of-self : goal.invariant_of-self
-invariant_of-self g c = c.self.invariant
+invariant_of-self g c =
+    let before = c.self.invariant.1 in
+    let after = c.saturating_add-self-inside.ensures in
+    (c.self.invariant.0, omega (arith, before, after))

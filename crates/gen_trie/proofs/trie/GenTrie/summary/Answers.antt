@@ -13,13 +13,13 @@ pub returns-in-None-clause-summary : goal.returns-in-None-clause-summary
 returns-in-None-clause-summary g c =
     sym (summary_none g.M.Summary.calls c.args.prefix 7)
     ∙ ap (λ root. summary_at g.M.Summary.calls c.args.prefix 7 (root_entries root)) (sym c.in-None.is)
-    ∙ at_root g.M.Summary.calls (g.H.PathHash.hash_of c.self.inside.hash) c.self.inside.root c.self.inside.count c.self.invariant c.args.prefix
+    ∙ at_root g.M.Summary.calls (g.H.PathHash.hash_of c.self.inside.hash) c.self.inside.root c.self.inside.count c.self.invariant.0 c.args.prefix
     ∙ ap (λ x. summary_at g.M.Summary.calls c.args.prefix 7 (by_path (g.H.PathHash.hash_of x.hash) x.map)) c.self.view_is
 
 pub returns-in-Some-clause-summary : goal.returns-in-Some-clause-summary
 returns-in-Some-clause-summary g c =
     c.summary_under.ensures.summary ∙ ap (λ root. summary_at g.M.Summary.calls c.args.prefix 7 (root_entries root)) (sym c.in-Some.is)
-    ∙ at_root g.M.Summary.calls (g.H.PathHash.hash_of c.self.inside.hash) c.self.inside.root c.self.inside.count c.self.invariant c.args.prefix
+    ∙ at_root g.M.Summary.calls (g.H.PathHash.hash_of c.self.inside.hash) c.self.inside.root c.self.inside.count c.self.invariant.0 c.args.prefix
     ∙ ap (λ x. summary_at g.M.Summary.calls c.args.prefix 7 (by_path (g.H.PathHash.hash_of x.hash) x.map)) c.self.view_is
 
 pub returns-in-None-clause-none : goal.returns-in-None-clause-none
@@ -30,5 +30,5 @@ returns-in-None-clause-none g c =
 pub returns-in-Some-clause-none : goal.returns-in-Some-clause-none
 returns-in-Some-clause-none g c =
     subst (λ x. (c.summary_under.result ≡ None) ↔ ((key : List ℕ) → indices (length c.args.prefix) (g.H.PathHash.hash_of x.hash key) ≡ c.args.prefix → finite.get x.map key ≡ None)) c.self.view_is
-    (none_at g.M.Summary.calls (g.H.PathHash.hash_of c.self.inside.hash) c.self.inside.root c.self.inside.count c.self.invariant c.args.prefix c.summary_under.result c.summary_under.ensures.short
+    (none_at g.M.Summary.calls (g.H.PathHash.hash_of c.self.inside.hash) c.self.inside.root c.self.inside.count c.self.invariant.0 c.args.prefix c.summary_under.result c.summary_under.ensures.short
     (c.summary_under.ensures.summary ∙ ap (λ root. summary_at g.M.Summary.calls c.args.prefix 7 (root_entries root)) (sym c.in-Some.is)))
