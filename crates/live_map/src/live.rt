@@ -1,4 +1,4 @@
-ghost use Rattle.std.specs.Prelude.{◌≡◌, ℕ, List, None, true, IfOk, OnOk, OnErr, IsOkUnless};
+ghost use Rattle.std.specs.Prelude.{◌≡◌, ℕ, List, None, IfOk, OnOk, OnErr, IsOkUnless};
 ghost use Rattle.std.specs.FinMap as finite;
 ghost use Rattle.causal_context.specs.Context.{has, HasNone};
 ghost use Rattle.causal_join.specs.Causal.{state_of};
@@ -91,13 +91,11 @@ impl<S: DotStore<A>, M: Summary<S>, H: PathHash, A: Allocator + Copy> Live<S, M,
         &self.context
     }
 
-    /// Gives the nodes of the store that keep no summary theirs, and lends the frozen map of its stores, whose nodes keep them now. The pair
-    /// stays as it is, also where it is refused; a further call goes on from there. Takes time in the nodes that were written since the
-    /// last seal, copies those of them that another map shares, and takes no other memory.
+    /// Gives the nodes of the store that keep no summary theirs. The pair stays as it is, also where it is refused; a further
+    /// call goes on from there. Takes time in the nodes that were written since the last seal, copies those of them that
+    /// another map shares, and takes no other memory.
     /// Its only refusal is OutOfMemory.
-    pub fn seal(&mut self) -> Result<&Frozen<S, M, H, A>, Refusal>
-        ensures sealed { IfOk result (λ frozen. frozen.now.sealed ≡ true) }
-        ensures ok { IfOk result (λ frozen. (frozen.now.hash ≡ self.old.0.0.0) × (frozen.now.map ≡ self.old.0.0.1)) }
+    pub fn seal(&mut self) -> Result<(), Refusal>
         ensures same { self.new ≡ self.old }
         ensures err { IsOkUnless result Refusal.OutOfMemory }
     {

@@ -140,6 +140,22 @@ fn is_in_order(rt: &impl Abort, alloc: Global, store: &Sets) -> Result<bool, Ref
     Ok(map.entries().len() == 40 && are_placed(rt, &map))
 }
 
+// Whether a map keeps the summaries of its nodes from a seal on, and not before.
+fn is_sealed(map: &mut Sets) -> Result<bool, Refusal> {
+    let before = map.frozen().is_sealed();
+    map.seal()?;
+    Ok(map.frozen().is_sealed() && !before)
+}
+
+// The same of a map that shares the nodes of the pair's store, and then of that one.
+fn are_sealed(live: &mut LivePair) -> Result<bool, Refusal> {
+    let mut map = live.store().share()?;
+    let is_map_sealed = is_sealed(&mut map)?;
+    let before = live.store().frozen().is_sealed();
+    live.seal()?;
+    Ok(live.store().frozen().is_sealed() && is_map_sealed && !before)
+}
+
 // What is seen of a store.
 #[derive(Clone, Copy)]
 enum Case {
@@ -150,6 +166,8 @@ enum Case {
     TakenIn,
     // Of forty keys, in order.
     Forty,
+    // Of forty keys, sealed.
+    Sealed,
 }
 
 // Whether it is so of a store of these two dots.
@@ -177,6 +195,10 @@ fn is_so(rt: &impl Abort, alloc: Global, live: &mut LivePair, case: Case) -> Res
     if matches!(case, Case::Forty) {
         put_forty(rt, alloc, live)?;
         return is_in_order(rt, alloc, live.store());
+    }
+    if matches!(case, Case::Sealed) {
+        put_forty(rt, alloc, live)?;
+        return are_sealed(live);
     }
     let (one, two) = (dot(rt, 1, 1), dot(rt, 1, 2));
     write_at(alloc, live, b"a", one, &[one])?;
@@ -217,5 +239,11 @@ fn a_join_takes_in_what_only_the_other_side_has(rt: HostRuntime) -> Result<(), F
 #[test]
 fn the_map_of_forty_keys_is_in_their_order(rt: HostRuntime) -> Result<(), Fail> {
     assert!(rt; holds(&rt, rt.alloc(), Case::Forty)?);
+    Ok(())
+}
+
+#[test]
+fn a_seal_has_the_nodes_of_a_store_keep_their_summaries(rt: HostRuntime) -> Result<(), Fail> {
+    assert!(rt; holds(&rt, rt.alloc(), Case::Sealed)?);
     Ok(())
 }

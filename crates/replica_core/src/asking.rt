@@ -121,7 +121,7 @@ impl<H: PathHash, A: Allocator + Copy> Replica<H, A> {
         ensures refused { IsOkUnless result Refusal.OutOfMemory }
         ensures unchanged { OnErr result (meaning self.new ≡ meaning self.old) }
     {
-        let _ = self.live.seal()?;
+        self.live.seal()?;
         self.sessions.reserve(1)?;
         let (asker, hello) = self.begin(session, outbox)?;
         add(&mut self.sessions, asker);

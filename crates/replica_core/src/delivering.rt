@@ -111,7 +111,7 @@ impl<H: PathHash, A: Allocator + Copy> Replica<H, A> {
         if session.answerer() != self.name {
             return Ok(Delivered::silent(self.alloc, Outcome::Ignored));
         }
-        let _ = self.live.seal()?;
+        self.live.seal()?;
         let room = Vec::with_capacity(self.alloc, 1)?;
         let opening = self.answerer.hello(
             self.alloc,

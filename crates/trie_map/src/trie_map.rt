@@ -1,4 +1,4 @@
-ghost use Rattle.std.specs.Prelude.{◌≡◌, ◌↔◌, IfSome, IfOk, IsOkUnless, false, true};
+ghost use Rattle.std.specs.Prelude.{◌≡◌, ◌↔◌, IfSome, IfOk, IsOkUnless, false};
 ghost use Rattle.std.specs.FinMap as finite;
 ghost use Rattle.std.specs.Option.{option_copied};
 ghost use Rattle.causal_context.specs.Context.{has};
@@ -104,18 +104,14 @@ impl<S: DotStore<A>, M: Summary<S>, H: PathHash, A: Allocator + Copy> TrieMap<S,
         Ok(TrieMap { entries })
     }
 
-    /// Gives the nodes that keep no summary, as after a join, theirs, and lends the frozen map of all stores, whose nodes keep them now. The
-    /// map stays as it is, also where it is refused; a further call goes on from there. Takes time in those nodes, copies those of them
-    /// that another map shares, and takes no other memory.
+    /// Gives the nodes that keep no summary, as after a join, theirs. The map stays as it is, also where it is refused; a further
+    /// call goes on from there. Takes time in those nodes, copies those of them that another map shares, and takes no other memory.
     /// Its only refusal is OutOfMemory.
-    pub fn seal(&mut self) -> Result<&Frozen<S, M, H, A>, Refusal>
-        ensures sealed { IfOk result (λ frozen. frozen.now.sealed ≡ true) }
-        ensures ok { IfOk result (λ frozen. (frozen.now.hash ≡ self.old.0) × (frozen.now.map ≡ self.old.1)) }
+    pub fn seal(&mut self) -> Result<(), Refusal>
         ensures same { self.new ≡ self.old }
         ensures err { IsOkUnless result Refusal.OutOfMemory }
     {
-        self.entries.seal()?;
-        Ok(&self.entries)
+        self.entries.seal()
     }
 
     /// The same stores in a map in the order of the keys. Takes time and memory in all stores, and time in the logarithm of

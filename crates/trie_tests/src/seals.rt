@@ -87,6 +87,30 @@ fn a_seal_reaches_each_node_and_then_what_was_written(rt: HostRuntime) -> Result
     Ok(())
 }
 
+// Whether a share, which is sealed by itself, and its trie tell that they keep their summaries, and not before.
+fn are_told(trie: &mut Plain) -> Result<bool, Refusal> {
+    let mut shared = trie.share()?;
+    let before = shared.is_sealed() || trie.is_sealed();
+    shared.seal()?;
+    let between = shared.is_sealed() && !trie.is_sealed();
+    trie.seal()?;
+    Ok(trie.is_sealed() && between && !before)
+}
+
+// Whether a trie of 1,000 keys does, and tells that it keeps them no more once the key of 1,000 is put.
+fn are_told_of_a_thousand(alloc: Global) -> Result<bool, Refusal> {
+    let mut trie = thousand(alloc)?;
+    let are_told = are_told(&mut trie)?;
+    trie.insert(Key::new(alloc, &bytes_of(1_000))?, 1_000)?;
+    Ok(are_told && !trie.is_sealed())
+}
+
+#[test]
+fn a_trie_and_its_share_tell_whether_they_are_sealed(rt: HostRuntime) -> Result<(), Fail> {
+    assert!(rt; are_told_of_a_thousand(rt.alloc())?);
+    Ok(())
+}
+
 // Whether a seal copies the nodes that are shared, and a share keeps the summaries: as few nodes are sealed then as after a
 // freeze, which seals and shares.
 fn are_shared(alloc: Global) -> Result<bool, Refusal> {
