@@ -72,17 +72,11 @@ impl<V: Drop, H: PathHash, M: Summary<V>, A: Allocator + Copy> Tries<V, H, M, A>
         ensures err { IfErr result (λ refusal. (refusal ≡ Refusal.ReadOnly) ⊎ (refusal ≡ Refusal.OutOfMemory)) }
     {
         match act {
-            Act::Insert(index, key, value) => write_at(
-                self.tries.as_mut_slice(),
-                index,
-                Write::Insert(key, value),
-            ),
-            Act::Remove(index, key) => write_at(
-                self.tries.as_mut_slice(),
-                index,
-                Write::Remove(key),
-            ),
-            Act::Clear(index) => write_at(self.tries.as_mut_slice(), index, Write::Clear),
+            Act::Insert(index, key, value) => {
+                write_at(&mut self.tries, index, Write::Insert(key, value))
+            }
+            Act::Remove(index, key) => write_at(&mut self.tries, index, Write::Remove(key)),
+            Act::Clear(index) => write_at(&mut self.tries, index, Write::Clear),
             Act::Snapshot(index) => add_snapshot(&mut self.tries, index, false),
             Act::ReadOnlySnapshot(index) => add_snapshot(&mut self.tries, index, true),
         }
@@ -124,14 +118,14 @@ impl<V: Drop, H: PathHash, M: Summary<V>, A: Allocator + Copy> Tries<V, H, M, A>
 
 // Carries the write out at the trie of this index, and tells whether that is there.
 fn write_at<V: Drop, H: PathHash, M: Summary<V>, A: Allocator + Copy>(
-    tries: &mut [Ctrie<V, H, M, A>],
+    tries: &mut Vec<Ctrie<V, H, M, A>, A>,
     index: usize,
     write: Write<V, A>,
 ) -> Result<bool, Refusal>
-    ensures there { IfOk result (λ there. IsTrue there ↔ index < length tries.old) }
-    ensures read_only { IsErrOf result Refusal.ReadOnly ↔ IsTrue (takes_no_write (slice_get tries.old index)) }
-    ensures ok { OnOk result (tries.new ≡ changed_at index (written (map_after write)) tries.old) }
-    ensures same { OnErr result (tries.new ≡ tries.old) }
+    ensures there { IfOk result (λ there. IsTrue there ↔ index < length tries.old.items) }
+    ensures read_only { IsErrOf result Refusal.ReadOnly ↔ IsTrue (takes_no_write (slice_get tries.old.items index)) }
+    ensures ok { OnOk result (tries.new.items ≡ changed_at index (written (map_after write)) tries.old.items) }
+    ensures same { OnErr result (tries.new.items ≡ tries.old.items) }
     ensures err { IfErr result (λ refusal. (refusal ≡ Refusal.ReadOnly) ⊎ (refusal ≡ Refusal.OutOfMemory)) }
 {
     if index >= tries.len() {
@@ -152,29 +146,41 @@ fn add_snapshot<V: Drop, H: PathHash, M: Summary<V>, A: Allocator + Copy>(
     ensures same { OnErr result (tries.new.items ≡ tries.old.items) }
     ensures err { IsOkUnless result Refusal.OutOfMemory }
 {
-    let made = snapshot_at(tries.as_mut_slice(), index, is_read_only)?;
+    let made = snapshot_at(tries, index, is_read_only)?;
     add(tries, made)
 }
 
 // A snapshot of the trie of this index, if that is there, and a read-only one where that is asked for.
 fn snapshot_at<V: Drop, H: PathHash, M: Summary<V>, A: Allocator + Copy>(
-    tries: &mut [Ctrie<V, H, M, A>],
+    tries: &mut Vec<Ctrie<V, H, M, A>, A>,
     index: usize,
     is_read_only: bool,
 ) -> Result<Option<Ctrie<V, H, M, A>>, Refusal>
-    ensures ok { IfOk result (λ made. made ≡ snapshot_of is_read_only (slice_get tries.old index)) }
-    ensures same { tries.new ≡ tries.old }
+    ensures ok { IfOk result (λ made. made ≡ snapshot_of is_read_only (slice_get tries.old.items index)) }
+    ensures same { tries.new.items ≡ tries.old.items }
     ensures err { IsOkUnless result Refusal.OutOfMemory }
 {
     if index >= tries.len() {
         return Ok(None);
     }
-    let made = if is_read_only {
-        tries[index].read_only_snapshot()?
-    } else {
-        tries[index].snapshot()?
-    };
+    let made = snapshot(&mut tries[index], is_read_only)?;
     Ok(Some(made))
+}
+
+// A snapshot of the trie, a read-only one where that is asked for.
+fn snapshot<V: Drop, H: PathHash, M: Summary<V>, A: Allocator + Copy>(
+    trie: &mut Ctrie<V, H, M, A>,
+    is_read_only: bool,
+) -> Result<Ctrie<V, H, M, A>, Refusal>
+    ensures ok { IfOk result (λ made. Some made ≡ snapshot_of is_read_only (Some trie.old)) }
+    ensures same { trie.new ≡ trie.old }
+    ensures err { IsOkUnless result Refusal.OutOfMemory }
+{
+    if is_read_only {
+        trie.read_only_snapshot()
+    } else {
+        trie.snapshot()
+    }
 }
 
 // Appends the trie that was made, if one was, and tells whether one was.
