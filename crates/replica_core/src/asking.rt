@@ -30,7 +30,7 @@ impl<H: PathHash, A: Allocator + Copy> Replica<H, A> {
     /// Opens a synchronisation with a peer: its number, and the hello that is to be sent to that peer. What it adds in the end is what
     /// the peer had when it answered; meanwhile the replica may be written and read as ever.
     ///
-    /// Its refusals are SessionsFull, exactly where eight of them are open; then NumbersSpent, exactly where 2^64 - 1 were opened; and
+    /// Its refusals are SessionsFull, only where eight of them are open; NumbersSpent, only where fewer are and 2^64 - 1 were opened; and
     /// OutOfMemory. A refused call changes nothing. Takes time in the nodes that were written since the last synchronisation or
     /// snapshot, and time and memory in the context; not in the map, whose nodes the session shares.
     pub fn ask(&mut self, peer: Name) -> Result<(u64, Message<A>), Refusal>

@@ -30,9 +30,10 @@ impl<H: PathHash, A: Allocator + Copy> Replica<H, A> {
     /// A gone ends one. All else is ignored, and what does not fit is a mismatch: neither changes anything.
     ///
     /// Its only refusal is OutOfMemory; a refused call changes nothing. Takes time and memory in the message and in what stands here that
-    /// it touches, times the logarithm of the map, and in the names of the contexts; for a hello also time in the nodes that were
-    /// written since the last one; where a synchronisation ends, time and memory in what differs, times the logarithm of the map; and for
-    /// an opening that has the digest of the own map, of a peer that had not seen all that was seen here, time in the map.
+    /// it touches, times the logarithm of the map, and in the contexts; for a hello also time in the nodes that were written since the
+    /// last one; and where a synchronisation ends, time and memory in what differs, times the logarithm of the map. Of a peer that had not
+    /// seen all that was seen here it also takes time in the own entries that stay: for an opening that has the digest of the own map in all
+    /// of them, and for a page in those under the children whose digests are the own ones.
     pub fn deliver(&mut self, message: &Message<A>) -> Result<Delivered<A>, Refusal>
         ensures ok { IfOk result (λ told. Steps H.hash_of self.old self.new (Take (mail_of (message_of message.now))) (Came (outcome_of told.outcome)) (mails_of told.replies.items)) }
         ensures refused { IsOkUnless result Refusal.OutOfMemory }
@@ -69,7 +70,7 @@ impl<H: PathHash, A: Allocator + Copy> Replica<H, A> {
 
     /// Takes a message in by its bytes, as `deliver` does.
     ///
-    /// Its refusals are NotAMessage, exactly where the bytes spell no message, and OutOfMemory; a refused call changes nothing. Takes
+    /// Its refusals are NotAMessage, only where the bytes spell no message, and OutOfMemory; a refused call changes nothing. Takes
     /// time and memory in the bytes besides.
     pub fn deliver_bytes(&mut self, bytes: &[u8]) -> Result<Delivered<A>, Refusal>
         ensures ok { IfOk result (λ told. (message : MessageValue) × Spells bytes.now message

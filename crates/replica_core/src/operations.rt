@@ -21,8 +21,8 @@ impl<H: PathHash, A: Allocator + Copy> Replica<H, A> {
     /// Writes the value on the key, at its empty field, in the place of the values that stand there; those of its other fields stay. The
     /// dot of the write.
     ///
-    /// Its refusals are NumbersSpent, exactly where no number is left for the dot, and OutOfMemory; a refused call changes nothing.
-    /// Takes time and memory in what stands there, times the logarithm of the map, and in the names of the context.
+    /// Its refusals are NumbersSpent, only where no number is left for the dot, and OutOfMemory; a refused call changes nothing. Takes time
+    /// and memory in what stands there, times the logarithm of the map, in the context, and at times in what was made since the last flush.
     pub fn put(&mut self, key: &Key<A>, value: &Value<A>) -> Result<Dot, Refusal>
         ensures ok { IfOk result (λ dot. Steps H.hash_of self.old self.new (Do (Put (plain key.now) value.now)) (Made dot) []) }
         ensures refused { IfErr result (IsRefused self.old (Put (plain key.now) value.now)) }
@@ -34,8 +34,8 @@ impl<H: PathHash, A: Allocator + Copy> Replica<H, A> {
     /// Writes the value on the field of the key, in the place of the values that stand there; those of its other fields stay. The dot of
     /// the write.
     ///
-    /// Its refusals are NumbersSpent, exactly where no number is left for the dot, and OutOfMemory; a refused call changes nothing.
-    /// Takes time and memory in what stands there, times the logarithm of the map, and in the names of the context.
+    /// Its refusals are NumbersSpent, only where no number is left for the dot, and OutOfMemory; a refused call changes nothing. Takes time
+    /// and memory in what stands there, times the logarithm of the map, in the context, and at times in what was made since the last flush.
     pub fn put_field(
         &mut self,
         key: &Key<A>,
@@ -58,7 +58,7 @@ impl<H: PathHash, A: Allocator + Copy> Replica<H, A> {
     /// Takes the key away with all its fields, and says how many writes it observed there; where there is none it changes nothing.
     ///
     /// Its only refusal is OutOfMemory; a refused call changes nothing. Takes time and memory in what stands at the key, times the
-    /// logarithm of the map, and in the names of the context.
+    /// logarithm of the map, in the context, and at times in what was made since the last flush.
     pub fn remove(&mut self, key: &Key<A>) -> Result<u64, Refusal>
         ensures ok { IfOk result (λ number. Steps H.hash_of self.old self.new (Do (Remove key.now)) (Counted number) []) }
         ensures refused { IsOkUnless result Refusal.OutOfMemory }
@@ -73,7 +73,7 @@ impl<H: PathHash, A: Allocator + Copy> Replica<H, A> {
     /// other fields stay.
     ///
     /// Its only refusal is OutOfMemory; a refused call changes nothing. Takes time and memory in what stands there, times the logarithm
-    /// of the map, and in the names of the context.
+    /// of the map, in the context, and at times in what was made since the last flush.
     pub fn remove_field(&mut self, key: &Key<A>, field: &Field<A>) -> Result<u64, Refusal>
         ensures ok { IfOk result (λ number. Steps H.hash_of self.old self.new (Do (RemoveField (place_of key.now field.now))) (Counted number) []) }
         ensures refused { IsOkUnless result Refusal.OutOfMemory }
@@ -99,8 +99,8 @@ impl<H: PathHash, A: Allocator + Copy> Replica<H, A> {
 
     /// The delta of all that it made since the last flush, to be sent, or None where it made nothing.
     ///
-    /// Its only refusal is OutOfMemory; a refused call changes nothing. Takes time and memory in these operations, times the logarithm
-    /// of their number.
+    /// Its only refusal is OutOfMemory; a refused call changes nothing. Takes time and memory in these operations, times the square of the
+    /// logarithm of their number.
     pub fn flush(&mut self) -> Result<Option<Message<A>>, Refusal>
         ensures ok { IfOk result (λ sent. Steps H.hash_of self.old self.new (Do Flush) Nothing (mail_or_none sent)) }
         ensures refused { IsOkUnless result Refusal.OutOfMemory }

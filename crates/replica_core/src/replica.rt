@@ -18,9 +18,10 @@ use sync_protocol::{Answerer, Asker};
 /// One replica of the map: what it holds, what it made since it last sent, its own synchronisations that are open, and the snapshots
 /// that it keeps for those of others.
 ///
-/// A write, a delivery and a flush cost what they change, times the logarithm of the map, and the names of the context. No call goes
-/// through the map but `keys`, `clear` and `copy`, and the delivery of an opening that has the digest of the own map from a peer that had
-/// not seen all that was seen here: each dot of the map is looked up then.
+/// A write, a delivery and a flush cost what they change, times the logarithm of the map, and the context; of many writes each also joins
+/// what was written since the last flush, as often as that doubles. No call goes through the map but `keys`, `clear` and `copy`, `digest`
+/// and a first synchronisation where the nodes keep no digests yet, and the delivery of an opening or a page of a peer that had not seen all
+/// that was seen here: each dot of the own entries that stay is looked up then.
 #[derive(Drop)]
 pub struct Replica<H: PathHash = Fnv1a, A: Allocator + Copy = Global> {
     pub(crate) alloc: A,

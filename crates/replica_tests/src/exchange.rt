@@ -70,51 +70,61 @@ fn put_forty(alloc: Global, from: &mut Replica, name: u8) -> Result<(), Refusal>
     Ok(())
 }
 
-// Sends forty keys to two replicas, and to the second twice.
-fn send_forty(
-    alloc: Global,
-    from: &mut Replica,
-    name: u8,
-    first: &mut Replica,
-    second: &mut Replica,
-) -> Result<(), Refusal> {
-    put_forty(alloc, from, name)?;
-    let bytes = sent(alloc, from)?;
-    take(alloc, second, bytes.as_slice())?;
-    take(alloc, first, bytes.as_slice())?;
-    take(alloc, second, bytes.as_slice())
-}
-
-// The same of a new replica of this name.
-fn spread(
-    rt: &impl Abort,
-    alloc: Global,
-    name: u8,
-    first: &mut Replica,
-    second: &mut Replica,
-) -> bool {
+// What a new replica of this name sends once it put forty keys.
+fn sent_by(rt: &impl Abort, alloc: Global, name: u8) -> Result<Vec<u8>, Refusal> {
     let mut from = replica(rt, alloc, u64::from(name));
-    send_forty(alloc, &mut from, name, first, second) == Ok(())
+    put_forty(alloc, &mut from, name)?;
+    sent(alloc, &mut from)
 }
 
-// Whether two replicas hold the same once six have sent them forty keys each.
-fn agree(rt: &impl Abort, alloc: Global, first: &mut Replica, second: &mut Replica) -> bool {
+// What six replicas send, by their names.
+fn six(rt: &impl Abort, alloc: Global) -> Result<Vec<Vec<u8>>, Refusal> {
+    let mut all = Vec::with_capacity(alloc, 6)?;
     for name in 1..7u8 {
-        if !spread(rt, alloc, name, first, second) {
-            return false;
-        }
+        all.push(sent_by(rt, alloc, name)?)?;
     }
-    first.size() == 240 && second.size() == 240 && first.digest() == second.digest()
+    Ok(all)
+}
+
+// Takes the messages in, one after the other.
+fn take_all(alloc: Global, to: &mut Replica, all: &[Vec<u8>]) -> Result<(), Refusal> {
+    for bytes in all {
+        take(alloc, to, bytes.as_slice())?;
+    }
+    Ok(())
+}
+
+// Takes the messages in from the last to the first, and each of them twice.
+fn take_back(alloc: Global, to: &mut Replica, all: &[Vec<u8>]) -> Result<(), Refusal> {
+    for bytes in all.iter().rev() {
+        take(alloc, to, bytes.as_slice())?;
+        take(alloc, to, bytes.as_slice())?;
+    }
+    Ok(())
+}
+
+// Whether two replicas hold the same once they took the messages of six in, in the one order and in the other.
+fn agree(
+    alloc: Global,
+    all: &[Vec<u8>],
+    first: &mut Replica,
+    second: &mut Replica,
+) -> Result<bool, Refusal> {
+    take_all(alloc, first, all)?;
+    take_back(alloc, second, all)?;
+    let is_same = first.digest() == second.digest();
+    Ok(is_same && first.size() == 240 && second.size() == 240)
 }
 
 // Whether two new replicas do.
-fn new_ones_agree(rt: &impl Abort, alloc: Global) -> bool {
+fn new_ones_agree(rt: &impl Abort, alloc: Global) -> Result<bool, Refusal> {
+    let all = six(rt, alloc)?;
     let mut seven = replica(rt, alloc, 7);
     let mut eight = replica(rt, alloc, 8);
-    agree(rt, alloc, &mut seven, &mut eight)
+    agree(alloc, all.as_slice(), &mut seven, &mut eight)
 }
 
 #[test]
 fn what_has_seen_the_same_holds_the_same(rt: HostRuntime) {
-    assert!(rt; new_ones_agree(&rt, rt.alloc()));
+    assert!(rt; new_ones_agree(&rt, rt.alloc()) == Ok(true));
 }

@@ -63,11 +63,10 @@ impl<H: PathHash, A: Allocator + Copy> World<H, A> {
         }
     }
 
-    /// Makes the event happen, and tells what it was answered and which messages it made; a retry and a delivery make at most one for each
-    /// page that is waited for, each other event at most one.
+    /// Makes the event happen, and tells what it was answered and which messages it made.
     ///
-    /// Its refusals are NameTaken, exactly where a new replica has the name of one that is there; UnknownReplica, exactly where a call, its
-    /// peer, or a delivery is for one that is not there; UnknownMessage, exactly where no message has the number; those of the replica's
+    /// Its refusals are NameTaken, only where a new replica has the name of one that is there; UnknownReplica, only where a call, its
+    /// peer, or a delivery is for one that is not there; UnknownMessage, only where no message has the number; those of the replica's
     /// call; and OutOfMemory. A refused event changes nothing and is not kept in the past. Takes what the call takes, and the logarithm of the number of replicas.
     pub fn event(&mut self, event: Event<A>) -> Result<Told, Refusal>
         ensures ok { OnOk result (self.new ≡ record { hash = self.old.hash; past = self.old.past ++ event_value event ∷ [] }) }

@@ -1,4 +1,4 @@
-ghost use Rattle.std.specs.Prelude.{IsTrue};
+ghost use Rattle.std.specs.Prelude.{◌↔◌, IsTrue};
 ghost use Rattle.causal_context.specs.Context.{has};
 ghost use Rattle.sync_model.specs.Laws.{KnowsEachDot};
 
@@ -14,7 +14,7 @@ pub fn knows_store<H: PathHash, A: Allocator + Copy>(
     context: &Context<A>,
     store: &FieldStore<H, A>,
 ) -> bool
-    ensures { IsTrue result → KnowsEachDot (has context.now) store.now.1 }
+    ensures { IsTrue result ↔ KnowsEachDot (has context.now) store.now.1 }
 {
     knows_under(context, store.frozen(), Prefix::root())
 }

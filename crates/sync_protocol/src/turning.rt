@@ -275,7 +275,8 @@ impl<H: PathHash, A: Allocator + Copy> Asker<H, A> {
     /// prefix is not waited for, and else a mismatch. A gone ends the session, if it is not done. Of another session, or of
     /// another kind, a message is ignored.
     /// The asker stays as it is, also where the call is refused. Takes time and memory in the page, in the keys that it takes away and
-    /// in the contexts, each times the logarithm of the map.
+    /// in the contexts, each times the logarithm of the map; and where the opening does not know all that the asker had seen, also time in
+    /// the own entries under the children whose digests are the own ones.
     /// Its only refusal is OutOfMemory.
     pub fn on_page(&self, alloc: A, message: &Message<A>) -> Result<Turn<H, A>, Refusal>
         ensures ok { IfOk result (λ turn. turn_of turn ≡ turning.on_page (H.hash_of self.now.hash) (asker_state self.now) (message_of message.now)) }

@@ -12,4 +12,5 @@ mod pins;
 mod removing;
 mod sessions;
 mod traces;
+mod turns;
 mod watched;

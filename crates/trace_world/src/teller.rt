@@ -94,7 +94,7 @@ impl<A: Allocator + Copy> Teller<A> {
         }
     }
 
-    /// What the replica of this name holds, which stays so. UnknownReplica exactly where no replica has the name.
+    /// What the replica of this name holds, which stays so. Its refusals are UnknownReplica, only where no replica has the name, and OutOfMemory.
     pub fn store(&self, name: Name) -> Result<LiveStore<ShaSummary, Fnv1a, A>, Refusal>
         ensures ok { IfOk result (λ store. (w : model.World) → Runs fnv1a nothing self.now w → (is_node w name ≡ true)
             × ((place : Place) (dot : DotValue) → (store_state store).at place dot ≡ (w.replica name).live.at place dot)) }

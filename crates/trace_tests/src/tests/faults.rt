@@ -9,7 +9,7 @@ use std::test::Fail;
 use trace_cli::run;
 use watched_io::Watched;
 
-const TRACE: &str =
+pub(crate) const TRACE: &str =
     "node 1\nnode 2\nput 1 a x\nput 2 a y\nflush 1\nflush 2\ndeliver 1 2\ndeliver 2 1\nget 1 a\nget 2 a\nput 1 a z\nflush 1\ndeliver 3 2\nget 1 a\nget 2 a\nflush 2\n";
 
 const TEXT: &str =
@@ -81,7 +81,7 @@ fn taker(alloc: Global, piece: usize, calls: u64) -> Watched<Taking>
 }
 
 /// How many whole lines are in the text.
-fn lines(text: &[u8]) -> usize {
+pub(crate) fn lines(text: &[u8]) -> usize {
     text.iter().filter(|byte| **byte == b'\n').count()
 }
 
