@@ -27,7 +27,7 @@ pub fn context_of<A: Allocator + Copy>(alloc: A, dots: &[Dot]) -> Result<Context
     Ok(context)
 }
 
-fn set_of<A: Allocator + Copy>(alloc: A, dots: &[Dot]) -> Result<DotSet<A>, Refusal> {
+pub fn set_of<A: Allocator + Copy>(alloc: A, dots: &[Dot]) -> Result<DotSet<A>, Refusal> {
     let mut set = DotSet::empty(alloc);
     for dot in dots {
         set.insert(*dot)?;

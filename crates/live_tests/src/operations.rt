@@ -4,6 +4,7 @@ use delta_ops::{
     LiveOrMap, clear, fields, fields_of, keys, put, put_field, remove, remove_field, values,
     values_at, values_of_key,
 };
+use dot_store::DotStore;
 use dots::{Dot, Field, Key, Name, Refusal, Value};
 use hash_path::Fnv1a;
 use live_map::Live;
@@ -204,10 +205,25 @@ enum Case<'a> {
     Absent,
     // Each of forty keys is listed, and counted.
     Forty,
+    // Three writes stand in a map in order, and in its copy.
+    InOrder,
     // Of three writes, where this is taken away, so many are observed, and this is left.
     Left(Taken, u64, Left<'a>),
     // A put with no field, after three writes, has the number 1, and its value stands at the empty field.
     Plain,
+}
+
+// Whether the keys a and b stand in a map in order, and in its copy.
+fn are_in_order(alloc: Global, live: &LiveOrMap) -> Result<bool, Refusal> {
+    let map = live.store().to_map(alloc)?;
+    let copy = map.copy(alloc)?;
+    let is_same = copy.same(&map) && map.entries().len() == 2;
+    match map.entries() {
+        [(first, _), (second, _)] => Ok(
+            is_same && first.bytes() == b"a".as_slice() && second.bytes() == b"b".as_slice(),
+        ),
+        _ => Ok(false),
+    }
 }
 
 // Whether it is so of this pair, which has no key.
@@ -220,6 +236,10 @@ fn is_so(
     match case {
         Case::Absent => removes_nothing(alloc, live),
         Case::Forty => are_forty(rt, alloc, live),
+        Case::InOrder => {
+            write_three(rt, alloc, live)?;
+            are_in_order(alloc, live)
+        }
         Case::Left(taken, observed, left) => {
             write_three(rt, alloc, live)?;
             Ok(take_away(alloc, live, taken)? == observed && is_left(alloc, live, left)?)
@@ -275,5 +295,11 @@ fn each_of_forty_keys_is_listed(rt: HostRuntime) -> Result<(), Fail> {
 #[test]
 fn a_remove_of_an_absent_key_makes_no_operation(rt: HostRuntime) -> Result<(), Fail> {
     assert!(rt; holds(&rt, rt.alloc(), Case::Absent)?);
+    Ok(())
+}
+
+#[test]
+fn the_fields_of_each_key_stand_in_a_map_in_order(rt: HostRuntime) -> Result<(), Fail> {
+    assert!(rt; holds(&rt, rt.alloc(), Case::InOrder)?);
     Ok(())
 }

@@ -1,10 +1,10 @@
 // A store that is kept as a trie, through the calls of every dot store.
-use crate::made::{LiveSets, context_of, dot, write_at};
+use crate::made::{LiveSets, context_of, dot, set_of, write_at};
 use causal_context::Context;
 use dot_store::{DotMap, DotSet, DotStore};
 use dots::{Dot, Key, Refusal};
 use gen_trie::NoSummary;
-use hash_path::Fnv1a;
+use hash_path::{Fnv1a, PathHash, SameHash};
 use live_map::Live;
 use std::alloc::Global;
 use std::process::Abort;
@@ -156,6 +156,42 @@ fn are_sealed(live: &mut LivePair) -> Result<bool, Refusal> {
     Ok(live.store().frozen().is_sealed() && is_map_sealed && !before)
 }
 
+// Whether a copy of a map by this hash is by it too.
+fn keeps_hash(alloc: Global) -> Result<bool, Refusal> {
+    let map: TrieMap<DotSet, NoSummary, SameHash> = TrieMap::new(alloc, SameHash(7));
+    let copy = map.copy(alloc)?;
+    Ok(copy.frozen().hash().hash(b"a") == 7)
+}
+
+#[test]
+fn a_copy_keeps_the_hash(rt: HostRuntime) -> Result<(), Fail> {
+    assert!(rt; keeps_hash(rt.alloc())?);
+    Ok(())
+}
+
+// The join of these two sets, each under its own dots, at the key a in a draft of the map.
+fn joined_at_a(alloc: Global, map: &Sets, mine: Dot, yours: Dot) -> Result<Sets, Refusal> {
+    let (own, theirs) = (context_of(alloc, &[mine])?, context_of(alloc, &[yours])?);
+    let (mine, yours) = (set_of(alloc, &[mine])?, set_of(alloc, &[yours])?);
+    let key = Key::new(alloc, b"a")?;
+    let mut draft = map.draft()?;
+    draft.join_at(alloc, &key, &mine, &own, &yours, &theirs)?;
+    draft.finish()
+}
+
+// Whether that takes the place of the first dot, which stands at the key, and leaves the second, which stands at b.
+fn is_joined_over(
+    rt: &impl Abort,
+    alloc: Global,
+    map: &Sets,
+    one: Dot,
+    two: Dot,
+) -> Result<bool, Refusal> {
+    let (mine, yours) = (dot(rt, 1, 5), dot(rt, 2, 1));
+    let both = joined_at_a(alloc, map, mine, yours)?;
+    has_just(alloc, &both, &[two, mine, yours], one)
+}
+
 // What is seen of a store.
 #[derive(Clone, Copy)]
 enum Case {
@@ -164,6 +200,8 @@ enum Case {
     Copy,
     Left,
     TakenIn,
+    // Of two dots: a join at the key of the one of stores that do not stand there.
+    Over,
     // Of forty keys, in order.
     Forty,
     // Of forty keys, sealed.
@@ -203,6 +241,9 @@ fn is_so(rt: &impl Abort, alloc: Global, live: &mut LivePair, case: Case) -> Res
     let (one, two) = (dot(rt, 1, 1), dot(rt, 1, 2));
     write_at(alloc, live, b"a", one, &[one])?;
     write_at(alloc, live, b"b", two, &[two])?;
+    if matches!(case, Case::Over) {
+        return is_joined_over(rt, alloc, live.store(), one, two);
+    }
     is_so_of_two(alloc, live.store(), one, two, dot(rt, 1, 3), case)
 }
 
@@ -245,5 +286,11 @@ fn the_map_of_forty_keys_is_in_their_order(rt: HostRuntime) -> Result<(), Fail> 
 #[test]
 fn a_seal_has_the_nodes_of_a_store_keep_their_summaries(rt: HostRuntime) -> Result<(), Fail> {
     assert!(rt; holds(&rt, rt.alloc(), Case::Sealed)?);
+    Ok(())
+}
+
+#[test]
+fn a_draft_holds_the_join_in_the_place_of_another_store(rt: HostRuntime) -> Result<(), Fail> {
+    assert!(rt; holds(&rt, rt.alloc(), Case::Over)?);
     Ok(())
 }

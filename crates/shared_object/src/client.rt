@@ -1,7 +1,7 @@
 ghost use Rattle.std.specs.Prelude.{◌≡◌, ◌⊎◌, ◌<◌, ◌≤◌, ◌++◌, ◌∷◌, [], List, length, IfOk, IfErr, OnErr, IsTrue};
 ghost use mathlib.Core.List.{IsPrefix};
 ghost use Rattle.dots.specs.declared.refusal.Refusal.TheVariants.{NoPlace};
-ghost use Rattle.shared_object.specs.History.{calls_by};
+ghost use Rattle.shared_object.specs.History.{calls_by, made};
 ghost use Rattle.shared_object.specs.Calling.{HasNotCalled, IsAccepted, IsRefused};
 ghost use Rattle.shared_object.specs.Finishing.{IsOwn};
 
@@ -119,7 +119,8 @@ impl<
     A: Allocator + Copy,
 > Client<R, E, J, Shared<D, R, E, J, G, W, A>, A> {
     /// Makes a call when its turn has come, and answers its reply and a receipt, which is of the history with the call at its end. A refused
-    /// call is not made, though the client may have seen more of the history. It is refused with OutOfMemory, with what the call itself
+    /// call is not made, though the client may have seen more of the history; unless it is refused with NoPlace, the calls of its place that
+    /// it has seen then are those that it made. It is refused with OutOfMemory, with what the call itself
     /// refuses, with NumbersSpent where the history has 2^64 - 1 events, and with NoPlace where the object was taken out; that NoPlace comes
     /// nowhere else stands in no clause.
     pub fn call<T: Wait, C: Update<D, R, E, J, A>>(
@@ -131,6 +132,7 @@ impl<
         ensures receipt { IfOk result (λ r. r.1 ≡ self.new.front) }
         ensures refused { IfErr result (λ e. (e ≡ NoPlace) ⊎ IsRefused (C.refuses update.now) self.new.front e) }
         ensures not_made { OnErr result (HasNotCalled E.place self.old self.new) }
+        ensures no_others { IfErr result (λ e. (e ≡ NoPlace) ⊎ (calls_by E.place self.new.place self.new.front ≡ made E.place self.new)) }
     {
         let Some(view) = self.view.take() else {
             unreachable!()

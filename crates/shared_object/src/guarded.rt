@@ -174,6 +174,7 @@ impl<D: Drop, R: Drop, E: Placed, J: Object<D, R, E>, W: Wait + Drop, A: Allocat
         ensures guarded { IfOk result.2 (λ r. result.0 ≡ self ++ C.event update.now place ∷ []) }
         ensures refused { IfErr result.2 (λ e. (e ≡ NoPlace) ⊎ IsRefused (C.refuses update.now) result.1 e) }
         ensures learnt { IfErr result.2 (λ _. IsPrefix view result.1) }
+        ensures whole { IfErr result.2 (λ e. (e ≡ NoPlace) ⊎ (length (calls_by E.place place result.1) ≡ operations)) }
         ensures unchanged { IfErr result.2 (λ _. result.0 ≡ self) }
     {
         let (view, is_met) = self.meet(view, place, operations);

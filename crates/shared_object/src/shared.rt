@@ -55,6 +55,7 @@ pub(crate) fn take_turn<
         × C.answers update.now history r.0 × (r.1 ≡ history ++ C.event update.now place ∷ []) × (result.0 ≡ history ++ C.event update.now place ∷ [])) }
     ensures refused { IfErr result.1 (λ e. (e ≡ NoPlace) ⊎ IsRefused (C.refuses update.now) result.0 e) }
     ensures learnt { IfErr result.1 (λ _. IsPrefix view result.0) }
+    ensures whole { IfErr result.1 (λ e. (e ≡ NoPlace) ⊎ (length (calls_by E.place place result.0) ≡ operations)) }
 {
     shared.gate.pass(Point::Before);
     let mut guard = shared.lock.lock(rt);

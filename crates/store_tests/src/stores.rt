@@ -237,3 +237,17 @@ fn lists_of_different_lengths_are_joined_to_their_ends(rt: HostRuntime) -> Resul
     assert!(rt; joins_to(alloc, &two, &known, &forty, &[], &kept)?);
     Ok(())
 }
+
+// Whether a dot that stands as a value at another one is copied with it.
+fn is_copied(alloc: Global, at: Dot, value: Dot) -> Result<bool, Refusal> {
+    let mut held: DotFun<Dot> = DotFun::empty(alloc);
+    held.insert(at, value)?;
+    let copy = held.copy(alloc)?;
+    Ok(copy.get(at) == Some(&value))
+}
+
+#[test]
+fn dots_may_stand_as_values(rt: HostRuntime) -> Result<(), Fail> {
+    assert!(rt; is_copied(rt.alloc(), dot(&rt, 1, 1), dot(&rt, 2, 7))?);
+    Ok(())
+}

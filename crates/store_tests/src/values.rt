@@ -128,6 +128,45 @@ fn a_text_is_printed_as_itself_or_by_its_bytes(rt: HostRuntime) -> Result<(), Fa
     Ok(())
 }
 
+// Whether a text of so many of this byte is printed as itself, or else by their digits.
+fn is_printed_whole(
+    alloc: Global,
+    byte: u8,
+    count: usize,
+    is_plain: bool,
+) -> Result<bool, Refusal> {
+    let mut bytes = Vec::new(alloc);
+    bytes.resize(count, byte)?;
+    let text = Field::new(alloc, &bytes)?;
+    let printed = format!(in alloc; "{text}")?;
+    if is_plain {
+        return Ok(printed.as_str().as_bytes() == bytes.as_slice());
+    }
+    Ok(printed.len() == 1 + 2 * count)
+}
+
+#[test]
+fn long_texts_are_printed_whole(rt: HostRuntime) -> Result<(), Fail> {
+    let alloc = rt.alloc();
+    for count in [7, 22, 23, 300] {
+        assert!(rt; is_printed_whole(alloc, b'x', count, true)?);
+        assert!(rt; is_printed_whole(alloc, 0, count, false)?);
+    }
+    Ok(())
+}
+
+// Whether a text is shown for debugging as the list of its bytes.
+fn is_shown_by_bytes(alloc: Global) -> Result<bool, Refusal> {
+    let text = Field::new(alloc, b"ab")?;
+    Ok(format!(in alloc; "{text:?}")?.as_str() == "[97, 98]")
+}
+
+#[test]
+fn a_text_is_shown_for_debugging_by_its_bytes(rt: HostRuntime) -> Result<(), Fail> {
+    assert!(rt; is_shown_by_bytes(rt.alloc())?);
+    Ok(())
+}
+
 // Whether the dot and its name are printed so.
 fn is_shown(alloc: Global, dot: Dot, shown: &str, name_shown: &str) -> Result<bool, Refusal> {
     let name = dot.name();
@@ -139,6 +178,7 @@ fn is_shown(alloc: Global, dot: Dot, shown: &str, name_shown: &str) -> Result<bo
 fn a_dot_is_printed_as_its_name_and_its_number(rt: HostRuntime) -> Result<(), Fail> {
     let alloc = rt.alloc();
     assert!(rt; is_shown(alloc, dot(&rt, 2, 17), "2:17", "2")?);
+    assert!(rt; is_shown(alloc, dot(&rt, 10, 1_234_567), "10:1234567", "10")?);
     let last = "18446744073709551615:18446744073709551615";
     assert!(rt;
         is_shown(

@@ -5,7 +5,10 @@ use std::test::Fail;
 
 // Whether the hash of a key is this one, and its seven indices are these.
 fn has_path(key: &[u8], hash: u32, path: [u32; 7]) -> bool {
-    let mut same = Fnv1a.hash(key) == hash && index_at(hash, 7).is_none();
+    let mut same = Fnv1a.hash(key) == hash;
+    for depth in [7, 8, 31, u32::MAX] {
+        same = same && index_at(hash, depth).is_none();
+    }
     for depth in 0u32..7 {
         same = same && index_at(hash, depth) == Some(path[depth as usize]);
     }

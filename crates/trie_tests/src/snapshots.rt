@@ -1,7 +1,7 @@
 // Workiva's calls: a map with snapshots.
 use ctrie_api::Ctrie;
 use dots::{Key, Refusal};
-use gen_trie::{Iter, NoSummary};
+use gen_trie::{Frozen, Iter, NoSummary};
 use hash_path::Fnv1a;
 use std::alloc::Global;
 use std::test::Fail;
@@ -155,12 +155,34 @@ fn refuse_writes_anew(alloc: Global, trie: &mut Map) -> Result<bool, Refusal> {
     Ok(refuse_writes_again(alloc, trie, 0)? && has_three)
 }
 
+// Whether a trie that is thawed can be written, and the frozen map of one key stays as it is.
+fn is_thawed(alloc: Global, frozen: &Frozen<u64, NoSummary, Fnv1a>) -> Result<bool, Refusal> {
+    let mut thawed: Map = Ctrie::thaw(frozen)?;
+    put(alloc, &mut thawed, b"c", 3)?;
+    let mut sum: u64 = 0;
+    for (_, value) in frozen {
+        sum = sum.wrapping_add(*value);
+    }
+    let is_kept = frozen.is_sealed() && frozen.size() == 1 && sum == 1;
+    Ok(holds(alloc, &thawed, 2, b"c", Some(3))? && is_kept && !thawed.is_read_only())
+}
+
+// The same of what a trie of one key is frozen to, and then of what its read-only snapshot is.
+fn are_thawed(alloc: Global, trie: &mut Map) -> Result<bool, Refusal> {
+    let frozen = trie.freeze()?;
+    let is_first = is_thawed(alloc, &frozen)?;
+    let mut read_only = trie.read_only_snapshot()?;
+    let of_read_only = read_only.freeze()?;
+    Ok(is_thawed(alloc, &of_read_only)? && is_first)
+}
+
 // What is asked of a trie of one key.
 #[derive(Clone, Copy)]
 enum Asked {
     Written,
     Apart,
     Refusing,
+    Thawed,
 }
 
 fn is_so(alloc: Global, asked: Asked) -> Result<bool, Refusal> {
@@ -169,6 +191,7 @@ fn is_so(alloc: Global, asked: Asked) -> Result<bool, Refusal> {
         Asked::Written => are_written(alloc, &mut trie),
         Asked::Apart => are_apart_anew(alloc, &mut trie),
         Asked::Refusing => refuse_writes_anew(alloc, &mut trie),
+        Asked::Thawed => are_thawed(alloc, &mut trie),
     }
 }
 
@@ -187,5 +210,11 @@ fn a_snapshot_does_not_see_later_writes(rt: HostRuntime) -> Result<(), Fail> {
 #[test]
 fn a_read_only_snapshot_and_its_snapshots_refuse_writes(rt: HostRuntime) -> Result<(), Fail> {
     assert!(rt; is_so(rt.alloc(), Asked::Refusing)?);
+    Ok(())
+}
+
+#[test]
+fn a_frozen_map_is_thawed_and_stays(rt: HostRuntime) -> Result<(), Fail> {
+    assert!(rt; is_so(rt.alloc(), Asked::Thawed)?);
     Ok(())
 }
