@@ -1,10 +1,10 @@
 // The operations of a replica on its live pair, and what is read of it.
-use causal_join::OrMap;
+use causal_join::{Fields, OrMap};
 use delta_ops::{
     LiveOrMap, clear, fields, fields_of, keys, put, put_field, remove, remove_field, values,
     values_at, values_of_key,
 };
-use dot_store::DotStore;
+use dot_store::{DotMap, DotStore};
 use dots::{Dot, Field, Key, Name, Refusal, Value};
 use hash_path::Fnv1a;
 use live_map::Live;
@@ -213,17 +213,27 @@ enum Case<'a> {
     Plain,
 }
 
+// Whether these are the entries of the keys a and b.
+fn are_a_and_b(entries: &[(Key, Fields)]) -> bool {
+    match entries {
+        [(first, _), (second, _)] => {
+            first.bytes() == b"a".as_slice() && second.bytes() == b"b".as_slice()
+        }
+        _ => false,
+    }
+}
+
+// Whether a copy of the map is the same.
+fn is_its_copy(alloc: Global, map: &DotMap<Key, Fields>) -> Result<bool, Refusal> {
+    let copy = map.copy(alloc)?;
+    Ok(copy.same(map))
+}
+
 // Whether the keys a and b stand in a map in order, and in its copy.
 fn are_in_order(alloc: Global, live: &LiveOrMap) -> Result<bool, Refusal> {
     let map = live.store().to_map(alloc)?;
-    let copy = map.copy(alloc)?;
-    let is_same = copy.same(&map) && map.entries().len() == 2;
-    match map.entries() {
-        [(first, _), (second, _)] => Ok(
-            is_same && first.bytes() == b"a".as_slice() && second.bytes() == b"b".as_slice(),
-        ),
-        _ => Ok(false),
-    }
+    let is_same = is_its_copy(alloc, &map)?;
+    Ok(is_same && are_a_and_b(map.entries()))
 }
 
 // Whether it is so of this pair, which has no key.

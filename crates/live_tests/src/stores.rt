@@ -9,7 +9,7 @@ use live_map::Live;
 use std::alloc::Global;
 use std::process::Abort;
 use std::test::Fail;
-use trie_map::TrieMap;
+use trie_map::{Draft, TrieMap};
 
 type Sets = TrieMap<DotSet, NoSummary, Fnv1a>;
 
@@ -147,10 +147,15 @@ fn is_sealed(map: &mut Sets) -> Result<bool, Refusal> {
     Ok(map.frozen().is_sealed() && !before)
 }
 
-// The same of a map that shares the nodes of the pair's store, and then of that one.
-fn are_sealed(live: &mut LivePair) -> Result<bool, Refusal> {
+// The same of a map that shares the nodes of the pair's store.
+fn is_share_sealed(live: &LivePair) -> Result<bool, Refusal> {
     let mut map = live.store().share()?;
-    let is_map_sealed = is_sealed(&mut map)?;
+    is_sealed(&mut map)
+}
+
+// The same of that map, and then of the store.
+fn are_sealed(live: &mut LivePair) -> Result<bool, Refusal> {
+    let is_map_sealed = is_share_sealed(live)?;
     let before = live.store().frozen().is_sealed();
     live.seal()?;
     Ok(live.store().frozen().is_sealed() && is_map_sealed && !before)
@@ -169,13 +174,43 @@ fn a_copy_keeps_the_hash(rt: HostRuntime) -> Result<(), Fail> {
     Ok(())
 }
 
-// The join of these two sets, each under its own dots, at the key a in a draft of the map.
-fn joined_at_a(alloc: Global, map: &Sets, mine: Dot, yours: Dot) -> Result<Sets, Refusal> {
-    let (own, theirs) = (context_of(alloc, &[mine])?, context_of(alloc, &[yours])?);
-    let (mine, yours) = (set_of(alloc, &[mine])?, set_of(alloc, &[yours])?);
+// A set of one dot, which is all that it knows.
+#[derive(Drop)]
+struct Side {
+    set: DotSet,
+    known: Context,
+}
+
+fn side_of(alloc: Global, dot: Dot) -> Result<Side, Refusal> {
+    let set = set_of(alloc, &[dot])?;
+    let known = context_of(alloc, &[dot])?;
+    Ok(Side { set, known })
+}
+
+// Joins the sets of these two dots at the key a.
+fn join_at_a(
+    alloc: Global,
+    draft: &mut Draft<DotSet, NoSummary, Fnv1a>,
+    mine: Dot,
+    yours: Dot,
+) -> Result<(), Refusal> {
     let key = Key::new(alloc, b"a")?;
+    let mine = side_of(alloc, mine)?;
+    let yours = side_of(alloc, yours)?;
+    draft.join_at(
+        alloc,
+        &key,
+        &mine.set,
+        &mine.known,
+        &yours.set,
+        &yours.known,
+    )
+}
+
+// The map with that join.
+fn joined_at_a(alloc: Global, map: &Sets, mine: Dot, yours: Dot) -> Result<Sets, Refusal> {
     let mut draft = map.draft()?;
-    draft.join_at(alloc, &key, &mine, &own, &yours, &theirs)?;
+    join_at_a(alloc, &mut draft, mine, yours)?;
     draft.finish()
 }
 

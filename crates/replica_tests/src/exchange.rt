@@ -70,18 +70,24 @@ fn put_forty(alloc: Global, from: &mut Replica, name: u8) -> Result<(), Refusal>
     Ok(())
 }
 
-// What a new replica of this name sends once it put forty keys.
+// What a replica sends once it put forty keys.
+fn forty_sent(alloc: Global, from: &mut Replica, name: u8) -> Result<Vec<u8>, Refusal> {
+    put_forty(alloc, from, name)?;
+    sent(alloc, from)
+}
+
+// The same of a new replica of this name.
 fn sent_by(rt: &impl Abort, alloc: Global, name: u8) -> Result<Vec<u8>, Refusal> {
     let mut from = replica(rt, alloc, u64::from(name));
-    put_forty(alloc, &mut from, name)?;
-    sent(alloc, &mut from)
+    forty_sent(alloc, &mut from, name)
 }
 
 // What six replicas send, by their names.
 fn six(rt: &impl Abort, alloc: Global) -> Result<Vec<Vec<u8>>, Refusal> {
     let mut all = Vec::with_capacity(alloc, 6)?;
     for name in 1..7u8 {
-        all.push(sent_by(rt, alloc, name)?)?;
+        let bytes = sent_by(rt, alloc, name)?;
+        all.push(bytes)?;
     }
     Ok(all)
 }
@@ -117,14 +123,19 @@ fn agree(
 }
 
 // Whether two new replicas do.
-fn new_ones_agree(rt: &impl Abort, alloc: Global) -> Result<bool, Refusal> {
-    let all = six(rt, alloc)?;
+fn new_ones_agree(rt: &impl Abort, alloc: Global, all: &[Vec<u8>]) -> Result<bool, Refusal> {
     let mut seven = replica(rt, alloc, 7);
     let mut eight = replica(rt, alloc, 8);
-    agree(alloc, all.as_slice(), &mut seven, &mut eight)
+    agree(alloc, all, &mut seven, &mut eight)
+}
+
+// The same of the messages of six.
+fn agree_on_six(rt: &impl Abort, alloc: Global) -> Result<bool, Refusal> {
+    let all = six(rt, alloc)?;
+    new_ones_agree(rt, alloc, all.as_slice())
 }
 
 #[test]
 fn what_has_seen_the_same_holds_the_same(rt: HostRuntime) {
-    assert!(rt; new_ones_agree(&rt, rt.alloc()) == Ok(true));
+    assert!(rt; agree_on_six(&rt, rt.alloc()) == Ok(true));
 }

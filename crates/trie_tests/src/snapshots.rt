@@ -155,25 +155,44 @@ fn refuse_writes_anew(alloc: Global, trie: &mut Map) -> Result<bool, Refusal> {
     Ok(refuse_writes_again(alloc, trie, 0)? && has_three)
 }
 
-// Whether a trie that is thawed can be written, and the frozen map of one key stays as it is.
+// Whether a trie of one key takes a second one.
+fn takes_c(alloc: Global, trie: &mut Map) -> Result<bool, Refusal> {
+    put(alloc, trie, b"c", 3)?;
+    Ok(holds(alloc, trie, 2, b"c", Some(3))? && !trie.is_read_only())
+}
+
+// Whether a trie that is thawed takes one.
 fn is_thawed(alloc: Global, frozen: &Frozen<u64, NoSummary, Fnv1a>) -> Result<bool, Refusal> {
     let mut thawed: Map = Ctrie::thaw(frozen)?;
-    put(alloc, &mut thawed, b"c", 3)?;
+    takes_c(alloc, &mut thawed)
+}
+
+// Whether a frozen map has the value 1 at its one key, and its nodes keep their summaries.
+fn is_one(frozen: &Frozen<u64, NoSummary, Fnv1a>) -> bool {
     let mut sum: u64 = 0;
     for (_, value) in frozen {
         sum = sum.wrapping_add(*value);
     }
-    let is_kept = frozen.is_sealed() && frozen.size() == 1 && sum == 1;
-    Ok(holds(alloc, &thawed, 2, b"c", Some(3))? && is_kept && !thawed.is_read_only())
+    frozen.is_sealed() && frozen.size() == 1 && sum == 1
 }
 
-// The same of what a trie of one key is frozen to, and then of what its read-only snapshot is.
-fn are_thawed(alloc: Global, trie: &mut Map) -> Result<bool, Refusal> {
+// Whether what a trie of one key is frozen to is thawed, and stays as it is.
+fn is_frozen_and_thawed(alloc: Global, trie: &mut Map) -> Result<bool, Refusal> {
     let frozen = trie.freeze()?;
-    let is_first = is_thawed(alloc, &frozen)?;
+    let is_thawed = is_thawed(alloc, &frozen)?;
+    Ok(is_thawed && is_one(&frozen))
+}
+
+// The same of a read-only snapshot of it.
+fn is_read_only_thawed(alloc: Global, trie: &mut Map) -> Result<bool, Refusal> {
     let mut read_only = trie.read_only_snapshot()?;
-    let of_read_only = read_only.freeze()?;
-    Ok(is_thawed(alloc, &of_read_only)? && is_first)
+    is_frozen_and_thawed(alloc, &mut read_only)
+}
+
+// The same of the trie and of its snapshot.
+fn are_thawed(alloc: Global, trie: &mut Map) -> Result<bool, Refusal> {
+    let is_first = is_frozen_and_thawed(alloc, trie)?;
+    Ok(is_read_only_thawed(alloc, trie)? && is_first)
 }
 
 // What is asked of a trie of one key.
