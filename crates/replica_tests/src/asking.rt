@@ -3,6 +3,18 @@ use crate::taking::{are_spelled, is_spelled, of_session};
 use dots::{Name, Refusal};
 use replica_core::{Outcome, Replica};
 use std::alloc::Global;
+use wire_form::Message;
+
+// Whether this is the number of a session that was opened, and its hello.
+fn is_opened(
+    alloc: Global,
+    asked: &(u64, Message),
+    number: u64,
+    hello: &[u8],
+) -> Result<bool, Refusal> {
+    let is_hello = is_spelled(alloc, &asked.1, hello)?;
+    Ok(is_hello && asked.0 == number)
+}
 
 // Opens a session, and tells whether this is its number and its hello.
 pub(crate) fn asks(
@@ -12,9 +24,8 @@ pub(crate) fn asks(
     hello: &[u8],
 ) -> Result<bool, Refusal> {
     let two = Name::new(2).ok_or(Refusal::UnknownReplica)?;
-    let (opened, message) = here.ask(two)?;
-    let same = is_spelled(alloc, &message, hello)?;
-    Ok(same && opened == number)
+    let asked = here.ask(two)?;
+    is_opened(alloc, &asked, number, hello)
 }
 
 // Opens the session of this number, and tells whether its hello is this one, which is said of the session 1.
