@@ -1,10 +1,10 @@
 // The operations of a replica on its live pair, and what is read of it.
+use crate::stores::is_its_copy;
 use causal_join::{Fields, OrMap};
 use delta_ops::{
     LiveOrMap, clear, fields, fields_of, keys, put, put_field, remove, remove_field, values,
     values_at, values_of_key,
 };
-use dot_store::{DotMap, DotStore};
 use dots::{Dot, Field, Key, Name, Refusal, Value};
 use hash_path::Fnv1a;
 use live_map::Live;
@@ -221,12 +221,6 @@ fn are_a_and_b(entries: &[(Key, Fields)]) -> bool {
         }
         _ => false,
     }
-}
-
-// Whether a copy of the map is the same.
-fn is_its_copy(alloc: Global, map: &DotMap<Key, Fields>) -> Result<bool, Refusal> {
-    let copy = map.copy(alloc)?;
-    Ok(copy.same(map))
 }
 
 // Whether the keys a and b stand in a map in order, and in its copy.

@@ -59,7 +59,7 @@ fn is_of_two(alloc: Global, store: &Sets, one: Dot, two: Dot, other: Dot) -> Res
 }
 
 // Whether a copy of the store is the same.
-fn is_its_copy<S: DotStore<Global>>(alloc: Global, store: &S) -> Result<bool, Refusal> {
+pub(crate) fn is_its_copy<S: DotStore<Global>>(alloc: Global, store: &S) -> Result<bool, Refusal> {
     let copy = store.copy(alloc)?;
     Ok(copy.same(store))
 }
