@@ -1,5 +1,5 @@
 -- The keys of a map's entries are those that hold something.
-use Rattle.std.proofs.Common.{◌≡◌, ℕ, List, [], length, Contains, ◌↔◌, Option, None, Some, is_some, IsSome, refl, sym, ap, ◌∙◌}
+use Rattle.std.proofs.Common.{◌≡◌, ℕ, List, length, Contains, ◌↔◌, Option, None, Some, is_some, IsSome, refl, sym, ap, ◌∙◌}
 use Rattle.std.specs.FinMap as finite
 use Rattle.std.specs.FinMap.{entries_sorted, len-entries}
 use Rattle.std.specs.Map.{keys_of}

@@ -68,7 +68,7 @@ pub trait DotStore<A: Allocator + Copy>: Drop {
             (state_with (at other.now) (has theirs.now))).at) }
         ensures err { IsOkUnless result Refusal.OutOfMemory };
 
-    /// A store that holds the same, on this allocator.
+    /// A store that holds the same. What it copies is on this allocator; what it shares with this store stays where it is.
     /// Its only refusal is OutOfMemory.
     fn copy(&self, alloc: A) -> Result<Self, Refusal>
         ensures ok { IfOk result (λ copy. HoldsSame (at copy) (at self.now)) }

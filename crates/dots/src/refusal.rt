@@ -11,7 +11,7 @@ pub enum Refusal {
     /// A growth was refused by the allocator.
     #[error("OutOfMemory")]
     OutOfMemory,
-    /// A key or a value of more than 65,535 bytes.
+    /// A key, a field or a value of more than 65,535 bytes.
     #[error("TooLong")]
     TooLong,
     /// A write on a read-only map.
@@ -26,7 +26,7 @@ pub enum Refusal {
     /// The bytes spell no message.
     #[error("NotAMessage")]
     NotAMessage,
-    /// No place for another reader.
+    /// No place is left for another client, or the object that a client calls was taken out.
     #[error("NoPlace")]
     NoPlace,
     /// A replica of that name is there already.

@@ -120,7 +120,13 @@ impl<K, A: Allocator> Ord for Text<K, A> {
     }
 }
 
+/// The list of the bytes, in decimal digits, as a slice of them prints itself.
 impl<K, A: Allocator> fmt::Debug for Text<K, A> {
+    ghost use Rattle.std.specs.Prelude.{Some, decimal};
+    ghost use Rattle.std.specs.Fmt.{debug_list};
+
+    ghost debug_output = { λ text. debug_list (λ byte. Some (decimal byte)) text };
+
     fn fmt<W: fmt::Write>(&self, f: &mut fmt::Formatter<W>) -> fmt::Result {
         let bytes = self.bytes();
         write!(f, "{bytes:?}")

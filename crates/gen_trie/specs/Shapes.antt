@@ -44,6 +44,13 @@ module _ {V A : Type 0} where
   listed = map (λ e. entry_at 0 e.value)
 
 module _ {V : Type 0} where
+  -- whether a node is sealed, and its stamp
+  abbrev pub is_node_sealed : ℕ × (List (List ℕ × V) × (Bool × ℕ)) → Bool
+  is_node_sealed node = node.1.1.0
+
+  abbrev pub node_stamp : ℕ × (List (List ℕ × V) × (Bool × ℕ)) → ℕ
+  node_stamp node = node.1.1.1
+
   -- what a node stands for, whether it is sealed or not, and whatever its stamp
   abbrev pub stands_for : ℕ × (List (List ℕ × V) × (Bool × ℕ)) → ℕ × List (List ℕ × V)
   stands_for node = (node.0, node.1.0)
@@ -73,7 +80,7 @@ module _ {V M A : Type 0} where
   -- whether a child is sealed. A key alone keeps no summary
   abbrev pub is_sealed : Slot V M A → Bool
   is_sealed (One index e) = true
-  is_sealed (Many index n) = n.value.1.1.0
+  is_sealed (Many index n) = is_node_sealed n.value
 
   abbrev pub IsSealed : Slot V M A → Type 0
   IsSealed slot = is_sealed slot ≡ true
@@ -86,7 +93,7 @@ module _ {V M A : Type 0} where
   -- the stamp of a child. A key alone has none, and is as if it were of the first generation
   abbrev pub stamp_of : Slot V M A → ℕ
   stamp_of (One index e) = 0
-  stamp_of (Many index n) = n.value.1.1.1
+  stamp_of (Many index n) = node_stamp n.value
 
   -- a child is of a generation or of one before it
   abbrev pub IsNoNewer : ℕ → Slot V M A → Type 0

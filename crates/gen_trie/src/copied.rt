@@ -2,7 +2,7 @@
 ghost use Rattle.std.specs.Prelude.{◌≡◌, ℕ, ◌≤◌, [], ◌∷◌, IfOk, IsOkUnless};
 ghost use Rattle.std.specs.List.{All};
 ghost use Rattle.dots.specs.declared.refusal.Refusal.TheVariants.{OutOfMemory};
-ghost use Rattle.gen_trie.specs.Shapes.{children, child, entry_at, is_sealed, listed, stamp_of, stands_for, unsealed, IsNoNewer, StandsBelow};
+ghost use Rattle.gen_trie.specs.Shapes.{children, child, entry_at, is_sealed, listed, stamp_of, stands_for, unsealed, IsNoNewer, StandsBelow, node_stamp};
 
 use crate::entry::Entry;
 use crate::node::{Node, Shape, Slot, digit_of};
@@ -60,7 +60,7 @@ fn shared_list<V: Drop, A: Allocator + Copy>(
 impl<V: Drop, M: Summary<V>, A: Allocator + Copy> Node<V, M, A> {
     // The same node in a later generation, without its summary. What stands below it is shared.
     pub fn copy(&self, alloc: A, generation: u64) -> Result<Node<V, M, A>, Refusal>
-        requires { self.now.1.1.1 ≤ generation }
+        requires { node_stamp self.now ≤ generation }
         ensures ok { IfOk result (λ copy. copy ≡ unsealed generation (stands_for self.now)) }
         ensures err { IsOkUnless result OutOfMemory }
     {

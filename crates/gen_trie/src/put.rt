@@ -5,7 +5,7 @@ ghost use Rattle.std.specs.List.{All};
 ghost use Rattle.dots.specs.declared.refusal.Refusal.TheVariants.{OutOfMemory};
 ghost use Rattle.hash_path.specs.Word.{digit};
 ghost use Rattle.hash_path.specs.Fan.{fan};
-ghost use Rattle.gen_trie.specs.Shapes.{children, child, entry_at, with_entry, HasMore, stands_for, StandsBelow, IsBranch, IsNoNewer, IsSeat};
+ghost use Rattle.gen_trie.specs.Shapes.{children, child, entry_at, with_entry, HasMore, stands_for, StandsBelow, IsBranch, IsNoNewer, IsSeat, node_stamp};
 
 use crate::entry::{Entry, same_key};
 use crate::listing::put_in_list;
@@ -23,11 +23,11 @@ pub(crate) fn put<V: Drop, M: Summary<V>, A: Allocator + Copy>(
     generation: u64,
     leaf: Arc<Entry<V, A>, A>,
 ) -> Result<bool, Refusal>
-    requires { node.old.1.1.1 ≡ generation }
+    requires { node_stamp node.old ≡ generation }
     ensures ok { OnOk result (stands_for node.new ≡ (node.old.0, with_entry node.old.0 leaf.value node.old.1.0)) }
     ensures fresh { IfOk result (λ fresh. HasMore fresh node.old.1.0 node.new.1.0) }
     ensures same { OnErr result (stands_for node.new ≡ stands_for node.old) }
-    ensures stamp { node.new.1.1.1 ≡ generation }
+    ensures stamp { node_stamp node.new ≡ generation }
     ensures err { IsOkUnless result OutOfMemory }
 {
     node.kept = None;
@@ -131,7 +131,7 @@ fn pair<V: Drop, M: Summary<V>, A: Allocator + Copy>(
 ) -> Result<Arc<Node<V, M, A>, A>, Refusal>
     requires { height ≤ 7 }
     ensures ok { IfOk result (λ node. stands_for node.value ≡ (height, with_entry height leaf.value (entry_at height first.now.value ∷ []))) }
-    ensures stamp { IfOk result (λ node. node.value.1.1.1 ≡ generation) }
+    ensures stamp { IfOk result (λ node. node_stamp node.value ≡ generation) }
     ensures err { IsOkUnless result OutOfMemory }
 {
     let mut node = Node::single(alloc, generation, height, Arc::try_clone(first)?)?;
@@ -147,11 +147,11 @@ fn put_shared<V: Drop, M: Summary<V>, A: Allocator + Copy>(
     generation: u64,
     leaf: Arc<Entry<V, A>, A>,
 ) -> Result<bool, Refusal>
-    requires { node.old.value.1.1.1 ≤ generation }
+    requires { node_stamp node.old.value ≤ generation }
     ensures ok { OnOk result (stands_for node.new.value ≡ (node.old.value.0, with_entry node.old.value.0 leaf.value node.old.value.1.0)) }
     ensures fresh { IfOk result (λ fresh. HasMore fresh node.old.value.1.0 node.new.value.1.0) }
     ensures same { OnErr result (stands_for node.new.value ≡ stands_for node.old.value) }
-    ensures stamp { node.new.value.1.1.1 ≤ generation }
+    ensures stamp { node_stamp node.new.value ≤ generation }
     ensures err { IsOkUnless result OutOfMemory }
 {
     if node.stamp == generation && generation != u64::MAX {

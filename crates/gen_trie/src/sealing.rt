@@ -2,7 +2,7 @@
 ghost use Rattle.std.specs.Prelude.{◌≡◌, ◌≤◌, length, true, false, OnOk, OnErr, IsOkUnless};
 ghost use Rattle.std.specs.List.{All};
 ghost use Rattle.dots.specs.declared.refusal.Refusal.TheVariants.{OutOfMemory};
-ghost use Rattle.gen_trie.specs.Shapes.{children, child, height_and_entries, is_sealed, stands_for, AreNoNewer, AreSealed, IsCanonical, IsNoNewer, IsSealed, StandsBelow};
+ghost use Rattle.gen_trie.specs.Shapes.{children, child, height_and_entries, is_sealed, stands_for, AreNoNewer, AreSealed, IsCanonical, IsNoNewer, IsSealed, StandsBelow, is_node_sealed, node_stamp};
 
 use crate::node::{Node, Shape, Slot};
 use crate::summary::Summary;
@@ -42,11 +42,11 @@ fn seal_shared<V: Drop, M: Summary<V>, A: Allocator + Copy>(
     generation: u64,
 ) -> Result<(), Refusal>
     requires several { 2 ≤ length node.old.value.1.0 }
-    requires stamp { node.old.value.1.1.1 ≤ generation }
+    requires stamp { node_stamp node.old.value ≤ generation }
     ensures same { stands_for node.new.value ≡ stands_for node.old.value }
-    ensures stamp { node.new.value.1.1.1 ≤ generation }
-    ensures ok { OnOk result (node.new.value.1.1.0 ≡ true) }
-    ensures refused { OnErr result (node.new.value.1.1.0 ≡ node.old.value.1.1.0) }
+    ensures stamp { node_stamp node.new.value ≤ generation }
+    ensures ok { OnOk result (is_node_sealed node.new.value ≡ true) }
+    ensures refused { OnErr result (is_node_sealed node.new.value ≡ is_node_sealed node.old.value) }
     ensures err { IsOkUnless result OutOfMemory }
 {
     if node.kept.is_some() {
@@ -69,12 +69,12 @@ fn seal_node<V: Drop, M: Summary<V>, A: Allocator + Copy>(
     generation: u64,
 ) -> Result<(), Refusal>
     requires several { 2 ≤ length node.old.1.0 }
-    requires unsealed { node.old.1.1.0 ≡ false }
-    requires stamp { node.old.1.1.1 ≤ generation }
+    requires unsealed { is_node_sealed node.old ≡ false }
+    requires stamp { node_stamp node.old ≤ generation }
     ensures same { stands_for node.new ≡ stands_for node.old }
-    ensures stamp { node.new.1.1.1 ≡ generation }
-    ensures ok { OnOk result (node.new.1.1.0 ≡ true) }
-    ensures refused { OnErr result (node.new.1.1.0 ≡ false) }
+    ensures stamp { node_stamp node.new ≡ generation }
+    ensures ok { OnOk result (is_node_sealed node.new ≡ true) }
+    ensures refused { OnErr result (is_node_sealed node.new ≡ false) }
     ensures err { IsOkUnless result OutOfMemory }
 {
     node.stamp = generation;

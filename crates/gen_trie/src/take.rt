@@ -8,7 +8,7 @@ ghost use Rattle.dots.specs.Bytes.{bytes_cmp};
 ghost use Rattle.hash_path.specs.Word.{word, digit};
 ghost use Rattle.hash_path.specs.Cut.{cut};
 ghost use Rattle.hash_path.specs.Fan.{fan, at};
-ghost use Rattle.gen_trie.specs.Shapes.{children, child, entry_at, stands_for, StandsBelow, IsBranch, IsNoNewer, IsSeat};
+ghost use Rattle.gen_trie.specs.Shapes.{children, child, entry_at, stands_for, StandsBelow, IsBranch, IsNoNewer, IsSeat, node_stamp};
 
 use crate::entry::Entry;
 use crate::listing::take_from_list;
@@ -112,10 +112,10 @@ fn take<V: Drop, M: Summary<V>, A: Allocator + Copy>(
 ) -> Result<(), Refusal>
     requires sorted { T (is_sorted bytes_cmp node.old.1.0) }
     requires found { is_some (find bytes_cmp (word node.old.0 hash key.now) node.old.1.0) ≡ true }
-    requires stamp { node.old.1.1.1 ≡ generation }
+    requires stamp { node_stamp node.old ≡ generation }
     ensures ok { OnOk result (stands_for node.new ≡ (node.old.0, cut (word node.old.0 hash key.now) node.old.1.0)) }
     ensures same { OnErr result (stands_for node.new ≡ stands_for node.old) }
-    ensures stamp { node.new.1.1.1 ≡ generation }
+    ensures stamp { node_stamp node.new ≡ generation }
     ensures err { IsOkUnless result OutOfMemory }
 {
     node.kept = None;
@@ -223,10 +223,10 @@ fn take_shared<V: Drop, M: Summary<V>, A: Allocator + Copy>(
 ) -> Result<(), Refusal>
     requires sorted { T (is_sorted bytes_cmp node.old.value.1.0) }
     requires found { is_some (find bytes_cmp (word node.old.value.0 hash key.now) node.old.value.1.0) ≡ true }
-    requires stamp { node.old.value.1.1.1 ≤ generation }
+    requires stamp { node_stamp node.old.value ≤ generation }
     ensures ok { OnOk result (stands_for node.new.value ≡ (node.old.value.0, cut (word node.old.value.0 hash key.now) node.old.value.1.0)) }
     ensures same { OnErr result (stands_for node.new.value ≡ stands_for node.old.value) }
-    ensures stamp { node.new.value.1.1.1 ≤ generation }
+    ensures stamp { node_stamp node.new.value ≤ generation }
     ensures err { IsOkUnless result OutOfMemory }
 {
     if node.stamp == generation && generation != u64::MAX {

@@ -22,7 +22,8 @@ use std::alloc::{Allocator, Global};
 use std::marker::Model;
 use std::sync::Arc;
 
-/// A finite map from keys to values that can be frozen at the cost of a few reference counts.
+/// A finite map from keys to values that can be frozen: `share` costs a few reference counts, `freeze` also the nodes written
+/// since the last seal, which are given their summaries.
 ///
 /// It is a trie by the path hash of the keys: 32 children a branch, five bits of the hash a level, and lists of keys
 /// with equal hashes past the last. What is written after a freeze is copied first, node by node, so a frozen map stays

@@ -13,7 +13,7 @@ const DEPTHS: u32 = 7;
 /// The index of a hash at a depth from 0 to 6: five of its bits, from the lowest on, so 0 to 31, and 0 to 3 at the
 /// depth 6, where two bits are left. None past it.
 pub fn index_at(hash: u32, depth: u32) -> Option<u32>
-    ensures { MatchOption result (6 < depth) (λ index. index ≡ index_in hash depth) }
+    ensures { MatchOption result (6 < depth) (λ index. (depth ≤ 6) × (index ≡ index_in hash depth)) }
 {
     if depth >= DEPTHS {
         return None;

@@ -1,10 +1,11 @@
-ghost use Rattle.std.specs.Prelude.{◌≡◌, ℕ, List, None, IfOk, OnOk, OnErr, IsOkUnless};
+ghost use Rattle.std.specs.Prelude.{◌≡◌, ◌||◌, ℕ, List, None, IfOk, OnOk, OnErr, IsOkUnless};
 ghost use Rattle.std.specs.FinMap as finite;
 ghost use Rattle.causal_context.specs.Context.{has, HasNone};
 ghost use Rattle.causal_join.specs.Causal.{state_of};
 ghost use Rattle.dot_store.specs.Store.{HasNothing, HoldsSame, state_with};
 ghost use Rattle.dot_store.specs.Stores.{at_stores};
 ghost use Rattle.dots.specs.Bytes.{bytes_cmp};
+ghost use Rattle.dots.specs.Dot.{DotValue};
 ghost use Rattle.op_model.specs.State.{join, Same, IsInside};
 ghost use Rattle.live_map.specs.Closing.{stores_of};
 ghost use Rattle.live_map.specs.Index.{AreAllTouched, IsIndexed};
@@ -121,7 +122,7 @@ impl<S: DotStore<A>, M: Summary<S>, H: PathHash, A: Allocator + Copy> Live<S, M,
 
     /// What the pair will be once the delta is joined in. The pair stays as it is, also where the call is refused: only the
     /// index may name more. Takes time and memory in the keys and dots of the delta and in the dots that stand here and are
-    /// known there, each times the logarithm of the map, and in the names of both contexts.
+    /// known there, each times the logarithm of the map, and in both contexts: their names, and their dots above a gap.
     /// Its only refusal is OutOfMemory.
     pub fn prepare(
         &mut self,
@@ -136,10 +137,10 @@ impl<S: DotStore<A>, M: Summary<S>, H: PathHash, A: Allocator + Copy> Live<S, M,
         ensures err { IsOkUnless result Refusal.OutOfMemory }
     {
         let touched = touched_by(alloc, &self.index, delta)?;
-        let store = joined(alloc, &self.store, &self.context, delta, touched.keys())?;
-        let mut context = self.context.copy(alloc)?;
-        context.union(delta.context())?;
         name_all(alloc, &mut self.index, delta.store().entries())?;
+        let context = known_by_both(alloc, &self.context, delta.context())?;
+        // The store comes last: where a call is refused, less is there to be dropped, which is proved sooner.
+        let store = joined(alloc, &self.store, &self.context, delta, touched.keys())?;
         Ok(Prepared {
             store,
             context,
@@ -177,6 +178,8 @@ impl<S: DotStore<A>, M: Summary<S>, H: PathHash, A: Allocator + Copy> Live<S, M,
         // The base is spoken of in the contract alone.
         let _ = base;
         let changed = touched_since(alloc, &self.index, seen, touched, context)?;
+        name_built(alloc, &mut self.index, built, changed.keys())?;
+        let next = known_by_both(alloc, &self.context, context)?;
         let store = closed(
             alloc,
             &self.store,
@@ -185,9 +188,6 @@ impl<S: DotStore<A>, M: Summary<S>, H: PathHash, A: Allocator + Copy> Live<S, M,
             context,
             changed.keys(),
         )?;
-        let mut next = self.context.copy(alloc)?;
-        next.union(context)?;
-        name_built(alloc, &mut self.index, built, changed.keys())?;
         Ok(Prepared {
             store,
             context: next,
@@ -223,6 +223,20 @@ impl<S: DotStore<A>, M: Summary<S>, H: PathHash, A: Allocator + Copy> Live<S, M,
         self.commit(next);
         Ok(())
     }
+}
+
+// The dots that either context knows.
+fn known_by_both<A: Allocator + Copy>(
+    alloc: A,
+    own: &Context<A>,
+    other: &Context<A>,
+) -> Result<Context<A>, Refusal>
+    ensures ok { IfOk result (λ both. (d : DotValue) → has both d ≡ (has own.now d || has other.now d)) }
+    ensures err { IsOkUnless result Refusal.OutOfMemory }
+{
+    let mut both = own.copy(alloc)?;
+    both.union(other)?;
+    Ok(both)
 }
 
 // The store with what the delta holds joined in at these keys.

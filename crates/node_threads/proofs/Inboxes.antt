@@ -1,7 +1,7 @@
 -- A client that only takes messages in.
-use Rattle.std.proofs.Common.{◌≡◌, ℕ, zero, suc, ◌≤◌, List, [], ◌∷◌, ◌++◌, length, take, refl, sym, ap, ◌∙◌, arith, length-append}
+use Rattle.std.proofs.Common.{◌≡◌, ℕ, zero, suc, ◌≤◌, List, [], ◌∷◌, ◌++◌, length, take, refl, sym, ap, subst, ◌∙◌, arith, length-append}
 use Rattle.std.proofs.lemmas.List.{append-nil, append_assoc, take_all}
-use Rattle.std.proofs.lemmas.List.Elements.{All-nil, All-push, All-append}
+use Rattle.std.proofs.lemmas.List.Elements.{All-nil, All-push, All-append, All-weaker}
 use Rattle.root_cell.proofs.Prefixes.{prefix_trans}
 use Rattle.shared_object.proofs.Calls.{calls_more}
 use Rattle.shared_object.specs.Calling.{HasNotCalled, IsAccepted}
@@ -18,18 +18,18 @@ module _ {A : Type 0} where
   abbrev place : NodeEvent A → ℕ
   place e = e.place
 
-  pub took_nothing : (s : Seat (NodeEvent A)) → TookIn s s
-  took_nothing s = record {
+  pub took_nothing : (Comes : List ℕ → Type 0) (s : Seat (NodeEvent A)) → TookIn Comes s s
+  took_nothing Comes s = record {
     seat = refl;
     seen = ([], append-nil s.front);
-    calls = ([], sym (append-nil (made place s)), All-nil IsDelivery, omega arith);
+    calls = ([], sym (append-nil (made place s)), All-nil (IsDelivery Comes), omega arith);
   }
 
-  pub took_as_nothing : (old new : Seat (NodeEvent A)) → HasNotCalled place old new → TookIn old new
-  took_as_nothing old new h = record {
+  pub took_as_nothing : (Comes : List ℕ → Type 0) (old new : Seat (NodeEvent A)) → HasNotCalled place old new → TookIn Comes old new
+  took_as_nothing Comes old new h = record {
     seat = h.seat;
     seen = h.seen;
-    calls = ([], h.made ∙ sym (append-nil (made place old)), All-nil IsDelivery, omega (arith, h.operations));
+    calls = ([], h.made ∙ sym (append-nil (made place old)), All-nil (IsDelivery Comes), omega (arith, h.operations));
   }
 
   -- the calls of an accepted call: those before and this one
@@ -40,21 +40,34 @@ module _ {A : Type 0} where
       let few : length (made place old) ≤ old.operations = short old.operations (calls_by place old.place old.front) in
       ap (take new.operations) same ∙ take_all new.operations (made place old ++ e ∷ []) (omega (arith, length-append (made place old) (e ∷ []), few, h.operations))
 
-  pub took_one : (old new : Seat (NodeEvent A)) (history : List (NodeEvent A)) (e : NodeEvent A) → IsAccepted place old new history e → e.place ≡ old.place → IsDelivery e → TookIn old new
-  took_one old new history e h at_place delivery = record {
+  pub took_one : (Comes : List ℕ → Type 0) (old new : Seat (NodeEvent A)) (history : List (NodeEvent A)) (e : NodeEvent A) → IsAccepted place old new history e → e.place ≡ old.place → IsDelivery Comes e → TookIn Comes old new
+  took_one Comes old new history e h at_place delivery = record {
     seat = h.seat;
     seen = prefix_trans old.front history new.front h.seen (e ∷ [], sym h.front);
-    calls = (e ∷ [], made_more old new history e h at_place, All-push IsDelivery [] e (All-nil IsDelivery) delivery, omega (arith, h.operations));
+    calls = (e ∷ [], made_more old new history e h at_place, All-push (IsDelivery Comes) [] e (All-nil (IsDelivery Comes)) delivery, omega (arith, h.operations));
   }
 
-  pub took_then : (old mid new : Seat (NodeEvent A)) → TookIn old mid → TookIn mid new → TookIn old new
-  took_then old mid new f g = record {
+  pub took_then : (Comes : List ℕ → Type 0) (old mid new : Seat (NodeEvent A)) → TookIn Comes old mid → TookIn Comes mid new → TookIn Comes old new
+  took_then Comes old mid new f g = record {
     seat = g.seat ∙ f.seat;
     seen = prefix_trans old.front mid.front new.front f.seen g.seen;
     calls = (
       f.calls.0 ++ g.calls.0,
       g.calls.1 ∙ (ap (λ (xs : List (NodeEvent A)). xs ++ g.calls.0) f.calls.1 ∙ append_assoc (made place old) f.calls.0 g.calls.0),
-      All-append IsDelivery f.calls.0 g.calls.0 f.calls.2 g.calls.2,
+      All-append (IsDelivery Comes) f.calls.0 g.calls.0 f.calls.2 g.calls.2,
       omega (arith, g.calls.3, f.calls.3, length-append f.calls.0 g.calls.0),
+    );
+  }
+
+  -- what came in as these bytes came in by a post by which they came
+  pub took_by : (Comes : List ℕ → Type 0) (bytes : List ℕ) (old new : Seat (NodeEvent A)) → Comes bytes → TookIn (λ b. b ≡ bytes) old new → TookIn Comes old new
+  took_by Comes bytes old new came f = record {
+    seat = f.seat;
+    seen = f.seen;
+    calls = (
+      f.calls.0,
+      f.calls.1,
+      All-weaker (IsDelivery (λ b. b ≡ bytes)) (IsDelivery Comes) (λ e d. (d.0, d.1, (d.2.0, subst Comes (sym d.2.1) came, d.2.2))) f.calls.0 f.calls.2,
+      f.calls.3,
     );
   }

@@ -14,6 +14,9 @@ pub struct Channels<'a> {
 }
 
 impl<'a> Post for Channels<'a> {
+    // Whatever the senders sent.
+    ghost comes = { λ channels bytes. Unit {0} };
+
     fn receive<T: Wait>(&self, rt: &T) -> Option<Vec<u8>> {
         match self.inbox.recv(rt) {
             Ok(Letter::Mail(bytes)) => Some(bytes),

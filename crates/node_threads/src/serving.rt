@@ -25,7 +25,7 @@ pub struct Served {
 }
 
 /// Takes in each message that comes by the post, and sends each reply to the replica that it is for, before it turns to what comes next.
-/// It ends where the post says so. What is no message, or is refused, changes nothing and is counted.
+/// It ends where the post says so. What is no message, or is refused, changes nothing and is counted: nothing is taken in but what came.
 ///
 /// It waits: for its turn at the node, and for the post.
 pub fn serve<K: Naming, G: Gate + Drop, W: Wait + Drop, P: Post, T: Wait>(
@@ -34,7 +34,7 @@ pub fn serve<K: Naming, G: Gate + Drop, W: Wait + Drop, P: Post, T: Wait>(
     client: &mut Client<K, Lock<K, G, W>>,
     post: &P,
 ) -> Served
-    ensures took_in { TookIn client.old client.new }
+    ensures took_in { TookIn (P.comes post.now) client.old client.new }
     ensures delivered { client.new.operations ≡ client.old.operations + result.delivered }
 {
     let begun = client.operations();
@@ -62,7 +62,7 @@ fn take_in<K: Naming, G: Gate + Drop, W: Wait + Drop, T: Wait>(
     client: &mut Client<K, Lock<K, G, W>>,
     bytes: &[u8],
 ) -> Result<Delivered, Refusal>
-    ensures took_in { TookIn client.old client.new }
+    ensures took_in { TookIn (λ spelled. spelled ≡ bytes.now) client.old client.new }
 {
     let message = decode(alloc, bytes)?;
     let delivering = Delivering {

@@ -63,7 +63,8 @@ impl<H: PathHash, A: Allocator + Copy> Fetching<H, A> {
     /// What a page comes to, where the opening knows these dots: it is taken where its prefix is waited for, its digest is the one
     /// promised, it fits, and its values are just those of the dots that were not seen. Then the children are asked for whose digests are not
     /// those of the own map. What is here stays as it is. Takes time and memory in the page and in the keys that it takes away, each
-    /// times the logarithm of the map and of what is waited for, and that of comparing the contexts.
+    /// times the logarithm of the map and of what is waited for, and that of comparing the contexts; where the opening does not know all
+    /// that was seen, also in the own entries that the page is of.
     /// Its only refusal is OutOfMemory.
     pub fn take(
         &self,

@@ -12,7 +12,7 @@ use Rattle.sync_model.specs.Closing.{IsBelow}
 use Rattle.sync_model.specs.Differ.{Held}
 use Rattle.sync_model.specs.Opened.{held_in}
 use Rattle.wire_form.specs.Message.{MessageValue}
-use Rattle.sync_protocol.specs.Asking.{AskerValue, StageValue, Asked, Fetching, Complete, Over, IsFrom, is_over, stage_with, asker_state}
+use Rattle.sync_protocol.specs.Asking.{AskerValue, StageValue, Asked, Fetching, Complete, Over, IsCompleteWithNothing, IsFrom, is_over, stage_with, asker_state}
 use Rattle.sync_protocol.specs.Turning as turning
 use Rattle.replica_model.specs.Mail.{mail_of}
 use Rattle.replica_model.specs.Replica.{Replica, advances, closes, joins}
@@ -70,12 +70,12 @@ module _ {Hash : Type 0} (hash_of : Hash → List ℕ → ℕ) (name : ℕ) (has
   pub base_below : IsFrom a next → IsBelow (closing.held_state next.own (has next.seen)) live
   base_below goes_from = either goes_from.base
     where
-      either : (((next.own ≡ a.own) × (next.seen ≡ a.seen)) ⊎ ((next.own ≡ finite.empty) × HasNone next.seen)) → IsBelow (closing.held_state next.own (has next.seen)) live
+      either : (((next.own ≡ a.own) × (next.seen ≡ a.seen)) ⊎ (((next.own ≡ finite.empty) × HasNone next.seen) × IsCompleteWithNothing next.stage)) → IsBelow (closing.held_state next.own (has next.seen)) live
       either (inl same) =
           let B : Held → ContextValue → Type 0 = λ m c. IsBelow (closing.held_state m (has c)) live in
           subst (λ m. B m next.seen) (sym same.0) (subst (B a.own) (sym same.1) own.below)
       either (inr nothing) =
-          subst (λ m. IsBelow (closing.held_state m (has next.seen)) live) (sym nothing.0) (nothing_below next.seen nothing.1)
+          subst (λ m. IsBelow (closing.held_state m (has next.seen)) live) (sym nothing.0.0) (nothing_below next.seen nothing.0.1)
 
 -- a whole session is closed with what it built
 pub closed_by : {Hash : Type 0} (r : Replica) (asker : AskerValue Hash) (c : ContextValue) (b : _) → asker.stage ≡ Complete c b

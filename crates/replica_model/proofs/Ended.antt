@@ -31,14 +31,16 @@ pub one_state : (m : Held) (c : DotValue → Bool) (p : MapState) → IsMapOf m 
 one_state m c p is e = ap (held_state m) e ∙ map_state m p is
 
 module _ (hash_of : List ℕ → ℕ) (events : List Event) (w v : World) (number name : ℕ) (runs : Runs hash_of nothing events w) (answer : Answer) (d : Delivered hash_of w number name answer v) where
-  ending_is : Ending hash_of (IsTakenOf hash_of events) (AskedIn hash_of events w) (SendsAny hash_of) w name d.message.mail d.message.of (turn d.new d.outcome d.out) → IsEnd hash_of events w v name
+  ending_is : Ending hash_of (IsTakenOf hash_of events) (AskedIn hash_of events w) (SendsAny hash_of) w name d.message.mail d.message.of (turn d.new d.outcome d.out) → IsEnd hash_of events w v number name
   ending_is e =
       let tie = (told hash_of events w runs).sessions name e.session e.there in
       record {
-        session = e.session.session;
+        ended = e.session;
+        was_open = e.there;
+        message = d.message;
+        there = d.there;
+        turn = e.of_it;
         asker = tie.asker;
-        own = e.session.own;
-        known = e.session.seen;
         asked = tie.asked.0;
         of = e.snapshot;
         context = e.context;
@@ -64,7 +66,7 @@ ends_are hash_of events w v number name runs answer happens is_done =
     (comes hash_of (IsTakenOf hash_of events) (AskedIn hash_of events w) (SendsAny hash_of) w name t d.own d.message.mail d.message.of (t.messages number d.message d.there)))
   where
     step : (d : Delivered hash_of w number name answer v) → d.outcome ≡ Done
-        → Comes hash_of (IsTakenOf hash_of events) (AskedIn hash_of events w) (SendsAny hash_of) w name d.message.mail d.message.of (turn d.new d.outcome d.out) → IsEnd hash_of events w v name
+        → Comes hash_of (IsTakenOf hash_of events) (AskedIn hash_of events w) (SendsAny hash_of) w name d.message.mail d.message.of (turn d.new d.outcome d.out) → IsEnd hash_of events w v number name
     step d done (inl learns) = let apart = sym learns.joined ∙ done in absurd cc
     step d done (inr (inl e)) = ending_is hash_of events w v number name runs answer d e
     step d done (inr (inr stays)) = absurd (stays.not_done done)

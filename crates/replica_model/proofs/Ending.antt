@@ -18,7 +18,7 @@ use Rattle.sync_model.specs.Differ.{Held}
 use Rattle.sync_model.specs.Fetch.{Fetch, take_opening, take_page}
 use Rattle.sync_model.specs.Fetch as fetch
 use Rattle.sync_model.specs.Laws.{Taking, Fetched}
-use Rattle.replica_model.specs.Mail.{Mail, Delta, Hello, Opening, Ask, Page, Gone}
+use Rattle.replica_model.specs.Mail.{Mail, Delta, Hello, Opening, Ask, Page, Gone, IsTurnOf}
 use Rattle.replica_model.specs.Replica.{Replica, Open, Accepted, open_at, closes, joins}
 use Rattle.replica_model.specs.Delivery.{Joined, Done, Mismatch, Turn, turn, is_complete, ignored, delivered}
 use Rattle.replica_model.specs.World.{World, Snapshot, learns, own_of, ends, taking_of, takes}
@@ -47,6 +47,7 @@ module _ (hash_of : List ℕ → ℕ) (Snap : SessionValue → List Operation �
   pub record Ending (mail : Mail) (of : Snapshot) (t : Turn) : Type 0 where
     pub session : Open
     pub there : Contains (w.replica name).sessions session
+    pub of_it : IsTurnOf session.session mail
     pub context : DotValue → Bool
     pub fetched : Fetch
     pub complete : (p : List ℕ) → finite.get fetched.waiting p ≡ None
@@ -94,6 +95,7 @@ module _ (hash_of : List ℕ → ℕ) (Snap : SessionValue → List Operation �
         inr (inl (record {
           session = o;
           there = found.0;
+          of_it = found.1;
           context = c;
           fetched = f;
           complete = none_waits f complete;
@@ -115,6 +117,7 @@ module _ (hash_of : List ℕ → ℕ) (Snap : SessionValue → List Operation �
         inr (inl (record {
           session = o;
           there = found.0;
+          of_it = found.1;
           context = a.context;
           fetched = f;
           complete = none_waits f complete;

@@ -91,7 +91,7 @@ Openings = (hash_of : List ℕ → ℕ) (events : List Event) (w : World) → Ru
 -- a synchronisation that ends adds just what its peer had seen when it opened
 abbrev pub Ends : Type 0
 Ends = (hash_of : List ℕ → ℕ) (events : List Event) (w v : World) (number name : ℕ) → Runs hash_of nothing events w
-    → (answer : Answer) → Happens hash_of w (Deliver number name) answer v → answer ≡ Came Done → IsEnd hash_of events w v name
+    → (answer : Answer) → Happens hash_of w (Deliver number name) answer v → answer ≡ Came Done → IsEnd hash_of events w v number name
 
 -- ---- what replicas hold
 

@@ -1,6 +1,6 @@
 -- What replicas send to one another, by what it means: no bytes, and contexts as tests on dots. Of this project; a delta is that of
 -- Almeida, Shoker and Baquero, "Delta State Replicated Data Types" (2018).
-use Rattle.std.specs.Prelude.{ℕ, Bool, true, ◌==◌, List, Option}
+use Rattle.std.specs.Prelude.{◌≡◌, ℕ, Bool, true, ◌==◌, List, Option}
 use Rattle.dots.specs.Dot.{DotValue}
 use Rattle.causal_context.specs.Context.{has}
 use Rattle.causal_join.specs.OrMap.{or_map_state}
@@ -36,3 +36,12 @@ is_for name (Opening s context root) = s.asker == name
 is_for name (Ask s prefix) = s.answerer == name
 is_for name (Page s sent) = s.asker == name
 is_for name (Gone s) = s.asker == name
+
+-- it is an opening or a page of this session, as those are by which a session can end with all that was asked for
+abbrev pub IsTurnOf : SessionValue → Mail → Type 0
+IsTurnOf session (Delta d) = ⊥
+IsTurnOf session (Hello s seen) = ⊥
+IsTurnOf session (Opening s context root) = session ≡ s
+IsTurnOf session (Ask s prefix) = ⊥
+IsTurnOf session (Page s sent) = session ≡ s
+IsTurnOf session (Gone s) = ⊥

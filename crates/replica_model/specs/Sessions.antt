@@ -1,5 +1,6 @@
 -- What the sessions of a world stand for, by fronts of its events: a front is the world before one of them. Of this project.
 use Rattle.std.specs.Prelude.{◌≡◌, ℕ, ◌+◌, Bool, List, [], ◌∷◌, ◌++◌, Option, Some}
+use Rattle.std.specs.List.{Contains}
 use Rattle.dots.specs.Dot.{DotValue}
 use Rattle.op_model.specs.Meaning.{greater}
 use Rattle.op_model.specs.Operation.{Operation}
@@ -10,7 +11,7 @@ use Rattle.prefix_digest.specs.Page.{digest_at}
 use Rattle.sync_model.specs.Closing.{held_state, IsBelow}
 use Rattle.sync_model.specs.Differ.{Held}
 use Rattle.sync_model.specs.Laws.{Taking, Fetched, NoClash}
-use Rattle.replica_model.specs.Mail.{Hello}
+use Rattle.replica_model.specs.Mail.{Hello, IsTurnOf}
 use Rattle.replica_model.specs.Replica.{Open, Accepted}
 use Rattle.replica_model.specs.Step.{Ask}
 use Rattle.replica_model.specs.World.{World, Event, At, Deliver, Message, Snapshot, message_at, nothing, Runs}
@@ -58,18 +59,21 @@ module _ (hash_of : List ℕ → ℕ) where
     pub below : IsBelow (held_state o.own o.seen) (w.replica name).live
     pub fetching : IsFetching events w o o.accepted
 
-  -- How a session ends with Done: it adds to its asker just what its answerer had seen when the snapshot was taken; and unless two pages or values
-  -- that it met have one SHA-256, whatever other sessions met, it joins into the asker's live state what that of the answerer was then.
-  pub record IsEnd (events : List Event) (w v : World) (name : ℕ) : Type 0 where
-    pub session : SessionValue
-    pub asker : session.asker ≡ name
-    pub own : Held
-    pub known : DotValue → Bool
-    pub asked : IsAskOf events session own known
+  -- How a delivery ends a session with Done: the message is an opening or a page of a session that is open at its asker; it adds to its asker just what
+  -- the answerer had seen when the snapshot was taken; and unless two pages or values that the session met have one SHA-256, whatever other sessions
+  -- met, it joins into the asker's live state what that of the answerer was then.
+  pub record IsEnd (events : List Event) (w v : World) (number name : ℕ) : Type 0 where
+    pub ended : Open
+    pub was_open : Contains (w.replica name).sessions ended
+    pub message : Message
+    pub there : message_at w.messages number ≡ Some message
+    pub turn : IsTurnOf ended.session message.mail
+    pub asker : ended.session.asker ≡ name
+    pub asked : IsAskOf events ended.session ended.own ended.seen
     pub of : Snapshot
     pub context : DotValue → Bool
-    pub snapshot : IsTakenOf events session of.seen of.map context
+    pub snapshot : IsTakenOf events ended.session of.seen of.map context
     pub adds : v.seen name ≡ w.seen name ++ of.seen
     pub takings : List Taking
-    pub met : v.closed ≡ w.closed ++ record { own = own; theirs = of.map; takings = takings } ∷ []
-    pub joins : NoClash hash_of own of.map takings → (v.replica name).live ≡ join greater (w.replica name).live (snapshot.before.replica session.answerer).live
+    pub met : v.closed ≡ w.closed ++ record { own = ended.own; theirs = of.map; takings = takings } ∷ []
+    pub joins : NoClash hash_of ended.own of.map takings → (v.replica name).live ≡ join greater (w.replica name).live (snapshot.before.replica ended.session.answerer).live

@@ -12,4 +12,4 @@ pub record IsTold (hash_of : List ℕ → ℕ) (past : List Event) (w : World) (
   pub begins : first ≡ length w.messages + 1
   pub stops : end ≡ length after.messages + 1
   -- a synchronisation that ended added just what its peer had seen when it opened
-  pub ends : (number name : ℕ) → e ≡ Deliver number name → answer ≡ Came Done → IsEnd hash_of past w after name
+  pub ends : (number name : ℕ) → e ≡ Deliver number name → answer ≡ Came Done → IsEnd hash_of past w after number name

@@ -1,5 +1,5 @@
 -- Sessions between replicas that have seen sets of operations.
-use Rattle.std.proofs.Common.{◌≡◌, ℕ, List, ◌∷◌, ◌++◌, Bool, true, false, cond, Some, None, refl, sym, ◌∙◌, ap, subst}
+use Rattle.std.proofs.Common.{◌≡◌, ℕ, List, ◌++◌, Bool, true, false, cond, Some, None, refl, sym, ◌∙◌, ap, subst}
 use Rattle.std.specs.Prelude.{◌||◌, IsSome}
 use Rattle.std.specs.List.{Contains, filter}
 use Rattle.std.specs.Ordering.{eq_by_cmp}

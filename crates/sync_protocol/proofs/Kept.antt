@@ -1,6 +1,6 @@
 -- The list of the snapshots that are kept: who is found in it, and how long it is.
 use Rattle.std.proofs.Common.{◌≡◌, ℕ, ◌+◌, ◌<◌, ◌≤◌, nat_lt, List, [], ◌∷◌, ◌++◌, length, Bool, true, false, cond, Some, None, arith, refl, sym, ◌∙◌, ap, subst, length-append}
-use Rattle.std.specs.Prelude.{Option, ◌==◌, ◌&&◌}
+use Rattle.std.specs.Prelude.{Option, ◌&&◌}
 use Rattle.std.specs.List.{All}
 use Rattle.std.specs.Map.{lookup}
 use Rattle.std.proofs.lemmas.Bool.{ltb-true, eq-eqb}

@@ -1,5 +1,5 @@
 -- Fields that hold something, and are filled when they are named.
-use Rattle.std.proofs.Common.{◌≡◌, ◌≤◌, [], ◌∷◌, length, arith, refl}
+use Rattle.std.proofs.Common.{◌≤◌, [], ◌∷◌, length, arith, refl}
 use Rattle.std.specs.List.{AllByRecursion}
 use Rattle.std.specs.Map.{values_of}
 use Rattle.std.proofs.lemmas.List.Elements.{All-head, All-tail}

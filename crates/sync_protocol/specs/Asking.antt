@@ -98,11 +98,18 @@ module _ {Hash : Type 0} where
   abbrev pub IsAsker : AskerValue Hash → Type 0
   IsAsker a = KnowsEachDot (has a.seen) a.own × GoesOnFrom a a.stage
 
--- An asker after a message: it goes on from the own map of the first with the dots seen with it, or from the empty map with none seen, as where
--- its peer had no key.
+-- all is there, and it is the empty map
+abbrev pub IsCompleteWithNothing : {Hash : Type 0} → StageValue Hash → Type 0
+IsCompleteWithNothing Asked = ⊥
+IsCompleteWithNothing Over = ⊥
+IsCompleteWithNothing (Fetching c f) = ⊥
+IsCompleteWithNothing (Complete c b) = b.entries ≡ finite.empty
+
+-- An asker after a message: it goes on from the own map of the first with the dots seen with it; or, where its peer had no key, it has all with
+-- the empty map, and went on from the empty map with none seen.
 pub record IsFrom {Hash : Type 0} (old new : AskerValue Hash) : Type 0 where
   pub hash : new.hash ≡ old.hash
-  pub base : ((new.own ≡ old.own) × (new.seen ≡ old.seen)) ⊎ ((new.own ≡ finite.empty) × HasNone new.seen)
+  pub base : ((new.own ≡ old.own) × (new.seen ≡ old.seen)) ⊎ (((new.own ≡ finite.empty) × HasNone new.seen) × IsCompleteWithNothing new.stage)
 
 -- A session in the words of its step: the own map and the dots seen with it count until all is there, and then what was built, with the
 -- dots that the opening knows.

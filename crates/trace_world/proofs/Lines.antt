@@ -1,5 +1,5 @@
 -- What a line is answered, by what its command came to: over plain variables.
-use Rattle.std.proofs.Common.{◌≡◌, ◌≢◌, ◌⊎◌, inl, inr, ℕ, suc, true, false, ◌==◌, List, [], ◌∷◌, length, refl, ap, subst, ◌∙◌, arith, Option, Some, Result, Ok, Err}
+use Rattle.std.proofs.Common.{◌≡◌, ◌≢◌, inl, inr, ℕ, suc, true, false, ◌==◌, List, [], ◌∷◌, length, refl, ap, subst, ◌∙◌, arith, Option, Some, Result, Ok, Err}
 use Rattle.std.proofs.lemmas.Bool.Decides.{nat_tests}
 use Rattle.std.specs.declared.vec.Vec.{Vec}
 use Rattle.dots.specs.declared.refusal.Refusal.{Refusal}

@@ -84,21 +84,28 @@ module _ {S P H : Type 0} (at : S → P → DotValue → Option H) where
     joins_kept m key same = record {
       apart = λ q e. refl;
       here = λ h. ⊎_elim (λ (as_mine : HoldsSame (held_by at (finite.get m key)) (at mine)) place d. as_mine place d ∙ sym (same place d) ∙ joins place d) (λ already. already) h;
+      written = λ differs. absurd (differs (λ place d. sym (same place d) ∙ joins place d));
     }
 
     -- a store that the join leaves empty goes
     pub joins_cut : (old new : finite.FinMap bytes_cmp S) (key : List ℕ) → new ≡ finite.remove old key → HasNothing (at both) → JoinsAt at greater old new key mine own yours theirs
-    joins_cut old new key is none = record {
-      apart = λ q e. ap (λ m. finite.get m q) is ∙ get_cut_apart old key q e;
-      here = λ _ place d. ap (λ o. held_by at o place d) (ap (λ m. finite.get m key) is ∙ get_cut old key) ∙ sym (none place d) ∙ joins place d;
-    }
+    joins_cut old new key is none =
+        let gone : HoldsSame (held_by at (finite.get new key)) wanted = λ place d. ap (λ o. held_by at o place d) (ap (λ m. finite.get m key) is ∙ get_cut old key) ∙ sym (none place d) ∙ joins place d in
+        record {
+          apart = λ q e. ap (λ m. finite.get m q) is ∙ get_cut_apart old key q e;
+          here = λ _. gone;
+          written = λ _. gone;
+        }
 
     -- another one is put there
     pub joins_put : (old new : finite.FinMap bytes_cmp S) (key : List ℕ) → new ≡ finite.insert old key both → JoinsAt at greater old new key mine own yours theirs
-    joins_put old new key is = record {
-      apart = λ q e. ap (λ m. finite.get m q) is ∙ get_apart old key both q e;
-      here = λ _ place d. ap (λ o. held_by at o place d) (ap (λ m. finite.get m key) is ∙ get_put old key both) ∙ joins place d;
-    }
+    joins_put old new key is =
+        let there : HoldsSame (held_by at (finite.get new key)) wanted = λ place d. ap (λ o. held_by at o place d) (ap (λ m. finite.get m key) is ∙ get_put old key both) ∙ joins place d in
+        record {
+          apart = λ q e. ap (λ m. finite.get m q) is ∙ get_apart old key both q e;
+          here = λ _. there;
+          written = λ _. there;
+        }
 
   -- ---- a store that is there, and an empty one where there is none
   pub holds_found : {Hash : Type 0} (map : TrieMapValue Hash S) (key : List ℕ) (store : S) → finite.get map.1 key ≡ Some store → (place : P) (d : DotValue) → at_keys at map (key, place) d ≡ at store place d

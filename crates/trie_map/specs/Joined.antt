@@ -13,11 +13,13 @@ module _ {S P H : Type 0} (at : S → P → DotValue → Option H) (greater : H 
   abbrev pub both_at : (mine : S) (own : DotValue → Bool) (yours : S) (theirs : DotValue → Bool) → P → DotValue → Option H
   both_at mine own yours theirs place dot = joined greater (at mine place dot) (own dot) (at yours place dot) (theirs dot)
 
-  -- The map changes at one key at most. If the key held what one side holds there, or their join already, it holds the join.
+  -- The map changes at one key at most. If the key held what the first side holds there, or their join already, it holds the join;
+  -- and so it does, whatever the key held, if the join is not what the first side holds.
   pub record JoinsAt (old new : finite.FinMap bytes_cmp S) (key : List ℕ) (mine : S) (own : DotValue → Bool) (yours : S) (theirs : DotValue → Bool) : Type 0 where
     pub apart : (q : List ℕ) → eq_by_cmp bytes_cmp q key ≡ false → finite.get new q ≡ finite.get old q
     pub here : HoldsSame (held_by at (finite.get old key)) (at mine) ⊎ HoldsSame (held_by at (finite.get old key)) (both_at mine own yours theirs)
         → HoldsSame (held_by at (finite.get new key)) (both_at mine own yours theirs)
+    pub written : ¬ HoldsSame (at mine) (both_at mine own yours theirs) → HoldsSame (held_by at (finite.get new key)) (both_at mine own yours theirs)
 
   -- at a key of a draft stands the join of what two maps hold there
   abbrev pub IsJoinedAt : (mine : List ℕ × P → DotValue → Option H) (own : DotValue → Bool) (yours : List ℕ × P → DotValue → Option H) (theirs : DotValue → Bool) (draft : finite.FinMap bytes_cmp S) → List ℕ → Type 0

@@ -44,8 +44,8 @@ impl<S: DotStore<A>, M: Summary<S>, H: PathHash, A: Allocator + Copy> Draft<S, M
         Draft { entries }
     }
 
-    /// Puts at the key what the join of these two stores under their contexts holds, and takes the key out where that is
-    /// nothing. Writes nothing where the first store holds just that. A refused call leaves the draft as it was.
+    /// Puts at the key what the join of these two stores under their contexts holds, whatever stood there, and takes the key out
+    /// where that is nothing. Writes nothing where the first store holds just that. A refused call leaves the draft as it was.
     /// Its only refusal is OutOfMemory.
     pub fn join_at(
         &mut self,

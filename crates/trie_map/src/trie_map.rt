@@ -203,7 +203,11 @@ impl<S: DotStore<A>, M: Summary<S>, H: PathHash, A: Allocator + Copy> DotStore<A
         draft.finish()
     }
 
-    fn copy(&self, _alloc: A) -> Result<TrieMap<S, M, H, A>, Refusal> {
+    fn copy(&self, _alloc: A) -> Result<TrieMap<S, M, H, A>, Refusal>
+        ensures ok { IfOk result (λ copy. HoldsSame (at_keys S.at copy) (at_keys S.at self.now)) }
+        ensures whole { IfOk result (λ copy. copy ≡ self.now) }
+        ensures err { IsOkUnless result Refusal.OutOfMemory }
+    {
         self.share()
     }
 

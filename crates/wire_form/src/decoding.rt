@@ -10,7 +10,8 @@ use causal_join::{Causal, OrMap};
 use dots::Refusal;
 use std::alloc::Allocator;
 
-/// The message that the bytes spell. NotAMessage where they spell none, else OutOfMemory or the message.
+/// The message that the bytes spell. NotAMessage only where they spell none, else OutOfMemory or the message; bytes that spell none
+/// are refused with OutOfMemory where that comes before their fault is found.
 ///
 /// Takes time in the bytes, times a logarithm, and memory in the bytes: each count is compared with the bytes that are
 /// left before anything grows.

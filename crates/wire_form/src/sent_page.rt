@@ -30,8 +30,8 @@ impl<A: Allocator + Copy> Model for SentPage<A> {
 }
 
 impl<A: Allocator + Copy> SentPage<A> {
-    /// The page for this prefix with these values, in the order in which the page names them. None exactly where the page
-    /// cannot stand at the depth of the prefix, or is a branch and there is a value. At any depth can stand one key, with a
+    /// The page for this prefix with these values, which are to be those that the page names, in its order: who takes the page looks
+    /// at that. None exactly where the page cannot stand at the depth of the prefix, or is a branch and there is a value. At any depth can stand one key, with a
     /// field at least and a dot at each field; at depth 7, two keys or more, by ascending bytes, each as the one; at a lower
     /// depth, a branch of one child or more, by ascending index, each from 0 to 31, at depth 6 from 0 to 3. Takes no memory.
     pub fn new(prefix: Prefix, values: Vec<Value<A>, A>, page: Page<A>) -> Option<SentPage<A>>
@@ -59,7 +59,7 @@ impl<A: Allocator + Copy> SentPage<A> {
         self.prefix
     }
 
-    /// The values, in the order in which the page names them.
+    /// The values, as they were given.
     pub fn values(&self) -> &[Value<A>]
         ensures { result.now ≡ self.now.values }
     {

@@ -3,7 +3,7 @@ ghost use Rattle.std.specs.Prelude.{◌≡◌};
 
 use crate::made::{Held, Shared, finished_alone, finished_in_two, hand_out, has, name, put};
 use crossbeam_channel::{Sender, unbounded};
-use dots::Refusal;
+use dots::{Field, Key, Refusal, Value};
 use hash_path::Fnv1a;
 use node_threads::{Asking, Channels, Letter, Naming, NodeEvent, Post, Served, new_node, serve};
 use replica_core::Replica;
@@ -15,7 +15,7 @@ use std::sync::Wait;
 use std::test::Fail;
 use std::thread::Threads;
 use std::{marker, thread};
-use wire_form::encode;
+use wire_form::{Message, Session, encode};
 
 // For so many turns a client reads until it sees what it waits for.
 const TURNS: u64 = 10_000_000;
@@ -51,7 +51,11 @@ fn two_nodes_that_are_served_synchronise(rt: HostRuntime) -> Result<(), Fail> {
     let alloc = rt.alloc();
     let (to_node, inbox) = unbounded(alloc)?;
     let (to_peer, peer_inbox) = unbounded(alloc)?;
-    let of_node = [(name(&rt, 2), Sender::clone(&to_peer)?)];
+    // Of two outboxes for one replica the first counts: by the second what is for the peer would come back.
+    let of_node = [
+        (name(&rt, 2), Sender::clone(&to_peer)?),
+        (name(&rt, 2), Sender::clone(&to_node)?),
+    ];
     let of_peer = [(name(&rt, 1), Sender::clone(&to_node)?)];
     let post = Channels {
         inbox: &inbox,
@@ -107,7 +111,7 @@ fn exchange<
     let last = finished_in_two(&rt, alloc, node, served, writer);
     let peer_last = finished_in_two(&rt, alloc, peer, peer_served, reader);
     let is_seen = is_seen == Ok(true) && is_served;
-    Ok(is_seen && last == Ok(Some((4, 1))) && peer_last == Ok(Some((3, 1))))
+    Ok(is_seen && last == Ok(Some((6, 1))) && peer_last == Ok(Some((3, 1))))
 }
 
 // Serves both nodes until their posts end, each in a thread of its own. Whether so much was delivered, refused and lost.
@@ -131,7 +135,7 @@ fn serve_both<
         || serve_held(rt, alloc, peer_served, peer_post),
     );
     let all = Served {
-        delivered: 3,
+        delivered: 5,
         refused: 1,
         lost: 1,
     };
@@ -190,8 +194,8 @@ fn serve_held<K: Naming, P: Post, R: Wait + Drop>(
     serve(rt, alloc, &mut held.client, post)
 }
 
-// Hands the one node what is no message, and a hello for whose answer it has no outbox. Writes there, has the other node ask it, waits
-// until that one shows what was written, and ends both.
+// Hands the one node what is no message, a hello for whose answer it has no outbox, a delta, and a gone for a session that it has not.
+// Writes there, has the other node ask it, waits until that one shows what was written and what the delta has, and ends both.
 fn synchronise<K: Naming, L: Naming, O: Outside, R: Wait + Abort + Drop>(
     rt: &R,
     alloc: Global,
@@ -214,12 +218,14 @@ fn write_and_wait<K: Naming, L: Naming, O: Outside, R: Wait + Abort + Drop>(
     put(rt, alloc, writer, b"a", b"", b"x")?;
     outside.hand(rt, Vec::new(alloc));
     outside.hand(rt, hello(rt, alloc)?);
+    outside.hand(rt, delta(rt, alloc)?);
+    outside.hand(rt, gone(rt, alloc)?);
     let peer = name(rt, 1);
     let ((_number, hello), _receipt) = reader.client.call(rt, &Asking { alloc, peer })?;
     outside.hand(rt, encode(alloc, &hello)?);
     for _ in 0..TURNS {
         if has(alloc, reader, b"a", b"", Some(b"x"))? {
-            return Ok(true);
+            return has(alloc, reader, b"a", b"f", Some(b"y"));
         }
         thread::yield_now();
     }
@@ -231,4 +237,22 @@ fn hello(rt: &impl Abort, alloc: Global) -> Result<Vec<u8>, Refusal> {
     let mut asker = Replica::new(alloc, name(rt, 3), Fnv1a);
     let (_number, hello) = asker.ask(name(rt, 1))?;
     encode(alloc, &hello)
+}
+
+// The bytes of what replica 3 puts on a field of the key.
+fn delta(rt: &impl Abort, alloc: Global) -> Result<Vec<u8>, Refusal> {
+    let (key, field) = (Key::new(alloc, b"a")?, Field::new(alloc, b"f")?);
+    let value = Value::new(alloc, b"y")?;
+    let mut writer = Replica::new(alloc, name(rt, 3), Fnv1a);
+    let _dot = writer.put_field(&key, &field, &value)?;
+    match writer.flush()? {
+        None => Err(Refusal::UnknownMessage),
+        Some(message) => encode(alloc, &message),
+    }
+}
+
+// The bytes of a gone for a session of replica 1 that is not open.
+fn gone(rt: &impl Abort, alloc: Global) -> Result<Vec<u8>, Refusal> {
+    let session = Session::new(name(rt, 1), name(rt, 2), 9).ok_or(Refusal::UnknownMessage)?;
+    encode(alloc, &Message::Gone(session))
 }

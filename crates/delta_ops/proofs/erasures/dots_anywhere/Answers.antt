@@ -1,11 +1,11 @@
-use Rattle.std.proofs.Common.{◌≡◌, ap, sym, ◌∙◌, inl, inr, ⊎_elim}
+use Rattle.std.proofs.Common.{ap, ◌∙◌, inl, inr, ⊎_elim}
 use Rattle.std.specs.Prelude.{IsTrue}
 use Rattle.causal_join.specs.OrMap.{FieldsValue, fields_at}
 use Rattle.dot_store.specs.Store.{HoldsDot}
 use Rattle.dots.specs.Dot.{DotValue}
 use Rattle.hash_path.specs.Map.{walk}
 use Rattle.op_model.specs.Operation.{has as is_among}
-use Rattle.trie_map.proofs.Visits.{Visits, Reached, visits_none, visits_next, reached_more, reached_all}
+use Rattle.trie_map.proofs.Visits.{Reached, visits_none, visits_next, reached_more, reached_all}
 use Rattle.delta_ops.proofs.Clearing.{anywhere_of, cleared}
 use Rattle.delta_ops.proofs.erasures.dots_anywhere.Goals as goal
 

@@ -1,4 +1,4 @@
-use Rattle.std.proofs.Common.{◌≡◌, ◌↔◌, ℕ, List, Contains, ap, sym, ◌∙◌, subst, ⊎_elim}
+use Rattle.std.proofs.Common.{◌≡◌, ◌↔◌, Contains, ap, sym, ◌∙◌, subst, ⊎_elim}
 use Rattle.std.specs.BTreeSet.{insert_key}
 use Rattle.dots.specs.Bytes.{bytes_cmp}
 use Rattle.causal_join.specs.OrMap.{fields_at}
@@ -8,7 +8,7 @@ use Rattle.op_model.proofs.Members.{nothing_in}
 use Rattle.op_model.specs.Meaning.{HoldsKey}
 use Rattle.op_model.specs.Shown.{IsAscending}
 use Rattle.trie_map.specs.Keyed.{NoStoreIsEmpty}
-use Rattle.trie_map.proofs.Visits.{Visits, visits_none, visits_next, visits_more, visits_all}
+use Rattle.trie_map.proofs.Visits.{visits_none, visits_next, visits_more, visits_all}
 use Rattle.delta_ops.specs.LiveMap.{no_dots, store_state}
 use Rattle.delta_ops.proofs.Keeping.{more_ascend, more_has, more_keeps, more_only, key_holds, holds_fields}
 use Rattle.delta_ops.proofs.reading.keys.Goals as goal

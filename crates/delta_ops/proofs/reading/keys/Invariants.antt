@@ -1,5 +1,4 @@
-use Rattle.std.proofs.Common.{◌≡◌, ℕ, List, Contains, Some}
-use Rattle.causal_join.specs.OrMap.{FieldsValue}
+use Rattle.std.proofs.Common.{ℕ, List, Contains}
 use Rattle.op_model.specs.Meaning.{HoldsKey}
 use Rattle.op_model.specs.Shown.{IsAscending}
 use Rattle.trie_map.proofs.Visits.{Visits}

@@ -1,4 +1,4 @@
-use Rattle.std.proofs.Common.{ℕ, List, Contains, ◌↔◌, subst, sym, ◌∙◌}
+use Rattle.std.proofs.Common.{ℕ, List, Contains, ◌↔◌, subst, sym}
 use Rattle.delta_ops.specs.LiveMap.{as_or_map, live_state, no_dots}
 use Rattle.op_model.specs.Meaning.{Stands}
 use Rattle.op_model.specs.Place.{place_of}

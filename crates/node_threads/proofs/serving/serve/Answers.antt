@@ -1,12 +1,16 @@
 use Rattle.std.proofs.Common.{arith}
-use Rattle.node_threads.proofs.Inboxes.{took_nothing, took_then}
+use Rattle.node_threads.proofs.Inboxes.{took_by, took_nothing, took_then}
 use Rattle.node_threads.proofs.serving.serve.Goals as goal
 
 pub loop-init : goal.loop-init
-loop-init g c = (took_nothing c.args.client.now, c.operations-begun.ensures)
+loop-init g c = (took_nothing (g.P.Post.comes c.args.post.now) c.args.client.now, c.operations-begun.ensures)
 
 pub loop-preserved : goal.loop-preserved
-loop-preserved g c = (took_then c.args.client.now c.loop.client c.take_in.new.client c.loop.invariant.0 c.take_in.ensures.took_in, c.loop.invariant.1)
+loop-preserved g c = (
+  took_then (g.P.Post.comes c.args.post.now) c.args.client.now c.loop.client c.take_in.new.client c.loop.invariant.0
+      (took_by (g.P.Post.comes c.args.post.now) c.in_some-receive.bytes.items c.loop.client c.take_in.new.client c.in_some-receive.ensures c.take_in.ensures.took_in),
+  c.loop.invariant.1,
+)
 
 pub overflow_sub-result : goal.overflow_sub-result
 overflow_sub-result g c = omega (arith, c.operations.ensures, c.operations-begun.ensures, c.loop.invariant.0.calls.3)

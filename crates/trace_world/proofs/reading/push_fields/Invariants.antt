@@ -1,4 +1,4 @@
-use Rattle.std.proofs.Common.{take, List, ℕ}
+use Rattle.std.proofs.Common.{take}
 use Rattle.op_model.specs.Meaning.{Stands}
 use Rattle.op_model.specs.Place.{place_of}
 use Rattle.replica_core.specs.Meaning.{meaning}

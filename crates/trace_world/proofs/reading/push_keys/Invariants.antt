@@ -1,4 +1,4 @@
-use Rattle.std.proofs.Common.{take, List, ℕ}
+use Rattle.std.proofs.Common.{take}
 use Rattle.op_model.specs.Meaning.{StandsWithin}
 use Rattle.replica_core.specs.Meaning.{meaning}
 use Rattle.replica_core.specs.Reading.{Lists}

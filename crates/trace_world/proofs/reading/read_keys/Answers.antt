@@ -1,4 +1,4 @@
-use Rattle.std.proofs.Common.{ap, ◌∙◌, ◌++◌, sym, subst, length, codes, inr}
+use Rattle.std.proofs.Common.{ap, ◌∙◌, ◌++◌, sym, subst, length, codes}
 use Rattle.std.specs.Fmt.{decimal}
 use Rattle.op_model.specs.Meaning.{HoldsKey}
 use Rattle.replica_core.specs.Meaning.{meaning}

@@ -1,4 +1,4 @@
-use Rattle.std.proofs.Common.{refl, arith, ◌≤◌}
+use Rattle.std.proofs.Common.{refl, arith}
 use Rattle.trace_world.proofs.Messages.{messages_more, messages_end}
 use Rattle.trace_world.proofs.telling.with_messages.Goals as goal
 

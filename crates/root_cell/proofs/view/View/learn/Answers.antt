@@ -3,3 +3,6 @@ use Rattle.root_cell.proofs.view.View.learn.Goals as goal
 
 pub returns-then-is_behind-clause-told : goal.returns-then-is_behind-clause-told
 returns-then-is_behind-clause-told g c = rw c.note.view_is (prefix_self _)
+
+pub returns-then-is_behind-clause-own : goal.returns-then-is_behind-clause-own
+returns-then-is_behind-clause-own g c = rw (← c.self.view_is) c.if-is_behind.ensures.0

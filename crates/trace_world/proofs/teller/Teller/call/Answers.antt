@@ -1,4 +1,4 @@
-use Rattle.std.proofs.Common.{refl, ap, Ok}
+use Rattle.std.proofs.Common.{ap}
 use Rattle.hash_path.specs.declared.fnv1a.Fnv1a.{Fnv1a}
 use Rattle.replica_model.specs.World.{At}
 use Rattle.replica_world.specs.Happening.{answer_value, call_value}

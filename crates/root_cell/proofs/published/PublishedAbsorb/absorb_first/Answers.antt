@@ -1,0 +1,4 @@
+use Rattle.root_cell.proofs.published.PublishedAbsorb.absorb_first.Goals as goal
+
+pub returns-clause-absorbed : goal.returns-clause-absorbed
+returns-clause-absorbed g c = c.in_ok-self.ensures
