@@ -58,10 +58,18 @@ impl<V, M: Summary<V>, H: PathHash, A: Allocator + Copy> GenTrie<V, M, H, A> {
     pub fn new(alloc: A, hash: H) -> GenTrie<V, M, H, A>
         ensures { result ≡ trie_shown hash finite.empty 0 true }
     {
+        GenTrie::at_generation(alloc, hash, 0)
+    }
+
+    /// The map with no keys that begins at this generation, as one that was frozen so many times. At the last one, 2^64 - 1, the
+    /// generation stays, and a write copies each node that it meets. Takes no memory.
+    pub fn at_generation(alloc: A, hash: H, generation: u64) -> GenTrie<V, M, H, A>
+        ensures { result ≡ trie_shown hash finite.empty generation true }
+    {
         GenTrie {
             alloc,
             hash,
-            generation: 0,
+            generation,
             count: 0,
             root: None,
         }
