@@ -1,5 +1,5 @@
 -- What ties a world to what it stands for is kept by each event.
-use Rattle.std.proofs.Common.{◌≡◌, ◌≢◌, ◌⊎◌, inl, inr, ℕ, zero, suc, List, [], ◌∷◌, ◌++◌, map, Bool, true, false, Some, cond, refl, sym, ◌∙◌, subst, eqb-true}
+use Rattle.std.proofs.Common.{◌≡◌, ◌≢◌, ◌⊎◌, inl, inr, ℕ, zero, suc, List, [], ◌∷◌, ◌++◌, map, Bool, true, false, Some, None, cond, refl, sym, ◌∙◌, subst, eqb-true}
 use Rattle.std.specs.Prelude.{◌==◌, Contains, slice_get}
 use Rattle.std.proofs.lemmas.Bool.{false≢true}
 use Rattle.dots.specs.Dot.{DotValue}
@@ -9,7 +9,7 @@ use Rattle.op_model.proofs.Members.{at_head, in_tail, from_map}
 use Rattle.wire_form.specs.Session.{SessionValue}
 use Rattle.sync_model.specs.Differ.{Held}
 use Rattle.replica_model.specs.Mail.{Mail, Delta, Hello, Opening, Ask, Page, Gone}
-use Rattle.replica_model.specs.Replica.{Replica, open_at}
+use Rattle.replica_model.specs.Replica.{Replica, open_at, kept_at}
 use Rattle.wire_form.specs.Sent.{SentValue}
 use Rattle.sync_model.specs.Laws.{Taking}
 use Rattle.replica_model.specs.Delivery.{Outcome, turn, delivered}
@@ -74,7 +74,7 @@ module _ (hash_of : List ℕ → ℕ) (Snap : SessionValue → List Operation �
     pub messages : (number : ℕ) (m : Message) → message_at w.messages number ≡ Some m → MailTie hash_of Snap Asked Sends m.mail m.of
 
   pub delivered_ties : (w : World) (name : ℕ) (own : Held) (m : Message) (number : ℕ) → Ties w → message_at w.messages number ≡ Some m →
-      ((s : SessionValue) (seen : DotValue → Bool) → m.mail ≡ Hello s seen → s.answerer ≡ name → Snap s (w.seen name) own (w.replica name).live.has) → (new : Replica) (outcome : Outcome) (out : List Mail) → delivered hash_of own (w.replica name) m.mail ≡ turn new outcome out →
+      ((s : SessionValue) (seen : DotValue → Bool) → m.mail ≡ Hello s seen → s.answerer ≡ name → kept_at (w.replica name).kept s ≡ None → Snap s (w.seen name) own (w.replica name).live.has) → (new : Replica) (outcome : Outcome) (out : List Mail) → delivered hash_of own (w.replica name) m.mail ≡ turn new outcome out →
       Ties (goes name new out [] (takes name (w.replica name) m.mail m.of outcome w))
   delivered_ties w name own m number t there fresh new outcome out e =
       let on : GoesOn hash_of Snap Asked Sends w name (t.named name) t.kept t.sessions own m.mail m.of (turn new outcome out) =

@@ -43,10 +43,12 @@ module _ (hash_of : List ℕ → ℕ) (events : List Event) (w v : World) (numbe
         asker = tie.asker;
         asked = tie.asked.0;
         of = e.snapshot;
+        shown = e.shown;
         context = e.context;
         snapshot = e.snap;
         adds = ap (λ (x : World). x.seen name) d.after ∙ ap (λ (x : World). x.seen name) e.sets ∙ grown-here name (w.seen name) e.snapshot.seen;
         takings = e.takings;
+        pages = e.pages;
         met = ap (λ (x : World). x.closed) d.after ∙ ap (λ (x : World). x.closed) e.sets;
         joins = λ no_clash.
             let live = (w.replica name).live in

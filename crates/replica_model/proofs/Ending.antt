@@ -21,6 +21,7 @@ use Rattle.sync_model.specs.Laws.{Taking, Fetched}
 use Rattle.replica_model.specs.Mail.{Mail, Delta, Hello, Opening, Ask, Page, Gone, IsTurnOf}
 use Rattle.replica_model.specs.Replica.{Replica, Open, Accepted, open_at, closes, joins}
 use Rattle.replica_model.specs.Delivery.{Joined, Done, Mismatch, Turn, turn, is_complete, ignored, delivered}
+use Rattle.replica_model.specs.Sessions.{shown_by, taken_with}
 use Rattle.replica_model.specs.World.{World, Snapshot, learns, own_of, ends, taking_of, takes}
 use Rattle.replica_model.proofs.Found.{found_open}
 use Rattle.replica_model.proofs.Rows.{each_row}
@@ -53,7 +54,9 @@ module _ (hash_of : List ℕ → ℕ) (Snap : SessionValue → List Operation �
     pub complete : (p : List ℕ) → finite.get fetched.waiting p ≡ None
     pub snapshot : Snapshot
     pub which : (snapshot ≡ of) ⊎ (snapshot ≡ w.accepted session.session)
+    pub shown : snapshot ≡ shown_by w of mail
     pub takings : List Taking
+    pub pages : takings ≡ taken_with w mail
     pub snap : Snap session.session snapshot.seen snapshot.map context
     pub is_fetched : Fetched hash_of session.own session.seen context (digest_at hash_of snapshot.map []) takings fetched
     pub live : t.new.live ≡ join greater (w.replica name).live (held_state fetched.built context)
@@ -101,7 +104,9 @@ module _ (hash_of : List ℕ → ℕ) (Snap : SessionValue → List Operation �
           complete = none_waits f complete;
           snapshot = of;
           which = inl refl;
+          shown = refl;
           takings = [];
+          pages = refl;
           snap = subst (λ u. Snap u of.seen of.map c) (sym found.1) tie.0;
           is_fetched = subst (λ d. take_opening hash_of o.own o.seen c d ≡ fetch.Took f) tie.1 took;
           live = refl;
@@ -123,7 +128,9 @@ module _ (hash_of : List ℕ → ℕ) (Snap : SessionValue → List Operation �
           complete = none_waits f complete;
           snapshot = w.accepted o.session;
           which = inr refl;
+          shown = ap w.accepted found.1;
           takings = taking_of sent ∷ w.taken o.session;
+          pages = ap (λ u. taking_of sent ∷ w.taken u) found.1;
           snap = before.0;
           is_fetched = (a.fetch, before.1, took);
           live = refl;

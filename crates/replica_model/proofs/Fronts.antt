@@ -1,5 +1,5 @@
 -- What holds by fronts of the events: each open session is of an ask, and each snapshot of a hello that was taken.
-use Rattle.std.proofs.Common.{◌≡◌, ℕ, ◌+◌, ◌==◌, List, [], ◌∷◌, ◌++◌, Bool, Some, cond, refl, sym, ap, ◌∙◌, subst, append_assoc}
+use Rattle.std.proofs.Common.{◌≡◌, ℕ, ◌+◌, ◌==◌, List, [], ◌∷◌, ◌++◌, Bool, Some, None, cond, refl, sym, ap, ◌∙◌, subst, append_assoc}
 use Rattle.std.proofs.lemmas.List.{append-nil}
 use Rattle.dots.specs.Dot.{DotValue}
 use Rattle.op_model.specs.Meaning.{MapState}
@@ -9,7 +9,7 @@ use Rattle.prefix_digest.specs.MapOf.{IsMapOf}
 use Rattle.sync_model.specs.Closing.{held_state, IsBelow}
 use Rattle.sync_model.specs.Differ.{Held}
 use Rattle.replica_model.specs.Mail.{Mail, Hello}
-use Rattle.replica_model.specs.Replica.{Replica, next_session}
+use Rattle.replica_model.specs.Replica.{Replica, kept_at, next_session}
 use Rattle.replica_model.specs.Delivery.{Outcome, turn, delivered}
 use Rattle.replica_model.specs.Step.{Call, Ask, Answer, Came, IsCall}
 use Rattle.replica_model.specs.World.{World, Event, Node, At, Deliver, Message, message_at, nothing, calls, takes, goes, Happens, Runs}
@@ -88,6 +88,7 @@ module _ (hash_of : List ℕ → ℕ) where
     there = t.there;
     known = t.known;
     hello = t.hello;
+    none_kept = t.none_kept;
     seen_then = t.seen_then;
     map_then = t.map_then;
     known_then = t.known_then;
@@ -167,8 +168,9 @@ module _ (hash_of : List ℕ → ℕ) where
 
   -- a snapshot that was just taken
   taken_now : (events : List Event) (w : World) (number name : ℕ) (m : Message) (own : Held) → Runs hash_of nothing events w → message_at w.messages number ≡ Some m → IsMapOf own (w.replica name).live
-      → (s : SessionValue) (seen : DotValue → Bool) → m.mail ≡ Hello s seen → s.answerer ≡ name → IsTakenOf hash_of (events ++ Deliver number name ∷ []) s (w.seen name) own (w.replica name).live.has
-  taken_now events w number name m own runs there is s seen hello here = record {
+      → (s : SessionValue) (seen : DotValue → Bool) → m.mail ≡ Hello s seen → s.answerer ≡ name → kept_at (w.replica name).kept s ≡ None
+      → IsTakenOf hash_of (events ++ Deliver number name ∷ []) s (w.seen name) own (w.replica name).live.has
+  taken_now events w number name m own runs there is s seen hello here none = record {
     front = events;
     number = number;
     later = [];
@@ -179,6 +181,7 @@ module _ (hash_of : List ℕ → ℕ) where
     there = there;
     known = seen;
     hello = hello;
+    none_kept = ap (λ n. kept_at (w.replica n).kept s) here ∙ none;
     seen_then = ap w.seen (sym here);
     map_then = subst (λ n. IsMapOf own (w.replica n).live) (sym here) is;
     known_then = ap (λ n. (w.replica n).live.has) (sym here);

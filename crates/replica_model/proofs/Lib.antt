@@ -16,5 +16,6 @@ pub mod Leaving
 pub mod Limits
 pub mod Happening
 pub mod Askers
+pub mod Asks
 pub mod Taking
 pub mod Histories

@@ -326,7 +326,7 @@ module _ (hash_of : List ℕ → ℕ) (w v : World) (number name : ℕ) (answer 
       record {
         ties = delivered_ties hash_of SnapOf (AskedOf x) SendsOf w name d.own d.message number
             (more_meant hash_of w x (λ n. takes_grow w name n old d.message.mail d.message.of d.outcome) meant.ties) d.there
-            (λ s seen hello here. (own_is, ap (λ (p : MapState). p.has) (meant.live name))) d.new d.outcome d.out d.step;
+            (λ s seen hello here none. (own_is, ap (λ (p : MapState). p.has) (meant.live name))) d.new d.outcome d.out d.step;
         live = subst (λ f. (n : ℕ) → (cond (n == name) d.new (f n)).live ≡ state (after.seen n)) (sym (same_replicas w name old d.message.mail d.message.of d.outcome))
             (live_by_name w.replica name d.new after.seen w.seen (live_after clean) (λ n a. seen_stays w name n a old d.message.mail d.message.of d.outcome) meant.live);
         group = subst (λ f. (n : ℕ) → (cond (n == name) d.new (f n)).group ≡ state (after.outgoing n)) (sym (same_replicas w name old d.message.mail d.message.of d.outcome))

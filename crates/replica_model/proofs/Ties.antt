@@ -84,9 +84,9 @@ module _ (hash_of : List ℕ → ℕ) (Snap : SessionValue → List Operation �
       pub open_there : (n : ℕ) → n ≢ name → AllOpen (takes name (w.replica name) mail of t.outcome w).accepted (takes name (w.replica name) mail of t.outcome w).taken n (w.replica n)
       pub replies : AllSent [] (takes name (w.replica name) mail of t.outcome w).kept t.new.kept t.replies
 
-    -- where the message is the hello of a session for this replica, what the replica is now is a snapshot for it
+    -- where the message is the hello of a session for this replica, which keeps none for it, what the replica is now is a snapshot for it
     abbrev pub IsFresh : Mail → Type 0
-    IsFresh mail = (s : SessionValue) (seen : DotValue → Bool) → mail ≡ Hello s seen → s.answerer ≡ name → Snap s (w.seen name) own (w.replica name).live.has
+    IsFresh mail = (s : SessionValue) (seen : DotValue → Bool) → mail ≡ Hello s seen → s.answerer ≡ name → kept_at (w.replica name).kept s ≡ None → Snap s (w.seen name) own (w.replica name).live.has
 
     abbrev pub Holds : Mail → Turn → Type 0
     Holds mail t = (of : Snapshot) → MailTie mail of → IsFresh mail → GoesOn mail of t
@@ -162,7 +162,7 @@ module _ (hash_of : List ℕ → ℕ) (Snap : SessionValue → List Operation �
         let x = first_kept (kept_at r.kept s) (w.kept s) (w.seen name) in
         let k = snapshot own r s seen in
         let now : changed w.kept s x s ≡ w.seen name = changed_here w.kept s x s refl ∙ ap (λ o. first_kept o (w.kept s) (w.seen name)) none in
-        let snap : Snap s (changed w.kept s x s) own r.live.has = subst (λ S. Snap s S own r.live.has) (sym now) (fresh s seen refl (here ∙ named)) in
+        let snap : Snap s (changed w.kept s x s) own r.live.has = subst (λ S. Snap s S own r.live.has) (sym now) (fresh s seen refl (here ∙ named) none) in
         let tie : KeptTie (changed w.kept s x) name k = record { answerer = here ∙ named; snap = snap } in
         record {
           name_stays = named;

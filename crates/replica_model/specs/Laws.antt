@@ -182,6 +182,18 @@ abbrev pub SnapshotsAreFor : Type 0
 SnapshotsAreFor = (hash_of : List ℕ → ℕ) (events : List Event) (w : World) → Runs hash_of nothing events w
     → (name : ℕ) (k : Kept) → Contains (w.replica name).kept k → IsKeptFor hash_of events w name k
 
+-- a session has one ask among the events: one own map, and one context of what its asker knew
+abbrev pub AsksAreOne : Type 0
+AsksAreOne = (hash_of : List ℕ → ℕ) (events : List Event) (s : SessionValue) (own own' : Held) (known known' : DotValue → Bool)
+    → IsAskOf hash_of events s own known → IsAskOf hash_of events s own' known' → (own ≡ own') × (known ≡ known')
+
+-- so what is kept for an open session goes by just the dots that the session was opened with: the values that an ask is told are those that
+-- its asker wants
+abbrev pub SnapshotsKnowWhatWasAsked : Type 0
+SnapshotsKnowWhatWasAsked = (hash_of : List ℕ → ℕ) (events : List Event) (w : World) → Runs hash_of nothing events w
+    → (asker answerer : ℕ) (o : Open) (k : Kept) → Contains (w.replica asker).sessions o → Contains (w.replica answerer).kept k
+    → k.session ≡ o.session → o.seen ≡ k.seen
+
 -- a delivery was taken
 abbrev pub IsTaken : Answer → Type 0
 IsTaken answer = (answer ≡ Came Sent) ⊎ (answer ≡ Came Done)

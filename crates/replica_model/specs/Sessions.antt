@@ -1,5 +1,5 @@
 -- What the sessions of a world stand for, by fronts of its events: a front is the world before one of them. Of this project.
-use Rattle.std.specs.Prelude.{◌≡◌, ℕ, ◌+◌, Bool, List, [], ◌∷◌, ◌++◌, Option, Some}
+use Rattle.std.specs.Prelude.{◌≡◌, ℕ, ◌+◌, Bool, List, [], ◌∷◌, ◌++◌, Option, Some, None}
 use Rattle.std.specs.List.{Contains}
 use Rattle.dots.specs.Dot.{DotValue}
 use Rattle.op_model.specs.Meaning.{greater}
@@ -11,14 +11,33 @@ use Rattle.prefix_digest.specs.Page.{digest_at}
 use Rattle.sync_model.specs.Closing.{held_state, IsBelow}
 use Rattle.sync_model.specs.Differ.{Held}
 use Rattle.sync_model.specs.Laws.{Taking, Fetched, NoClash}
-use Rattle.replica_model.specs.Mail.{Hello, IsTurnOf}
-use Rattle.replica_model.specs.Replica.{Open, Accepted}
+use Rattle.replica_model.specs.Mail.{Mail, Delta, Hello, Opening, Page, Gone, IsTurnOf}
+use Rattle.replica_model.specs.Mail as mail
+use Rattle.replica_model.specs.Replica.{Open, Accepted, kept_at}
 use Rattle.replica_model.specs.Step.{Ask}
-use Rattle.replica_model.specs.World.{World, Event, At, Deliver, Message, Snapshot, message_at, nothing, Runs}
+use Rattle.replica_model.specs.World.{World, Event, At, Deliver, Message, Snapshot, message_at, taking_of, nothing, Runs}
+
+-- what the opening shows that a session has accepted which this message ends: the message itself, or the one that was accepted before
+abbrev pub shown_by : World → Snapshot → Mail → Snapshot
+shown_by w of (Delta d) = of
+shown_by w of (mail.Hello s known) = of
+shown_by w of (Opening s context root) = of
+shown_by w of (mail.Ask s prefix) = of
+shown_by w of (Page s sent) = w.accepted s
+shown_by w of (Gone s) = of
+
+-- the pages that it took, with this message, the newest first
+abbrev pub taken_with : World → Mail → List Taking
+taken_with w (Delta d) = []
+taken_with w (mail.Hello s known) = []
+taken_with w (Opening s context root) = []
+taken_with w (mail.Ask s prefix) = []
+taken_with w (Page s sent) = taking_of sent ∷ w.taken s
+taken_with w (Gone s) = []
 
 module _ (hash_of : List ℕ → ℕ) where
-  -- The snapshot of a session was taken of what its answerer was just before one of the events, in which it took the hello of the session: so
-  -- much had it seen, for its live state this map stood, and it knew these dots.
+  -- The snapshot of a session was taken of what its answerer was just before one of the events, in which it took the hello of the session and
+  -- kept none for it yet: so much had it seen, for its live state this map stood, and it knew these dots.
   pub record IsTakenOf (events : List Event) (s : SessionValue) (seen : List Operation) (map : Held) (context : DotValue → Bool) : Type 0 where
     pub front : List Event
     pub number : ℕ
@@ -30,6 +49,7 @@ module _ (hash_of : List ℕ → ℕ) where
     pub there : message_at before.messages number ≡ Some message
     pub known : DotValue → Bool
     pub hello : message.mail ≡ Hello s known
+    pub none_kept : kept_at (before.replica s.answerer).kept s ≡ None
     pub seen_then : seen ≡ before.seen s.answerer
     pub map_then : IsMapOf map (before.replica s.answerer).live
     pub known_then : context ≡ (before.replica s.answerer).live.has
@@ -60,7 +80,7 @@ module _ (hash_of : List ℕ → ℕ) where
     pub fetching : IsFetching events w o o.accepted
 
   -- How a delivery ends a session with Done: the message is an opening or a page of a session that is open at its asker; it adds to its asker just what
-  -- the answerer had seen when the snapshot was taken; and unless two pages or values that the session met have one SHA-256, whatever other sessions
+  -- the answerer had seen when the snapshot was taken that the accepted opening shows; and unless two pages or values that the session met have one SHA-256, whatever other sessions
   -- met, it joins into the asker's live state what that of the answerer was then.
   pub record IsEnd (events : List Event) (w v : World) (number name : ℕ) : Type 0 where
     pub ended : Open
@@ -71,9 +91,11 @@ module _ (hash_of : List ℕ → ℕ) where
     pub asker : ended.session.asker ≡ name
     pub asked : IsAskOf events ended.session ended.own ended.seen
     pub of : Snapshot
+    pub shown : of ≡ shown_by w message.of message.mail
     pub context : DotValue → Bool
     pub snapshot : IsTakenOf events ended.session of.seen of.map context
     pub adds : v.seen name ≡ w.seen name ++ of.seen
     pub takings : List Taking
+    pub pages : takings ≡ taken_with w message.mail
     pub met : v.closed ≡ w.closed ++ record { own = ended.own; theirs = of.map; takings = takings } ∷ []
     pub joins : NoClash hash_of ended.own of.map takings → (v.replica name).live ≡ join greater (w.replica name).live (snapshot.before.replica ended.session.answerer).live

@@ -9,7 +9,7 @@ mod worlds;
 
 pub use headline::{replicas_hold_what_they_have_seen, what_has_seen_the_same_holds_the_same};
 pub use sessions::{
-    a_session_that_ends_joins_what_its_peer_had, openings_are_of_snapshots,
+    a_session_has_one_ask, a_session_that_ends_joins_what_its_peer_had, openings_are_of_snapshots,
     sessions_are_of_asks_and_snapshots, sessions_take_what_they_wait_for,
     snapshots_are_for_what_askers_knew,
 };

@@ -1,5 +1,5 @@
 // The laws of the sessions of a world, over all lists of events.
-ghost use Rattle.replica_model.specs.Laws.{Sessions, Openings, Ends, SnapshotsAreFor, TakesOpenings, TakesPages, TellsPages};
+ghost use Rattle.replica_model.specs.Laws.{AsksAreOne, Sessions, Openings, Ends, SnapshotsAreFor, SnapshotsKnowWhatWasAsked, TakesOpenings, TakesPages, TellsPages};
 
 /// Each open session of a replica is its own, and was opened by an ask, of a map that stood for its live state then, which is below the
 /// live state ever since. Where it accepted an opening, that is of a snapshot that its peer took of what it was when it got the hello,
@@ -23,6 +23,13 @@ pub fn a_session_that_ends_joins_what_its_peer_had()
 /// asked.
 pub fn snapshots_are_for_what_askers_knew()
     ensures { SnapshotsAreFor }
+{}
+
+/// A session has one ask. So the snapshot that is kept for an open session goes by just the dots that its asker knew when it asked, and the
+/// values that an ask is told are those that its asker wants.
+pub fn a_session_has_one_ask()
+    ensures asks { AsksAreOne }
+    ensures known { SnapshotsKnowWhatWasAsked }
 {}
 
 /// Where nothing clashed, an open session takes what it waits for: an opening of it where it accepted none, and at each prefix that it
