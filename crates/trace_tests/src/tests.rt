@@ -9,6 +9,7 @@ mod fields;
 mod flushes;
 mod generated;
 mod pins;
+mod refused;
 mod removing;
 mod sessions;
 mod traces;

@@ -1,5 +1,7 @@
 ghost use Rattle.watched_io.specs.Watched.{IsNew};
 
+use crate::tests::removing::{BESIDE_A_CLEAR, BESIDE_A_CLEAR_TEXT};
+use crate::tests::sessions::{PAGES_UNDER_ONE_INDEX, PAGES_UNDER_ONE_INDEX_TEXT};
 use dots::Refusal;
 use std::alloc::Global;
 use std::io;
@@ -102,54 +104,88 @@ fn a_writer_that_takes_nothing_is_a_failure(rt: HostRuntime) {
     assert!(rt; writer.failed());
 }
 
+// The traces of which each read and each write fails in turn, with what they are given: of puts, of a clear beside a put, and of a
+// synchronisation by pages.
+const TRACES: [(&str, &str); 3] = [
+    (TRACE, TEXT),
+    (BESIDE_A_CLEAR, BESIDE_A_CLEAR_TEXT),
+    (PAGES_UNDER_ONE_INDEX, PAGES_UNDER_ONE_INDEX_TEXT),
+];
+
+// Whether a run whose writer fails at this call has written a front of the text, and ends with Output; None where it does not fail.
+fn fails_at(alloc: Global, trace: &str, text: &str, piece: usize, call: u64) -> Option<bool> {
+    let mut reader = Watched::new(trace.as_bytes());
+    let mut writer = taker(alloc, piece, call);
+    let outcome = run(alloc, &mut reader, &mut writer);
+    let failed = writer.failed();
+    let written = writer.into_inner();
+    let is_front = text.as_bytes().starts_with(written.text.as_slice());
+    let is_whole = written.text.as_slice() == text.as_bytes();
+    if outcome.is_ok() && !failed && is_whole {
+        return None;
+    }
+    Some(is_front && failed && outcome == Err(Refusal::Output))
+}
+
+// How many writes and flushes fail in turn before the run comes through. None where one of them did not end it as it should.
+fn write_failures(alloc: Global, trace: &str, text: &str, piece: usize) -> Option<u64> {
+    for call in 1..10_000 {
+        match fails_at(alloc, trace, text, piece, call) {
+            None => return Some(call),
+            Some(true) => {}
+            Some(false) => return None,
+        }
+    }
+    None
+}
+
 #[test]
 fn each_write_and_flush_may_fail_in_turn(rt: HostRuntime) {
-    for call in 1..1000 {
-        let mut reader = Watched::new(TRACE.as_bytes());
-        let mut writer = taker(rt.alloc(), 3, call);
-        let outcome = run(rt.alloc(), &mut reader, &mut writer);
-        let failed = writer.failed();
-        let written = writer.into_inner();
-        assert!(rt;
-            TEXT.as_bytes().starts_with(written.text.as_slice()),
-            "call {call}"
-        );
-        if outcome.is_ok() {
-            assert!(rt; !failed && call > 40);
-            assert!(rt; written.text.as_slice() == TEXT.as_bytes());
-            return;
+    for (trace, text) in TRACES {
+        for piece in [1, 3] {
+            let count = write_failures(rt.alloc(), trace, text, piece);
+            assert!(rt; count > Some(40), "pieces of {piece}");
         }
-        assert!(rt; failed, "call {call}");
-        assert!(rt; outcome == Err(Refusal::Output), "call {call}");
     }
-    assert!(rt; false, "no run came through");
+}
+
+// Whether a run whose reader fails at this call has answered each whole line that was read, and ends with Input; None where it does
+// not fail.
+fn stops_at(alloc: Global, trace: &str, text: &str, call: u64) -> Option<bool> {
+    let bytes = trace.as_bytes();
+    let mut reader = Watched::new(Pieces {
+        rest: bytes,
+        piece: 2,
+        calls_left: call,
+    });
+    let mut writer = Watched::new(Vec::new(alloc));
+    let outcome = run(alloc, &mut reader, &mut writer);
+    let failed = reader.failed();
+    let given = writer.into_inner();
+    if outcome.is_ok() && !failed && given.as_slice() == text.as_bytes() {
+        return None;
+    }
+    let read = bytes.len().saturating_sub(reader.into_inner().rest.len());
+    let is_answered = lines(given.as_slice()) == lines(bytes.get(..read).unwrap_or(bytes));
+    let is_front = text.as_bytes().starts_with(given.as_slice());
+    Some(is_front && is_answered && failed && outcome == Err(Refusal::Input))
+}
+
+// How many reads fail in turn before the run comes through. None where one of them did not end it as it should.
+fn read_failures(alloc: Global, trace: &str, text: &str) -> Option<u64> {
+    for call in 1..10_000 {
+        match stops_at(alloc, trace, text, call) {
+            None => return Some(call),
+            Some(true) => {}
+            Some(false) => return None,
+        }
+    }
+    None
 }
 
 #[test]
 fn each_read_may_fail_in_turn_and_whole_lines_were_answered(rt: HostRuntime) {
-    for call in 1..1000 {
-        let bytes = TRACE.as_bytes();
-        let mut reader = Watched::new(Pieces {
-            rest: bytes,
-            piece: 2,
-            calls_left: call,
-        });
-        let mut writer = Watched::new(Vec::new(rt.alloc()));
-        let outcome = run(rt.alloc(), &mut reader, &mut writer);
-        let text = writer.into_inner();
-        assert!(rt; TEXT.as_bytes().starts_with(text.as_slice()), "call {call}");
-        if outcome.is_ok() {
-            assert!(rt; !reader.failed() && call > 40);
-            assert!(rt; text.as_slice() == TEXT.as_bytes());
-            return;
-        }
-        assert!(rt; outcome == Err(Refusal::Input), "call {call}");
-        assert!(rt; reader.failed(), "call {call}");
-        let read = bytes.len().saturating_sub(reader.into_inner().rest.len());
-        assert!(rt;
-            lines(text.as_slice()) == lines(&bytes[..read]),
-            "call {call}"
-        );
+    for (trace, text) in TRACES {
+        assert!(rt; read_failures(rt.alloc(), trace, text) > Some(40));
     }
-    assert!(rt; false, "no run came through");
 }

@@ -1,13 +1,15 @@
 use crate::tests::answering::answers;
 use std::process::Abort;
 
+pub(crate) const BESIDE_A_CLEAR: &str =
+    "node 1\nnode 2\nput 1 a x\nflush 1\ndeliver 1 2\nremove 1 a\nput 2 a y\nflush 1\nflush 2\ndeliver 2 2\ndeliver 3 1\nget 1 a\nget 2 a\nshow 1\nclear 1\nflush 1\ndeliver 4 2\nsize 1\nsize 2\nshow 2\n";
+
+pub(crate) const BESIDE_A_CLEAR_TEXT: &str =
+    "ok\nok\nok 1:1\nsent 1:delta\njoined\nok 1\nok 2:1\nsent 2:delta\nsent 3:delta\njoined\njoined\n= y\n= y\nmap 1 a 1 y\nok 1\nsent 4:delta\njoined\nsize 0\nsize 0\nmap 0\n";
+
 #[test]
 fn what_was_put_beside_a_clear_stays(rt: HostRuntime) {
-    let trace =
-        "node 1\nnode 2\nput 1 a x\nflush 1\ndeliver 1 2\nremove 1 a\nput 2 a y\nflush 1\nflush 2\ndeliver 2 2\ndeliver 3 1\nget 1 a\nget 2 a\nshow 1\nclear 1\nflush 1\ndeliver 4 2\nsize 1\nsize 2\nshow 2\n";
-    let text =
-        "ok\nok\nok 1:1\nsent 1:delta\njoined\nok 1\nok 2:1\nsent 2:delta\nsent 3:delta\njoined\njoined\n= y\n= y\nmap 1 a 1 y\nok 1\nsent 4:delta\njoined\nsize 0\nsize 0\nmap 0\n";
-    answers(&rt, rt.alloc(), trace, text);
+    answers(&rt, rt.alloc(), BESIDE_A_CLEAR, BESIDE_A_CLEAR_TEXT);
 }
 
 #[test]

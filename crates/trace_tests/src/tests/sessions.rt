@@ -62,7 +62,7 @@ done
 =
 ";
 
-const PAGES_UNDER_ONE_INDEX: &str = "node 1
+pub(crate) const PAGES_UNDER_ONE_INDEX: &str = "node 1
 node 2
 put 2 # v
 flush 2
@@ -81,7 +81,7 @@ show 1
 context 1
 ";
 
-const PAGES_UNDER_ONE_INDEX_TEXT: &str = "ok
+pub(crate) const PAGES_UNDER_ONE_INDEX_TEXT: &str = "ok
 ok
 ok 2:1
 sent 1:delta
@@ -216,7 +216,7 @@ sent 10:opening
 ignored
 ";
 
-const NINTH_SESSION: &str = "node 1
+pub(crate) const NINTH_SESSION: &str = "node 1
 node 2
 node 3
 put 2 a x
@@ -248,7 +248,7 @@ retry 1 1
 get 1 a
 ";
 
-const NINTH_SESSION_TEXT: &str = "ok
+pub(crate) const NINTH_SESSION_TEXT: &str = "ok
 ok
 ok
 ok 2:1

@@ -1,0 +1,181 @@
+// The own calls of a replica.
+use crate::made::{Here, Shown, name, put, put_forty, replica, what_shows};
+use crate::trial::{Trial, refusals, wanted};
+use dots::{Key, Refusal};
+use linked_list_allocator::LocalHeap;
+use std::alloc::Global;
+use std::process::Abort;
+use std::test::Fail;
+
+// A call of a replica of name 1 that has put 40 values on 40 keys.
+#[derive(Clone, Copy)]
+enum Act {
+    Put,
+    Remove,
+    Clear,
+    Flush,
+    Ask,
+    List,
+    Copy,
+}
+
+// Such a call, of a replica that showed this before.
+#[derive(Drop)]
+struct Calling<'a, 'r> {
+    heap: &'a LocalHeap,
+    here: &'r mut Here<'a>,
+    before: Shown,
+    act: Act,
+}
+
+impl<'a, 'r> Trial for Calling<'a, 'r> {
+    fn attempt(&mut self) -> Result<(), Refusal> {
+        match self.act {
+            Act::Put => wanted(put(self.heap, self.here, b"more", b"v")? == 41),
+            Act::Remove => wanted(remove(self.heap, self.here)? == 1),
+            Act::Clear => wanted(self.here.clear()? == 40),
+            Act::Flush => flush(self.here),
+            Act::Ask => ask(self.here),
+            Act::List => wanted(self.here.keys()?.len() == 40),
+            Act::Copy => copy(self.here),
+        }
+    }
+
+    fn is_as_before(&mut self) -> Result<bool, Refusal> {
+        Ok(what_shows(self.here) == self.before)
+    }
+}
+
+// Removes one of the forty keys.
+fn remove<'a>(heap: &'a LocalHeap, here: &mut Here<'a>) -> Result<u64, Refusal> {
+    let key = Key::new(heap, &7u64.to_be_bytes())?;
+    here.remove(&key)
+}
+
+// A flush sends what was made.
+fn flush(here: &mut Here<'_>) -> Result<(), Refusal> {
+    wanted(here.flush()?.is_some())
+}
+
+// The first ask that is made has the number 1, however often one was refused before.
+fn ask(here: &mut Here<'_>) -> Result<(), Refusal> {
+    let peer = here.name();
+    let (number, _hello) = here.ask(peer)?;
+    wanted(number == 1)
+}
+
+// A copy shows the same.
+fn copy(here: &Here<'_>) -> Result<(), Refusal> {
+    let copy = here.copy()?;
+    wanted(what_shows(&copy) == what_shows(here))
+}
+
+// How often the call is refused.
+fn tried<'a>(
+    alloc: Global,
+    heap: &'a LocalHeap,
+    here: &mut Here<'a>,
+    act: Act,
+) -> Result<usize, Refusal> {
+    let before = what_shows(here);
+    let mut calling = Calling {
+        heap,
+        here,
+        before,
+        act,
+    };
+    refusals(alloc, heap, &mut calling)
+}
+
+// How often this call is refused.
+fn is_tried<'a>(
+    alloc: Global,
+    heap: &'a LocalHeap,
+    here: &mut Here<'a>,
+    act: Act,
+) -> Result<usize, Refusal> {
+    match act {
+        Act::Flush => flush_is_tried(alloc, heap, here),
+        act => tried(alloc, heap, here, act),
+    }
+}
+
+// Sends what was made, and makes three more.
+fn send<'a>(heap: &'a LocalHeap, here: &mut Here<'a>) -> Result<(), Refusal> {
+    flush(here)?;
+    for key in [b"p", b"q", b"r"] {
+        put(heap, here, key, b"v")?;
+    }
+    Ok(())
+}
+
+// How often a flush of three writes is refused.
+fn flush_is_tried<'a>(
+    alloc: Global,
+    heap: &'a LocalHeap,
+    here: &mut Here<'a>,
+) -> Result<usize, Refusal> {
+    send(heap, here)?;
+    tried(alloc, heap, here, Act::Flush)
+}
+
+// How often the call of a new replica is refused.
+fn tried_anew(
+    rt: &impl Abort,
+    alloc: Global,
+    heap: &LocalHeap,
+    act: Act,
+) -> Result<usize, Refusal> {
+    let mut here = replica(rt, heap, 1);
+    match put_forty(heap, &mut here) {
+        Ok(()) => is_tried(alloc, heap, &mut here, act),
+        Err(refusal) => Err(refusal),
+    }
+}
+
+// The same in a heap of its own, which is empty in the end.
+fn tried_in_a_heap(rt: &impl Abort, alloc: Global, act: Act) -> Result<usize, Fail> {
+    let heap = LocalHeap::new(alloc, 60_000)?;
+    let count = tried_anew(rt, alloc, &heap, act)?;
+    if heap.used() != 0 {
+        return Err("memory is kept".into());
+    }
+    Ok(count)
+}
+
+#[test]
+fn a_refused_put_changes_nothing_and_is_made_again(rt: HostRuntime) -> Result<(), Fail> {
+    assert!(rt; tried_in_a_heap(&rt, rt.alloc(), Act::Put)? > 3);
+    Ok(())
+}
+
+#[test]
+fn a_refused_remove_changes_nothing_and_is_made_again(rt: HostRuntime) -> Result<(), Fail> {
+    assert!(rt; tried_in_a_heap(&rt, rt.alloc(), Act::Remove)? > 3);
+    Ok(())
+}
+
+#[test]
+fn a_refused_clear_changes_nothing_and_is_made_again(rt: HostRuntime) -> Result<(), Fail> {
+    assert!(rt; tried_in_a_heap(&rt, rt.alloc(), Act::Clear)? > 3);
+    Ok(())
+}
+
+#[test]
+fn a_refused_flush_keeps_what_was_made(rt: HostRuntime) -> Result<(), Fail> {
+    assert!(rt; tried_in_a_heap(&rt, rt.alloc(), Act::Flush)? > 3);
+    Ok(())
+}
+
+#[test]
+fn a_refused_ask_uses_no_number(rt: HostRuntime) -> Result<(), Fail> {
+    assert!(rt; tried_in_a_heap(&rt, rt.alloc(), Act::Ask)? > 3);
+    Ok(())
+}
+
+#[test]
+fn refused_lists_and_copies_are_made_again(rt: HostRuntime) -> Result<(), Fail> {
+    assert!(rt; tried_in_a_heap(&rt, rt.alloc(), Act::List)? > 3);
+    assert!(rt; tried_in_a_heap(&rt, rt.alloc(), Act::Copy)? > 3);
+    Ok(())
+}
