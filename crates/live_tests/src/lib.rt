@@ -5,6 +5,10 @@
 #[cfg(test)]
 mod drawn;
 #[cfg(test)]
+mod generations;
+#[cfg(test)]
+mod groups;
+#[cfg(test)]
 mod made;
 #[cfg(test)]
 mod operations;

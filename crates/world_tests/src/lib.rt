@@ -5,6 +5,8 @@
 #[cfg(test)]
 mod lines;
 #[cfg(test)]
+mod one_hash;
+#[cfg(test)]
 mod scenes;
 #[cfg(test)]
 mod storm;

@@ -71,8 +71,8 @@ fn reads_beside<K: Naming + Send + Sync, R: Threads + Wait + Abort + Copy + Drop
     let mut first = hand_out(&mut node)?;
     let mut second = hand_out(&mut node)?;
     let told = writes_while_read(&rt, alloc, &state, &mut first, &mut second);
-    let last = finished_in_two(&rt, alloc, node, second, first);
-    Ok(told == Ok(true) && last == Ok(Some((2, 1))))
+    let last = finished_in_two(&rt, alloc, node, first, second);
+    Ok(told == Ok(true) && last == Ok(Some((2, 1, 2, 0))))
 }
 
 // Writes twice, the second time held while the other client reads. Whether each read shows what it should.
@@ -146,14 +146,11 @@ fn write_beside<K: Naming + Send + Sync, R: Threads + Wait + Abort + Copy + Drop
     let mut second = hand_out(&mut node)?;
     let told = both_put_often(&rt, alloc, &mut first, &mut second);
     let last = finished_in_two(&rt, alloc, node, second, first);
-    Ok(told == Ok(true) && last == Ok(Some((2000, 2))))
+    Ok(told == Ok(true) && last == Ok(Some((2000, 2, 2000, 0))))
 }
 
 // Whether both put a thousand times, each in a thread of its own.
-pub(crate) fn both_put_often<
-    K: Naming + Send + Sync,
-    R: Threads + Wait + Abort + Copy + Drop + Send + Sync,
->(
+fn both_put_often<K: Naming + Send + Sync, R: Threads + Wait + Abort + Copy + Drop + Send + Sync>(
     rt: &R,
     alloc: Global,
     first: &mut Held<K, NoGate, R>,

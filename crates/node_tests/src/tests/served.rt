@@ -1,12 +1,10 @@
 // Two nodes that are served, each in a thread of its own.
 ghost use Rattle.std.specs.Prelude.{◌≡◌};
 
-use crate::made::{Held, Shared, finished_alone, finished_in_two, hand_out, has, name, put};
+use crate::made::{Held, Last, Shared, finished_alone, finished_in_two, hand_out, has, name, put};
 use crossbeam_channel::{Sender, unbounded};
-use dots::{Field, Key, Refusal, Value};
-use hash_path::Fnv1a;
+use dots::Refusal;
 use node_threads::{Asking, Channels, Letter, Naming, NodeEvent, Post, Served, new_node, serve};
-use replica_core::Replica;
 use root_cell::OpenedBook;
 use shared_object::NoGate;
 use std::alloc::Global;
@@ -15,7 +13,32 @@ use std::sync::Wait;
 use std::test::Fail;
 use std::thread::Threads;
 use std::{marker, thread};
-use wire_form::{Message, Session, encode};
+use wire_form::encode;
+
+// The hello of replica 2 to replica 1, session 1, which knows nothing.
+const HELLO: &[u8] = &[
+    3, 3, 0, 0, 0, 0, 0, 0, 0, 2, 0, 0, 0, 0, 0, 0, 0, 1, 0, 0, 0, 0, 0, 0, 0, 1, 0, 0, 0, 0, 0, 0,
+    0, 0, 0, 0, 0, 0, 0, 0, 0, 0,
+];
+
+// The delta of replica 1 that puts x on a.
+const DELTA: &[u8] = &[
+    1, 1, 0, 0, 0, 0, 0, 0, 0, 1, 0, 0, 0, 0, 0, 0, 0, 1, 0, 0, 0, 0, 0, 0, 0, 1, 0, 0, 0, 0, 0, 0,
+    0, 0, 0, 0, 0, 0, 0, 0, 0, 1, 0, 1, 97, 0, 0, 0, 0, 0, 0, 0, 1, 0, 0, 0, 0, 0, 0, 0, 1, 0, 0,
+    0, 0, 0, 0, 0, 1, 0, 1, 120,
+];
+
+// The one that puts x on the field f of a.
+const FIELD_DELTA: &[u8] = &[
+    3, 1, 0, 0, 0, 0, 0, 0, 0, 1, 0, 0, 0, 0, 0, 0, 0, 1, 0, 0, 0, 0, 0, 0, 0, 1, 0, 0, 0, 0, 0, 0,
+    0, 0, 0, 0, 0, 0, 0, 0, 0, 1, 0, 1, 97, 0, 0, 0, 0, 0, 0, 0, 1, 0, 1, 102, 0, 0, 0, 0, 0, 0, 0,
+    1, 0, 0, 0, 0, 0, 0, 0, 1, 0, 0, 0, 0, 0, 0, 0, 1, 0, 1, 120,
+];
+
+// A gone for the session 9 of replica 1 with replica 2.
+const GONE: &[u8] = &[
+    3, 7, 0, 0, 0, 0, 0, 0, 0, 1, 0, 0, 0, 0, 0, 0, 0, 2, 0, 0, 0, 0, 0, 0, 0, 9,
+];
 
 // For so many turns a client reads until it sees what it waits for.
 const TURNS: u64 = 10_000_000;
@@ -111,7 +134,7 @@ fn exchange<
     let last = finished_in_two(&rt, alloc, node, served, writer);
     let peer_last = finished_in_two(&rt, alloc, peer, peer_served, reader);
     let is_seen = is_seen == Ok(true) && is_served;
-    Ok(is_seen && last == Ok(Some((6, 1))) && peer_last == Ok(Some((3, 1))))
+    Ok(is_seen && last == Ok(Some((3, 1, 1, 0))) && peer_last == Ok(Some((3, 1, 1, 0))))
 }
 
 // Serves both nodes until their posts end, each in a thread of its own. Whether so much was delivered, refused and lost.
@@ -135,40 +158,64 @@ fn serve_both<
         || serve_held(rt, alloc, peer_served, peer_post),
     );
     let all = Served {
-        delivered: 5,
-        refused: 1,
-        lost: 1,
-    };
-    let peer_all = Served {
         delivered: 2,
         refused: 0,
         lost: 0,
     };
-    told == all && peer_told == peer_all
+    told == all && peer_told == all
+}
+
+#[test]
+fn what_comes_to_a_served_node_is_counted(rt: HostRuntime) -> Result<(), Fail> {
+    let alloc = rt.alloc();
+    let (to_node, inbox) = unbounded(alloc)?;
+    for bytes in [&[0], HELLO, DELTA] {
+        let _ = to_node.send(&rt, Letter::Mail(Vec::from_slice(alloc, bytes)?));
+    }
+    let _ = to_node.send(&rt, Letter::Stop);
+    let post = Channels {
+        inbox: &inbox,
+        outboxes: &[],
+    };
+    let told = serve_alone::<marker::Brand, _, _>(rt, alloc, OpenedBook::new(), &post);
+    let served = Served {
+        delivered: 2,
+        refused: 1,
+        lost: 1,
+    };
+    assert!(rt; told == Ok((served, Some((2, 1, 1, 0)))));
+    Ok(())
 }
 
 #[test]
 fn serving_ends_once_the_channel_is_closed(rt: HostRuntime) -> Result<(), Fail> {
     let alloc = rt.alloc();
     let (to_node, inbox) = unbounded(alloc)?;
-    let _ = to_node.send(&rt, Letter::Mail(Vec::new(alloc)));
+    for bytes in [&[], GONE, FIELD_DELTA] {
+        let _ = to_node.send(&rt, Letter::Mail(Vec::from_slice(alloc, bytes)?));
+    }
     drop(to_node);
     let post = Channels {
         inbox: &inbox,
         outboxes: &[],
     };
     let told = serve_alone::<marker::Brand, _, _>(rt, alloc, OpenedBook::new(), &post);
-    assert!(rt; told == Ok(true));
+    let served = Served {
+        delivered: 2,
+        refused: 1,
+        lost: 0,
+    };
+    assert!(rt; told == Ok((served, Some((2, 1, 1, 0)))));
     Ok(())
 }
 
-// Serves a node until its post ends. Whether one letter came, which is no message.
+// Serves a node until its post ends: what it counts, and what is there in the end.
 fn serve_alone<K: Naming, P: Post, R: Wait + Abort + Copy + Drop>(
     rt: R,
     alloc: Global,
     opened: OpenedBook<NodeEvent>,
     post: &P,
-) -> Result<bool, Refusal>
+) -> Result<(Served, Last), Refusal>
     requires book { opened.0 ≡ K.book }
     requires name { K.name ≡ 1 }
 {
@@ -176,13 +223,8 @@ fn serve_alone<K: Naming, P: Post, R: Wait + Abort + Copy + Drop>(
     let mut node: Shared<K, NoGate, R> = new_node(&rt, alloc, opened, own, 1, NoGate, rt)?;
     let mut served = hand_out(&mut node)?;
     let told = serve_held(&rt, alloc, &mut served, post);
-    let last = finished_alone(&rt, alloc, node, served);
-    let all = Served {
-        delivered: 0,
-        refused: 1,
-        lost: 0,
-    };
-    Ok(told == all && last == Ok(Some((0, 0))))
+    let last = finished_alone(&rt, alloc, node, served)?;
+    Ok((told, last))
 }
 
 fn serve_held<K: Naming, P: Post, R: Wait + Drop>(
@@ -194,8 +236,7 @@ fn serve_held<K: Naming, P: Post, R: Wait + Drop>(
     serve(rt, alloc, &mut held.client, post)
 }
 
-// Hands the one node what is no message, a hello for whose answer it has no outbox, a delta, and a gone for a session that it has not.
-// Writes there, has the other node ask it, waits until that one shows what was written and what the delta has, and ends both.
+// Writes at the one node, has the other node ask it, waits until that one shows what was written, and ends both.
 fn synchronise<K: Naming, L: Naming, O: Outside, R: Wait + Abort + Drop>(
     rt: &R,
     alloc: Global,
@@ -216,43 +257,14 @@ fn write_and_wait<K: Naming, L: Naming, O: Outside, R: Wait + Abort + Drop>(
     outside: &O,
 ) -> Result<bool, Refusal> {
     put(rt, alloc, writer, b"a", b"", b"x")?;
-    outside.hand(rt, Vec::new(alloc));
-    outside.hand(rt, hello(rt, alloc)?);
-    outside.hand(rt, delta(rt, alloc)?);
-    outside.hand(rt, gone(rt, alloc)?);
     let peer = name(rt, 1);
     let ((_number, hello), _receipt) = reader.client.call(rt, &Asking { alloc, peer })?;
     outside.hand(rt, encode(alloc, &hello)?);
     for _ in 0..TURNS {
         if has(alloc, reader, b"a", b"", Some(b"x"))? {
-            return has(alloc, reader, b"a", b"f", Some(b"y"));
+            return Ok(true);
         }
         thread::yield_now();
     }
     Ok(false)
-}
-
-// The bytes of a hello of replica 3 to replica 1, whose map is empty.
-fn hello(rt: &impl Abort, alloc: Global) -> Result<Vec<u8>, Refusal> {
-    let mut asker = Replica::new(alloc, name(rt, 3), Fnv1a);
-    let (_number, hello) = asker.ask(name(rt, 1))?;
-    encode(alloc, &hello)
-}
-
-// The bytes of what replica 3 puts on a field of the key.
-fn delta(rt: &impl Abort, alloc: Global) -> Result<Vec<u8>, Refusal> {
-    let (key, field) = (Key::new(alloc, b"a")?, Field::new(alloc, b"f")?);
-    let value = Value::new(alloc, b"y")?;
-    let mut writer = Replica::new(alloc, name(rt, 3), Fnv1a);
-    let _dot = writer.put_field(&key, &field, &value)?;
-    match writer.flush()? {
-        None => Err(Refusal::UnknownMessage),
-        Some(message) => encode(alloc, &message),
-    }
-}
-
-// The bytes of a gone for a session of replica 1 that is not open.
-fn gone(rt: &impl Abort, alloc: Global) -> Result<Vec<u8>, Refusal> {
-    let session = Session::new(name(rt, 1), name(rt, 2), 9).ok_or(Refusal::UnknownMessage)?;
-    encode(alloc, &Message::Gone(session))
 }

@@ -4,9 +4,9 @@ use std::process::Abort;
 #[test]
 fn fields_of_a_key_are_written_and_removed_apart(rt: HostRuntime) {
     let trace =
-        "node 1\nnode 2\nputf 1 a f x\nput 2 a y\nflush 1\nflush 2\ndeliver 1 2\ndeliver 2 1\nget 1 a\ngetf 1 a f\nfields 1 a\nshow 1\nputf 2 a f z\nremovef 1 a f\nflush 2\nflush 1\ndeliver 3 1\ndeliver 4 2\nfields 1 a\nremove 1 a\nsize 1\ngetf 1 a f\n";
+        "node 1\nnode 2\nputf 1 a f x\nput 2 a y\nflush 1\nflush 2\ndeliver 1 2\ndeliver 2 1\nget 1 a\ngetf 1 a f\nfields 1 a\nshow 1\nputf 2 a f z\nremovef 1 a f\nflush 2\nflush 1\ndeliver 3 1\ndeliver 4 2\nfields 1 a\nfields 2 a\nremove 1 a\nsize 1\ngetf 1 a f\n";
     let text =
-        "ok\nok\nok 1:1\nok 2:1\nsent 1:delta\nsent 2:delta\njoined\njoined\n= y\n= x\nfields 2 # 1 y f 1 x\nmap 1 a 2 x y\nok 2:2\nok 1\nsent 3:delta\nsent 4:delta\njoined\njoined\nfields 2 # 1 y f 1 z\nok 2\nsize 0\n=\n";
+        "ok\nok\nok 1:1\nok 2:1\nsent 1:delta\nsent 2:delta\njoined\njoined\n= y\n= x\nfields 2 # 1 y f 1 x\nmap 1 a 2 x y\nok 2:2\nok 1\nsent 3:delta\nsent 4:delta\njoined\njoined\nfields 2 # 1 y f 1 z\nfields 2 # 1 y f 1 z\nok 2\nsize 0\n=\n";
     answers(&rt, rt.alloc(), trace, text);
 }
 

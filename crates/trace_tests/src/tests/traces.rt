@@ -108,6 +108,8 @@ fn faults_are_found_in_their_order(rt: HostRuntime) {
     assert!(rt;
         gives(&rt, rt.alloc(), "node 1\n\nnode 1\nnode 2\n", taken) == Err(Refusal::NameTaken)
     );
+    let twice = "ok\nerror line 2: NameTaken\n";
+    assert!(rt; gives(&rt, rt.alloc(), "node 1\nnode 1\n", twice) == Err(Refusal::NameTaken));
     let message = "ok\nerror line 2: UnknownMessage\n";
     assert!(rt;
         gives(&rt, rt.alloc(), "node 1\ndeliver 1 1\nnode 2", message)
