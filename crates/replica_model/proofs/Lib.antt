@@ -17,5 +17,6 @@ pub mod Limits
 pub mod Happening
 pub mod Askers
 pub mod Asks
+pub mod Staying
 pub mod Taking
 pub mod Histories

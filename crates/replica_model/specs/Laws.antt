@@ -18,7 +18,8 @@ use Rattle.sync_model.specs.Differ.{Held}
 use Rattle.replica_model.specs.Mail.{Mail, Delta, Hello, Opening, Ask, Page, Gone}
 use Rattle.replica_model.specs.Replica.{Replica, Open, Accepted, Kept, LIMIT, open_at, kept_at}
 use Rattle.replica_model.specs.Delivery.{Sent, Done}
-use Rattle.replica_model.specs.Step.{Call, Do, Act, Answer, Came, IsStep, Refuses}
+use Rattle.replica_model.specs.Step.{Call, Put, Remove, RemoveField, Clear, Flush, Retry, Abandon, Do, Take, Act, Answer, Came, IsStep, Refuses}
+use Rattle.replica_model.specs.Step as step
 use Rattle.replica_model.specs.World.{World, Event, Node, At, Deliver, Message, sets_of, message_at, no_snapshot, nothing, Happens, RefusesEvent, Runs, Unclashed}
 use Rattle.replica_model.specs.Sessions.{IsTakenOf, IsAskOf, IsSession, IsEnd}
 
@@ -193,6 +194,43 @@ abbrev pub SnapshotsKnowWhatWasAsked : Type 0
 SnapshotsKnowWhatWasAsked = (hash_of : List ℕ → ℕ) (events : List Event) (w : World) → Runs hash_of nothing events w
     → (asker answerer : ℕ) (o : Open) (k : Kept) → Contains (w.replica asker).sessions o → Contains (w.replica answerer).kept k
     → k.session ≡ o.session → o.seen ≡ k.seen
+
+-- an act is of an open session: it takes in what is for the asker of that session, or gives the session up
+abbrev pub IsOfOpen : Open → Act → Type 0
+IsOfOpen o (Take (Delta d)) = ⊥
+IsOfOpen o (Take (Hello s known)) = ⊥
+IsOfOpen o (Take (Opening s context root)) = o.session ≡ s
+IsOfOpen o (Take (Ask s prefix)) = ⊥
+IsOfOpen o (Take (Page s sent)) = o.session ≡ s
+IsOfOpen o (Take (Gone s)) = o.session ≡ s
+IsOfOpen o (Do (Put place value)) = ⊥
+IsOfOpen o (Do (Remove key)) = ⊥
+IsOfOpen o (Do (RemoveField place)) = ⊥
+IsOfOpen o (Do Clear) = ⊥
+IsOfOpen o (Do Flush) = ⊥
+IsOfOpen o (Do (step.Ask peer)) = ⊥
+IsOfOpen o (Do (Retry number)) = ⊥
+IsOfOpen o (Do (Abandon number)) = number ≡ o.session.number
+
+-- a step leaves each open session as it is, its own map, what it had seen, the opening that it accepted and what it fetched, but the one that it is of
+abbrev pub SessionsStay : Type 0
+SessionsStay = (hash_of : List ℕ → ℕ) (old new : Replica) (act : Act) (answer : Answer) (out : List Mail) → IsStep hash_of old act new answer out
+    → (o : Open) → Contains old.sessions o → ¬ IsOfOpen o act → Contains new.sessions o
+
+-- an act has a snapshot kept: it takes in the hello of a session for which none was kept
+abbrev pub IsNewFor : Replica → Act → Kept → Type 0
+IsNewFor old (Take (Hello s known)) k = (k.session ≡ s) × (kept_at old.kept s ≡ None)
+IsNewFor old (Take (Delta d)) k = ⊥
+IsNewFor old (Take (Opening s context root)) k = ⊥
+IsNewFor old (Take (Ask s prefix)) k = ⊥
+IsNewFor old (Take (Page s sent)) k = ⊥
+IsNewFor old (Take (Gone s)) k = ⊥
+IsNewFor old (Do call) k = ⊥
+
+-- a step changes no kept snapshot: each that is kept afterwards was kept before, or is that of the hello that it took in
+abbrev pub SnapshotsStay : Type 0
+SnapshotsStay = (hash_of : List ℕ → ℕ) (old new : Replica) (act : Act) (answer : Answer) (out : List Mail) → IsStep hash_of old act new answer out
+    → (k : Kept) → Contains new.kept k → Contains old.kept k ⊎ IsNewFor old act k
 
 -- a delivery was taken
 abbrev pub IsTaken : Answer → Type 0

@@ -13,7 +13,7 @@ pub use sessions::{
     sessions_are_of_asks_and_snapshots, sessions_take_what_they_wait_for,
     snapshots_are_for_what_askers_knew,
 };
-pub use steps::{histories_are_one, steps_are_one};
+pub use steps::{histories_are_one, steps_are_one, steps_leave_other_sessions};
 pub use worlds::{
     each_event_happens_or_is_refused, events_leave_all_else, replicas_stay_within_limits,
     worlds_are_one, worlds_are_sound,
