@@ -4,3 +4,4 @@ pub mod Keeping
 pub mod Replaces
 pub mod Showing
 pub mod Accepting
+pub mod Foreseen
