@@ -4,4 +4,3 @@ pub mod Kept
 pub mod Happened
 pub mod Shown
 pub mod Refusing
-pub mod Foreseeing

@@ -4,4 +4,3 @@ pub mod Keeping
 pub mod Replaces
 pub mod Showing
 pub mod Accepting
-pub mod Foreseen

@@ -72,7 +72,7 @@ fn unsent<H: PathHash, A: Allocator + Copy>(
         return Some(Refusal::UnknownReplica);
     }
     match posted.get(number) {
-        Some(_) => None,
+        Some(_bytes) => None,
         None => Some(Refusal::UnknownMessage),
     }
 }

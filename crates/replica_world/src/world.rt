@@ -1,4 +1,4 @@
-ghost use Rattle.std.specs.Prelude.{◌≡◌, ◌⊎◌, ◌+◌, ◌++◌, [], ◌∷◌, map, true, false, Some, None, IfOk, IfErr, OnOk, OnErr, IfSome, IsErrOf, IsNone, IsOkUnless};
+ghost use Rattle.std.specs.Prelude.{◌≡◌, ◌⊎◌, ◌+◌, ◌++◌, [], ◌∷◌, map, true, false, Some, None, IfOk, IfErr, OnOk, OnErr, IfSome, IsNone, IsOkUnless};
 ghost use Rattle.dots.specs.declared.refusal.Refusal.TheVariants.{OutOfMemory};
 ghost use Rattle.wire_form.specs.Message.{message_of};
 ghost use Rattle.replica_model.specs.Mail.{mail_of};
@@ -6,13 +6,11 @@ ghost use Rattle.replica_model.specs.World as model;
 ghost use Rattle.replica_model.specs.World.{nothing, is_node, message_at, RefusesEvent, Runs, Unclashed};
 ghost use Rattle.replica_core.specs.Meaning.{hash_in, meaning};
 ghost use Rattle.replica_world.specs.Accepting.{IsTold};
-ghost use Rattle.replica_world.specs.Foreseen.{foreseen_in};
 ghost use Rattle.replica_world.specs.Showing.{ShowsOperations};
 ghost use Rattle.replica_world.specs.Spelled.{IsSpelled};
 
 use crate::delivering::read;
 use crate::event::Event;
-use crate::foreseeing::foreseen;
 use crate::happening::happen;
 use crate::posted::Posted;
 use crate::told::Told;
@@ -67,23 +65,17 @@ impl<H: PathHash, A: Allocator + Copy> World<H, A> {
 
     /// Makes the event happen, and tells what it was answered and which messages it made.
     ///
-    /// Its refusals are NameTaken, exactly where a new replica has the name of one that is there; UnknownReplica, exactly where a call, its
-    /// peer, or a delivery is for one that is not there; UnknownMessage, exactly where there is the replica and no message has the number;
-    /// those of the replica's call, before which there may be no memory for one more event; and OutOfMemory. A refused event changes nothing
-    /// and is not kept in the past. Takes what the call takes, and the logarithm of the number of replicas.
+    /// Its refusals are NameTaken, only where a new replica has the name of one that is there; UnknownReplica, only where a call, its
+    /// peer, or a delivery is for one that is not there; UnknownMessage, only where no message has the number; those of the replica's
+    /// call; and OutOfMemory. A refused event changes nothing and is not kept in the past. Takes what the call takes, and the logarithm of the number of replicas.
     pub fn event(&mut self, event: Event<A>) -> Result<Told, Refusal>
         ensures ok { OnOk result (self.new ≡ record { hash = self.old.hash; past = self.old.past ++ event_value event ∷ [] }) }
         ensures happened { IfOk result (λ told. (w : model.World) → Runs (H.hash_of self.old.hash) nothing self.old.past w
             → IsTold (H.hash_of self.old.hash) self.old.past w (event_value event) (answer_value told.answer) told.made.start told.made.end) }
         ensures refused { IfErr result (λ refusal. (w : model.World) → Runs (H.hash_of self.old.hash) nothing self.old.past w
             → (refusal ≡ OutOfMemory) ⊎ RefusesEvent w (event_value event) refusal) }
-        ensures foreseen { (w : model.World) → Runs (H.hash_of self.old.hash) nothing self.old.past w
-            → (refusal : Refusal) → foreseen_in w (event_value event) ≡ Some refusal → IsErrOf result refusal }
         ensures unchanged { OnErr result (self.new ≡ self.old) }
     {
-        if let Some(refusal) = foreseen(&self.replicas, &self.posted, &event) {
-            return Err(refusal);
-        }
         let first = self.posted.len() + 1;
         self.past.reserve(1)?;
         let answer = match happen(
