@@ -1,4 +1,4 @@
-use Rattle.std.proofs.Common.{arith}
+use Rattle.std.proofs.Common.{arith, subst, sym}
 use Rattle.node_threads.proofs.Inboxes.{took_by, took_nothing, took_then}
 use Rattle.node_threads.proofs.serving.serve.Goals as goal
 
@@ -8,7 +8,7 @@ loop-init g c = (took_nothing (g.P.Post.comes c.args.post.now) c.args.client.now
 pub loop-preserved : goal.loop-preserved
 loop-preserved g c = (
   took_then (g.P.Post.comes c.args.post.now) c.args.client.now c.loop.client c.take_in.new.client c.loop.invariant.0
-      (took_by (g.P.Post.comes c.args.post.now) c.in_some-receive.bytes.items c.loop.client c.take_in.new.client c.in_some-receive.ensures c.take_in.ensures.took_in),
+      (took_by (g.P.Post.comes c.args.post.now) c.deref.result.now c.loop.client c.take_in.new.client (subst (g.P.Post.comes c.args.post.now) (sym c.deref.ensures.value) c.in-Some-receive.ensures) c.take_in.ensures.took_in),
   c.loop.invariant.1,
 )
 

@@ -1,4 +1,4 @@
-use Rattle.std.proofs.Common.{refl}
+use Rattle.std.proofs.Common.{◌≡◌, refl}
 use Rattle.node_threads.proofs.Inboxes.{took_as_nothing, took_one}
 use Rattle.node_threads.proofs.serving.take_in.Goals as goal
 
