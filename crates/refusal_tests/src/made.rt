@@ -1,14 +1,13 @@
 // Replicas in a heap, and what they show.
 use dots::{Key, Name, Refusal, Value};
 use hash_path::Fnv1a;
-use linked_list_allocator::LocalHeap;
 use replica_core::{Delivered, Replica};
+use std::alloc::Allocator;
 use std::process::Abort;
 use wire_form::Message;
 
-pub(crate) type Here<'a> = Replica<Fnv1a, &'a LocalHeap>;
-
-pub(crate) type Letter<'a> = Message<&'a LocalHeap>;
+// Generic in the allocator, as the borrow checker's part of a proof does not cover these types at a heap that is lent.
+pub(crate) type Here<A> = Replica<Fnv1a, A>;
 
 // The name of this number, which is not 0.
 pub(crate) fn name(rt: &impl Abort, number: u64) -> Name {
@@ -16,14 +15,14 @@ pub(crate) fn name(rt: &impl Abort, number: u64) -> Name {
 }
 
 // A replica of this name, which is not 0, to which nothing happened.
-pub(crate) fn replica<'a>(rt: &impl Abort, heap: &'a LocalHeap, number: u64) -> Here<'a> {
+pub(crate) fn replica<A: Allocator + Copy>(rt: &impl Abort, heap: A, number: u64) -> Here<A> {
     Replica::new(heap, name(rt, number), Fnv1a)
 }
 
 // Puts the value on the key, and gives the number of its dot.
-pub(crate) fn put<'a>(
-    heap: &'a LocalHeap,
-    here: &mut Here<'a>,
+pub(crate) fn put<A: Allocator + Copy>(
+    heap: A,
+    here: &mut Here<A>,
     key: &[u8],
     value: &[u8],
 ) -> Result<u64, Refusal> {
@@ -34,7 +33,7 @@ pub(crate) fn put<'a>(
 }
 
 // Puts values on 40 keys.
-pub(crate) fn put_forty<'a>(heap: &'a LocalHeap, here: &mut Here<'a>) -> Result<(), Refusal> {
+pub(crate) fn put_forty<A: Allocator + Copy>(heap: A, here: &mut Here<A>) -> Result<(), Refusal> {
     for number in 0..40u64 {
         put(heap, here, &number.to_be_bytes(), b"v")?;
     }
@@ -42,7 +41,7 @@ pub(crate) fn put_forty<'a>(heap: &'a LocalHeap, here: &mut Here<'a>) -> Result<
 }
 
 // The first reply.
-pub(crate) fn first<'t, 'a>(told: &'t Delivered<&'a LocalHeap>) -> Result<&'t Letter<'a>, Refusal> {
+pub(crate) fn first<A: Allocator + Copy>(told: &Delivered<A>) -> Result<&Message<A>, Refusal> {
     told.replies.first().ok_or(Refusal::UnknownMessage)
 }
 
@@ -56,14 +55,14 @@ pub(crate) struct Shown {
 }
 
 // How far it knows the replica of this name.
-fn known(here: &Here<'_>, number: u64) -> u64 {
+fn known<A: Allocator + Copy>(here: &Here<A>, number: u64) -> u64 {
     match Name::new(number) {
         Some(name) => here.context().entry(name),
         None => 0,
     }
 }
 
-pub(crate) fn what_shows(here: &Here<'_>) -> Shown {
+pub(crate) fn what_shows<A: Allocator + Copy>(here: &Here<A>) -> Shown {
     Shown {
         digest: here.digest(),
         size: here.size(),

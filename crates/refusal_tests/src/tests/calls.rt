@@ -3,7 +3,7 @@ use crate::made::{Here, Shown, name, put, put_forty, replica, what_shows};
 use crate::trial::{Trial, refusals, wanted};
 use dots::{Key, Refusal};
 use linked_list_allocator::LocalHeap;
-use std::alloc::Global;
+use std::alloc::{Allocator, Global};
 use std::process::Abort;
 use std::test::Fail;
 
@@ -21,14 +21,14 @@ enum Act {
 
 // Such a call, of a replica that showed this before.
 #[derive(Drop)]
-struct Calling<'a, 'r> {
-    heap: &'a LocalHeap,
-    here: &'r mut Here<'a>,
+struct Calling<'r, A: Allocator + Copy> {
+    heap: A,
+    here: &'r mut Here<A>,
     before: Shown,
     act: Act,
 }
 
-impl<'a, 'r> Trial for Calling<'a, 'r> {
+impl<'r, A: Allocator + Copy> Trial for Calling<'r, A> {
     fn attempt(&mut self) -> Result<(), Refusal> {
         match self.act {
             Act::Put => wanted(put(self.heap, self.here, b"more", b"v")? == 41),
@@ -47,34 +47,35 @@ impl<'a, 'r> Trial for Calling<'a, 'r> {
 }
 
 // Removes one of the forty keys.
-fn remove<'a>(heap: &'a LocalHeap, here: &mut Here<'a>) -> Result<u64, Refusal> {
+fn remove<A: Allocator + Copy>(heap: A, here: &mut Here<A>) -> Result<u64, Refusal> {
     let key = Key::new(heap, &7u64.to_be_bytes())?;
     here.remove(&key)
 }
 
 // A flush sends what was made.
-fn flush(here: &mut Here<'_>) -> Result<(), Refusal> {
+fn flush<A: Allocator + Copy>(here: &mut Here<A>) -> Result<(), Refusal> {
     wanted(here.flush()?.is_some())
 }
 
 // The first ask that is made has the number 1, however often one was refused before.
-fn ask(here: &mut Here<'_>) -> Result<(), Refusal> {
+fn ask<A: Allocator + Copy>(here: &mut Here<A>) -> Result<(), Refusal> {
     let peer = here.name();
     let (number, _hello) = here.ask(peer)?;
     wanted(number == 1)
 }
 
 // A copy shows the same.
-fn copy(here: &Here<'_>) -> Result<(), Refusal> {
+fn copy<A: Allocator + Copy>(here: &Here<A>) -> Result<(), Refusal> {
     let copy = here.copy()?;
     wanted(what_shows(&copy) == what_shows(here))
 }
 
-// How often the call is refused.
-fn tried<'a>(
+// How often the call is refused in this small heap, of which the replica has its memory.
+fn tried<A: Allocator + Copy>(
     alloc: Global,
-    heap: &'a LocalHeap,
-    here: &mut Here<'a>,
+    small: &LocalHeap,
+    heap: A,
+    here: &mut Here<A>,
     act: Act,
 ) -> Result<usize, Refusal> {
     let before = what_shows(here);
@@ -84,24 +85,25 @@ fn tried<'a>(
         before,
         act,
     };
-    refusals(alloc, heap, &mut calling)
+    refusals(alloc, small, &mut calling)
 }
 
 // How often this call is refused.
-fn is_tried<'a>(
+fn is_tried<A: Allocator + Copy>(
     alloc: Global,
-    heap: &'a LocalHeap,
-    here: &mut Here<'a>,
+    small: &LocalHeap,
+    heap: A,
+    here: &mut Here<A>,
     act: Act,
 ) -> Result<usize, Refusal> {
     match act {
-        Act::Flush => flush_is_tried(alloc, heap, here),
-        act => tried(alloc, heap, here, act),
+        Act::Flush => flush_is_tried(alloc, small, heap, here),
+        act => tried(alloc, small, heap, here, act),
     }
 }
 
 // Sends what was made, and makes three more.
-fn send<'a>(heap: &'a LocalHeap, here: &mut Here<'a>) -> Result<(), Refusal> {
+fn send<A: Allocator + Copy>(heap: A, here: &mut Here<A>) -> Result<(), Refusal> {
     flush(here)?;
     for key in [b"p", b"q", b"r"] {
         put(heap, here, key, b"v")?;
@@ -110,25 +112,27 @@ fn send<'a>(heap: &'a LocalHeap, here: &mut Here<'a>) -> Result<(), Refusal> {
 }
 
 // How often a flush of three writes is refused.
-fn flush_is_tried<'a>(
+fn flush_is_tried<A: Allocator + Copy>(
     alloc: Global,
-    heap: &'a LocalHeap,
-    here: &mut Here<'a>,
+    small: &LocalHeap,
+    heap: A,
+    here: &mut Here<A>,
 ) -> Result<usize, Refusal> {
     send(heap, here)?;
-    tried(alloc, heap, here, Act::Flush)
+    tried(alloc, small, heap, here, Act::Flush)
 }
 
 // How often the call of a new replica is refused.
-fn tried_anew(
+fn tried_anew<A: Allocator + Copy>(
     rt: &impl Abort,
     alloc: Global,
-    heap: &LocalHeap,
+    small: &LocalHeap,
+    heap: A,
     act: Act,
 ) -> Result<usize, Refusal> {
     let mut here = replica(rt, heap, 1);
     match put_forty(heap, &mut here) {
-        Ok(()) => is_tried(alloc, heap, &mut here, act),
+        Ok(()) => is_tried(alloc, small, heap, &mut here, act),
         Err(refusal) => Err(refusal),
     }
 }
@@ -136,7 +140,7 @@ fn tried_anew(
 // The same in a heap of its own, which is empty in the end.
 fn tried_in_a_heap(rt: &impl Abort, alloc: Global, act: Act) -> Result<usize, Fail> {
     let heap = LocalHeap::new(alloc, 60_000)?;
-    let count = tried_anew(rt, alloc, &heap, act)?;
+    let count = tried_anew(rt, alloc, &heap, &heap, act)?;
     if heap.used() != 0 {
         return Err("memory is kept".into());
     }
