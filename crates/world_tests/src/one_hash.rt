@@ -1,29 +1,34 @@
 // A world in which all keys have one hash.
-use crate::lines::{Line, event, name};
+use crate::lines::{Comes, Line, event, name};
+use crate::scenes::comes_to;
 use dots::{Key, Refusal, Value};
 use hash_path::SameHash;
-use replica_core::Replica;
+use replica_core::{Outcome, Replica};
 use replica_world::World;
 use std::alloc::Global;
 
+const JOINED: Comes = Comes::Outcome(Outcome::Joined);
+
 // Two replicas put at once, and each takes in what the other sent.
-const LINES: [Line; 8] = [
-    Line::Node(1),
-    Line::Node(2),
-    Line::Put(1, b'a', b'x'),
-    Line::Put(2, b'a', b'y'),
-    Line::Flush(1),
-    Line::Flush(2),
-    Line::Deliver(1, 2),
-    Line::Deliver(2, 1),
+const LINES: [(Line, Comes, u64); 8] = [
+    (Line::Node(1), Comes::Nothing, 0),
+    (Line::Node(2), Comes::Nothing, 0),
+    (Line::Put(1, b'a', b'x'), Comes::Dot(1, 1), 0),
+    (Line::Put(2, b'a', b'y'), Comes::Dot(2, 1), 0),
+    (Line::Flush(1), Comes::Nothing, 1),
+    (Line::Flush(2), Comes::Nothing, 1),
+    (Line::Deliver(1, 2), JOINED, 0),
+    (Line::Deliver(2, 1), JOINED, 0),
 ];
 
-fn happen(alloc: Global, world: &mut World<SameHash>) -> Result<(), Refusal> {
-    for line in LINES {
+// Whether each comes to what stands beside it.
+fn happen(alloc: Global, world: &mut World<SameHash>) -> Result<bool, Refusal> {
+    let mut all = true;
+    for (line, comes, made) in LINES {
         let event = event(alloc, line)?;
-        world.event(event)?;
+        all &= comes_to(world, event, comes, made);
     }
-    Ok(())
+    Ok(all)
 }
 
 // Whether these are the values x and y.
@@ -49,10 +54,10 @@ fn shows_at(alloc: Global, world: &World<SameHash>, at: u64) -> Result<bool, Ref
 
 // Whether both show both values then.
 fn both_show(alloc: Global, world: &mut World<SameHash>) -> Result<bool, Refusal> {
-    happen(alloc, world)?;
+    let happened = happen(alloc, world)?;
     let first = shows_at(alloc, world, 1)?;
     let second = shows_at(alloc, world, 2)?;
-    Ok(first && second)
+    Ok(happened && first && second)
 }
 
 // The same of a new world.

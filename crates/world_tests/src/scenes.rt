@@ -1,7 +1,7 @@
 // What a world is tried with, scene by scene.
 use crate::lines::{Comes, Line, event, is_answer, is_refusal, name};
 use dots::{Key, Refusal, Value};
-use hash_path::Fnv1a;
+use hash_path::{Fnv1a, PathHash};
 use replica_core::Replica;
 use replica_world::{Event, World};
 use std::alloc::Global;
@@ -68,7 +68,12 @@ fn happen(alloc: Global, world: &mut World, lines: &[(Line, Comes, u64)]) -> Res
 }
 
 // Whether an event comes to this, and makes so many messages; a refused one makes none.
-fn comes_to(world: &mut World, event: Event, comes: Comes, made: u64) -> bool {
+pub(crate) fn comes_to<H: PathHash>(
+    world: &mut World<H>,
+    event: Event,
+    comes: Comes,
+    made: u64,
+) -> bool {
     match world.event(event) {
         Ok(told) => {
             is_answer(told.answer, comes) && told.made.end.wrapping_sub(told.made.start) == made
