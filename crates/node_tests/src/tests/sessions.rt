@@ -94,18 +94,50 @@ fn flush_and_take<K: Naming, R: Wait + Drop>(
     alloc: Global,
     held: &mut Held<K, NoGate, R>,
 ) -> Result<bool, Refusal> {
-    let (first, _receipt) = held.client.call(rt, &Flushing { alloc })?;
-    let (second, _receipt) = held.client.call(rt, &Flushing { alloc })?;
-    let Some(message) = first else {
-        return Ok(false);
-    };
-    let delivering = Delivering {
-        alloc,
-        message: &message,
-    };
-    let (told, _receipt) = held.client.call(rt, &delivering)?;
-    let is_bare = is_bare(alloc, &message)?;
-    Ok(second.is_none() && is_bare && told.outcome == Outcome::Joined)
+    match flushed(rt, alloc, held)? {
+        None => Ok(false),
+        Some(message) => is_all(rt, alloc, held, &message),
+    }
+}
+
+fn flushed<K: Naming, R: Wait + Drop>(
+    rt: &R,
+    alloc: Global,
+    held: &mut Held<K, NoGate, R>,
+) -> Result<Option<Message>, Refusal> {
+    let (told, _receipt) = held.client.call(rt, &Flushing { alloc })?;
+    Ok(told)
+}
+
+fn is_all<K: Naming, R: Wait + Drop>(
+    rt: &R,
+    alloc: Global,
+    held: &mut Held<K, NoGate, R>,
+    message: &Message,
+) -> Result<bool, Refusal> {
+    let is_last = flushes_nothing(rt, alloc, held)?;
+    let is_bare = is_bare(alloc, message)?;
+    let is_joined = joins(rt, alloc, held, message)?;
+    Ok(is_last && is_bare && is_joined)
+}
+
+fn flushes_nothing<K: Naming, R: Wait + Drop>(
+    rt: &R,
+    alloc: Global,
+    held: &mut Held<K, NoGate, R>,
+) -> Result<bool, Refusal> {
+    let told = flushed(rt, alloc, held)?;
+    Ok(told.is_none())
+}
+
+fn joins<K: Naming, R: Wait + Drop>(
+    rt: &R,
+    alloc: Global,
+    held: &mut Held<K, NoGate, R>,
+    message: &Message,
+) -> Result<bool, Refusal> {
+    let (told, _receipt) = held.client.call(rt, &Delivering { alloc, message })?;
+    Ok(told.outcome == Outcome::Joined)
 }
 
 // Asks a peer, asks again, and gives it up twice; an abandon of nothing is a call too. Whether these are the answers.
@@ -114,13 +146,31 @@ fn ask_and_abandon<K: Naming, R: Wait + Abort + Drop>(
     alloc: Global,
     held: &mut Held<K, NoGate, R>,
 ) -> Result<bool, Refusal> {
-    let peer = name(rt, 2);
-    let ((number, _hello), _receipt) = held.client.call(rt, &Asking { alloc, peer })?;
-    let (again, _receipt) = held.client.call(rt, &Retrying { alloc, number })?;
-    let is_again = again.outcome == Outcome::Sent && again.replies.len() == 1;
+    let number = asks(rt, alloc, held)?;
+    let is_again = asks_again(rt, alloc, held, number)?;
     let was_open = abandon(rt, alloc, held, number)?;
     let is_open = abandon(rt, alloc, held, number)?;
     Ok(number == 1 && is_again && was_open && !is_open)
+}
+
+fn asks<K: Naming, R: Wait + Abort + Drop>(
+    rt: &R,
+    alloc: Global,
+    held: &mut Held<K, NoGate, R>,
+) -> Result<u64, Refusal> {
+    let peer = name(rt, 2);
+    let ((number, _hello), _receipt) = held.client.call(rt, &Asking { alloc, peer })?;
+    Ok(number)
+}
+
+fn asks_again<K: Naming, R: Wait + Drop>(
+    rt: &R,
+    alloc: Global,
+    held: &mut Held<K, NoGate, R>,
+    number: u64,
+) -> Result<bool, Refusal> {
+    let (again, _receipt) = held.client.call(rt, &Retrying { alloc, number })?;
+    Ok(again.outcome == Outcome::Sent && again.replies.len() == 1)
 }
 
 fn abandon<K: Naming, R: Wait + Drop>(
