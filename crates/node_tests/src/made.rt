@@ -3,9 +3,10 @@ ghost use Rattle.std.specs.Prelude.{◌≡◌};
 
 use dots::{Field, Key, Name, Refusal, Value};
 use node_threads::{
-    Clearing, Client, Containing, FieldListing, FieldRemoving, Getting, Lock, Naming, Node,
-    Putting, Receipt, Removing, Sharing, Sizing,
+    Clearing, Client, Containing, FieldRemoving, Getting, Lock, Naming, Node, Putting, Receipt,
+    Removing, Sharing, Sizing,
 };
+use replica_core::Replica;
 use shared_object::{Gate, Look};
 use std::alloc::Global;
 use std::process::Abort;
@@ -42,14 +43,30 @@ fn is_full<K: Naming, G: Gate + Drop, R: Wait + Drop>(node: &mut Shared<K, G, R>
     }
 }
 
-// How many calls there were and how many keys the replica of a node holds that is handed these clients. None where it does not come out.
+// How many calls there were, how many keys the replica of a node holds that is handed these clients, and how far it knows the replicas 1
+// and 2. None where it does not come out.
+pub(crate) type Last = Option<(u64, u64, u64, u64)>;
+
+// How far a replica knows that of this name.
+fn known(here: &Replica, number: u64) -> u64 {
+    match Name::new(number) {
+        Some(name) => here.context().entry(name),
+        None => 0,
+    }
+}
+
+// What is there in the end.
+fn told(operations: u64, here: &Replica) -> (u64, u64, u64, u64) {
+    (operations, here.size(), known(here, 1), known(here, 2))
+}
+
 fn finished<K: Naming, G: Gate + Drop, R: Wait + Drop>(
     rt: &R,
     node: Shared<K, G, R>,
     clients: Vec<Client<K, Lock<K, G, R>>>,
-) -> Option<(u64, u64)> {
+) -> Last {
     match node.finish(rt, clients) {
-        Ok(finished) => Some((finished.operations, finished.object.size())),
+        Ok(finished) => Some(told(finished.operations, &finished.object)),
         Err(_) => None,
     }
 }
@@ -62,7 +79,7 @@ pub(crate) fn finished_in_two<K: Naming, G: Gate + Drop, R: Wait + Drop>(
     node: Shared<K, G, R>,
     first: Held<K, G, R>,
     second: Held<K, G, R>,
-) -> Result<Option<(u64, u64)>, Refusal> {
+) -> Result<Last, Refusal> {
     let mut node = node;
     let is_full = is_full(&mut node);
     let mut clients = Vec::new(alloc);
@@ -84,7 +101,7 @@ pub(crate) fn finished_in_three<K: Naming, G: Gate + Drop, R: Wait + Drop>(
     first: Held<K, G, R>,
     second: Held<K, G, R>,
     third: Held<K, G, R>,
-) -> Result<Option<(u64, u64)>, Refusal> {
+) -> Result<Last, Refusal> {
     let mut clients = Vec::with_capacity(alloc, 3)?;
     clients.push(first.client)?;
     clients.push(second.client)?;
@@ -98,7 +115,7 @@ pub(crate) fn finished_alone<K: Naming, G: Gate + Drop, R: Wait + Drop>(
     alloc: Global,
     node: Shared<K, G, R>,
     only: Held<K, G, R>,
-) -> Result<Option<(u64, u64)>, Refusal> {
+) -> Result<Last, Refusal> {
     let mut clients = Vec::new(alloc);
     clients.push(only.client)?;
     Ok(finished(rt, node, clients))
@@ -197,17 +214,6 @@ pub(crate) fn has<K: Naming, G: Gate + Drop, R: Wait + Drop>(
         ([one], Some(value)) => Ok(one.bytes() == value),
         _ => Ok(false),
     }
-}
-
-// How many fields of the key hold a value.
-pub(crate) fn field_count<K: Naming, G: Gate + Drop, R: Wait + Drop>(
-    alloc: Global,
-    held: &mut Held<K, G, R>,
-    key: &[u8],
-) -> Result<usize, Refusal> {
-    let key = Key::new(alloc, key)?;
-    let found = held.client.look(&FieldListing { alloc, key: &key })??;
-    Ok(found.len())
 }
 
 // How many keys hold a value.

@@ -1,5 +1,6 @@
 // What clients of a node are told, and how it ends.
 mod beside;
+mod kept;
 mod meanwhile;
 mod served;
 mod sessions;

@@ -6,14 +6,16 @@ use Rattle.causal_join.specs.OrMap.{FieldsValue}
 use Rattle.dots.specs.declared.refusal.Refusal.{Refusal}
 use Rattle.dots.specs.declared.refusal.Refusal.TheVariants.{OutOfMemory}
 use Rattle.hash_path.specs.Fnv1a.{fnv1a}
-use Rattle.replica_model.proofs.Histories.{history_on}
+use Rattle.replica_model.proofs.Histories.{after_one, history_on}
 use Rattle.replica_model.specs.History as model
 use Rattle.replica_model.specs.Mail.{Mail}
 use Rattle.replica_model.specs.Replica.{Replica}
 use Rattle.replica_model.specs.Step.{Answer, Call, IsStep, Refuses}
 use Rattle.trie_map.specs.Keyed.{TrieMapValue}
 use Rattle.node_threads.specs.declared.node_event.NodeEvent.{NodeEvent}
-use Rattle.node_threads.specs.History.{IsAfter, Replies, RefusesAfter, StandsFor, act_of, entry_of}
+use Rattle.replica_core.specs.Stepping.{RefusesNothing}
+use Rattle.shared_object.specs.Calling.{IsRefusedBy}
+use Rattle.node_threads.specs.History.{IsAfter, NeverRefuses, Replies, RefusesAfter, StandsFor, act_of, entry_of}
 
 module _ {A : Type 0} (name : ℕ) (history : List (NodeEvent A)) (r next : Replica) (after : IsAfter name history r) where
   module _ (e : NodeEvent A) (answer : Answer) (out : List Mail) (step : IsStep fnv1a r (act_of e.deed) next answer out) where
@@ -31,7 +33,22 @@ module _ {A : Type 0} (name : ℕ) (history : List (NodeEvent A)) (r next : Repl
   pub unchanged_after : next ≡ r → IsAfter name history next
   unchanged_after same = subst (λ q. IsAfter name history q) (sym same) after
 
-pub refused_after : {A : Type 0} (name : ℕ) (history : List (NodeEvent A)) (r : Replica) (call : Call) (refusal : Refusal) → (refusal ≡ OutOfMemory) ⊎ Refuses r call refusal
-    → IsAfter name history r → (refusal ≡ OutOfMemory) ⊎ RefusesAfter name history call refusal
-refused_after name history r call refusal (inl none) after = inl none
-refused_after name history r call refusal (inr spent) after = inr (r, after, spent)
+-- a call is refused after a history as the replica refuses it that is there then
+module _ {A : Type 0} (name : ℕ) (history : List (NodeEvent A)) (r : Replica) (call : Call) (after : IsAfter name history r) where
+  pub unrefused_after : RefusesNothing r call → (refusal : Refusal) → ¬ RefusesAfter name history call refusal
+  unrefused_after nothing refusal (other, also, refuses) =
+      nothing refusal (subst (λ q. Refuses q call refusal) (after_one fnv1a name (map entry_of history) other r also after) refuses)
+
+  pub foretold_after : (refusal : Refusal) → Refuses r call refusal → IsRefusedBy (λ h. RefusesAfter name h call) history refusal
+  foretold_after refusal refuses = inr (r, after, refuses)
+
+  pub without_memory_after : (refusal : Refusal) → refusal ≡ OutOfMemory → RefusesNothing r call → IsRefusedBy (λ h. RefusesAfter name h call) history refusal
+  without_memory_after refusal is nothing = inl (is, unrefused_after nothing)
+
+  pub refused_after : (refusal : Refusal) → ((refusal ≡ OutOfMemory) × RefusesNothing r call) ⊎ Refuses r call refusal → IsRefusedBy (λ h. RefusesAfter name h call) history refusal
+  refused_after refusal (inl (none, nothing)) = without_memory_after refusal none nothing
+  refused_after refusal (inr refuses) = foretold_after refusal refuses
+
+-- and one that the model never refuses for want of memory alone
+pub never_refused : {A : Type 0} (history : List (NodeEvent A)) (refusal : Refusal) → refusal ≡ OutOfMemory → IsRefusedBy NeverRefuses history refusal
+never_refused history refusal is = inl (is, λ other never. never)

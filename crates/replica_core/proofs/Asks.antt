@@ -9,16 +9,17 @@ use Rattle.wire_form.specs.Message.{MessageValue, Hello, message_of}
 use Rattle.wire_form.specs.Session.{SessionValue}
 use Rattle.sync_protocol.specs.Asking.{AskerValue, stage_with}
 use Rattle.sync_protocol.specs.Turning as turning
-use Rattle.dots.specs.declared.refusal.Refusal.TheVariants.{NumbersSpent, SessionsFull}
+use Rattle.dots.specs.declared.refusal.Refusal.{Refusal}
+use Rattle.dots.specs.declared.refusal.Refusal.TheVariants.{OutOfMemory, NumbersSpent, SessionsFull}
 use Rattle.replica_model.specs.Delivery.{Sent, Ignored}
 use Rattle.replica_model.specs.Mail.{mail_of}
 use Rattle.replica_model.specs.Replica.{next_session, opens, closes, open_numbered}
-use Rattle.replica_model.specs.Step.{Act, Do, Ask, Retry, Abandon, Numbered, Came, Closed, retried, Abandons}
+use Rattle.replica_model.specs.Step.{Act, Do, Ask, Retry, Abandon, Numbered, Came, Closed, Refuses, retried, Abandons}
 use Rattle.replica_core.specs.declared.outcome.Outcome.{Outcome}
 use Rattle.replica_core.specs.Answered.{outcome_of}
 use Rattle.replica_core.specs.Meaning.{ReplicaValue, hash_in, open_of, meaning}
 use Rattle.replica_core.specs.Own.{IsOwn, IsReplica}
-use Rattle.replica_core.specs.Stepping.{Steps, IsRefused, mails_of}
+use Rattle.replica_core.specs.Stepping.{Foretells, RefusesNothing, Steps, IsRefused, mails_of}
 use Rattle.replica_core.specs.Tied.{IsFirstAt, NoneIs}
 use Rattle.replica_core.proofs.Changing.{at_place}
 use Rattle.replica_core.proofs.Tied.{again_tied}
@@ -45,6 +46,17 @@ module _ {Hash : Type 0} (old : ReplicaValue Hash) (peer : ℕ) where
 
   pub spent_refused : length old.sessions < 8 → 2 ^ 64 ≤ old.opened + 1 → IsRefused old (Ask peer) NumbersSpent
   spent_refused few spent = inr (inr (subst (λ n. n < 8) (sym (length-map old.sessions open_of)) few, spent, refl))
+
+  -- where fewer than eight are open and a number is left
+  pub ask_not_refused : length old.sessions < 8 → old.opened + 1 < 2 ^ 64 → RefusesNothing (meaning old) (Ask peer)
+  ask_not_refused few left = λ refusal refuses. none refusal refuses
+    where
+      none : (refusal : Refusal) → Refuses (meaning old) (Ask peer) refusal → ⊥
+      none refusal (inl (full, is)) = absurd (omega (arith, few, full, length-map old.sessions open_of))
+      none refusal (inr (also, spent, is)) = absurd (omega (arith, left, spent))
+
+  pub ask_without_memory : (refusal : Refusal) → refusal ≡ OutOfMemory → length old.sessions < 8 → old.opened + 1 < 2 ^ 64 → IsRefused old (Ask peer) refusal
+  ask_without_memory refusal is few left = inl (is, ask_not_refused few left)
 
 module _ {Hash : Type 0} (hash_of : Hash → List ℕ → ℕ) (old new : ReplicaValue Hash) (peer : ℕ) (session : SessionValue) (next : session ≡ next_session (meaning old) peer) where
   pub asked_stepped : (hello : MessageValue) → session.number + 1 ≤ 2 ^ 64 → length old.sessions < 8 → IsMapOf old.live.0.0.1 (meaning old).live

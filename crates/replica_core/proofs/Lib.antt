@@ -22,3 +22,4 @@ pub mod Takes
 pub mod Goes
 pub mod Keeps
 pub mod Contained
+pub mod Shows

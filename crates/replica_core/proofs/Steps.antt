@@ -1,9 +1,10 @@
 -- The steps of own operations.
-use Rattle.std.proofs.Common.{◌≡◌, ◌<◌, ◌≤◌, ◌-◌, ◌^◌, ℕ, List, [], ◌∷◌, inl, inr, refl, sym, ap, ◌∙◌, subst, length, arith, is_some, IsSome, IsTrue}
-use Rattle.std.specs.Prelude.{◌↔◌, ◌⊎◌, Option}
+use Rattle.std.proofs.Common.{◌≡◌, ◌<◌, ◌≤◌, ◌+◌, ◌-◌, ◌^◌, ℕ, List, [], ◌∷◌, inl, inr, refl, sym, ap, ◌∙◌, subst, length, arith, is_some, IsSome, IsTrue}
+use Rattle.std.specs.Prelude.{◌↔◌, ◌⊎◌, Option, Some, None}
 use Rattle.std.specs.FinMap as finite
 use Rattle.std.specs.List.{IsDistinct}
 use Rattle.causal_context.specs.Context.{IsGreatest}
+use Rattle.causal_context.specs.Context as context
 use Rattle.causal_join.specs.OrMap.{FieldsValue, OrMapValue, or_map_state}
 use Rattle.delta_ops.specs.LiveMap.{live_state}
 use Rattle.dots.specs.declared.dot.Dot.{Dot}
@@ -16,11 +17,11 @@ use Rattle.op_model.specs.Place.{Place}
 use Rattle.op_model.specs.State.{Same}
 use Rattle.replica_model.proofs.States.{same_is}
 use Rattle.replica_model.specs.Replica.{makes}
-use Rattle.replica_model.specs.Step.{Do, Put, Made, Counted, Removes}
+use Rattle.replica_model.specs.Step.{Do, Put, Made, Counted, Refuses, Removes}
 use Rattle.replica_core.specs.Meaning.{ReplicaValue, hash_in, meaning}
 use Rattle.dots.specs.declared.refusal.Refusal.{Refusal}
 use Rattle.dots.specs.declared.refusal.Refusal.TheVariants.{NumbersSpent, OutOfMemory}
-use Rattle.replica_core.specs.Stepping.{Steps, IsRefused}
+use Rattle.replica_core.specs.Stepping.{Foretells, Steps, IsRefused}
 
 -- An own operation at what the replica holds: its name and its pair are told as the operation was told of them.
 module _ {Hash : Type 0} (hash_of : Hash → List ℕ → ℕ) (old new : ReplicaValue Hash) (delta : OrMapValue) (made : meaning new ≡ makes (meaning old) (or_map_state delta)) (hash : hash_in new ≡ hash_in old)
@@ -72,9 +73,28 @@ past_last name known most = (
         let here : IsTrue (known (record { name = name; number = d.number })) = subst (λ n. IsTrue (known (record { name = n; number = d.number }))) same there in
         let bound = most.bound d.number here in omega (arith, bound)
 
--- a put is refused for want of memory, or where no number is left
-pub put_refused : {Hash : Type 0} (old : ReplicaValue Hash) (place : Place) (value : List ℕ) (refusal : Refusal) → (refusal ≡ NumbersSpent) ⊎ (refusal ≡ OutOfMemory)
-    → (refusal ≡ NumbersSpent → IsGreatest old.name (meaning old).live.has (2 ^ 64 - 1)) → IsRefused old (Put place value) refusal
-put_refused old place value refusal (inl spent) most =
-    let past = past_last old.name (meaning old).live.has (most spent) in inr (past.0, past.1, past.2, spent)
-put_refused old place value refusal (inr full) most = inl full
+-- a next dot that is a number of 64 bits is the only next one
+pub not_past : (name : ℕ) (known : Dot → Rattle.std.specs.Prelude.Bool) (dot : Dot) → context.IsNext name known dot → dot.number < 2 ^ 64 → (other : Dot) → IsNext name known other → other.number < 2 ^ 64
+not_past name known dot next below other is = by is.least
+  where
+    by : (other.number ≡ 1) ⊎ IsTrue (known (record { name = name; number = other.number - 1 })) → other.number < 2 ^ 64
+    by (inl one) = omega (arith, one)
+    by (inr there) = let bound = next.is_greatest.bound (other.number - 1) there in omega (arith, bound, next.number, below)
+
+module _ {Hash : Type 0} (old : ReplicaValue Hash) (place : Place) (value : List ℕ) where
+  -- a put is refused where no number is left
+  pub put_spent : IsGreatest old.name (meaning old).live.has (2 ^ 64 - 1) → Foretells (meaning old) (Put place value) (Some NumbersSpent)
+  put_spent most = let past = past_last old.name (meaning old).live.has most in (past.0, past.1, past.2, refl)
+
+  -- and nowhere else
+  pub put_not_refused : (dot : Dot) → context.IsNext old.name (meaning old).live.has dot → dot.number < 2 ^ 64 → Foretells (meaning old) (Put place value) None
+  put_not_refused dot next below = λ refusal refuses. none refusal refuses
+    where
+      none : (refusal : Refusal) → Refuses (meaning old) (Put place value) refusal → ⊥
+      none refusal (other, is, past, named) =
+          let within = not_past old.name (meaning old).live.has dot next below other is in absurd (omega (arith, within, past))
+
+  pub put_without_memory : (refusal : Refusal) → Foretells (meaning old) (Put place value) None → (refusal ≡ NumbersSpent) ⊎ (refusal ≡ OutOfMemory)
+      → (refusal ≡ NumbersSpent → IsGreatest old.name (meaning old).live.has (2 ^ 64 - 1)) → IsRefused old (Put place value) refusal
+  put_without_memory refusal none (inl spent) most = let past = past_last old.name (meaning old).live.has (most spent) in inr (past.0, past.1, past.2, spent)
+  put_without_memory refusal none (inr full) most = inl (full, none)

@@ -7,3 +7,4 @@ pub mod Stepping
 pub mod Reading
 pub mod Turning
 pub mod Tied
+pub mod Showing

@@ -5,6 +5,7 @@ use Rattle.dots.specs.declared.refusal.Refusal.TheVariants.{OutOfMemory}
 use Rattle.wire_form.specs.declared.message.Message.{Message}
 use Rattle.wire_form.specs.Message.{MessageValue, message_of}
 use Rattle.replica_model.specs.Mail.{Mail, mail_of}
+use Rattle.replica_model.specs.Replica.{Replica}
 use Rattle.replica_model.specs.Step.{Act, Call, Answer, IsStep, Refuses}
 use Rattle.replica_core.specs.Meaning.{ReplicaValue, hash_in, meaning}
 
@@ -20,6 +21,15 @@ abbrev pub mail_or_none : {A : Type 0} → Option (Message A) → List Mail
 mail_or_none None = []
 mail_or_none (Some m) = mail_of (message_of m) ∷ []
 
+-- the model does not refuse the call
+abbrev pub RefusesNothing : Replica → Call → Type 0
+RefusesNothing old call = (refusal : Refusal) → ¬ Refuses old call refusal
+
+-- told before a call is made: the refusal that it meets whatever memory there is, or that it meets none
+abbrev pub Foretells : Replica → Call → Option Refusal → Type 0
+Foretells old call None = RefusesNothing old call
+Foretells old call (Some refusal) = Refuses old call refusal
+
 module _ {Hash : Type 0} where
   -- the act makes the second replica of the first, is answered this, and sends these; the hash of the keys' paths stays
   pub record Steps (hash_of : Hash → List ℕ → ℕ) (old new : ReplicaValue Hash) (act : Act) (answer : Answer) (out : List Mail) : Type 0 where
@@ -31,6 +41,6 @@ module _ {Hash : Type 0} where
     pub same : meaning new ≡ meaning old
     pub hash : hash_in new ≡ hash_in old
 
-  -- a call is refused for want of memory, or as the model refuses it
+  -- a call is refused as the model refuses it, and for want of memory only where that does not
   abbrev pub IsRefused : ReplicaValue Hash → Call → Refusal → Type 0
-  IsRefused old call refusal = (refusal ≡ OutOfMemory) ⊎ Refuses (meaning old) call refusal
+  IsRefused old call refusal = ((refusal ≡ OutOfMemory) × RefusesNothing (meaning old) call) ⊎ Refuses (meaning old) call refusal

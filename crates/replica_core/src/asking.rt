@@ -1,5 +1,5 @@
 // The own sessions of a replica: one is opened, asked again, and given up.
-ghost use Rattle.std.specs.Prelude.{◌≡◌, ◌<◌, ◌≤◌, ◌+◌, ◌++◌, ◌^◌, ◌↔◌, [], ◌∷◌, IfSome, IsNone, IfOk, IfErr, OnOk, OnErr, IsOkUnless};
+ghost use Rattle.std.specs.Prelude.{◌≡◌, ◌<◌, ◌≤◌, ◌+◌, ◌++◌, ◌^◌, ◌↔◌, ℕ, [], ◌∷◌, IfSome, IsNone, IfOk, IfErr, OnOk, OnErr, IsOkUnless};
 ghost use Rattle.std.specs.Vec.{vec_len, vec_capacity};
 ghost use Rattle.wire_form.specs.Message.{message_of};
 ghost use Rattle.wire_form.specs.Message as form;
@@ -11,7 +11,7 @@ ghost use Rattle.replica_model.specs.Step.{Do, Ask, Retry, Abandon, Came, Closed
 ghost use Rattle.sync_protocol.specs.Asking.{Asked};
 ghost use Rattle.replica_core.specs.Meaning.{hash_in, meaning};
 ghost use Rattle.replica_core.specs.Answered.{outcome_of};
-ghost use Rattle.replica_core.specs.Stepping.{Steps, Stays, IsRefused, mails_of};
+ghost use Rattle.replica_core.specs.Stepping.{Foretells, Steps, Stays, IsRefused, mails_of};
 
 use crate::delivered::Delivered;
 use crate::outcome::Outcome;
@@ -27,10 +27,24 @@ use wire_form::{Message, Session};
 const LIMIT: usize = 8;
 
 impl<H: PathHash, A: Allocator + Copy> Replica<H, A> {
+    /// The refusal that an ask would meet whatever memory there is, if it meets one: SessionsFull where eight own synchronisations are open,
+    /// else NumbersSpent where 2^64 - 1 were opened. Takes constant time, and no memory.
+    pub fn ask_refusal(&self) -> Option<Refusal>
+        ensures { (peer : ℕ) → Foretells (meaning self.now) (Ask peer) result }
+    {
+        if self.sessions.len() >= LIMIT {
+            return Some(Refusal::SessionsFull);
+        }
+        if self.opened == u64::MAX {
+            return Some(Refusal::NumbersSpent);
+        }
+        None
+    }
+
     /// Opens a synchronisation with a peer: its number, and the hello that is to be sent to that peer. What it adds in the end is what
     /// the peer had when it answered; meanwhile the replica may be written and read as ever.
     ///
-    /// Its refusals are SessionsFull, only where eight of them are open; NumbersSpent, only where fewer are and 2^64 - 1 were opened; and
+    /// Its refusals are SessionsFull, just where eight of them are open; NumbersSpent, just where fewer are and 2^64 - 1 were opened; and else
     /// OutOfMemory. A refused call changes nothing. Takes time in the nodes that were written since the last synchronisation or
     /// snapshot, and time and memory in the context; not in the map, whose nodes the session shares.
     pub fn ask(&mut self, peer: Name) -> Result<(u64, Message<A>), Refusal>

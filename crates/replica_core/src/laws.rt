@@ -1,6 +1,7 @@
-// The laws of a replica's sessions and kept snapshots: their turns, and the changes of their lists, are those of the model; and what a
-// session builds is known to its opening.
+// The laws of a replica's sessions and kept snapshots: their turns, and the changes of their lists, are those of the model; what a
+// session builds is known to its opening; and what a replica by itself shows.
 ghost use Rattle.replica_core.specs.Known.{KnownSteps};
+ghost use Rattle.replica_core.specs.Showing.{ShowsAlone};
 ghost use Rattle.replica_core.specs.Tied.{
   OpeningsAreTied,
   PagesAreTied,
@@ -56,4 +57,11 @@ pub fn sessions_change_in_place<H: PathHash>()
 /// until then that is so of what stands under no prefix that it waits for. It is so of pages of any peer, honest or not.
 pub fn what_is_built_is_known()
     ensures { KnownSteps }
+{}
+
+/// What is read off a replica by itself, to which messages come from anywhere, is told by what it has seen alone: by what it made and by what
+/// these messages stand for, where each says what it stands for, no dot was used twice by all of these, and no two pages or values that one
+/// of its sessions met have one SHA-256.
+pub fn a_replica_alone_shows_what_it_has_seen()
+    ensures { ShowsAlone }
 {}

@@ -1,12 +1,12 @@
 // The own operations of a replica, and what it is to send of them.
-ghost use Rattle.std.specs.Prelude.{◌≡◌, ◌<◌, ◌^◌, true, [], IfOk, IfErr, OnOk, OnErr, IsOkUnless};
+ghost use Rattle.std.specs.Prelude.{◌≡◌, ◌<◌, ◌^◌, ℕ, List, true, [], IfOk, IfErr, OnOk, OnErr, IsOkUnless};
 ghost use Rattle.causal_join.specs.OrMap.{or_map_state};
-ghost use Rattle.op_model.specs.Place.{place_of, plain};
+ghost use Rattle.op_model.specs.Place.{Place, place_of, plain};
 ghost use Rattle.replica_model.specs.Replica.{makes};
 ghost use Rattle.replica_model.specs.Step.{Do, Put, Remove, RemoveField, Clear, Flush, Made, Counted, Nothing};
 ghost use Rattle.replica_core.specs.Meaning.{hash_in, meaning};
 ghost use Rattle.sync_protocol.specs.Posting.{IsPosted};
-ghost use Rattle.replica_core.specs.Stepping.{Steps, Stays, IsRefused, mail_or_none, message_or_none};
+ghost use Rattle.replica_core.specs.Stepping.{Foretells, Steps, Stays, IsRefused, mail_or_none, message_or_none};
 
 use crate::replica::Replica;
 use causal_join::OrMap;
@@ -18,10 +18,21 @@ use sync_protocol::{Outbox, Unposted};
 use wire_form::Message;
 
 impl<H: PathHash, A: Allocator + Copy> Replica<H, A> {
+    /// The refusal that a put would meet whatever memory there is, if it meets one: NumbersSpent where no number is left for its dot, as the
+    /// greatest known one of the replica's name is 2^64 - 1. Takes time in the logarithm of the context, and no memory.
+    pub fn put_refusal(&self) -> Option<Refusal>
+        ensures { (place : Place) → (value : List ℕ) → Foretells (meaning self.now) (Put place value) result }
+    {
+        match self.live.context().next(self.name) {
+            Some(_) => None,
+            None => Some(Refusal::NumbersSpent),
+        }
+    }
+
     /// Writes the value on the key, at its empty field, in the place of the values that stand there; those of its other fields stay. The
     /// dot of the write.
     ///
-    /// Its refusals are NumbersSpent, only where no number is left for the dot, and OutOfMemory; a refused call changes nothing. Takes time
+    /// Its refusals are NumbersSpent, just where no number is left for the dot, and else OutOfMemory; a refused call changes nothing. Takes time
     /// and memory in what stands there, times the logarithm of the map, in the context, and at times in what was made since the last flush.
     pub fn put(&mut self, key: &Key<A>, value: &Value<A>) -> Result<Dot, Refusal>
         ensures ok { IfOk result (λ dot. Steps H.hash_of self.old self.new (Do (Put (plain key.now) value.now)) (Made dot) []) }
@@ -34,7 +45,7 @@ impl<H: PathHash, A: Allocator + Copy> Replica<H, A> {
     /// Writes the value on the field of the key, in the place of the values that stand there; those of its other fields stay. The dot of
     /// the write.
     ///
-    /// Its refusals are NumbersSpent, only where no number is left for the dot, and OutOfMemory; a refused call changes nothing. Takes time
+    /// Its refusals are NumbersSpent, just where no number is left for the dot, and else OutOfMemory; a refused call changes nothing. Takes time
     /// and memory in what stands there, times the logarithm of the map, in the context, and at times in what was made since the last flush.
     pub fn put_field(
         &mut self,
@@ -46,6 +57,9 @@ impl<H: PathHash, A: Allocator + Copy> Replica<H, A> {
         ensures refused { IfErr result (IsRefused self.old (Put (place_of key.now field.now) value.now)) }
         ensures unchanged { OnErr result (Stays self.old self.new) }
     {
+        if let Some(refusal) = self.put_refusal() {
+            return Err(refusal);
+        }
         let (delta, dot) = match put_field(self.alloc, self.name, &self.live, key, field, value) {
             Ok(made) => made,
             Err(refusal) => return Err(refusal),

@@ -25,7 +25,7 @@ module _ (hash_of : List ℕ → ℕ) (Snap Snap2 : SessionValue → List Operat
     (snap : (s : SessionValue) (S : List Operation) (m : Held) (c : DotValue → Bool) → Snap s S m c → Snap2 s S m c)
     (asked : (n : ℕ) (s : SessionValue) (m : Held) (c : DotValue → Bool) → Asked n s m c → Asked2 n s m c)
     (sends : (d : MapState) (S : List Operation) → Sends d S → Sends2 d S) where
-  mail_more : (mail : Mail) (of : Snapshot) → MailTie hash_of Snap Asked Sends mail of → MailTie hash_of Snap2 Asked2 Sends2 mail of
+  pub mail_more : (mail : Mail) (of : Snapshot) → MailTie hash_of Snap Asked Sends mail of → MailTie hash_of Snap2 Asked2 Sends2 mail of
   mail_more (Delta d) of tie = sends d of.seen tie
   mail_more (Hello s seen) of tie = tt
   mail_more (Opening s c root) of tie = (snap s of.seen of.map c tie.0, tie.1)

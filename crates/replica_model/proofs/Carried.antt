@@ -73,20 +73,21 @@ module _ (hash_of : List ℕ → ℕ) (Snap : SessionValue → List Operation �
     pub sessions : (n : ℕ) → AllOpen hash_of Snap Asked Sends w.accepted w.taken n (w.replica n)
     pub messages : (number : ℕ) (m : Message) → message_at w.messages number ≡ Some m → MailTie hash_of Snap Asked Sends m.mail m.of
 
-  pub delivered_ties : (w : World) (name : ℕ) (own : Held) (m : Message) (number : ℕ) → Ties w → message_at w.messages number ≡ Some m →
-      ((s : SessionValue) (seen : DotValue → Bool) → m.mail ≡ Hello s seen → s.answerer ≡ name → kept_at (w.replica name).kept s ≡ None → Snap s (w.seen name) own (w.replica name).live.has) → (new : Replica) (outcome : Outcome) (out : List Mail) → delivered hash_of own (w.replica name) m.mail ≡ turn new outcome out →
-      Ties (goes name new out [] (takes name (w.replica name) m.mail m.of outcome w))
-  delivered_ties w name own m number t there fresh new outcome out e =
-      let on : GoesOn hash_of Snap Asked Sends w name (t.named name) t.kept t.sessions own m.mail m.of (turn new outcome out) =
-      subst (GoesOn hash_of Snap Asked Sends w name (t.named name) t.kept t.sessions own m.mail m.of) e (delivery_goes hash_of Snap Asked Sends w name (t.named name) t.kept t.sessions own m.mail m.of (t.messages number m there) fresh) in
-      let u = takes name (w.replica name) m.mail m.of outcome w in
-      let replicas : u.replica ≡ w.replica = same_replicas w name (w.replica name) m.mail m.of outcome in
+  -- a message that comes, with what it stands for
+  pub taken_ties : (w : World) (name : ℕ) (own : Held) (mail : Mail) (of : Snapshot) → Ties w → MailTie hash_of Snap Asked Sends mail of →
+      ((s : SessionValue) (seen : DotValue → Bool) → mail ≡ Hello s seen → s.answerer ≡ name → kept_at (w.replica name).kept s ≡ None → Snap s (w.seen name) own (w.replica name).live.has) → (new : Replica) (outcome : Outcome) (out : List Mail) → delivered hash_of own (w.replica name) mail ≡ turn new outcome out →
+      Ties (goes name new out [] (takes name (w.replica name) mail of outcome w))
+  taken_ties w name own mail of t tie fresh new outcome out e =
+      let on : GoesOn hash_of Snap Asked Sends w name (t.named name) t.kept t.sessions own mail of (turn new outcome out) =
+      subst (GoesOn hash_of Snap Asked Sends w name (t.named name) t.kept t.sessions own mail of) e (delivery_goes hash_of Snap Asked Sends w name (t.named name) t.kept t.sessions own mail of tie fresh) in
+      let u = takes name (w.replica name) mail of outcome w in
+      let replicas : u.replica ≡ w.replica = same_replicas w name (w.replica name) mail of outcome in
       record {
         named = by_name (λ n r. r.name ≡ n) name new u.replica on.name_stays (λ n a. subst (λ f. (f n).name ≡ n) (sym replicas) (t.named n));
         kept = by_name (λ n r. AllKept hash_of Snap Asked Sends u.kept n r) name new u.replica on.kept_here (λ n a. subst (λ f. AllKept hash_of Snap Asked Sends u.kept n (f n)) (sym replicas) (on.kept_there n a));
         sessions = by_name (λ n r. AllOpen hash_of Snap Asked Sends u.accepted u.taken n r) name new u.replica on.open_here
             (λ n a. subst (λ f. AllOpen hash_of Snap Asked Sends u.accepted u.taken n (f n)) (sym replicas) (on.open_there n a));
-        messages = λ k x h. either u.kept on.replies x (at_either u.messages (map (sent_as [] u.kept new.kept) out) k x h) (subst (λ ms. (message_at ms k ≡ Some x) → (message_at w.messages k ≡ Some x)) (sym (same_messages w name (w.replica name) m.mail m.of outcome)) (λ i. i)) (t.messages k x);
+        messages = λ k x h. either u.kept on.replies x (at_either u.messages (map (sent_as [] u.kept new.kept) out) k x h) (subst (λ ms. (message_at ms k ≡ Some x) → (message_at w.messages k ≡ Some x)) (sym (same_messages w name (w.replica name) mail of outcome)) (λ i. i)) (t.messages k x);
       }
     where
       either : (kept : SessionValue → List Operation) → AllSent hash_of Snap Asked Sends [] kept new.kept out → (x : Message) → {A B : Type 0} → A ⊎ Contains (map (sent_as [] kept new.kept) out) x → (A → B) → (B → MailTie hash_of Snap Asked Sends x.mail x.of) → MailTie hash_of Snap Asked Sends x.mail x.of
@@ -94,3 +95,9 @@ module _ (hash_of : List ℕ → ℕ) (Snap : SessionValue → List Operation �
       either kept sent x (inr i) back old =
           let found = from_map (sent_as [] kept new.kept) out x i in
           subst (λ (y : Message). MailTie hash_of Snap Asked Sends y.mail y.of) found.2 (sent found.0 found.1)
+
+  -- one of the world's own
+  pub delivered_ties : (w : World) (name : ℕ) (own : Held) (m : Message) (number : ℕ) → Ties w → message_at w.messages number ≡ Some m →
+      ((s : SessionValue) (seen : DotValue → Bool) → m.mail ≡ Hello s seen → s.answerer ≡ name → kept_at (w.replica name).kept s ≡ None → Snap s (w.seen name) own (w.replica name).live.has) → (new : Replica) (outcome : Outcome) (out : List Mail) → delivered hash_of own (w.replica name) m.mail ≡ turn new outcome out →
+      Ties (goes name new out [] (takes name (w.replica name) m.mail m.of outcome w))
+  delivered_ties w name own m number t there = taken_ties w name own m.mail m.of t (t.messages number m there)

@@ -20,3 +20,5 @@ pub mod Asks
 pub mod Staying
 pub mod Taking
 pub mod Histories
+pub mod Answers
+pub mod Alone

@@ -8,15 +8,13 @@ use Rattle.dots.specs.Dot.{DotValue, same_dot}
 use Rattle.op_model.specs.Made.{put_at, remove_at, remove_field_at, clear_at, erasure, IsPutAt}
 use Rattle.op_model.specs.Meaning.{MapState, greater, state}
 use Rattle.op_model.specs.Operation.{Operation, Wrote, Erased, NoReuse, IsPartOf, has, ids, known, writes, observed}
-use Rattle.op_model.specs.Shown.{shown_within, shown_anywhere}
 use Rattle.op_model.specs.State.{Same, join}
 use Rattle.op_model.specs.World.{grown}
-use Rattle.op_model.specs.World as sets
 use Rattle.op_model.proofs.Dots.{same_dot-self, has-append}
 use Rattle.op_model.proofs.Members.{at_head, nothing_in}
-use Rattle.op_model.proofs.Fresh.{IsNew, put-new, erasure-new, NoReuse-part, part_left, part_both, itself_part}
+use Rattle.op_model.proofs.Fresh.{NoReuse-part, part_left, part_both, itself_part}
 use Rattle.op_model.proofs.Making.{put_made, remove_made, field_remove_made, clear_made}
-use Rattle.op_model.proofs.Pairs.{makes_live, makes_group, learns_live, grown-there, emptied-here, emptied-there, grown-here}
+use Rattle.op_model.proofs.Pairs.{joins, grown-there, emptied-here, emptied-there, grown-here}
 use Rattle.op_model.proofs.SameSets.{both_ways, state-same}
 use Rattle.wire_form.specs.Session.{SessionValue}
 use Rattle.prefix_digest.specs.MapOf.{IsMapOf, map_of, root_digest}
@@ -37,12 +35,12 @@ use Rattle.replica_model.specs.World as world
 use Rattle.replica_model.specs.Laws.{IsSound, MeansMail, Headline, SameSeen}
 use Rattle.replica_model.proofs.States.{same_is, is_same}
 use Rattle.replica_model.proofs.Rows.{each_row}
-use Rattle.replica_model.proofs.Sound.{sound, carried}
+use Rattle.replica_model.proofs.Sound.{sound, sound_calls, made_stays, carried}
 use Rattle.replica_model.proofs.Ties.{MailTie}
-use Rattle.replica_model.proofs.Carried.{Ties, by_name, delivered_ties, left_as_is, same_replicas}
-use Rattle.replica_model.proofs.Calls.{more_ties, called_ties}
+use Rattle.replica_model.proofs.Carried.{Ties, by_name, taken_ties, left_as_is, same_replicas}
+use Rattle.replica_model.proofs.Calls.{mail_more, more_ties, called_ties}
 use Rattle.replica_model.proofs.Ending.{Learns, Ending, Comes, comes}
-use Rattle.replica_model.proofs.Fronts.{Delivered, delivery, by_events, same_after_calls, none_at}
+use Rattle.replica_model.proofs.Fronts.{delivery, by_events, same_after_calls, none_at}
 
 -- ---- what is said of a snapshot, of an ask and of a delta
 
@@ -73,40 +71,71 @@ grown_part : (b : Bool) (S more : List Operation) → IsPartOf S (grown b S more
 grown_part true S more = part_left S S more (itself_part S)
 grown_part false S more = itself_part S
 
+-- what is asked of the sets of a replica: they are part of one whole, in which no dot is used twice, and nothing that it is to send tells of no dot
+pub record Fits (w : World) (name : ℕ) (whole : List Operation) : Type 0 where
+  pub seen : IsPartOf (w.seen name) whole
+  pub outgoing : IsPartOf (w.outgoing name) whole
+  pub accepted : (s : SessionValue) → IsPartOf (w.accepted s).seen whole
+  pub told : ¬ (Contains (w.outgoing name) (Erased []))
+  pub once : NoReuse whole
+
+-- those of a world are part of all that was made, before a call and after it
+pub sound_fits : (w : World) → IsSound w → (name : ℕ) → Fits w name w.made
+sound_fits w s name = record {
+  seen = s.sets.seen name;
+  outgoing = s.sets.outgoing name;
+  accepted = s.accepted;
+  told = λ h. s.sets.told (s.sets.outgoing name (Erased []) h);
+  once = s.sets.no_reuse;
+}
+
+sound_fits_then : (w : World) → IsSound w → (name : ℕ) (c : Call) → Fits w name (calls name c w).made
+sound_fits_then w s name c = record {
+  seen = made_stays w name c (w.seen name) (s.sets.seen name);
+  outgoing = made_stays w name c (w.outgoing name) (s.sets.outgoing name);
+  accepted = λ t. made_stays w name c (w.accepted t).seen (s.accepted t);
+  told = λ h. s.sets.told (s.sets.outgoing name (Erased []) h);
+  once = (sound_calls w name c s).sets.no_reuse;
+}
+
 pub seen_once : (w : World) → IsSound w → (name : ℕ) → NoReuse (w.seen name)
 seen_once w s name = NoReuse-part (w.seen name) w.made (s.sets.seen name) s.sets.no_reuse
 
 -- ---- calls
 
 -- a group that knows no dot is to send nothing
-nothing_sent : (w : World) → IsSound w → (name : ℕ) (g : MapState) → g ≡ state (w.outgoing name) → KnowsNone g → w.outgoing name ≡ []
-nothing_sent w sound name g is none = by (w.outgoing name) refl
+pub nothing_outgoing : (T : List Operation) → ¬ (Contains T (Erased [])) → (g : MapState) → g ≡ state T → KnowsNone g → T ≡ []
+nothing_outgoing T told g is none = by T refl
   where
-    knows : (dot : DotValue) → has (known (w.outgoing name)) dot ≡ false
+    knows : (dot : DotValue) → has (known T) dot ≡ false
     knows dot = sym (ap (λ (p : MapState). p.has dot) is) ∙ none dot
 
-    by : (S : List Operation) → w.outgoing name ≡ S → w.outgoing name ≡ []
+    by : (S : List Operation) → T ≡ S → T ≡ []
     by [] e = e
     by (Wrote v ∷ S) e =
-        absurd (false≢true (sym (knows v.id) ∙ ap (λ T. has (known T) v.id) e ∙ or_left (same_dot v.id v.id) (has (ids (writes S) ++ observed (Wrote v ∷ S)) v.id) (same_dot-self v.id)))
-    by (Erased [] ∷ S) e = absurd (sound.sets.told (sound.sets.outgoing name (Erased []) (subst (λ T. Contains T (Erased [])) (sym e) (at_head (Erased []) S))))
+        absurd (false≢true (sym (knows v.id) ∙ ap (λ U. has (known U) v.id) e ∙ or_left (same_dot v.id v.id) (has (ids (writes S) ++ observed (Wrote v ∷ S)) v.id) (same_dot-self v.id)))
+    by (Erased [] ∷ S) e = absurd (told (subst (λ U. Contains U (Erased [])) (sym e) (at_head (Erased []) S)))
     by (Erased (d ∷ ds) ∷ S) e =
         let there : has (known (Erased (d ∷ ds) ∷ S)) d ≡ true =
         has-append (ids (writes S)) ((d ∷ ds) ++ observed S) d
         ∙ or_right (has (ids (writes S)) d) (has ((d ∷ ds) ++ observed S) d) (or_left (same_dot d d) (has (ds ++ observed S) d) (same_dot-self d)) in
-        absurd (false≢true (sym (knows d) ∙ ap (λ T. has (known T) d) e ∙ there))
+        absurd (false≢true (sym (knows d) ∙ ap (λ U. has (known U) d) e ∙ there))
 
-module _ (hash_of : List ℕ → ℕ) (w : World) (sound_w : IsSound w) (meant : Meant hash_of w) (name : ℕ) where
+module _ (hash_of : List ℕ → ℕ) (w : World) (name : ℕ) (whole : List Operation) (fits : Fits w name whole) (meant : Meant hash_of w) where
   -- the replica's live state and group after a call are those of what it has seen then and is to send
   abbrev Follows : Call → Replica → Type 0
   Follows c new = (new.live ≡ state ((calls name c w).seen name)) × (new.group ≡ state ((calls name c w).outgoing name))
 
+  -- what it made, where all that it has seen then is part of the whole
+  more_part : (more : List Operation) → IsPartOf (grown (name == name) (w.seen name) more) whole → IsPartOf more whole
+  more_part more all o h = all o (subst (λ S. Contains S o) (sym (grown-here name (w.seen name) more)) (Contains-append_right (w.seen name) more o h))
+
   -- a delta that it made
-  made : (more : List Operation) → IsNew (w.seen name) name more → (d : MapState) → Same d (state more)
-      → (join greater (w.replica name).live d ≡ state ((sets.makes name more (sets_of w)).seen name)) × (join greater (w.replica name).group d ≡ state ((sets.makes name more (sets_of w)).outgoing name))
-  made more new d same = (
-    same_is _ _ (makes_live (sets_of w) sound_w.sets name more new (w.replica name).live d (is_same _ _ (meant.live name)) same),
-    same_is _ _ (makes_group (sets_of w) sound_w.sets name more new (w.replica name).group d (is_same _ _ (meant.group name)) same),
+  made : (more : List Operation) → IsPartOf (grown (name == name) (w.seen name) more) whole → (d : MapState) → Same d (state more)
+      → (join greater (w.replica name).live d ≡ state (grown (name == name) (w.seen name) more)) × (join greater (w.replica name).group d ≡ state (grown (name == name) (w.outgoing name) more))
+  made more all d same = (
+    same_is _ _ (joins (w.seen name) more whole (w.replica name).live d fits.once fits.seen (more_part more all) (is_same _ _ (meant.live name)) same) ∙ ap state (sym (grown-here name (w.seen name) more)),
+    same_is _ _ (joins (w.outgoing name) more whole (w.replica name).group d fits.once fits.outgoing (more_part more all) (is_same _ _ (meant.group name)) same) ∙ ap state (sym (grown-here name (w.outgoing name) more)),
   )
 
   with_made : (c : Call) (new : Replica) (d : MapState) → new ≡ makes (w.replica name) d
@@ -123,31 +152,31 @@ module _ (hash_of : List ℕ → ℕ) (w : World) (sound_w : IsSound w) (meant :
   abandoned None number new answer (n, a) = still (Abandon number) new (ap (λ (x : Replica). x.live) n) (ap (λ (x : Replica). x.group) n) refl refl
   abandoned (Some o) number new answer (n, a) = still (Abandon number) new (ap (λ (x : Replica). x.live) n) (ap (λ (x : Replica). x.group) n) refl refl
 
-  follows : (c : Call) (new : Replica) (answer : Answer) (out : List Mail) → IsCall (w.replica name) c new answer out → Follows c new
-  follows (Put place value) new answer out (v, put, lt, n, a, o) =
+  follows : (c : Call) → IsPartOf ((calls name c w).seen name) whole → (new : Replica) (answer : Answer) (out : List Mail) → IsCall (w.replica name) c new answer out → Follows c new
+  follows (Put place value) all new answer out (v, put, lt, n, a, o) =
       let put_here : IsPutAt (w.replica name).live name place value v = subst (λ x. IsPutAt (w.replica name).live x place value v) named put in
       with_made (Put place value) new (state (Wrote v ∷ [])) n
-      (made (put_at (w.seen name) name place value) (put-new (w.seen name) name place value) (state (Wrote v ∷ [])) (put_made (w.seen name) (w.replica name).live (is_same _ _ (meant.live name)) name place value v put_here))
-  follows (Remove key) new answer out (over, just, n, a, o) =
+      (made (put_at (w.seen name) name place value) all (state (Wrote v ∷ [])) (put_made (w.seen name) (w.replica name).live (is_same _ _ (meant.live name)) name place value v put_here))
+  follows (Remove key) all new answer out (over, just, n, a, o) =
       with_made (Remove key) new (state (erasure over)) n
-      (made (remove_at (w.seen name) key) (erasure-new (w.seen name) name (ids (shown_within (w.seen name) key))) (state (erasure over)) (remove_made (w.seen name) (w.replica name).live (is_same _ _ (meant.live name)) key over just))
-  follows (RemoveField place) new answer out (over, just, n, a, o) =
+      (made (remove_at (w.seen name) key) all (state (erasure over)) (remove_made (w.seen name) (w.replica name).live (is_same _ _ (meant.live name)) key over just))
+  follows (RemoveField place) all new answer out (over, just, n, a, o) =
       with_made (RemoveField place) new (state (erasure over)) n
-      (made (remove_field_at (w.seen name) place) (erasure-new (w.seen name) name (ids (Rattle.op_model.specs.Shown.shown (w.seen name) place))) (state (erasure over))
+      (made (remove_field_at (w.seen name) place) all (state (erasure over))
       (field_remove_made (w.seen name) (w.replica name).live (is_same _ _ (meant.live name)) place over
       (λ dot. both_ways (has over dot) (Rattle.std.specs.Prelude.is_some ((w.replica name).live.at place dot)) (λ h. (just dot).0 h) (λ h. (just dot).1 h))))
-  follows Clear new answer out (over, just, n, a, o) =
+  follows Clear all new answer out (over, just, n, a, o) =
       with_made Clear new (state (erasure over)) n
-      (made (clear_at (w.seen name)) (erasure-new (w.seen name) name (ids (shown_anywhere (w.seen name)))) (state (erasure over)) (clear_made (w.seen name) (w.replica name).live (is_same _ _ (meant.live name)) over just))
-  follows Flush new answer out (a, inl (none, n, o)) =
-      still Flush new (ap (λ (x : Replica). x.live) n) (ap (λ (x : Replica). x.group) n) refl (nothing_sent w sound_w name (w.replica name).group (meant.group name) none ∙ sym (emptied-here name (w.outgoing name)))
-  follows Flush new answer out (a, inr (some, n, o)) = (
+      (made (clear_at (w.seen name)) all (state (erasure over)) (clear_made (w.seen name) (w.replica name).live (is_same _ _ (meant.live name)) over just))
+  follows Flush all new answer out (a, inl (none, n, o)) =
+      still Flush new (ap (λ (x : Replica). x.live) n) (ap (λ (x : Replica). x.group) n) refl (nothing_outgoing (w.outgoing name) fits.told (w.replica name).group (meant.group name) none ∙ sym (emptied-here name (w.outgoing name)))
+  follows Flush all new answer out (a, inr (some, n, o)) = (
     ap (λ (x : Replica). x.live) n ∙ meant.live name,
     ap (λ (x : Replica). x.group) n ∙ ap state (sym (emptied-here name (w.outgoing name))),
   )
-  follows (call.Ask peer) new answer out (own, is, few, left, n, a, o) = still (call.Ask peer) new (ap (λ (x : Replica). x.live) n) (ap (λ (x : Replica). x.group) n) refl refl
-  follows (Retry number) new answer out (n, a, o) = still (Retry number) new (ap (λ (x : Replica). x.live) n) (ap (λ (x : Replica). x.group) n) refl refl
-  follows (Abandon number) new answer out (step, o) = abandoned (open_numbered (w.replica name).sessions number) number new answer step
+  follows (call.Ask peer) all new answer out (own, is, few, left, n, a, o) = still (call.Ask peer) new (ap (λ (x : Replica). x.live) n) (ap (λ (x : Replica). x.group) n) refl refl
+  follows (Retry number) all new answer out (n, a, o) = still (Retry number) new (ap (λ (x : Replica). x.live) n) (ap (λ (x : Replica). x.group) n) refl refl
+  follows (Abandon number) all new answer out (step, o) = abandoned (open_numbered (w.replica name).sessions number) number new answer step
 
 -- a call leaves what another replica has seen and is to send, and what it has seen itself only grows
 pub seen_elsewhere : (w : World) (name : ℕ) (c : Call) (n : ℕ) → n ≢ name → ((calls name c w).seen n ≡ w.seen n) × ((calls name c w).outgoing n ≡ w.outgoing n)
@@ -179,15 +208,15 @@ group_by_name : (old : ℕ → Replica) (name : ℕ) (new : Replica) (out before
     → (n : ℕ) → (cond (n == name) new (old n)).group ≡ state (out n)
 group_by_name old name new out before here there was = by_name (λ n r. r.group ≡ state (out n)) name new old here (λ n apart. was n ∙ ap state (sym (there n apart)))
 
-meant_call : (hash_of : List ℕ → ℕ) (w : World) (name : ℕ) (c : Call) (new : Replica) (answer : Answer) (out : List Mail) → IsSound w → Meant hash_of w → IsCall (w.replica name) c new answer out
-    → Meant hash_of (goes name new out (w.outgoing name) (calls name c w))
-meant_call hash_of w name c new answer out sound_w meant step =
+pub meant_call : (hash_of : List ℕ → ℕ) (w : World) (name : ℕ) (c : Call) (new : Replica) (answer : Answer) (out : List Mail) (whole : List Operation) → Fits w name whole
+    → IsPartOf ((calls name c w).seen name) whole → Meant hash_of w → IsCall (w.replica name) c new answer out → Meant hash_of (goes name new out (w.outgoing name) (calls name c w))
+meant_call hash_of w name c new answer out whole fits all meant step =
     let u = calls name c w in
     let v = goes name new out (w.outgoing name) u in
-    let on = follows hash_of w sound_w meant name c new answer out step in
+    let on = follows hash_of w name whole fits meant c all new answer out step in
     record {
       ties = called_ties hash_of SnapOf (AskedOf v) SendsOf w name (more_meant hash_of w v (calls_grow w name c) meant.ties) (meant.group name) c
-          (λ peer own is_ask is. (w.seen name, calls_grow w name c name, map_is (w.seen name) (seen_once w sound_w name) own (w.replica name).live is (is_same _ _ (meant.live name)), ap (λ (p : MapState). p.has) (meant.live name)))
+          (λ peer own is_ask is. (w.seen name, calls_grow w name c name, map_is (w.seen name) (NoReuse-part (w.seen name) whole fits.seen fits.once) own (w.replica name).live is (is_same _ _ (meant.live name)), ap (λ (p : MapState). p.has) (meant.live name)))
           new answer out step;
       live = subst (λ f. (n : ℕ) → (cond (n == name) new (f n)).live ≡ state (u.seen n)) (sym (same_after_calls hash_of w name c))
           (live_by_name w.replica name new u.seen w.seen on.0 (λ n a. (seen_elsewhere w name c n a).0) meant.live);
@@ -241,7 +270,7 @@ either_closed : (b : Bool) (m : Met) (u w : World) → Contains u.closed m → C
 either_closed true m u w f g = f
 either_closed false m u w f g = g
 
-closed_grows : (w : World) (name : ℕ) (old : Replica) (mail : Mail) (of : Snapshot) (outcome : Outcome) (m : Met) → Contains w.closed m → Contains (takes name old mail of outcome w).closed m
+pub closed_grows : (w : World) (name : ℕ) (old : Replica) (mail : Mail) (of : Snapshot) (outcome : Outcome) (m : Met) → Contains w.closed m → Contains (takes name old mail of outcome w).closed m
 closed_grows w name old (Delta d) of outcome m h = either_closed (is_joined outcome) m (learns name of.seen w) w h h
 closed_grows w name old (Hello s seen) of outcome m h = either_closed (is_sent outcome) m (world.keeps name old s w) w h h
 closed_grows w name old (Opening s c root) of outcome m h =
@@ -252,7 +281,7 @@ closed_grows w name old (Page s sent) of outcome m h =
     (either_closed (is_sent outcome) m (takes_page s sent w) w h h)
 closed_grows w name old (Gone s) of outcome m h = h
 
-closed_by_call : (w : World) (name : ℕ) (c : Call) → (calls name c w).closed ≡ w.closed
+pub closed_by_call : (w : World) (name : ℕ) (c : Call) → (calls name c w).closed ≡ w.closed
 closed_by_call w name (Put place value) = refl
 closed_by_call w name (Remove key) = refl
 closed_by_call w name (RemoveField place) = refl
@@ -276,65 +305,65 @@ session_joins hash_of S T seen own theirs known_own context ts f own_is known_is
     let fourth = subst (λ m. Fetched hash_of (map_of S) (has (known S)) (has (known T)) (digest_at hash_of m []) ts f) theirs_is third in
     ap (λ c. join greater (state seen) (held_state f.built c)) context_is ∙ same_is _ _ (done hash_of S T seen ts f part once clean fourth complete)
 
-module _ (hash_of : List ℕ → ℕ) (w v : World) (number name : ℕ) (answer : Answer) (sound_w : IsSound w) (meant : Meant hash_of w) (d : Delivered hash_of w number name answer v) where
+-- a message that comes to a replica, and what it stands for
+module _ (hash_of : List ℕ → ℕ) (w : World) (name : ℕ) (whole : List Operation) (fits : Fits w name whole) (meant : Meant hash_of w) (mail : Mail) (of : Snapshot)
+    (tie : MailTie hash_of SnapOf (AskedOf w) SendsOf mail of) (of_part : IsPartOf of.seen whole) (own : Held) (is_own : IsMapOf own (w.replica name).live)
+    (new : Replica) (outcome : Outcome) (out : List Mail) (step : delivered hash_of own (w.replica name) mail ≡ turn new outcome out) where
   abbrev after : World
-  after = takes name (w.replica name) d.message.mail d.message.of d.outcome w
+  after = takes name (w.replica name) mail of outcome w
 
-  of_part : IsPartOf d.message.of.seen w.made
-  of_part = subst (λ S. IsPartOf S w.made) (carried w.messages number d.message d.there) (sound_w.sets.messages number)
-
-  learnt : Learns hash_of SnapOf (AskedOf w) SendsOf w name d.message.mail d.message.of (turn d.new d.outcome d.out) → d.new.live ≡ state (after.seen name)
+  learnt : Learns hash_of SnapOf (AskedOf w) SendsOf w name mail of (turn new outcome out) → new.live ≡ state (after.seen name)
   learnt l =
       l.live
-      ∙ same_is _ _ (learns_live (sets_of w) sound_w.sets name d.message.of.seen of_part (w.replica name).live l.delta (is_same _ _ (meant.live name)) (is_same _ _ l.sends))
+      ∙ same_is _ _ (joins (w.seen name) of.seen whole (w.replica name).live l.delta fits.once fits.seen of_part (is_same _ _ (meant.live name)) (is_same _ _ l.sends))
+      ∙ ap state (sym (grown-here name (w.seen name) of.seen))
       ∙ ap (λ (x : World). state (x.seen name)) (sym l.sets)
 
-  snapshot_part : (x : Snapshot) (s : SessionValue) → (x ≡ d.message.of) ⊎ (x ≡ w.accepted s) → IsPartOf x.seen w.made
-  snapshot_part x s (inl e) = subst (λ (y : Snapshot). IsPartOf y.seen w.made) (sym e) of_part
-  snapshot_part x s (inr e) = subst (λ (y : Snapshot). IsPartOf y.seen w.made) (sym e) (sound_w.accepted s)
+  snapshot_part : (x : Snapshot) (s : SessionValue) → (x ≡ of) ⊎ (x ≡ w.accepted s) → IsPartOf x.seen whole
+  snapshot_part x s (inl e) = subst (λ (y : Snapshot). IsPartOf y.seen whole) (sym e) of_part
+  snapshot_part x s (inr e) = subst (λ (y : Snapshot). IsPartOf y.seen whole) (sym e) (fits.accepted s)
 
-  ended : Unclashed hash_of after → Ending hash_of SnapOf (AskedOf w) SendsOf w name d.message.mail d.message.of (turn d.new d.outcome d.out) → d.new.live ≡ state (after.seen name)
+  ended : Unclashed hash_of after → Ending hash_of SnapOf (AskedOf w) SendsOf w name mail of (turn new outcome out) → new.live ≡ state (after.seen name)
   ended clean e =
       let asked = (meant.ties.sessions name e.session e.there).asked in
       let T = e.snapshot.seen in
-      let part : IsPartOf T w.made = snapshot_part e.snapshot e.session.session e.which in
+      let part : IsPartOf T whole = snapshot_part e.snapshot e.session.session e.which in
       let met : Met = record { own = e.session.own; theirs = e.snapshot.map; takings = e.takings } in
       let there : Contains after.closed met = subst (λ (x : World). Contains x.closed met) (sym e.sets) (Contains-append_right w.closed (met ∷ []) met (at_head met [])) in
       e.live
       ∙ ap (λ p. join greater p (held_state e.fetched.built e.context)) (meant.live name)
       ∙ session_joins hash_of asked.0 T (w.seen name) e.session.own e.snapshot.map e.session.seen e.context e.takings e.fetched asked.2 asked.3 e.snap.0 e.snap.1 asked.1
-      (NoReuse-part (w.seen name ++ T) w.made (part_both (w.seen name) T w.made (sound_w.sets.seen name) part) sound_w.sets.no_reuse) (clean met there) e.is_fetched e.complete
+      (NoReuse-part (w.seen name ++ T) whole (part_both (w.seen name) T whole fits.seen part) fits.once) (clean met there) e.is_fetched e.complete
       ∙ ap state (sym (grown-here name (w.seen name) T))
       ∙ ap (λ (x : World). state (x.seen name)) (sym e.sets)
 
-  live_after : Unclashed hash_of after → d.new.live ≡ state (after.seen name)
+  live_after : Unclashed hash_of after → new.live ≡ state (after.seen name)
   live_after clean =
-      by (subst (Comes hash_of SnapOf (AskedOf w) SendsOf w name d.message.mail d.message.of) d.step
-      (comes hash_of SnapOf (AskedOf w) SendsOf w name meant.ties d.own d.message.mail d.message.of (meant.ties.messages number d.message d.there)))
+      by (subst (Comes hash_of SnapOf (AskedOf w) SendsOf w name mail of) step (comes hash_of SnapOf (AskedOf w) SendsOf w name meant.ties own mail of tie))
     where
-      by : Comes hash_of SnapOf (AskedOf w) SendsOf w name d.message.mail d.message.of (turn d.new d.outcome d.out) → d.new.live ≡ state (after.seen name)
+      by : Comes hash_of SnapOf (AskedOf w) SendsOf w name mail of (turn new outcome out) → new.live ≡ state (after.seen name)
       by (inl l) = learnt l
       by (inr (inl e)) = ended clean e
       by (inr (inr s)) = s.live ∙ meant.live name ∙ ap (λ f. state (f name)) (sym s.seen)
 
-  meant_delivery : Unclashed hash_of after → Meant hash_of (goes name d.new d.out [] after)
+  pub meant_delivery : Unclashed hash_of after → Meant hash_of (goes name new out [] after)
   meant_delivery clean =
-      let x = goes name d.new d.out [] after in
+      let x = goes name new out [] after in
       let old = w.replica name in
-      let own_is = map_is (w.seen name) (seen_once w sound_w name) d.own old.live d.is_own (is_same _ _ (meant.live name)) in
-      let group : d.new.group ≡ state (w.outgoing name) = ap (λ (t : Turn). t.new.group) (sym d.step) ∙ group_stays hash_of d.own old d.message.mail ∙ meant.group name in
+      let own_is = map_is (w.seen name) (NoReuse-part (w.seen name) whole fits.seen fits.once) own old.live is_own (is_same _ _ (meant.live name)) in
+      let group : new.group ≡ state (w.outgoing name) = ap (λ (t : Turn). t.new.group) (sym step) ∙ group_stays hash_of own old mail ∙ meant.group name in
       record {
-        ties = delivered_ties hash_of SnapOf (AskedOf x) SendsOf w name d.own d.message number
-            (more_meant hash_of w x (λ n. takes_grow w name n old d.message.mail d.message.of d.outcome) meant.ties) d.there
-            (λ s seen hello here none. (own_is, ap (λ (p : MapState). p.has) (meant.live name))) d.new d.outcome d.out d.step;
-        live = subst (λ f. (n : ℕ) → (cond (n == name) d.new (f n)).live ≡ state (after.seen n)) (sym (same_replicas w name old d.message.mail d.message.of d.outcome))
-            (live_by_name w.replica name d.new after.seen w.seen (live_after clean) (λ n a. seen_stays w name n a old d.message.mail d.message.of d.outcome) meant.live);
-        group = subst (λ f. (n : ℕ) → (cond (n == name) d.new (f n)).group ≡ state (after.outgoing n)) (sym (same_replicas w name old d.message.mail d.message.of d.outcome))
-            (group_by_name w.replica name d.new after.outgoing w.outgoing (group ∙ ap (λ f. state (f name)) (sym same_outgoing)) (λ n a. ap (λ f. f n) same_outgoing) meant.group);
+        ties = taken_ties hash_of SnapOf (AskedOf x) SendsOf w name own mail of (more_meant hash_of w x (λ n. takes_grow w name n old mail of outcome) meant.ties)
+            (mail_more hash_of SnapOf SnapOf (AskedOf w) (AskedOf x) SendsOf SendsOf (λ s S m c h. h) (λ n s m c a. (a.0, λ o h. takes_grow w name n old mail of outcome o (a.1 o h), a.2, a.3)) (λ d S h. h) mail of tie)
+            (λ s seen hello here none. (own_is, ap (λ (p : MapState). p.has) (meant.live name))) new outcome out step;
+        live = subst (λ f. (n : ℕ) → (cond (n == name) new (f n)).live ≡ state (after.seen n)) (sym (same_replicas w name old mail of outcome))
+            (live_by_name w.replica name new after.seen w.seen (live_after clean) (λ n a. seen_stays w name n a old mail of outcome) meant.live);
+        group = subst (λ f. (n : ℕ) → (cond (n == name) new (f n)).group ≡ state (after.outgoing n)) (sym (same_replicas w name old mail of outcome))
+            (group_by_name w.replica name new after.outgoing w.outgoing (group ∙ ap (λ f. state (f name)) (sym same_outgoing)) (λ n a. ap (λ f. f n) same_outgoing) meant.group);
       }
     where
       same_outgoing : after.outgoing ≡ w.outgoing
-      same_outgoing = outgoing_stays w name (w.replica name) d.message.mail d.message.of d.outcome
+      same_outgoing = outgoing_stays w name (w.replica name) mail of outcome
 
 -- ---- all events
 
@@ -342,7 +371,7 @@ module _ (hash_of : List ℕ → ℕ) where
   abbrev IfClean : List Event → World → Type 0
   IfClean events w = Unclashed hash_of w → Meant hash_of w
 
-  meant_first : Meant hash_of nothing
+  pub meant_first : Meant hash_of nothing
   meant_first = record {
     ties = record {
       named = λ n. refl;
@@ -362,20 +391,25 @@ module _ (hash_of : List ℕ → ℕ) where
       subst (Meant hash_of) (sym e) (meant_node w name (m (λ x h. clean x (subst (λ (u : World). Contains u.closed x) (sym e) h))))
   meant_next events w v (At name c) answer runs m (there, peer, (new, out, step, e)) clean =
       subst (Meant hash_of) (sym e)
-      (meant_call hash_of w name c new answer out (sound hash_of events w runs)
+      (let s = sound hash_of events w runs in
+      meant_call hash_of w name c new answer out (calls name c w).made (sound_fits_then w s name c) ((sound_calls w name c s).sets.seen name)
       (m (λ x h. clean x (subst (λ (u : World). Contains u.closed x) (sym e) (subst (λ l. Contains l x) (sym (closed_by_call w name c)) h)))) step)
   meant_next events w v (Deliver number name) answer runs m happens clean =
       let d = delivery hash_of w v number name answer happens in
       let after = takes name (w.replica name) d.message.mail d.message.of d.outcome w in
       let clean_after : Unclashed hash_of after = λ x h. clean x (subst (λ (u : World). Contains u.closed x) (sym d.after) h) in
       let before : Unclashed hash_of w = λ x h. clean_after x (closed_grows w name (w.replica name) d.message.mail d.message.of d.outcome x h) in
-      subst (Meant hash_of) (sym d.after) (meant_delivery hash_of w v number name answer (sound hash_of events w runs) (m before) d clean_after)
+      let s = sound hash_of events w runs in
+      let meant = m before in
+      subst (Meant hash_of) (sym d.after)
+      (meant_delivery hash_of w name w.made (sound_fits w s name) meant d.message.mail d.message.of (meant.ties.messages number d.message d.there)
+      (subst (λ S. IsPartOf S w.made) (carried w.messages number d.message d.there) (s.sets.messages number)) d.own d.is_own d.new d.outcome d.out d.step clean_after)
 
   pub meant_all : (events : List Event) (w : World) → Runs hash_of nothing events w → Unclashed hash_of w → Meant hash_of w
   meant_all events w runs = by_events hash_of IfClean (λ clean. meant_first) meant_next events w runs
 
 -- what a message means, by the ties
-means_mail : (hash_of : List ℕ → ℕ) (w : World) (mail : Mail) (of : Snapshot) → MailTie hash_of SnapOf (AskedOf w) SendsOf mail of → MeansMail hash_of mail of.seen
+pub means_mail : (hash_of : List ℕ → ℕ) (w : World) (mail : Mail) (of : Snapshot) → MailTie hash_of SnapOf (AskedOf w) SendsOf mail of → MeansMail hash_of mail of.seen
 unfolding root_digest
 means_mail hash_of w (Delta d) of tie = tie
 means_mail hash_of w (Hello s seen) of tie = tt

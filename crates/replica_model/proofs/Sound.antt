@@ -98,7 +98,7 @@ sound_flushes w name s = record {
   accepted = s.accepted;
 }
 
-sound_calls : (w : World) (name : ℕ) (c : Call) → IsSound w → IsSound (calls name c w)
+pub sound_calls : (w : World) (name : ℕ) (c : Call) → IsSound w → IsSound (calls name c w)
 sound_calls w name (Put place value) s = sound_makes w name (put_at (w.seen name) name place value) s (put-new (w.seen name) name place value)
 sound_calls w name (Remove key) s = sound_makes w name (remove_at (w.seen name) key) s (erasure-new (w.seen name) name (ids (shown_within (w.seen name) key)))
 sound_calls w name (RemoveField place) s = sound_makes w name (remove_field_at (w.seen name) place) s (erasure-new (w.seen name) name (ids (Rattle.op_model.specs.Shown.shown (w.seen name) place)))
@@ -109,7 +109,7 @@ sound_calls w name (Retry number) s = s
 sound_calls w name (Abandon number) s = s
 
 -- what was made stays made
-made_stays : (w : World) (name : ℕ) (c : Call) (S : List Operation) → IsPartOf S w.made → IsPartOf S (calls name c w).made
+pub made_stays : (w : World) (name : ℕ) (c : Call) (S : List Operation) → IsPartOf S w.made → IsPartOf S (calls name c w).made
 made_stays w name (Put place value) S part = part_left S w.made (put_at (w.seen name) name place value) part
 made_stays w name (Remove key) S part = part_left S w.made (remove_at (w.seen name) key) part
 made_stays w name (RemoveField place) S part = part_left S w.made (remove_field_at (w.seen name) place) part

@@ -31,7 +31,7 @@ has-is_member : (ds : List Dot) (dot : Dot) → has ds dot ≡ is_member same_do
 has-is_member [] dot = refl
 has-is_member (d ∷ ds) dot = λ i. same_dot-symm d dot i || has-is_member ds dot i
 
-counted : (P : Dot → Type 0) (ds : List Dot) (n : ℕ) → Counts P n → ((dot : Dot) → IsTrue (has ds dot) ↔ P dot) → n ≡ distinct_count same_dot ds
+pub counted : (P : Dot → Type 0) (ds : List Dot) (n : ℕ) → Counts P n → ((dot : Dot) → IsTrue (has ds dot) ↔ P dot) → n ≡ distinct_count same_dot ds
 counted P ds n c all =
     c.number
     ∙ length-from_keys same_dot_equivalence c.dots ds c.apart

@@ -6,7 +6,7 @@ use Rattle.std.proofs.lemmas.List.Elements.{Contains-append_left}
 use Rattle.op_model.proofs.Members.{in_filter, in_map}
 use Rattle.wire_form.specs.Session.{SessionValue, same_session}
 use Rattle.sync_model.specs.Differ.{Held}
-use Rattle.replica_model.specs.Mail.{Mail, Hello, Ask}
+use Rattle.replica_model.specs.Mail.{Mail, Hello}
 use Rattle.replica_model.specs.Replica.{Replica, Open, Kept, open_numbered, kept_at, advanced, without_session}
 use Rattle.replica_model.specs.Delivery.{Turn, delivered}
 use Rattle.replica_model.specs.Step.{Call, Put, Remove, RemoveField, Clear, Flush, Retry, Abandon, Do, Take, Act, Answer, Abandons, IsCall}

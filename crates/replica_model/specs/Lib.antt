@@ -6,3 +6,5 @@ pub mod World
 pub mod Sessions
 pub mod Laws
 pub mod History
+pub mod Answers
+pub mod Alone

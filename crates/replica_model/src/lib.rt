@@ -7,13 +7,19 @@ mod sessions;
 mod steps;
 mod worlds;
 
-pub use headline::{replicas_hold_what_they_have_seen, what_has_seen_the_same_holds_the_same};
+pub use headline::{
+    calls_are_told_by_what_was_seen, replicas_hold_what_they_have_seen,
+    what_has_seen_the_same_holds_the_same,
+};
 pub use sessions::{
     a_session_has_one_ask, a_session_that_ends_joins_what_its_peer_had, openings_are_of_snapshots,
     sessions_are_of_asks_and_snapshots, sessions_take_what_they_wait_for,
     snapshots_are_for_what_askers_knew,
 };
-pub use steps::{histories_are_one, steps_are_one, steps_leave_other_sessions};
+pub use steps::{
+    a_replica_alone_holds_what_it_has_seen, histories_are_one, steps_are_one,
+    steps_leave_other_sessions,
+};
 pub use worlds::{
     each_event_happens_or_is_refused, events_leave_all_else, replicas_stay_within_limits,
     worlds_are_one, worlds_are_sound,

@@ -1,4 +1,5 @@
 // The laws of the step of one replica, and of its histories.
+ghost use Rattle.replica_model.specs.Alone.{HeadlineAlone, HistoriesAreSeen};
 ghost use Rattle.replica_model.specs.Laws.{StepsAreOne, RefusedMakesNone, SessionsStay, SnapshotsStay};
 ghost use Rattle.replica_model.specs.History.{HistoriesAreOne, AfterIsOne, HistoryGoesOn};
 
@@ -20,4 +21,13 @@ pub fn histories_are_one()
 pub fn steps_leave_other_sessions()
     ensures sessions { SessionsStay }
     ensures snapshots { SnapshotsStay }
+{}
+
+/// A replica by itself, to which messages come from anywhere. Whatever the messages of a history are said to stand for, there is what it has
+/// seen by that. Where each message says what it stands for, no dot was used twice by these and by what the replica made, and no two pages or
+/// values that one of its sessions met have one SHA-256, its live state is that of what it has seen, what it is to send is that of what it
+/// made since it last sent, and each delta and each opening that it sent is that of the set that it stands for.
+pub fn a_replica_alone_holds_what_it_has_seen()
+    ensures seen { HistoriesAreSeen }
+    ensures holds { HeadlineAlone }
 {}

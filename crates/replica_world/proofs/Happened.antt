@@ -4,7 +4,7 @@ use Rattle.std.proofs.lemmas.Bool.{cond-true}
 use Rattle.std.proofs.lemmas.Bool.Decides.{nat_tests}
 use Rattle.std.proofs.lemmas.List.{length-map}
 use Rattle.std.specs.List.{slice_get}
-use Rattle.std.specs.Option.{option_copied}
+use Rattle.std.specs.Option.{option_copied, unwrap_or}
 use Rattle.std.specs.Prelude.{IsNone}
 use Rattle.std.specs.BTreeMap.{BTreeMap, get, is_at, Updates}
 use Rattle.std.specs.Ordering.{nat_cmp}
@@ -13,14 +13,15 @@ use Rattle.dots.specs.declared.refusal.Refusal.TheVariants.{OutOfMemory}
 use Rattle.op_model.specs.World.{is_among}
 use Rattle.replica_model.specs.Replica.{Replica, fresh}
 use Rattle.replica_model.specs.Step.{Answer, Nothing}
-use Rattle.replica_model.specs.World.{World, Message, Event, Node, is_node, message_at, nothing, Happens, RefusesEvent, Runs, Unclashed}
+use Rattle.replica_model.specs.World.{World, Message, Event, Node, is_node, message_at, nothing, Happens, Runs, Unclashed}
 use Rattle.replica_model.proofs.Deciding.{worlds_one, goes_on}
 use Rattle.replica_model.proofs.Ended.{ends_are}
 use Rattle.replica_core.specs.Meaning.{ReplicaValue, hash_in, meaning}
 use Rattle.replica_world.specs.Accepting.{IsTold}
-use Rattle.replica_world.specs.Keeping.{Keeps, IsWorld, Makes, LeavesWorld, IsRefusedEvent}
+use Rattle.replica_world.specs.Keeping.{Keeps, IsWorld, Makes, LeavesWorld, IsRefusedEvent, ForetellsEvent}
+use Rattle.replica_world.specs.Refused.{IsRefusedIn}
 use Rattle.replica_world.specs.Replaces.{Replaces}
-use Rattle.replica_world.specs.Showing.{ShowsOperations}
+use Rattle.replica_core.specs.Showing.{ShowsOperations}
 use Rattle.replica_world.specs.Spelled.{IsSpelled}
 use Rattle.replica_world.proofs.Shown.{worlds_show}
 use Rattle.replica_world.proofs.Spelt.{as_many, spelled_at, spelled_past, map_back, map_past}
@@ -159,8 +160,13 @@ module _ {Hash : Type 0} (hash_of : Hash → List ℕ → ℕ) (hash : Hash) (ol
     pub event_left : LeavesWorld hash old messages new more → IsWorld hash_of hash new more past
     event_left leaves = record { world = is.world; runs = is.runs; keeps = leaves is.world is.keeps }
 
-  pub event_refused : (e : Event) (refusal : Refusal) → IsRefusedEvent hash old messages e refusal → (w : World) → Runs (hash_of hash) nothing past w → (refusal ≡ OutOfMemory) ⊎ RefusesEvent w e refusal
+  pub event_refused : (e : Event) (refusal : Refusal) → IsRefusedEvent hash old messages e refusal → (w : World) → Runs (hash_of hash) nothing past w → IsRefusedIn w e refusal
   event_refused e refusal refused w runs = refused w (keeps_any w runs)
+
+  -- where there is no room for it, what was foreseen comes first
+  pub event_unkept : (e : Event) (told : Option Refusal) → ForetellsEvent hash old messages e told → (w : World) → Runs (hash_of hash) nothing past w → IsRefusedIn w e (unwrap_or told OutOfMemory)
+  event_unkept e None nothing w runs = inl (refl, nothing w (keeps_any w runs))
+  event_unkept e (Some refusal) refuses w runs = inr (refuses w (keeps_any w runs))
 
   -- what is read of it
   pub replica_shown : (name : ℕ) (o : Option (Bor (ReplicaValue Hash))) → option_copied o ≡ get nat_cmp old name

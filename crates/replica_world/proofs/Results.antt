@@ -1,5 +1,5 @@
 -- What is said of a result, said otherwise.
-use Rattle.std.proofs.Common.{Result, Ok, Err, IfOk, IfErr, OnErr, is_ok, cond, List, [], ◌∷◌, ◌++◌, map, ◌≡◌, ap, ◌∙◌, subst, ℕ}
+use Rattle.std.proofs.Common.{Result, Ok, Err, IfOk, IfErr, IsOkUnless, OnErr, is_ok, cond, List, [], ◌∷◌, ◌++◌, map, ◌≡◌, ap, ◌∙◌, subst, ℕ}
 use Rattle.std.proofs.lemmas.List.{map-append}
 use Rattle.wire_form.specs.declared.message.Message.{Message}
 use Rattle.wire_form.specs.Message.{message_of}
@@ -21,6 +21,11 @@ if_ok_weaker (Err e) weaker is = tt
 pub if_err_weaker : {T E : Type 0} {P Q : E → Type 0} (result : Result T E) → ((e : E) → P e → Q e) → IfErr result P → IfErr result Q
 if_err_weaker (Ok x) weaker is = tt
 if_err_weaker (Err e) weaker is = weaker e is
+
+-- what is refused for want of memory alone
+pub refused_unless : {T E : Type 0} {Q : E → Type 0} {out : E} (result : Result T E) → IsOkUnless result out → ((e : E) → e ≡ out → Q e) → IfErr result Q
+refused_unless (Ok x) is weaker = tt
+refused_unless (Err e) is weaker = weaker e is
 
 pub on_err_both : {T E : Type 0} {P Q R : Type 0} (result : Result T E) → (P → Q → R) → OnErr result P → OnErr result Q → OnErr result R
 on_err_both (Ok x) both first then = tt

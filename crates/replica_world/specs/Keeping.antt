@@ -1,9 +1,8 @@
 -- How a world keeps what its events make: its replicas and the bytes of its messages are those of the model. Of this project.
-use Rattle.std.specs.Prelude.{◌≡◌, ◌⊎◌, ℕ, false, List, map, Some, is_some}
+use Rattle.std.specs.Prelude.{◌≡◌, ℕ, false, List, map, Option, Some, is_some}
 use Rattle.std.specs.BTreeMap.{BTreeMap, get}
 use Rattle.std.specs.Ordering.{nat_cmp}
 use Rattle.dots.specs.declared.refusal.Refusal.{Refusal}
-use Rattle.dots.specs.declared.refusal.Refusal.TheVariants.{OutOfMemory}
 use Rattle.wire_form.specs.Message.{MessageValue}
 use Rattle.sync_protocol.specs.Posting.{IsPosted}
 use Rattle.replica_core.specs.Meaning.{ReplicaValue, hash_in, meaning}
@@ -11,7 +10,8 @@ use Rattle.replica_core.specs.Stepping.{Steps}
 use Rattle.replica_model.specs.Mail.{Mail, mail_of}
 use Rattle.replica_model.specs.Replica.{fresh}
 use Rattle.replica_model.specs.Step.{Answer, Call, Do, Take}
-use Rattle.replica_model.specs.World.{World, Event, is_node, nothing, Happens, RefusesEvent, Runs}
+use Rattle.replica_model.specs.World.{World, Event, is_node, nothing, Happens, Runs}
+use Rattle.replica_world.specs.Refused.{ForetellsIn, IsRefusedIn}
 use Rattle.replica_world.specs.Spelled.{AreSpelled, Gains}
 
 -- a world, as it is seen: the hash of all keys' paths, and the events that it accepted
@@ -40,9 +40,13 @@ module _ {Hash : Type 0} (hash_of : Hash → List ℕ → ℕ) where
   Makes hash old messages e answer new more =
       (w : World) → Keeps hash old messages w → (v : World) × Happens (hash_of hash) w e answer v × Keeps hash new more v
 
--- an event is refused, for want of memory or as the model refuses it
+-- an event is refused as the model refuses it, and for want of memory only where that does not
 abbrev pub IsRefusedEvent : {Hash : Type 0} → Hash → BTreeMap ℕ (ReplicaValue Hash) → List (List ℕ) → Event → Refusal → Type 0
-IsRefusedEvent hash replicas messages e refusal = (w : World) → Keeps hash replicas messages w → (refusal ≡ OutOfMemory) ⊎ RefusesEvent w e refusal
+IsRefusedEvent hash replicas messages e refusal = (w : World) → Keeps hash replicas messages w → IsRefusedIn w e refusal
+
+-- told before an event happens: the refusal that it meets whatever memory there is, or that it meets none
+abbrev pub ForetellsEvent : {Hash : Type 0} → Hash → BTreeMap ℕ (ReplicaValue Hash) → List (List ℕ) → Event → Option Refusal → Type 0
+ForetellsEvent hash replicas messages e told = (w : World) → Keeps hash replicas messages w → ForetellsIn w e told
 
 -- what a refused event leaves
 abbrev pub LeavesWorld : {Hash : Type 0} → Hash → BTreeMap ℕ (ReplicaValue Hash) → List (List ℕ) → BTreeMap ℕ (ReplicaValue Hash) → List (List ℕ) → Type 0

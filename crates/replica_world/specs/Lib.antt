@@ -1,5 +1,6 @@
 pub mod Spelled
 pub mod Happening
+pub mod Refused
 pub mod Keeping
 pub mod Replaces
 pub mod Showing

@@ -83,7 +83,7 @@ fn call_at<H: PathHash, A: Allocator + Copy>(
 }
 
 // Whether the peer of an ask is there.
-fn has_peer<H: PathHash, A: Allocator + Copy>(
+pub(crate) fn has_peer<H: PathHash, A: Allocator + Copy>(
     replicas: &BTreeMap<Name, Replica<H, A>, A>,
     call: &Call<A>,
 ) -> bool

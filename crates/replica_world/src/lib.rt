@@ -7,6 +7,7 @@ mod call;
 mod calling;
 mod delivering;
 mod event;
+mod foreseeing;
 mod happening;
 mod laws;
 mod posted;

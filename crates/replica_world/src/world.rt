@@ -3,14 +3,16 @@ ghost use Rattle.dots.specs.declared.refusal.Refusal.TheVariants.{OutOfMemory};
 ghost use Rattle.wire_form.specs.Message.{message_of};
 ghost use Rattle.replica_model.specs.Mail.{mail_of};
 ghost use Rattle.replica_model.specs.World as model;
-ghost use Rattle.replica_model.specs.World.{nothing, is_node, message_at, RefusesEvent, Runs, Unclashed};
+ghost use Rattle.replica_model.specs.World.{nothing, is_node, message_at, Runs, Unclashed};
 ghost use Rattle.replica_core.specs.Meaning.{hash_in, meaning};
 ghost use Rattle.replica_world.specs.Accepting.{IsTold};
-ghost use Rattle.replica_world.specs.Showing.{ShowsOperations};
+ghost use Rattle.replica_world.specs.Refused.{IsRefusedIn};
+ghost use Rattle.replica_core.specs.Showing.{ShowsOperations};
 ghost use Rattle.replica_world.specs.Spelled.{IsSpelled};
 
 use crate::delivering::read;
 use crate::event::Event;
+use crate::foreseeing::foresee;
 use crate::happening::happen;
 use crate::posted::Posted;
 use crate::told::Told;
@@ -65,19 +67,23 @@ impl<H: PathHash, A: Allocator + Copy> World<H, A> {
 
     /// Makes the event happen, and tells what it was answered and which messages it made.
     ///
-    /// Its refusals are NameTaken, only where a new replica has the name of one that is there; UnknownReplica, only where a call, its
-    /// peer, or a delivery is for one that is not there; UnknownMessage, only where no message has the number; those of the replica's
-    /// call; and OutOfMemory. A refused event changes nothing and is not kept in the past. Takes what the call takes, and the logarithm of the number of replicas.
+    /// Its refusals are NameTaken, just where a new replica has the name of one that is there; UnknownReplica, just where a call, its
+    /// peer, or a delivery is for one that is not there; UnknownMessage, just where else no message has the number; those of the replica's
+    /// call; and OutOfMemory, only where none of these comes first. A refused event changes nothing and is not kept in the past. Takes what
+    /// the call takes, and the logarithm of the number of replicas.
     pub fn event(&mut self, event: Event<A>) -> Result<Told, Refusal>
         ensures ok { OnOk result (self.new ≡ record { hash = self.old.hash; past = self.old.past ++ event_value event ∷ [] }) }
         ensures happened { IfOk result (λ told. (w : model.World) → Runs (H.hash_of self.old.hash) nothing self.old.past w
             → IsTold (H.hash_of self.old.hash) self.old.past w (event_value event) (answer_value told.answer) told.made.start told.made.end) }
         ensures refused { IfErr result (λ refusal. (w : model.World) → Runs (H.hash_of self.old.hash) nothing self.old.past w
-            → (refusal ≡ OutOfMemory) ⊎ RefusesEvent w (event_value event) refusal) }
+            → IsRefusedIn w (event_value event) refusal) }
         ensures unchanged { OnErr result (self.new ≡ self.old) }
     {
         let first = self.posted.len() + 1;
-        self.past.reserve(1)?;
+        if self.past.reserve(1).is_err() {
+            let foreseen = foresee(&self.replicas, &self.posted, &event);
+            return Err(foreseen.unwrap_or(Refusal::OutOfMemory));
+        }
         let answer = match happen(
             self.alloc,
             self.hash,

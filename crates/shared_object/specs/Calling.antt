@@ -1,5 +1,5 @@
 -- What the calls of a client come to. Of this project.
-use Rattle.std.specs.Prelude.{◌≡◌, ◌⊎◌, ℕ, ◌+◌, ◌-◌, ◌^◌, List, [], ◌∷◌, ◌++◌, length}
+use Rattle.std.specs.Prelude.{◌≡◌, ◌⊎◌, ◌<◌, ℕ, ◌+◌, ◌-◌, ◌^◌, List, [], ◌∷◌, ◌++◌, length}
 use mathlib.Core.List.{IsPrefix}
 use Rattle.dots.specs.declared.refusal.Refusal.{Refusal}
 use Rattle.dots.specs.declared.refusal.Refusal.TheVariants.{OutOfMemory, NumbersSpent}
@@ -22,7 +22,12 @@ module _ {E : Type 0} (place : E → ℕ) where
     pub operations : new.operations ≡ old.operations + 1
     pub front : new.front ≡ history ++ event ∷ []
 
--- A call was refused after this history: for want of memory, as the object refuses it, or since the history has as many events as can be
--- counted.
+-- refused as the object refuses it, and for want of memory only where that does not
+abbrev pub IsRefusedBy : {E : Type 0} → (List E → Refusal → Type 0) → List E → Refusal → Type 0
+IsRefusedBy refuses history refusal = ((refusal ≡ OutOfMemory) × ((other : Refusal) → ¬ refuses history other)) ⊎ refuses history refusal
+
+-- A call was refused after this history: as many events as can be counted are there, or there is room for one more and it is refused by the
+-- object or for want of memory.
 abbrev pub IsRefused : {E : Type 0} → (List E → Refusal → Type 0) → List E → Refusal → Type 0
-IsRefused refuses history refusal = (refusal ≡ OutOfMemory) ⊎ refuses history refusal ⊎ ((refusal ≡ NumbersSpent) × (length history ≡ 2 ^ 64 - 1))
+IsRefused refuses history refusal =
+    ((length history < 2 ^ 64 - 1) × IsRefusedBy refuses history refusal) ⊎ ((refusal ≡ NumbersSpent) × (length history ≡ 2 ^ 64 - 1))

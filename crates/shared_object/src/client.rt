@@ -120,9 +120,9 @@ impl<
 > Client<R, E, J, Shared<D, R, E, J, G, W, A>, A> {
     /// Makes a call when its turn has come, and answers its reply and a receipt, which is of the history with the call at its end. A refused
     /// call is not made, though the client may have seen more of the history; unless it is refused with NoPlace, the calls of its place that
-    /// it has seen then are those that it made. It is refused with OutOfMemory, with what the call itself
-    /// refuses, with NumbersSpent where the history has 2^64 - 1 events, and with NoPlace where the object was taken out; that NoPlace comes
-    /// nowhere else stands in no clause.
+    /// it has seen then are those that it made. It is refused with NumbersSpent where the history has 2^64 - 1 events, with what the call
+    /// itself refuses, else with OutOfMemory, and with NoPlace where the object was taken out; that NoPlace comes nowhere else stands in no
+    /// clause.
     pub fn call<T: Wait, C: Update<D, R, E, J, A>>(
         &mut self,
         rt: &T,

@@ -181,13 +181,14 @@ impl<D: Drop, R: Drop, E: Placed, J: Object<D, R, E>, W: Wait + Drop, A: Allocat
         if !is_met {
             return (self, view, Err(Refusal::NoPlace));
         }
-        match self.accept(rt, place, update) {
-            (guarded, Ok(told)) => {
+        let (guarded, answer) = self.accept(rt, place, update);
+        match answer {
+            Ok(told) => {
                 let mut view = view;
                 view.learn(guarded.writer.tell());
                 (guarded, view, Ok(told))
             }
-            (guarded, Err(refusal)) => (guarded, view, Err(refusal)),
+            Err(refusal) => (guarded, view, Err(refusal)),
         }
     }
 

@@ -1,5 +1,5 @@
-ghost use Rattle.std.specs.Prelude.{◌≡◌, ◌⊎◌, ◌++◌, ◌∷◌, [], ℕ, List, IfOk, IfErr, OnErr};
-ghost use Rattle.dots.specs.declared.refusal.Refusal.TheVariants.{OutOfMemory};
+ghost use Rattle.std.specs.Prelude.{◌≡◌, ◌++◌, ◌∷◌, [], ℕ, List, IfOk, IfErr, OnErr};
+ghost use Rattle.shared_object.specs.Calling.{IsRefusedBy};
 
 use crate::object::Object;
 use crate::placed::Placed;
@@ -26,12 +26,13 @@ pub trait Update<D, R, E: Placed, J: Object<D, R, E>, A: Allocator> {
     // It is refused so after this history, want of memory aside.
     ghost refuses: { Self → List E → Refusal → Type 0 };
 
-    /// Makes the call, and a root of what the object then is, in its place. A refused call changes nothing.
+    /// Makes the call, and a root of what the object then is, in its place. A refused call changes nothing; for want of memory it is refused
+    /// only where the object does not refuse it.
     fn update<W: Wait>(&self, rt: &W, object: &mut D) -> Result<(Self::Reply, Arc<R, A>), Refusal>
         ensures after { IfOk result (λ r. (history : List E) → (place : ℕ) → J.after object.old history → J.after object.new (history ++ event self.now place ∷ [])) }
         ensures root { IfOk result (λ r. (history : List E) → (place : ℕ) → J.after object.old history → J.stands r.1.value (history ++ event self.now place ∷ [])) }
         ensures answers { IfOk result (λ r. (history : List E) → J.after object.old history → answers self.now history r.0) }
-        ensures refused { IfErr result (λ e. (history : List E) → J.after object.old history → (e ≡ OutOfMemory) ⊎ refuses self.now history e) }
+        ensures refused { IfErr result (λ e. (history : List E) → J.after object.old history → IsRefusedBy (refuses self.now) history e) }
         ensures unchanged { OnErr result ((history : List E) → J.after object.old history → J.after object.new history) };
 
     // The event is at the place of its client.

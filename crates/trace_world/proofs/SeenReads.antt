@@ -15,7 +15,7 @@ use Rattle.op_model.specs.Place.{place_of}
 use Rattle.op_model.specs.Shown.{values, values_of_key, fields, keys, size}
 use Rattle.prefix_digest.specs.MapOf.{root_digest}
 use Rattle.replica_core.specs.Reading.{Lists}
-use Rattle.replica_world.specs.Showing.{ShowsOperations}
+use Rattle.replica_core.specs.Showing.{ShowsOperations}
 use Rattle.replica_world.proofs.Shown.{worlds_show}
 use Rattle.replica_model.specs.World.{World, is_node}
 use Rattle.trace_words.specs.Command.{CommandValue, Node, Put, Get, Flush, Deliver, Sync, Retry, Abandon, Remove, RemoveField, Clear, Fields, Show, Size, Context, Pin, Digest, Look}

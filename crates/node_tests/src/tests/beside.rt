@@ -16,10 +16,10 @@ use std::sync::{Arc, Wait};
 use std::thread::Threads;
 use std::{marker, thread};
 
-// Holds a call at the lock, once it is armed, until it is let go, for at most so many turns.
+// Holds a call that has the lock, once it is armed, until it is let go, for at most so many turns.
 const TURNS: u64 = 1_000_000;
 
-// 0: inactive; 1: armed; 2: a call is held; 3: it was let go.
+// 0: inactive; 1: armed; 2: a call has come to the lock; 3: it holds the lock, and is held; 4: it was let go.
 #[derive(Drop)]
 struct Holding {
     state: Arc<AtomicU64, Global>,
@@ -27,12 +27,19 @@ struct Holding {
 
 impl Gate for Holding {
     fn pass(&self, at: Point) {
-        if at == Point::Before || self.state.load(SeqCst) != 1 {
-            return;
+        match (at, self.state.load(SeqCst)) {
+            (Point::Before, 1) => self.state.store(2, SeqCst),
+            (Point::Locked, 2) => self.hold(),
+            _ => {}
         }
-        self.state.store(2, SeqCst);
+    }
+}
+
+impl Holding {
+    fn hold(&self) {
+        self.state.store(3, SeqCst);
         for _ in 0..TURNS {
-            if self.state.load(SeqCst) == 3 {
+            if self.state.load(SeqCst) == 4 {
                 return;
             }
             thread::yield_now();
@@ -64,8 +71,8 @@ fn reads_beside<K: Naming + Send + Sync, R: Threads + Wait + Abort + Copy + Drop
     let mut first = hand_out(&mut node)?;
     let mut second = hand_out(&mut node)?;
     let told = writes_while_read(&rt, alloc, &state, &mut first, &mut second);
-    let last = finished_in_two(&rt, alloc, node, second, first);
-    Ok(told == Ok(true) && last == Ok(Some((2, 1))))
+    let last = finished_in_two(&rt, alloc, node, first, second);
+    Ok(told == Ok(true) && last == Ok(Some((2, 1, 2, 0))))
 }
 
 // Writes twice, the second time held while the other client reads. Whether each read shows what it should.
@@ -104,17 +111,17 @@ fn read_while_held<K: Naming, R: Wait + Drop>(
     reader: &mut Held<K, Holding, R>,
 ) -> Result<bool, Refusal> {
     for _ in 0..TURNS {
-        if state.load(SeqCst) == 2 {
+        if state.load(SeqCst) == 3 {
             break;
         }
         thread::yield_now();
     }
-    let is_held = state.load(SeqCst) == 2;
+    let is_held = state.load(SeqCst) == 3;
     let is_old = has(alloc, reader, b"a", b"", Some(b"x"))?;
     let is_one = size(reader)? == 1 && contains(alloc, reader, b"a")?;
     let is_shown = shows(alloc, reader, b"a", b"", b"x")?;
-    let is_still_held = state.load(SeqCst) == 2;
-    state.store(3, SeqCst);
+    let is_still_held = state.load(SeqCst) == 3;
+    state.store(4, SeqCst);
     Ok(is_held && is_old && is_one && is_shown && is_still_held)
 }
 
@@ -139,14 +146,11 @@ fn write_beside<K: Naming + Send + Sync, R: Threads + Wait + Abort + Copy + Drop
     let mut second = hand_out(&mut node)?;
     let told = both_put_often(&rt, alloc, &mut first, &mut second);
     let last = finished_in_two(&rt, alloc, node, second, first);
-    Ok(told == Ok(true) && last == Ok(Some((2000, 2))))
+    Ok(told == Ok(true) && last == Ok(Some((2000, 2, 2000, 0))))
 }
 
 // Whether both put a thousand times, each in a thread of its own.
-pub(crate) fn both_put_often<
-    K: Naming + Send + Sync,
-    R: Threads + Wait + Abort + Copy + Drop + Send + Sync,
->(
+fn both_put_often<K: Naming + Send + Sync, R: Threads + Wait + Abort + Copy + Drop + Send + Sync>(
     rt: &R,
     alloc: Global,
     first: &mut Held<K, NoGate, R>,

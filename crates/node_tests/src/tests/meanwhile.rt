@@ -4,17 +4,16 @@ ghost use Rattle.std.specs.Prelude.{◌≡◌};
 use crate::made::{
     Held, Shared, finished_alone, finished_in_three, hand_out, has, name, put, size,
 };
-use crate::tests::beside::both_put_often;
 use dots::Refusal;
 use node_threads::{Asking, Delivering, Naming, NodeEvent, new_node};
 use replica_core::{Delivered, Outcome};
 use root_cell::OpenedBook;
 use shared_object::NoGate;
 use std::alloc::Global;
-use std::marker;
 use std::process::Abort;
 use std::sync::Wait;
 use std::thread::Threads;
+use std::{marker, thread};
 use wire_form::Message;
 
 #[test]
@@ -49,10 +48,10 @@ fn write_meanwhile<
     let last = finished_in_three(&rt, alloc, node, asker, left, right);
     let peer_last = finished_alone(&rt, alloc, peer, answerer);
     let is_told = told == Ok(true);
-    Ok(is_told && last == Ok(Some((2003, 3))) && peer_last == Ok(Some((3, 1))))
+    Ok(is_told && last == Ok(Some((203, 201, 200, 1))) && peer_last == Ok(Some((3, 1, 0, 1))))
 }
 
-// Whether the synchronisation ends after the others wrote a thousand times each, and the node then holds all of it.
+// Whether the synchronisation ends after the others wrote a hundred keys each, and the node then holds all of it.
 fn is_done<
     K: Naming + Send + Sync,
     L: Naming,
@@ -67,10 +66,42 @@ fn is_done<
 ) -> Result<bool, Refusal> {
     put(rt, alloc, answerer, b"p", b"", b"q")?;
     let opening = opened(rt, alloc, asker, answerer)?;
-    let is_written = both_put_often(rt, alloc, left, right)?;
+    let is_written = both_put_keys(rt, alloc, left, right);
     let is_ended = ended(rt, alloc, asker, answerer, &opening)?;
     let is_there = has(alloc, asker, b"p", b"", Some(b"q"))?;
-    Ok(is_written && is_ended && is_there && size(asker)? == 3)
+    Ok(is_written && is_ended && is_there && size(asker)? == 201)
+}
+
+// Whether both put a hundred keys, b0 to b99 and c0 to c99, each in a thread of its own.
+fn both_put_keys<K: Naming + Send + Sync, R: Threads + Wait + Abort + Copy + Drop + Send + Sync>(
+    rt: &R,
+    alloc: Global,
+    left: &mut Held<K, NoGate, R>,
+    right: &mut Held<K, NoGate, R>,
+) -> bool {
+    let (one, two) = thread::join(
+        rt,
+        || put_keys(rt, alloc, left, b'b'),
+        || put_keys(rt, alloc, right, b'c'),
+    );
+    one.is_ok() && two.is_ok()
+}
+
+fn put_keys<K: Naming, R: Wait + Drop>(
+    rt: &R,
+    alloc: Global,
+    held: &mut Held<K, NoGate, R>,
+    letter: u8,
+) -> Result<(), Refusal> {
+    for number in 0..100u8 {
+        let (one, two) = (
+            [letter, b'0' + number],
+            [letter, b'0' + number / 10, b'0' + number % 10],
+        );
+        let name: &[u8] = if number < 10 { &one } else { &two };
+        put(rt, alloc, held, name, b"", b"x")?;
+    }
+    Ok(())
 }
 
 // Has the one node ask the other, and gives what that one opens with.

@@ -1,12 +1,10 @@
 // Two nodes that are served, each in a thread of its own.
 ghost use Rattle.std.specs.Prelude.{◌≡◌};
 
-use crate::made::{Held, Shared, finished_alone, finished_in_two, hand_out, has, name, put};
+use crate::made::{Held, Last, Shared, finished_alone, finished_in_two, hand_out, has, name, put};
 use crossbeam_channel::{Sender, unbounded};
 use dots::Refusal;
-use hash_path::Fnv1a;
 use node_threads::{Asking, Channels, Letter, Naming, NodeEvent, Post, Served, new_node, serve};
-use replica_core::Replica;
 use root_cell::OpenedBook;
 use shared_object::NoGate;
 use std::alloc::Global;
@@ -16,6 +14,31 @@ use std::test::Fail;
 use std::thread::Threads;
 use std::{marker, thread};
 use wire_form::encode;
+
+// The hello of replica 2 to replica 1, session 1, which knows nothing.
+const HELLO: &[u8] = &[
+    3, 3, 0, 0, 0, 0, 0, 0, 0, 2, 0, 0, 0, 0, 0, 0, 0, 1, 0, 0, 0, 0, 0, 0, 0, 1, 0, 0, 0, 0, 0, 0,
+    0, 0, 0, 0, 0, 0, 0, 0, 0, 0,
+];
+
+// The delta of replica 1 that puts x on a.
+const DELTA: &[u8] = &[
+    1, 1, 0, 0, 0, 0, 0, 0, 0, 1, 0, 0, 0, 0, 0, 0, 0, 1, 0, 0, 0, 0, 0, 0, 0, 1, 0, 0, 0, 0, 0, 0,
+    0, 0, 0, 0, 0, 0, 0, 0, 0, 1, 0, 1, 97, 0, 0, 0, 0, 0, 0, 0, 1, 0, 0, 0, 0, 0, 0, 0, 1, 0, 0,
+    0, 0, 0, 0, 0, 1, 0, 1, 120,
+];
+
+// The one that puts x on the field f of a.
+const FIELD_DELTA: &[u8] = &[
+    3, 1, 0, 0, 0, 0, 0, 0, 0, 1, 0, 0, 0, 0, 0, 0, 0, 1, 0, 0, 0, 0, 0, 0, 0, 1, 0, 0, 0, 0, 0, 0,
+    0, 0, 0, 0, 0, 0, 0, 0, 0, 1, 0, 1, 97, 0, 0, 0, 0, 0, 0, 0, 1, 0, 1, 102, 0, 0, 0, 0, 0, 0, 0,
+    1, 0, 0, 0, 0, 0, 0, 0, 1, 0, 0, 0, 0, 0, 0, 0, 1, 0, 1, 120,
+];
+
+// A gone for the session 9 of replica 1 with replica 2.
+const GONE: &[u8] = &[
+    3, 7, 0, 0, 0, 0, 0, 0, 0, 1, 0, 0, 0, 0, 0, 0, 0, 2, 0, 0, 0, 0, 0, 0, 0, 9,
+];
 
 // For so many turns a client reads until it sees what it waits for.
 const TURNS: u64 = 10_000_000;
@@ -51,7 +74,11 @@ fn two_nodes_that_are_served_synchronise(rt: HostRuntime) -> Result<(), Fail> {
     let alloc = rt.alloc();
     let (to_node, inbox) = unbounded(alloc)?;
     let (to_peer, peer_inbox) = unbounded(alloc)?;
-    let of_node = [(name(&rt, 2), Sender::clone(&to_peer)?)];
+    // Of two outboxes for one replica the first counts: by the second what is for the peer would come back.
+    let of_node = [
+        (name(&rt, 2), Sender::clone(&to_peer)?),
+        (name(&rt, 2), Sender::clone(&to_node)?),
+    ];
     let of_peer = [(name(&rt, 1), Sender::clone(&to_node)?)];
     let post = Channels {
         inbox: &inbox,
@@ -107,7 +134,7 @@ fn exchange<
     let last = finished_in_two(&rt, alloc, node, served, writer);
     let peer_last = finished_in_two(&rt, alloc, peer, peer_served, reader);
     let is_seen = is_seen == Ok(true) && is_served;
-    Ok(is_seen && last == Ok(Some((4, 1))) && peer_last == Ok(Some((3, 1))))
+    Ok(is_seen && last == Ok(Some((3, 1, 1, 0))) && peer_last == Ok(Some((3, 1, 1, 0))))
 }
 
 // Serves both nodes until their posts end, each in a thread of its own. Whether so much was delivered, refused and lost.
@@ -131,40 +158,64 @@ fn serve_both<
         || serve_held(rt, alloc, peer_served, peer_post),
     );
     let all = Served {
-        delivered: 3,
-        refused: 1,
-        lost: 1,
-    };
-    let peer_all = Served {
         delivered: 2,
         refused: 0,
         lost: 0,
     };
-    told == all && peer_told == peer_all
+    told == all && peer_told == all
+}
+
+#[test]
+fn what_comes_to_a_served_node_is_counted(rt: HostRuntime) -> Result<(), Fail> {
+    let alloc = rt.alloc();
+    let (to_node, inbox) = unbounded(alloc)?;
+    for bytes in [&[0], HELLO, DELTA] {
+        let _ = to_node.send(&rt, Letter::Mail(Vec::from_slice(alloc, bytes)?));
+    }
+    let _ = to_node.send(&rt, Letter::Stop);
+    let post = Channels {
+        inbox: &inbox,
+        outboxes: &[],
+    };
+    let told = serve_alone::<marker::Brand, _, _>(rt, alloc, OpenedBook::new(), &post);
+    let served = Served {
+        delivered: 2,
+        refused: 1,
+        lost: 1,
+    };
+    assert!(rt; told == Ok((served, Some((2, 1, 1, 0)))));
+    Ok(())
 }
 
 #[test]
 fn serving_ends_once_the_channel_is_closed(rt: HostRuntime) -> Result<(), Fail> {
     let alloc = rt.alloc();
     let (to_node, inbox) = unbounded(alloc)?;
-    let _ = to_node.send(&rt, Letter::Mail(Vec::new(alloc)));
+    for bytes in [&[], GONE, FIELD_DELTA] {
+        let _ = to_node.send(&rt, Letter::Mail(Vec::from_slice(alloc, bytes)?));
+    }
     drop(to_node);
     let post = Channels {
         inbox: &inbox,
         outboxes: &[],
     };
     let told = serve_alone::<marker::Brand, _, _>(rt, alloc, OpenedBook::new(), &post);
-    assert!(rt; told == Ok(true));
+    let served = Served {
+        delivered: 2,
+        refused: 1,
+        lost: 0,
+    };
+    assert!(rt; told == Ok((served, Some((2, 1, 1, 0)))));
     Ok(())
 }
 
-// Serves a node until its post ends. Whether one letter came, which is no message.
+// Serves a node until its post ends: what it counts, and what is there in the end.
 fn serve_alone<K: Naming, P: Post, R: Wait + Abort + Copy + Drop>(
     rt: R,
     alloc: Global,
     opened: OpenedBook<NodeEvent>,
     post: &P,
-) -> Result<bool, Refusal>
+) -> Result<(Served, Last), Refusal>
     requires book { opened.0 ≡ K.book }
     requires name { K.name ≡ 1 }
 {
@@ -172,13 +223,8 @@ fn serve_alone<K: Naming, P: Post, R: Wait + Abort + Copy + Drop>(
     let mut node: Shared<K, NoGate, R> = new_node(&rt, alloc, opened, own, 1, NoGate, rt)?;
     let mut served = hand_out(&mut node)?;
     let told = serve_held(&rt, alloc, &mut served, post);
-    let last = finished_alone(&rt, alloc, node, served);
-    let all = Served {
-        delivered: 0,
-        refused: 1,
-        lost: 0,
-    };
-    Ok(told == all && last == Ok(Some((0, 0))))
+    let last = finished_alone(&rt, alloc, node, served)?;
+    Ok((told, last))
 }
 
 fn serve_held<K: Naming, P: Post, R: Wait + Drop>(
@@ -190,8 +236,7 @@ fn serve_held<K: Naming, P: Post, R: Wait + Drop>(
     serve(rt, alloc, &mut held.client, post)
 }
 
-// Hands the one node what is no message, and a hello for whose answer it has no outbox. Writes there, has the other node ask it, waits
-// until that one shows what was written, and ends both.
+// Writes at the one node, has the other node ask it, waits until that one shows what was written, and ends both.
 fn synchronise<K: Naming, L: Naming, O: Outside, R: Wait + Abort + Drop>(
     rt: &R,
     alloc: Global,
@@ -212,8 +257,6 @@ fn write_and_wait<K: Naming, L: Naming, O: Outside, R: Wait + Abort + Drop>(
     outside: &O,
 ) -> Result<bool, Refusal> {
     put(rt, alloc, writer, b"a", b"", b"x")?;
-    outside.hand(rt, Vec::new(alloc));
-    outside.hand(rt, hello(rt, alloc)?);
     let peer = name(rt, 1);
     let ((_number, hello), _receipt) = reader.client.call(rt, &Asking { alloc, peer })?;
     outside.hand(rt, encode(alloc, &hello)?);
@@ -224,11 +267,4 @@ fn write_and_wait<K: Naming, L: Naming, O: Outside, R: Wait + Abort + Drop>(
         thread::yield_now();
     }
     Ok(false)
-}
-
-// The bytes of a hello of replica 3 to replica 1, whose map is empty.
-fn hello(rt: &impl Abort, alloc: Global) -> Result<Vec<u8>, Refusal> {
-    let mut asker = Replica::new(alloc, name(rt, 3), Fnv1a);
-    let (_number, hello) = asker.ask(name(rt, 1))?;
-    encode(alloc, &hello)
 }

@@ -1,13 +1,12 @@
-// The twelve calls of one client, with a flush and an own synchronisation.
+// The calls of one client: twelve, with a flush and an own synchronisation, and three of fields.
 ghost use Rattle.std.specs.Prelude.{◌≡◌};
 
 use crate::made::{
-    Held, Shared, clear, field_count, finished_in_two, hand_out, has, name, put, remove,
-    remove_field, size,
+    Held, Shared, clear, finished_alone, hand_out, has, name, put, remove, remove_field, size,
 };
-use dots::Refusal;
+use dots::{Key, Refusal};
 use node_threads::{
-    Abandoning, Asking, Delivering, Flushing, Naming, NodeEvent, Retrying, new_node,
+    Abandoning, Asking, Delivering, FieldListing, Flushing, Naming, NodeEvent, Retrying, new_node,
 };
 use replica_core::Outcome;
 use root_cell::OpenedBook;
@@ -16,6 +15,13 @@ use std::alloc::Global;
 use std::marker;
 use std::process::Abort;
 use std::sync::Wait;
+use wire_form::{Message, encode};
+
+// The bytes of the delta of nothing that knows the dots 1:1 and 1:2.
+const BARE: &[u8] = &[
+    1, 1, 0, 0, 0, 0, 0, 0, 0, 1, 0, 0, 0, 0, 0, 0, 0, 1, 0, 0, 0, 0, 0, 0, 0, 2, 0, 0, 0, 0, 0, 0,
+    0, 0, 0, 0, 0, 0, 0, 0, 0, 0,
+];
 
 #[test]
 fn twelve_calls_of_one_client_are_twelve_events(rt: HostRuntime) {
@@ -33,12 +39,11 @@ fn twelve<K: Naming, R: Wait + Abort + Copy + Drop>(
     requires name { K.name ≡ 1 }
 {
     let own = name(&rt, 1);
-    let mut node: Shared<K, NoGate, R> = new_node(&rt, alloc, opened, own, 2, NoGate, rt)?;
-    let mut first = hand_out(&mut node)?;
-    let second = hand_out(&mut node)?;
-    let told = calls_twelve_times(&rt, alloc, &mut first);
-    let last = finished_in_two(&rt, alloc, node, second, first);
-    Ok(told == Ok(true) && last == Ok(Some((12, 0))))
+    let mut node: Shared<K, NoGate, R> = new_node(&rt, alloc, opened, own, 1, NoGate, rt)?;
+    let mut only = hand_out(&mut node)?;
+    let told = calls_twelve_times(&rt, alloc, &mut only);
+    let last = finished_alone(&rt, alloc, node, only);
+    Ok(told == Ok(true) && last == Ok(Some((12, 0, 2, 0))))
 }
 
 fn calls_twelve_times<K: Naming, R: Wait + Abort + Drop>(
@@ -46,15 +51,163 @@ fn calls_twelve_times<K: Naming, R: Wait + Abort + Drop>(
     alloc: Global,
     held: &mut Held<K, NoGate, R>,
 ) -> Result<bool, Refusal> {
-    let puts = puts_twice(rt, alloc, held)?;
-    let removes = removes_and_clears(rt, alloc, held)?;
+    let removes = puts_and_removes(rt, alloc, held)?;
+    let clears = puts_and_clears(rt, alloc, held)?;
     let sends = flush_and_take(rt, alloc, held)?;
     let asks = ask_and_abandon(rt, alloc, held)?;
-    Ok(puts && removes && sends && asks && held.client.operations() == 12)
+    let left = size(held)?;
+    Ok(removes && clears && sends && asks && left == 0 && held.client.operations() == 12)
 }
 
-// Puts two fields of a key. Whether these are the answers.
-fn puts_twice<K: Naming, R: Wait + Drop>(
+// Puts a key, and removes it twice; a remove that finds nothing is a call too. Whether these are the answers.
+fn puts_and_removes<K: Naming, R: Wait + Drop>(
+    rt: &R,
+    alloc: Global,
+    held: &mut Held<K, NoGate, R>,
+) -> Result<bool, Refusal> {
+    let number = put(rt, alloc, held, b"a", b"", b"x")?;
+    let observed = remove(rt, alloc, held, b"a")?;
+    let nothing = remove(rt, alloc, held, b"a")?;
+    Ok((number, observed, nothing) == (1, 1, 0))
+}
+
+// Puts another key, and clears. Whether these are the answers.
+fn puts_and_clears<K: Naming, R: Wait + Drop>(
+    rt: &R,
+    alloc: Global,
+    held: &mut Held<K, NoGate, R>,
+) -> Result<bool, Refusal> {
+    let number = put(rt, alloc, held, b"b", b"", b"y")?;
+    let cleared = clear(rt, alloc, held)?;
+    Ok((number, cleared) == (2, 1))
+}
+
+// Whether a message is the delta of nothing, which knows the first two dots of replica 1.
+fn is_bare(alloc: Global, message: &Message) -> Result<bool, Refusal> {
+    let bytes = encode(alloc, message)?;
+    Ok(bytes.as_slice() == BARE)
+}
+
+// Flushes twice, and takes in what the first gave. Whether there was just that one message, of nothing but what is known, and it was joined.
+fn flush_and_take<K: Naming, R: Wait + Drop>(
+    rt: &R,
+    alloc: Global,
+    held: &mut Held<K, NoGate, R>,
+) -> Result<bool, Refusal> {
+    match flushed(rt, alloc, held)? {
+        None => Ok(false),
+        Some(message) => is_all(rt, alloc, held, &message),
+    }
+}
+
+fn flushed<K: Naming, R: Wait + Drop>(
+    rt: &R,
+    alloc: Global,
+    held: &mut Held<K, NoGate, R>,
+) -> Result<Option<Message>, Refusal> {
+    let (told, _receipt) = held.client.call(rt, &Flushing { alloc })?;
+    Ok(told)
+}
+
+fn is_all<K: Naming, R: Wait + Drop>(
+    rt: &R,
+    alloc: Global,
+    held: &mut Held<K, NoGate, R>,
+    message: &Message,
+) -> Result<bool, Refusal> {
+    let is_last = flushes_nothing(rt, alloc, held)?;
+    let is_bare = is_bare(alloc, message)?;
+    let is_joined = joins(rt, alloc, held, message)?;
+    Ok(is_last && is_bare && is_joined)
+}
+
+fn flushes_nothing<K: Naming, R: Wait + Drop>(
+    rt: &R,
+    alloc: Global,
+    held: &mut Held<K, NoGate, R>,
+) -> Result<bool, Refusal> {
+    let told = flushed(rt, alloc, held)?;
+    Ok(told.is_none())
+}
+
+fn joins<K: Naming, R: Wait + Drop>(
+    rt: &R,
+    alloc: Global,
+    held: &mut Held<K, NoGate, R>,
+    message: &Message,
+) -> Result<bool, Refusal> {
+    let (told, _receipt) = held.client.call(rt, &Delivering { alloc, message })?;
+    Ok(told.outcome == Outcome::Joined)
+}
+
+// Asks a peer, asks again, and gives it up twice; an abandon of nothing is a call too. Whether these are the answers.
+fn ask_and_abandon<K: Naming, R: Wait + Abort + Drop>(
+    rt: &R,
+    alloc: Global,
+    held: &mut Held<K, NoGate, R>,
+) -> Result<bool, Refusal> {
+    let number = asks(rt, alloc, held)?;
+    let is_again = asks_again(rt, alloc, held, number)?;
+    let was_open = abandon(rt, alloc, held, number)?;
+    let is_open = abandon(rt, alloc, held, number)?;
+    Ok(number == 1 && is_again && was_open && !is_open)
+}
+
+fn asks<K: Naming, R: Wait + Abort + Drop>(
+    rt: &R,
+    alloc: Global,
+    held: &mut Held<K, NoGate, R>,
+) -> Result<u64, Refusal> {
+    let peer = name(rt, 2);
+    let ((number, _hello), _receipt) = held.client.call(rt, &Asking { alloc, peer })?;
+    Ok(number)
+}
+
+fn asks_again<K: Naming, R: Wait + Drop>(
+    rt: &R,
+    alloc: Global,
+    held: &mut Held<K, NoGate, R>,
+    number: u64,
+) -> Result<bool, Refusal> {
+    let (again, _receipt) = held.client.call(rt, &Retrying { alloc, number })?;
+    Ok(again.outcome == Outcome::Sent && again.replies.len() == 1)
+}
+
+fn abandon<K: Naming, R: Wait + Drop>(
+    rt: &R,
+    alloc: Global,
+    held: &mut Held<K, NoGate, R>,
+    number: u64,
+) -> Result<bool, Refusal> {
+    let (was_open, _receipt) = held.client.call(rt, &Abandoning { alloc, number })?;
+    Ok(was_open)
+}
+
+#[test]
+fn fields_of_a_key_are_written_and_taken_away(rt: HostRuntime) {
+    let alloc = rt.alloc();
+    let is_told = three::<marker::Brand, _>(rt, alloc, OpenedBook::new()) == Ok(true);
+    assert!(rt; is_told);
+}
+
+fn three<K: Naming, R: Wait + Abort + Copy + Drop>(
+    rt: R,
+    alloc: Global,
+    opened: OpenedBook<NodeEvent>,
+) -> Result<bool, Refusal>
+    requires book { opened.0 ≡ K.book }
+    requires name { K.name ≡ 1 }
+{
+    let own = name(&rt, 1);
+    let mut node: Shared<K, NoGate, R> = new_node(&rt, alloc, opened, own, 1, NoGate, rt)?;
+    let mut only = hand_out(&mut node)?;
+    let told = fields_thrice(&rt, alloc, &mut only);
+    let last = finished_alone(&rt, alloc, node, only);
+    Ok(told == Ok(true) && last == Ok(Some((3, 1, 2, 0))))
+}
+
+// Puts two fields of a key, and takes one away. Whether these are the answers, and the fields that are told.
+fn fields_thrice<K: Naming, R: Wait + Drop>(
     rt: &R,
     alloc: Global,
     held: &mut Held<K, NoGate, R>,
@@ -62,54 +215,24 @@ fn puts_twice<K: Naming, R: Wait + Drop>(
     let first = put(rt, alloc, held, b"a", b"f", b"x")?;
     let has_first = has(alloc, held, b"a", b"f", Some(b"x"))?;
     let second = put(rt, alloc, held, b"a", b"", b"y")?;
-    let two = field_count(alloc, held, b"a")?;
-    Ok((first, second, two) == (1, 2, 2) && has_first)
-}
-
-// Takes one of the two fields away, then the key, and clears once there is another key. Whether these are the answers.
-fn removes_and_clears<K: Naming, R: Wait + Drop>(
-    rt: &R,
-    alloc: Global,
-    held: &mut Held<K, NoGate, R>,
-) -> Result<bool, Refusal> {
+    let both = has_fields(alloc, held, &[b"", b"f"])?;
     let observed = remove_field(rt, alloc, held, b"a", b"f")?;
-    let is_gone = has(alloc, held, b"a", b"f", None)?;
-    let removed = remove(rt, alloc, held, b"a")?;
-    let number = put(rt, alloc, held, b"b", b"", b"y")?;
-    let cleared = clear(rt, alloc, held)?;
-    let left = size(held)?;
-    Ok(is_gone && (observed, removed, number, cleared, left) == (1, 1, 3, 1, 0))
+    let one = has_fields(alloc, held, &[b""])?;
+    Ok(has_first && both && one && (first, second, observed) == (1, 2, 1))
 }
 
-// Flushes twice, and takes in what the first gave. Whether there was just that one message, and it was joined.
-fn flush_and_take<K: Naming, R: Wait + Drop>(
-    rt: &R,
+// Whether these are the fields of the key, in this order.
+fn has_fields<K: Naming, R: Wait + Drop>(
     alloc: Global,
     held: &mut Held<K, NoGate, R>,
+    fields: &[&[u8]],
 ) -> Result<bool, Refusal> {
-    let (first, _receipt) = held.client.call(rt, &Flushing { alloc })?;
-    let (second, _receipt) = held.client.call(rt, &Flushing { alloc })?;
-    let Some(message) = first else {
-        return Ok(false);
-    };
-    let delivering = Delivering {
-        alloc,
-        message: &message,
-    };
-    let (told, _receipt) = held.client.call(rt, &delivering)?;
-    Ok(second.is_none() && told.outcome == Outcome::Joined)
-}
-
-// Asks a peer, asks again, and gives it up. Whether these are the answers.
-fn ask_and_abandon<K: Naming, R: Wait + Abort + Drop>(
-    rt: &R,
-    alloc: Global,
-    held: &mut Held<K, NoGate, R>,
-) -> Result<bool, Refusal> {
-    let peer = name(rt, 2);
-    let ((number, _hello), _receipt) = held.client.call(rt, &Asking { alloc, peer })?;
-    let (again, _receipt) = held.client.call(rt, &Retrying { alloc, number })?;
-    let is_again = again.outcome == Outcome::Sent && again.replies.len() == 1;
-    let (was_open, _receipt) = held.client.call(rt, &Abandoning { alloc, number })?;
-    Ok(number == 1 && is_again && was_open)
+    let key = Key::new(alloc, b"a")?;
+    let found = held.client.look(&FieldListing { alloc, key: &key })??;
+    Ok(
+        found
+            .iter()
+            .map(|field| field.bytes())
+            .eq(fields.iter().copied()),
+    )
 }

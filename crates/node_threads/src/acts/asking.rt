@@ -44,6 +44,9 @@ impl<K: Naming, A: Allocator + Copy> Update<Replica<Fnv1a, A>, Root<A>, NodeEven
         rt: &W,
         replica: &mut Replica<Fnv1a, A>,
     ) -> Result<((u64, Message<A>), Arc<Root<A>, A>), Refusal> {
+        if let Some(refusal) = replica.ask_refusal() {
+            return Err(refusal);
+        }
         let place = place_for(self.alloc, replica)?;
         let reply = replica.ask(self.peer)?;
         let root = show(rt, replica, place);

@@ -51,6 +51,9 @@ impl<'a, K: Naming, A: Allocator + Copy> Update<
         rt: &W,
         replica: &mut Replica<Fnv1a, A>,
     ) -> Result<(Dot, Arc<Root<A>, A>), Refusal> {
+        if let Some(refusal) = replica.put_refusal() {
+            return Err(refusal);
+        }
         let place = place_for(self.alloc, replica)?;
         let reply = replica.put_field(self.key, self.field, self.value)?;
         let root = show(rt, replica, place);
