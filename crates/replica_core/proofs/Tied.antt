@@ -21,6 +21,7 @@ use Rattle.page_taking.specs.Taking.{fetch_of}
 use Rattle.sync_protocol.specs.Asking.{AskerValue, StageValue, Asked, Fetching, Complete, Over, is_over, Waits, Fetches, Has, stage_with}
 use Rattle.sync_protocol.specs.Turning as turning
 use Rattle.sync_protocol.specs.Turning.{StateAndStep, goes_on, comes_to, gone_at, opening_at, page_at_stage}
+use Rattle.replica_model.proofs.Waiting.{empty_complete, root_entries}
 use Rattle.replica_model.specs.Mail.{Mail, Ask, mail_of}
 use Rattle.replica_model.specs.Replica.{Replica, Open, joins, advances, closes}
 use Rattle.replica_model.specs.Delivery.{Turn, turn, Sent, Done, is_complete, asks_for, asks_of, fetching, went_on, took_gone, opening_taken, took_first, child_prefixes, page_taken, took_further}
@@ -31,27 +32,12 @@ use Rattle.replica_core.specs.Tied.{OpeningsAreTied, PagesAreTied, GonesAreTied,
 
 -- ---- what is waited for
 
-none_of : {X : Type 0} (xs : List X) → length xs ≡ 0 → xs ≡ []
-none_of [] e = refl
-none_of (x ∷ xs) e = absurd (omega arith)
-
 below_one : (n : ℕ) → nat_lt n 1 ≡ (n == 0)
 below_one n = grind (arith, nat_tests)
 
 -- nothing, by its number and by its entries
 complete_is : (f : Fetch) → is_complete f ≡ (finite.len f.waiting == 0)
 complete_is f = below_one (length (finite.entries f.waiting)) ∙ ap (λ n. n == 0) (sym (len-entries f.waiting))
-
--- nothing at first
-empty_complete : (f : Fetch) → f.waiting ≡ finite.empty → is_complete f ≡ true
-empty_complete f e = complete_is f ∙ ap (λ w. finite.len w == 0) e ∙ ap (λ n. n == 0) (len-empty prefix_cmp (List ℕ))
-
--- and the root alone, once it was put
-root_entries : (d : List ℕ) → finite.entries (finite.insert (finite.empty {X = List ℕ} {R = prefix_cmp}) [] d) ≡ ([], d) ∷ []
-root_entries d =
-    let none : finite.entries (finite.empty {X = List ℕ} {R = prefix_cmp}) ≡ [] =
-    none_of (finite.entries (finite.empty {X = List ℕ} {R = prefix_cmp})) (sym (len-entries (finite.empty {X = List ℕ} {R = prefix_cmp})) ∙ len-empty prefix_cmp (List ℕ)) in
-    entries-insert nat_list_cmp_total finite.empty [] d ∙ ap (λ es. put prefix_cmp [] d es) none
 
 -- ---- asks
 

@@ -21,4 +21,6 @@ pub mod Staying
 pub mod Taking
 pub mod Histories
 pub mod Answers
+pub mod Waiting
+pub mod Differing
 pub mod Alone

@@ -7,4 +7,5 @@ pub mod Sessions
 pub mod Laws
 pub mod History
 pub mod Answers
+pub mod Differing
 pub mod Alone

@@ -1,4 +1,5 @@
 // The laws of the sessions of a world, over all lists of events.
+ghost use Rattle.replica_model.specs.Differing.{SessionsFetch, OpeningsAsk, PagesAsk};
 ghost use Rattle.replica_model.specs.Laws.{AsksAreOne, Sessions, Openings, Ends, SnapshotsAreFor, SnapshotsKnowWhatWasAsked, TakesOpenings, TakesPages, TellsPages};
 
 /// Each open session of a replica is its own, and was opened by an ask, of a map that stood for its live state then, which is below the
@@ -39,4 +40,13 @@ pub fn sessions_take_what_they_wait_for()
     ensures openings { TakesOpenings }
     ensures pages { TakesPages }
     ensures told { TellsPages }
+{}
+
+/// Unless two pages or two values that an open session itself met have one SHA-256: it has taken just pages of the snapshot that it accepted,
+/// each once, and waits for just the prefixes where that and its own map differ and all above were taken. Where it takes an opening and goes
+/// on it asks for the root, and where it takes a page and goes on, for just the children of the page's prefix where the maps differ.
+pub fn sessions_ask_for_what_differs()
+    ensures fetched { SessionsFetch }
+    ensures openings { OpeningsAsk }
+    ensures pages { PagesAsk }
 {}
