@@ -11,6 +11,7 @@ use shared_object::{Gate, Look};
 use std::alloc::Global;
 use std::process::Abort;
 use std::sync::Wait;
+use wire_form::Message;
 
 pub(crate) type Shared<K, G, R> = Node<K, Lock<K, G, R>>;
 
@@ -254,3 +255,15 @@ pub(crate) fn shows<K: Naming, G: Gate + Drop, R: Wait + Drop>(
         _ => Ok(false),
     }
 }
+
+// What a client asked with: the number of its synchronisation, and the hello. The receipt is let go.
+pub(crate) fn number_of<T: Drop>(told: ((u64, Message), T)) -> u64 {
+    (told.0).0
+}
+
+pub(crate) fn hello_of<T: Drop>(told: ((u64, Message), T)) -> Message {
+    (told.0).1
+}
+
+// Lets a value go, so that its caller has none to let go.
+pub(crate) fn let_go<T: Drop>(_value: T) {}

@@ -1,2 +1,4 @@
+mod bytes;
 mod calls;
 mod deliveries;
+mod worlds;

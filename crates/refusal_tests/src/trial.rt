@@ -49,7 +49,7 @@ fn all_but<'a>(alloc: Global, heap: &'a LocalHeap, room: usize) -> Pieces<'a> {
 }
 
 // What the call comes to in a heap that is full but for so many pieces of 8 bytes.
-fn attempt_in<T: Trial>(
+pub(crate) fn attempt_in<T: Trial>(
     alloc: Global,
     heap: &LocalHeap,
     room: usize,

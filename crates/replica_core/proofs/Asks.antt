@@ -19,7 +19,7 @@ use Rattle.replica_core.specs.declared.outcome.Outcome.{Outcome}
 use Rattle.replica_core.specs.Answered.{outcome_of}
 use Rattle.replica_core.specs.Meaning.{ReplicaValue, hash_in, open_of, meaning}
 use Rattle.replica_core.specs.Own.{IsOwn, IsReplica}
-use Rattle.replica_core.specs.Stepping.{Foretells, RefusesNothing, Steps, IsRefused, mails_of}
+use Rattle.replica_core.specs.Stepping.{RefusesNothing, Steps, IsRefused, mails_of}
 use Rattle.replica_core.specs.Tied.{IsFirstAt, NoneIs}
 use Rattle.replica_core.proofs.Changing.{at_place}
 use Rattle.replica_core.proofs.Tied.{again_tied}

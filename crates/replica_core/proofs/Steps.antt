@@ -1,7 +1,6 @@
 -- The steps of own operations.
-use Rattle.std.proofs.Common.{◌≡◌, ◌<◌, ◌≤◌, ◌+◌, ◌-◌, ◌^◌, ℕ, List, [], ◌∷◌, inl, inr, refl, sym, ap, ◌∙◌, subst, length, arith, is_some, IsSome, IsTrue}
+use Rattle.std.proofs.Common.{◌≡◌, ◌<◌, ◌≤◌, ◌-◌, ◌^◌, ℕ, List, [], ◌∷◌, inl, inr, refl, sym, ap, ◌∙◌, subst, length, arith, is_some, IsSome, IsTrue}
 use Rattle.std.specs.Prelude.{◌↔◌, ◌⊎◌, Option, Some, None}
-use Rattle.std.specs.FinMap as finite
 use Rattle.std.specs.List.{IsDistinct}
 use Rattle.causal_context.specs.Context.{IsGreatest}
 use Rattle.causal_context.specs.Context as context

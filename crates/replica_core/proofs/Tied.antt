@@ -3,10 +3,7 @@ use Rattle.std.proofs.Common.{◌≡◌, ℕ, List, [], ◌∷◌, length, Bool,
 use Rattle.std.specs.Prelude.{map, ◌==◌, nat_lt}
 use Rattle.std.proofs.lemmas.Bool.Decides.{nat_tests}
 use Rattle.std.specs.FinMap as finite
-use Rattle.std.specs.FinMap.{len-entries, len-empty, entries-insert}
-use Rattle.std.specs.FinMap.Entries.{put}
-use Rattle.std.specs.Cmp.Lexicographic.{nat_list_cmp_total}
-use Rattle.hash_path.specs.Path.{prefix_cmp}
+use Rattle.std.specs.FinMap.{len-entries}
 use Rattle.causal_context.specs.Context.{ContextValue, has}
 use Rattle.wire_form.specs.Message as message
 use Rattle.wire_form.specs.Message.{MessageValue}

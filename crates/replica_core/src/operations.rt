@@ -65,8 +65,10 @@ impl<H: PathHash, A: Allocator + Copy> Replica<H, A> {
             Err(refusal) => return Err(refusal),
         };
         prove!(has_number(dot));
-        self.make(delta)?;
-        Ok(dot)
+        match self.make(delta) {
+            Ok(()) => Ok(dot),
+            Err(refusal) => Err(refusal),
+        }
     }
 
     /// Takes the key away with all its fields, and says how many writes it observed there; where there is none it changes nothing.

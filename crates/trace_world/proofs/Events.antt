@@ -8,6 +8,7 @@ use Rattle.hash_path.specs.Fnv1a.{fnv1a}
 use Rattle.replica_model.specs.Step.{Answer}
 use Rattle.replica_model.specs.World.{World, Event, nothing, RefusesEvent, Runs}
 use Rattle.replica_model.proofs.Deciding.{goes_on}
+use Rattle.replica_world.specs.Refused.{IsRefusedIn}
 use Rattle.replica_world.specs.Accepting.{IsTold}
 use Rattle.trace_world.specs.Does.{Does, In}
 use Rattle.trace_world.specs.Outcome.{Done, IsEvent}
@@ -33,8 +34,8 @@ is_memory BadLine = let above : 1 < 11 = omega arith in inr (apart BadLine above
 is_memory Input = let above : 1 < 12 = omega arith in inr (apart Input above)
 is_memory Output = let above : 1 < 13 = omega arith in inr (apart Output above)
 
-refuses_other : (refusal : Refusal) (w : World) (e : Event) → refusal ≢ OutOfMemory → (refusal ≡ OutOfMemory) ⊎ RefusesEvent w e refusal → RefusesEvent w e refusal
-refuses_other refusal w e other (inl memory) = absurd (other memory)
+refuses_other : (refusal : Refusal) (w : World) (e : Event) → refusal ≢ OutOfMemory → IsRefusedIn w e refusal → RefusesEvent w e refusal
+refuses_other refusal w e other (inl (memory, nothing)) = absurd (other memory)
 refuses_other refusal w e other (inr is) = is
 
 module _ (old new : List Event) (e : Event) where
@@ -66,7 +67,7 @@ module _ (old new : List Event) (e : Event) where
     event_done (Err refusal) is says err = inl err
 
   -- a refused event
-  pub event_refused : (refusal : Refusal) → new ≡ old → ((w : World) → Runs fnv1a nothing old w → (refusal ≡ OutOfMemory) ⊎ RefusesEvent w e refusal)
+  pub event_refused : (refusal : Refusal) → new ≡ old → ((w : World) → Runs fnv1a nothing old w → IsRefusedIn w e refusal)
       → Does {A = ℕ} (In old (λ w. IsEvent fnv1a w e)) old new (Err refusal)
   event_refused refusal same refuses = by (is_memory refusal)
     where

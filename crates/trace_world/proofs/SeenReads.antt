@@ -1,5 +1,5 @@
 -- A read is told by what its replica has seen.
-use Rattle.std.proofs.Common.{◌≡◌, inl, inr, ℕ, Bool, List, [], ◌∷◌, length, map, refl, sym, ap, ◌∙◌, arith, Option, Some, None}
+use Rattle.std.proofs.Common.{◌≡◌, inl, inr, ℕ, Bool, List, [], ◌∷◌, length, map, refl, sym, ap, ◌∙◌, subst, arith, Option, Some, None}
 use Rattle.std.specs.Prelude.{nat_le}
 use Rattle.std.specs.List.{All}
 use Rattle.std.specs.Map.{keys_of}
@@ -11,17 +11,18 @@ use Rattle.dots.specs.declared.refusal.Refusal.TheVariants.{TooLong, UnknownRepl
 use Rattle.hash_path.specs.Fnv1a.{fnv1a}
 use Rattle.op_model.specs.Meaning.{MapState, Stands, StandsWithin}
 use Rattle.op_model.specs.Operation.{Operation, known}
-use Rattle.op_model.specs.Place.{place_of}
+use Rattle.op_model.specs.Place.{place_of, plain}
 use Rattle.op_model.specs.Shown.{values, values_of_key, fields, keys, size}
 use Rattle.prefix_digest.specs.MapOf.{root_digest}
 use Rattle.replica_core.specs.Reading.{Lists}
 use Rattle.replica_core.specs.Showing.{ShowsOperations}
 use Rattle.replica_world.proofs.Shown.{worlds_show}
-use Rattle.replica_model.specs.World.{World, is_node}
+use Rattle.replica_model.proofs.Deciding.{worlds_one}
+use Rattle.replica_model.specs.World.{World, is_node, nothing, Runs}
 use Rattle.trace_words.specs.Command.{CommandValue, Node, Put, Get, Flush, Deliver, Sync, Retry, Abandon, Remove, RemoveField, Clear, Fields, Show, Size, Context, Pin, Digest, Look}
 use Rattle.trace_words.specs.Text.{values_text, fields_text, map_text, size_text, context_text, digest_text}
-use Rattle.trace_world.specs.Laws.{ReadsAreSeen}
-use Rattle.trace_world.specs.Outcome.{CommandOutcome, Refused, Done, ReadsValues, ReadsFields, ReadsKeys, ReadsSize, ReadsContext, ReadsDigest, at_replica, with_bytes, Comes}
+use Rattle.trace_world.specs.Laws.{ReadsAreSeen, LooksAreSeen}
+use Rattle.trace_world.specs.Outcome.{CommandOutcome, Refused, Done, ReadsValues, ReadsFields, ReadsKeys, ReadsSize, ReadsContext, ReadsDigest, at_replica, with_bytes, LooksAt, Comes}
 use Rattle.trace_world.specs.Seen.{if_there, if_short, entries_by, fields_seen, keys_seen, context_seen, read_of}
 use Rattle.trace_world.proofs.Compressing.{compressed_vector, compressed_cloud}
 
@@ -117,3 +118,21 @@ reads_seen events w runs clean pins c outcome told = by c
     by (Clear name) is comes = told_none outcome told is
     by (Pin name) is comes = told_none outcome told is
     by (Look pin key) is comes = told_none outcome told is
+
+pub looks_seen : LooksAreSeen
+looks_seen w pins number key pin then there runs clean outcome comes =
+    by (subst (λ p. LooksAt fnv1a p key outcome) there comes)
+  where
+    shown : ShowsOperations fnv1a (then.replica pin.name).live (then.seen pin.name)
+    shown = worlds_show fnv1a pin.events then runs clean pin.name
+
+    told : CommandOutcome
+    told = Done (values_text (values (then.seen pin.name) (plain key))) []
+
+    just : IsJust (λ o. (u : World) × Runs fnv1a nothing pin.events u × ReadsValues (plain key) (u.replica pin.name).live o) told
+    just o (u, again, reads) =
+        let same = worlds_one fnv1a pin.events u then again runs in
+        values_just (then.replica pin.name).live (then.seen pin.name) shown key [] o (subst (λ (x : World). ReadsValues (plain key) (x.replica pin.name).live o) same reads)
+
+    by : LooksAt fnv1a (Some pin) key outcome → outcome ≡ if_short key told
+    by at = short_just key _ told just outcome at

@@ -1,5 +1,5 @@
 // Laws of what a line is answered.
-ghost use Rattle.trace_world.specs.Laws.{AnswersAreOne, ReadsAreSeen};
+ghost use Rattle.trace_world.specs.Laws.{AnswersAreOne, LooksAreSeen, ReadsAreSeen};
 
 /// After given lines before it, a line has one answer.
 pub fn a_line_has_one_answer()
@@ -7,7 +7,9 @@ pub fn a_line_has_one_answer()
 {}
 
 /// What `get`, `getf`, `fields`, `show`, `size`, `context` and `digest` are answered is told by the set of operations that the replica has
-/// seen alone, after every list of events, unless two pages or two values that one session met have one SHA-256.
+/// seen alone, after every list of events, unless two pages or two values that one session met have one SHA-256; and what `look` is answered,
+/// by what the replica of the pin had seen when it was made.
 pub fn reads_tell_what_was_seen()
-    ensures { ReadsAreSeen }
+    ensures reads { ReadsAreSeen }
+    ensures looks { LooksAreSeen }
 {}

@@ -2,7 +2,8 @@
 ghost use Rattle.std.specs.Prelude.{◌≡◌};
 
 use crate::made::{
-    Held, Shared, finished_alone, finished_in_three, hand_out, has, name, put, size,
+    Held, Shared, finished_alone, finished_in_three, hand_out, has, hello_of, let_go, name, put,
+    size,
 };
 use dots::Refusal;
 use node_threads::{Asking, Delivering, Naming, NodeEvent, new_node};
@@ -65,11 +66,31 @@ fn is_done<
     right: &mut Held<K, NoGate, R>,
 ) -> Result<bool, Refusal> {
     put(rt, alloc, answerer, b"p", b"", b"q")?;
-    let opening = opened(rt, alloc, asker, answerer)?;
-    let is_written = both_put_keys(rt, alloc, left, right);
-    let is_ended = ended(rt, alloc, asker, answerer, &opening)?;
+    let is_ended = match opened(rt, alloc, asker, answerer) {
+        Ok(opening) => ended_later(rt, alloc, asker, answerer, left, right, opening)?,
+        Err(refusal) => return Err(refusal),
+    };
     let is_there = has(alloc, asker, b"p", b"", Some(b"q"))?;
-    Ok(is_written && is_ended && is_there && size(asker)? == 201)
+    Ok(is_ended && is_there && size(asker)? == 201)
+}
+
+// Whether what was opened ends well after the others wrote.
+fn ended_later<
+    K: Naming + Send + Sync,
+    L: Naming,
+    R: Threads + Wait + Abort + Copy + Drop + Send + Sync,
+>(
+    rt: &R,
+    alloc: Global,
+    asker: &mut Held<K, NoGate, R>,
+    answerer: &mut Held<L, NoGate, R>,
+    left: &mut Held<K, NoGate, R>,
+    right: &mut Held<K, NoGate, R>,
+    opening: Delivered,
+) -> Result<bool, Refusal> {
+    let is_written = both_put_keys(rt, alloc, left, right);
+    let is_ended = ended(rt, alloc, asker, answerer, opening)?;
+    Ok(is_written && is_ended)
 }
 
 // Whether both put a hundred keys, b0 to b99 and c0 to c99, each in a thread of its own.
@@ -112,8 +133,10 @@ fn opened<K: Naming, L: Naming, R: Wait + Abort + Drop>(
     answerer: &mut Held<L, NoGate, R>,
 ) -> Result<Delivered, Refusal> {
     let peer = name(rt, 2);
-    let ((_number, hello), _receipt) = asker.client.call(rt, &Asking { alloc, peer })?;
-    taken(rt, alloc, answerer, &hello)
+    match asker.client.call(rt, &Asking { alloc, peer }) {
+        Ok(told) => given(rt, alloc, answerer, hello_of(told)),
+        Err(refusal) => Err(refusal),
+    }
 }
 
 // Goes on from what the other node opened with. Whether the page of its root ends it.
@@ -122,16 +145,57 @@ fn ended<K: Naming, L: Naming, R: Wait + Drop>(
     alloc: Global,
     asker: &mut Held<K, NoGate, R>,
     answerer: &mut Held<L, NoGate, R>,
-    opening: &Delivered,
+    opening: Delivered,
 ) -> Result<bool, Refusal> {
-    let asked = answered(rt, alloc, asker, opening)?;
-    let page = answered(rt, alloc, answerer, &asked)?;
-    let last = answered(rt, alloc, asker, &page)?;
-    Ok(last.outcome == Outcome::Done)
+    match answered(rt, alloc, asker, opening) {
+        Ok(asked) => paged(rt, alloc, asker, answerer, asked),
+        Err(refusal) => Err(refusal),
+    }
+}
+
+// Gives the other node what is asked, and its page to the one that asked.
+fn paged<K: Naming, L: Naming, R: Wait + Drop>(
+    rt: &R,
+    alloc: Global,
+    asker: &mut Held<K, NoGate, R>,
+    answerer: &mut Held<L, NoGate, R>,
+    asked: Delivered,
+) -> Result<bool, Refusal> {
+    match answered(rt, alloc, answerer, asked) {
+        Ok(page) => closed(rt, alloc, asker, page),
+        Err(refusal) => Err(refusal),
+    }
+}
+
+fn closed<K: Naming, R: Wait + Drop>(
+    rt: &R,
+    alloc: Global,
+    asker: &mut Held<K, NoGate, R>,
+    page: Delivered,
+) -> Result<bool, Refusal> {
+    match answered(rt, alloc, asker, page) {
+        Ok(last) => Ok(is_last(last)),
+        Err(refusal) => Err(refusal),
+    }
+}
+
+fn is_last(last: Delivered) -> bool {
+    last.outcome == Outcome::Done
 }
 
 // Gives a node the first message that another one sends.
 fn answered<K: Naming, R: Wait + Drop>(
+    rt: &R,
+    alloc: Global,
+    held: &mut Held<K, NoGate, R>,
+    sent: Delivered,
+) -> Result<Delivered, Refusal> {
+    let told = first_taken(rt, alloc, held, &sent);
+    let_go(sent);
+    told
+}
+
+fn first_taken<K: Naming, R: Wait + Drop>(
     rt: &R,
     alloc: Global,
     held: &mut Held<K, NoGate, R>,
@@ -143,6 +207,18 @@ fn answered<K: Naming, R: Wait + Drop>(
     }
 }
 
+// Gives a node a message, and lets it go.
+fn given<K: Naming, R: Wait + Drop>(
+    rt: &R,
+    alloc: Global,
+    held: &mut Held<K, NoGate, R>,
+    message: Message,
+) -> Result<Delivered, Refusal> {
+    let told = taken(rt, alloc, held, &message);
+    let_go(message);
+    told
+}
+
 // Gives a node a message.
 fn taken<K: Naming, R: Wait + Drop>(
     rt: &R,
@@ -150,6 +226,13 @@ fn taken<K: Naming, R: Wait + Drop>(
     held: &mut Held<K, NoGate, R>,
     message: &Message,
 ) -> Result<Delivered, Refusal> {
-    let (told, _receipt) = held.client.call(rt, &Delivering { alloc, message })?;
-    Ok(told)
+    match held.client.call(rt, &Delivering { alloc, message }) {
+        Ok(told) => Ok(delivered_in(told)),
+        Err(refusal) => Err(refusal),
+    }
+}
+
+// What was delivered; the receipt is let go.
+fn delivered_in<T: Drop>(told: (Delivered, T)) -> Delivered {
+    told.0
 }

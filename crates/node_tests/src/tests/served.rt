@@ -13,7 +13,7 @@ use std::sync::Wait;
 use std::test::Fail;
 use std::thread::Threads;
 use std::{marker, thread};
-use wire_form::encode;
+use wire_form::{Message, encode};
 
 // The hello of replica 2 to replica 1, session 1, which knows nothing.
 const HELLO: &[u8] = &[
@@ -257,9 +257,15 @@ fn write_and_wait<K: Naming, L: Naming, O: Outside, R: Wait + Abort + Drop>(
     outside: &O,
 ) -> Result<bool, Refusal> {
     put(rt, alloc, writer, b"a", b"", b"x")?;
-    let peer = name(rt, 1);
-    let ((_number, hello), _receipt) = reader.client.call(rt, &Asking { alloc, peer })?;
-    outside.hand(rt, encode(alloc, &hello)?);
+    outside.hand(rt, asked(rt, alloc, reader)?);
+    waits(alloc, reader)
+}
+
+// Reads until the key holds what was written.
+fn waits<L: Naming, R: Wait + Drop>(
+    alloc: Global,
+    reader: &mut Held<L, NoGate, R>,
+) -> Result<bool, Refusal> {
     for _ in 0..TURNS {
         if has(alloc, reader, b"a", b"", Some(b"x"))? {
             return Ok(true);
@@ -267,4 +273,21 @@ fn write_and_wait<K: Naming, L: Naming, O: Outside, R: Wait + Abort + Drop>(
         thread::yield_now();
     }
     Ok(false)
+}
+
+// Asks the first node: the bytes of the hello.
+fn asked<L: Naming, R: Wait + Abort + Drop>(
+    rt: &R,
+    alloc: Global,
+    reader: &mut Held<L, NoGate, R>,
+) -> Result<Vec<u8>, Refusal> {
+    let peer = name(rt, 1);
+    match reader.client.call(rt, &Asking { alloc, peer }) {
+        Ok(told) => spelled(alloc, told),
+        Err(refusal) => Err(refusal),
+    }
+}
+
+fn spelled<T: Drop>(alloc: Global, told: ((u64, Message), T)) -> Result<Vec<u8>, Refusal> {
+    encode(alloc, &(told.0).1)
 }

@@ -2,13 +2,14 @@
 ghost use Rattle.std.specs.Prelude.{◌≡◌};
 
 use crate::made::{
-    Held, Shared, clear, finished_alone, hand_out, has, name, put, remove, remove_field, size,
+    Held, Shared, clear, finished_alone, hand_out, has, let_go, name, number_of, put, remove,
+    remove_field, size,
 };
 use dots::{Key, Refusal};
 use node_threads::{
     Abandoning, Asking, Delivering, FieldListing, Flushing, Naming, NodeEvent, Retrying, new_node,
 };
-use replica_core::Outcome;
+use replica_core::{Delivered, Outcome};
 use root_cell::OpenedBook;
 use shared_object::NoGate;
 use std::alloc::Global;
@@ -94,10 +95,22 @@ fn flush_and_take<K: Naming, R: Wait + Drop>(
     alloc: Global,
     held: &mut Held<K, NoGate, R>,
 ) -> Result<bool, Refusal> {
-    match flushed(rt, alloc, held)? {
-        None => Ok(false),
-        Some(message) => is_all(rt, alloc, held, &message),
+    match flushed(rt, alloc, held) {
+        Ok(None) => Ok(false),
+        Ok(Some(message)) => takes_back(rt, alloc, held, message),
+        Err(refusal) => Err(refusal),
     }
+}
+
+fn takes_back<K: Naming, R: Wait + Drop>(
+    rt: &R,
+    alloc: Global,
+    held: &mut Held<K, NoGate, R>,
+    message: Message,
+) -> Result<bool, Refusal> {
+    let told = is_all(rt, alloc, held, &message);
+    let_go(message);
+    told
 }
 
 fn flushed<K: Naming, R: Wait + Drop>(
@@ -105,8 +118,15 @@ fn flushed<K: Naming, R: Wait + Drop>(
     alloc: Global,
     held: &mut Held<K, NoGate, R>,
 ) -> Result<Option<Message>, Refusal> {
-    let (told, _receipt) = held.client.call(rt, &Flushing { alloc })?;
-    Ok(told)
+    match held.client.call(rt, &Flushing { alloc }) {
+        Ok(told) => Ok(sent_in(told)),
+        Err(refusal) => Err(refusal),
+    }
+}
+
+// The message that was sent; the receipt is let go.
+fn sent_in<T: Drop>(told: (Option<Message>, T)) -> Option<Message> {
+    told.0
 }
 
 fn is_all<K: Naming, R: Wait + Drop>(
@@ -126,8 +146,14 @@ fn flushes_nothing<K: Naming, R: Wait + Drop>(
     alloc: Global,
     held: &mut Held<K, NoGate, R>,
 ) -> Result<bool, Refusal> {
-    let told = flushed(rt, alloc, held)?;
-    Ok(told.is_none())
+    match flushed(rt, alloc, held) {
+        Ok(told) => Ok(is_nothing(told)),
+        Err(refusal) => Err(refusal),
+    }
+}
+
+fn is_nothing(told: Option<Message>) -> bool {
+    told.is_none()
 }
 
 fn joins<K: Naming, R: Wait + Drop>(
@@ -136,8 +162,15 @@ fn joins<K: Naming, R: Wait + Drop>(
     held: &mut Held<K, NoGate, R>,
     message: &Message,
 ) -> Result<bool, Refusal> {
-    let (told, _receipt) = held.client.call(rt, &Delivering { alloc, message })?;
-    Ok(told.outcome == Outcome::Joined)
+    match held.client.call(rt, &Delivering { alloc, message }) {
+        Ok(told) => Ok(is_joined(told)),
+        Err(refusal) => Err(refusal),
+    }
+}
+
+// Whether a message was joined in.
+fn is_joined<T: Drop>(told: (Delivered, T)) -> bool {
+    told.0.outcome == Outcome::Joined
 }
 
 // Asks a peer, asks again, and gives it up twice; an abandon of nothing is a call too. Whether these are the answers.
@@ -159,8 +192,10 @@ fn asks<K: Naming, R: Wait + Abort + Drop>(
     held: &mut Held<K, NoGate, R>,
 ) -> Result<u64, Refusal> {
     let peer = name(rt, 2);
-    let ((number, _hello), _receipt) = held.client.call(rt, &Asking { alloc, peer })?;
-    Ok(number)
+    match held.client.call(rt, &Asking { alloc, peer }) {
+        Ok(told) => Ok(number_of(told)),
+        Err(refusal) => Err(refusal),
+    }
 }
 
 fn asks_again<K: Naming, R: Wait + Drop>(
@@ -169,8 +204,15 @@ fn asks_again<K: Naming, R: Wait + Drop>(
     held: &mut Held<K, NoGate, R>,
     number: u64,
 ) -> Result<bool, Refusal> {
-    let (again, _receipt) = held.client.call(rt, &Retrying { alloc, number })?;
-    Ok(again.outcome == Outcome::Sent && again.replies.len() == 1)
+    match held.client.call(rt, &Retrying { alloc, number }) {
+        Ok(told) => Ok(is_one_message(told)),
+        Err(refusal) => Err(refusal),
+    }
+}
+
+// Whether one message is sent.
+fn is_one_message<T: Drop>(told: (Delivered, T)) -> bool {
+    told.0.outcome == Outcome::Sent && told.0.replies.len() == 1
 }
 
 fn abandon<K: Naming, R: Wait + Drop>(

@@ -1,8 +1,9 @@
 // The own calls of a replica.
-use crate::made::{Here, Shown, name, put, put_forty, replica, what_shows};
+use crate::made::{Here, Shown, put, put_forty, replica, what_shows};
 use crate::trial::{Trial, refusals, wanted};
-use dots::{Key, Refusal};
+use dots::{Field, Key, Refusal, Value};
 use linked_list_allocator::LocalHeap;
+use replica_core::Outcome;
 use std::alloc::{Allocator, Global};
 use std::process::Abort;
 use std::test::Fail;
@@ -11,10 +12,15 @@ use std::test::Fail;
 #[derive(Clone, Copy)]
 enum Act {
     Put,
+    PutField,
     Remove,
+    RemoveField,
     Clear,
     Flush,
     Ask,
+    Retry,
+    Get,
+    Fields,
     List,
     Copy,
 }
@@ -32,10 +38,15 @@ impl<'r, A: Allocator + Copy> Trial for Calling<'r, A> {
     fn attempt(&mut self) -> Result<(), Refusal> {
         match self.act {
             Act::Put => wanted(put(self.heap, self.here, b"more", b"v")? == 41),
+            Act::PutField => wanted(put_field(self.heap, self.here)? == 41),
             Act::Remove => wanted(remove(self.heap, self.here)? == 1),
+            Act::RemoveField => wanted(remove_field(self.heap, self.here)? == 1),
             Act::Clear => wanted(self.here.clear()? == 40),
             Act::Flush => flush(self.here),
             Act::Ask => ask(self.here),
+            Act::Retry => retry(self.here),
+            Act::Get => wanted(self.here.get(&seventh(self.heap)?)?.len() == 1),
+            Act::Fields => wanted(self.here.fields(&seventh(self.heap)?)?.len() == 1),
             Act::List => wanted(self.here.keys()?.len() == 40),
             Act::Copy => copy(self.here),
         }
@@ -46,10 +57,35 @@ impl<'r, A: Allocator + Copy> Trial for Calling<'r, A> {
     }
 }
 
-// Removes one of the forty keys.
+// One of the forty keys.
+fn seventh<A: Allocator + Copy>(heap: A) -> Result<Key<A>, Refusal> {
+    Key::new(heap, &7u64.to_be_bytes())
+}
+
+// Puts a value on a field of it.
+fn put_field<A: Allocator + Copy>(heap: A, here: &mut Here<A>) -> Result<u64, Refusal> {
+    let (key, field) = (seventh(heap)?, Field::new(heap, b"f")?);
+    let value = Value::new(heap, b"v")?;
+    let dot = here.put_field(&key, &field, &value)?;
+    Ok(dot.number())
+}
+
+// Removes it.
 fn remove<A: Allocator + Copy>(heap: A, here: &mut Here<A>) -> Result<u64, Refusal> {
-    let key = Key::new(heap, &7u64.to_be_bytes())?;
+    let key = seventh(heap)?;
     here.remove(&key)
+}
+
+// Removes its one field.
+fn remove_field<A: Allocator + Copy>(heap: A, here: &mut Here<A>) -> Result<u64, Refusal> {
+    let key = seventh(heap)?;
+    here.remove_field(&key, &Field::empty())
+}
+
+// A retry of the synchronisation that is open sends its hello again.
+fn retry<A: Allocator + Copy>(here: &Here<A>) -> Result<(), Refusal> {
+    let again = here.retry(1)?;
+    wanted(again.outcome == Outcome::Sent && again.replies.len() == 1)
 }
 
 // A flush sends what was made.
@@ -98,6 +134,7 @@ fn is_tried<A: Allocator + Copy>(
 ) -> Result<usize, Refusal> {
     match act {
         Act::Flush => flush_is_tried(alloc, small, heap, here),
+        Act::Retry => retry_is_tried(alloc, small, heap, here),
         act => tried(alloc, small, heap, here, act),
     }
 }
@@ -120,6 +157,17 @@ fn flush_is_tried<A: Allocator + Copy>(
 ) -> Result<usize, Refusal> {
     send(heap, here)?;
     tried(alloc, small, heap, here, Act::Flush)
+}
+
+// How often a retry of the one open synchronisation is refused.
+fn retry_is_tried<A: Allocator + Copy>(
+    alloc: Global,
+    small: &LocalHeap,
+    heap: A,
+    here: &mut Here<A>,
+) -> Result<usize, Refusal> {
+    ask(here)?;
+    tried(alloc, small, heap, here, Act::Retry)
 }
 
 // How often the call of a new replica is refused.
@@ -174,6 +222,26 @@ fn a_refused_flush_keeps_what_was_made(rt: HostRuntime) -> Result<(), Fail> {
 #[test]
 fn a_refused_ask_uses_no_number(rt: HostRuntime) -> Result<(), Fail> {
     assert!(rt; tried_in_a_heap(&rt, rt.alloc(), Act::Ask)? > 3);
+    Ok(())
+}
+
+#[test]
+fn refused_calls_of_fields_change_nothing_and_are_made_again(rt: HostRuntime) -> Result<(), Fail> {
+    assert!(rt; tried_in_a_heap(&rt, rt.alloc(), Act::PutField)? > 3);
+    assert!(rt; tried_in_a_heap(&rt, rt.alloc(), Act::RemoveField)? > 3);
+    Ok(())
+}
+
+#[test]
+fn a_refused_retry_is_made_again(rt: HostRuntime) -> Result<(), Fail> {
+    assert!(rt; tried_in_a_heap(&rt, rt.alloc(), Act::Retry)? > 0);
+    Ok(())
+}
+
+#[test]
+fn refused_reads_are_made_again(rt: HostRuntime) -> Result<(), Fail> {
+    assert!(rt; tried_in_a_heap(&rt, rt.alloc(), Act::Get)? > 1);
+    assert!(rt; tried_in_a_heap(&rt, rt.alloc(), Act::Fields)? > 1);
     Ok(())
 }
 

@@ -53,6 +53,7 @@ enum Kind {
     Delta,
     Hello,
     Opening,
+    Ask,
     Page,
 }
 
@@ -137,6 +138,20 @@ fn opening_is_tried<A: Allocator + Copy>(
     tried(alloc, small, here, first(&opening)?, Outcome::Sent)
 }
 
+// An ask of the other for the root of the snapshot that is kept for it.
+fn ask_is_tried<A: Allocator + Copy>(
+    rt: &impl Abort,
+    alloc: Global,
+    small: &LocalHeap,
+    here: &mut Here<A>,
+    peer: &mut Here<A>,
+) -> Result<usize, Refusal> {
+    let hello = hello(rt, peer, 1)?;
+    let opening = answered(here, &hello)?;
+    let asks = answered(peer, first(&opening)?)?;
+    tried(alloc, small, here, first(&asks)?, Outcome::Sent)
+}
+
 // The page that ends the synchronisation: refused, it leaves the session open, and ends it later.
 fn page_is_tried<A: Allocator + Copy>(
     rt: &impl Abort,
@@ -164,6 +179,7 @@ fn is_tried<A: Allocator + Copy>(
         Kind::Delta => delta_is_tried(alloc, small, here, peer),
         Kind::Hello => hello_is_tried(rt, alloc, small, here, peer),
         Kind::Opening => opening_is_tried(rt, alloc, small, here, peer),
+        Kind::Ask => ask_is_tried(rt, alloc, small, here, peer),
         Kind::Page => page_is_tried(rt, alloc, small, here, peer),
     }
 }
@@ -209,6 +225,12 @@ fn a_refused_hello_is_answered_later(rt: HostRuntime) -> Result<(), Fail> {
 #[test]
 fn a_refused_opening_is_accepted_later(rt: HostRuntime) -> Result<(), Fail> {
     assert!(rt; is_tried_in_a_heap(&rt, rt.alloc(), Kind::Opening)? > 3);
+    Ok(())
+}
+
+#[test]
+fn a_refused_ask_is_answered_later(rt: HostRuntime) -> Result<(), Fail> {
+    assert!(rt; is_tried_in_a_heap(&rt, rt.alloc(), Kind::Ask)? > 3);
     Ok(())
 }
 
