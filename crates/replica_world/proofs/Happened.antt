@@ -1,5 +1,5 @@
 -- Events of a world, one by one: over plain variables.
-use Rattle.std.proofs.Common.{◌≡◌, ◌≢◌, ◌⊎◌, ℕ, ◌+◌, ◌-◌, ◌==◌, ◌||◌, nat_lt, zero, suc, Bool, true, false, cond, List, [], ◌∷◌, ◌++◌, map, length, Option, Some, None, is_some, Bor, IfSome, refl, sym, ap, ◌∙◌, subst, arith}
+use Rattle.std.proofs.Common.{◌≡◌, ◌≢◌, inl, inr, ℕ, ◌+◌, ◌-◌, ◌==◌, ◌||◌, nat_lt, zero, suc, Bool, true, false, cond, List, [], ◌∷◌, ◌++◌, map, length, Option, Some, None, is_some, Bor, IfSome, refl, sym, ap, ◌∙◌, subst, arith}
 use Rattle.std.proofs.lemmas.Bool.{cond-true}
 use Rattle.std.proofs.lemmas.Bool.Decides.{nat_tests}
 use Rattle.std.proofs.lemmas.List.{length-map}
@@ -165,7 +165,7 @@ module _ {Hash : Type 0} (hash_of : Hash → List ℕ → ℕ) (hash : Hash) (ol
 
   -- where there is no room for it, what was foreseen comes first
   pub event_unkept : (e : Event) (told : Option Refusal) → ForetellsEvent hash old messages e told → (w : World) → Runs (hash_of hash) nothing past w → IsRefusedIn w e (unwrap_or told OutOfMemory)
-  event_unkept e None nothing w runs = inl (refl, nothing w (keeps_any w runs))
+  event_unkept e None unrefused w runs = inl (refl, unrefused w (keeps_any w runs))
   event_unkept e (Some refusal) refuses w runs = inr (refuses w (keeps_any w runs))
 
   -- what is read of it

@@ -7,8 +7,14 @@ use Rattle.std.specs.Ordering.{nat_cmp}
 use Rattle.dots.specs.declared.refusal.Refusal.{Refusal}
 use Rattle.dots.specs.declared.refusal.Refusal.TheVariants.{OutOfMemory, NameTaken, UnknownReplica, UnknownMessage}
 use Rattle.replica_model.specs.Mail.{Mail}
+use Rattle.op_model.specs.Place.{Place, place_of, plain}
+use Rattle.replica_model.specs.Replica.{Replica}
+use Rattle.replica_model.specs.Step as step
 use Rattle.replica_model.specs.Step.{Call, Answer, Refuses}
-use Rattle.replica_model.specs.World.{World, Message, Event, Node, At, Deliver, is_node, has_peer, message_at, nothing}
+use Rattle.replica_world.specs.declared.call.Call as calls
+use Rattle.replica_world.specs.declared.call.Call.TheVariants as call
+use Rattle.replica_world.specs.Happening.{call_value}
+use Rattle.replica_model.specs.World.{World, Message, Node, At, Deliver, is_node, has_peer, message_at, nothing}
 use Rattle.replica_core.specs.Meaning.{ReplicaValue, meaning}
 use Rattle.replica_core.specs.Stepping.{Foretells, RefusesNothing, Stays, IsRefused}
 use Rattle.replica_world.specs.Keeping.{Keeps, IsWorld, MakesCall, TakesMail, Makes, LeavesWorld, IsRefusedEvent, ForetellsEvent}
@@ -30,9 +36,9 @@ module _ (w : World) where
   node_unrefused name free refusal (taken, named) = apart (sym free ∙ taken)
 
   pub call_unrefused : (name : ℕ) (c : Call) → is_node w name ≡ true → has_peer w c ≡ true → RefusesNothing (w.replica name) c → IsUnrefused w (At name c)
-  call_unrefused name c there peer nothing refusal (inl (missing, named)) = apart (sym missing ∙ there)
-  call_unrefused name c there peer nothing refusal (inr (here, inl (missing, named))) = apart (sym missing ∙ peer)
-  call_unrefused name c there peer nothing refusal (inr (here, inr (also, refuses))) = nothing refusal refuses
+  call_unrefused name c there peer unrefused refusal (inl (missing, named)) = apart (sym missing ∙ there)
+  call_unrefused name c there peer unrefused refusal (inr (here, inl (missing, named))) = apart (sym missing ∙ peer)
+  call_unrefused name c there peer unrefused refusal (inr (here, inr (also, refuses))) = unrefused refusal refuses
 
   pub delivery_unrefused : (number name : ℕ) (m : Message) → is_node w name ≡ true → message_at w.messages number ≡ Some m → IsUnrefused w (Deliver number name)
   delivery_unrefused number name m there sent refusal (inl (missing, named)) = apart (sym missing ∙ there)
@@ -60,8 +66,8 @@ module _ {Hash : Type 0} (hash : Hash) (old new : BTreeMap ℕ (ReplicaValue Has
 
   pub call_refused : (name : ℕ) (c : Call) (refusal : Refusal) → ((w : World) → Keeps hash old messages w → true ≡ has_peer w c)
       → (before : ReplicaValue Hash) × (get nat_cmp old name ≡ Some before) × IsRefused before c refusal → IsRefusedEvent hash old messages (At name c) refusal
-  call_refused name c refusal peer (before, was, inl (none, nothing)) w keeps =
-      inl (none, call_unrefused w name c (sym (keeps.there name) ∙ ap is_some was) (sym (peer w keeps)) (subst (λ r. RefusesNothing r c) (keeps.means name before was) nothing))
+  call_refused name c refusal peer (before, was, inl (none, unrefused)) w keeps =
+      inl (none, call_unrefused w name c (sym (keeps.there name) ∙ ap is_some was) (sym (peer w keeps)) (subst (λ r. RefusesNothing r c) (keeps.means name before was) unrefused))
   call_refused name c refusal peer (before, was, inr refuses) w keeps =
       inr (inr (sym (keeps.there name) ∙ ap is_some was, inr (sym (peer w keeps), subst (λ r. Refuses r c refusal) (keeps.means name before was) refuses)))
 
@@ -102,6 +108,17 @@ module _ {Hash : Type 0} (hash : Hash) (old new : BTreeMap ℕ (ReplicaValue Has
 
 -- ---- what is told before an event happens
 
+-- of a put at any place, and of an ask of any peer
+module _ {A : Type 0} (r : Replica) (told : Option Refusal) {c : calls.Call A} where
+  pub put_foretold : ((place : Place) (value : List ℕ) → Foretells r (step.Put place value) told) → {key value : List ℕ} → c ≡ call.Put key value → Foretells r (call_value c) told
+  put_foretold all {key} {value} is = subst (λ d. Foretells r (call_value d) told) (sym is) (all (plain key) value)
+
+  pub put_field_foretold : ((place : Place) (value : List ℕ) → Foretells r (step.Put place value) told) → {key field value : List ℕ} → c ≡ call.PutField key field value → Foretells r (call_value c) told
+  put_field_foretold all {key} {field} {value} is = subst (λ d. Foretells r (call_value d) told) (sym is) (all (place_of key field) value)
+
+  pub ask_foretold : ((peer : ℕ) → Foretells r (step.Ask peer) told) → {peer : ℕ} → c ≡ call.Ask peer → Foretells r (call_value c) told
+  ask_foretold all {peer} is = subst (λ d. Foretells r (call_value d) told) (sym is) (all peer)
+
 module _ {Hash : Type 0} (hash : Hash) (old : BTreeMap ℕ (ReplicaValue Hash)) (messages : List (List ℕ)) where
   pub foretells_taken : (name : ℕ) → true ≡ is_some (get nat_cmp old name) → ForetellsEvent hash old messages (Node name) (Some NameTaken)
   foretells_taken name found w keeps = (sym (keeps.there name) ∙ sym found, refl)
@@ -118,8 +135,8 @@ module _ {Hash : Type 0} (hash : Hash) (old : BTreeMap ℕ (ReplicaValue Hash)) 
 
   pub foretells_call : (name : ℕ) (c : Call) (before : ReplicaValue Hash) (told : Option Refusal) → get nat_cmp old name ≡ Some before
       → ((w : World) → Keeps hash old messages w → true ≡ has_peer w c) → Foretells (meaning before) c told → ForetellsEvent hash old messages (At name c) told
-  foretells_call name c before None was peer nothing w keeps =
-      call_unrefused w name c (sym (keeps.there name) ∙ ap is_some was) (sym (peer w keeps)) (subst (λ r. RefusesNothing r c) (keeps.means name before was) nothing)
+  foretells_call name c before None was peer unrefused w keeps =
+      call_unrefused w name c (sym (keeps.there name) ∙ ap is_some was) (sym (peer w keeps)) (subst (λ r. RefusesNothing r c) (keeps.means name before was) unrefused)
   foretells_call name c before (Some refusal) was peer refuses w keeps =
       inr (sym (keeps.there name) ∙ ap is_some was, inr (sym (peer w keeps), subst (λ r. Refuses r c refusal) (keeps.means name before was) refuses))
 

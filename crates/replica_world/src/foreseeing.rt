@@ -69,7 +69,8 @@ fn refusal_of<H: PathHash, A: Allocator + Copy>(
     ensures { Foretells (meaning replica.now) (call_value call.now) result }
 {
     match call {
-        Call::Put(_, _) | Call::PutField(_, _, _) => replica.put_refusal(),
+        Call::Put(_, _) => replica.put_refusal(),
+        Call::PutField(_, _, _) => replica.put_refusal(),
         Call::Ask(_) => replica.ask_refusal(),
         Call::Remove(_) | Call::RemoveField(_, _) | Call::Clear => None,
         Call::Flush | Call::Retry(_) | Call::Abandon(_) => None,
@@ -88,8 +89,8 @@ fn foresee_delivery<H: PathHash, A: Allocator + Copy>(
     if !replicas.contains_key(&name) {
         return Some(Refusal::UnknownReplica);
     }
-    if posted.get(number).is_none() {
-        return Some(Refusal::UnknownMessage);
+    match posted.get(number) {
+        Some(_) => None,
+        None => Some(Refusal::UnknownMessage),
     }
-    None
 }

@@ -80,9 +80,12 @@ impl<H: PathHash, A: Allocator + Copy> World<H, A> {
         ensures unchanged { OnErr result (self.new ≡ self.old) }
     {
         let first = self.posted.len() + 1;
-        if self.past.reserve(1).is_err() {
-            let foreseen = foresee(&self.replicas, &self.posted, &event);
-            return Err(foreseen.unwrap_or(Refusal::OutOfMemory));
+        match self.past.reserve(1) {
+            Ok(()) => {}
+            Err(_) => {
+                let foreseen = foresee(&self.replicas, &self.posted, &event);
+                return Err(foreseen.unwrap_or(Refusal::OutOfMemory));
+            }
         }
         let answer = match happen(
             self.alloc,

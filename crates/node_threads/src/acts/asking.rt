@@ -47,10 +47,17 @@ impl<K: Naming, A: Allocator + Copy> Update<Replica<Fnv1a, A>, Root<A>, NodeEven
         if let Some(refusal) = replica.ask_refusal() {
             return Err(refusal);
         }
-        let place = place_for(self.alloc, replica)?;
-        let reply = replica.ask(self.peer)?;
-        let root = show(rt, replica, place);
-        Ok((reply, root))
+        let place = match place_for(self.alloc, replica) {
+            Ok(place) => place,
+            Err(refusal) => return Err(refusal),
+        };
+        match replica.ask(self.peer) {
+            Ok(reply) => {
+                let root = show(rt, replica, place);
+                Ok((reply, root))
+            }
+            Err(refusal) => Err(refusal),
+        }
     }
 
     ghost placed = { λ c place. refl };

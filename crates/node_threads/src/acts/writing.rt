@@ -54,10 +54,17 @@ impl<'a, K: Naming, A: Allocator + Copy> Update<
         if let Some(refusal) = replica.put_refusal() {
             return Err(refusal);
         }
-        let place = place_for(self.alloc, replica)?;
-        let reply = replica.put_field(self.key, self.field, self.value)?;
-        let root = show(rt, replica, place);
-        Ok((reply, root))
+        let place = match place_for(self.alloc, replica) {
+            Ok(place) => place,
+            Err(refusal) => return Err(refusal),
+        };
+        match replica.put_field(self.key, self.field, self.value) {
+            Ok(reply) => {
+                let root = show(rt, replica, place);
+                Ok((reply, root))
+            }
+            Err(refusal) => Err(refusal),
+        }
     }
 
     ghost placed = { λ c place. refl };
