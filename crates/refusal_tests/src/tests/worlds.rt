@@ -148,7 +148,7 @@ fn a_refused_event_changes_nothing_and_happens_later(rt: HostRuntime) -> Result<
     Ok(())
 }
 
-// What an event comes to in a heap that is full, however much room its world has for its past: of sixty-four nodes, one each.
+// What an event comes to in a heap that is full, in a world whose past has no room left: it grows by doubling, and sixty-four events were.
 fn without_memory<A: Allocator + Copy>(
     rt: &impl Abort,
     alloc: Global,
