@@ -64,7 +64,7 @@ impl<'r, A: Allocator + Copy, P: Abort> Trial for Happening<'r, A, P> {
     fn attempt(&mut self) -> Result<(), Refusal> {
         let event = event(self.rt, self.heap, self.act)?;
         self.world.event(event)?;
-        wanted(count(self.world).0 == self.before.0 + 1)
+        wanted(self.before.0.checked_add(1) == Some(count(self.world).0))
     }
 
     fn is_as_before(&mut self) -> Result<bool, Refusal> {
