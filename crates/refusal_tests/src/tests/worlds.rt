@@ -11,7 +11,7 @@ use std::test::Fail;
 
 type Worlds<A> = World<Fnv1a, A>;
 
-// What happens in a world of the replicas 1 and 2, in which 1 has put forty keys, and has sent them in message 1.
+// What happens in a world of the replicas 1 and 2, in which 1 has put forty keys and sent them in message 1, and one more in message 2.
 #[derive(Clone, Copy)]
 enum Act {
     Node(u64),
@@ -45,9 +45,9 @@ fn put<A: Allocator + Copy>(
     Ok(Event::Call(name(rt, number), Call::Put(key, value)))
 }
 
-// How many events there were, and whether the second message is there.
+// How many events there were, and whether a third message is there.
 fn count<A: Allocator + Copy>(world: &Worlds<A>) -> (usize, bool) {
-    (world.past().len(), world.message(2).is_some())
+    (world.past().len(), world.message(3).is_some())
 }
 
 // An event of a world in which so much had happened.
@@ -85,10 +85,12 @@ fn begin<A: Allocator + Copy>(
         let event = put(rt, heap, 1, &number.to_be_bytes())?;
         world.event(event)?;
     }
-    let flush = event(rt, heap, Act::Flush)?;
-    world.event(flush)?;
-    let more = put(rt, heap, 1, b"more")?;
-    world.event(more)?;
+    for key in [b"one", b"two"] {
+        let flush = event(rt, heap, Act::Flush)?;
+        world.event(flush)?;
+        let more = put(rt, heap, 1, key)?;
+        world.event(more)?;
+    }
     Ok(())
 }
 
