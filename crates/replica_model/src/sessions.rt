@@ -44,7 +44,8 @@ pub fn sessions_take_what_they_wait_for()
 
 /// Unless two pages or two values that an open session itself met have one SHA-256: it has taken just pages of the snapshot that it accepted,
 /// each once, and waits for just the prefixes where that and its own map differ and all above were taken. Where it takes an opening and goes
-/// on it asks for the root, and where it takes a page and goes on, for just the children of the page's prefix where the maps differ.
+/// on it asks for the root, and where it takes a page and goes on, for just the children of the page's prefix where the maps differ, by
+/// ascending index.
 pub fn sessions_ask_for_what_differs()
     ensures fetched { SessionsFetch }
     ensures openings { OpeningsAsk }
