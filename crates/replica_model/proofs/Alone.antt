@@ -1,5 +1,5 @@
 -- A replica by itself holds the state of what it has seen.
-use Rattle.std.proofs.Common.{◌≡◌, inl, inr, ℕ, List, [], ◌∷◌, ◌++◌, map, Bool, true, false, Some, cond, refl, sym, ap, ◌∙◌, subst}
+use Rattle.std.proofs.Common.{◌≡◌, inl, inr, ℕ, List, [], ◌∷◌, ◌++◌, map, Bool, true, false, cond, refl, sym, ap, ◌∙◌, subst}
 use Rattle.std.specs.Prelude.{Contains, ◌==◌}
 use Rattle.std.proofs.lemmas.List.Elements.{Contains-append_left, Contains-append_right, Contains-append_cases}
 use Rattle.op_model.specs.Made.{put_at, remove_at, remove_field_at, clear_at}
@@ -16,7 +16,7 @@ use Rattle.replica_model.specs.History as history
 use Rattle.replica_model.specs.History.{Entry}
 use Rattle.replica_model.specs.Mail.{Mail, Delta, Hello, Opening, Ask, Page, Gone}
 use Rattle.replica_model.specs.Replica.{Replica, open_at}
-use Rattle.replica_model.specs.Step.{Act, Call, Put, Remove, RemoveField, Clear, Flush, Retry, Abandon, Do, Take, Answer, IsStep}
+use Rattle.replica_model.specs.Step.{Call, Put, Remove, RemoveField, Clear, Flush, Retry, Abandon, Answer, IsStep}
 use Rattle.replica_model.specs.Step as call
 use Rattle.replica_model.specs.World.{World, Snapshot, changed, nothing, learns, keeps, accepts, takes_page, taking_of, own_of, ends, calls, is_joined, is_sent, is_done, takes, goes, Unclashed}
 use Rattle.replica_model.proofs.Answers.{told_by}

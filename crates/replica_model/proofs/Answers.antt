@@ -11,7 +11,7 @@ use Rattle.op_model.proofs.Making.{IsNext-one, put_there, remove_there, field_re
 use Rattle.replica_model.specs.Answers.{answer_by, flushed_by, IsToldBy, CallsAreTold}
 use Rattle.replica_model.specs.Mail.{Mail, Delta}
 use Rattle.replica_model.specs.Replica.{Replica}
-use Rattle.replica_model.specs.Step.{Call, Put, Remove, RemoveField, Clear, Flush, Retry, Abandon, Answer, Counted, Made, KnowsNone, Removes, IsCall}
+use Rattle.replica_model.specs.Step.{Call, Put, Remove, RemoveField, Clear, Flush, Retry, Abandon, Answer, Counted, Made, Removes, IsCall}
 use Rattle.replica_model.specs.Step as call
 use Rattle.replica_model.proofs.Meant.{meant_all, nothing_outgoing, sound_fits}
 use Rattle.replica_model.proofs.Sound.{sound}

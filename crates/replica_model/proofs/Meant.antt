@@ -30,7 +30,7 @@ use Rattle.replica_model.specs.Replica.{Replica, Open, open_numbered, makes, ope
 use Rattle.replica_model.specs.Delivery.{Outcome, Turn, turn, delivered}
 use Rattle.replica_model.specs.Step.{Call, Put, Remove, RemoveField, Clear, Flush, Retry, Abandon, Answer, Abandons, KnowsNone, IsCall}
 use Rattle.replica_model.specs.Step as call
-use Rattle.replica_model.specs.World.{World, Event, Node, At, Deliver, Snapshot, Met, sets_of, nothing, learns, calls, own_of, ends, takes, taking_of, accepts, takes_page, is_joined, is_sent, is_done, goes, Happens, Runs, Unclashed}
+use Rattle.replica_model.specs.World.{World, Event, Node, At, Deliver, Snapshot, Met, nothing, learns, calls, own_of, ends, takes, taking_of, accepts, takes_page, is_joined, is_sent, is_done, goes, Happens, Runs, Unclashed}
 use Rattle.replica_model.specs.World as world
 use Rattle.replica_model.specs.Laws.{IsSound, MeansMail, Headline, SameSeen}
 use Rattle.replica_model.proofs.States.{same_is, is_same}
