@@ -18,6 +18,9 @@ pub mod Happening
 pub mod Askers
 pub mod Asks
 pub mod Staying
+pub mod Built
+pub mod Standing
+pub mod Puts
 pub mod Taking
 pub mod Histories
 pub mod Answers

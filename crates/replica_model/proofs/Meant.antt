@@ -227,7 +227,7 @@ meant_call hash_of w name c new answer out whole fits all meant step =
 -- ---- deliveries
 
 -- a delivery leaves the group, and what was to be sent
-group_stays : (hash_of : List ℕ → ℕ) (own : Held) (r : Replica) (mail : Mail) → (delivered hash_of own r mail).new.group ≡ r.group
+pub group_stays : (hash_of : List ℕ → ℕ) (own : Held) (r : Replica) (mail : Mail) → (delivered hash_of own r mail).new.group ≡ r.group
 group_stays hash_of own r = each_row hash_of own r (λ mail t. t.new.group ≡ r.group) (record {
   ignoring = λ mail. refl;
   mismatch = λ mail. refl;

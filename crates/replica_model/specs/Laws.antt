@@ -236,18 +236,18 @@ SnapshotsStay = (hash_of : List ℕ → ℕ) (old new : Replica) (act : Act) (an
 abbrev pub IsTaken : Answer → Type 0
 IsTaken answer = (answer ≡ Came Sent) ⊎ (answer ≡ Came Done)
 
--- In a world where nothing clashed: an open session that accepted no opening takes each opening of it, unless pages or values of
--- the two maps clash.
+-- An open session that accepted no opening takes each opening of it, unless pages or values of the two maps clash, whatever other sessions
+-- met.
 abbrev pub TakesOpenings : Type 0
-TakesOpenings = (hash_of : List ℕ → ℕ) (events : List Event) (w : World) → Runs hash_of nothing events w → Unclashed hash_of w
+TakesOpenings = (hash_of : List ℕ → ℕ) (events : List Event) (w : World) → Runs hash_of nothing events w
     → (number name : ℕ) (m : Message) (s : SessionValue) (context : DotValue → Bool) (root : Option (List ℕ)) (o : Open)
     → message_at w.messages number ≡ Some m → m.mail ≡ Opening s context root → open_at (w.replica name).sessions s ≡ Some o → o.accepted ≡ None
     → NoClash hash_of o.own m.of.map [] → (answer : Answer) (v : World) → Happens hash_of w (Deliver number name) answer v → IsTaken answer
 
--- one that accepted an opening takes, at each prefix that it waits for, the page of that snapshot with the values that it had not seen,
--- unless pages or values met clash; and the snapshot has such a page
+-- One that accepted an opening takes, at each prefix that it waits for, the page of that snapshot with the values that it had not seen,
+-- unless pages or values that the session itself met clash; and the snapshot has such a page.
 abbrev pub TakesPages : Type 0
-TakesPages = (hash_of : List ℕ → ℕ) (events : List Event) (w : World) → Runs hash_of nothing events w → Unclashed hash_of w
+TakesPages = (hash_of : List ℕ → ℕ) (events : List Event) (w : World) → Runs hash_of nothing events w
     → (name : ℕ) (s : SessionValue) (o : Open) (a : Accepted) → open_at (w.replica name).sessions s ≡ Some o → o.accepted ≡ Some a
     → NoClash hash_of o.own (w.accepted s).map (w.taken s) → (p digest : List ℕ) → finite.get a.fetch.waiting p ≡ Some digest
     → (page : PageValue) × (page_at hash_of (w.accepted s).map p ≡ Some page)

@@ -33,9 +33,10 @@ pub fn a_session_has_one_ask()
     ensures known { SnapshotsKnowWhatWasAsked }
 {}
 
-/// Where nothing clashed, an open session takes what it waits for: an opening of it where it accepted none, and at each prefix that it
-/// waits for the page of the snapshot that it accepted, with the values that it had not seen; and the snapshot has such a page. An ask is
-/// told the page of the kept snapshot with the values that the asker had not seen.
+/// Unless two pages or two values that an open session itself met have one SHA-256, whatever other sessions met, it takes what it waits for:
+/// an opening of it where it accepted none, and at each prefix that it waits for the page of the snapshot that it accepted, with the values
+/// that it had not seen; and the snapshot has such a page. An ask is told the page of the kept snapshot with the values that the asker had
+/// not seen.
 pub fn sessions_take_what_they_wait_for()
     ensures openings { TakesOpenings }
     ensures pages { TakesPages }
