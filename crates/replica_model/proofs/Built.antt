@@ -41,7 +41,7 @@ module _ {X : Type 0} (t : X → Bool) where
       step true e rest (inr there) further = further rest there
       step false e rest h further = absurd cc
 
-  some_passes : (xs : List X) → list_any t xs ≡ true → (x : X) × In xs x × (t x ≡ true)
+  pub some_passes : (xs : List X) → list_any t xs ≡ true → (x : X) × In xs x × (t x ≡ true)
   some_passes [] e = absurd cc
   some_passes (x ∷ xs) e = step (t x) refl e (some_passes xs)
     where
@@ -49,7 +49,7 @@ module _ {X : Type 0} (t : X → Bool) where
       step true h s further = (x, inl refl, h)
       step false h s further = let rest = further s in (rest.0, inr rest.1, rest.2)
 
-  any_passes : (xs : List X) (x : X) → In xs x → t x ≡ true → list_any t xs ≡ true
+  pub any_passes : (xs : List X) (x : X) → In xs x → t x ≡ true → list_any t xs ≡ true
   any_passes [] x h e = absurd h
   any_passes (y ∷ ys) x (inl same) e = ap (λ b. b || list_any t ys) (ap t same ∙ e)
   any_passes (y ∷ ys) x (inr h) e = step (t y) (any_passes ys x h e)

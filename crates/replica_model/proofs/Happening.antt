@@ -1,5 +1,5 @@
--- Each event of a world in which nothing clashed happens, or is refused.
-use Rattle.std.proofs.Common.{◌≡◌, ◌⊎◌, inl, inr, ℕ, ◌+◌, ◌<◌, ◌≤◌, ◌^◌, List, [], ◌∷◌, ◌++◌, length, Bool, true, false, Option, Some, None, cond, refl, sym, ap, ◌∙◌, subst, ◌||◌}
+-- Each event happens, or is refused, in every world that a list of events leads to: each live state is finite there, whatever clashed.
+use Rattle.std.proofs.Common.{◌≡◌, ◌⊎◌, inl, inr, ℕ, ◌+◌, ◌<◌, ◌≤◌, ◌^◌, List, [], ◌∷◌, ◌++◌, length, Bool, true, false, Option, Some, None, cond, refl, sym, ap, ◌∙◌, ◌||◌}
 use Rattle.std.specs.Prelude.{◌↔◌, IsTrue, IsSome}
 use Rattle.std.specs.List.{AllByRecursion, IsDistinct}
 use Rattle.std.proofs.lemmas.Bool.{false≢true, or_left, cases_lt}
@@ -7,24 +7,20 @@ use Rattle.dots.specs.declared.dot.Dot.{Dot}
 use Rattle.dots.specs.declared.refusal.Refusal.{Refusal}
 use Rattle.dots.specs.declared.refusal.Refusal.TheVariants.{NameTaken, UnknownReplica, UnknownMessage, NumbersSpent, SessionsFull}
 use Rattle.dots.specs.Dot.{same_dot}
-use Rattle.op_model.specs.Made.{write_at, erasure, Counts, IsWithin, IsAnywhere}
-use Rattle.op_model.specs.Meaning.{MapState, state}
-use Rattle.op_model.specs.Operation.{Operation, Write, Wrote, NoReuse, has, ids, known}
-use Rattle.op_model.specs.Shown.{shown, shown_within, shown_anywhere}
-use Rattle.op_model.specs.State.{Same}
+use Rattle.op_model.specs.Made.{next, erasure, Counts, IsWithin, IsAnywhere}
+use Rattle.op_model.specs.Meaning.{state}
+use Rattle.op_model.specs.Operation.{Write, Wrote, has}
+use Rattle.op_model.specs.Place.{Place}
+use Rattle.op_model.specs.State.{IsInside}
 use Rattle.op_model.proofs.Dots.{same_dot-self, same_dot-symm, same_dot-true}
-use Rattle.op_model.proofs.Making.{put_there, remove_there, field_remove_there, clear_there}
-use Rattle.prefix_digest.specs.MapOf.{IsMapOf, map_of}
-use Rattle.prefix_digest.proofs.MapsOf.{stands_for}
 use Rattle.replica_model.specs.Mail.{Mail, Delta, Hello}
 use Rattle.replica_model.specs.Replica.{Replica, Open, LIMIT, open_numbered, makes, flushed, next_session, opens, closes}
 use Rattle.replica_model.specs.Delivery.{delivered}
 use Rattle.replica_model.specs.Step.{Call, Put, Remove, RemoveField, Clear, Flush, Ask, Retry, Abandon, Answer, Nothing, Made, Counted, Numbered, Came, Closed, Removes, Abandons, IsCall, Refuses, retried}
 use Rattle.replica_model.specs.World.{World, Event, Node, At, Deliver, Message, message_at, is_node, has_peer, calls, takes, goes, Happens, RefusesEvent}
 use Rattle.replica_model.specs.Laws.{HappenOrAreRefused}
-use Rattle.replica_model.proofs.States.{is_same}
-use Rattle.replica_model.proofs.Sound.{sound}
-use Rattle.replica_model.proofs.Meant.{Meant, meant_all, seen_once}
+use Rattle.replica_model.proofs.Finite.{IsFinite, finite_map, map_stands, dots_at, dots_at_place, dots_within, dots_at_key, all_dots, dots_anywhere, put_there}
+use Rattle.replica_model.proofs.Puts.{WasPut, all_put}
 
 -- ---- so many dots
 
@@ -85,50 +81,45 @@ abandon : (old : Replica) (o : Option Open) → (new : Replica) × (answer : Ans
 abandon old None = (old, Closed false, (refl, refl))
 abandon old (Some o) = (closes old o.session, Closed true, (refl, refl))
 
-module _ (old : Replica) (S T : List Operation) (once : NoReuse S) (live : old.live ≡ state S) (group : old.group ≡ state T) where
-  same : Same old.live (state S)
-  same = is_same old.live (state S) live
+module _ (old : Replica) (live : IsFinite old.live) (inside : IsInside old.live) (group : IsFinite old.group) where
+  write : Place → List ℕ → Write
+  write place value = record { id = next old.name live.dots; place = place; value = value; over = dots_at old.live live inside place }
 
-  pub own_is : IsMapOf (map_of S) old.live
-  own_is = subst (IsMapOf (map_of S)) (sym live) (stands_for S once)
-
-  abbrev write : Rattle.op_model.specs.Place.Place → List ℕ → Write
-  write place value = write_at S old.name place value
-
-  put_or : (place : Rattle.op_model.specs.Place.Place) (value : List ℕ) → ((write place value).id.number < 2 ^ 64) ⊎ (2 ^ 64 ≤ (write place value).id.number) → CallsOrNot old (Put place value)
+  put_or : (place : Place) (value : List ℕ) → ((next old.name live.dots).number < 2 ^ 64) ⊎ (2 ^ 64 ≤ (next old.name live.dots).number) → CallsOrNot old (Put place value)
+  unfolding write
   put_or place value (inl lt) =
-      inl (makes old (state (Wrote (write place value) ∷ [])), Made (write place value).id, [], (write place value, put_there S old.live same old.name place value, lt, refl, refl, refl))
-  put_or place value (inr ge) = inr (NumbersSpent, ((write place value).id, (put_there S old.live same old.name place value).id, ge, refl))
+      inl (makes old (state (Wrote (write place value) ∷ [])), Made (write place value).id, [], (write place value, put_there old.live live inside old.name place value, lt, refl, refl, refl))
+  put_or place value (inr ge) = inr (NumbersSpent, ((write place value).id, (put_there old.live live inside old.name place value).id, ge, refl))
 
   ask_or : (peer : ℕ) → (length old.sessions < LIMIT) ⊎ (LIMIT ≤ length old.sessions) → (old.opened + 1 < 2 ^ 64) ⊎ (2 ^ 64 ≤ old.opened + 1) → CallsOrNot old (Ask peer)
   ask_or peer (inl few) (inl left) =
-      inl (opens old peer (map_of S), Numbered (old.opened + 1), Hello (next_session old peer) old.live.has ∷ [], (map_of S, own_is, few, left, refl, refl, refl))
+      let own = finite_map old.live live inside in
+      inl (opens old peer own, Numbered (old.opened + 1), Hello (next_session old peer) old.live.has ∷ [], (own, map_stands old.live live inside, few, left, refl, refl, refl))
   ask_or peer (inl few) (inr spent) = inr (NumbersSpent, inr (few, spent, refl))
   ask_or peer (inr full) left = inr (SessionsFull, inl (full, refl))
 
-  flush : (ds : List Dot) → known T ≡ ds → Calls old Flush
-  flush [] e = (old, Nothing, [], (refl, inl (λ dot. ap (λ (p : MapState). p.has dot) group ∙ ap (λ x. has x dot) e, refl, refl)))
+  flush : (ds : List Dot) → group.dots ≡ ds → Calls old Flush
+  flush [] e = (old, Nothing, [], (refl, inl (λ dot. group.knows dot ∙ ap (λ x. has x dot) e, refl, refl)))
   flush (d ∷ ds) e = (
     flushed old,
     Nothing,
     Delta old.group ∷ [],
-    (refl, inr (λ none. false≢true (sym (none d) ∙ ap (λ (p : MapState). p.has d) group ∙ ap (λ x. has x d) e ∙ or_left (same_dot d d) (has ds d) (same_dot-self d)), refl, refl)),
+    (refl, inr (λ none. false≢true (sym (none d) ∙ group.knows d ∙ ap (λ x. has x d) e ∙ or_left (same_dot d d) (has ds d) (same_dot-self d)), refl, refl)),
   )
 
-  pub call_or : (c : Call) → CallsOrNot old c
-  call_or (Put place value) = put_or place value (cases_lt (write place value).id.number (2 ^ 64))
-  call_or (Remove key) = inl (removal (IsWithin old.live key) old (ids (shown_within S key)) (remove_there S old.live same key))
-  call_or (RemoveField place) =
-      inl (removal (λ dot. IsSome (old.live.at place dot)) old (ids (shown S place)) (λ dot. (λ h. sym (field_remove_there S old.live same place dot) ∙ h, λ h. field_remove_there S old.live same place dot ∙ h)))
-  call_or Clear = inl (removal (IsAnywhere old.live) old (ids (shown_anywhere S)) (clear_there S old.live same))
-  call_or Flush = inl (flush (known T) refl)
+  call_or : (c : Call) → CallsOrNot old c
+  call_or (Put place value) = put_or place value (cases_lt (next old.name live.dots).number (2 ^ 64))
+  call_or (Remove key) = inl (removal (IsWithin old.live key) old (dots_within old.live live inside key) (dots_at_key old.live live inside key))
+  call_or (RemoveField place) = inl (removal (λ dot. IsSome (old.live.at place dot)) old (dots_at old.live live inside place) (dots_at_place old.live live inside place))
+  call_or Clear = inl (removal (IsAnywhere old.live) old (all_dots old.live live inside) (dots_anywhere old.live live inside))
+  call_or Flush = inl (flush group.dots refl)
   call_or (Ask peer) = ask_or peer (cases_lt (length old.sessions) LIMIT) (cases_lt (old.opened + 1) (2 ^ 64))
   call_or (Retry number) = inl (old, Came (retried old (open_numbered old.sessions number)).outcome, (retried old (open_numbered old.sessions number)).replies, (refl, refl, refl))
   call_or (Abandon number) = let a = abandon old (open_numbered old.sessions number) in inl (a.0, a.1, [], (a.2, refl))
 
 -- ---- events
 
-module _ (hash_of : List ℕ → ℕ) (w : World) (m : Meant hash_of w) (once : (name : ℕ) → NoReuse (w.seen name)) where
+module _ (hash_of : List ℕ → ℕ) (w : World) (puts : List Write) (was : WasPut hash_of puts w) where
   abbrev Either : Event → Type 0
   Either e = ((answer : Answer) × (v : World) × Happens hash_of w e answer v) ⊎ ((refusal : Refusal) × RefusesEvent w e refusal)
 
@@ -146,15 +137,16 @@ module _ (hash_of : List ℕ → ℕ) (w : World) (m : Meant hash_of w) (once : 
   deliver number name false o e f = inr (UnknownReplica, inl (e, refl))
   deliver number name true None e f = inr (UnknownMessage, inr (e, f, refl))
   deliver number name true (Some x) e f =
-      let own = map_of (w.seen name) in
+      let live = was.live name in
+      let own = finite_map (w.replica name).live live.is_finite live.inside in
       let t = delivered hash_of own (w.replica name) x.mail in
-      let is = own_is (w.replica name) (w.seen name) (w.outgoing name) (once name) (m.live name) (m.group name) in
+      let is = map_stands (w.replica name).live live.is_finite live.inside in
       inl (Came t.outcome, goes name t.new t.replies [] (takes name (w.replica name) x.mail x.of t.outcome w), (e, (x, f, (t.new, t.outcome, t.replies, refl, (t.outcome, refl, (own, is, refl)), refl))))
 
   each : (e : Event) → Either e
   each (Node name) = node name (is_node w name) refl
-  each (At name c) = call_at name c (is_node w name) (has_peer w c) refl refl (call_or (w.replica name) (w.seen name) (w.outgoing name) (once name) (m.live name) (m.group name) c)
+  each (At name c) = call_at name c (is_node w name) (has_peer w c) refl refl (call_or (w.replica name) (was.live name).is_finite (was.live name).inside (was.group name).is_finite c)
   each (Deliver number name) = deliver number name (is_node w name) (message_at w.messages number) refl refl
 
 pub happen_or_refused : HappenOrAreRefused
-happen_or_refused hash_of events w runs clean = each hash_of w (meant_all hash_of events w runs clean) (seen_once w (sound hash_of events w runs))
+happen_or_refused hash_of events w runs = let put = all_put hash_of events w runs in each hash_of w put.0 put.1

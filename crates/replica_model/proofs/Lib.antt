@@ -14,13 +14,14 @@ pub mod Ended
 pub mod Meant
 pub mod Leaving
 pub mod Limits
-pub mod Happening
 pub mod Askers
 pub mod Asks
 pub mod Staying
 pub mod Built
+pub mod Finite
 pub mod Standing
 pub mod Puts
+pub mod Happening
 pub mod Taking
 pub mod Histories
 pub mod Answers

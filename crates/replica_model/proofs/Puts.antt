@@ -386,7 +386,7 @@ module _ (hash_of : List ℕ → ℕ) (w : World) (name : ℕ) (puts : List Writ
         let built = fetched_made hash_of own e.session.seen e.context (IsNamed puts) root e.takings e.fetched (held_named puts own e.session.seen asked)
         (λ t h. taken_in puts w d.message.mail was.taken tells t (subst (λ l. In l t) e.pages h)) e.is_fetched in
         let known = whole_known hash_of own e.session.seen e.context root e.takings e.fetched e.is_fetched e.complete in
-        subst (IsOf puts) (sym e.live) (join_of puts (w.replica name).live (held_state e.fetched.built e.context) (was.live name) (map_of_puts puts e.fetched.built e.context known built))
+        subst (IsOf puts) (sym e.live) (join_of puts (w.replica name).live (held_state e.fetched.built e.context) (was.live name) (map_of_puts puts e.fetched.built e.context e.snap.is_of.is_finite.dots (λ dot. ap (λ k. k dot) e.snap.knows ∙ e.snap.is_of.is_finite.knows dot) known built))
 
     live_after : IsOf puts d.new.live
     live_after =

@@ -2,7 +2,7 @@
 use Rattle.std.proofs.Common.{◌≡◌, ◌⊎◌, inl, inr, ℕ, List, [], ◌∷◌, Bool, true, false, cond, Some, None, refl, sym, ◌∙◌, ap, subst}
 use Rattle.std.specs.Prelude.{Option, Contains, IsTrue, is_some, ◌||◌}
 use Rattle.std.specs.List.{filter}
-use Rattle.std.specs.Ordering.{is_lt, eq_by_cmp}
+use Rattle.std.specs.Ordering.{eq_by_cmp}
 use Rattle.std.specs.FinMap as finite
 use Rattle.std.specs.FinMap.Entries.{find}
 use Rattle.std.proofs.lemmas.Bool.{or_left, or_right}
@@ -40,6 +40,7 @@ use Rattle.sync_model.proofs.Keeping.{dot_tied}
 use Rattle.sync_model.proofs.Lawful.{map_lawful, found}
 use Rattle.sync_model.proofs.Members.{In, In-Contains, Contains-In, In-mapped, part_found}
 use Rattle.replica_model.proofs.Built.{EachNamed, EachEntry, EachHeld, some_of}
+use Rattle.replica_model.proofs.Finite.{IsFinite, state_finite, from_either, join_finite, held_finite}
 
 -- a dot has one value among the writes that were put
 abbrev pub AreOne : List Write → Type 0
@@ -49,8 +50,9 @@ AreOne puts = (u v : Write) → Contains puts u → Contains puts v → u.id ≡
 abbrev pub IsNamed : List Write → DotValue → List ℕ → Type 0
 IsNamed puts dot name = (w : Write) × Contains puts w × (w.id ≡ dot) × (sha256 w.value ≡ name)
 
--- what stands in a state is known, and has the name of what was put under its dot
+-- a state is finite, and what stands in it is known, and has the name of what was put under its dot
 pub record IsOf (puts : List Write) (p : MapState) : Type 0 where
+  pub is_finite : IsFinite p
   pub inside : IsInside p
   pub named : (place : Place) (dot : Dot) (v : List ℕ) → p.at place dot ≡ Some v → IsNamed puts dot (sha256 v)
 
@@ -68,7 +70,7 @@ module _ (puts more : List Write) (grew : (w : Write) → Contains puts w → Co
   named_more dot name h = (h.0, grew h.0 h.1, h.2, h.3)
 
   pub of_more : (p : MapState) → IsOf puts p → IsOf more p
-  of_more p f = record { inside = f.inside; named = λ place dot v e. named_more dot (sha256 v) (f.named place dot v e) }
+  of_more p f = record { is_finite = f.is_finite; inside = f.inside; named = λ place dot v e. named_more dot (sha256 v) (f.named place dot v e) }
 
   pub held_more : (m : Held) (known : DotValue → Bool) → IsHeldOf puts m known → IsHeldOf more m known
   held_more m known h = record { of = h.of; is_map = h.is_map; knows = h.knows; is_of = of_more h.of h.is_of }
@@ -78,22 +80,9 @@ module _ (puts more : List Write) (grew : (w : Write) → Contains puts w → Co
 
 -- ---- states that are joined
 
-if_held : (b : Bool) (x v : List ℕ) → cond b None (Some x) ≡ Some v → Some x ≡ Some v
-if_held true x v e = absurd cc
-if_held false x v e = e
-
-one_of : (b : Bool) (x y v : List ℕ) → Some (cond b x y) ≡ Some v → (Some x ≡ Some v) ⊎ (Some y ≡ Some v)
-one_of true x y v e = inl e
-one_of false x y v e = inr e
-
-from_either : (a : Option (List ℕ)) (s : Bool) (b : Option (List ℕ)) (t : Bool) (v : List ℕ) → joined greater a s b t ≡ Some v → (a ≡ Some v) ⊎ (b ≡ Some v)
-from_either (Some x) s (Some y) t v e = one_of (is_lt (bytes_cmp y x)) x y v e
-from_either (Some x) s None t v e = inl (if_held t x v e)
-from_either None s (Some y) t v e = inr (if_held s y v e)
-from_either None s None t v e = absurd cc
-
 pub join_of : (puts : List Write) (p q : MapState) → IsOf puts p → IsOf puts q → IsOf puts (join greater p q)
 join_of puts p q f g = record {
+  is_finite = join_finite p q f.is_finite g.is_finite;
   inside = λ place dot some.
       let there = some_of (joined greater (p.at place dot) (p.has dot) (q.at place dot) (q.has dot)) some in
       known place dot there.0 (from_either (p.at place dot) (p.has dot) (q.at place dot) (q.has dot) there.0 there.1);
@@ -112,6 +101,7 @@ join_of puts p q f g = record {
 
 pub erasure_of : (puts : List Write) (over : List Dot) → IsOf puts (state (erasure over))
 erasure_of puts over = record {
+  is_finite = state_finite (erasure over);
   inside = state-inside (erasure over);
   named = λ place dot v e. absurd (let none : None ≡ Some v = sym (at-erasure over place dot) ∙ e in cc);
 }
@@ -120,7 +110,7 @@ pub nothing_of : (puts : List Write) → IsOf puts (state [])
 nothing_of puts = erasure_of puts []
 
 pub write_of : (puts : List Write) (w : Write) → Contains puts w → IsOf puts (state (Wrote w ∷ []))
-write_of puts w there = record { inside = state-inside (Wrote w ∷ []); named = λ place dot v e. by place dot v (has (observed (Wrote w ∷ [])) dot) (sym (at-state (Wrote w ∷ []) place dot) ∙ e) }
+write_of puts w there = record { is_finite = state_finite (Wrote w ∷ []); inside = state-inside (Wrote w ∷ []); named = λ place dot v e. by place dot v (has (observed (Wrote w ∷ [])) dot) (sym (at-state (Wrote w ∷ []) place dot) ∙ e) }
   where
     is_it : (u : Write) → Contains (w ∷ []) u → w ≡ u
     is_it u h = only (In-Contains (w ∷ []) u h)
@@ -158,9 +148,10 @@ in_map m key field d v e = by_key (finite.get m key) refl (sym (held_there (fini
     by_key None t s = absurd cc
     by_key (Some fs) t s = (fs, t, by_field fs (find bytes_cmp field fs) refl s)
 
--- a map of which each dot is known, and each value has the name of what was put, is such a state
-pub map_of_puts : (puts : List Write) (m : Held) (known : DotValue → Bool) → EachHeld (λ d name. known d ≡ true) m → EachHeld (IsNamed puts) m → IsOf puts (held_state m known)
-map_of_puts puts m known all named = record {
+-- what a map holds is such a state, where just these dots are known, each dot of the map among them, and each value has the name of what was put
+pub map_of_puts : (puts : List Write) (m : Held) (known : DotValue → Bool) (dots : List Dot) → ((dot : Dot) → known dot ≡ has dots dot) → EachHeld (λ d name. known d ≡ true) m → EachHeld (IsNamed puts) m → IsOf puts (held_state m known)
+map_of_puts puts m known dots just all named = record {
+  is_finite = held_finite m known dots just;
   inside = λ place dot some.
       let there = some_of (held_in (finite.get m place.key) place.field dot) some in
       let held = in_map m place.key place.field dot there.0 there.1 in

@@ -127,9 +127,10 @@ SameSeen = (hash_of : List ℕ → ℕ) (events : List Event) (w : World) → Ru
 
 -- ---- each event
 
--- In a world where nothing clashed each event happens, or is refused. (That none does both is RefusedDoesNotHappen.)
+-- In every world that a list of events leads to, whatever clashed, each event happens, or is refused. (That none does both is
+-- RefusedDoesNotHappen.)
 abbrev pub HappenOrAreRefused : Type 0
-HappenOrAreRefused = (hash_of : List ℕ → ℕ) (events : List Event) (w : World) → Runs hash_of nothing events w → Unclashed hash_of w
+HappenOrAreRefused = (hash_of : List ℕ → ℕ) (events : List Event) (w : World) → Runs hash_of nothing events w
     → (e : Event) → ((answer : Answer) × (v : World) × Happens hash_of w e answer v) ⊎ ((refusal : Refusal) × RefusesEvent w e refusal)
 
 -- the name of the replica at which an event happens

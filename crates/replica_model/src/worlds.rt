@@ -29,8 +29,7 @@ pub fn replicas_stay_within_limits()
     ensures { StayWithinLimits }
 {}
 
-/// Where no two pages and no two values that one session met have one SHA-256, each event happens or is refused; and, whatever clashes,
-/// none does both.
+/// In every world that a list of events leads to, whatever pages and values clash: each event happens or is refused, and none does both.
 pub fn each_event_happens_or_is_refused()
     ensures either { HappenOrAreRefused }
     ensures not_both { RefusedDoesNotHappen }
