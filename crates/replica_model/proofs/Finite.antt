@@ -59,7 +59,7 @@ unfolding if_any
 any_first [] ys e = absurd cc
 any_first (x ∷ xs) ys e = (x, xs, refl, sym (same_Some (x ∷ xs) ys e))
 
-dots_exact : (d e : Dot) → eq_by_cmp dot_cmp d e ≡ true → d ≡ e
+pub dots_exact : (d e : Dot) → eq_by_cmp dot_cmp d e ≡ true → d ≡ e
 dots_exact d e t = same_from_test d e (sym (is_eq-dot_cmp d e) ∙ t)
 
 module _ {K X : Type 0} (R : K → K → Ordering) where

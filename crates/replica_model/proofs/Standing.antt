@@ -40,7 +40,7 @@ use Rattle.sync_model.proofs.Keeping.{dot_tied}
 use Rattle.sync_model.proofs.Lawful.{map_lawful, found}
 use Rattle.sync_model.proofs.Members.{In, In-Contains, Contains-In, In-mapped, part_found}
 use Rattle.replica_model.proofs.Built.{EachNamed, EachEntry, EachHeld, some_of}
-use Rattle.replica_model.proofs.Finite.{IsFinite, state_finite, from_either, join_finite, held_finite}
+use Rattle.replica_model.proofs.Finite.{IsFinite, dots_exact, state_finite, from_either, join_finite, held_finite}
 
 -- a dot has one value among the writes that were put
 abbrev pub AreOne : List Write → Type 0
@@ -160,9 +160,6 @@ map_of_puts puts m known dots just all named = record {
       let held = in_map m place.key place.field dot v e in
       named place.key held.0 held.1 (place.field, held.2.0) held.2.1 (dot, v) held.2.2;
 }
-
-dots_exact : (d e : Dot) → eq_by_cmp dot_cmp d e ≡ true → d ≡ e
-dots_exact d e t = same_from_test d e (sym (is_eq-dot_cmp d e) ∙ t)
 
 module _ (puts : List Write) (m : Held) (known : DotValue → Bool) (is : IsHeldOf puts m known) where
   pub held_lawful : IsLawfulMap m
