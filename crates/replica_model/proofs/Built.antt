@@ -24,6 +24,7 @@ use Rattle.sync_model.specs.Differ.{Held}
 use Rattle.sync_model.specs.Fetch.{Fetch, Waiting, Taken, Ignored, Mismatch, Took, entries_of, children_of, is_digest, is_own, to_ask, within_values, within_fields, within, fits, stays, put_children, put_entry, put_entries, took, promised, take_page, take_opening}
 use Rattle.sync_model.specs.Laws.{Taking, Fetched}
 use Rattle.sync_model.proofs.Members.{In, In-filter, filter-In, part_has}
+use Rattle.sync_model.proofs.Fits.{all_pass}
 use Rattle.sync_model.proofs.Found.{same_Some}
 use Rattle.sync_model.proofs.Prefixes.{begins_further}
 use Rattle.sync_model.proofs.Stepping.{from_children, no_entry, if_stays, removed_there, removed_elsewhere}
@@ -84,8 +85,11 @@ module _ (P : DotValue → List ℕ → Type 0) where
   EachHeld m = (key : List ℕ) (fs : FieldsValue) → finite.get m key ≡ Some fs → EachField fs
 
 -- the dots of these pass the test
-fields_pass : {N : Type 0} (t : DotValue → Bool) (fs : List (List ℕ × List (DotValue × N))) → within_fields t fs ≡ true → (f : List ℕ × List (DotValue × N)) → In fs f → (v : DotValue × N) → In f.1 v → t v.0 ≡ true
+pub fields_pass : {N : Type 0} (t : DotValue → Bool) (fs : List (List ℕ × List (DotValue × N))) → within_fields t fs ≡ true → (f : List ℕ × List (DotValue × N)) → In fs f → (v : DotValue × N) → In f.1 v → t v.0 ≡ true
 fields_pass t fs all f h v g = one_passes (λ x. t x.0) f.1 v (one_passes (λ x. within_values t x.1) fs f all h) g
+
+pub passing_fields : {N : Type 0} (t : DotValue → Bool) (fs : List (List ℕ × List (DotValue × N))) → ((f : List ℕ × List (DotValue × N)) → In fs f → (v : DotValue × N) → In f.1 v → t v.0 ≡ true) → within_fields t fs ≡ true
+passing_fields t fs each = all_pass (λ f. within_values t f.1) fs (λ f h. all_pass (λ v. t v.0) f.1 (each f h))
 
 -- ---- what is made of names
 
@@ -288,15 +292,15 @@ module _ (hash_of : List ℕ → ℕ) (own : Held) (seen opened : DotValue → B
   Known d name = opened d ≡ true
 
   -- a key is under a prefix that is waited for
-  abbrev IsUnder : Waiting → List ℕ → List ℕ → Type 0
+  abbrev pub IsUnder : Waiting → List ℕ → List ℕ → Type 0
   IsUnder waiting p key = IsSome (finite.get waiting p) × (begins p (path hash_of key) ≡ true)
 
   -- No key is under two prefixes that are waited for; what is built there is the own map still; and elsewhere the opening knows all dots of
   -- what is built.
-  record IsKnown (f : Fetch) : Type 0 where
-    apart : (key p q : List ℕ) → IsUnder f.waiting p key → IsUnder f.waiting q key → p ≡ q
-    own_still : (key p : List ℕ) → IsUnder f.waiting p key → finite.get f.built key ≡ finite.get own key
-    known : (key : List ℕ) (fs : FieldsValue) → finite.get f.built key ≡ Some fs → ((p : List ℕ) → IsUnder f.waiting p key → ⊥) → EachField Known fs
+  pub record IsKnown (f : Fetch) : Type 0 where
+    pub apart : (key p q : List ℕ) → IsUnder f.waiting p key → IsUnder f.waiting q key → p ≡ q
+    pub own_still : (key p : List ℕ) → IsUnder f.waiting p key → finite.get f.built key ≡ finite.get own key
+    pub known : (key : List ℕ) (fs : FieldsValue) → finite.get f.built key ≡ Some fs → ((p : List ℕ) → IsUnder f.waiting p key → ⊥) → EachField Known fs
 
   part_known : (q key : List ℕ) (fs : FieldsValue) → within opened (walk_under hash_of q own) ≡ true → finite.get own key ≡ Some fs → begins q (path hash_of key) ≡ true → EachField Known fs
   part_known q key fs fine there under = fields_pass opened fs (one_passes (λ x. within_fields opened x.1) (walk_under hash_of q own) (key, fs) fine (part_has hash_of own q key fs there under))
@@ -451,8 +455,11 @@ module _ (hash_of : List ℕ → ℕ) (own : Held) (seen opened : DotValue → B
             let both = kept_from (stays hash_of p page key) (finite.get f.built key) fs (sym (if_stays f.built (stays hash_of p page) key) ∙ there) in
             stayed both.1 (begins p (path hash_of key)) refl both.0
 
-    page_known : IsKnown g
-    page_known = record { apart = then_apart; own_still = then_own; known = then_known }
+    step_known : IsKnown g
+    step_known = record { apart = then_apart; own_still = then_own; known = then_known }
+
+  pub page_known : (f g : Fetch) (p : List ℕ) (page : PageValue) (sent : List (List ℕ)) → IsKnown f → take_page hash_of own seen opened f p page sent ≡ Took g → IsKnown g
+  page_known f g p page sent is e = step_known f g p page sent is (stepped hash_of own seen opened f g p page sent e) (taken_fits f g p page sent e)
 
   -- ---- an opening
 
@@ -499,7 +506,7 @@ module _ (hash_of : List ℕ → ℕ) (own : Held) (seen opened : DotValue → B
     known = λ key fs e none. absurd (none [] (root_found d, refl));
   }
 
-  opening_known : (root : Option (List ℕ)) (f : Fetch) → take_opening hash_of own seen opened root ≡ Took f → IsKnown f
+  pub opening_known : (root : Option (List ℕ)) (f : Fetch) → take_opening hash_of own seen opened root ≡ Took f → IsKnown f
   opening_known None f e = subst IsKnown (same_fetch (record { waiting = nothing; built = finite.empty }) f e) nothing_known
   opening_known (Some d) f e = step (is_digest (digest_at hash_of own []) d) (within opened (walk_under hash_of [] own)) refl e
     where
@@ -510,8 +517,7 @@ module _ (hash_of : List ℕ → ℕ) (own : Held) (seen opened : DotValue → B
 
   fetched_known : (root : Option (List ℕ)) (ts : List Taking) (f : Fetch) → Fetched hash_of own seen opened root ts f → IsKnown f
   fetched_known root [] f e = opening_known root f e
-  fetched_known root (t ∷ ts) f (g, before, e) =
-      page_known g f t.prefix t.page t.sent (fetched_known root ts g before) (stepped hash_of own seen opened g f t.prefix t.page t.sent e) (taken_fits g f t.prefix t.page t.sent e)
+  fetched_known root (t ∷ ts) f (g, before, e) = page_known g f t.prefix t.page t.sent (fetched_known root ts g before) e
 
   -- once nothing is waited for, the opening knows each dot of what is built
   pub whole_known : (root : Option (List ℕ)) (ts : List Taking) (f : Fetch) → Fetched hash_of own seen opened root ts f → ((p : List ℕ) → finite.get f.waiting p ≡ None) → EachHeld Known f.built
