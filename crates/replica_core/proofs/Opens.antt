@@ -1,5 +1,6 @@
 -- A replica that opens its next own session.
-use Rattle.std.proofs.Common.{◌≡◌, ◌<◌, ◌≤◌, ◌+◌, ℕ, List, [], ◌∷◌, ◌++◌, map, Less, arith, refl, sym, ap, ◌∙◌, subst}
+use Rattle.std.proofs.Common.{◌≡◌, ◌<◌, ◌≤◌, ◌+◌, ℕ, List, [], ◌∷◌, ◌++◌, map, take, length, Less, arith, refl, sym, ap, ◌∙◌, subst}
+use Rattle.std.proofs.Math.Seq.{take-append_seam}
 use Rattle.std.specs.List.{All, AllByRecursion}
 use Rattle.std.specs.List.Sorted.{IsStrictlySortedBy}
 use Rattle.std.specs.Ordering.{nat_cmp}
@@ -38,6 +39,11 @@ one_more [] a n sorted below above = (tt, tt)
 one_more (x ∷ xs) a n sorted below above =
     let here = All-head (λ b. b.session.number ≤ n) x xs below in
     (all_less (numbers xs) x.session.number a.session.number (omega (arith, here, above)) sorted.0, one_more xs a n sorted.1 (All-tail (λ b. b.session.number ≤ n) x xs below) above)
+
+-- ---- what was there before one more was added is the front of what is there then
+
+pub front_again : {X : Type 0} (old new cut : List X) {n : ℕ} (x : X) → new ≡ old ++ x ∷ [] → n ≡ length old → cut ≡ take n new → cut ≡ old
+front_again old new cut x more count is = is ∙ (λ i. take (count i) (more i)) ∙ take-append_seam old (x ∷ [])
 
 -- ---- the map of a state is below it
 

@@ -3,6 +3,7 @@ ghost use Rattle.std.specs.Prelude.{◌≡◌, ◌<◌, ◌≤◌, ◌+◌, ◌+
 ghost use Rattle.std.specs.Vec.{vec_len, vec_capacity};
 ghost use Rattle.wire_form.specs.Message.{message_of};
 ghost use Rattle.wire_form.specs.Message as form;
+ghost use Rattle.delta_ops.specs.LiveMap.{live_state};
 ghost use Rattle.prefix_digest.specs.MapOf.{IsMapOf};
 ghost use Rattle.replica_model.specs.Mail.{mail_of};
 ghost use Rattle.replica_model.specs.Replica as model;
@@ -17,8 +18,10 @@ use crate::delivered::Delivered;
 use crate::outcome::Outcome;
 use crate::replica::Replica;
 use crate::sessions::place_numbered;
+use delta_ops::LiveOrMap;
 use dots::{Name, Refusal};
 use hash_path::PathHash;
+use prefix_digest::ShaSummary;
 use std::alloc::Allocator;
 use sync_protocol::{Asker, Outbox, Unposted};
 use wire_form::{Message, Session};
@@ -137,34 +140,35 @@ impl<H: PathHash, A: Allocator + Copy> Replica<H, A> {
     {
         self.live.seal()?;
         self.sessions.reserve(1)?;
-        let (asker, hello) = self.begin(session, outbox)?;
-        add(&mut self.sessions, asker);
+        let others = self.sessions.len();
+        let hello = begin(self.alloc, session, &self.live, &mut self.sessions)?;
+        if let Err(refusal) = outbox.post(self.alloc, &hello) {
+            self.sessions.truncate(others);
+            return Err(refusal);
+        }
         self.opened = session.number();
         Ok(hello)
     }
+}
 
-    // A session of what the replica holds, and its hello, which is posted.
-    fn begin<O: Outbox<A>>(
-        &self,
-        session: Session,
-        outbox: &mut O,
-    ) -> Result<(Asker<H, A>, Message<A>), Refusal>
-        ensures asker { IfOk result (λ begun. begun.0 ≡ record { session = session; hash = hash_in self.now; own = self.now.live.0.0.1; seen = self.now.live.0.1; stage = Asked }) }
-        ensures hello { IfOk result (λ begun. message_of begun.1 ≡ form.Hello session self.now.live.0.1) }
-        ensures posted { IfOk result (λ begun. O.gains outbox.old outbox.new (message_of begun.1 ∷ [])) }
-        ensures unposted { OnErr result (outbox.new ≡ outbox.old) }
-        ensures map { OnOk result (IsMapOf self.now.live.0.0.1 (meaning self.now).live) }
-        ensures refused { IsOkUnless result Refusal.OutOfMemory }
-    {
-        let (asker, hello) = Asker::open(
-            self.alloc,
-            session,
-            self.live.store(),
-            self.live.context(),
-        )?;
-        outbox.post(self.alloc, &hello)?;
-        Ok((asker, hello))
-    }
+// Puts this session of what is held behind the others, for which there is room: its hello. It stands in the list before the hello is posted, as
+// a session and a message in hand at once make a long proof.
+fn begin<H: PathHash, A: Allocator + Copy>(
+    alloc: A,
+    session: Session,
+    live: &LiveOrMap<ShaSummary, H, A>,
+    sessions: &mut Vec<Asker<H, A>, A>,
+) -> Result<Message<A>, Refusal>
+    requires { vec_len sessions.old < vec_capacity sessions.old }
+    ensures session { OnOk result (sessions.new.items ≡ sessions.old.items ++ record { session = session; hash = live.now.0.0.0; own = live.now.0.0.1; seen = live.now.0.1; stage = Asked } ∷ []) }
+    ensures hello { IfOk result (λ hello. message_of hello ≡ form.Hello session live.now.0.1) }
+    ensures map { OnOk result (IsMapOf live.now.0.0.1 (live_state live.now.0)) }
+    ensures refused { IsOkUnless result Refusal.OutOfMemory }
+    ensures unchanged { OnErr result (sessions.new ≡ sessions.old) }
+{
+    let (asker, hello) = Asker::open(alloc, session, live.store(), live.context())?;
+    add(sessions, asker);
+    Ok(hello)
 }
 
 // Puts a session behind the others, for which there is room.

@@ -1,7 +1,8 @@
-ghost use Rattle.std.specs.Prelude.{◌≡◌, ◌<◌, [], ◌∷◌};
+ghost use Rattle.std.specs.Prelude.{◌≡◌, ◌<◌, [], ◌∷◌, IfOk, IsOkUnless};
 ghost use Rattle.std.specs.Vec.{vec_len, vec_capacity};
 
 use crate::outcome::Outcome;
+use dots::Refusal;
 use std::alloc::{Allocator, Global};
 use wire_form::Message;
 
@@ -41,5 +42,14 @@ impl<A: Allocator + Copy> Delivered<A> {
             },
             Err(_) => unreachable!(),
         }
+    }
+    // What is answered with one message. Its only refusal is OutOfMemory.
+    pub(crate) fn alone(alloc: A, reply: Message<A>) -> Result<Delivered<A>, Refusal>
+        ensures outcome { IfOk result (λ told. told.outcome ≡ Outcome.Sent) }
+        ensures replies { IfOk result (λ told. told.replies.items ≡ reply ∷ []) }
+        ensures refused { IsOkUnless result Refusal.OutOfMemory }
+    {
+        let room = Vec::with_capacity(alloc, 1)?;
+        Ok(Delivered::answered(room, reply))
     }
 }

@@ -146,8 +146,8 @@ impl<H: PathHash, A: Allocator + Copy> Replica<H, A> {
         let Some(answer) = self.answerer.ask(self.alloc, session, prefix)? else {
             return Ok(Delivered::silent(self.alloc, Outcome::Ignored));
         };
-        let room = Vec::with_capacity(self.alloc, 1)?;
-        outbox.post(self.alloc, &answer)?;
-        Ok(Delivered::answered(room, answer))
+        let told = Delivered::alone(self.alloc, answer)?;
+        outbox.post_all(self.alloc, &told.replies)?;
+        Ok(told)
     }
 }

@@ -6,7 +6,7 @@ use Rattle.replica_core.specs.Meaning.{ReplicaValue}
 use Rattle.replica_core.proofs.Asks.{told_by, answered_by, is_away, is_here}
 use Rattle.replica_core.proofs.Came.{ask_came, ask_ignored, ignored_came}
 use Rattle.replica_core.proofs.MappedPair.{mapped}
-use Rattle.replica_core.proofs.Posted.{posted_none, posted_one}
+use Rattle.replica_core.proofs.Posted.{posted_none}
 use Rattle.replica_core.proofs.replica.Replica.take_ask.Goals as goal
 
 pub returns-then-ne-clause-ok : goal.returns-then-ne-clause-ok
@@ -29,8 +29,8 @@ pub returns-clause-ok : goal.returns-clause-ok
 returns-clause-ok g c =
     let old : ReplicaValue _ = record { name = c.self.inside.name; live = c.self.inside.live; group = c.self.inside.group; opened = c.self.inside.opened; sessions = c.self.inside.sessions.items; kept = c.self.inside.answerer } in
     let is = mapped c.self.inside.live.0 c.store.result.now c.store.ensures.value c.store.ensures.filled c.store.ensures.canonical in
-    rw (← c.self.view_is) (answered_by g.H.PathHash.hash_of old old (Take (Ask c.args.session c.args.prefix)) c.answered.result.outcome told.Sent c.answered.result.replies.items c.answered.ensures.outcome
-    c.in-Some.answer c.answered.ensures.replies
+    rw (← c.self.view_is) (answered_by g.H.PathHash.hash_of old old (Take (Ask c.args.session c.args.prefix)) c.in_ok-told.told.outcome told.Sent c.in_ok-told.told.replies.items c.in_ok-told.ensures.outcome
+    c.in-Some.answer c.in_ok-told.ensures.replies
     (ask_came g.H.PathHash.hash_of old is c.self.invariant c.args.session c.args.prefix (message_of c.in-Some.answer)
     (is_here c.answerer.result c.args.session.answerer old.name c.answerer.ensures c.ne.result c.ne.ensures c.if-ne.false) (rw c.in-Some.is at c.in_ok-answer.ensures.ok)))
 
@@ -40,7 +40,3 @@ returns-then-ne-clause-posted g c = posted_none g.O.Outbox.gains c.args.outbox.n
 pub returns-in_default-clause-posted : goal.returns-in_default-clause-posted
 returns-in_default-clause-posted g c =
     posted_none g.O.Outbox.gains c.args.outbox.now c.silent-in_default.result.replies.items c.silent-in_default.ensures.replies
-
-pub returns-clause-posted : goal.returns-clause-posted
-returns-clause-posted g c =
-    posted_one g.O.Outbox.gains c.args.outbox.now c.post.new.self c.in-Some.answer c.answered.result.replies.items c.in_ok-post.ensures.ok c.answered.ensures.replies
