@@ -2,13 +2,12 @@
 ghost use Rattle.std.specs.Prelude.{◌<◌};
 
 use crate::forms::has_form;
-use crate::made::{dot, name};
+use crate::made::{Pair, dot, name};
 use causal_context::Context;
-use dots::{Dot, Name, Refusal};
+use dots::{Dot, Name};
 use std::alloc::Global;
 use std::collections::BTreeSet;
 use std::process::Abort;
-use std::test::Fail;
 
 type Plain = BTreeSet<Dot, Global>;
 
@@ -38,26 +37,28 @@ fn plain_known(dots: &Plain, name: Name) -> u64 {
 }
 
 // The names 1 to 3 that have a dot of number 1, with the number up to which all dots are there.
-fn plain_vector(rt: &impl Abort, alloc: Global, dots: &Plain) -> Result<Vec<(u64, u64)>, Refusal> {
+fn plain_vector(rt: &impl Abort, alloc: Global, dots: &Plain) -> Vec<Pair> {
     let mut entries = Vec::new(alloc);
     for of in 1..4 {
         let known = plain_known(dots, name(rt, of));
         if known > 0 {
-            entries.push((of, known))?;
+            entries.push((of, known)).expect(rt, "memory");
         }
     }
-    Ok(entries)
+    entries
 }
 
 // The other dots.
-fn plain_cloud(alloc: Global, dots: &Plain) -> Result<Vec<(u64, u64)>, Refusal> {
+fn plain_cloud(rt: &impl Abort, alloc: Global, dots: &Plain) -> Vec<Pair> {
     let mut apart = Vec::new(alloc);
     for dot in dots {
         if dot.number() > plain_known(dots, dot.name()) {
-            apart.push((dot.name().number(), dot.number()))?;
+            apart
+                .push((dot.name().number(), dot.number()))
+                .expect(rt, "memory");
         }
     }
-    Ok(apart)
+    apart
 }
 
 // Whether both say the same of the first dots of this name, and of what is next.
@@ -70,20 +71,20 @@ fn agree_at(rt: &impl Abort, context: &Context, plain: &Plain, of: u64) -> bool 
     same
 }
 
+// Whether the context has the form that the plain set tells.
+fn is_formed(rt: &impl Abort, alloc: Global, context: &Context, plain: &Plain) -> bool {
+    let vector = plain_vector(rt, alloc, plain);
+    let cloud = plain_cloud(rt, alloc, plain);
+    has_form(rt, alloc, context, &vector, &cloud)
+}
+
 // Whether both have the same dots, in the form that the plain set tells.
-fn agree(
-    rt: &impl Abort,
-    alloc: Global,
-    context: &Context,
-    plain: &Plain,
-) -> Result<bool, Refusal> {
-    let vector = plain_vector(rt, alloc, plain)?;
-    let cloud = plain_cloud(alloc, plain)?;
+fn agree(rt: &impl Abort, alloc: Global, context: &Context, plain: &Plain) -> bool {
     let mut same = context.is_empty() == plain.is_empty();
     for of in 1..4 {
         same = same && agree_at(rt, context, plain, of);
     }
-    Ok(same && has_form(alloc, context, &vector, &cloud)?)
+    same && is_formed(rt, alloc, context, plain)
 }
 
 // A source of numbers that look random: a linear congruential generator.
@@ -117,19 +118,6 @@ impl Draws {
     }
 }
 
-// Adds a dot of the draws to both, and tells whether both then say the same.
-fn add_one(
-    rt: &impl Abort,
-    alloc: Global,
-    both: &mut Both,
-    draws: &mut Draws,
-) -> Result<bool, Refusal> {
-    let dot = draws.dot(rt);
-    both.0.add(dot)?;
-    both.1.insert(dot)?;
-    agree(rt, alloc, &both.0, &both.1)
-}
-
 // Adds this many dots of the draws to both, and tells whether both said the same after each.
 fn add_drawn(
     rt: &impl Abort,
@@ -137,41 +125,36 @@ fn add_drawn(
     both: &mut Both,
     draws: &mut Draws,
     count: u64,
-) -> Result<bool, Refusal> {
+) -> bool {
     let mut same = true;
     for _ in 0..count {
-        same = add_one(rt, alloc, both, draws)? && same;
+        let dot = draws.dot(rt);
+        both.0.add(dot).expect(rt, "memory");
+        both.1.insert(dot).expect(rt, "memory");
+        same = same && agree(rt, alloc, &both.0, &both.1);
     }
-    Ok(same)
+    same
 }
 
-// Whether the contexts include one another as the plain sets do.
-fn include_alike(mine: &Both, yours: &Both) -> bool {
-    mine.0.includes(&yours.0) == yours.1.is_subset(&mine.1)
+// Whether the contexts include one another, and are equal, just as the plain sets.
+fn are_alike(mine: &Both, yours: &Both) -> bool {
+    let include = mine.0.includes(&yours.0) == yours.1.is_subset(&mine.1);
+    let equal = (mine.0 == yours.0) == (mine.1 == yours.1);
+    include && equal
 }
 
-// Whether the contexts are equal just where the plain sets are.
-fn equal_alike(mine: &Both, yours: &Both) -> bool {
-    (mine.0 == yours.0) == (mine.1 == yours.1)
-}
-
-// Adds the dots of the other.
-fn unite(mine: &mut Both, yours: &Both) -> Result<(), Refusal> {
-    mine.0.union(&yours.0)?;
-    mine.1.extend(&yours.1)?;
-    Ok(())
-}
-
-fn is_as_its_copy(alloc: Global, context: &Context) -> Result<bool, Refusal> {
-    Ok(context.copy(alloc)? == *context)
+fn is_as_its_copy(rt: &impl Abort, alloc: Global, context: &Context) -> bool {
+    let copy = context.copy(alloc).expect(rt, "memory");
+    copy == *context
 }
 
 // Whether both of two say the same of one another, of their union and of its copy.
-fn compare(rt: &impl Abort, alloc: Global, mine: &mut Both, yours: &Both) -> Result<bool, Refusal> {
-    let alike = include_alike(mine, yours) && equal_alike(mine, yours);
-    unite(mine, yours)?;
-    let is_copied = is_as_its_copy(alloc, &mine.0)?;
-    Ok(agree(rt, alloc, &mine.0, &mine.1)? && is_copied && alike)
+fn compare(rt: &impl Abort, alloc: Global, mine: &mut Both, yours: &Both) -> bool {
+    let alike = are_alike(mine, yours);
+    mine.0.union(&yours.0).expect(rt, "memory");
+    mine.1.extend(&yours.1).expect(rt, "memory");
+    let is_copied = is_as_its_copy(rt, alloc, &mine.0);
+    agree(rt, alloc, &mine.0, &mine.1) && is_copied && alike
 }
 
 // Whether these two, which are empty, agree with the plain sets after so many draws each, as do they and their union.
@@ -182,29 +165,23 @@ fn agree_both(
     yours: &mut Both,
     draws: &mut Draws,
     round: u64,
-) -> Result<bool, Refusal> {
-    let is_mine = add_drawn(rt, alloc, mine, draws, round.saturating_mul(3))?;
-    let is_yours = add_drawn(rt, alloc, yours, draws, round.saturating_mul(2))?;
-    Ok(compare(rt, alloc, mine, yours)? && is_mine && is_yours)
+) -> bool {
+    let is_mine = add_drawn(rt, alloc, mine, draws, round.saturating_mul(3));
+    let is_yours = add_drawn(rt, alloc, yours, draws, round.saturating_mul(2));
+    compare(rt, alloc, mine, yours) && is_mine && is_yours
 }
 
 // The same of two new ones.
-fn agree_drawn(
-    rt: &impl Abort,
-    alloc: Global,
-    draws: &mut Draws,
-    round: u64,
-) -> Result<bool, Refusal> {
+fn agree_drawn(rt: &impl Abort, alloc: Global, draws: &mut Draws, round: u64) -> bool {
     let mut mine = (Context::new(alloc), BTreeSet::new(alloc));
     let mut yours = (Context::new(alloc), BTreeSet::new(alloc));
     agree_both(rt, alloc, &mut mine, &mut yours, draws, round)
 }
 
 #[test]
-fn random_dots_are_kept_as_an_ordered_set_keeps_them(rt: HostRuntime) -> Result<(), Fail> {
+fn random_dots_are_kept_as_an_ordered_set_keeps_them(rt: HostRuntime) {
     let mut draws = Draws { state: 1 };
     for round in 0..12 {
-        assert!(rt; agree_drawn(&rt, rt.alloc(), &mut draws, round)?);
+        assert!(rt; agree_drawn(&rt, rt.alloc(), &mut draws, round), "{round}");
     }
-    Ok(())
 }

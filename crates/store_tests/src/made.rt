@@ -1,8 +1,11 @@
 use causal_context::Context;
-use dot_store::{DotFun, DotMap, DotSet, DotStore};
-use dots::{Dot, Key, Name, Refusal, Value};
+use dot_store::{DotMap, DotSet, DotStore};
+use dots::{Dot, Key, Name};
 use std::alloc::Global;
 use std::process::Abort;
+
+// The name and the number of a dot, neither of them 0.
+pub type Pair = (u64, u64);
 
 // The name of this number, which is not 0.
 pub fn name(rt: &impl Abort, number: u64) -> Name {
@@ -14,47 +17,31 @@ pub fn dot(rt: &impl Abort, of: u64, number: u64) -> Dot {
     Dot::new(name(rt, of), number).expect(rt, "a number")
 }
 
-pub fn context_of(alloc: Global, dots: &[Dot]) -> Result<Context, Refusal> {
+pub fn context_of(rt: &impl Abort, alloc: Global, dots: &[Pair]) -> Context {
     let mut context = Context::new(alloc);
-    for dot in dots {
-        context.add(*dot)?;
+    for (of, number) in dots {
+        context.add(dot(rt, *of, *number)).expect(rt, "memory");
     }
-    Ok(context)
+    context
 }
 
-pub fn set_of(alloc: Global, dots: &[Dot]) -> Result<DotSet, Refusal> {
+pub fn set_of(rt: &impl Abort, alloc: Global, dots: &[Pair]) -> DotSet {
     let mut set = DotSet::empty(alloc);
-    for dot in dots {
-        set.insert(*dot)?;
+    for (of, number) in dots {
+        set.insert(dot(rt, *of, *number)).expect(rt, "memory");
     }
-    Ok(set)
-}
-
-// The values of these dots.
-pub fn values_of(alloc: Global, values: &[(Dot, &[u8])]) -> Result<DotFun<Value>, Refusal> {
-    let mut held = DotFun::empty(alloc);
-    for (dot, bytes) in values {
-        let value = Value::new(alloc, bytes)?;
-        held.insert(*dot, value)?;
-    }
-    Ok(held)
+    set
 }
 
 // The store under the key.
 pub fn under<S: DotStore<Global>>(
+    rt: &impl Abort,
     alloc: Global,
     key: &[u8],
     store: S,
-) -> Result<DotMap<Key, S>, Refusal> {
-    let key = Key::new(alloc, key)?;
+) -> DotMap<Key, S> {
     let mut map = DotMap::empty(alloc);
-    map.insert(key, store)?;
-    Ok(map)
-}
-
-// The set under the field f of the key k.
-pub fn nested(alloc: Global, dots: &[Dot]) -> Result<DotMap<Key, DotMap<Key, DotSet>>, Refusal> {
-    let set = set_of(alloc, dots)?;
-    let fields = under(alloc, b"f", set)?;
-    under(alloc, b"k", fields)
+    let key = Key::new(alloc, key).expect(rt, "memory");
+    map.insert(key, store).expect(rt, "memory");
+    map
 }

@@ -1,10 +1,9 @@
-use crate::made::{context_of, dot, nested, set_of};
+use crate::made::{Pair, context_of, set_of, under};
 use causal_context::Context;
 use causal_join::Causal;
-use dot_store::{DotMap, DotSet, DotStore};
-use dots::{Dot, Refusal};
+use dot_store::{DotSet, DotStore};
 use std::alloc::Global;
-use std::test::Fail;
+use std::process::Abort;
 
 // Whether the pairs have the same store and the same context.
 fn are_same<S: DotStore<Global>>(one: &Causal<S>, other: &Causal<S>) -> bool {
@@ -13,117 +12,129 @@ fn are_same<S: DotStore<Global>>(one: &Causal<S>, other: &Causal<S>) -> bool {
         && other.context().includes(one.context())
 }
 
-// Whether the join of the two is the third.
-fn joined_is<S: DotStore<Global>>(
+// Whether the join of the two is the second.
+fn join_is<S: DotStore<Global>>(
+    rt: &impl Abort,
     alloc: Global,
     mine: &Causal<S>,
     theirs: &Causal<S>,
-    both: &Causal<S>,
-) -> Result<bool, Refusal> {
-    Ok(are_same(&mine.join(alloc, theirs)?, both))
+) -> bool {
+    let both = mine.join(alloc, theirs).expect(rt, "memory");
+    are_same(&both, theirs)
 }
 
-// Whether a copy of the one is the third once the other is joined into it.
-fn joined_into_is<S: DotStore<Global>>(
+// Whether the first becomes the second once that is joined into it.
+fn join_into_is<S: DotStore<Global>>(
+    rt: &impl Abort,
     alloc: Global,
     mine: &Causal<S>,
     theirs: &Causal<S>,
-    both: &Causal<S>,
-) -> Result<bool, Refusal> {
-    let mut copy = mine.copy(alloc)?;
-    copy.join_into(alloc, theirs)?;
-    Ok(are_same(&copy, both))
+) -> bool {
+    let mut copy = mine.copy(alloc).expect(rt, "memory");
+    copy.join_into(alloc, theirs).expect(rt, "memory");
+    are_same(&copy, theirs)
 }
 
-// Whether both joins of the two give the third, which only the first of them is below.
-fn joins_to<S: DotStore<Global>>(
+// Whether the first is below the other.
+fn is_below<S: DotStore<Global>>(
+    rt: &impl Abort,
     alloc: Global,
-    mine: &Causal<S>,
-    theirs: &Causal<S>,
-    both: &Causal<S>,
-) -> Result<bool, Refusal> {
-    let is_below = mine.is_below(alloc, both)? && !both.is_below(alloc, mine)?;
-    Ok(
-        is_below
-            && joined_is(alloc, mine, theirs, both)?
-            && joined_into_is(alloc, mine, theirs, both)?,
-    )
+    one: &Causal<S>,
+    other: &Causal<S>,
+) -> bool {
+    one.is_below(alloc, other).expect(rt, "memory")
 }
 
 // The pair of the store and the context of these dots.
-fn pair<S: DotStore<Global>>(alloc: Global, store: S, known: &[Dot]) -> Result<Causal<S>, Fail> {
-    let pair = Causal::from_parts(store, context_of(alloc, known)?);
-    Ok(pair.ok_or("outside")?)
+fn pair<S: DotStore<Global>>(
+    rt: &impl Abort,
+    alloc: Global,
+    store: S,
+    known: &[Pair],
+) -> Causal<S> {
+    let known = context_of(rt, alloc, known);
+    Causal::from_parts(store, known).expect(rt, "inside")
 }
 
-// Whether the join of the two is the second pair, and more than the first.
+// Whether both joins of the two give the second, which is more than the first.
 fn is_more<S: DotStore<Global>>(
+    rt: &impl Abort,
     alloc: Global,
     mine: &Causal<S>,
     theirs: &Causal<S>,
-) -> Result<bool, Fail> {
-    Ok(joins_to(alloc, mine, theirs, theirs)?)
+) -> bool {
+    let is_joined = join_is(rt, alloc, mine, theirs);
+    let is_joined_into = join_into_is(rt, alloc, mine, theirs);
+    let is_less = is_below(rt, alloc, mine, theirs);
+    let is_same = is_below(rt, alloc, theirs, mine);
+    is_joined && is_joined_into && is_less && !is_same
 }
 
-// Whether the join of the pairs of these stores and contexts is the second pair, and more than the first.
+// The same of the pairs of these stores and contexts.
 fn join_to_theirs<S: DotStore<Global>>(
+    rt: &impl Abort,
     alloc: Global,
     mine: S,
-    my_dots: &[Dot],
+    my_dots: &[Pair],
     theirs: S,
-    their_dots: &[Dot],
-) -> Result<bool, Fail> {
-    let mine = pair(alloc, mine, my_dots)?;
-    let theirs = pair(alloc, theirs, their_dots)?;
-    is_more(alloc, &mine, &theirs)
-}
-
-// Whether the join of the sets of these dots is the second, which knows these.
-fn sets_join(
-    alloc: Global,
-    mine: &[Dot],
-    theirs: &[Dot],
-    their_dots: &[Dot],
-) -> Result<bool, Fail> {
-    let my_set = set_of(alloc, mine)?;
-    let their_set = set_of(alloc, theirs)?;
-    join_to_theirs(alloc, my_set, mine, their_set, their_dots)
+    their_dots: &[Pair],
+) -> bool {
+    let mine = pair(rt, alloc, mine, my_dots);
+    let theirs = pair(rt, alloc, theirs, their_dots);
+    is_more(rt, alloc, &mine, &theirs)
 }
 
 #[test]
-fn a_removed_dot_stays_removed_in_the_join(rt: HostRuntime) -> Result<(), Fail> {
-    let alloc = rt.alloc();
-    let (a, b, c) = (dot(&rt, 1, 1), dot(&rt, 1, 2), dot(&rt, 2, 1));
-    assert!(rt; sets_join(alloc, &[a, b], &[b, c], &[a, b, c])?);
-    Ok(())
+fn a_removed_dot_stays_removed_in_the_join(rt: HostRuntime) {
+    let (alloc, my_dots) = (rt.alloc(), [(1, 1), (1, 2)]);
+    let mine = set_of(&rt, alloc, &my_dots);
+    let theirs = set_of(&rt, alloc, &[(1, 2), (2, 1)]);
+    let known = [(1, 1), (1, 2), (2, 1)];
+    assert!(rt; join_to_theirs(&rt, alloc, mine, &my_dots, theirs, &known));
 }
 
-// Whether the dot under two keys goes where the other side knows it.
-fn goes_from_two_keys(alloc: Global, known: Dot) -> Result<bool, Fail> {
-    let mine = nested(alloc, &[known])?;
-    join_to_theirs(alloc, mine, &[known], DotMap::empty(alloc), &[known])
+// Whether a store of the dot 1:1 goes where the other side knows it.
+fn goes<S: DotStore<Global>>(rt: &impl Abort, alloc: Global, store: S) -> bool {
+    let empty = S::empty(alloc);
+    join_to_theirs(rt, alloc, store, &[(1, 1)], empty, &[(1, 1)])
+}
+
+// The same of it under the key k. It is a function of its own, as one over two levels of keys is dear to prove.
+fn goes_from_k<S: DotStore<Global>>(rt: &impl Abort, alloc: Global, store: S) -> bool {
+    let keys = under(rt, alloc, b"k", store);
+    goes(rt, alloc, keys)
+}
+
+// The same of the set under the field f there.
+fn goes_from_f_of_k<S: DotStore<Global>>(rt: &impl Abort, alloc: Global, store: S) -> bool {
+    let fields = under(rt, alloc, b"f", store);
+    goes_from_k(rt, alloc, fields)
 }
 
 #[test]
-fn a_dot_removed_under_two_keys_leaves_no_key(rt: HostRuntime) -> Result<(), Fail> {
-    assert!(rt; goes_from_two_keys(rt.alloc(), dot(&rt, 1, 1))?);
-    Ok(())
+fn a_dot_removed_under_two_keys_leaves_no_key(rt: HostRuntime) {
+    let set = set_of(&rt, rt.alloc(), &[(1, 1)]);
+    assert!(rt; goes_from_f_of_k(&rt, rt.alloc(), set));
 }
 
-// Whether the set of the dot and the context of none make no pair.
-fn is_no_pair(alloc: Global, outside: Dot) -> Result<bool, Refusal> {
-    let store = set_of(alloc, &[outside])?;
-    Ok(Causal::from_parts(store, Context::new(alloc)).is_none())
+// Whether the store and the context of no dots make a pair.
+fn is_pair<S: DotStore<Global>>(alloc: Global, store: S) -> bool {
+    Causal::from_parts(store, Context::new(alloc)).is_some()
 }
 
 #[test]
-fn a_dot_outside_the_context_makes_no_pair(rt: HostRuntime) -> Result<(), Fail> {
-    assert!(rt; is_no_pair(rt.alloc(), dot(&rt, 1, 1))?);
-    Ok(())
+fn a_dot_outside_the_context_makes_no_pair(rt: HostRuntime) {
+    let set = set_of(&rt, rt.alloc(), &[(1, 1)]);
+    assert!(rt; !is_pair(rt.alloc(), set));
+}
+
+// Whether nothing stands in the least pair.
+fn is_bottom_empty<S: DotStore<Global>>(alloc: Global) -> bool {
+    let bottom: Causal<S> = Causal::bottom(alloc);
+    bottom.store().is_empty()
 }
 
 #[test]
 fn nothing_stands_at_the_bottom(rt: HostRuntime) {
-    let bottom: Causal<DotSet> = Causal::bottom(rt.alloc());
-    assert!(rt; bottom.store().is_empty());
+    assert!(rt; is_bottom_empty::<DotSet>(rt.alloc()));
 }

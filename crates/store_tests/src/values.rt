@@ -1,89 +1,76 @@
 // The plain values.
-use crate::made::dot;
+use crate::made::{dot, name};
 use dots::{Dot, Field, FieldKind, Key, KeyKind, Name, Refusal, Text, ValueKind};
 use std::alloc::Global;
+use std::fmt::Display;
 use std::mem::size_of;
-use std::test::Fail;
+use std::process::Abort;
 
-// This many zero bytes.
-fn zeros(alloc: Global, count: usize) -> Result<Vec<u8>, Refusal> {
+// So many of this byte.
+fn many(rt: &impl Abort, alloc: Global, byte: u8, count: usize) -> Vec<u8> {
     let mut bytes = Vec::new(alloc);
-    bytes.resize(count, 0)?;
-    Ok(bytes)
+    bytes.resize(count, byte).expect(rt, "memory");
+    bytes
 }
 
-// Whether the text of these bytes, and its copy, give them back.
-fn is_held<K>(alloc: Global, bytes: &[u8]) -> Result<bool, Refusal> {
-    let text: Text<K> = Text::new(alloc, bytes)?;
-    let copy = text.copy(alloc)?;
-    Ok(text.bytes() == bytes && copy.bytes() == bytes)
+// Whether the text of these bytes, and its copy, give them back, and the two are equal.
+fn is_held<K>(rt: &impl Abort, alloc: Global, bytes: &[u8]) -> bool {
+    let text: Text<K> = Text::new(alloc, bytes).expect(rt, "memory");
+    let copy = text.copy(alloc).expect(rt, "memory");
+    let (is_whole, is_copied) = (text.bytes() == bytes, copy.bytes() == bytes);
+    let is_equal = text == copy;
+    is_whole && is_copied && is_equal
 }
 
 #[test]
-fn a_text_and_its_copy_hold_what_came_in(rt: HostRuntime) -> Result<(), Fail> {
-    let alloc = rt.alloc();
+fn a_text_and_its_copy_hold_what_came_in(rt: HostRuntime) {
     let past_the_place = b"twenty-three bytes long";
-    assert!(rt; is_held::<KeyKind>(alloc, b"")?);
-    assert!(rt; is_held::<KeyKind>(alloc, b"milk")?);
-    assert!(rt; is_held::<ValueKind>(alloc, &past_the_place[..22])?);
-    assert!(rt; is_held::<ValueKind>(alloc, past_the_place)?);
+    for bytes in [
+        b"".as_slice(),
+        b"milk",
+        &past_the_place[..22],
+        past_the_place,
+    ] {
+        assert!(rt; is_held::<KeyKind>(&rt, rt.alloc(), bytes), "{bytes:?}");
+        assert!(rt; is_held::<ValueKind>(&rt, rt.alloc(), bytes), "{bytes:?}");
+    }
     assert!(rt; past_the_place.len() == 23 && size_of::<Key>() == 24);
-    Ok(())
 }
 
 // Whether the text of the one comes before that of the other.
-fn is_before(alloc: Global, one: &[u8], other: &[u8]) -> Result<bool, Refusal> {
-    let first = Field::new(alloc, one)?;
-    let second = Field::new(alloc, other)?;
-    Ok(first < second)
-}
-
-// Whether the text of these bytes equals its copy.
-fn is_as_its_copy(alloc: Global, bytes: &[u8]) -> Result<bool, Refusal> {
-    let text = Field::new(alloc, bytes)?;
-    let copy = text.copy(alloc)?;
-    Ok(text == copy)
+fn is_before(rt: &impl Abort, alloc: Global, one: &[u8], other: &[u8]) -> bool {
+    let first = Field::new(alloc, one).expect(rt, "memory");
+    let second = Field::new(alloc, other).expect(rt, "memory");
+    first < second
 }
 
 #[test]
-fn a_text_comes_before_those_that_it_begins(rt: HostRuntime) -> Result<(), Fail> {
-    let (alloc, long) = (rt.alloc(), b"twenty-two bytes long..");
-    assert!(rt; is_before(alloc, &long[..22], long)?);
-    assert!(rt; is_before(alloc, long, b"u")?);
-    assert!(rt; is_as_its_copy(alloc, &long[..22])?);
-    Ok(())
+fn a_text_comes_before_those_that_it_begins(rt: HostRuntime) {
+    let long = b"twenty-two bytes long..";
+    assert!(rt; is_before(&rt, rt.alloc(), &long[..22], long));
+    assert!(rt; is_before(&rt, rt.alloc(), long, b"u"));
 }
 
-// Whether a text of this many bytes is refused as too long.
-fn is_too_long<K>(alloc: Global, count: usize) -> Result<bool, Refusal> {
-    let bytes = zeros(alloc, count)?;
-    let text: Result<Text<K>, Refusal> = Text::new(alloc, &bytes);
-    Ok(text.err() == Some(Refusal::TooLong))
-}
-
-// How long the text of this many zero bytes is.
-fn length_of_zeros(alloc: Global, count: usize) -> Result<usize, Refusal> {
-    let bytes = zeros(alloc, count)?;
-    let text = Field::new(alloc, &bytes)?;
+// How long the text of this many zero bytes is, if there is one.
+fn length_of_zeros<K>(rt: &impl Abort, alloc: Global, count: usize) -> Result<usize, Refusal> {
+    let bytes = many(rt, alloc, 0, count);
+    let text: Text<K> = Text::new(alloc, &bytes)?;
     Ok(text.bytes().len())
 }
 
 #[test]
-fn texts_end_at_65535_bytes(rt: HostRuntime) -> Result<(), Fail> {
+fn texts_end_at_65535_bytes(rt: HostRuntime) {
     let alloc = rt.alloc();
-    assert!(rt; length_of_zeros(alloc, 65535)? == 65535);
-    assert!(rt; is_too_long::<FieldKind>(alloc, 65536)?);
-    assert!(rt; is_too_long::<KeyKind>(alloc, 65536)?);
-    assert!(rt; is_too_long::<ValueKind>(alloc, 65536)?);
-    Ok(())
+    assert!(rt; length_of_zeros::<FieldKind>(&rt, alloc, 65535) == Ok(65535));
+    assert!(rt; length_of_zeros::<FieldKind>(&rt, alloc, 65536) == Err(Refusal::TooLong));
+    assert!(rt; length_of_zeros::<KeyKind>(&rt, alloc, 65536) == Err(Refusal::TooLong));
+    assert!(rt; length_of_zeros::<ValueKind>(&rt, alloc, 65536) == Err(Refusal::TooLong));
 }
 
 #[test]
-fn names_and_numbers_begin_at_one(rt: HostRuntime) -> Result<(), Fail> {
-    let first = Name::new(1).ok_or("a name")?;
+fn names_and_numbers_begin_at_one(rt: HostRuntime) {
     assert!(rt; Name::new(0).is_none());
-    assert!(rt; Dot::new(first, 0).is_none());
-    Ok(())
+    assert!(rt; Dot::new(name(&rt, 1), 0).is_none());
 }
 
 #[test]
@@ -95,98 +82,105 @@ fn dots_go_by_name_and_then_by_number(rt: HostRuntime) {
     assert!(rt; early < late);
 }
 
-// Whether a refusal is written as its name.
-fn is_written(alloc: Global) -> Result<bool, Fail> {
-    let written = format!(in alloc; "{}", Refusal::NotAMessage)?;
-    Ok(written.as_str() == "NotAMessage")
+// Whether the value is printed so.
+fn is_printed<T: Display>(rt: &impl Abort, alloc: Global, value: &T, wanted: &str) -> bool {
+    let text = format!(in alloc; "{value}").expect(rt, "memory");
+    text.as_str() == wanted
 }
 
 #[test]
-fn a_refusal_is_written_as_its_name(rt: HostRuntime) -> Result<(), Fail> {
+fn a_refusal_is_written_as_its_name(rt: HostRuntime) {
     assert!(rt; Refusal::OutOfMemory.number() == 1);
     assert!(rt; Refusal::Output.number() == 13);
     assert!(rt; Refusal::NumbersSpent.word() == "NumbersSpent");
-    assert!(rt; is_written(rt.alloc())?);
-    Ok(())
+    assert!(rt; is_printed(&rt, rt.alloc(), &Refusal::NotAMessage, "NotAMessage"));
 }
 
 // Whether the text of these bytes is printed so.
-fn is_printed(alloc: Global, bytes: &[u8], printed: &str) -> Result<bool, Refusal> {
-    let text = Field::new(alloc, bytes)?;
-    Ok(format!(in alloc; "{text}")?.as_str() == printed)
+fn is_text_printed(rt: &impl Abort, alloc: Global, bytes: &[u8], wanted: &str) -> bool {
+    let text = Field::new(alloc, bytes).expect(rt, "memory");
+    is_printed(rt, alloc, &text, wanted)
+}
+
+// Bytes, and how their text is printed.
+const PRINTED: &[(&[u8], &str)] = &[
+    (b"milk#2", "milk#2"),
+    (b"!~", "!~"),
+    (b"", "#"),
+    (b"#1", "#2331"),
+    (b"a b", "#612062"),
+    (&[0, 10, 127, 255], "#000a7fff"),
+];
+
+#[test]
+fn a_text_is_printed_as_itself_or_by_its_bytes(rt: HostRuntime) {
+    for (bytes, wanted) in PRINTED {
+        assert!(rt; is_text_printed(&rt, rt.alloc(), bytes, wanted), "{wanted}");
+    }
+}
+
+// The text of so many of this byte, as it is printed.
+fn printed(rt: &impl Abort, alloc: Global, byte: u8, count: usize) -> String {
+    let bytes = many(rt, alloc, byte, count);
+    let text = Field::new(alloc, &bytes).expect(rt, "memory");
+    format!(in alloc; "{text}").expect(rt, "memory")
+}
+
+// Whether a text of so many letters is printed as itself.
+fn is_printed_whole(rt: &impl Abort, alloc: Global, count: usize) -> bool {
+    let bytes = many(rt, alloc, b'x', count);
+    let text = printed(rt, alloc, b'x', count);
+    text.as_str().as_bytes() == bytes.as_slice()
+}
+
+// How long a text of so many zero bytes is printed.
+fn printed_length(rt: &impl Abort, alloc: Global, count: usize) -> usize {
+    let text = printed(rt, alloc, 0, count);
+    text.len()
 }
 
 #[test]
-fn a_text_is_printed_as_itself_or_by_its_bytes(rt: HostRuntime) -> Result<(), Fail> {
-    let alloc = rt.alloc();
-    assert!(rt; is_printed(alloc, b"milk#2", "milk#2")?);
-    assert!(rt; is_printed(alloc, b"!~", "!~")?);
-    assert!(rt; is_printed(alloc, b"", "#")?);
-    assert!(rt; is_printed(alloc, b"#1", "#2331")?);
-    assert!(rt; is_printed(alloc, b"a b", "#612062")?);
-    assert!(rt; is_printed(alloc, &[0, 10, 127, 255], "#000a7fff")?);
-    Ok(())
-}
-
-// Whether a text of so many of this byte is printed as itself, or else by their digits.
-fn is_printed_whole(
-    alloc: Global,
-    byte: u8,
-    count: usize,
-    is_plain: bool,
-) -> Result<bool, Refusal> {
-    let mut bytes = Vec::new(alloc);
-    bytes.resize(count, byte)?;
-    let text = Field::new(alloc, &bytes)?;
-    let printed = format!(in alloc; "{text}")?;
-    if is_plain {
-        return Ok(printed.as_str().as_bytes() == bytes.as_slice());
+fn long_texts_are_printed_whole(rt: HostRuntime) {
+    for (count, digits) in [(7, 15), (22, 45), (23, 47), (300, 601)] {
+        assert!(rt; is_printed_whole(&rt, rt.alloc(), count), "{count}");
+        assert!(rt; printed_length(&rt, rt.alloc(), count) == digits, "{count}");
     }
-    Ok(printed.len() == 1 + 2 * count)
-}
-
-#[test]
-fn long_texts_are_printed_whole(rt: HostRuntime) -> Result<(), Fail> {
-    let alloc = rt.alloc();
-    for count in [7, 22, 23, 300] {
-        assert!(rt; is_printed_whole(alloc, b'x', count, true)?);
-        assert!(rt; is_printed_whole(alloc, 0, count, false)?);
-    }
-    Ok(())
 }
 
 // Whether a text is shown for debugging as the list of its bytes.
-fn is_shown_by_bytes(alloc: Global) -> Result<bool, Refusal> {
-    let text = Field::new(alloc, b"ab")?;
-    Ok(format!(in alloc; "{text:?}")?.as_str() == "[97, 98]")
+fn is_shown_by_bytes(rt: &impl Abort, alloc: Global) -> bool {
+    let text = Field::new(alloc, b"ab").expect(rt, "memory");
+    let shown = format!(in alloc; "{text:?}").expect(rt, "memory");
+    shown.as_str() == "[97, 98]"
 }
 
 #[test]
-fn a_text_is_shown_for_debugging_by_its_bytes(rt: HostRuntime) -> Result<(), Fail> {
-    assert!(rt; is_shown_by_bytes(rt.alloc())?);
-    Ok(())
+fn a_text_is_shown_for_debugging_by_its_bytes(rt: HostRuntime) {
+    assert!(rt; is_shown_by_bytes(&rt, rt.alloc()));
 }
 
-// Whether the dot and its name are printed so.
-fn is_shown(alloc: Global, dot: Dot, shown: &str, name_shown: &str) -> Result<bool, Refusal> {
-    let name = dot.name();
-    let (text, name_text) = (format!(in alloc; "{dot}")?, format!(in alloc; "{name}")?);
-    Ok(text.as_str() == shown && name_text.as_str() == name_shown)
-}
+// A name and a number, and how their dot and the name are printed.
+const SHOWN: &[(u64, u64, &str, &str)] = &[
+    (2, 17, "2:17", "2"),
+    (10, 1_234_567, "10:1234567", "10"),
+    (
+        u64::MAX,
+        u64::MAX,
+        "18446744073709551615:18446744073709551615",
+        "18446744073709551615",
+    ),
+];
 
 #[test]
-fn a_dot_is_printed_as_its_name_and_its_number(rt: HostRuntime) -> Result<(), Fail> {
-    let alloc = rt.alloc();
-    assert!(rt; is_shown(alloc, dot(&rt, 2, 17), "2:17", "2")?);
-    assert!(rt; is_shown(alloc, dot(&rt, 10, 1_234_567), "10:1234567", "10")?);
-    let last = "18446744073709551615:18446744073709551615";
-    assert!(rt;
-        is_shown(
-            alloc,
-            dot(&rt, u64::MAX, u64::MAX),
-            last,
-            "18446744073709551615"
-        )?
-    );
-    Ok(())
+fn a_dot_is_printed_as_its_name_and_its_number(rt: HostRuntime) {
+    for (of, number, shown, name_shown) in SHOWN {
+        assert!(rt;
+            is_printed(&rt, rt.alloc(), &dot(&rt, *of, *number), shown),
+            "{shown}"
+        );
+        assert!(rt;
+            is_printed(&rt, rt.alloc(), &name(&rt, *of), name_shown),
+            "{shown}"
+        );
+    }
 }
