@@ -4,13 +4,12 @@ use crate::tests::{
     is_spelled, is_there, is_whole_alone, known, session,
 };
 use dot_store::DotFun;
-use dots::{Field, Key, Refusal, Value};
+use dots::{Field, Key, Value};
 use hash_path::Prefix;
 use ordered_list::OrderedList;
 use std::alloc::Global;
 use std::process::Abort;
-use std::test::Fail;
-use wire_form::{Message, NamedFields, Names, Page};
+use wire_form::{Message, NamedFields, Page};
 
 // The opening of asker 1, answerer 2 and number 1, whose answerer knows the dot 1:1 and holds no key.
 const OPENING: [u8; 59] = [
@@ -95,39 +94,54 @@ fn prefix(rt: &impl Abort, indices: &[u32]) -> Prefix {
     prefix
 }
 
-// The name of w under the dot 2:2.
-fn name_of_w(rt: &impl Abort, alloc: Global) -> Result<Names, Refusal> {
-    let mut names = DotFun::from_entries(Vec::new(alloc)).expect(rt, "in order");
-    names.insert(dot(rt, 2, 2), NAME_OF_W)?;
-    Ok(names)
-}
-
-// The empty field with these names.
-fn at_empty_field(alloc: Global, names: Names) -> Result<NamedFields, Refusal> {
-    let mut fields = OrderedList::new(alloc);
-    fields.insert(Field::empty(), names)?;
-    Ok(fields)
-}
-
 // The page of the key b with these fields.
-fn page_of_b(alloc: Global, fields: NamedFields) -> Result<Page, Refusal> {
-    let key = Key::new(alloc, b"b")?;
-    Ok(Page::OneKey(key, fields))
+fn page_of_b(rt: &impl Abort, alloc: Global, fields: NamedFields) -> Page {
+    let key = Key::new(alloc, b"b").expect(rt, "memory");
+    Page::OneKey(key, fields)
 }
 
-// The page of the key b with w under the dot 2:2.
-fn page_of_w(rt: &impl Abort, alloc: Global) -> Result<Page, Refusal> {
-    let names = name_of_w(rt, alloc)?;
-    let fields = at_empty_field(alloc, names)?;
-    page_of_b(alloc, fields)
+// The page of the key b with w under the dot 2:2, at the empty field.
+fn page_of_w(rt: &impl Abort, alloc: Global) -> Page {
+    let mut names = DotFun::from_entries(Vec::new(alloc)).expect(rt, "in order");
+    names.insert(dot(rt, 2, 2), NAME_OF_W).expect(rt, "memory");
+    let mut fields = OrderedList::new(alloc);
+    fields.insert(Field::empty(), names).expect(rt, "memory");
+    page_of_b(rt, alloc, fields)
 }
 
-// The value w alone.
-fn only_w(alloc: Global) -> Result<Vec<Value>, Refusal> {
-    let value = Value::new(alloc, b"w")?;
+// The branch of the children 14 and 15 with these digests.
+fn branch(rt: &impl Abort, alloc: Global, first: [u8; 32], second: [u8; 32]) -> Page {
+    let mut children = Vec::new(alloc);
+    children.push((14, first)).expect(rt, "memory");
+    children.push((15, second)).expect(rt, "memory");
+    Page::Branch(children)
+}
+
+// The values of one byte each.
+fn values_of(rt: &impl Abort, alloc: Global, bytes: &[u8]) -> Vec<Value> {
     let mut values = Vec::new(alloc);
-    values.push(value)?;
-    Ok(values)
+    for byte in bytes {
+        let value = Value::new(alloc, &[*byte]).expect(rt, "memory");
+        values.push(value).expect(rt, "memory");
+    }
+    values
+}
+
+// The message of this page at these indices with these values, if there is one.
+fn page_message(
+    rt: &impl Abort,
+    alloc: Global,
+    indices: &[u32],
+    values: &[u8],
+    page: Page,
+) -> Option<Message> {
+    let values = values_of(rt, alloc, values);
+    Message::page(session(rt, 1, 2, 1), prefix(rt, indices), values, page)
+}
+
+// Whether there is this message, it belongs to the session and has these bytes.
+fn is_of_session(rt: &impl Abort, alloc: Global, made: Option<Message>, bytes: &[u8]) -> bool {
+    is_sent(rt, alloc, made, Some(session(rt, 1, 2, 1)), bytes)
 }
 
 // Whether the opening that tells these dots and this digest has these bytes.
@@ -137,425 +151,331 @@ fn opens(
     dots: &[(u64, u64)],
     root: Option<[u8; 32]>,
     bytes: &[u8],
-) -> Result<bool, Refusal> {
-    let session = session(rt, 1, 2, 1);
-    let context = known(rt, alloc, dots)?;
-    is_sent(
-        alloc,
-        Some(Message::opening(session, context, root)),
-        Some(session),
-        bytes,
-    )
+) -> bool {
+    let context = known(rt, alloc, dots);
+    let opening = Message::opening(session(rt, 1, 2, 1), context, root);
+    is_of_session(rt, alloc, Some(opening), bytes)
 }
 
-// The digest that these bytes begin with. BadLine stands for too few bytes.
-fn digest_at(bytes: &[u8]) -> Result<[u8; 32], Refusal> {
-    let digest = bytes.first_chunk::<32>().ok_or(Refusal::BadLine)?;
-    Ok(*digest)
-}
-
-// Whether the opening with a root digest has its bytes.
-fn opens_with_root(rt: &impl Abort, alloc: Global) -> Result<bool, Refusal> {
-    let root = digest_at(&OPENING_WITH_ROOT[59..])?;
-    opens(rt, alloc, &[(2, 1), (2, 2)], Some(root), &OPENING_WITH_ROOT)
+// The digest that these bytes begin with.
+fn digest_at(rt: &impl Abort, bytes: &[u8]) -> [u8; 32] {
+    *bytes.first_chunk::<32>().expect(rt, "a digest")
 }
 
 #[test]
-fn openings_have_these_bytes(rt: HostRuntime) -> Result<(), Fail> {
-    assert!(rt; opens(&rt, rt.alloc(), &[(1, 1)], None, &OPENING)?);
-    assert!(rt; opens_with_root(&rt, rt.alloc())?);
-    Ok(())
+fn openings_have_these_bytes(rt: HostRuntime) {
+    let root = digest_at(&rt, &OPENING_WITH_ROOT[59..]);
+    assert!(rt; opens(&rt, rt.alloc(), &[(1, 1)], None, &OPENING));
+    assert!(rt;
+        opens(
+            &rt,
+            rt.alloc(),
+            &[(2, 1), (2, 2)],
+            Some(root),
+            &OPENING_WITH_ROOT
+        )
+    );
 }
 
 // Whether the ask for the page at these indices has these bytes.
-fn asks_at(rt: &impl Abort, alloc: Global, indices: &[u32], bytes: &[u8]) -> Result<bool, Refusal> {
-    let session = session(rt, 1, 2, 1);
-    is_sent(
-        alloc,
-        Some(Message::ask(session, prefix(rt, indices))),
-        Some(session),
-        bytes,
-    )
-}
-
-// Whether the message that the session is gone has its bytes.
-fn is_gone(rt: &impl Abort, alloc: Global) -> Result<bool, Refusal> {
-    let session = session(rt, 1, 2, 1);
-    is_sent(alloc, Some(Message::gone(session)), Some(session), &GONE)
+fn asks_at(rt: &impl Abort, alloc: Global, indices: &[u32], bytes: &[u8]) -> bool {
+    let ask = Message::ask(session(rt, 1, 2, 1), prefix(rt, indices));
+    is_of_session(rt, alloc, Some(ask), bytes)
 }
 
 #[test]
-fn asks_and_the_message_of_a_session_that_is_gone_have_these_bytes(
-    rt: HostRuntime,
-) -> Result<(), Fail> {
+fn asks_and_the_message_of_a_session_that_is_gone_have_these_bytes(rt: HostRuntime) {
     let alloc = rt.alloc();
-    assert!(rt; asks_at(&rt, alloc, &[], &ASK_ROOT)?);
-    assert!(rt; asks_at(&rt, alloc, &[5, 15], &ASK)?);
-    assert!(rt; is_gone(&rt, alloc)?);
-    Ok(())
-}
-
-// The message of this page at these indices with the value w, if there is one.
-fn with_w(
-    rt: &impl Abort,
-    alloc: Global,
-    indices: &[u32],
-    page: Page,
-) -> Result<Option<Message>, Refusal> {
-    let values = only_w(alloc)?;
-    Ok(Message::page(session(rt, 1, 2, 1), prefix(rt, indices), values, page))
-}
-
-// Whether the page of b at 5, 15 is made with the value w, has its bytes and belongs to the session.
-fn sends_b(rt: &impl Abort, alloc: Global) -> Result<bool, Refusal> {
-    let session = session(rt, 1, 2, 1);
-    let page = page_of_w(rt, alloc)?;
-    is_sent(
-        alloc,
-        with_w(rt, alloc, &[5, 15], page)?,
-        Some(session),
-        &KEY,
-    )
-}
-
-// The branch of the children 14 and 15 with these digests.
-fn branch(alloc: Global, first: [u8; 32], second: [u8; 32]) -> Result<Page, Refusal> {
-    let mut children = Vec::new(alloc);
-    children.push((14, first))?;
-    children.push((15, second))?;
-    Ok(Page::Branch(children))
-}
-
-// Whether the branch of these digests is sent at 5 with its bytes.
-fn sends_branch(
-    rt: &impl Abort,
-    alloc: Global,
-    first: [u8; 32],
-    second: [u8; 32],
-) -> Result<bool, Refusal> {
-    let session = session(rt, 1, 2, 1);
-    let at = prefix(rt, &[5]);
-    let page = branch(alloc, first, second)?;
-    is_sent(
-        alloc,
-        Message::page(session, at, Vec::new(alloc), page),
-        Some(session),
-        &BRANCH,
-    )
-}
-
-// Whether the page of its two children has its bytes.
-fn sends_two(rt: &impl Abort, alloc: Global) -> Result<bool, Refusal> {
-    let first = digest_at(&BRANCH[38..])?;
-    let second = digest_at(&BRANCH[71..])?;
-    sends_branch(rt, alloc, first, second)
+    assert!(rt; asks_at(&rt, alloc, &[], &ASK_ROOT));
+    assert!(rt; asks_at(&rt, alloc, &[5, 15], &ASK));
+    let gone = Message::gone(session(&rt, 1, 2, 1));
+    assert!(rt; is_of_session(&rt, alloc, Some(gone), &GONE));
 }
 
 #[test]
-fn pages_have_these_bytes(rt: HostRuntime) -> Result<(), Fail> {
-    assert!(rt; sends_b(&rt, rt.alloc())?);
-    assert!(rt; sends_two(&rt, rt.alloc())?);
-    Ok(())
+fn pages_have_these_bytes(rt: HostRuntime) {
+    let alloc = rt.alloc();
+    let of_b = page_message(&rt, alloc, &[5, 15], b"w", page_of_w(&rt, alloc));
+    assert!(rt; is_of_session(&rt, alloc, of_b, &KEY));
+    let (first, second) = (digest_at(&rt, &BRANCH[38..]), digest_at(&rt, &BRANCH[71..]));
+    let of_two = page_message(&rt, alloc, &[5], b"", branch(&rt, alloc, first, second));
+    assert!(rt; is_of_session(&rt, alloc, of_two, &BRANCH));
 }
 
 // Whether a message is made of this page at the root with the value w.
-fn is_made(rt: &impl Abort, alloc: Global, page: Page) -> Result<bool, Refusal> {
-    Ok(is_there(with_w(rt, alloc, &[], page)?))
+fn is_made(rt: &impl Abort, alloc: Global, page: Page) -> bool {
+    is_there(page_message(rt, alloc, &[], b"w", page))
 }
 
-// Whether one is made of the page of b.
-fn is_made_of_b(rt: &impl Abort, alloc: Global) -> Result<bool, Refusal> {
-    let page = page_of_w(rt, alloc)?;
-    is_made(rt, alloc, page)
-}
-
-// Whether one is made of b with no field.
-fn is_made_of_no_field(rt: &impl Abort, alloc: Global) -> Result<bool, Refusal> {
-    let page = page_of_b(alloc, OrderedList::new(alloc))?;
-    is_made(rt, alloc, page)
-}
-
-// Whether one is made of a branch, which goes with no value.
-fn is_made_of_branch(rt: &impl Abort, alloc: Global) -> Result<bool, Refusal> {
-    let page = branch(alloc, [0; 32], [0; 32])?;
-    is_made(rt, alloc, page)
-}
-
+// A branch goes with no value, and a page has a key, and a key a field.
 #[test]
-fn a_page_that_cannot_stand_there_makes_no_message(rt: HostRuntime) -> Result<(), Fail> {
+fn a_page_that_cannot_stand_there_makes_no_message(rt: HostRuntime) {
     let alloc = rt.alloc();
-    assert!(rt; is_made_of_b(&rt, alloc)?);
-    assert!(rt; !is_made_of_branch(&rt, alloc)?);
-    assert!(rt; !is_made(&rt, alloc, Page::Keys(Vec::new(alloc)))?);
-    assert!(rt; !is_made_of_no_field(&rt, alloc)?);
-    Ok(())
+    let of_b = page_of_w(&rt, alloc);
+    assert!(rt; is_made(&rt, alloc, of_b));
+    let of_two = branch(&rt, alloc, [0; 32], [0; 32]);
+    assert!(rt; !is_made(&rt, alloc, of_two));
+    assert!(rt; !is_made(&rt, alloc, Page::Keys(Vec::new(alloc))));
+    let of_no_field = page_of_b(&rt, alloc, OrderedList::new(alloc));
+    assert!(rt; !is_made(&rt, alloc, of_no_field));
 }
 
 #[test]
-fn a_page_is_read_with_its_prefix_and_its_values(rt: HostRuntime) -> Result<(), Fail> {
+fn a_page_is_read_with_its_prefix_and_its_values(rt: HostRuntime) {
     let form = Form::OneKey(prefix(&rt, &[5, 15]));
-    assert!(rt; is_read_as(rt.alloc(), &KEY, form)?);
-    Ok(())
+    assert!(rt; is_read_as(&rt, rt.alloc(), &KEY, form));
+}
+
+// Messages of which no part is one.
+const WHOLE: &[&[u8]] = &[
+    &OPENING,
+    &OPENING_WITH_ROOT,
+    &ASK_ROOT,
+    &ASK,
+    &GONE,
+    &KEY,
+    &KNOWN_KEY,
+    &TWO_DOTS,
+];
+
+#[test]
+fn what_is_decoded_in_a_session_is_encoded_again(rt: HostRuntime) {
+    for bytes in WHOLE {
+        assert!(rt; is_encoded_again(&rt, rt.alloc(), bytes), "{bytes:?}");
+    }
+    assert!(rt; is_encoded_again(&rt, rt.alloc(), &BRANCH));
+    assert!(rt; is_encoded_again(&rt, rt.alloc(), &BRANCH[..70]));
 }
 
 #[test]
-fn what_is_decoded_in_a_session_is_encoded_again(rt: HostRuntime) -> Result<(), Fail> {
-    for bytes in [
-        OPENING.as_slice(),
-        OPENING_WITH_ROOT.as_slice(),
-        ASK_ROOT.as_slice(),
-        ASK.as_slice(),
-        GONE.as_slice(),
-        BRANCH.as_slice(),
-        &BRANCH[..70],
-        KEY.as_slice(),
-        KNOWN_KEY.as_slice(),
-        TWO_DOTS.as_slice(),
-    ] {
-        let length = bytes.len();
-        assert!(rt; is_encoded_again(rt.alloc(), bytes)?, "{length} bytes");
+fn a_part_of_a_message_in_a_session_or_a_longer_one_is_none(rt: HostRuntime) {
+    for bytes in WHOLE {
+        assert!(rt; is_whole_alone(&rt, rt.alloc(), bytes), "{bytes:?}");
     }
-    Ok(())
-}
-
-#[test]
-fn a_part_of_a_message_in_a_session_or_a_longer_one_is_none(rt: HostRuntime) -> Result<(), Fail> {
-    for bytes in [
-        OPENING.as_slice(),
-        OPENING_WITH_ROOT.as_slice(),
-        ASK_ROOT.as_slice(),
-        ASK.as_slice(),
-        GONE.as_slice(),
-        KEY.as_slice(),
-        KNOWN_KEY.as_slice(),
-        TWO_DOTS.as_slice(),
-    ] {
-        let length = bytes.len();
-        assert!(rt; is_whole_alone(rt.alloc(), bytes)?, "{length} bytes");
-    }
-    Ok(())
 }
 
 // The first child of the branch is whole without the second.
 #[test]
-fn a_part_of_a_branch_is_a_message_where_a_child_ends(rt: HostRuntime) -> Result<(), Fail> {
+fn a_part_of_a_branch_is_a_message_where_a_child_ends(rt: HostRuntime) {
     for length in 0..103 {
         assert!(rt;
-            is_message(rt.alloc(), &BRANCH[..length])? == (length == 70),
+            is_message(&rt, rt.alloc(), &BRANCH[..length]) == (length == 70),
             "cut to {length}"
         );
     }
-    Ok(())
 }
 
+// What stands behind the version and the kind of a message of each kind.
 #[test]
-fn a_message_of_a_session_has_one_version_and_one_kind(rt: HostRuntime) -> Result<(), Fail> {
-    let alloc = rt.alloc();
-    for version in [0, 1, 2, 4] {
-        assert!(rt; !is_of(alloc, version, 4, &OPENING[2..])?, "{version}");
-        assert!(rt; !is_of(alloc, version, 5, &ASK[2..])?, "{version}");
-        assert!(rt; !is_of(alloc, version, 6, &KEY[2..])?, "{version}");
-        assert!(rt; !is_of(alloc, version, 7, &GONE[2..])?, "{version}");
-    }
-    Ok(())
-}
-
-#[test]
-fn a_message_of_a_session_has_no_other_kind(rt: HostRuntime) -> Result<(), Fail> {
-    for kind in [0, 2, 8, 255] {
-        assert!(rt; !is_of(rt.alloc(), 3, kind, &OPENING[2..])?, "{kind}");
-        assert!(rt; !is_of(rt.alloc(), 3, kind, &GONE[2..])?, "{kind}");
-    }
-    Ok(())
-}
-
-// The rows give the bytes, the place, the byte that is put there, and whether they then are a message: an opening tells no
-// digest or one, a page is of one of three kinds, names and numbers are not 0, dots ascend and each is there once, and
-// there are as many values as are counted.
-#[test]
-fn a_changed_byte_can_make_no_message(rt: HostRuntime) -> Result<(), Fail> {
-    for (bytes, at, byte, wanted) in [
-        (OPENING.as_slice(), 58, 1, false),
-        (OPENING_WITH_ROOT.as_slice(), 58, 0, false),
-        (OPENING_WITH_ROOT.as_slice(), 58, 2, false),
-        (OPENING_WITH_ROOT.as_slice(), 59, 2, true),
-        (KEY.as_slice(), 40, 3, false),
-        (KEY.as_slice(), 69, 0, false),
-        (KEY.as_slice(), 77, 0, false),
-        (KEY.as_slice(), 77, 3, true),
-        (TWO_DOTS.as_slice(), 123, 9, true),
-        (TWO_DOTS.as_slice(), 115, 1, false),
-        (TWO_DOTS.as_slice(), 67, 2, false),
-        (TWO_DOTS.as_slice(), 67, 3, false),
-        (KEY.as_slice(), 29, 255, false),
-        (KEY.as_slice(), 36, 2, false),
+fn a_message_of_a_session_has_one_version_and_one_kind(rt: HostRuntime) {
+    for (kind, body) in [
+        (4, &OPENING[2..]),
+        (5, &ASK[2..]),
+        (6, &KEY[2..]),
+        (7, &GONE[2..]),
     ] {
+        for version in [0, 1, 2, 4] {
+            assert!(rt;
+                !is_of(&rt, rt.alloc(), version, kind, body),
+                "{version}, {kind}"
+            );
+        }
+    }
+}
+
+#[test]
+fn a_message_of_a_session_has_no_other_kind(rt: HostRuntime) {
+    for kind in [0, 2, 8, 255] {
+        assert!(rt; !is_of(&rt, rt.alloc(), 3, kind, &OPENING[2..]), "{kind}");
+        assert!(rt; !is_of(&rt, rt.alloc(), 3, kind, &GONE[2..]), "{kind}");
+    }
+}
+
+// The bytes, a place, the byte that is put there, and whether they then are a message: an opening tells no digest or one, a
+// page is of one of three kinds, names and numbers are not 0, dots ascend and each is there once, and there are as many
+// values as are counted.
+const CHANGES: &[(&[u8], usize, u8, bool)] = &[
+    (&OPENING, 58, 1, false),
+    (&OPENING_WITH_ROOT, 58, 0, false),
+    (&OPENING_WITH_ROOT, 58, 2, false),
+    (&OPENING_WITH_ROOT, 59, 2, true),
+    (&KEY, 40, 3, false),
+    (&KEY, 69, 0, false),
+    (&KEY, 77, 0, false),
+    (&KEY, 77, 3, true),
+    (&TWO_DOTS, 123, 9, true),
+    (&TWO_DOTS, 115, 1, false),
+    (&TWO_DOTS, 67, 2, false),
+    (&TWO_DOTS, 67, 3, false),
+    (&KEY, 29, 255, false),
+    (&KEY, 36, 2, false),
+];
+
+#[test]
+fn a_changed_byte_can_make_no_message(rt: HostRuntime) {
+    for (bytes, at, byte, wanted) in CHANGES {
         assert!(rt;
-            is_changed(rt.alloc(), bytes, at, byte)? == wanted,
+            is_changed(&rt, rt.alloc(), bytes, *at, *byte) == *wanted,
             "{byte} at {at}"
         );
     }
-    Ok(())
 }
 
-// Whether an ask with these bytes behind its session is a message.
-fn asks(alloc: Global, prefix: &[u8]) -> Result<bool, Refusal> {
-    is_spelled(alloc, &[&ASK[..26], prefix])
-}
+// What stands behind the session in an ask, and whether it then is a message.
+const PREFIXES: &[(&[u8], bool)] = &[
+    (&[6, 31, 31, 31, 31, 31, 31], true),
+    (&[7, 31, 31, 31, 31, 31, 31, 3], true),
+    (&[7, 31, 31, 31, 31, 31, 31, 4], false),
+    (&[6, 31, 31, 31, 31, 31, 32], false),
+    (&[8, 0, 0, 0, 0, 0, 0, 0, 0], false),
+];
 
 #[test]
-fn a_prefix_has_at_most_seven_indices_that_can_be(rt: HostRuntime) -> Result<(), Fail> {
-    for (prefix, wanted) in [
-        ([6, 31, 31, 31, 31, 31, 31].as_slice(), true),
-        ([7, 31, 31, 31, 31, 31, 31, 3].as_slice(), true),
-        ([7, 31, 31, 31, 31, 31, 31, 4].as_slice(), false),
-        ([6, 31, 31, 31, 31, 31, 32].as_slice(), false),
-        ([8, 0, 0, 0, 0, 0, 0, 0, 0].as_slice(), false),
-    ] {
-        assert!(rt; asks(rt.alloc(), prefix)? == wanted, "{prefix:?}");
+fn a_prefix_has_at_most_seven_indices_that_can_be(rt: HostRuntime) {
+    for (prefix, wanted) in PREFIXES {
+        assert!(rt;
+            is_spelled(&rt, rt.alloc(), &[&ASK[..26], prefix]) == *wanted,
+            "{prefix:?}"
+        );
     }
-    Ok(())
 }
 
 // Whether a message with this page at this prefix, and with no value, is one.
-fn is_page(alloc: Global, prefix: &[u8], page: &[u8]) -> Result<bool, Refusal> {
-    is_spelled(alloc, &[&BRANCH[..26], prefix, [0; 8].as_slice(), page])
+fn is_page(rt: &impl Abort, alloc: Global, prefix: &[u8], page: &[u8]) -> bool {
+    is_spelled(rt, alloc, &[&BRANCH[..26], prefix, &[0; 8], page])
 }
 
 // Whether a branch of these two children is a message at this prefix.
-fn is_branch(alloc: Global, prefix: &[u8], first: u8, second: u8) -> Result<bool, Refusal> {
+fn is_branch(rt: &impl Abort, alloc: Global, prefix: &[u8], first: u8, second: u8) -> bool {
     is_spelled(
+        rt,
         alloc,
         &[
             &BRANCH[..26],
             prefix,
-            [0; 8].as_slice(),
-            [2, first].as_slice(),
-            NAME_OF_W.as_slice(),
-            [second].as_slice(),
-            NAME_OF_W.as_slice(),
+            &[0; 8],
+            &[2, first],
+            &NAME_OF_W,
+            &[second],
+            &NAME_OF_W,
         ],
     )
 }
 
+// A prefix, the places of two children there, and whether their branch is a message.
+const BRANCHES: &[(&[u8], u8, u8, bool)] = &[
+    (&[0], 0, 31, true),
+    (&[0], 0, 32, false),
+    (&[0], 5, 5, false),
+    (&[0], 6, 5, false),
+    (&[6, 0, 0, 0, 0, 0, 0], 0, 3, true),
+    (&[6, 0, 0, 0, 0, 0, 0], 0, 4, false),
+    (&[7, 0, 0, 0, 0, 0, 0, 0], 0, 3, false),
+];
+
 #[test]
-fn children_ascend_and_can_be_at_their_depth(rt: HostRuntime) -> Result<(), Fail> {
-    for (prefix, first, second, wanted) in [
-        ([0].as_slice(), 0, 31, true),
-        ([0].as_slice(), 0, 32, false),
-        ([0].as_slice(), 5, 5, false),
-        ([0].as_slice(), 6, 5, false),
-        ([6, 0, 0, 0, 0, 0, 0].as_slice(), 0, 3, true),
-        ([6, 0, 0, 0, 0, 0, 0].as_slice(), 0, 4, false),
-        ([7, 0, 0, 0, 0, 0, 0, 0].as_slice(), 0, 3, false),
-    ] {
+fn children_ascend_and_can_be_at_their_depth(rt: HostRuntime) {
+    for (prefix, first, second, wanted) in BRANCHES {
         assert!(rt;
-            is_branch(rt.alloc(), prefix, first, second)? == wanted,
+            is_branch(&rt, rt.alloc(), prefix, *first, *second) == *wanted,
             "{prefix:?} with {first}, {second}"
         );
     }
-    Ok(())
 }
 
 #[test]
-fn a_page_is_not_empty(rt: HostRuntime) -> Result<(), Fail> {
+fn a_page_is_not_empty(rt: HostRuntime) {
     for (prefix, page, wanted) in [
         ([0].as_slice(), &KEY[40..], true),
-        ([0].as_slice(), [].as_slice(), false),
-        ([0].as_slice(), [2].as_slice(), false),
-        ([7, 0, 0, 0, 0, 0, 0, 0].as_slice(), [1].as_slice(), false),
+        (&[0], &[], false),
+        (&[0], &[2], false),
+        (&[7, 0, 0, 0, 0, 0, 0, 0], &[1], false),
     ] {
         assert!(rt;
-            is_page(rt.alloc(), prefix, page)? == wanted,
+            is_page(&rt, rt.alloc(), prefix, page) == wanted,
             "{page:?} at {prefix:?}"
         );
     }
-    Ok(())
-}
-
-// Whether the branch with one value is a message.
-fn is_branch_with_a_value(alloc: Global) -> Result<bool, Refusal> {
-    is_spelled(alloc, &[&BRANCH[..28], &KEY[29..40], &BRANCH[36..]])
 }
 
 // A key without a field, a field without a dot, and a branch with a value.
 #[test]
-fn what_a_page_cannot_have_makes_no_message(rt: HostRuntime) -> Result<(), Fail> {
-    for at in [44, 54] {
-        assert!(rt; !is_cut(rt.alloc(), &KEY, at, &[0; 8])?, "cut at {at}");
-    }
-    assert!(rt; !is_branch_with_a_value(rt.alloc())?);
-    Ok(())
+fn what_a_page_cannot_have_makes_no_message(rt: HostRuntime) {
+    let alloc = rt.alloc();
+    assert!(rt; !is_cut(&rt, alloc, &KEY, 44, &[0; 8]));
+    assert!(rt; !is_cut(&rt, alloc, &KEY, 54, &[0; 8]));
+    assert!(rt; !is_spelled(&rt, alloc, &[&BRANCH[..28], &KEY[29..40], &BRANCH[36..]]));
 }
 
 // Puts the entry of the key of this one byte, with the name of w under the dot 2:2, behind the bytes.
-fn push_entry(bytes: &mut Vec<u8>, key: u8) -> Result<(), Refusal> {
-    bytes.extend_from_slice(&[0, 1, key])?;
-    bytes.extend_from_slice(&KEY[44..])?;
-    Ok(())
+fn push_entry(rt: &impl Abort, bytes: &mut Vec<u8>, key: u8) {
+    bytes.extend_from_slice(&[0, 1, key]).expect(rt, "memory");
+    bytes.extend_from_slice(&KEY[44..]).expect(rt, "memory");
 }
 
 // Whether the page of these keys is a message at this prefix.
-fn is_list(alloc: Global, prefix: &[u8], keys: &[u8]) -> Result<bool, Refusal> {
-    let mut page = Vec::from_slice(alloc, &[1])?;
+fn is_list(rt: &impl Abort, alloc: Global, prefix: &[u8], keys: &[u8]) -> bool {
+    let mut page = Vec::from_slice(alloc, &[1]).expect(rt, "memory");
     for key in keys {
-        push_entry(&mut page, *key)?;
+        push_entry(rt, &mut page, *key);
     }
-    is_page(alloc, prefix, &page)
+    is_page(rt, alloc, prefix, &page)
 }
 
+// A prefix, keys of one byte each, and whether their page is a message.
+const LISTS: &[(&[u8], &[u8], bool)] = &[
+    (&[7, 0, 0, 0, 0, 0, 0, 0], b"ab", true),
+    (&[7, 0, 0, 0, 0, 0, 0, 0], b"a", false),
+    (&[7, 0, 0, 0, 0, 0, 0, 0], b"ba", false),
+    (&[7, 0, 0, 0, 0, 0, 0, 0], b"aa", false),
+    (&[6, 0, 0, 0, 0, 0, 0], b"ab", false),
+];
+
 #[test]
-fn keys_of_a_page_ascend_past_the_last_index(rt: HostRuntime) -> Result<(), Fail> {
-    let last = [7, 0, 0, 0, 0, 0, 0, 0];
-    for (keys, wanted) in [
-        (b"ab".as_slice(), true),
-        (b"a".as_slice(), false),
-        (b"ba".as_slice(), false),
-        (b"aa".as_slice(), false),
-    ] {
-        assert!(rt; is_list(rt.alloc(), &last, keys)? == wanted, "{keys:?}");
+fn keys_of_a_page_ascend_past_the_last_index(rt: HostRuntime) {
+    for (prefix, keys, wanted) in LISTS {
+        assert!(rt;
+            is_list(&rt, rt.alloc(), prefix, keys) == *wanted,
+            "{keys:?} at {prefix:?}"
+        );
     }
-    assert!(rt; !is_list(rt.alloc(), &[6, 0, 0, 0, 0, 0, 0], b"ab")?);
-    Ok(())
 }
 
 // The message of the page of keys from 0 on, so many.
-fn many_keys(alloc: Global, number: u8) -> Result<Vec<u8>, Refusal> {
-    let mut bytes = Vec::from_slice(alloc, &BRANCH[..26])?;
-    bytes.extend_from_slice(&[7, 0, 0, 0, 0, 0, 0, 0, 0, 0, 0, 0, 0, 0, 0, 0, 1])?;
+fn many_keys(rt: &impl Abort, alloc: Global, number: u8) -> Vec<u8> {
+    let mut bytes = Vec::from_slice(alloc, &BRANCH[..26]).expect(rt, "memory");
+    bytes
+        .extend_from_slice(&[7, 0, 0, 0, 0, 0, 0, 0, 0, 0, 0, 0, 0, 0, 0, 0, 1])
+        .expect(rt, "memory");
     for key in 0..number {
-        push_entry(&mut bytes, key)?;
+        push_entry(rt, &mut bytes, key);
     }
-    Ok(bytes)
-}
-
-// Whether the message of so many keys has this length, and is read and encoded again.
-fn are_keys(alloc: Global, number: u8, length: usize) -> Result<bool, Refusal> {
-    let bytes = many_keys(alloc, number)?;
-    Ok(bytes.len() == length && is_encoded_again(alloc, &bytes)?)
+    bytes
 }
 
 // The page of b with so many values.
-fn many_values(alloc: Global, number: u8) -> Result<Vec<u8>, Refusal> {
-    let mut bytes = Vec::from_slice(alloc, &KEY[..36])?;
-    bytes.push(number)?;
+fn many_values(rt: &impl Abort, alloc: Global, number: u8) -> Vec<u8> {
+    let mut bytes = Vec::from_slice(alloc, &KEY[..36]).expect(rt, "memory");
+    bytes.push(number).expect(rt, "memory");
     for value in 0..number {
-        bytes.extend_from_slice(&[0, 1, value])?;
+        bytes.extend_from_slice(&[0, 1, value]).expect(rt, "memory");
     }
-    bytes.extend_from_slice(&KEY[40..])?;
-    Ok(bytes)
+    bytes.extend_from_slice(&KEY[40..]).expect(rt, "memory");
+    bytes
 }
 
-// Whether the page of b with so many values is read and encoded again.
-fn are_values(alloc: Global, number: u8) -> Result<bool, Refusal> {
-    let bytes = many_values(alloc, number)?;
-    is_encoded_again(alloc, &bytes)
+// Whether the bytes are so many, and are read and encoded again.
+fn are_held(rt: &impl Abort, alloc: Global, bytes: Vec<u8>, length: usize) -> bool {
+    is_encoded_again(rt, alloc, &bytes) && bytes.len() == length
 }
 
 #[test]
-fn forty_keys_and_forty_values_are_read_and_encoded_again(rt: HostRuntime) -> Result<(), Fail> {
-    assert!(rt; are_keys(rt.alloc(), 40, 43 + 40 * 69)?);
-    assert!(rt; are_values(rt.alloc(), 40)?);
-    assert!(rt; are_values(rt.alloc(), 0)?);
-    Ok(())
+fn forty_keys_and_forty_values_are_read_and_encoded_again(rt: HostRuntime) {
+    let alloc = rt.alloc();
+    let keys = many_keys(&rt, alloc, 40);
+    assert!(rt; are_held(&rt, alloc, keys, 43 + 40 * 69));
+    let values = many_values(&rt, alloc, 40);
+    assert!(rt; are_held(&rt, alloc, values, 107 + 40 * 3));
+    let no_values = many_values(&rt, alloc, 0);
+    assert!(rt; are_held(&rt, alloc, no_values, 107));
 }

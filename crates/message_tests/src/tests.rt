@@ -2,13 +2,12 @@
 ghost use Rattle.std.specs.Prelude.{◌<◌};
 
 use causal_context::Context;
-use causal_join::{Fields, OrMap, OrMapStore};
+use causal_join::{Causal, Fields, OrMapStore};
 use dot_store::{DotFun, DotMap, DotStore};
 use dots::{Dot, Field, Key, Name, Refusal, Value};
 use hash_path::Prefix;
 use std::alloc::Global;
 use std::process::Abort;
-use std::test::Fail;
 use wire_form::{
     Message, Page, SentPage, Session, a_message_has_one_spelling, bytes_spell_one_delta,
     bytes_spell_one_message, decode, encode,
@@ -71,138 +70,112 @@ pub(crate) fn session(rt: &impl Abort, asker: u64, answerer: u64, number: u64) -
     Session::new(asker, answerer, number).expect(rt, "a number")
 }
 
-pub(crate) fn is_message(alloc: Global, bytes: &[u8]) -> Result<bool, Refusal> {
-    match decode(alloc, bytes).err() {
-        None => Ok(true),
-        Some(Refusal::NotAMessage) => Ok(false),
-        Some(refusal) => Err(refusal),
-    }
+// Whether the bytes are a message. If not, they are refused as none.
+pub(crate) fn is_message(rt: &impl Abort, alloc: Global, bytes: &[u8]) -> bool {
+    let refusal = decode(alloc, bytes).err();
+    assert!(rt; refusal.is_none() || refusal == Some(Refusal::NotAMessage));
+    refusal.is_none()
 }
 
 // Whether these parts, one behind the other, are a message.
-pub(crate) fn is_spelled(alloc: Global, parts: &[&[u8]]) -> Result<bool, Refusal> {
+pub(crate) fn is_spelled(rt: &impl Abort, alloc: Global, parts: &[&[u8]]) -> bool {
     let mut bytes = Vec::new(alloc);
     for part in parts {
-        bytes.extend_from_slice(part)?;
+        bytes.extend_from_slice(part).expect(rt, "memory");
     }
-    is_message(alloc, &bytes)
+    is_message(rt, alloc, &bytes)
 }
 
 // Whether the message is encoded as these bytes.
-pub(crate) fn has_bytes(alloc: Global, message: &Message, bytes: &[u8]) -> Result<bool, Refusal> {
-    let encoded = encode(alloc, message)?;
-    Ok(encoded.as_slice() == bytes)
+fn has_bytes(rt: &impl Abort, alloc: Global, message: &Message, bytes: &[u8]) -> bool {
+    let encoded = encode(alloc, message).expect(rt, "memory");
+    encoded.as_slice() == bytes
 }
 
-// Whether the message belongs to this session or to none, and is encoded as these bytes.
-fn is_as(
-    alloc: Global,
-    message: &Message,
-    session: Option<Session>,
-    bytes: &[u8],
-) -> Result<bool, Refusal> {
-    Ok(message.session() == session && has_bytes(alloc, message, bytes)?)
-}
-
-// Whether there is this message, and it is as it has to be.
+// Whether there is this message, belongs to this session or to none, and is encoded as these bytes.
 pub(crate) fn is_sent(
+    rt: &impl Abort,
     alloc: Global,
     made: Option<Message>,
     session: Option<Session>,
     bytes: &[u8],
-) -> Result<bool, Refusal> {
-    let message = made.ok_or(Refusal::BadLine)?;
-    is_as(alloc, &message, session, bytes)
+) -> bool {
+    let message = made.expect(rt, "a message");
+    let is_its = message.session() == session;
+    let is_encoded = has_bytes(rt, alloc, &message, bytes);
+    is_its && is_encoded
 }
 
-pub(crate) fn is_there(made: Option<Message>) -> bool {
+pub(crate) fn is_there<T: Drop>(made: Option<T>) -> bool {
     made.is_some()
 }
 
-// Whether the bytes are decoded, and the message that they spell is encoded as these bytes.
-pub(crate) fn is_encoded_again(alloc: Global, bytes: &[u8]) -> Result<bool, Refusal> {
-    let message = decode(alloc, bytes)?;
-    has_bytes(alloc, &message, bytes)
+// Whether the message that the bytes spell is encoded as these bytes.
+pub(crate) fn is_encoded_again(rt: &impl Abort, alloc: Global, bytes: &[u8]) -> bool {
+    let message = decode(alloc, bytes).expect(rt, "a message");
+    has_bytes(rt, alloc, &message, bytes)
 }
 
 // Whether each beginning of the bytes is no message, and they are none with a byte behind them.
-pub(crate) fn is_whole_alone(alloc: Global, bytes: &[u8]) -> Result<bool, Refusal> {
+pub(crate) fn is_whole_alone(rt: &impl Abort, alloc: Global, bytes: &[u8]) -> bool {
     for length in 0..bytes.len() {
-        if is_message(alloc, &bytes[..length])? {
-            return Ok(false);
+        if is_message(rt, alloc, &bytes[..length]) {
+            return false;
         }
     }
-    Ok(!is_spelled(alloc, &[bytes, [0].as_slice()])?)
+    !is_spelled(rt, alloc, &[bytes, &[0]])
 }
 
-// Whether the bytes with another one at this place are a message. BadLine stands for a place past their end.
+// Whether the bytes with another one at this place, which is in them, are a message.
 pub(crate) fn is_changed(
+    rt: &impl Abort,
     alloc: Global,
     bytes: &[u8],
     at: usize,
     byte: u8,
-) -> Result<bool, Refusal> {
-    if at >= bytes.len() {
-        return Err(Refusal::BadLine);
-    }
-    is_spelled(alloc, &[&bytes[..at], [byte].as_slice(), &bytes[at + 1..]])
+) -> bool {
+    assert!(rt; at < bytes.len());
+    is_spelled(rt, alloc, &[&bytes[..at], &[byte], &bytes[at + 1..]])
 }
 
-// Whether the bytes up to this place, and these behind them, are a message. BadLine stands for a place past their end.
+// Whether the bytes up to this place, which is in them, and these behind them, are a message.
 pub(crate) fn is_cut(
+    rt: &impl Abort,
     alloc: Global,
     bytes: &[u8],
     at: usize,
     behind: &[u8],
-) -> Result<bool, Refusal> {
-    if at > bytes.len() {
-        return Err(Refusal::BadLine);
-    }
-    is_spelled(alloc, &[&bytes[..at], behind])
+) -> bool {
+    assert!(rt; at < bytes.len());
+    is_spelled(rt, alloc, &[&bytes[..at], behind])
 }
 
 // The context of the dots of these names and numbers.
-pub(crate) fn known(
-    rt: &impl Abort,
-    alloc: Global,
-    dots: &[(u64, u64)],
-) -> Result<Context, Refusal> {
+pub(crate) fn known(rt: &impl Abort, alloc: Global, dots: &[(u64, u64)]) -> Context {
     let mut context = Context::new(alloc);
     for (of, number) in dots {
-        context.add(dot(rt, *of, *number))?;
+        context.add(dot(rt, *of, *number)).expect(rt, "memory");
     }
-    Ok(context)
+    context
 }
 
-// The store with this value alone, under this dot.
-fn written(alloc: Global, dot: Dot, value: &[u8]) -> Result<DotFun<Value>, Refusal> {
-    let value = Value::new(alloc, value)?;
+// This value alone, under this dot.
+fn written(rt: &impl Abort, alloc: Global, dot: Dot, value: &[u8]) -> DotFun<Value> {
+    let value = Value::new(alloc, value).expect(rt, "memory");
     let mut values = DotFun::empty(alloc);
-    values.insert(dot, value)?;
-    Ok(values)
+    values.insert(dot, value).expect(rt, "memory");
+    values
 }
 
-// Puts this value under this dot at the field of the key a.
-fn put_at(
-    alloc: Global,
-    store: &mut OrMapStore,
-    field: &[u8],
-    dot: Dot,
-    value: &[u8],
-) -> Result<(), Refusal> {
-    let field = Field::new(alloc, field)?;
-    let key = Key::new(alloc, b"a")?;
-    let values = written(alloc, dot, value)?;
-    let mut fields = Fields::empty(alloc);
-    fields.insert(field, values)?;
-    store.insert(key, fields)
-}
-
-// The store with that alone.
-fn holding(alloc: Global, field: &[u8], dot: Dot, value: &[u8]) -> Result<OrMapStore, Refusal> {
-    let mut store = DotMap::empty(alloc);
-    put_at(alloc, &mut store, field, dot, value)?;
-    Ok(store)
+// The store with this value alone, under this dot at the field of the key a.
+fn holding(rt: &impl Abort, alloc: Global, field: &[u8], dot: Dot, value: &[u8]) -> OrMapStore {
+    let (mut fields, mut store) = (Fields::empty(alloc), DotMap::empty(alloc));
+    let values = written(rt, alloc, dot, value);
+    let field = Field::new(alloc, field).expect(rt, "memory");
+    fields.insert(field, values).expect(rt, "memory");
+    let key = Key::new(alloc, b"a").expect(rt, "memory");
+    store.insert(key, fields).expect(rt, "memory");
+    store
 }
 
 // The delta of that, if the context of these dots has the dot.
@@ -213,219 +186,178 @@ fn delta(
     dot: Dot,
     value: &[u8],
     dots: &[(u64, u64)],
-) -> Result<Option<Message>, Refusal> {
-    let context = known(rt, alloc, dots)?;
-    let store = holding(alloc, field, dot, value)?;
-    Ok(Message::delta(store, context))
+) -> Option<Message> {
+    let context = known(rt, alloc, dots);
+    let store = holding(rt, alloc, field, dot, value);
+    Message::delta(store, context)
 }
 
 // Whether the first write of replica 1, x at this field, is encoded as these bytes, and belongs to no session.
-fn is_first_write(
-    rt: &impl Abort,
-    alloc: Global,
-    field: &[u8],
-    bytes: &[u8],
-) -> Result<bool, Refusal> {
-    let made = delta(rt, alloc, field, dot(rt, 1, 1), b"x", &[(1, 1)])?;
-    is_sent(alloc, made, None, bytes)
-}
-
-// Whether the second write of replica 2, over the first of replica 1, has its bytes.
-fn is_overwritten(rt: &impl Abort, alloc: Global) -> Result<bool, Refusal> {
-    let made = delta(rt, alloc, b"f", dot(rt, 2, 2), b"z", &[(1, 1), (2, 2)])?;
-    is_sent(alloc, made, None, &OVERWRITTEN_FIELD)
+fn is_first_write(rt: &impl Abort, alloc: Global, field: &[u8], bytes: &[u8]) -> bool {
+    let made = delta(rt, alloc, field, dot(rt, 1, 1), b"x", &[(1, 1)]);
+    is_sent(rt, alloc, made, None, bytes)
 }
 
 #[test]
-fn deltas_have_these_bytes(rt: HostRuntime) -> Result<(), Fail> {
+fn deltas_have_these_bytes(rt: HostRuntime) {
     let alloc = rt.alloc();
-    assert!(rt; is_first_write(&rt, alloc, b"", &ONE_VALUE)?);
-    assert!(rt; is_first_write(&rt, alloc, b"f", &ONE_FIELD)?);
-    assert!(rt; is_overwritten(&rt, alloc)?);
-    Ok(())
-}
-
-// Whether the hello of this session, where the asker knows the dot 1:1, has its bytes and tells its session.
-fn greets(rt: &impl Abort, alloc: Global, asked: Session) -> Result<bool, Refusal> {
-    let context = known(rt, alloc, &[(1, 1)])?;
-    is_sent(
-        alloc,
-        Some(Message::hello(asked, context)),
-        Some(asked),
-        &HELLO,
-    )
+    assert!(rt; is_first_write(&rt, alloc, b"", &ONE_VALUE));
+    assert!(rt; is_first_write(&rt, alloc, b"f", &ONE_FIELD));
+    let over = delta(&rt, alloc, b"f", dot(&rt, 2, 2), b"z", &[(1, 1), (2, 2)]);
+    assert!(rt; is_sent(&rt, alloc, over, None, &OVERWRITTEN_FIELD));
 }
 
 #[test]
-fn the_hello_of_a_session_has_these_bytes(rt: HostRuntime) -> Result<(), Fail> {
-    assert!(rt; greets(&rt, rt.alloc(), session(&rt, 1, 2, 1))?);
-    Ok(())
+fn the_hello_of_a_session_has_these_bytes(rt: HostRuntime) {
+    let (alloc, asked) = (rt.alloc(), session(&rt, 1, 2, 1));
+    let hello = Message::hello(asked, known(&rt, alloc, &[(1, 1)]));
+    assert!(rt; is_sent(&rt, alloc, Some(hello), Some(asked), &HELLO));
 }
 
+const MESSAGES: &[&[u8]] = &[
+    &ONE_VALUE,
+    &ONE_FIELD,
+    &OVERWRITTEN_FIELD,
+    &REMOVED,
+    &LAST_DOT,
+    &HELLO,
+    &FIRST_HELLO,
+];
+
 #[test]
-fn what_is_decoded_is_encoded_again(rt: HostRuntime) -> Result<(), Fail> {
-    for bytes in [
-        ONE_VALUE.as_slice(),
-        ONE_FIELD.as_slice(),
-        OVERWRITTEN_FIELD.as_slice(),
-        REMOVED.as_slice(),
-        LAST_DOT.as_slice(),
-        HELLO.as_slice(),
-        FIRST_HELLO.as_slice(),
-    ] {
-        let length = bytes.len();
-        assert!(rt; is_encoded_again(rt.alloc(), bytes)?, "{length} bytes");
+fn what_is_decoded_is_encoded_again(rt: HostRuntime) {
+    for bytes in MESSAGES {
+        assert!(rt; is_encoded_again(&rt, rt.alloc(), bytes), "{bytes:?}");
     }
-    Ok(())
 }
 
 #[test]
-fn a_part_of_a_message_or_a_longer_one_is_none(rt: HostRuntime) -> Result<(), Fail> {
-    for bytes in [ONE_VALUE.as_slice(), ONE_FIELD.as_slice(), HELLO.as_slice()] {
-        let length = bytes.len();
-        assert!(rt; is_whole_alone(rt.alloc(), bytes)?, "{length} bytes");
+fn a_part_of_a_message_or_a_longer_one_is_none(rt: HostRuntime) {
+    for bytes in MESSAGES {
+        assert!(rt; is_whole_alone(&rt, rt.alloc(), bytes), "{bytes:?}");
     }
-    Ok(())
-}
-
-// Whether the first write makes a message where no dot is known.
-fn is_sent_unknown(rt: &impl Abort, alloc: Global) -> Result<bool, Refusal> {
-    Ok(is_there(delta(rt, alloc, b"", dot(rt, 1, 1), b"x", &[])?))
 }
 
 #[test]
-fn a_dot_outside_the_context_makes_no_message(rt: HostRuntime) -> Result<(), Fail> {
-    assert!(rt; !is_sent_unknown(&rt, rt.alloc())?);
-    Ok(())
+fn a_dot_outside_the_context_makes_no_message(rt: HostRuntime) {
+    let made = delta(&rt, rt.alloc(), b"", dot(&rt, 1, 1), b"x", &[]);
+    assert!(rt; !is_there(made));
 }
 
-// The rows give the bytes, the place, the byte that is put there, and whether they then are a message.
+// The bytes, a place, the byte that is put there, and whether they then are a message.
+const CHANGES: &[(&[u8], usize, u8, bool)] = &[
+    (&ONE_VALUE, 68, 2, false),
+    (&ONE_VALUE, 71, 2, true),
+    (&HELLO, 9, 0, false),
+    (&HELLO, 17, 0, false),
+    (&HELLO, 25, 0, false),
+    (&HELLO, 24, 0, true),
+];
+
 #[test]
-fn a_dot_outside_the_context_and_a_number_zero_are_not_read(rt: HostRuntime) -> Result<(), Fail> {
-    for (bytes, at, byte, wanted) in [
-        (ONE_VALUE.as_slice(), 68, 2, false),
-        (ONE_VALUE.as_slice(), 71, 2, true),
-        (HELLO.as_slice(), 9, 0, false),
-        (HELLO.as_slice(), 17, 0, false),
-        (HELLO.as_slice(), 25, 0, false),
-        (HELLO.as_slice(), 24, 0, true),
-    ] {
+fn a_dot_outside_the_context_and_a_number_zero_are_not_read(rt: HostRuntime) {
+    for (bytes, at, byte, wanted) in CHANGES {
         assert!(rt;
-            is_changed(rt.alloc(), bytes, at, byte)? == wanted,
+            is_changed(&rt, rt.alloc(), bytes, *at, *byte) == *wanted,
             "{byte} at {at}"
         );
     }
-    Ok(())
 }
 
 // Whether these bytes behind this version and this kind are a message.
-pub(crate) fn is_of(alloc: Global, version: u8, kind: u8, body: &[u8]) -> Result<bool, Refusal> {
-    is_spelled(alloc, &[[version, kind].as_slice(), body])
+pub(crate) fn is_of(rt: &impl Abort, alloc: Global, version: u8, kind: u8, body: &[u8]) -> bool {
+    is_spelled(rt, alloc, &[&[version, kind], body])
 }
 
 // Whether a body of a delta or of the hello is a message in this version.
-fn is_of_version(alloc: Global, version: u8) -> Result<bool, Refusal> {
-    let has_value = is_of(alloc, version, 1, &ONE_VALUE[2..])?;
-    let has_field = is_of(alloc, version, 1, &ONE_FIELD[2..])?;
-    let greets = is_of(alloc, version, 3, &HELLO[2..])?;
-    Ok(has_value || has_field || greets)
+fn is_of_version(rt: &impl Abort, alloc: Global, version: u8) -> bool {
+    let has_value = is_of(rt, alloc, version, 1, &ONE_VALUE[2..]);
+    let has_field = is_of(rt, alloc, version, 1, &ONE_FIELD[2..]);
+    let greets = is_of(rt, alloc, version, 3, &HELLO[2..]);
+    has_value || has_field || greets
 }
 
 #[test]
-fn no_other_version_is_a_message(rt: HostRuntime) -> Result<(), Fail> {
+fn no_other_version_is_a_message(rt: HostRuntime) {
     for version in [0, 2, 4, 255] {
-        assert!(rt; !is_of_version(rt.alloc(), version)?, "version {version}");
+        assert!(rt;
+            !is_of_version(&rt, rt.alloc(), version),
+            "version {version}"
+        );
     }
-    Ok(())
 }
 
 // Whether the body of a delta or of the hello, or none, is a message of this kind.
-fn is_of_kind(alloc: Global, kind: u8) -> Result<bool, Refusal> {
-    let has_value = is_of(alloc, 1, kind, &ONE_VALUE[2..])?;
-    let greets = is_of(alloc, 3, kind, &HELLO[2..])?;
-    let has_none = is_of(alloc, 3, kind, &[])?;
-    Ok(has_value || greets || has_none)
+fn is_of_kind(rt: &impl Abort, alloc: Global, kind: u8) -> bool {
+    let has_value = is_of(rt, alloc, 1, kind, &ONE_VALUE[2..]);
+    let greets = is_of(rt, alloc, 3, kind, &HELLO[2..]);
+    let has_none = is_of(rt, alloc, 3, kind, &[]);
+    has_value || greets || has_none
 }
 
 #[test]
-fn no_other_kind_is_a_message(rt: HostRuntime) -> Result<(), Fail> {
+fn no_other_kind_is_a_message(rt: HostRuntime) {
     for kind in [0, 2, 4, 5, 6, 7, 255] {
-        assert!(rt; !is_of_kind(rt.alloc(), kind)?, "kind {kind}");
+        assert!(rt; !is_of_kind(&rt, rt.alloc(), kind), "kind {kind}");
     }
-    Ok(())
 }
 
-// The rows give a version, a kind and what stands behind them: a hello has a context and is of version 3, and each delta
-// is of the one version that its fields ask for.
+// What a message is not, by its version, its kind and what stands behind them.
 #[test]
-fn a_body_goes_with_one_version_and_one_kind(rt: HostRuntime) -> Result<(), Fail> {
-    for (version, kind, body) in [
-        (1, 3, &HELLO[2..26]),
-        (3, 3, &HELLO[2..26]),
-        (1, 3, &HELLO[2..]),
-        (1, 1, &ONE_FIELD[2..]),
-        (3, 1, &ONE_VALUE[2..]),
-        (3, 1, &REMOVED[2..]),
+fn a_body_goes_with_one_version_and_one_kind(rt: HostRuntime) {
+    for (what, version, kind, body) in [
+        (
+            "a hello of version 1 without a context",
+            1,
+            3,
+            &HELLO[2..26],
+        ),
+        ("a hello without a context", 3, 3, &HELLO[2..26]),
+        ("a hello of version 1", 1, 3, &HELLO[2..]),
+        ("a delta of a field of version 1", 1, 1, &ONE_FIELD[2..]),
+        ("a delta of no field of version 3", 3, 1, &ONE_VALUE[2..]),
+        ("a delta of nothing of version 3", 3, 1, &REMOVED[2..]),
     ] {
-        let length = body.len();
-        assert!(rt;
-            !is_of(rt.alloc(), version, kind, body)?,
-            "{version}, {kind}, {length} bytes"
-        );
+        assert!(rt; !is_of(&rt, rt.alloc(), version, kind, body), "{what}");
     }
-    Ok(())
 }
 
 // Whether the delta of one field is a message in this version, with the empty field in the place of f.
-fn is_unnamed(alloc: Global, version: u8) -> Result<bool, Refusal> {
-    let empty_field = [0, 0];
-    is_spelled(
-        alloc,
-        &[
-            [version, 1].as_slice(),
-            &ONE_FIELD[2..53],
-            empty_field.as_slice(),
-            &ONE_FIELD[56..],
-        ],
-    )
+fn is_unnamed(rt: &impl Abort, alloc: Global, version: u8) -> bool {
+    let parts = [&[version, 1], &ONE_FIELD[2..53], &[0, 0], &ONE_FIELD[56..]];
+    is_spelled(rt, alloc, &parts)
 }
 
 #[test]
-fn the_empty_field_alone_is_spelled_in_no_version(rt: HostRuntime) -> Result<(), Fail> {
-    assert!(rt; !is_unnamed(rt.alloc(), 3)?);
-    assert!(rt; !is_unnamed(rt.alloc(), 1)?);
-    Ok(())
+fn the_empty_field_alone_is_spelled_in_no_version(rt: HostRuntime) {
+    assert!(rt; !is_unnamed(&rt, rt.alloc(), 3));
+    assert!(rt; !is_unnamed(&rt, rt.alloc(), 1));
 }
 
 // Whether the delta of one field is a message with these two fields at the key, each with the same dot and value.
-fn has_fields(alloc: Global, first: u8, second: u8) -> Result<bool, Refusal> {
+fn has_fields(rt: &impl Abort, alloc: Global, first: u8, second: u8) -> bool {
+    let (before, after) = (&ONE_FIELD[..52], &ONE_FIELD[56..]);
     is_spelled(
+        rt,
         alloc,
-        &[
-            &ONE_FIELD[..52],
-            [2, 0, 1, first].as_slice(),
-            &ONE_FIELD[56..],
-            [0, 1, second].as_slice(),
-            &ONE_FIELD[56..],
-        ],
+        &[before, &[2, 0, 1, first], after, &[0, 1, second], after],
     )
 }
 
 #[test]
-fn fields_ascend_and_each_is_there_once(rt: HostRuntime) -> Result<(), Fail> {
+fn fields_ascend_and_each_is_there_once(rt: HostRuntime) {
     for (first, second, wanted) in [(0x66, 0x67, true), (0x67, 0x66, false), (0x66, 0x66, false)] {
         assert!(rt;
-            has_fields(rt.alloc(), first, second)? == wanted,
+            has_fields(&rt, rt.alloc(), first, second) == wanted,
             "{first}, {second}"
         );
     }
-    Ok(())
 }
 
-// The rows give the place where a count begins in the delta of one field, and its bytes, behind which nothing stands: a
-// key without a field, a field without a value, and counts of more than there is.
+// The place where a count begins in the delta of one field, and its bytes, behind which nothing stands: a key without a
+// field, a field without a value, and counts of more than there is.
 #[test]
-fn a_count_that_cannot_be_makes_no_message(rt: HostRuntime) -> Result<(), Fail> {
+fn a_count_that_cannot_be_makes_no_message(rt: HostRuntime) {
     for (at, byte) in [
         (45, 0),
         (56, 0),
@@ -436,11 +368,10 @@ fn a_count_that_cannot_be_makes_no_message(rt: HostRuntime) -> Result<(), Fail> 
         (56, 255),
     ] {
         assert!(rt;
-            !is_cut(rt.alloc(), &ONE_FIELD, at, &[byte; 8])?,
+            !is_cut(&rt, rt.alloc(), &ONE_FIELD, at, &[byte; 8]),
             "{byte} at {at}"
         );
     }
-    Ok(())
 }
 
 #[test]
@@ -450,33 +381,23 @@ fn the_laws_of_the_spelling_can_be_called(_rt: HostRuntime) {
     bytes_spell_one_delta();
 }
 
-// The delta of one value, changed at this place.
-fn with_another(alloc: Global, at: usize, byte: u8) -> Result<Vec<u8>, Refusal>
-    requires { at < 72 }
-{
-    let mut changed = Vec::from_slice(alloc, &ONE_VALUE[..at])?;
-    changed.push(byte)?;
-    changed.extend_from_slice(&ONE_VALUE[at + 1..])?;
-    Ok(changed)
-}
-
 // Whether the delta of one value, changed at this place, is no message or one of other bytes.
-fn differs(alloc: Global, at: usize, byte: u8) -> Result<bool, Refusal>
+fn differs(rt: &impl Abort, alloc: Global, at: usize, byte: u8) -> bool
     requires { at < 72 }
 {
-    let bytes = with_another(alloc, at, byte)?;
-    Ok(!is_message(alloc, &bytes)? || is_encoded_again(alloc, &bytes)?)
+    let mut bytes = ONE_VALUE;
+    bytes[at] = byte;
+    !is_message(rt, alloc, &bytes) || is_encoded_again(rt, alloc, &bytes)
 }
 
 #[test]
-fn a_change_of_one_bit_makes_another_message_or_none(rt: HostRuntime) -> Result<(), Fail> {
+fn a_change_of_one_bit_makes_another_message_or_none(rt: HostRuntime) {
     for at in 0..72 {
         for bit in 0..8u32 {
             let byte = ONE_VALUE[at] ^ (1 << bit);
-            assert!(rt; differs(rt.alloc(), at, byte)?, "bit {bit} at {at}");
+            assert!(rt; differs(&rt, rt.alloc(), at, byte), "bit {bit} at {at}");
         }
     }
-    Ok(())
 }
 
 // What a message is to be.
@@ -492,8 +413,8 @@ fn knows_one_apart(context: &Context) -> bool {
     context.vector().len() == 0 && context.cloud().len() == 1
 }
 
-fn is_one_apart(delta: &OrMap) -> bool {
-    delta.store().entries().len() == 0 && knows_one_apart(delta.context())
+fn is_one_apart<S: DotStore<Global>>(delta: &Causal<S>) -> bool {
+    delta.store().is_empty() && knows_one_apart(delta.context())
 }
 
 fn is_page_at(sent: &SentPage, prefix: Prefix) -> bool {
@@ -509,15 +430,14 @@ fn has_form(message: &Message, form: Form) -> bool {
 }
 
 // Whether the bytes are decoded to a message of this form.
-pub(crate) fn is_read_as(alloc: Global, bytes: &[u8], form: Form) -> Result<bool, Refusal> {
-    let message = decode(alloc, bytes)?;
-    Ok(has_form(&message, form))
+pub(crate) fn is_read_as(rt: &impl Abort, alloc: Global, bytes: &[u8], form: Form) -> bool {
+    let message = decode(alloc, bytes).expect(rt, "a message");
+    has_form(&message, form)
 }
 
 #[test]
-fn the_last_dot_of_a_name_stands_in_the_cloud(rt: HostRuntime) -> Result<(), Fail> {
-    assert!(rt; is_read_as(rt.alloc(), &LAST_DOT, Form::OneApart)?);
-    Ok(())
+fn the_last_dot_of_a_name_stands_in_the_cloud(rt: HostRuntime) {
+    assert!(rt; is_read_as(&rt, rt.alloc(), &LAST_DOT, Form::OneApart));
 }
 
 #[test]
