@@ -1,14 +1,13 @@
 // Readers beside the Writer, each in a thread of its own.
 ghost use Rattle.std.specs.Prelude.{◌≡◌, ◌+◌, ◌<◌, ℕ, List, [], ◌∷◌, ◌++◌, sum};
 
-use super::look;
+use super::{look, only};
 use root_cell::{Brand, Cell, Itself, Note, OpenedBook, View, Writer};
 use std::alloc::Global;
 use std::process::Abort;
 use std::sync::atomic::AtomicU64;
 use std::sync::atomic::Ordering::SeqCst;
 use std::sync::{Mutex, Wait};
-use std::test::Fail;
 use std::thread::Threads;
 use std::{marker, thread};
 
@@ -38,22 +37,20 @@ impl<'a, J: Brand<u64, u64>, R: Wait> Drop for Ending<'a, J, R> {
 }
 
 #[test]
-fn a_held_view_keeps_its_root_and_the_publish_ends_once_it_left(
-    rt: HostRuntime,
-) -> Result<(), Fail> {
-    held::<marker::Brand, _>(&rt, rt.alloc(), OpenedBook::new())
+fn a_held_view_keeps_its_root_and_the_publish_ends_once_it_left(rt: HostRuntime) {
+    held::<marker::Brand, _>(&rt, rt.alloc(), OpenedBook::new());
 }
 
 fn held<J: Brand<u64, u64> + Send + Sync, R: Threads + Wait + Abort + Sync>(
     rt: &R,
     alloc: Global,
     opened: OpenedBook<u64>,
-) -> Result<(), Fail>
+)
     requires book { opened.0 ≡ J.book }
     requires law { (root : ℕ) (events : List ℕ) → root ≡ sum events → J.stands root events }
 {
-    let (writer, mut views) = Cell::<u64, u64, J>::new(rt, alloc, opened, 1, 0)?;
-    let view = views.pop().expect(rt, "one");
+    let (writer, views) = Cell::<u64, u64, J>::new(rt, alloc, opened, 1, 0).expect(rt, "memory");
+    let view = only(rt, views);
     let writer = Ending { writer, rt };
     let (entered, published) = (AtomicU64::new(0), AtomicU64::new(0));
     let ((view, root, seen), _writer) = thread::join(
@@ -67,7 +64,6 @@ fn held<J: Brand<u64, u64> + Send + Sync, R: Threads + Wait + Abort + Sync>(
     assert_eq!(rt; (root, seen), (0, 1));
     let (_view, root, events) = look(rt, view);
     assert_eq!(rt; (root, events), (6, 3));
-    Ok(())
 }
 
 // Waits until the number is above 0, for a while.
@@ -122,22 +118,20 @@ fn publish_thrice<'a, J: Brand<u64, u64>, R: Wait + Abort>(
 }
 
 #[test]
-fn reads_beside_publishes_are_whole_and_have_all_that_was_learnt(
-    rt: HostRuntime,
-) -> Result<(), Fail> {
-    race::<marker::Brand, _>(&rt, rt.alloc(), OpenedBook::new())
+fn reads_beside_publishes_are_whole_and_have_all_that_was_learnt(rt: HostRuntime) {
+    race::<marker::Brand, _>(&rt, rt.alloc(), OpenedBook::new());
 }
 
 fn race<J: Brand<u64, u64> + Send + Sync, R: Threads + Wait + Abort + Sync>(
     rt: &R,
     alloc: Global,
     opened: OpenedBook<u64>,
-) -> Result<(), Fail>
+)
     requires book { opened.0 ≡ J.book }
     requires law { (root : ℕ) (events : List ℕ) → root ≡ sum events → J.stands root events }
 {
-    let (writer, mut views) = Cell::<u64, u64, J>::new(rt, alloc, opened, 1, 0)?;
-    let view = views.pop().expect(rt, "one");
+    let (writer, views) = Cell::<u64, u64, J>::new(rt, alloc, opened, 1, 0).expect(rt, "memory");
+    let view = only(rt, views);
     let writer = Ending { writer, rt };
     let told = Mutex::new(None);
     let ((view, wrong), _writer) = thread::join(
@@ -150,7 +144,6 @@ fn race<J: Brand<u64, u64> + Send + Sync, R: Threads + Wait + Abort + Sync>(
     assert_eq!(rt; wrong, 0);
     let (_view, root, events) = look(rt, view);
     assert_eq!(rt; (root, events), (3000, 1000));
-    Ok(())
 }
 
 // Learns each Note that comes, and counts the reads whose root is not three times its number of events, or that went back.

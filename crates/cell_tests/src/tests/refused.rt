@@ -1,15 +1,14 @@
 // A cell in a small heap, which refuses what does not fit.
-ghost use Rattle.std.specs.Prelude.{◌≡◌, ℕ, List, sum};
+ghost use Rattle.std.specs.Prelude.{◌≡◌, ℕ, List, [], sum};
 
-use super::sees;
+use super::{Seen, only, sees};
 use dots::Refusal;
 use linked_list_allocator::LocalHeap;
-use root_cell::{Brand, Cell, Itself, OpenedBook};
+use root_cell::{Brand, Cell, Itself, OpenedBook, Writer};
 use std::alloc::Global;
 use std::marker;
 use std::process::Abort;
 use std::sync::Wait;
-use std::test::Fail;
 
 // Takes what is left of the heap, in pieces of 8 bytes.
 fn fill<'a>(alloc: Global, heap: &'a LocalHeap) -> Vec<Vec<u8, &'a LocalHeap>> {
@@ -26,10 +25,24 @@ fn fill<'a>(alloc: Global, heap: &'a LocalHeap) -> Vec<Vec<u8, &'a LocalHeap>> {
 }
 
 #[test]
-fn a_publish_without_memory_leaves_the_cell_and_is_made_again(rt: HostRuntime) -> Result<(), Fail> {
-    let heap = LocalHeap::new(rt.alloc(), 20_000)?;
-    assert!(rt; publish_in::<marker::Brand, _>(&rt, rt.alloc(), &heap, OpenedBook::new())?);
-    Ok(())
+fn a_publish_without_memory_leaves_the_cell_and_is_made_again(rt: HostRuntime) {
+    let heap = LocalHeap::new(rt.alloc(), 20_000).expect(&rt, "memory");
+    assert!(rt; publish_in::<marker::Brand, _>(&rt, rt.alloc(), &heap, OpenedBook::new()));
+}
+
+// Whether a publish at a cell of no events is made, and seen.
+fn is_made<'a, J: Brand<u64, u64>, R: Wait + Abort>(
+    rt: &R,
+    writer: Writer<u64, u64, J, &'a LocalHeap>,
+    view: Seen<J, &'a LocalHeap>,
+) -> bool
+    requires empty { writer ≡ [] }
+    requires law { (root : ℕ) (events : List ℕ) → root ≡ sum events → J.stands root events }
+{
+    let (writer, answer) = writer.publish::<u64, Itself, R>(rt, 4, &4);
+    let (_view, one) = sees(rt, view, 4, 1);
+    writer.end(rt);
+    answer.is_ok() & one
 }
 
 // Whether a publish in a heap that is full is refused, and is then made with room for the one root.
@@ -38,12 +51,13 @@ fn publish_in<'a, J: Brand<u64, u64>, R: Wait + Abort>(
     alloc: Global,
     heap: &'a LocalHeap,
     opened: OpenedBook<u64>,
-) -> Result<bool, Fail>
+) -> bool
     requires book { opened.0 ≡ J.book }
     requires law { (root : ℕ) (events : List ℕ) → root ≡ sum events → J.stands root events }
 {
-    let (writer, mut views) = Cell::<u64, u64, J, &'a LocalHeap>::new(rt, heap, opened, 1, 0)?;
-    let view = views.pop().expect(rt, "one");
+    let made = Cell::<u64, u64, J, &'a LocalHeap>::new(rt, heap, opened, 1, 0);
+    let (writer, views) = made.expect(rt, "memory");
+    let view = only(rt, views);
     let mut pieces = fill(alloc, heap);
     let (writer, answer) = writer.publish::<u64, Itself, R>(rt, 4, &4);
     assert!(rt; answer == Err(Refusal::OutOfMemory));
@@ -51,22 +65,18 @@ fn publish_in<'a, J: Brand<u64, u64>, R: Wait + Abort>(
     // Room for the one root is all that the publish takes.
     pieces.pop();
     pieces.pop();
-    let (writer, answer) = writer.publish::<u64, Itself, R>(rt, 4, &4);
-    let is_published = answer.is_ok();
-    let (_view, one) = sees(rt, view, 4, 1);
-    writer.end(rt);
-    Ok(nothing && is_published && one)
+    is_made(rt, writer, view) & nothing
 }
 
 #[test]
-fn a_cell_without_memory_is_refused_and_leaves_none_behind(rt: HostRuntime) -> Result<(), Fail> {
+fn a_cell_without_memory_is_refused_and_leaves_none_behind(rt: HostRuntime) {
     for size in 0..200 {
-        let heap = LocalHeap::new(rt.alloc(), 16 * size)?;
+        let heap = LocalHeap::new(rt.alloc(), 16 * size).expect(&rt, "memory");
         let made = make_in::<marker::Brand, _>(&rt, &heap, OpenedBook::new());
         assert!(rt; heap.used() == 0);
         if made {
             assert!(rt; size > 20);
-            return Ok(());
+            return;
         }
     }
     panic!(rt; "a cell is small")
