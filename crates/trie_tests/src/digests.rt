@@ -1,9 +1,9 @@
 // The digests of worked maps. What is expected was computed by python3's hashlib of the pages, put together by hand.
-use crate::mapped::{Asked, Worked, is_so};
-use hash_path::{Fnv1a, PathHash, SameHash};
+use crate::mapped::{
+    Asked, LEFT, NOTHING, ONLY_A, THREE, TWO, TWO_FIELDS, TWO_VALUES, Worked, is_so,
+};
+use hash_path::{Fnv1a, SameHash};
 use prefix_digest::check;
-use std::alloc::Global;
-use std::test::Fail;
 
 // The key `a` with the dot 1:1 and the value x at the empty field, alone.
 const OF_A: [u8; 32] = [
@@ -56,62 +56,50 @@ const OF_ABC: [u8; 32] = [
     0xb0, 0x03, 0x61, 0xa3, 0x96, 0x17, 0x7a, 0x9c, 0xb4, 0x10, 0xff, 0x61, 0xf2, 0x00, 0x15, 0xad,
 ];
 
-// Whether this is the digest of the map by this hash at these indices, which are a prefix.
-fn is_at<H: PathHash>(
-    alloc: Global,
-    hash: H,
-    map: Worked,
-    path: &[u32],
-    wanted: Option<[u8; 32]>,
-) -> Result<bool, Fail> {
-    is_so(alloc, hash, map, path, Asked::Digest(wanted))
-}
+// Of what, a map, indices that are a prefix, and the digest there.
+type Row = (
+    &'static str,
+    Worked,
+    &'static [u32],
+    Option<&'static [u8; 32]>,
+);
+
+// One key has one digest at each prefix of its path, all values and fields of a key are told, two keys share their first
+// index, what is left has the digest that it has alone, and no keys have none.
+const BY_FNV1A: &[Row] = &[
+    ("one key", ONLY_A, &[], Some(&OF_A)),
+    ("one key, further", ONLY_A, &[12, 9], Some(&OF_A)),
+    ("another prefix", ONLY_A, &[12, 8], None),
+    ("all values", TWO_VALUES, &[], Some(&OF_TWO_VALUES)),
+    ("all fields", TWO_FIELDS, &[], Some(&OF_TWO_FIELDS)),
+    ("two keys", TWO, &[], Some(&AT_ROOT)),
+    ("two keys, further", TWO, &[5], Some(&AT_FIVE)),
+    ("one of two", TWO, &[5, 15], Some(&OF_B)),
+    ("what is left", LEFT, &[], Some(&OF_A)),
+    ("no keys", NOTHING, &[], None),
+];
 
 #[test]
-fn one_key_has_one_digest_at_each_prefix_of_its_path(rt: HostRuntime) -> Result<(), Fail> {
-    let alloc = rt.alloc();
-    assert!(rt; is_at(alloc, Fnv1a, Worked::OnlyA, &[], Some(OF_A))?);
-    assert!(rt; is_at(alloc, Fnv1a, Worked::OnlyA, &[12, 9], Some(OF_A))?);
-    assert!(rt; is_at(alloc, Fnv1a, Worked::OnlyA, &[12, 8], None)?);
-    Ok(())
+fn each_map_has_one_digest_at_each_prefix(rt: HostRuntime) {
+    for (of, map, path, wanted) in BY_FNV1A {
+        let asked = Asked::Digest(*wanted);
+        assert!(rt; is_so(&rt, rt.alloc(), Fnv1a, *map, path, asked), "{of}");
+    }
 }
 
-#[test]
-fn all_values_and_all_fields_of_a_key_are_told(rt: HostRuntime) -> Result<(), Fail> {
-    let alloc = rt.alloc();
-    assert!(rt; is_at(alloc, Fnv1a, Worked::TwoValues, &[], Some(OF_TWO_VALUES))?);
-    assert!(rt; is_at(alloc, Fnv1a, Worked::TwoFields, &[], Some(OF_TWO_FIELDS))?);
-    Ok(())
-}
+const BY_ONE_HASH: &[Row] = &[
+    ("three keys", THREE, &[], Some(&OF_ONE_HASH)),
+    ("three keys, at the end", THREE, &[0; 7], Some(&OF_LIST)),
+    ("what is left", LEFT, &[], Some(&OF_A)),
+];
 
 #[test]
-fn two_keys_share_their_first_index(rt: HostRuntime) -> Result<(), Fail> {
-    let alloc = rt.alloc();
-    assert!(rt; is_at(alloc, Fnv1a, Worked::Two, &[], Some(AT_ROOT))?);
-    assert!(rt; is_at(alloc, Fnv1a, Worked::Two, &[5], Some(AT_FIVE))?);
-    assert!(rt; is_at(alloc, Fnv1a, Worked::Two, &[5, 15], Some(OF_B))?);
-    Ok(())
-}
-
-#[test]
-fn keys_of_one_hash_are_told_past_the_last_index(rt: HostRuntime) -> Result<(), Fail> {
+fn keys_of_one_hash_are_told_past_the_last_index(rt: HostRuntime) {
     let (alloc, hash) = (rt.alloc(), SameHash(0));
-    assert!(rt; is_at(alloc, hash, Worked::Three, &[], Some(OF_ONE_HASH))?);
-    assert!(rt; is_at(alloc, hash, Worked::Three, &[0; 7], Some(OF_LIST))?);
-    Ok(())
-}
-
-#[test]
-fn what_is_left_has_the_digest_that_it_has_alone(rt: HostRuntime) -> Result<(), Fail> {
-    assert!(rt; is_at(rt.alloc(), SameHash(0), Worked::Left, &[], Some(OF_A))?);
-    assert!(rt; is_at(rt.alloc(), Fnv1a, Worked::Left, &[], Some(OF_A))?);
-    Ok(())
-}
-
-#[test]
-fn no_keys_have_no_digest(rt: HostRuntime) -> Result<(), Fail> {
-    assert!(rt; is_at(rt.alloc(), Fnv1a, Worked::Nothing, &[], None)?);
-    Ok(())
+    for (of, map, path, wanted) in BY_ONE_HASH {
+        let asked = Asked::Digest(*wanted);
+        assert!(rt; is_so(&rt, alloc, hash, *map, path, asked), "{of}");
+    }
 }
 
 #[test]

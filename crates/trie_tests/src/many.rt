@@ -4,74 +4,67 @@ ghost use Rattle.hash_path.specs.Fnv1a.{fnv1a};
 ghost use Rattle.trie_tests.specs.FewBits.{few_bits};
 
 use crate::made::taken;
-use dots::{Key, Refusal};
+use dots::Key;
 use gen_trie::{Frozen, GenTrie, NoSummary};
 use hash_path::{Fnv1a, PathHash};
 use std::alloc::Global;
 use std::collections::BTreeMap;
-use std::test::Fail;
+use std::process::Abort;
 
 type Plain = BTreeMap<u64, u64, Global>;
 
 // Puts one value into both.
 fn put_both<H: PathHash>(
+    rt: &impl Abort,
     alloc: Global,
     trie: &mut GenTrie<u64, NoSummary, H>,
     plain: &mut Plain,
     number: u64,
     value: u64,
-) -> Result<(), Fail> {
-    let key = Key::new(alloc, &number.to_be_bytes())?;
-    trie.insert(key, value)?;
-    plain.insert(number, value)?;
-    Ok(())
+) {
+    let key = Key::new(alloc, &number.to_be_bytes()).expect(rt, "memory");
+    trie.insert(key, value).expect(rt, "memory");
+    let put: Result<_, _> = plain.insert(number, value);
+    put.expect(rt, "memory");
 }
 
-// Takes a key out of both, and tells whether the two had the same there.
-fn take_both<H: PathHash>(
-    alloc: Global,
-    trie: &mut GenTrie<u64, NoSummary, H>,
-    plain: &mut Plain,
-    number: u64,
-) -> Result<bool, Refusal> {
-    let value = taken(alloc, trie, &number.to_be_bytes())?;
-    Ok(value == plain.remove(&number))
-}
-
-// Writes into both at a key: three times of four a value, else the key is taken out.
+// Writes into both at a key: three times of four a value, else the key is taken out. Tells whether the two had the same
+// where it was.
 fn step<H: PathHash>(
+    rt: &impl Abort,
     alloc: Global,
     trie: &mut GenTrie<u64, NoSummary, H>,
     plain: &mut Plain,
     keys: u64,
     seed: u64,
-) -> Result<bool, Fail> {
+) -> bool {
     let number = (seed >> 33) % keys.max(1);
     if (seed >> 20) % 4 == 0 {
-        return Ok(take_both(alloc, trie, plain, number)?);
+        return taken(rt, alloc, trie, &number.to_be_bytes()) == plain.remove(&number);
     }
-    put_both(alloc, trie, plain, number, seed)?;
-    Ok(true)
+    put_both(rt, alloc, trie, plain, number, seed);
+    true
 }
 
 // Writes so often into both, by a linear congruential generator, and tells whether the two had the same where keys were taken out.
 fn run<H: PathHash>(
+    rt: &impl Abort,
     alloc: Global,
     trie: &mut GenTrie<u64, NoSummary, H>,
     plain: &mut Plain,
     keys: u64,
     from: u64,
     steps: u32,
-) -> Result<bool, Fail> {
+) -> bool {
     let mut seed = from;
     let mut same = true;
     for _ in 0..steps {
         seed = seed
             .wrapping_mul(6_364_136_223_846_793_005)
             .wrapping_add(1_442_695_040_888_963_407);
-        same = step(alloc, trie, plain, keys, seed)? && same;
+        same = step(rt, alloc, trie, plain, keys, seed) && same;
     }
-    Ok(same)
+    same
 }
 
 // Whether the two have the same at this key.
@@ -100,43 +93,44 @@ fn agree<H: PathHash>(frozen: &Frozen<u64, NoSummary, H>, plain: &Plain, keys: u
 
 // Whether a freeze has what the plain map had then, once 2,000 writes are made beside it.
 fn write_beside<H: PathHash>(
+    rt: &impl Abort,
     alloc: Global,
     trie: &mut GenTrie<u64, NoSummary, H>,
     plain: &mut Plain,
     keys: u64,
     from: u64,
-) -> Result<bool, Fail> {
-    let then = plain.clone()?;
-    let frozen = trie.freeze()?;
-    let same = run(alloc, trie, plain, keys, from, 2000)?;
-    Ok(agree(&frozen, &then, keys) && same)
+) -> bool {
+    let then = plain.clone().expect(rt, "memory");
+    let frozen = trie.freeze().expect(rt, "memory");
+    let same = run(rt, alloc, trie, plain, keys, from, 2000);
+    agree(&frozen, &then, keys) && same
 }
 
 // 22,000 writes so, and whether all that is so.
 fn write_all<H: PathHash>(
+    rt: &impl Abort,
     alloc: Global,
     trie: &mut GenTrie<u64, NoSummary, H>,
     plain: &mut Plain,
     keys: u64,
-) -> Result<bool, Fail> {
+) -> bool {
     let mut same = true;
     for round in 1..12 {
-        same = write_beside(alloc, trie, plain, keys, round)? && same;
+        same = write_beside(rt, alloc, trie, plain, keys, round) && same;
     }
-    Ok(same)
+    same
 }
 
 // The same of an empty trie and an empty map.
-fn writes_agree<H: PathHash>(alloc: Global, hash: H, keys: u64) -> Result<bool, Fail> {
+fn writes_agree<H: PathHash>(rt: &impl Abort, alloc: Global, hash: H, keys: u64) -> bool {
     let mut plain = Plain::new(alloc);
     let mut trie = GenTrie::new(alloc, hash);
-    write_all(alloc, &mut trie, &mut plain, keys)
+    write_all(rt, alloc, &mut trie, &mut plain, keys)
 }
 
 #[test]
-fn random_writes_agree_with_a_plain_map(rt: HostRuntime) -> Result<(), Fail> {
-    assert!(rt; writes_agree(rt.alloc(), Fnv1a, 3000)?);
-    Ok(())
+fn random_writes_agree_with_a_plain_map(rt: HostRuntime) {
+    assert!(rt; writes_agree(&rt, rt.alloc(), Fnv1a, 3000));
 }
 
 // A hash of eight values, which differ at three depths.
@@ -154,7 +148,6 @@ impl PathHash for FewHashes {
 }
 
 #[test]
-fn random_writes_agree_where_hashes_meet(rt: HostRuntime) -> Result<(), Fail> {
-    assert!(rt; writes_agree(rt.alloc(), FewHashes, 200)?);
-    Ok(())
+fn random_writes_agree_where_hashes_meet(rt: HostRuntime) {
+    assert!(rt; writes_agree(&rt, rt.alloc(), FewHashes, 200));
 }

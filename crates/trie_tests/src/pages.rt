@@ -1,11 +1,11 @@
 // The pages of worked maps, and the values that they name. What is expected was put together by hand, with digests computed
 // by python3's hashlib.
-use crate::mapped::{Asked, Worked, is_so};
-use dots::{Refusal, Value};
-use hash_path::{Fnv1a, PathHash, SameHash};
+use crate::mapped::{Asked, LEFT, ONLY_A, THREE, TWO, TWO_FIELDS, Worked, is_so};
+use dots::Value;
+use hash_path::{Fnv1a, SameHash};
 use prefix_digest::value_digest;
 use std::alloc::Global;
-use std::test::Fail;
+use std::process::Abort;
 
 // The page of the key `a` with the dot 1:1 and the value x at the empty field, alone.
 const PAGE_OF_A: [u8; 70] = [
@@ -96,102 +96,62 @@ const NAME_OF_X: [u8; 32] = [
     0xc8, 0x53, 0x0f, 0xb1, 0x90, 0x3c, 0xc4, 0xdb, 0x02, 0x25, 0x87, 0x17, 0x92, 0x1a, 0x48, 0x81,
 ];
 
-// Whether these are the bytes of the page at these indices, and its digest that of the map there.
-fn is_page<H: PathHash>(
-    alloc: Global,
-    hash: H,
-    map: Worked,
-    path: &[u32],
-    wanted: &[u8],
-) -> Result<bool, Fail> {
-    is_so(alloc, hash, map, path, Asked::Page(wanted))
-}
+// Of what, a map, indices that are a prefix, and what is asked there.
+type Row = (&'static str, Worked, &'static [u32], Asked<'static>);
+
+// A page has the digest of the map there and names its values, and that of the empty key is a byte shorter. Values are given
+// at unknown dots.
+const BY_FNV1A: &[Row] = &[
+    ("one key", ONLY_A, &[], Asked::Page(&PAGE_OF_A)),
+    ("one key, further", ONLY_A, &[12], Asked::Page(&PAGE_OF_A)),
+    ("empty key", TWO, &[5, 14], Asked::Page(&PAGE_OF_EMPTY)),
+    ("two keys", TWO, &[5], Asked::Page(&PAGE_AT_FIVE)),
+    ("no keys", ONLY_A, &[13], Asked::NoPage),
+    ("all", TWO_FIELDS, &[], Asked::Values(&[], b"xyz")),
+    ("two", TWO_FIELDS, &[12], Asked::Values(&[(1, 1)], b"yz")),
+];
 
 #[test]
-fn a_page_of_one_key_names_its_value(rt: HostRuntime) -> Result<(), Fail> {
-    let alloc = rt.alloc();
-    assert!(rt; is_page(alloc, Fnv1a, Worked::OnlyA, &[], &PAGE_OF_A)?);
-    assert!(rt; is_page(alloc, Fnv1a, Worked::OnlyA, &[12], &PAGE_OF_A)?);
-    assert!(rt; is_page(alloc, SameHash(0), Worked::Left, &[], &PAGE_OF_A)?);
-    Ok(())
+fn a_page_names_its_values(rt: HostRuntime) {
+    for (of, map, path, asked) in BY_FNV1A {
+        assert!(rt; is_so(&rt, rt.alloc(), Fnv1a, *map, path, *asked), "{of}");
+    }
 }
 
-#[test]
-fn a_page_of_the_empty_key_is_a_byte_shorter(rt: HostRuntime) -> Result<(), Fail> {
-    let alloc = rt.alloc();
-    assert!(rt; is_page(alloc, Fnv1a, Worked::Two, &[5, 14], &PAGE_OF_EMPTY)?);
-    assert!(rt; is_page(alloc, Fnv1a, Worked::Two, &[5], &PAGE_AT_FIVE)?);
-    Ok(())
-}
+// What is left has the page that it has alone, and values of several keys are given in a list alone.
+const BY_ONE_HASH: &[Row] = &[
+    ("one key", LEFT, &[], Asked::Page(&PAGE_OF_A)),
+    ("list", THREE, &[0; 7], Asked::Page(&PAGE_OF_LIST)),
+    ("two", THREE, &[0; 7], Asked::Values(&[(1, 2)], b"xz")),
+    ("none", THREE, &[0; 6], Asked::Values(&[], b"")),
+];
 
 // Whether the page of three keys at these indices is the index 0 and this digest.
-fn is_chained(alloc: Global, path: &[u32], below: &[u8; 32]) -> Result<bool, Fail> {
-    let mut wanted = [2u8; 34];
-    wanted[1] = 0;
-    wanted[2..].copy_from_slice(below);
-    is_page(alloc, SameHash(0), Worked::Three, path, &wanted)
+fn is_chained(rt: &impl Abort, alloc: Global, path: &[u32], below: &[u8; 32]) -> bool {
+    let mut page = [2u8; 34];
+    page[1] = 0;
+    page[2..].copy_from_slice(below);
+    is_so(rt, alloc, SameHash(0), THREE, path, Asked::Page(&page))
 }
 
-// Whether the pages of three keys before the last index are the index 0 and the digest below.
-fn are_chained(alloc: Global) -> Result<bool, Fail> {
-    let path = [0; 6];
-    let mut same = true;
-    for (depth, below) in BELOW.iter().enumerate() {
-        same = is_chained(alloc, &path[..depth], below)? && same;
+#[test]
+fn keys_of_one_hash_have_a_page_at_each_depth(rt: HostRuntime) {
+    let (alloc, hash) = (rt.alloc(), SameHash(0));
+    for (of, map, path, asked) in BY_ONE_HASH {
+        assert!(rt; is_so(&rt, alloc, hash, *map, path, *asked), "{of}");
     }
-    Ok(same)
-}
-
-#[test]
-fn keys_of_one_hash_have_a_page_at_each_depth(rt: HostRuntime) -> Result<(), Fail> {
-    let alloc = rt.alloc();
-    assert!(rt; are_chained(alloc)?);
-    assert!(rt; is_page(alloc, SameHash(0), Worked::Three, &[0; 7], &PAGE_OF_LIST)?);
-    Ok(())
-}
-
-#[test]
-fn no_keys_have_no_page(rt: HostRuntime) -> Result<(), Fail> {
-    assert!(rt; is_so(rt.alloc(), Fnv1a, Worked::OnlyA, &[13], Asked::NoPage)?);
-    Ok(())
+    for (depth, below) in BELOW.iter().enumerate() {
+        assert!(rt; is_chained(&rt, alloc, &[0; 6][..depth], below), "{depth}");
+    }
 }
 
 // The name of the value x.
-fn name_of_x(alloc: Global) -> Result<[u8; 32], Refusal> {
-    let value = Value::new(alloc, b"x")?;
-    Ok(value_digest(&value))
+fn name_of_x(rt: &impl Abort, alloc: Global) -> [u8; 32] {
+    let value = Value::new(alloc, b"x").expect(rt, "memory");
+    value_digest(&value)
 }
 
 #[test]
-fn a_value_is_named_by_its_digest(rt: HostRuntime) -> Result<(), Fail> {
-    assert!(rt; name_of_x(rt.alloc())? == NAME_OF_X);
-    Ok(())
-}
-
-// Whether the page of a worked map at these indices names values of these bytes to who knows these dots.
-fn are_values<H: PathHash>(
-    alloc: Global,
-    hash: H,
-    map: Worked,
-    path: &[u32],
-    known: &[(u64, u64)],
-    wanted: &[u8],
-) -> Result<bool, Fail> {
-    is_so(alloc, hash, map, path, Asked::Values(known, wanted))
-}
-
-#[test]
-fn values_at_unknown_dots_are_given(rt: HostRuntime) -> Result<(), Fail> {
-    let (alloc, map) = (rt.alloc(), Worked::TwoFields);
-    assert!(rt; are_values(alloc, Fnv1a, map, &[], &[], b"xyz")?);
-    assert!(rt; are_values(alloc, Fnv1a, map, &[12], &[(1, 1)], b"yz")?);
-    Ok(())
-}
-
-#[test]
-fn values_of_several_keys_are_given_in_a_list_alone(rt: HostRuntime) -> Result<(), Fail> {
-    let (alloc, hash) = (rt.alloc(), SameHash(0));
-    assert!(rt; are_values(alloc, hash, Worked::Three, &[0; 7], &[(1, 2)], b"xz")?);
-    assert!(rt; are_values(alloc, hash, Worked::Three, &[0; 6], &[], b"")?);
-    Ok(())
+fn a_value_is_named_by_its_digest(rt: HostRuntime) {
+    assert!(rt; name_of_x(&rt, rt.alloc()) == NAME_OF_X);
 }
