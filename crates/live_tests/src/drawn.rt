@@ -1,17 +1,15 @@
 // Random operations on a live pair, beside a plain ordered map.
 ghost use Rattle.std.specs.Prelude.{◌<◌};
 
-use crate::made::{LiveSets, dot, is_absent, remove_all, stands, write_at};
-use dots::{Dot, Refusal};
+use crate::made::{LiveSets, Pair, is_absent, remove_all, stands, write_at};
 use hash_path::{Fnv1a, PathHash, SameHash};
 use live_map::Live;
 use std::alloc::Global;
 use std::collections::BTreeMap;
 use std::process::Abort;
-use std::test::Fail;
 
 // What stands at each key: the dot of its last write.
-type Plain = BTreeMap<u64, Dot>;
+type Plain = BTreeMap<u64, Pair>;
 
 // A source of numbers that look random: a linear congruential generator.
 #[derive(Drop)]
@@ -35,102 +33,101 @@ impl Draws {
 
 // Writes the dot at the key, over what stands there.
 fn write<H: PathHash>(
+    rt: &impl Abort,
     alloc: Global,
     live: &mut LiveSets<H, Global>,
     plain: &mut Plain,
     key: u64,
-    one: Dot,
-) -> Result<(), Refusal> {
+    one: Pair,
+) {
     match plain.get(&key).copied() {
-        Some(old) => write_at(alloc, live, &key.to_be_bytes(), one, &[old, one])?,
-        None => write_at(alloc, live, &key.to_be_bytes(), one, &[one])?,
+        Some(old) => write_at(rt, alloc, live, &key.to_be_bytes(), one, &[old, one]),
+        None => write_at(rt, alloc, live, &key.to_be_bytes(), one, &[one]),
     }
-    plain.insert(key, one)?;
-    Ok(())
+    let put: Result<_, _> = plain.insert(key, one);
+    put.expect(rt, "memory");
 }
 
 // Removes what stands at the key.
 fn remove<H: PathHash>(
+    rt: &impl Abort,
     alloc: Global,
     live: &mut LiveSets<H, Global>,
     plain: &mut Plain,
     key: u64,
-) -> Result<(), Refusal> {
-    if let Some(old) = plain.get(&key).copied() {
-        remove_all(alloc, live, &[old])?;
+) {
+    if let Some(old) = plain.remove(&key) {
+        remove_all(rt, alloc, live, &[old]);
     }
-    plain.remove(&key);
-    Ok(())
 }
 
 // Whether the pair has at the key what the plain map has.
 fn agrees_at<H: PathHash>(
+    rt: &impl Abort,
     alloc: Global,
     live: &LiveSets<H, Global>,
     plain: &Plain,
     key: u64,
-) -> Result<bool, Refusal> {
+) -> bool {
     match plain.get(&key).copied() {
-        Some(one) => stands(alloc, live, &key.to_be_bytes(), one),
-        None => is_absent(alloc, live, &key.to_be_bytes()),
+        Some(one) => stands(rt, alloc, live, &key.to_be_bytes(), one),
+        None => is_absent(rt, alloc, live, &key.to_be_bytes()),
     }
 }
 
 // Whether the pair has just what the plain map has, of the keys below 40.
 fn agrees<H: PathHash>(
+    rt: &impl Abort,
     alloc: Global,
     live: &LiveSets<H, Global>,
     plain: &Plain,
-) -> Result<bool, Refusal> {
+) -> bool {
     let mut all = live.store().size() == plain.len() as u64;
     for key in 0..40 {
-        all = all && agrees_at(alloc, live, plain, key)?;
+        all = all && agrees_at(rt, alloc, live, plain, key);
     }
-    Ok(all)
+    all
 }
 
-// So many writes and removes at 40 keys, each third of them a remove.
-fn steps<H: PathHash>(
+// Whether a pair and a plain map, which are empty, agree after so many writes and removes at 40 keys, each third of them a
+// remove.
+fn agree_after<H: PathHash>(
     rt: &impl Abort,
     alloc: Global,
     live: &mut LiveSets<H, Global>,
     plain: &mut Plain,
     count: u64,
-) -> Result<(), Refusal> {
+) -> bool {
     let mut draws = Draws { state: 7 };
     for number in 0..count {
         let key = draws.below(40);
         if draws.below(3) == 0 {
-            remove(alloc, live, plain, key)?;
+            remove(rt, alloc, live, plain, key);
         } else {
-            write(alloc, live, plain, key, dot(rt, 1 + key % 3, number + 1))?;
+            write(rt, alloc, live, plain, key, (1 + key % 3, number + 1));
         }
     }
-    Ok(())
+    agrees(rt, alloc, live, plain)
 }
 
-// Whether a pair and a plain map agree after 2,000 steps.
-fn run<H: PathHash>(rt: &impl Abort, alloc: Global, hash: H) -> Result<bool, Refusal> {
-    let mut live: LiveSets<H, Global> = Live::new(alloc, hash);
+// Whether new ones agree after 2,000 steps.
+fn run<H: PathHash>(rt: &impl Abort, alloc: Global, hash: H) -> bool {
     let mut plain = BTreeMap::new(alloc);
-    steps(rt, alloc, &mut live, &mut plain, 2_000)?;
-    agrees(alloc, &live, &plain)
+    let mut live: LiveSets<H, Global> = Live::new(alloc, hash);
+    agree_after(rt, alloc, &mut live, &mut plain, 2_000)
 }
 
 #[test]
-fn random_operations_agree_with_an_ordered_map(rt: HostRuntime) -> Result<(), Fail> {
-    assert!(rt; run(&rt, rt.alloc(), Fnv1a)?);
-    Ok(())
+fn random_operations_agree_with_an_ordered_map(rt: HostRuntime) {
+    assert!(rt; run(&rt, rt.alloc(), Fnv1a));
 }
 
 #[test]
-fn they_agree_where_all_keys_have_one_hash(rt: HostRuntime) -> Result<(), Fail> {
-    assert!(rt; run(&rt, rt.alloc(), SameHash(0))?);
-    Ok(())
+fn they_agree_where_all_keys_have_one_hash(rt: HostRuntime) {
+    assert!(rt; run(&rt, rt.alloc(), SameHash(0)));
 }
 
 #[test]
-fn they_agree_where_that_hash_is_the_greatest(rt: HostRuntime) -> Result<(), Fail> {
-    assert!(rt; run(&rt, rt.alloc(), SameHash(u32::MAX))?);
-    Ok(())
+fn they_agree_where_that_hash_is_the_greatest(rt: HostRuntime) {
+    assert!(rt; run(&rt, rt.alloc(), SameHash(u32::MAX)));
 }

@@ -1,129 +1,146 @@
 use causal_context::Context;
 use causal_join::Causal;
 use dot_store::{DotMap, DotSet, DotStore};
-use dots::{Dot, Key, Name, Refusal};
+use dots::{Dot, Key, Name};
 use gen_trie::NoSummary;
 use hash_path::PathHash;
 use live_map::Live;
 use std::alloc::Allocator;
 use std::process::Abort;
 
-// A map from keys to sets of dots.
-pub type Sets<A> = DotMap<Key<A>, DotSet<A>, A>;
+// The name and the number of a dot, neither of them 0.
+pub type Pair = (u64, u64);
 
-// A live pair of such a map.
+// A live pair of a map from keys to sets of dots.
 pub type LiveSets<H, A> = Live<DotSet<A>, NoSummary, H, A>;
 
-// The dot of this name and number, neither of them 0.
-pub fn dot(rt: &impl Abort, of: u64, number: u64) -> Dot {
-    Dot::new(Name::new(of).expect(rt, "a name"), number).expect(rt, "a number")
+pub fn dot(rt: &impl Abort, pair: Pair) -> Dot {
+    let name = Name::new(pair.0).expect(rt, "a name");
+    Dot::new(name, pair.1).expect(rt, "a number")
 }
 
-pub fn context_of<A: Allocator + Copy>(alloc: A, dots: &[Dot]) -> Result<Context<A>, Refusal> {
+pub fn context_of<A: Allocator + Copy>(rt: &impl Abort, alloc: A, dots: &[Pair]) -> Context<A> {
     let mut context = Context::new(alloc);
-    for dot in dots {
-        context.add(*dot)?;
+    for pair in dots {
+        context.add(dot(rt, *pair)).expect(rt, "memory");
     }
-    Ok(context)
+    context
 }
 
-pub fn set_of<A: Allocator + Copy>(alloc: A, dots: &[Dot]) -> Result<DotSet<A>, Refusal> {
+pub fn set_of<A: Allocator + Copy>(rt: &impl Abort, alloc: A, dots: &[Pair]) -> DotSet<A> {
     let mut set = DotSet::empty(alloc);
-    for dot in dots {
-        set.insert(*dot)?;
+    for pair in dots {
+        set.insert(dot(rt, *pair)).expect(rt, "memory");
     }
-    Ok(set)
+    set
 }
 
-// The map with these dots at the key, besides what it has at other keys.
-pub fn put<A: Allocator + Copy>(
+// Puts the store at the key, besides what the map has at other keys.
+pub fn put<S: DotStore<A>, A: Allocator + Copy>(
+    rt: &impl Abort,
     alloc: A,
-    map: &mut Sets<A>,
+    map: &mut DotMap<Key<A>, S, A>,
     key: &[u8],
-    dots: &[Dot],
-) -> Result<(), Refusal> {
-    let set = set_of(alloc, dots)?;
-    let key = Key::new(alloc, key)?;
-    map.insert(key, set)
+    store: S,
+) {
+    let key = Key::new(alloc, key).expect(rt, "memory");
+    map.insert(key, store).expect(rt, "memory");
 }
 
-// The pair of the map and the context, if no dot is outside.
-fn pair_of<A: Allocator + Copy>(map: Sets<A>, known: Context<A>) -> Option<Causal<Sets<A>, A>> {
-    Causal::from_parts(map, known)
-}
-
-// The pair of the map and the context of these dots. BadLine stands for a dot that is outside.
-pub fn pair<A: Allocator + Copy>(
+// The pair of the store and the context of these dots, none of the store's being outside.
+pub fn pair<S: DotStore<A>, A: Allocator + Copy>(
+    rt: &impl Abort,
     alloc: A,
-    map: Sets<A>,
-    known: &[Dot],
-) -> Result<Causal<Sets<A>, A>, Refusal> {
-    let known = context_of(alloc, known)?;
-    pair_of(map, known).ok_or(Refusal::BadLine)
+    store: S,
+    known: &[Pair],
+) -> Causal<S, A> {
+    let known = context_of(rt, alloc, known);
+    Causal::from_parts(store, known).expect(rt, "inside")
 }
 
-// The delta of a write of the dot at the key, which observed these.
-pub fn written<A: Allocator + Copy>(
+// Joins the delta of this map and this context in, none of the map's dots being outside.
+pub fn join_known<S: DotStore<A>, H: PathHash, A: Allocator + Copy>(
+    rt: &impl Abort,
     alloc: A,
+    live: &mut Live<S, NoSummary, H, A>,
+    map: DotMap<Key<A>, S, A>,
+    known: Context<A>,
+) {
+    let delta = Causal::from_parts(map, known).expect(rt, "inside");
+    live.join_delta(alloc, &delta).expect(rt, "memory");
+}
+
+// The same of a context of these dots.
+pub fn join<S: DotStore<A>, H: PathHash, A: Allocator + Copy>(
+    rt: &impl Abort,
+    alloc: A,
+    live: &mut Live<S, NoSummary, H, A>,
+    map: DotMap<Key<A>, S, A>,
+    known: &[Pair],
+) {
+    let known = context_of(rt, alloc, known);
+    join_known(rt, alloc, live, map, known);
+}
+
+// Joins the delta of a write of the store at the key in, which observed these dots.
+fn write_store<S: DotStore<A>, H: PathHash, A: Allocator + Copy>(
+    rt: &impl Abort,
+    alloc: A,
+    live: &mut Live<S, NoSummary, H, A>,
     key: &[u8],
-    dot: Dot,
-    known: &[Dot],
-) -> Result<Causal<Sets<A>, A>, Refusal> {
+    store: S,
+    known: &[Pair],
+) {
     let mut map = DotMap::empty(alloc);
-    put(alloc, &mut map, key, &[dot])?;
-    pair(alloc, map, known)
+    put(rt, alloc, &mut map, key, store);
+    join(rt, alloc, live, map, known);
 }
 
-// The delta of a remove that observed these dots.
-pub fn removed<A: Allocator + Copy>(
+// The same of a write of the dot.
+pub fn write_at<H: PathHash, A: Allocator + Copy>(
+    rt: &impl Abort,
     alloc: A,
-    known: &[Dot],
-) -> Result<Causal<Sets<A>, A>, Refusal> {
-    pair(alloc, DotMap::empty(alloc), known)
+    live: &mut LiveSets<H, A>,
+    key: &[u8],
+    dot: Pair,
+    known: &[Pair],
+) {
+    let set = set_of(rt, alloc, &[dot]);
+    write_store(rt, alloc, live, key, set, known);
+}
+
+// Joins the delta of a remove in that observed these dots.
+pub fn remove_all<S: DotStore<A>, H: PathHash, A: Allocator + Copy>(
+    rt: &impl Abort,
+    alloc: A,
+    live: &mut Live<S, NoSummary, H, A>,
+    known: &[Pair],
+) {
+    join(rt, alloc, live, DotMap::empty(alloc), known);
 }
 
 // Whether the dot stands at the key.
-pub fn stands<H: PathHash, A: Allocator + Copy>(
+pub fn stands<S: DotStore<A>, H: PathHash, A: Allocator + Copy>(
+    rt: &impl Abort,
     alloc: A,
-    live: &LiveSets<H, A>,
+    live: &Live<S, NoSummary, H, A>,
     key: &[u8],
-    dot: Dot,
-) -> Result<bool, Refusal> {
-    let key = Key::new(alloc, key)?;
+    one: Pair,
+) -> bool {
+    let key = Key::new(alloc, key).expect(rt, "memory");
     match live.store().get(&key) {
-        Some(set) => Ok(set.contains(dot)),
-        None => Ok(false),
+        Some(set) => set.contains(dot(rt, one)),
+        None => false,
     }
 }
 
 // Whether nothing stands at the key.
-pub fn is_absent<H: PathHash, A: Allocator + Copy>(
+pub fn is_absent<S: DotStore<A>, H: PathHash, A: Allocator + Copy>(
+    rt: &impl Abort,
     alloc: A,
-    live: &LiveSets<H, A>,
+    live: &Live<S, NoSummary, H, A>,
     key: &[u8],
-) -> Result<bool, Refusal> {
-    let key = Key::new(alloc, key)?;
-    Ok(live.store().get(&key).is_none())
-}
-
-// Joins the delta of a write of the dot at the key in, which observed these.
-pub fn write_at<H: PathHash, A: Allocator + Copy>(
-    alloc: A,
-    live: &mut LiveSets<H, A>,
-    key: &[u8],
-    dot: Dot,
-    known: &[Dot],
-) -> Result<(), Refusal> {
-    let delta = written(alloc, key, dot, known)?;
-    live.join_delta(alloc, &delta)
-}
-
-// Joins the delta of a remove in that observed these dots.
-pub fn remove_all<H: PathHash, A: Allocator + Copy>(
-    alloc: A,
-    live: &mut LiveSets<H, A>,
-    known: &[Dot],
-) -> Result<(), Refusal> {
-    let delta = removed(alloc, known)?;
-    live.join_delta(alloc, &delta)
+) -> bool {
+    let key = Key::new(alloc, key).expect(rt, "memory");
+    live.store().get(&key).is_none()
 }
