@@ -86,7 +86,8 @@ fn row(rt: &impl Abort, alloc: Global, above: u64, last: u64) -> Vec<Pair> {
     dots
 }
 
-// Whether of forty dots, of which the other side knows the first 30, and holds one of those and one of the others, these are left in either join.
+// Whether of forty dots, of which the other side knows the first 30 and holds one of those and one of the others, the last
+// ten and that one are left in either join.
 fn are_joined_to_their_ends(rt: &impl Abort, alloc: Global, two: &[Pair]) -> bool {
     let forty = row(rt, alloc, 0, 40);
     let known = row(rt, alloc, 0, 30);
