@@ -3,6 +3,7 @@ use dots::{Key, Name, Refusal, Value};
 use hash_path::Fnv1a;
 use replica_core::{Delivered, Replica};
 use std::alloc::Allocator;
+use std::panic::Expect;
 use std::process::Abort;
 use wire_form::Message;
 
@@ -33,16 +34,36 @@ pub(crate) fn put<A: Allocator + Copy>(
 }
 
 // Puts values on 40 keys.
-pub(crate) fn put_forty<A: Allocator + Copy>(heap: A, here: &mut Here<A>) -> Result<(), Refusal> {
+pub(crate) fn put_forty<A: Allocator + Copy>(rt: &impl Abort, heap: A, here: &mut Here<A>) {
     for number in 0..40u64 {
-        put(heap, here, &number.to_be_bytes(), b"v")?;
+        put(heap, here, &number.to_be_bytes(), b"v").expect(rt, "a put");
     }
-    Ok(())
+}
+
+// The hello by which the one asks the other, of this name.
+pub(crate) fn asked<A: Allocator + Copy>(
+    rt: &impl Abort,
+    asker: &mut Here<A>,
+    peer: u64,
+) -> Message<A> {
+    asker.ask(name(rt, peer)).expect(rt, "an ask").1
+}
+
+// What a message comes to.
+pub(crate) fn answered<A: Allocator + Copy>(
+    rt: &impl Abort,
+    here: &mut Here<A>,
+    message: &Message<A>,
+) -> Delivered<A> {
+    here.deliver(message).expect(rt, "a delivery")
 }
 
 // The first reply.
-pub(crate) fn first<A: Allocator + Copy>(told: &Delivered<A>) -> Result<&Message<A>, Refusal> {
-    told.replies.first().ok_or(Refusal::UnknownMessage)
+pub(crate) fn first<'t, A: Allocator + Copy>(
+    rt: &impl Abort,
+    told: &'t Delivered<A>,
+) -> &'t Message<A> {
+    told.replies.first().expect(rt, "a reply")
 }
 
 // What a replica shows and knows: the digest of its map, the number of its keys, and how far it knows the replicas 1 and 2.
@@ -56,10 +77,7 @@ pub(crate) struct Shown {
 
 // How far it knows the replica of this name.
 fn known<A: Allocator + Copy>(here: &Here<A>, number: u64) -> u64 {
-    match Name::new(number) {
-        Some(name) => here.context().entry(name),
-        None => 0,
-    }
+    Name::new(number).map_or(0, |name| here.context().entry(name))
 }
 
 pub(crate) fn what_shows<A: Allocator + Copy>(here: &Here<A>) -> Shown {

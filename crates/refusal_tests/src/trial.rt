@@ -2,6 +2,8 @@
 use dots::Refusal;
 use linked_list_allocator::LocalHeap;
 use std::alloc::Global;
+use std::panic::Expect;
+use std::process::Abort;
 
 // More pieces than any call here takes.
 const MOST: usize = 2_000;
@@ -12,7 +14,7 @@ pub(crate) trait Trial {
     fn attempt(&mut self) -> Result<(), Refusal>;
 
     // Whether all is as it was before the first call.
-    fn is_as_before(&mut self) -> Result<bool, Refusal>;
+    fn is_as_before(&mut self) -> bool;
 }
 
 // What a call comes to that answered what it should, or did not.
@@ -27,54 +29,70 @@ pub(crate) fn wanted(is_wanted: bool) -> Result<(), Refusal> {
 type Pieces<'a> = Vec<Vec<u8, &'a LocalHeap>>;
 
 // Takes pieces of so many bytes, at most so many of them, while the heap has any.
-fn take<'a>(heap: &'a LocalHeap, pieces: &mut Pieces<'a>, size: usize, most: usize) {
+fn take<'a>(
+    rt: &impl Abort,
+    heap: &'a LocalHeap,
+    pieces: &mut Pieces<'a>,
+    size: usize,
+    most: usize,
+) {
     for _ in 0..most {
         let Ok(piece) = Vec::with_capacity(heap, size) else {
             return;
         };
-        if pieces.push(piece).is_err() {
-            return;
-        }
+        pieces.push(piece).expect(rt, "memory");
     }
 }
 
-// All of the heap but for so many pieces of 8 bytes.
-fn all_but<'a>(alloc: Global, heap: &'a LocalHeap, room: usize) -> Pieces<'a> {
+// Free memory of a heap: so many pieces of so many bytes.
+#[derive(Clone, Copy)]
+pub(crate) struct Room {
+    pub(crate) pieces: usize,
+    pub(crate) bytes: usize,
+}
+
+// All of the heap but for this room.
+fn all_but<'a>(rt: &impl Abort, alloc: Global, heap: &'a LocalHeap, room: Room) -> Pieces<'a> {
     let (mut left, mut taken) = (Vec::new(alloc), Vec::new(alloc));
-    take(heap, &mut left, 8, room);
+    take(rt, heap, &mut left, room.bytes, room.pieces);
     for size in [4_096, 512, 64, 8] {
-        take(heap, &mut taken, size, MOST);
+        take(rt, heap, &mut taken, size, MOST);
     }
     taken
 }
 
-// What the call comes to in a heap that is full but for so many pieces of 8 bytes.
+// What the call comes to in a heap that is full but for this room.
 pub(crate) fn attempt_in<T: Trial>(
+    rt: &impl Abort,
     alloc: Global,
     heap: &LocalHeap,
-    room: usize,
+    room: Room,
     trial: &mut T,
 ) -> Result<(), Refusal> {
-    let _taken = all_but(alloc, heap, room);
+    let _taken = all_but(rt, alloc, heap, room);
     trial.attempt()
 }
 
-// How often the call is refused for want of memory before it is made: with no piece of the heap, with one, with two, and so on. Where a
-// refused call changed something it is NameTaken, and where the call is never made, NumbersSpent.
+// How often the call is refused for want of memory before it is made, and answers what it should: with no piece of so many bytes, with one, with
+// two, and so on. A refused call changes nothing.
 pub(crate) fn refusals<T: Trial>(
+    rt: &impl Abort,
     alloc: Global,
     heap: &LocalHeap,
+    bytes: usize,
     trial: &mut T,
-) -> Result<usize, Refusal> {
-    for room in 0..MOST {
-        match attempt_in(alloc, heap, room, trial) {
-            Ok(()) => return Ok(room),
-            Err(Refusal::OutOfMemory) => {}
-            Err(refusal) => return Err(refusal),
+) -> usize {
+    for pieces in 0..MOST {
+        let room = Room { pieces, bytes };
+        let attempted = attempt_in(rt, alloc, heap, room, trial);
+        if attempted.is_ok() {
+            return pieces;
         }
-        if !trial.is_as_before()? {
-            return Err(Refusal::NameTaken);
-        }
+        let is_as_before = trial.is_as_before();
+        assert!(rt;
+            attempted == Err(Refusal::OutOfMemory) && is_as_before,
+            "{pieces} pieces"
+        );
     }
-    Err(Refusal::NumbersSpent)
+    panic!(rt; "it is never made")
 }

@@ -10,7 +10,7 @@ use replica_core::Outcome;
 
 #[test]
 fn a_changed_page_does_not_fit_and_the_right_one_does_after_it(rt: HostRuntime) {
-    let rows = [
+    const ROWS: &[(usize, Event)] = &[
         (1, Event::Take(V_ON_EMPTY, Outcome::Joined, &[])),
         (1, Event::Ask(1, PEER_HELLO)),
         (1, Event::Take(UNDER_OPENING, Outcome::Sent, &[ASK_ROOT])),
@@ -27,13 +27,13 @@ fn a_changed_page_does_not_fit_and_the_right_one_does_after_it(rt: HostRuntime) 
         (1, Event::Knows(2, 2)),
         (1, Event::HasRoot(Some(UNDER_OPENING))),
     ];
-    assert!(rt; play(&rt, rt.alloc(), rows.as_slice()) == Ok(rows.len()));
+    play(&rt, rt.alloc(), ROWS);
 }
 
 // A branch page that is cut behind its first child is the page of a branch with that child, and not the one that was promised.
 #[test]
 fn messages_that_are_cut_or_too_long_are_none(rt: HostRuntime) {
-    let rows = [
+    const ROWS: &[(usize, Event)] = &[
         (1, Event::Take(V_ON_EMPTY, Outcome::Joined, &[])),
         (1, Event::Ask(1, PEER_HELLO)),
         (1, Event::Take(UNDER_OPENING, Outcome::Sent, &[ASK_ROOT])),
@@ -52,12 +52,12 @@ fn messages_that_are_cut_or_too_long_are_none(rt: HostRuntime) {
         (1, Event::Take(UNDER_PAGE_5_15, Outcome::Done, &[])),
         (1, Event::HasRoot(Some(UNDER_OPENING))),
     ];
-    assert!(rt; play(&rt, rt.alloc(), rows.as_slice()) == Ok(rows.len()));
+    play(&rt, rt.alloc(), ROWS);
 }
 
 #[test]
 fn pages_with_a_changed_bit_are_left(rt: HostRuntime) {
-    let rows = [
+    const ROWS: &[(usize, Event)] = &[
         (1, Event::Take(V_ON_EMPTY, Outcome::Joined, &[])),
         (1, Event::Ask(1, PEER_HELLO)),
         (1, Event::Take(UNDER_OPENING, Outcome::Sent, &[ASK_ROOT])),
@@ -73,13 +73,13 @@ fn pages_with_a_changed_bit_are_left(rt: HostRuntime) {
         (1, Event::Take(UNDER_PAGE_5_15, Outcome::Done, &[])),
         (1, Event::HasRoot(Some(UNDER_OPENING))),
     ];
-    assert!(rt; play(&rt, rt.alloc(), rows.as_slice()) == Ok(rows.len()));
+    play(&rt, rt.alloc(), ROWS);
 }
 
 // Whoever knows no dot can have nothing that another holds, and takes nothing away.
 #[test]
 fn a_peer_that_knows_no_dot_takes_nothing_away(rt: HostRuntime) {
-    let rows = [
+    const ROWS: &[(usize, Event)] = &[
         (1, Event::Put(b"a", b"x")),
         (1, Event::Ask(1, OWN_HELLO)),
         (1, Event::Take(OWN_ROOT_UNKNOWN, Outcome::Mismatch, &[])),
@@ -89,12 +89,12 @@ fn a_peer_that_knows_no_dot_takes_nothing_away(rt: HostRuntime) {
         (1, Event::Shows(b"a", &[b"x"])),
         (1, Event::Knows(1, 1)),
     ];
-    assert!(rt; play(&rt, rt.alloc(), rows.as_slice()) == Ok(rows.len()));
+    play(&rt, rt.alloc(), ROWS);
 }
 
 #[test]
 fn a_key_that_is_not_under_its_prefix_does_not_fit(rt: HostRuntime) {
-    let rows = [
+    const ROWS: &[(usize, Event)] = &[
         (1, Event::Ask(1, EMPTY_HELLO)),
         (1, Event::Take(A_AT_5_OPENING, Outcome::Sent, &[ASK_ROOT])),
         (1, Event::Take(A_AT_5_ROOT, Outcome::Sent, &[ASK_5])),
@@ -103,12 +103,12 @@ fn a_key_that_is_not_under_its_prefix_does_not_fit(rt: HostRuntime) {
         (1, Event::HasRoot(None)),
         (1, Event::Knows(1, 0)),
     ];
-    assert!(rt; play(&rt, rt.alloc(), rows.as_slice()) == Ok(rows.len()));
+    play(&rt, rt.alloc(), ROWS);
 }
 
 #[test]
 fn a_dot_that_the_peer_does_not_know_does_not_fit(rt: HostRuntime) {
-    let rows = [
+    const ROWS: &[(usize, Event)] = &[
         (1, Event::Ask(1, EMPTY_HELLO)),
         (1, Event::Take(B_AT_5_OPENING, Outcome::Sent, &[ASK_ROOT])),
         (1, Event::Take(B_AT_5_ROOT, Outcome::Sent, &[ASK_5])),
@@ -117,13 +117,13 @@ fn a_dot_that_the_peer_does_not_know_does_not_fit(rt: HostRuntime) {
         (1, Event::HasRoot(None)),
         (1, Event::Knows(1, 0)),
     ];
-    assert!(rt; play(&rt, rt.alloc(), rows.as_slice()) == Ok(rows.len()));
+    play(&rt, rt.alloc(), ROWS);
 }
 
 // The same page fits where the peer says that it knows the dot.
 #[test]
 fn a_dot_that_the_peer_knows_fits(rt: HostRuntime) {
-    let rows = [
+    const ROWS: &[(usize, Event)] = &[
         (1, Event::Ask(1, EMPTY_HELLO)),
         (1, Event::Take(B_AT_5_KNOWN, Outcome::Sent, &[ASK_ROOT])),
         (1, Event::Take(B_AT_5_ROOT, Outcome::Sent, &[ASK_5])),
@@ -131,17 +131,17 @@ fn a_dot_that_the_peer_knows_fits(rt: HostRuntime) {
         (1, Event::Shows(b"b", &[b"x"])),
         (1, Event::Knows(1, 1)),
     ];
-    assert!(rt; play(&rt, rt.alloc(), rows.as_slice()) == Ok(rows.len()));
+    play(&rt, rt.alloc(), ROWS);
 }
 
 #[test]
 fn of_a_thousand_snapshots_the_last_eight_are_kept(rt: HostRuntime) {
-    let rows = [
+    const ROWS: &[(usize, Event)] = &[
         (2, Event::Put(b"a", b"x")),
         (2, Event::TakeOften(1_000, EMPTY_HELLO, FIRST_OPENING)),
         (2, Event::TakeOf(992, ASK_ROOT, GONE)),
         (2, Event::TakeOf(993, ASK_ROOT, FIRST_PAGE)),
         (2, Event::TakeOf(1_000, ASK_ROOT, FIRST_PAGE)),
     ];
-    assert!(rt; play(&rt, rt.alloc(), rows.as_slice()) == Ok(rows.len()));
+    play(&rt, rt.alloc(), ROWS);
 }

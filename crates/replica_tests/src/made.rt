@@ -1,34 +1,47 @@
 // What the tests of replicas are made of.
-use dots::{Key, Name, Refusal, Value};
+use dots::{Key, Name, Value};
 use hash_path::Fnv1a;
 use replica_core::Replica;
 use std::alloc::Global;
+use std::panic::Expect;
 use std::process::Abort;
 use wire_form::{Message, decode, encode};
 
+// The name of this number, which is not 0.
+pub(crate) fn name(rt: &impl Abort, number: u64) -> Name {
+    Name::new(number).expect(rt, "a name")
+}
+
 // A replica of this name, which is not 0, to which nothing happened.
 pub(crate) fn replica(rt: &impl Abort, alloc: Global, number: u64) -> Replica {
-    Replica::new(alloc, Name::new(number).expect(rt, "a name"), Fnv1a)
+    Replica::new(alloc, name(rt, number), Fnv1a)
+}
+
+pub(crate) fn key_of(rt: &impl Abort, alloc: Global, bytes: &[u8]) -> Key {
+    Key::new(alloc, bytes).expect(rt, "a key")
+}
+
+pub(crate) fn value_of(rt: &impl Abort, alloc: Global, bytes: &[u8]) -> Value {
+    Value::new(alloc, bytes).expect(rt, "a value")
 }
 
 // Puts the value on the key, and gives the number of its dot.
 pub(crate) fn put(
+    rt: &impl Abort,
     alloc: Global,
     here: &mut Replica,
     key: &[u8],
     value: &[u8],
-) -> Result<u64, Refusal> {
-    let key = Key::new(alloc, key)?;
-    let value = Value::new(alloc, value)?;
-    let dot = here.put(&key, &value)?;
-    Ok(dot.number())
+) -> u64 {
+    let key = key_of(rt, alloc, key);
+    let value = value_of(rt, alloc, value);
+    here.put(&key, &value).expect(rt, "a put").number()
 }
 
 // Removes the key, and gives how many writes were observed.
-pub(crate) fn remove(alloc: Global, here: &mut Replica, key: &[u8]) -> Result<u64, Refusal> {
-    let key = Key::new(alloc, key)?;
-    let number = here.remove(&key)?;
-    Ok(number)
+pub(crate) fn remove(rt: &impl Abort, alloc: Global, here: &mut Replica, key: &[u8]) -> u64 {
+    let key = key_of(rt, alloc, key);
+    here.remove(&key).expect(rt, "a remove")
 }
 
 // Whether these are the values, in this order.
@@ -46,43 +59,47 @@ pub(crate) fn are(found: &[Value], values: &[&[u8]]) -> bool {
 
 // Whether the key has these values.
 pub(crate) fn shows(
+    rt: &impl Abort,
     alloc: Global,
     here: &Replica,
     key: &[u8],
     values: &[&[u8]],
-) -> Result<bool, Refusal> {
-    let key = Key::new(alloc, key)?;
-    let found = here.get(&key)?;
-    Ok(are(found.as_slice(), values))
+) -> bool {
+    let key = key_of(rt, alloc, key);
+    are(&here.get(&key).expect(rt, "memory"), values)
 }
 
 // The bytes of what the replica made since it last sent; none where it made nothing.
-pub(crate) fn sent(alloc: Global, from: &mut Replica) -> Result<Vec<u8, Global>, Refusal> {
-    match from.flush()? {
-        None => Ok(Vec::new(alloc)),
-        Some(message) => encode(alloc, &message),
+pub(crate) fn sent(rt: &impl Abort, alloc: Global, from: &mut Replica) -> Vec<u8> {
+    spelled(rt, alloc, &from.flush().expect(rt, "a flush"))
+}
+
+// The bytes of a message; none where there is none.
+fn spelled(rt: &impl Abort, alloc: Global, message: &Option<Message>) -> Vec<u8> {
+    match message {
+        None => Vec::new(alloc),
+        Some(message) => encode(alloc, message).expect(rt, "memory"),
     }
 }
 
 // Whether what it made is sent with these bytes.
-pub(crate) fn sends(alloc: Global, from: &mut Replica, bytes: &[u8]) -> Result<bool, Refusal> {
-    let made = sent(alloc, from)?;
-    Ok(made.as_slice() == bytes)
+pub(crate) fn sends(rt: &impl Abort, alloc: Global, from: &mut Replica, bytes: &[u8]) -> bool {
+    sent(rt, alloc, from).as_slice() == bytes
 }
 
 // Whether it knows the dots of a name up to this number.
-pub(crate) fn knows(here: &Replica, name: u64, number: u64) -> Result<bool, Refusal> {
-    let name = Name::new(name).ok_or(Refusal::UnknownReplica)?;
-    Ok(here.context().entry(name) == number)
+pub(crate) fn knows(rt: &impl Abort, here: &Replica, of: u64, number: u64) -> bool {
+    here.context().entry(name(rt, of)) == number
 }
 
 // Takes the bytes of a delta in; those of another message are left.
-pub(crate) fn take(alloc: Global, to: &mut Replica, bytes: &[u8]) -> Result<(), Refusal> {
-    match decode(alloc, bytes)? {
-        Message::Delta(_) => {
-            to.deliver_bytes(bytes)?;
-            Ok(())
-        }
-        _ => Ok(()),
+pub(crate) fn take(rt: &impl Abort, alloc: Global, to: &mut Replica, bytes: &[u8]) {
+    if is_delta(&decode(alloc, bytes).expect(rt, "a message")) {
+        let told = to.deliver_bytes(bytes);
+        let _ = told.expect(rt, "a delivery");
     }
+}
+
+fn is_delta(message: &Message) -> bool {
+    matches!(message, Message::Delta(_))
 }

@@ -1,12 +1,13 @@
 // What happens to three replicas, row by row, and what comes of it.
 use crate::asking::{asks, asks_in_vain, asks_often, retries};
-use crate::made::{knows, put, remove, replica, sends, shows};
+use crate::made::{key_of, knows, put, remove, replica, sends, shows, value_of};
 use crate::session_bytes::bytes_of;
 use crate::spoiled::{leaves_changed, refuses_spoiled};
 use crate::taking::{answers_of, answers_often, has_root, takes};
 use dots::Refusal;
 use replica_core::{Outcome, Replica};
 use std::alloc::Global;
+use std::panic::Expect;
 use std::process::Abort;
 
 // What happens to a replica, and what comes of it. Messages are told by their numbers.
@@ -50,91 +51,74 @@ pub(crate) enum Event {
     HasRoot(Option<usize>),
 }
 
-fn puts(alloc: Global, here: &mut Replica, key: &[u8], value: &[u8]) -> Result<bool, Refusal> {
-    let number = put(alloc, here, key, value)?;
-    Ok(number > 0)
-}
-
-fn removes(alloc: Global, here: &mut Replica, key: &[u8], count: u64) -> Result<bool, Refusal> {
-    let observed = remove(alloc, here, key)?;
-    Ok(observed == count)
-}
-
 // Puts a copy in the place of the replica.
-fn goes_on_as_copy(here: &mut Replica) -> Result<bool, Refusal> {
-    *here = here.copy()?;
-    Ok(true)
+fn go_on_as_copy(rt: &impl Abort, here: &mut Replica) -> bool {
+    *here = here.copy().expect(rt, "memory");
+    true
+}
+
+// Whether a put on the key is refused, since the last number of the name is known.
+fn puts_in_vain(rt: &impl Abort, alloc: Global, here: &mut Replica, key: &[u8]) -> bool {
+    let key = key_of(rt, alloc, key);
+    let value = value_of(rt, alloc, b"x");
+    here.put(&key, &value) == Err(Refusal::NumbersSpent)
 }
 
 // Whether this comes of what happens to a replica.
-fn happens(alloc: Global, here: &mut Replica, event: Event) -> Result<bool, Refusal> {
+fn happens(rt: &impl Abort, alloc: Global, here: &mut Replica, event: Event) -> bool {
     match event {
-        Event::Put(key, value) => puts(alloc, here, key, value),
-        Event::PutInVain(key) => Ok(put(alloc, here, key, b"x") == Err(Refusal::NumbersSpent)),
-        Event::Remove(key, count) => removes(alloc, here, key, count),
-        Event::Flush(message) => sends(alloc, here, bytes_of(message)),
-        Event::Copy => goes_on_as_copy(here),
-        Event::Ask(session, hello) => asks(alloc, here, session, bytes_of(hello)),
-        Event::AskOften(count, hello) => asks_often(alloc, here, count, bytes_of(hello)),
-        Event::AskInVain => asks_in_vain(here),
-        Event::Retry(session, outcome, again) => retries(alloc, here, session, outcome, again),
-        Event::Abandon(session, was_open) => Ok(here.abandon(session) == was_open),
-        Event::Take(message, outcome, replies) => takes(alloc, here, message, outcome, replies),
-        Event::TakeOf(session, message, reply) => answers_of(alloc, here, session, message, reply),
-        Event::TakeOften(count, sent, reply) => answers_often(alloc, here, count, sent, reply),
-        Event::TakeSpoiled(sent, unfit) => refuses_spoiled(alloc, here, bytes_of(sent), unfit),
-        Event::TakeChanged(message) => leaves_changed(alloc, here, bytes_of(message)),
-        Event::Shows(key, values) => shows(alloc, here, key, values),
-        Event::Knows(name, number) => knows(here, name, number),
-        Event::HasRoot(opening) => Ok(has_root(here, opening)),
+        Event::Put(key, value) => put(rt, alloc, here, key, value) > 0,
+        Event::PutInVain(key) => puts_in_vain(rt, alloc, here, key),
+        Event::Remove(key, count) => remove(rt, alloc, here, key) == count,
+        Event::Flush(sent) => sends(rt, alloc, here, bytes_of(sent)),
+        Event::Copy => go_on_as_copy(rt, here),
+        Event::Ask(session, hello) => asks(rt, alloc, here, session, bytes_of(hello)),
+        Event::AskOften(count, hello) => asks_often(rt, alloc, here, count, bytes_of(hello)),
+        Event::AskInVain => asks_in_vain(rt, here),
+        Event::Retry(session, outcome, again) => retries(rt, alloc, here, session, outcome, again),
+        Event::Abandon(session, was_open) => here.abandon(session) == was_open,
+        Event::Take(sent, outcome, replies) => takes(rt, alloc, here, sent, outcome, replies),
+        Event::TakeOf(session, sent, reply) => answers_of(rt, alloc, here, session, sent, reply),
+        Event::TakeOften(count, sent, reply) => answers_often(rt, alloc, here, count, sent, reply),
+        Event::TakeSpoiled(sent, unfit) => refuses_spoiled(rt, alloc, here, bytes_of(sent), unfit),
+        Event::TakeChanged(sent) => leaves_changed(rt, alloc, here, bytes_of(sent)),
+        Event::Shows(key, values) => shows(rt, alloc, here, key, values),
+        Event::Knows(name, number) => knows(rt, here, name, number),
+        Event::HasRoot(opening) => has_root(here, opening),
     }
 }
 
 // Replicas of the names 1, 2 and 3.
-fn three(rt: &impl Abort, alloc: Global) -> Result<Vec<Replica>, Refusal> {
-    let mut replicas = Vec::with_capacity(alloc, 3)?;
+fn three(rt: &impl Abort, alloc: Global) -> Vec<Replica> {
+    let mut replicas = Vec::new(alloc);
     for name in 1..4 {
-        replicas.push(replica(rt, alloc, name))?;
+        replicas.push(replica(rt, alloc, name)).expect(rt, "memory");
     }
-    Ok(replicas)
+    replicas
 }
 
 // Whether this comes of what happens to one of these replicas, of which the first is 1.
 fn happens_at(
+    rt: &impl Abort,
     alloc: Global,
     replicas: &mut [Replica],
     at: usize,
     event: Event,
-) -> Result<bool, Refusal> {
+) -> bool {
     match replicas.get_mut(at.wrapping_sub(1)) {
-        Some(here) => happens(alloc, here, event),
-        None => Ok(false),
+        Some(here) => happens(rt, alloc, here, event),
+        None => false,
     }
 }
 
-// How many of these rows come to what they tell, up to the first that does not.
-fn come(
-    alloc: Global,
-    replicas: &mut [Replica],
-    rows: &[(usize, Event)],
-) -> Result<usize, Refusal> {
-    let mut count: usize = 0;
-    for (at, event) in rows {
-        if !happens_at(alloc, replicas, *at, *event)? {
-            return Ok(count);
-        }
-        count = count.wrapping_add(1);
+fn play_at(rt: &impl Abort, alloc: Global, replicas: &mut [Replica], rows: &[(usize, Event)]) {
+    for (row, (at, event)) in rows.iter().enumerate() {
+        let is_so = happens_at(rt, alloc, replicas, *at, *event);
+        assert!(rt; is_so, "row {row}");
     }
-    Ok(count)
 }
 
-// How many of these rows come to what they tell at three new replicas, one after the other, up to the first that does not. A row
-// begins with the name of its replica.
-pub(crate) fn play(
-    rt: &impl Abort,
-    alloc: Global,
-    rows: &[(usize, Event)],
-) -> Result<usize, Refusal> {
-    let mut replicas = three(rt, alloc)?;
-    come(alloc, replicas.as_mut_slice(), rows)
+// Has these rows happen to three new replicas, one after the other; each comes to what it tells. A row begins with the name of its replica.
+pub(crate) fn play(rt: &impl Abort, alloc: Global, rows: &[(usize, Event)]) {
+    play_at(rt, alloc, &mut three(rt, alloc), rows);
 }

@@ -11,7 +11,7 @@ use replica_core::Outcome;
 
 #[test]
 fn pages_are_asked_for_down_to_the_value_that_is_missing(rt: HostRuntime) {
-    let rows = [
+    const ROWS: &[(usize, Event)] = &[
         (2, Event::Put(b"", b"v")),
         (2, Event::Copy),
         (2, Event::Flush(V_ON_EMPTY)),
@@ -35,12 +35,12 @@ fn pages_are_asked_for_down_to_the_value_that_is_missing(rt: HostRuntime) {
         (1, Event::HasRoot(Some(UNDER_OPENING))),
         (2, Event::HasRoot(Some(UNDER_OPENING))),
     ];
-    assert!(rt; play(&rt, rt.alloc(), rows.as_slice()) == Ok(rows.len()));
+    play(&rt, rt.alloc(), ROWS);
 }
 
 #[test]
 fn values_are_sent_only_where_they_are_missing(rt: HostRuntime) {
-    let rows = [
+    const ROWS: &[(usize, Event)] = &[
         (1, Event::Put(b"a", b"x")),
         (1, Event::Flush(X_ON_A)),
         (2, Event::Take(X_ON_A, Outcome::Joined, &[])),
@@ -68,12 +68,12 @@ fn values_are_sent_only_where_they_are_missing(rt: HostRuntime) {
         (1, Event::Knows(1, 1)),
         (1, Event::Knows(2, 1)),
     ];
-    assert!(rt; play(&rt, rt.alloc(), rows.as_slice()) == Ok(rows.len()));
+    play(&rt, rt.alloc(), ROWS);
 }
 
 #[test]
 fn a_value_that_was_written_beside_another_is_sent_alone(rt: HostRuntime) {
-    let rows = [
+    const ROWS: &[(usize, Event)] = &[
         (1, Event::Put(b"a", b"x")),
         (2, Event::Put(b"a", b"y")),
         (1, Event::Flush(X_ON_A)),
@@ -86,12 +86,12 @@ fn a_value_that_was_written_beside_another_is_sent_alone(rt: HostRuntime) {
         (1, Event::Shows(b"a", &[b"x", b"y"])),
         (1, Event::HasRoot(Some(BOTH_OPENING))),
     ];
-    assert!(rt; play(&rt, rt.alloc(), rows.as_slice()) == Ok(rows.len()));
+    play(&rt, rt.alloc(), ROWS);
 }
 
 #[test]
 fn what_a_peer_had_seen_end_is_taken_away(rt: HostRuntime) {
-    let rows = [
+    const ROWS: &[(usize, Event)] = &[
         (1, Event::Put(b"a", b"x")),
         (1, Event::Flush(X_ON_A)),
         (2, Event::Take(X_ON_A, Outcome::Joined, &[])),
@@ -105,12 +105,12 @@ fn what_a_peer_had_seen_end_is_taken_away(rt: HostRuntime) {
         (1, Event::Shows(b"a", &[])),
         (1, Event::HasRoot(None)),
     ];
-    assert!(rt; play(&rt, rt.alloc(), rows.as_slice()) == Ok(rows.len()));
+    play(&rt, rt.alloc(), ROWS);
 }
 
 #[test]
 fn a_repeated_hello_is_answered_with_the_same_opening(rt: HostRuntime) {
-    let rows = [
+    const ROWS: &[(usize, Event)] = &[
         (2, Event::Put(b"a", b"x")),
         (1, Event::Ask(1, EMPTY_HELLO)),
         (1, Event::Retry(1, Outcome::Sent, &[EMPTY_HELLO])),
@@ -138,13 +138,13 @@ fn a_repeated_hello_is_answered_with_the_same_opening(rt: HostRuntime) {
         (1, Event::Take(SECOND_OPENING, Outcome::Ignored, &[])),
         (2, Event::HasRoot(Some(SECOND_OPENING))),
     ];
-    assert!(rt; play(&rt, rt.alloc(), rows.as_slice()) == Ok(rows.len()));
+    play(&rt, rt.alloc(), ROWS);
 }
 
 // Eight sessions are open at most, and the snapshots of the last eight are kept.
 #[test]
 fn the_oldest_of_nine_snapshots_is_gone(rt: HostRuntime) {
-    let rows = [
+    const ROWS: &[(usize, Event)] = &[
         (2, Event::Put(b"a", b"x")),
         (1, Event::Ask(1, EMPTY_HELLO)),
         (2, Event::Take(EMPTY_HELLO, Outcome::Sent, &[FIRST_OPENING])),
@@ -162,5 +162,5 @@ fn the_oldest_of_nine_snapshots_is_gone(rt: HostRuntime) {
         (3, Event::Ask(9, NINTH_HELLO)),
         (3, Event::AskInVain),
     ];
-    assert!(rt; play(&rt, rt.alloc(), rows.as_slice()) == Ok(rows.len()));
+    play(&rt, rt.alloc(), ROWS);
 }

@@ -1,15 +1,20 @@
 // Messages that were cut, lengthened or changed on their way.
 use dots::Refusal;
-use replica_core::{Outcome, Replica};
+use replica_core::{Delivered, Outcome, Replica};
 use std::alloc::Global;
+use std::panic::Expect;
+use std::process::Abort;
 
 // What comes of bytes; those that are answered, or taken, are told as sent.
 fn outcome_of(here: &mut Replica, bytes: &[u8]) -> Result<Outcome, Refusal> {
-    let told = here.deliver_bytes(bytes)?;
+    here.deliver_bytes(bytes).map(told_by)
+}
+
+fn told_by(told: Delivered) -> Outcome {
     if told.replies.is_empty() {
-        Ok(told.outcome)
+        told.outcome
     } else {
-        Ok(Outcome::Sent)
+        Outcome::Sent
     }
 }
 
@@ -29,60 +34,41 @@ fn refuses_cut(here: &mut Replica, bytes: &[u8], unfit: Option<usize>) -> bool {
     true
 }
 
-// The bytes, and one more.
-fn longer(alloc: Global, bytes: &[u8], byte: u8) -> Result<Vec<u8, Global>, Refusal> {
-    let mut copy = Vec::with_capacity(alloc, bytes.len())?;
-    copy.extend_from_slice(bytes)?;
-    copy.push(byte)?;
-    Ok(copy)
-}
-
 // Whether the message is none with this byte more.
 fn refuses_longer(
+    rt: &impl Abort,
     alloc: Global,
     here: &mut Replica,
     bytes: &[u8],
     byte: u8,
-) -> Result<bool, Refusal> {
-    let copy = longer(alloc, bytes, byte)?;
-    let came = outcome_of(here, copy.as_slice());
-    Ok(came == Err(Refusal::NotAMessage))
-}
-
-// Whether the message is none with any byte more.
-fn refuses_longer_by_any(alloc: Global, here: &mut Replica, bytes: &[u8]) -> Result<bool, Refusal> {
-    for byte in 0..=255u8 {
-        if !refuses_longer(alloc, here, bytes, byte)? {
-            return Ok(false);
-        }
-    }
-    Ok(true)
+) -> bool {
+    let mut copy = Vec::from_slice(alloc, bytes).expect(rt, "memory");
+    copy.push(byte).expect(rt, "memory");
+    outcome_of(here, &copy) == Err(Refusal::NotAMessage)
 }
 
 // Whether the message is none with any byte more, nor where it is cut to a shorter length, but for this length, where it does not fit.
 pub(crate) fn refuses_spoiled(
+    rt: &impl Abort,
     alloc: Global,
     here: &mut Replica,
     bytes: &[u8],
     unfit: Option<usize>,
-) -> Result<bool, Refusal> {
-    let cut = refuses_cut(here, bytes, unfit);
-    let lengthened = refuses_longer_by_any(alloc, here, bytes)?;
-    Ok(cut && lengthened)
+) -> bool {
+    let mut all = refuses_cut(here, bytes, unfit);
+    for byte in 0..=255u8 {
+        all = refuses_longer(rt, alloc, here, bytes, byte) && all;
+    }
+    all
 }
 
 // The bytes, of which the one at this place has these bits changed.
-fn changed(
-    alloc: Global,
-    bytes: &[u8],
-    place: usize,
-    bits: u8,
-) -> Result<Vec<u8, Global>, Refusal> {
-    let mut copy = Vec::with_capacity(alloc, bytes.len())?;
-    for (at, byte) in bytes.iter().enumerate() {
-        copy.push(if at == place { *byte ^ bits } else { *byte })?;
+fn changed(rt: &impl Abort, alloc: Global, bytes: &[u8], place: usize, bits: u8) -> Vec<u8> {
+    let mut copy = Vec::from_slice(alloc, bytes).expect(rt, "memory");
+    if let Some(byte) = copy.get_mut(place) {
+        *byte ^= bits;
     }
-    Ok(copy)
+    copy
 }
 
 // Whether bytes are no message, are ignored or do not fit, and the map stays as it is.
@@ -97,30 +83,30 @@ fn leaves(here: &mut Replica, bytes: &[u8]) -> bool {
 
 // Whether the message is left so with each bit of the byte at this place changed.
 fn leaves_changed_at(
+    rt: &impl Abort,
     alloc: Global,
     here: &mut Replica,
     bytes: &[u8],
     place: usize,
-) -> Result<bool, Refusal> {
+) -> bool {
+    let mut all = true;
     for bits in [1, 2, 4, 8, 16, 32, 64, 128u8] {
-        let copy = changed(alloc, bytes, place, bits)?;
-        if !leaves(here, copy.as_slice()) {
-            return Ok(false);
-        }
+        let copy = changed(rt, alloc, bytes, place, bits);
+        all = leaves(here, &copy) && all;
     }
-    Ok(true)
+    all
 }
 
 // Whether the message is left so with any one bit changed.
 pub(crate) fn leaves_changed(
+    rt: &impl Abort,
     alloc: Global,
     here: &mut Replica,
     bytes: &[u8],
-) -> Result<bool, Refusal> {
+) -> bool {
+    let mut all = true;
     for place in 0..bytes.len() {
-        if !leaves_changed_at(alloc, here, bytes, place)? {
-            return Ok(false);
-        }
+        all = leaves_changed_at(rt, alloc, here, bytes, place) && all;
     }
-    Ok(true)
+    all
 }

@@ -92,6 +92,9 @@ const X_Y_AND_Z: &[Put] = &[
 // x, y and z at `a`, `b` and `c`.
 pub const THREE: Worked = (X_Y_AND_Z, &[]);
 
+// The same with `b` taken out.
+pub const WITHOUT_B: Worked = (X_Y_AND_Z, &[b"b"]);
+
 // The same with `b` and `c` taken out.
 pub const LEFT: Worked = (X_Y_AND_Z, &[b"b", b"c"]);
 

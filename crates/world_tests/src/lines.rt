@@ -3,6 +3,8 @@ use dots::{Field, Key, Name, Refusal, Value};
 use replica_core::Outcome;
 use replica_world::{Answer, Call, Event};
 use std::alloc::Global;
+use std::panic::Expect;
+use std::process::Abort;
 
 // An event whose replicas, sessions and messages are numbers, and whose keys, fields and values have one byte.
 #[derive(Clone, Copy)]
@@ -32,57 +34,58 @@ pub(crate) enum Comes {
     Refused(Refusal),
 }
 
-pub(crate) fn name(number: u64) -> Result<Name, Refusal> {
-    Name::new(number).ok_or(Refusal::UnknownReplica)
+// The name of this number, which is not 0.
+pub(crate) fn name(rt: &impl Abort, number: u64) -> Name {
+    Name::new(number).expect(rt, "a name")
 }
 
-fn put(alloc: Global, key: u8, value: u8) -> Result<Call, Refusal> {
-    let key = Key::new(alloc, &[key])?;
-    let value = Value::new(alloc, &[value])?;
-    Ok(Call::Put(key, value))
+pub(crate) fn key_of(rt: &impl Abort, alloc: Global, byte: u8) -> Key {
+    Key::new(alloc, &[byte]).expect(rt, "a key")
 }
 
-fn put_field(alloc: Global, key: u8, field: u8, value: u8) -> Result<Call, Refusal> {
-    let key = Key::new(alloc, &[key])?;
-    let field = Field::new(alloc, &[field])?;
-    let value = Value::new(alloc, &[value])?;
-    Ok(Call::PutField(key, field, value))
+pub(crate) fn field_of(rt: &impl Abort, alloc: Global, byte: u8) -> Field {
+    Field::new(alloc, &[byte]).expect(rt, "a field")
 }
 
-fn remove(alloc: Global, key: u8) -> Result<Call, Refusal> {
-    let key = Key::new(alloc, &[key])?;
-    Ok(Call::Remove(key))
+pub(crate) fn value_of(rt: &impl Abort, alloc: Global, byte: u8) -> Value {
+    Value::new(alloc, &[byte]).expect(rt, "a value")
 }
 
-fn remove_field(alloc: Global, key: u8, field: u8) -> Result<Call, Refusal> {
-    let key = Key::new(alloc, &[key])?;
-    let field = Field::new(alloc, &[field])?;
-    Ok(Call::RemoveField(key, field))
+fn put(rt: &impl Abort, alloc: Global, key: u8, value: u8) -> Call {
+    Call::Put(key_of(rt, alloc, key), value_of(rt, alloc, value))
 }
 
-fn call(at: u64, call: Call) -> Result<Event, Refusal> {
-    let name = name(at)?;
-    Ok(Event::Call(name, call))
+fn put_field(rt: &impl Abort, alloc: Global, key: u8, field: u8, value: u8) -> Call {
+    Call::PutField(
+        key_of(rt, alloc, key),
+        field_of(rt, alloc, field),
+        value_of(rt, alloc, value),
+    )
 }
 
-fn ask(at: u64, peer: u64) -> Result<Event, Refusal> {
-    let peer = name(peer)?;
-    call(at, Call::Ask(peer))
+fn remove_field(rt: &impl Abort, alloc: Global, key: u8, field: u8) -> Call {
+    Call::RemoveField(key_of(rt, alloc, key), field_of(rt, alloc, field))
 }
 
-pub(crate) fn event(alloc: Global, line: Line) -> Result<Event, Refusal> {
+fn call(rt: &impl Abort, at: u64, call: Call) -> Event {
+    Event::Call(name(rt, at), call)
+}
+
+pub(crate) fn event(rt: &impl Abort, alloc: Global, line: Line) -> Event {
     match line {
-        Line::Node(at) => Ok(Event::Node(name(at)?)),
-        Line::Put(at, key, value) => call(at, put(alloc, key, value)?),
-        Line::PutField(at, key, field, value) => call(at, put_field(alloc, key, field, value)?),
-        Line::Remove(at, key) => call(at, remove(alloc, key)?),
-        Line::RemoveField(at, key, field) => call(at, remove_field(alloc, key, field)?),
-        Line::Clear(at) => call(at, Call::Clear),
-        Line::Flush(at) => call(at, Call::Flush),
-        Line::Ask(at, peer) => ask(at, peer),
-        Line::Retry(at, number) => call(at, Call::Retry(number)),
-        Line::Abandon(at, number) => call(at, Call::Abandon(number)),
-        Line::Deliver(number, at) => Ok(Event::Deliver(number, name(at)?)),
+        Line::Node(at) => Event::Node(name(rt, at)),
+        Line::Put(at, key, value) => call(rt, at, put(rt, alloc, key, value)),
+        Line::PutField(at, key, field, value) => {
+            call(rt, at, put_field(rt, alloc, key, field, value))
+        }
+        Line::Remove(at, key) => call(rt, at, Call::Remove(key_of(rt, alloc, key))),
+        Line::RemoveField(at, key, field) => call(rt, at, remove_field(rt, alloc, key, field)),
+        Line::Clear(at) => call(rt, at, Call::Clear),
+        Line::Flush(at) => call(rt, at, Call::Flush),
+        Line::Ask(at, peer) => call(rt, at, Call::Ask(name(rt, peer))),
+        Line::Retry(at, number) => call(rt, at, Call::Retry(number)),
+        Line::Abandon(at, number) => call(rt, at, Call::Abandon(number)),
+        Line::Deliver(number, at) => Event::Deliver(number, name(rt, at)),
     }
 }
 

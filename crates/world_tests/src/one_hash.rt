@@ -1,16 +1,18 @@
 // A world in which all keys have one hash.
-use crate::lines::{Comes, Line, event, name};
-use crate::scenes::comes_to;
-use dots::{Key, Refusal, Value};
+use crate::lines::{Comes, Line, key_of, name};
+use crate::scenes::happen;
+use dots::Value;
 use hash_path::SameHash;
-use replica_core::{Outcome, Replica};
+use replica_core::Outcome;
 use replica_world::World;
 use std::alloc::Global;
+use std::panic::Expect;
+use std::process::Abort;
 
 const JOINED: Comes = Comes::Outcome(Outcome::Joined);
 
 // Two replicas put at once, and each takes in what the other sent.
-const LINES: [(Line, Comes, u64); 8] = [
+const LINES: &[(Line, Comes, u64)] = &[
     (Line::Node(1), Comes::Nothing, 0),
     (Line::Node(2), Comes::Nothing, 0),
     (Line::Put(1, b'a', b'x'), Comes::Dot(1, 1), 0),
@@ -21,16 +23,6 @@ const LINES: [(Line, Comes, u64); 8] = [
     (Line::Deliver(2, 1), JOINED, 0),
 ];
 
-// Whether each comes to what stands beside it.
-fn happen(alloc: Global, world: &mut World<SameHash>) -> Result<bool, Refusal> {
-    let mut all = true;
-    for (line, comes, made) in LINES {
-        let event = event(alloc, line)?;
-        all &= comes_to(world, event, comes, made);
-    }
-    Ok(all)
-}
-
 // Whether these are the values x and y.
 fn are_x_and_y(found: &[Value]) -> bool {
     match found {
@@ -39,34 +31,17 @@ fn are_x_and_y(found: &[Value]) -> bool {
     }
 }
 
-fn shows(alloc: Global, replica: &Replica<SameHash>) -> Result<bool, Refusal> {
-    let key = Key::new(alloc, b"a")?;
-    let found = replica.get(&key)?;
-    Ok(are_x_and_y(found.as_slice()))
-}
-
-fn shows_at(alloc: Global, world: &World<SameHash>, at: u64) -> Result<bool, Refusal> {
-    match world.replica(name(at)?) {
-        Some(replica) => shows(alloc, replica),
-        None => Ok(false),
-    }
-}
-
-// Whether both show both values then.
-fn both_show(alloc: Global, world: &mut World<SameHash>) -> Result<bool, Refusal> {
-    let happened = happen(alloc, world)?;
-    let first = shows_at(alloc, world, 1)?;
-    let second = shows_at(alloc, world, 2)?;
-    Ok(happened && first && second)
-}
-
-// The same of a new world.
-fn both_show_anew(alloc: Global) -> Result<bool, Refusal> {
-    let mut world = World::new(alloc, SameHash(7));
-    both_show(alloc, &mut world)
+fn shows(rt: &impl Abort, alloc: Global, world: &World<SameHash>, at: u64) -> bool {
+    let replica = world.replica(name(rt, at)).expect(rt, "a replica");
+    let key = key_of(rt, alloc, b'a');
+    are_x_and_y(&replica.get(&key).expect(rt, "memory"))
 }
 
 #[test]
 fn values_meet_where_all_keys_have_one_hash(rt: HostRuntime) {
-    assert!(rt; both_show_anew(rt.alloc()) == Ok(true));
+    let mut world = World::new(rt.alloc(), SameHash(7));
+    happen(&rt, rt.alloc(), &mut world, LINES);
+    let first = shows(&rt, rt.alloc(), &world, 1);
+    let second = shows(&rt, rt.alloc(), &world, 2);
+    assert!(rt; first && second);
 }

@@ -1,10 +1,12 @@
 // What a world is tried with, scene by scene.
-use crate::lines::{Comes, Line, event, is_answer, is_refusal, name};
-use dots::{Key, Refusal, Value};
+use crate::lines::{Comes, Line, event, is_answer, is_refusal, key_of, name};
+use dots::Value;
 use hash_path::{Fnv1a, PathHash};
 use replica_core::Replica;
 use replica_world::{Event, World};
 use std::alloc::Global;
+use std::panic::Expect;
+use std::process::Abort;
 
 // A part of what a world is tried with.
 #[derive(Clone, Copy)]
@@ -25,55 +27,50 @@ pub(crate) enum Scene<'a> {
     Past(usize),
 }
 
-// Whether a new world does what each scene says.
-pub(crate) fn plays(alloc: Global, scenes: &[Scene]) -> bool {
-    let mut world = World::new(alloc, Fnv1a);
-    play_all(alloc, &mut world, scenes) == Ok(scenes.len())
+// Has the scenes happen in a new world; it does what each says.
+pub(crate) fn play(rt: &impl Abort, alloc: Global, scenes: &[Scene]) {
+    play_in(rt, alloc, &mut World::new(alloc, Fnv1a), scenes);
 }
 
-fn play_all(alloc: Global, world: &mut World, scenes: &[Scene]) -> Result<usize, Refusal> {
-    let mut count = 0usize;
-    for scene in scenes {
-        if play(alloc, world, *scene)? {
-            count = count.wrapping_add(1);
-        }
+fn play_in(rt: &impl Abort, alloc: Global, world: &mut World, scenes: &[Scene]) {
+    for (number, scene) in scenes.iter().enumerate() {
+        let is_so = is_played(rt, alloc, world, *scene);
+        assert!(rt; is_so, "scene {number}");
     }
-    Ok(count)
 }
 
-fn play(alloc: Global, world: &mut World, scene: Scene) -> Result<bool, Refusal> {
+fn is_played(rt: &impl Abort, alloc: Global, world: &mut World, scene: Scene) -> bool {
     match scene {
-        Scene::Events(lines) => happen(alloc, world, lines),
-        Scene::Messages(messages) => Ok(are_made(world, messages)),
-        Scene::Shows(at, key, values) => shows(alloc, world, at, key, values),
-        Scene::Holds(at, key, values) => holds(alloc, world, at, key, values),
-        Scene::Size(at, size) => Ok(size_at(world, at)? == Some(size)),
-        Scene::Alike(one, other) => {
-            let first = digest_at(world, one)?;
-            let second = digest_at(world, other)?;
-            Ok(first.is_some() && first == second)
+        Scene::Events(lines) => {
+            happen(rt, alloc, world, lines);
+            true
         }
-        Scene::Past(length) => Ok(world.past().len() == length),
+        Scene::Messages(messages) => are_made(world, messages),
+        Scene::Shows(at, key, values) => has(rt, alloc, replica_at(rt, world, at), key, values),
+        Scene::Holds(at, key, values) => {
+            has_within(rt, alloc, replica_at(rt, world, at), key, values)
+        }
+        Scene::Size(at, size) => replica_at(rt, world, at).size() == size,
+        Scene::Alike(one, other) => are_alike(rt, world, one, other),
+        Scene::Past(length) => world.past().len() == length,
     }
 }
 
-// Whether each event comes to what stands beside it, one after the other.
-fn happen(alloc: Global, world: &mut World, lines: &[(Line, Comes, u64)]) -> Result<bool, Refusal> {
-    let mut all = true;
-    for (line, comes, made) in lines {
-        let event = event(alloc, *line)?;
-        all &= comes_to(world, event, *comes, *made);
+// Has the events happen, one after the other; each comes to what stands beside it.
+pub(crate) fn happen<H: PathHash>(
+    rt: &impl Abort,
+    alloc: Global,
+    world: &mut World<H>,
+    lines: &[(Line, Comes, u64)],
+) {
+    for (number, (line, comes, made)) in lines.iter().enumerate() {
+        let is_so = comes_to(world, event(rt, alloc, *line), *comes, *made);
+        assert!(rt; is_so, "event {number}");
     }
-    Ok(all)
 }
 
 // Whether an event comes to this, and makes so many messages; a refused one makes none.
-pub(crate) fn comes_to<H: PathHash>(
-    world: &mut World<H>,
-    event: Event,
-    comes: Comes,
-    made: u64,
-) -> bool {
+fn comes_to<H: PathHash>(world: &mut World<H>, event: Event, comes: Comes, made: u64) -> bool {
     match world.event(event) {
         Ok(told) => {
             is_answer(told.answer, comes) && told.made.end.wrapping_sub(told.made.start) == made
@@ -94,32 +91,26 @@ fn are_made(world: &World, messages: &[&[u8]]) -> bool {
     world.message(number.wrapping_add(1)).is_none() && world.message(0).is_none()
 }
 
-// Whether the key has these values at a replica that is there.
-fn shows(alloc: Global, world: &World, at: u64, key: u8, values: &[u8]) -> Result<bool, Refusal> {
-    match world.replica(name(at)?) {
-        Some(replica) => has(alloc, replica, key, values),
-        None => Ok(false),
-    }
+fn replica_at<'w>(rt: &impl Abort, world: &'w World, at: u64) -> &'w Replica {
+    world.replica(name(rt, at)).expect(rt, "a replica")
 }
 
-fn has(alloc: Global, replica: &Replica, key: u8, values: &[u8]) -> Result<bool, Refusal> {
-    let key = Key::new(alloc, &[key])?;
-    let found = replica.get(&key)?;
-    Ok(are(found.as_slice(), values))
+// Whether the key has these values at the replica.
+fn has(rt: &impl Abort, alloc: Global, replica: &Replica, key: u8, values: &[u8]) -> bool {
+    let key = key_of(rt, alloc, key);
+    are(&replica.get(&key).expect(rt, "memory"), values)
 }
 
-// Whether the key has these values over all its fields at a replica that is there.
-fn holds(alloc: Global, world: &World, at: u64, key: u8, values: &[u8]) -> Result<bool, Refusal> {
-    match world.replica(name(at)?) {
-        Some(replica) => has_within(alloc, replica, key, values),
-        None => Ok(false),
-    }
+// Whether the key has these values over all its fields at the replica.
+fn has_within(rt: &impl Abort, alloc: Global, replica: &Replica, key: u8, values: &[u8]) -> bool {
+    let key = key_of(rt, alloc, key);
+    are(&replica.values_of_key(&key).expect(rt, "memory"), values)
 }
 
-fn has_within(alloc: Global, replica: &Replica, key: u8, values: &[u8]) -> Result<bool, Refusal> {
-    let key = Key::new(alloc, &[key])?;
-    let found = replica.values_of_key(&key)?;
-    Ok(are(found.as_slice(), values))
+// Whether two replicas have one digest.
+fn are_alike(rt: &impl Abort, world: &World, one: u64, other: u64) -> bool {
+    let digest = replica_at(rt, world, one).digest();
+    digest.is_some() && digest == replica_at(rt, world, other).digest()
 }
 
 // Whether these are the values, of one byte each, in this order.
@@ -133,18 +124,4 @@ fn are(found: &[Value], values: &[u8]) -> bool {
         }
     }
     true
-}
-
-fn size_at(world: &World, at: u64) -> Result<Option<u64>, Refusal> {
-    match world.replica(name(at)?) {
-        Some(replica) => Ok(Some(replica.size())),
-        None => Ok(None),
-    }
-}
-
-fn digest_at(world: &World, at: u64) -> Result<Option<[u8; 32]>, Refusal> {
-    match world.replica(name(at)?) {
-        Some(replica) => Ok(replica.digest()),
-        None => Ok(None),
-    }
 }

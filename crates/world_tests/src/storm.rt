@@ -1,10 +1,13 @@
 // Thousands of random events over four replicas. What came of them, and what the replicas show between them, goes into one sum, which is that of a
 // program that follows the definitions alone: `python3 crates/world_tests/reference/storm.py`.
+use crate::lines::{field_of, key_of, name, value_of};
 use dots::{Field, Key, Name, Refusal, Value};
 use hash_path::Fnv1a;
 use replica_core::{Outcome, Replica};
 use replica_world::{Answer, Call, Event, Told, World};
 use std::alloc::Global;
+use std::panic::Expect;
+use std::process::Abort;
 use wire_form::Message;
 
 // What chooses the events, the sum of what came of them, how many messages were made, and the number of the session that was opened last.
@@ -31,13 +34,13 @@ impl Storm {
     }
 
     // A replica, which in one of 64 cases is not there.
-    fn name(&mut self) -> Result<Name, Refusal> {
+    fn name(&mut self, rt: &impl Abort) -> Name {
         let number = if self.next(64) == 0 {
             5
         } else {
             self.next(4).wrapping_add(1)
         };
-        Name::new(number).ok_or(Refusal::UnknownReplica)
+        name(rt, number)
     }
 
     // One of so many bytes from this one on.
@@ -45,19 +48,16 @@ impl Storm {
         first.wrapping_add((self.next(count) % 256) as u8)
     }
 
-    fn key(&mut self, alloc: Global) -> Result<Key, Refusal> {
-        let byte = self.byte(b'a', 8);
-        Key::new(alloc, &[byte])
+    fn key(&mut self, rt: &impl Abort, alloc: Global) -> Key {
+        key_of(rt, alloc, self.byte(b'a', 8))
     }
 
-    fn field(&mut self, alloc: Global) -> Result<Field, Refusal> {
-        let byte = self.byte(b'f', 3);
-        Field::new(alloc, &[byte])
+    fn field(&mut self, rt: &impl Abort, alloc: Global) -> Field {
+        field_of(rt, alloc, self.byte(b'f', 3))
     }
 
-    fn value(&mut self, alloc: Global) -> Result<Value, Refusal> {
-        let byte = self.byte(b'p', 8);
-        Value::new(alloc, &[byte])
+    fn value(&mut self, rt: &impl Abort, alloc: Global) -> Value {
+        value_of(rt, alloc, self.byte(b'p', 8))
     }
 
     // A message: mostly one of the last ones, and at times one that is not there yet.
@@ -78,53 +78,51 @@ impl Storm {
         self.sessions.saturating_sub(back)
     }
 
-    fn write(&mut self, alloc: Global, kind: u64) -> Result<Call, Refusal> {
-        let key = self.key(alloc)?;
+    fn write(&mut self, rt: &impl Abort, alloc: Global, kind: u64) -> Call {
+        let key = self.key(rt, alloc);
         match kind {
-            0..=4 => Ok(Call::Put(key, self.value(alloc)?)),
+            0..=4 => Call::Put(key, self.value(rt, alloc)),
             5 => {
-                let field = self.field(alloc)?;
-                Ok(Call::PutField(key, field, self.value(alloc)?))
+                let field = self.field(rt, alloc);
+                Call::PutField(key, field, self.value(rt, alloc))
             }
-            6 => Ok(Call::Remove(key)),
-            _ => Ok(Call::RemoveField(key, self.field(alloc)?)),
+            6 => Call::Remove(key),
+            _ => Call::RemoveField(key, self.field(rt, alloc)),
         }
     }
 
-    fn call(&mut self, alloc: Global, kind: u64) -> Result<Call, Refusal> {
+    fn call(&mut self, rt: &impl Abort, alloc: Global, kind: u64) -> Call {
         match kind {
-            0..=7 => self.write(alloc, kind),
-            8 => Ok(if self.next(8) == 0 {
-                Call::Clear
-            } else {
-                Call::Flush
-            }),
-            9 => Ok(Call::Flush),
-            10 => Ok(Call::Ask(self.name()?)),
-            11 => Ok(Call::Retry(self.session())),
-            _ => Ok(Call::Abandon(self.session())),
+            0..=7 => self.write(rt, alloc, kind),
+            8 => {
+                if self.next(8) == 0 {
+                    Call::Clear
+                } else {
+                    Call::Flush
+                }
+            }
+            9 => Call::Flush,
+            10 => Call::Ask(self.name(rt)),
+            11 => Call::Retry(self.session()),
+            _ => Call::Abandon(self.session()),
         }
     }
 
     // A message for a replica: in three of four cases the one that it is for.
-    fn delivery(&mut self, world: &World, name: Name) -> Result<Event, Refusal> {
+    fn delivery(&mut self, rt: &impl Abort, world: &World, name: Name) -> Event {
         let number = self.message();
         let lost = self.next(4) == 0;
-        match world.read(number)? {
-            Some(message) if !lost => Ok(Event::Deliver(
-                number,
-                addressee(&message).unwrap_or(name),
-            )),
-            _ => Ok(Event::Deliver(number, name)),
-        }
+        let whom = addressee_of(rt, world, number);
+        let to = if lost { name } else { whom.unwrap_or(name) };
+        Event::Deliver(number, to)
     }
 
-    fn event(&mut self, alloc: Global, world: &World) -> Result<Event, Refusal> {
+    fn event(&mut self, rt: &impl Abort, alloc: Global, world: &World) -> Event {
         let kind = self.next(32);
-        let name = self.name()?;
+        let name = self.name(rt);
         match kind {
-            13..=31 => self.delivery(world, name),
-            _ => Ok(Event::Call(name, self.call(alloc, kind)?)),
+            13..=31 => self.delivery(rt, world, name),
+            _ => Event::Call(name, self.call(rt, alloc, kind)),
         }
     }
 
@@ -180,17 +178,26 @@ impl Storm {
     }
 
     // What the replica shows: its keys, its root digest, and the values of one key.
-    fn look(&mut self, alloc: Global, replica: &Replica) -> Result<(), Refusal> {
+    fn look(&mut self, rt: &impl Abort, alloc: Global, replica: &Replica) {
         self.add(replica.size());
         for byte in replica.digest().unwrap_or([0; 32]) {
             self.add(u64::from(byte));
         }
-        let key = self.key(alloc)?;
-        for value in replica.values_of_key(&key)?.as_slice() {
+        let key = self.key(rt, alloc);
+        self.values(&replica.values_of_key(&key).expect(rt, "memory"));
+    }
+
+    fn values(&mut self, values: &[Value]) {
+        for value in values {
             self.add(value.bytes().first().copied().map_or(0, u64::from));
         }
-        Ok(())
     }
+}
+
+// Whom the message of this number is for, where it is there and of a session.
+fn addressee_of(rt: &impl Abort, world: &World, number: u64) -> Option<Name> {
+    let message = world.read(number).expect(rt, "memory");
+    message.as_ref().and_then(addressee)
 }
 
 // Whom a message of a session is for.
@@ -205,61 +212,48 @@ fn addressee(message: &Message) -> Option<Name> {
     }
 }
 
-// The replica of this number, which is there.
-fn look_at(alloc: Global, world: &World, storm: &mut Storm, number: u64) -> Result<(), Refusal> {
-    let name = Name::new(number).ok_or(Refusal::UnknownReplica)?;
-    match world.replica(name) {
-        Some(replica) => storm.look(alloc, replica),
-        None => Err(Refusal::UnknownReplica),
-    }
-}
-
-fn look_at_all(alloc: Global, world: &World, storm: &mut Storm) -> Result<(), Refusal> {
+// The replicas, which are there.
+fn look_at_all(rt: &impl Abort, alloc: Global, world: &World, storm: &mut Storm) {
     for number in 1..5 {
-        look_at(alloc, world, storm, number)?;
+        let replica = world.replica(name(rt, number));
+        storm.look(rt, alloc, replica.expect(rt, "a replica"));
     }
-    Ok(())
 }
 
 // Adds the four replicas. What that is answered goes into the sum, as all that is answered does.
-fn begin(world: &mut World, storm: &mut Storm) -> Result<(), Refusal> {
+fn begin(rt: &impl Abort, world: &mut World, storm: &mut Storm) {
     for number in 1..5 {
-        let name = Name::new(number).ok_or(Refusal::UnknownReplica)?;
-        storm.told(world.event(Event::Node(name)));
+        storm.told(world.event(Event::Node(name(rt, number))));
     }
-    Ok(())
 }
 
 // So many events, and a look at all replicas behind them.
-fn blow(alloc: Global, world: &mut World, storm: &mut Storm, count: u64) -> Result<(), Refusal> {
+fn blow(rt: &impl Abort, alloc: Global, world: &mut World, storm: &mut Storm, count: u64) {
     for _ in 0..count {
-        let event = storm.event(alloc, world)?;
+        let event = storm.event(rt, alloc, world);
         storm.told(world.event(event));
     }
-    look_at_all(alloc, world, storm)
+    look_at_all(rt, alloc, world, storm);
 }
 
-fn rage(alloc: Global, world: &mut World) -> Result<u64, Refusal> {
+// The sum of five thousand events.
+fn rage(rt: &impl Abort, alloc: Global, world: &mut World) -> u64 {
     let mut storm = Storm {
         state: 2012,
         sum: 0,
         messages: 0,
         sessions: 0,
     };
-    begin(world, &mut storm)?;
+    begin(rt, world, &mut storm);
     for _ in 0..100 {
-        blow(alloc, world, &mut storm, 50)?;
+        blow(rt, alloc, world, &mut storm, 50);
     }
-    Ok(storm.sum)
-}
-
-// The sum of five thousand events.
-fn sum(alloc: Global) -> Result<u64, Refusal> {
-    let mut world = World::new(alloc, Fnv1a);
-    rage(alloc, &mut world)
+    storm.sum
 }
 
 #[test]
 fn five_thousand_random_events_come_to_what_the_definitions_say(rt: HostRuntime) {
-    assert!(rt; sum(rt.alloc()) == Ok(10393990136312103708));
+    let mut world = World::new(rt.alloc(), Fnv1a);
+    let sum = rage(&rt, rt.alloc(), &mut world);
+    assert!(rt; sum == 10393990136312103708);
 }

@@ -1,6 +1,6 @@
 // Worlds: events by their numbers, what they come to, and the messages that they make.
 use crate::lines::{Comes, Line};
-use crate::scenes::{Scene, plays};
+use crate::scenes::{Scene, play};
 use crate::world_bytes::{
     CONCURRENT_ASK, CONCURRENT_DELTA, CONCURRENT_HELLO, CONCURRENT_OPENING, CONCURRENT_PAGE,
     EMPTY_HELLO, REPEATED_ASK, REPEATED_OPENING, REPEATED_PAGE, SECOND_HELLO, SECOND_OPENING,
@@ -20,7 +20,7 @@ const GONE: Comes = Comes::Outcome(Outcome::Gone);
 
 #[test]
 fn a_value_that_was_written_beside_another_is_sent_alone(rt: HostRuntime) {
-    let lines = [
+    const LINES: &[(Line, Comes, u64)] = &[
         (Line::Node(1), Comes::Nothing, 0),
         (Line::Node(2), Comes::Nothing, 0),
         (Line::Put(1, b'a', b'x'), Comes::Dot(1, 1), 0),
@@ -33,26 +33,26 @@ fn a_value_that_was_written_beside_another_is_sent_alone(rt: HostRuntime) {
         (Line::Deliver(4, 2), SENT, 1),
         (Line::Deliver(5, 1), DONE, 0),
     ];
-    let messages: [&[u8]; 5] = [
-        CONCURRENT_DELTA.as_slice(),
-        CONCURRENT_HELLO.as_slice(),
-        CONCURRENT_OPENING.as_slice(),
-        CONCURRENT_ASK.as_slice(),
-        CONCURRENT_PAGE.as_slice(),
+    const MESSAGES: &[&[u8]] = &[
+        &CONCURRENT_DELTA,
+        &CONCURRENT_HELLO,
+        &CONCURRENT_OPENING,
+        &CONCURRENT_ASK,
+        &CONCURRENT_PAGE,
     ];
-    let scenes = [
-        Scene::Events(lines.as_slice()),
-        Scene::Messages(messages.as_slice()),
+    const SCENES: &[Scene] = &[
+        Scene::Events(LINES),
+        Scene::Messages(MESSAGES),
         Scene::Shows(1, b'a', b"xy"),
         Scene::Alike(1, 2),
         Scene::Past(11),
     ];
-    assert!(rt; plays(rt.alloc(), scenes.as_slice()));
+    play(&rt, rt.alloc(), SCENES);
 }
 
 #[test]
 fn a_repeated_hello_gives_the_same_opening(rt: HostRuntime) {
-    let lines = [
+    const LINES: &[(Line, Comes, u64)] = &[
         (Line::Node(1), Comes::Nothing, 0),
         (Line::Node(2), Comes::Nothing, 0),
         (Line::Put(2, b'a', b'x'), Comes::Dot(2, 1), 0),
@@ -74,30 +74,30 @@ fn a_repeated_hello_gives_the_same_opening(rt: HostRuntime) {
         (Line::Deliver(9, 2), SENT, 1),
         (Line::Deliver(10, 1), IGNORED, 0),
     ];
-    let messages: [&[u8]; 10] = [
-        EMPTY_HELLO.as_slice(),
-        EMPTY_HELLO.as_slice(),
-        REPEATED_OPENING.as_slice(),
-        REPEATED_OPENING.as_slice(),
-        REPEATED_ASK.as_slice(),
-        REPEATED_ASK.as_slice(),
-        REPEATED_PAGE.as_slice(),
-        REPEATED_PAGE.as_slice(),
-        SECOND_HELLO.as_slice(),
-        SECOND_OPENING.as_slice(),
+    const MESSAGES: &[&[u8]] = &[
+        &EMPTY_HELLO,
+        &EMPTY_HELLO,
+        &REPEATED_OPENING,
+        &REPEATED_OPENING,
+        &REPEATED_ASK,
+        &REPEATED_ASK,
+        &REPEATED_PAGE,
+        &REPEATED_PAGE,
+        &SECOND_HELLO,
+        &SECOND_OPENING,
     ];
-    let scenes = [
-        Scene::Events(lines.as_slice()),
-        Scene::Messages(messages.as_slice()),
+    const SCENES: &[Scene] = &[
+        Scene::Events(LINES),
+        Scene::Messages(MESSAGES),
         Scene::Shows(1, b'a', b"x"),
     ];
-    assert!(rt; plays(rt.alloc(), scenes.as_slice()));
+    play(&rt, rt.alloc(), SCENES);
 }
 
 // A snapshot is kept for the last eight sessions: that of the ninth before them is gone.
 #[test]
 fn the_oldest_of_nine_snapshots_is_gone(rt: HostRuntime) {
-    let lines = [
+    const LINES: &[(Line, Comes, u64)] = &[
         (Line::Node(1), Comes::Nothing, 0),
         (Line::Node(2), Comes::Nothing, 0),
         (Line::Node(3), Comes::Nothing, 0),
@@ -128,17 +128,17 @@ fn the_oldest_of_nine_snapshots_is_gone(rt: HostRuntime) {
         (Line::Deliver(20, 1), GONE, 0),
         (Line::Retry(1, 1), IGNORED, 0),
     ];
-    let scenes = [
-        Scene::Events(lines.as_slice()),
+    const SCENES: &[Scene] = &[
+        Scene::Events(LINES),
         Scene::Shows(1, b'a', b""),
         Scene::Past(28),
     ];
-    assert!(rt; plays(rt.alloc(), scenes.as_slice()));
+    play(&rt, rt.alloc(), SCENES);
 }
 
 #[test]
 fn an_event_for_what_is_not_there_is_refused_and_not_kept(rt: HostRuntime) {
-    let lines = [
+    const LINES: &[(Line, Comes, u64)] = &[
         (Line::Node(1), Comes::Nothing, 0),
         (Line::Put(1, b'a', b'x'), Comes::Dot(1, 1), 0),
         (Line::Flush(1), Comes::Nothing, 1),
@@ -171,36 +171,36 @@ fn an_event_for_what_is_not_there_is_refused_and_not_kept(rt: HostRuntime) {
             0,
         ),
     ];
-    let messages: [&[u8]; 1] = [CONCURRENT_DELTA.as_slice()];
-    let scenes = [
-        Scene::Events(lines.as_slice()),
+    const MESSAGES: &[&[u8]] = &[&CONCURRENT_DELTA];
+    const SCENES: &[Scene] = &[
+        Scene::Events(LINES),
         Scene::Past(4),
-        Scene::Messages(messages.as_slice()),
+        Scene::Messages(MESSAGES),
     ];
-    assert!(rt; plays(rt.alloc(), scenes.as_slice()));
+    play(&rt, rt.alloc(), SCENES);
 }
 
 #[test]
 fn fields_are_written_and_removed_in_a_world(rt: HostRuntime) {
-    let lines = [
+    const LINES: &[(Line, Comes, u64)] = &[
         (Line::Node(1), Comes::Nothing, 0),
         (Line::PutField(1, b'k', b'f', b'v'), Comes::Dot(1, 1), 0),
         (Line::PutField(1, b'k', b'g', b'w'), Comes::Dot(1, 2), 0),
         (Line::Put(1, b'l', b'x'), Comes::Dot(1, 3), 0),
     ];
-    let removals = [
+    const REMOVALS: &[(Line, Comes, u64)] = &[
         (Line::RemoveField(1, b'k', b'f'), Comes::Count(1), 0),
         (Line::Remove(1, b'k'), Comes::Count(1), 0),
         (Line::Remove(1, b'k'), Comes::Count(0), 0),
         (Line::Clear(1), Comes::Count(1), 0),
     ];
-    let scenes = [
-        Scene::Events(lines.as_slice()),
+    const SCENES: &[Scene] = &[
+        Scene::Events(LINES),
         Scene::Holds(1, b'k', b"vw"),
         Scene::Shows(1, b'k', b""),
         Scene::Size(1, 2),
-        Scene::Events(removals.as_slice()),
+        Scene::Events(REMOVALS),
         Scene::Size(1, 0),
     ];
-    assert!(rt; plays(rt.alloc(), scenes.as_slice()));
+    play(&rt, rt.alloc(), SCENES);
 }

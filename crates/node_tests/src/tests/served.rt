@@ -3,17 +3,16 @@ ghost use Rattle.std.specs.Prelude.{◌≡◌};
 
 use crate::made::{Held, Last, Shared, finished_alone, finished_in_two, hand_out, has, name, put};
 use crossbeam_channel::{Sender, unbounded};
-use dots::Refusal;
 use node_threads::{Asking, Channels, Letter, Naming, NodeEvent, Post, Served, new_node, serve};
 use root_cell::OpenedBook;
 use shared_object::NoGate;
 use std::alloc::Global;
+use std::panic::Expect;
 use std::process::Abort;
 use std::sync::Wait;
-use std::test::Fail;
 use std::thread::Threads;
 use std::{marker, thread};
-use wire_form::{Message, encode};
+use wire_form::encode;
 
 // The hello of replica 2 to replica 1, session 1, which knows nothing.
 const HELLO: &[u8] = &[
@@ -70,16 +69,16 @@ impl Outside for Ends {
 }
 
 #[test]
-fn two_nodes_that_are_served_synchronise(rt: HostRuntime) -> Result<(), Fail> {
+fn two_nodes_that_are_served_synchronise(rt: HostRuntime) {
     let alloc = rt.alloc();
-    let (to_node, inbox) = unbounded(alloc)?;
-    let (to_peer, peer_inbox) = unbounded(alloc)?;
+    let (to_node, inbox) = unbounded(alloc).expect(&rt, "memory");
+    let (to_peer, peer_inbox) = unbounded(alloc).expect(&rt, "memory");
     // Of two outboxes for one replica the first counts: by the second what is for the peer would come back.
     let of_node = [
-        (name(&rt, 2), Sender::clone(&to_peer)?),
-        (name(&rt, 2), Sender::clone(&to_node)?),
+        (name(&rt, 2), another(&rt, &to_peer)),
+        (name(&rt, 2), another(&rt, &to_node)),
     ];
-    let of_peer = [(name(&rt, 1), Sender::clone(&to_node)?)];
+    let of_peer = [(name(&rt, 1), another(&rt, &to_node))];
     let post = Channels {
         inbox: &inbox,
         outboxes: &of_node,
@@ -93,11 +92,14 @@ fn two_nodes_that_are_served_synchronise(rt: HostRuntime) -> Result<(), Fail> {
         peer: to_peer,
     };
     let (first, second) = (OpenedBook::new(), OpenedBook::new());
-    let told = exchange::<marker::Brand, marker::Brand, _, _, _, _>(
+    let (last, peer_last) = exchange::<marker::Brand, marker::Brand, _, _, _, _>(
         rt, alloc, first, second, &post, &peer_post, &ends,
     );
-    assert!(rt; told == Ok(true));
-    Ok(())
+    assert!(rt; last == (3, 1, 1, 0) && peer_last == (3, 1, 1, 0));
+}
+
+fn another(rt: &impl Abort, sender: &Sender<Letter>) -> Sender<Letter> {
+    Sender::clone(sender).expect(rt, "a count")
 }
 
 fn exchange<
@@ -115,30 +117,31 @@ fn exchange<
     post: &P,
     peer_post: &Q,
     outside: &O,
-) -> Result<bool, Refusal>
+) -> (Last, Last)
     requires first { first.0 ≡ K.book }
     requires second { second.0 ≡ L.book }
     requires one { K.name ≡ 1 }
     requires two { L.name ≡ 2 }
 {
     let (one, two) = (name(&rt, 1), name(&rt, 2));
-    let mut node: Shared<K, NoGate, R> = new_node(&rt, alloc, first, one, 2, NoGate, rt)?;
-    let mut peer: Shared<L, NoGate, R> = new_node(&rt, alloc, second, two, 2, NoGate, rt)?;
-    let (mut served, mut peer_served) = (hand_out(&mut node)?, hand_out(&mut peer)?);
-    let (mut writer, mut reader) = (hand_out(&mut node)?, hand_out(&mut peer)?);
+    let made = new_node(&rt, alloc, first, one, 2, NoGate, rt);
+    let mut node: Shared<K, NoGate, R> = made.expect(&rt, "a node");
+    let made = new_node(&rt, alloc, second, two, 2, NoGate, rt);
+    let mut peer: Shared<L, NoGate, R> = made.expect(&rt, "a node");
+    let (mut served, mut peer_served) = (hand_out(&rt, &mut node), hand_out(&rt, &mut peer));
+    let (mut writer, mut reader) = (hand_out(&rt, &mut node), hand_out(&rt, &mut peer));
     let (is_seen, is_served) = thread::join(
         &rt,
-        || synchronise(&rt, alloc, &mut writer, &mut reader, outside),
-        || serve_both(&rt, alloc, &mut served, &mut peer_served, post, peer_post),
+        || is_synchronised(&rt, alloc, &mut writer, &mut reader, outside),
+        || are_served(&rt, alloc, &mut served, &mut peer_served, post, peer_post),
     );
+    assert!(rt; is_seen && is_served);
     let last = finished_in_two(&rt, alloc, node, served, writer);
-    let peer_last = finished_in_two(&rt, alloc, peer, peer_served, reader);
-    let is_seen = is_seen == Ok(true) && is_served;
-    Ok(is_seen && last == Ok(Some((3, 1, 1, 0))) && peer_last == Ok(Some((3, 1, 1, 0))))
+    (last, finished_in_two(&rt, alloc, peer, peer_served, reader))
 }
 
 // Serves both nodes until their posts end, each in a thread of its own. Whether so much was delivered, refused and lost.
-fn serve_both<
+fn are_served<
     K: Naming + Send + Sync,
     L: Naming + Send + Sync,
     P: Post + Sync,
@@ -165,48 +168,42 @@ fn serve_both<
     told == all && peer_told == all
 }
 
-#[test]
-fn what_comes_to_a_served_node_is_counted(rt: HostRuntime) -> Result<(), Fail> {
-    let alloc = rt.alloc();
-    let (to_node, inbox) = unbounded(alloc)?;
-    for bytes in [&[0], HELLO, DELTA] {
-        let _ = to_node.send(&rt, Letter::Mail(Vec::from_slice(alloc, bytes)?));
+// Sends these bytes to a node.
+fn send(rt: &(impl Wait + Abort), alloc: Global, to_node: &Sender<Letter>, letters: &[&[u8]]) {
+    for bytes in letters {
+        let bytes = Vec::from_slice(alloc, bytes).expect(rt, "memory");
+        let _ = to_node.send(rt, Letter::Mail(bytes));
     }
+}
+
+#[test]
+fn what_comes_to_a_served_node_is_counted(rt: HostRuntime) {
+    let alloc = rt.alloc();
+    let (to_node, inbox) = unbounded(alloc).expect(&rt, "memory");
+    send(&rt, alloc, &to_node, &[&[0], HELLO, DELTA]);
     let _ = to_node.send(&rt, Letter::Stop);
     let post = Channels {
         inbox: &inbox,
         outboxes: &[],
     };
-    let told = serve_alone::<marker::Brand, _, _>(rt, alloc, OpenedBook::new(), &post);
-    let served = Served {
-        delivered: 2,
-        refused: 1,
-        lost: 1,
-    };
-    assert!(rt; told == Ok((served, Some((2, 1, 1, 0)))));
-    Ok(())
+    let (served, last) = serve_alone::<marker::Brand, _, _>(rt, alloc, OpenedBook::new(), &post);
+    assert!(rt; (served.delivered, served.refused, served.lost) == (2, 1, 1));
+    assert!(rt; last == (2, 1, 1, 0));
 }
 
 #[test]
-fn serving_ends_once_the_channel_is_closed(rt: HostRuntime) -> Result<(), Fail> {
+fn serving_ends_once_the_channel_is_closed(rt: HostRuntime) {
     let alloc = rt.alloc();
-    let (to_node, inbox) = unbounded(alloc)?;
-    for bytes in [&[], GONE, FIELD_DELTA] {
-        let _ = to_node.send(&rt, Letter::Mail(Vec::from_slice(alloc, bytes)?));
-    }
+    let (to_node, inbox) = unbounded(alloc).expect(&rt, "memory");
+    send(&rt, alloc, &to_node, &[&[], GONE, FIELD_DELTA]);
     drop(to_node);
     let post = Channels {
         inbox: &inbox,
         outboxes: &[],
     };
-    let told = serve_alone::<marker::Brand, _, _>(rt, alloc, OpenedBook::new(), &post);
-    let served = Served {
-        delivered: 2,
-        refused: 1,
-        lost: 0,
-    };
-    assert!(rt; told == Ok((served, Some((2, 1, 1, 0)))));
-    Ok(())
+    let (served, last) = serve_alone::<marker::Brand, _, _>(rt, alloc, OpenedBook::new(), &post);
+    assert!(rt; (served.delivered, served.refused, served.lost) == (2, 1, 0));
+    assert!(rt; last == (2, 1, 1, 0));
 }
 
 // Serves a node until its post ends: what it counts, and what is there in the end.
@@ -215,16 +212,16 @@ fn serve_alone<K: Naming, P: Post, R: Wait + Abort + Copy + Drop>(
     alloc: Global,
     opened: OpenedBook<NodeEvent>,
     post: &P,
-) -> Result<(Served, Last), Refusal>
+) -> (Served, Last)
     requires book { opened.0 ≡ K.book }
     requires name { K.name ≡ 1 }
 {
     let own = name(&rt, 1);
-    let mut node: Shared<K, NoGate, R> = new_node(&rt, alloc, opened, own, 1, NoGate, rt)?;
-    let mut served = hand_out(&mut node)?;
+    let made = new_node(&rt, alloc, opened, own, 1, NoGate, rt);
+    let mut node: Shared<K, NoGate, R> = made.expect(&rt, "a node");
+    let mut served = hand_out(&rt, &mut node);
     let told = serve_held(&rt, alloc, &mut served, post);
-    let last = finished_alone(&rt, alloc, node, served)?;
-    Ok((told, last))
+    (told, finished_alone(&rt, alloc, node, served))
 }
 
 fn serve_held<K: Naming, P: Post, R: Wait + Drop>(
@@ -236,43 +233,34 @@ fn serve_held<K: Naming, P: Post, R: Wait + Drop>(
     serve(rt, alloc, &mut held.client, post)
 }
 
-// Writes at the one node, has the other node ask it, waits until that one shows what was written, and ends both.
-fn synchronise<K: Naming, L: Naming, O: Outside, R: Wait + Abort + Drop>(
+// Writes at the one node, has the other node ask it, waits until that one shows what was written, and ends both. Whether it came to show it.
+fn is_synchronised<K: Naming, L: Naming, O: Outside, R: Wait + Abort + Drop>(
     rt: &R,
     alloc: Global,
     writer: &mut Held<K, NoGate, R>,
     reader: &mut Held<L, NoGate, R>,
     outside: &O,
-) -> Result<bool, Refusal> {
-    let seen = write_and_wait(rt, alloc, writer, reader, outside);
+) -> bool {
+    put(rt, alloc, writer, b"a", b"", b"x");
+    outside.hand(rt, asked(rt, alloc, reader));
+    let is_seen = is_seen_later(rt, alloc, reader);
     outside.stop(rt);
-    seen
-}
-
-fn write_and_wait<K: Naming, L: Naming, O: Outside, R: Wait + Abort + Drop>(
-    rt: &R,
-    alloc: Global,
-    writer: &mut Held<K, NoGate, R>,
-    reader: &mut Held<L, NoGate, R>,
-    outside: &O,
-) -> Result<bool, Refusal> {
-    put(rt, alloc, writer, b"a", b"", b"x")?;
-    outside.hand(rt, asked(rt, alloc, reader)?);
-    waits(alloc, reader)
+    is_seen
 }
 
 // Reads until the key holds what was written.
-fn waits<L: Naming, R: Wait + Drop>(
+fn is_seen_later<L: Naming, R: Wait + Abort + Drop>(
+    rt: &R,
     alloc: Global,
     reader: &mut Held<L, NoGate, R>,
-) -> Result<bool, Refusal> {
+) -> bool {
     for _ in 0..TURNS {
-        if has(alloc, reader, b"a", b"", Some(b"x"))? {
-            return Ok(true);
+        if has(rt, alloc, reader, b"a", b"", Some(b"x")) {
+            return true;
         }
         thread::yield_now();
     }
-    Ok(false)
+    false
 }
 
 // Asks the first node: the bytes of the hello.
@@ -280,14 +268,9 @@ fn asked<L: Naming, R: Wait + Abort + Drop>(
     rt: &R,
     alloc: Global,
     reader: &mut Held<L, NoGate, R>,
-) -> Result<Vec<u8>, Refusal> {
+) -> Vec<u8> {
     let peer = name(rt, 1);
-    match reader.client.call(rt, &Asking { alloc, peer }) {
-        Ok(told) => spelled(alloc, told),
-        Err(refusal) => Err(refusal),
-    }
-}
-
-fn spelled<T: Drop>(alloc: Global, told: ((u64, Message), T)) -> Result<Vec<u8>, Refusal> {
-    encode(alloc, &(told.0).1)
+    let asked = reader.client.call(rt, &Asking { alloc, peer });
+    let hello = (asked.expect(rt, "an ask").0).1;
+    encode(alloc, &hello).expect(rt, "memory")
 }

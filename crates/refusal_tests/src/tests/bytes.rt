@@ -1,11 +1,12 @@
 // The bytes of messages.
-use crate::made::{Here, first, name, put, put_forty, replica};
+use crate::made::{Here, answered, asked, first, put, put_forty, replica};
 use crate::trial::{Trial, refusals, wanted};
 use dots::Refusal;
 use linked_list_allocator::LocalHeap;
+use replica_core::Delivered;
 use std::alloc::{Allocator, Global};
+use std::panic::Expect;
 use std::process::Abort;
-use std::test::Fail;
 use wire_form::{Message, decode, encode};
 
 // A message that is written, or read from its bytes.
@@ -26,8 +27,8 @@ impl<'r, A: Allocator + Copy> Trial for Spelling<'r, A> {
         wanted(bytes.as_slice() == self.bytes)
     }
 
-    fn is_as_before(&mut self) -> Result<bool, Refusal> {
-        Ok(true)
+    fn is_as_before(&mut self) -> bool {
+        true
     }
 }
 
@@ -40,79 +41,67 @@ fn read<A: Allocator + Copy>(heap: A, bytes: &[u8]) -> Result<(), Refusal> {
 
 // How often writing the message is refused, and how often reading it.
 fn tried<A: Allocator + Copy>(
-    alloc: Global,
-    small: &LocalHeap,
-    heap: A,
-    message: &Message<A>,
-) -> Result<(usize, usize), Refusal> {
-    let bytes = encode(heap, message)?;
-    let mut spelling = Spelling {
-        heap,
-        message,
-        bytes: bytes.as_slice(),
-        is_read: false,
-    };
-    let written = refusals(alloc, small, &mut spelling)?;
-    spelling.is_read = true;
-    Ok((written, refusals(alloc, small, &mut spelling)?))
-}
-
-// Those of the delta of forty keys.
-fn delta_is_tried<A: Allocator + Copy>(
-    alloc: Global,
-    small: &LocalHeap,
-    heap: A,
-    here: &mut Here<A>,
-) -> Result<(usize, usize), Refusal> {
-    put_forty(heap, here)?;
-    let delta = here.flush()?.ok_or(Refusal::UnknownMessage)?;
-    tried(alloc, small, heap, &delta)
-}
-
-fn delta_is_tried_anew<A: Allocator + Copy>(
     rt: &impl Abort,
     alloc: Global,
     small: &LocalHeap,
     heap: A,
-) -> Result<(usize, usize), Refusal> {
-    let mut here = replica(rt, heap, 1);
-    delta_is_tried(alloc, small, heap, &mut here)
+    message: &Message<A>,
+) -> (usize, usize) {
+    let bytes = encode(heap, message).expect(rt, "memory");
+    let mut spelling = Spelling {
+        heap,
+        message,
+        bytes: &bytes,
+        is_read: false,
+    };
+    let written = refusals(rt, alloc, small, 8, &mut spelling);
+    spelling.is_read = true;
+    (written, refusals(rt, alloc, small, 8, &mut spelling))
 }
 
-// Those of the page of the root of a replica of one key, with its value.
+// Those of the delta of forty keys.
+fn delta_is_tried<A: Allocator + Copy>(
+    rt: &impl Abort,
+    alloc: Global,
+    small: &LocalHeap,
+    heap: A,
+) -> (usize, usize) {
+    let mut here = replica(rt, heap, 1);
+    put_forty(rt, heap, &mut here);
+    let delta = here.flush().expect(rt, "a flush").expect(rt, "a delta");
+    tried(rt, alloc, small, heap, &delta)
+}
+
+// The answer to an ask for the root of a replica of one key: its page, with its value.
+fn paged<A: Allocator + Copy>(
+    rt: &impl Abort,
+    here: &mut Here<A>,
+    peer: &mut Here<A>,
+) -> Delivered<A> {
+    let opening = answered(rt, peer, &asked(rt, here, 2));
+    let asks = answered(rt, here, first(rt, &opening));
+    answered(rt, peer, first(rt, &asks))
+}
+
+// Those of that page.
 fn page_is_tried<A: Allocator + Copy>(
     rt: &impl Abort,
     alloc: Global,
     small: &LocalHeap,
     heap: A,
-    here: &mut Here<A>,
-    peer: &mut Here<A>,
-) -> Result<(usize, usize), Refusal> {
-    put(heap, peer, b"peer", b"w")?;
-    let (_number, hello) = here.ask(name(rt, 2))?;
-    let opening = peer.deliver(&hello)?;
-    let asks = here.deliver(first(&opening)?)?;
-    let page = peer.deliver(first(&asks)?)?;
-    tried(alloc, small, heap, first(&page)?)
-}
-
-fn page_is_tried_anew<A: Allocator + Copy>(
-    rt: &impl Abort,
-    alloc: Global,
-    small: &LocalHeap,
-    heap: A,
-) -> Result<(usize, usize), Refusal> {
+) -> (usize, usize) {
     let mut here = replica(rt, heap, 1);
     let mut peer = replica(rt, heap, 2);
-    page_is_tried(rt, alloc, small, heap, &mut here, &mut peer)
+    put(heap, &mut peer, b"peer", b"w").expect(rt, "a put");
+    let page = paged(rt, &mut here, &mut peer);
+    tried(rt, alloc, small, heap, first(rt, &page))
 }
 
 #[test]
-fn a_message_that_is_refused_is_written_and_read_later(rt: HostRuntime) -> Result<(), Fail> {
-    let heap = LocalHeap::new(rt.alloc(), 60_000)?;
-    let (written, read) = delta_is_tried_anew(&rt, rt.alloc(), &heap, &heap)?;
+fn a_message_that_is_refused_is_written_and_read_later(rt: HostRuntime) {
+    let heap = LocalHeap::new(rt.alloc(), 60_000).expect(&rt, "memory");
+    let (written, read) = delta_is_tried(&rt, rt.alloc(), &heap, &heap);
     assert!(rt; written > 3 && read > 40 && heap.used() == 0);
-    let (written, read) = page_is_tried_anew(&rt, rt.alloc(), &heap, &heap)?;
+    let (written, read) = page_is_tried(&rt, rt.alloc(), &heap, &heap);
     assert!(rt; written > 1 && read > 3 && heap.used() == 0);
-    Ok(())
 }

@@ -5,8 +5,8 @@ use dots::{Field, Key, Refusal, Value};
 use linked_list_allocator::LocalHeap;
 use replica_core::Outcome;
 use std::alloc::{Allocator, Global};
+use std::panic::Expect;
 use std::process::Abort;
-use std::test::Fail;
 
 // A call of a replica of name 1 that has put 40 values on 40 keys.
 #[derive(Clone, Copy)]
@@ -52,8 +52,8 @@ impl<'r, A: Allocator + Copy> Trial for Calling<'r, A> {
         }
     }
 
-    fn is_as_before(&mut self) -> Result<bool, Refusal> {
-        Ok(what_shows(self.here) == self.before)
+    fn is_as_before(&mut self) -> bool {
+        what_shows(self.here) == self.before
     }
 }
 
@@ -106,148 +106,96 @@ fn copy<A: Allocator + Copy>(here: &Here<A>) -> Result<(), Refusal> {
     wanted(what_shows(&copy) == what_shows(here))
 }
 
-// How often the call is refused in this small heap, of which the replica has its memory.
-fn tried<A: Allocator + Copy>(
-    alloc: Global,
-    small: &LocalHeap,
-    heap: A,
-    here: &mut Here<A>,
-    act: Act,
-) -> Result<usize, Refusal> {
-    let before = what_shows(here);
-    let mut calling = Calling {
-        heap,
-        here,
-        before,
-        act,
-    };
-    refusals(alloc, small, &mut calling)
-}
-
-// How often this call is refused.
-fn is_tried<A: Allocator + Copy>(
-    alloc: Global,
-    small: &LocalHeap,
-    heap: A,
-    here: &mut Here<A>,
-    act: Act,
-) -> Result<usize, Refusal> {
+// Has happen what the call needs: a flush of three writes follows one of all, and a retry an ask.
+fn prepare<A: Allocator + Copy>(rt: &impl Abort, heap: A, here: &mut Here<A>, act: Act) {
+    put_forty(rt, heap, here);
     match act {
-        Act::Flush => flush_is_tried(alloc, small, heap, here),
-        Act::Retry => retry_is_tried(alloc, small, heap, here),
-        act => tried(alloc, small, heap, here, act),
+        Act::Flush => send(rt, heap, here),
+        Act::Retry => ask(here).expect(rt, "an ask"),
+        _ => {}
     }
 }
 
 // Sends what was made, and makes three more.
-fn send<A: Allocator + Copy>(heap: A, here: &mut Here<A>) -> Result<(), Refusal> {
-    flush(here)?;
+fn send<A: Allocator + Copy>(rt: &impl Abort, heap: A, here: &mut Here<A>) {
+    flush(here).expect(rt, "a flush");
     for key in [b"p", b"q", b"r"] {
-        put(heap, here, key, b"v")?;
+        put(heap, here, key, b"v").expect(rt, "a put");
     }
-    Ok(())
 }
 
-// How often a flush of three writes is refused.
-fn flush_is_tried<A: Allocator + Copy>(
-    alloc: Global,
-    small: &LocalHeap,
-    heap: A,
-    here: &mut Here<A>,
-) -> Result<usize, Refusal> {
-    send(heap, here)?;
-    tried(alloc, small, heap, here, Act::Flush)
-}
-
-// How often a retry of the one open synchronisation is refused.
-fn retry_is_tried<A: Allocator + Copy>(
-    alloc: Global,
-    small: &LocalHeap,
-    heap: A,
-    here: &mut Here<A>,
-) -> Result<usize, Refusal> {
-    ask(here)?;
-    tried(alloc, small, heap, here, Act::Retry)
-}
-
-// How often the call of a new replica is refused.
-fn tried_anew<A: Allocator + Copy>(
+// How often the call is refused in this small heap, of which the replica has its memory.
+fn tried<A: Allocator + Copy>(
     rt: &impl Abort,
     alloc: Global,
     small: &LocalHeap,
     heap: A,
     act: Act,
-) -> Result<usize, Refusal> {
+) -> usize {
     let mut here = replica(rt, heap, 1);
-    match put_forty(heap, &mut here) {
-        Ok(()) => is_tried(alloc, small, heap, &mut here, act),
-        Err(refusal) => Err(refusal),
-    }
+    prepare(rt, heap, &mut here, act);
+    let before = what_shows(&here);
+    let mut calling = Calling {
+        heap,
+        here: &mut here,
+        before,
+        act,
+    };
+    refusals(rt, alloc, small, 8, &mut calling)
 }
 
 // The same in a heap of its own, which is empty in the end.
-fn tried_in_a_heap(rt: &impl Abort, alloc: Global, act: Act) -> Result<usize, Fail> {
-    let heap = LocalHeap::new(alloc, 60_000)?;
-    let count = tried_anew(rt, alloc, &heap, &heap, act)?;
-    if heap.used() != 0 {
-        return Err("memory is kept".into());
-    }
-    Ok(count)
+fn tried_in_a_heap(rt: &impl Abort, alloc: Global, act: Act) -> usize {
+    let heap = LocalHeap::new(alloc, 60_000).expect(rt, "memory");
+    let count = tried(rt, alloc, &heap, &heap, act);
+    assert!(rt; heap.used() == 0);
+    count
 }
 
 #[test]
-fn a_refused_put_changes_nothing_and_is_made_again(rt: HostRuntime) -> Result<(), Fail> {
-    assert!(rt; tried_in_a_heap(&rt, rt.alloc(), Act::Put)? > 3);
-    Ok(())
+fn a_refused_put_changes_nothing_and_is_made_again(rt: HostRuntime) {
+    assert!(rt; tried_in_a_heap(&rt, rt.alloc(), Act::Put) > 3);
 }
 
 #[test]
-fn a_refused_remove_changes_nothing_and_is_made_again(rt: HostRuntime) -> Result<(), Fail> {
-    assert!(rt; tried_in_a_heap(&rt, rt.alloc(), Act::Remove)? > 3);
-    Ok(())
+fn a_refused_remove_changes_nothing_and_is_made_again(rt: HostRuntime) {
+    assert!(rt; tried_in_a_heap(&rt, rt.alloc(), Act::Remove) > 3);
 }
 
 #[test]
-fn a_refused_clear_changes_nothing_and_is_made_again(rt: HostRuntime) -> Result<(), Fail> {
-    assert!(rt; tried_in_a_heap(&rt, rt.alloc(), Act::Clear)? > 3);
-    Ok(())
+fn a_refused_clear_changes_nothing_and_is_made_again(rt: HostRuntime) {
+    assert!(rt; tried_in_a_heap(&rt, rt.alloc(), Act::Clear) > 3);
 }
 
 #[test]
-fn a_refused_flush_keeps_what_was_made(rt: HostRuntime) -> Result<(), Fail> {
-    assert!(rt; tried_in_a_heap(&rt, rt.alloc(), Act::Flush)? > 3);
-    Ok(())
+fn a_refused_flush_keeps_what_was_made(rt: HostRuntime) {
+    assert!(rt; tried_in_a_heap(&rt, rt.alloc(), Act::Flush) > 3);
 }
 
 #[test]
-fn a_refused_ask_uses_no_number(rt: HostRuntime) -> Result<(), Fail> {
-    assert!(rt; tried_in_a_heap(&rt, rt.alloc(), Act::Ask)? > 3);
-    Ok(())
+fn a_refused_ask_uses_no_number(rt: HostRuntime) {
+    assert!(rt; tried_in_a_heap(&rt, rt.alloc(), Act::Ask) > 3);
 }
 
 #[test]
-fn refused_calls_of_fields_change_nothing_and_are_made_again(rt: HostRuntime) -> Result<(), Fail> {
-    assert!(rt; tried_in_a_heap(&rt, rt.alloc(), Act::PutField)? > 3);
-    assert!(rt; tried_in_a_heap(&rt, rt.alloc(), Act::RemoveField)? > 3);
-    Ok(())
+fn refused_calls_of_fields_change_nothing_and_are_made_again(rt: HostRuntime) {
+    assert!(rt; tried_in_a_heap(&rt, rt.alloc(), Act::PutField) > 3);
+    assert!(rt; tried_in_a_heap(&rt, rt.alloc(), Act::RemoveField) > 3);
 }
 
 #[test]
-fn a_refused_retry_is_made_again(rt: HostRuntime) -> Result<(), Fail> {
-    assert!(rt; tried_in_a_heap(&rt, rt.alloc(), Act::Retry)? > 0);
-    Ok(())
+fn a_refused_retry_is_made_again(rt: HostRuntime) {
+    assert!(rt; tried_in_a_heap(&rt, rt.alloc(), Act::Retry) > 0);
 }
 
 #[test]
-fn refused_reads_are_made_again(rt: HostRuntime) -> Result<(), Fail> {
-    assert!(rt; tried_in_a_heap(&rt, rt.alloc(), Act::Get)? > 1);
-    assert!(rt; tried_in_a_heap(&rt, rt.alloc(), Act::Fields)? > 1);
-    Ok(())
+fn refused_reads_are_made_again(rt: HostRuntime) {
+    assert!(rt; tried_in_a_heap(&rt, rt.alloc(), Act::Get) > 1);
+    assert!(rt; tried_in_a_heap(&rt, rt.alloc(), Act::Fields) > 1);
 }
 
 #[test]
-fn refused_lists_and_copies_are_made_again(rt: HostRuntime) -> Result<(), Fail> {
-    assert!(rt; tried_in_a_heap(&rt, rt.alloc(), Act::List)? > 3);
-    assert!(rt; tried_in_a_heap(&rt, rt.alloc(), Act::Copy)? > 3);
-    Ok(())
+fn refused_lists_and_copies_are_made_again(rt: HostRuntime) {
+    assert!(rt; tried_in_a_heap(&rt, rt.alloc(), Act::List) > 3);
+    assert!(rt; tried_in_a_heap(&rt, rt.alloc(), Act::Copy) > 3);
 }

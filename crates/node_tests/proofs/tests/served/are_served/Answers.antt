@@ -7,7 +7,7 @@ use Rattle.shared_object.proofs.gate.NoGate.TheSendSync as NoGates
 use Rattle.shared_object.specs.contracts.gate.NoGate as NoGate
 use Rattle.node_tests.specs.contracts.made.Held as Held
 use Rattle.node_tests.proofs.Handing.{of_four}
-use Rattle.node_tests.proofs.tests.served.serve_both.Goals as goal
+use Rattle.node_tests.proofs.tests.served.are_served.Goals as goal
 
 -- the handle, the allocator, a client and its post
 pub join-requires-send-F : goal.join-requires-send-F

@@ -8,7 +8,7 @@ use Rattle.std.proofs.Crossing.{crosses}
 use Rattle.node_tests.specs.contracts.tests.beside.Holding as Holding
 use Rattle.node_tests.specs.contracts.made.Held as Held
 use Rattle.node_tests.proofs.Handing.{of_three}
-use Rattle.node_tests.proofs.tests.beside.writes_while_read.Goals as goal
+use Rattle.node_tests.proofs.tests.beside.write_while_read.Goals as goal
 
 gate_send : IsSend Holding.the_row
 gate_send = search (crosses, sendable) depth 20
