@@ -1,4 +1,5 @@
 // What clients of a node are told, and how it ends.
+mod alone;
 mod beside;
 mod kept;
 mod meanwhile;

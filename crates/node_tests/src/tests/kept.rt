@@ -1,8 +1,7 @@
 // Snapshots that a client keeps while it writes.
-ghost use Rattle.std.specs.Prelude.{◌≡◌};
-
-use crate::made::{Held, Last, Shared, finished_alone, hand_out, name, put, share, shows};
-use node_threads::{Naming, NodeEvent, Root, new_node};
+use crate::made::{Held, put, share, shows};
+use crate::tests::alone::{Calls, alone};
+use node_threads::{Naming, Root};
 use root_cell::OpenedBook;
 use shared_object::NoGate;
 use std::alloc::Global;
@@ -14,28 +13,12 @@ use std::sync::Wait;
 #[test]
 fn each_of_a_thousand_snapshots_stays(rt: HostRuntime) {
     let alloc = rt.alloc();
-    let last = keeps::<marker::Brand, _>(rt, alloc, OpenedBook::new());
+    let last = alone::<marker::Brand, _>(rt, alloc, OpenedBook::new(), Calls::Snapshots);
     assert!(rt; last == (1000, 1, 1000, 0));
 }
 
-fn keeps<K: Naming, R: Wait + Abort + Copy + Drop>(
-    rt: R,
-    alloc: Global,
-    opened: OpenedBook<NodeEvent>,
-) -> Last
-    requires book { opened.0 ≡ K.book }
-    requires name { K.name ≡ 1 }
-{
-    let own = name(&rt, 1);
-    let made = new_node(&rt, alloc, opened, own, 1, NoGate, rt);
-    let mut node: Shared<K, NoGate, R> = made.expect(&rt, "a node");
-    let mut only = hand_out(&rt, &mut node);
-    put_and_keep(&rt, alloc, &mut only);
-    finished_alone(&rt, alloc, node, only)
-}
-
 // Puts a thousand values on one key, one after the other, and keeps a snapshot after each. Each shows its own value.
-fn put_and_keep<K: Naming, R: Wait + Abort + Drop>(
+pub(crate) fn put_and_keep<K: Naming, R: Wait + Abort + Drop>(
     rt: &R,
     alloc: Global,
     held: &mut Held<K, NoGate, R>,

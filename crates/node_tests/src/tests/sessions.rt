@@ -1,13 +1,8 @@
 // The calls of one client: twelve, with a flush and an own synchronisation, and three of fields.
-ghost use Rattle.std.specs.Prelude.{◌≡◌};
-
-use crate::made::{
-    Held, Last, Shared, clear, finished_alone, hand_out, has, name, put, remove, remove_field, size,
-};
+use crate::made::{Held, clear, has, name, put, remove, remove_field, size};
+use crate::tests::alone::{Calls, alone};
 use dots::{Field, Key};
-use node_threads::{
-    Abandoning, Asking, Delivering, FieldListing, Flushing, Naming, NodeEvent, Retrying, new_node,
-};
+use node_threads::{Abandoning, Asking, Delivering, FieldListing, Flushing, Naming, Retrying};
 use replica_core::{Delivered, Outcome};
 use root_cell::OpenedBook;
 use shared_object::NoGate;
@@ -27,27 +22,11 @@ const BARE: &[u8] = &[
 #[test]
 fn twelve_calls_of_one_client_are_twelve_events(rt: HostRuntime) {
     let alloc = rt.alloc();
-    let last = twelve::<marker::Brand, _>(rt, alloc, OpenedBook::new());
+    let last = alone::<marker::Brand, _>(rt, alloc, OpenedBook::new(), Calls::Twelve);
     assert!(rt; last == (12, 0, 2, 0));
 }
 
-fn twelve<K: Naming, R: Wait + Abort + Copy + Drop>(
-    rt: R,
-    alloc: Global,
-    opened: OpenedBook<NodeEvent>,
-) -> Last
-    requires book { opened.0 ≡ K.book }
-    requires name { K.name ≡ 1 }
-{
-    let own = name(&rt, 1);
-    let made = new_node(&rt, alloc, opened, own, 1, NoGate, rt);
-    let mut node: Shared<K, NoGate, R> = made.expect(&rt, "a node");
-    let mut only = hand_out(&rt, &mut node);
-    call_twelve_times(&rt, alloc, &mut only);
-    finished_alone(&rt, alloc, node, only)
-}
-
-fn call_twelve_times<K: Naming, R: Wait + Abort + Drop>(
+pub(crate) fn call_twelve_times<K: Naming, R: Wait + Abort + Drop>(
     rt: &R,
     alloc: Global,
     held: &mut Held<K, NoGate, R>,
@@ -166,28 +145,12 @@ fn is_abandoned<K: Naming, R: Wait + Abort + Drop>(
 #[test]
 fn fields_of_a_key_are_written_and_taken_away(rt: HostRuntime) {
     let alloc = rt.alloc();
-    let last = three::<marker::Brand, _>(rt, alloc, OpenedBook::new());
+    let last = alone::<marker::Brand, _>(rt, alloc, OpenedBook::new(), Calls::Fields);
     assert!(rt; last == (3, 1, 2, 0));
 }
 
-fn three<K: Naming, R: Wait + Abort + Copy + Drop>(
-    rt: R,
-    alloc: Global,
-    opened: OpenedBook<NodeEvent>,
-) -> Last
-    requires book { opened.0 ≡ K.book }
-    requires name { K.name ≡ 1 }
-{
-    let own = name(&rt, 1);
-    let made = new_node(&rt, alloc, opened, own, 1, NoGate, rt);
-    let mut node: Shared<K, NoGate, R> = made.expect(&rt, "a node");
-    let mut only = hand_out(&rt, &mut node);
-    write_fields(&rt, alloc, &mut only);
-    finished_alone(&rt, alloc, node, only)
-}
-
 // Puts two fields of a key, and takes one away.
-fn write_fields<K: Naming, R: Wait + Abort + Drop>(
+pub(crate) fn write_fields<K: Naming, R: Wait + Abort + Drop>(
     rt: &R,
     alloc: Global,
     held: &mut Held<K, NoGate, R>,
