@@ -1,0 +1,5 @@
+use Rattle.trace_words.proofs.answer.size_answer.Goals as goal
+
+-- the text that was made
+pub returns-clause-ok : goal.returns-clause-ok
+returns-clause-ok g c = c.in_ok-format.ensures.ok
