@@ -1,6 +1,5 @@
-use crate::replicas::{flushed, key_of, put_one, take_often};
-use dots::{Name, Refusal};
-use hash_path::Fnv1a;
+use crate::replicas::{flushed, key_of, put_one, take_often, two_replicas};
+use dots::Refusal;
 use replica_core::Replica;
 use std::alloc::Global;
 
@@ -130,12 +129,11 @@ fn steps_on(
 }
 
 fn steps(alloc: Global, keys: &[u64], step: u32, times: u32) -> Result<u64, Refusal> {
-    let (Some(one), Some(two)) = (Name::new(1), Name::new(2)) else {
+    let mut replicas = two_replicas(alloc)?;
+    let [here, there] = replicas.as_mut_slice() else {
         return Ok(0);
     };
-    let mut here = Replica::new(alloc, one, Fnv1a);
-    let mut there = Replica::new(alloc, two, Fnv1a);
-    steps_on(alloc, &mut here, &mut there, keys, step, times)
+    steps_on(alloc, here, there, keys, step, times)
 }
 
 /// Puts a value of 16 bytes on each of the keys, eight bytes each, at a replica, and then does the step with all of them:

@@ -1,8 +1,24 @@
 // Replicas: what is put at them, and the bytes that they send.
-use dots::{Key, Refusal, Value};
+use dots::{Key, Name, Refusal, Value};
+use hash_path::Fnv1a;
 use replica_core::Replica;
 use std::alloc::Global;
 use wire_form::{Message, encode};
+
+// Puts the replica of this name behind the others, with nothing at it.
+fn push_new(alloc: Global, replicas: &mut Vec<Replica>, number: u64) -> Result<(), Refusal> {
+    let name = Name::new(number).ok_or(Refusal::BadLine)?;
+    replicas.push(Replica::new(alloc, name, Fnv1a))?;
+    Ok(())
+}
+
+// The replicas 1 and 2, to which nothing happened.
+pub(crate) fn two_replicas(alloc: Global) -> Result<Vec<Replica>, Refusal> {
+    let mut replicas = Vec::new(alloc);
+    push_new(alloc, &mut replicas, 1)?;
+    push_new(alloc, &mut replicas, 2)?;
+    Ok(replicas)
+}
 
 // The key of a number: eight bytes.
 pub(crate) fn key_of(alloc: Global, number: u64) -> Result<Key, Refusal> {

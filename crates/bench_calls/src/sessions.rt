@@ -1,6 +1,5 @@
-use crate::replicas::{flushed, put_all, take_often};
+use crate::replicas::{flushed, put_all, take_often, two_replicas};
 use dots::{Name, Refusal};
-use hash_path::Fnv1a;
 use replica_core::{Delivered, Replica};
 use std::alloc::Global;
 use wire_form::{Message, encode};
@@ -193,12 +192,11 @@ fn steps_on(
 }
 
 fn steps(alloc: Global, keys: &[u64], some: &[u64], times: u32, step: u32) -> Result<u64, Refusal> {
-    let (Some(one), Some(two)) = (Name::new(1), Name::new(2)) else {
+    let mut replicas = two_replicas(alloc)?;
+    let [asker, answerer] = replicas.as_mut_slice() else {
         return Ok(0);
     };
-    let mut asker = Replica::new(alloc, one, Fnv1a);
-    let mut answerer = Replica::new(alloc, two, Fnv1a);
-    steps_on(alloc, &mut asker, &mut answerer, keys, some, times, step)
+    steps_on(alloc, asker, answerer, keys, some, times, step)
 }
 
 /// Puts a value of 16 bytes on each of the keys, eight bytes each, at a replica, and gives all of them to another. Then so many times

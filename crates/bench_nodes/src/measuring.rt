@@ -15,7 +15,7 @@ use std::rt::Clock;
 use std::sync::Wait;
 use std::thread;
 use std::thread::Threads;
-use std::time::Instant;
+use std::time::{Duration, Instant};
 
 /// Measures a new node of the book, in which each key has a value when it begins.
 pub(crate) fn measure<
@@ -35,22 +35,50 @@ pub(crate) fn measure<
         NoGate,
         rt,
     )?;
+    race(&rt, alloc, &mut node, plan)
+}
+
+// Has the writer and the readers of the plan begin.
+fn race<K: Naming + Send + Sync, R: Threads + Wait + Clock + Copy + Drop + Send + Sync>(
+    rt: &R,
+    alloc: Global,
+    node: &mut Node<K, Lock<K, NoGate, R>>,
+    plan: &Plan,
+) -> Result<Told> {
     let keys = Keys::new(alloc)?;
-    let mut writer = Writer::new(node.client()?);
-    writer.fill(&rt, alloc, &keys)?;
-    let readers = readers_of(alloc, &mut node, plan.readers)?;
-    let end = Instant::now(&rt)?
-        .checked_add(plan.time)
-        .context("past the end of the clock")?;
+    let writer = Writer::new(node.client()?);
+    let readers = readers_of(alloc, node, plan.readers)?;
+    run(rt, alloc, writer, readers, &keys, plan.time)
+}
+
+// Puts a value on each key, and then has the writer write and the readers read for so long, each in a thread of its own.
+fn run<K: Naming + Send + Sync, R: Threads + Wait + Clock + Copy + Drop + Send + Sync>(
+    rt: &R,
+    alloc: Global,
+    writer: Writer<K, R>,
+    readers: Vec<Reader<K, Lock<K, NoGate, R>>>,
+    keys: &Keys,
+    time: Duration,
+) -> Result<Told> {
+    let mut writer = writer;
+    writer.fill(rt, alloc, keys)?;
+    let end = end_after(rt, time)?;
     let (writes, reads) = thread::join(
-        &rt,
-        || writer.write_until(&rt, alloc, &keys, end),
-        || read_beside(&rt, alloc, readers, &keys, end),
+        rt,
+        || writer.write_until(rt, alloc, keys, end),
+        || read_beside(rt, alloc, readers, keys, end),
     );
     Ok(Told {
         reads: reads?,
         writes: writes?,
     })
+}
+
+// The instant that comes after so long.
+fn end_after(clock: &impl Clock, time: Duration) -> Result<Instant> {
+    Instant::now(clock)?
+        .checked_add(time)
+        .context("past the end of the clock")
 }
 
 // So many clients of the node, each with an order of its own.

@@ -2,7 +2,7 @@ use denote.Exit.{no}
 use denote.Param.{param, copied, arg}
 use denote.Param.Send.{IsSend, param_send, param_sync, arg_send, arg_sync, sendable}
 use Rattle.bench_nodes.proofs.Handing.{Lock, lock_send, lock_sync}
-use Rattle.bench_nodes.proofs.measuring.fn.measure.join+arg3.Goals as goal
+use Rattle.bench_nodes.proofs.measuring.fn.run.join+arg3.Goals as goal
 
 -- what the readers share is the lock
 pub read_beside-requires-send-S : goal.read_beside-requires-send-S

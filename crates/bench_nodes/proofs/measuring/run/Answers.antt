@@ -2,7 +2,7 @@ use denote.Param.{param, copied}
 use denote.Param.Send.{shr_send}
 use Rattle.std.proofs.Crossing as std
 use Rattle.bench_nodes.proofs.Handing.{writer_send, keys_sync, end_sync, of_five}
-use Rattle.bench_nodes.proofs.measuring.measure.Goals as goal
+use Rattle.bench_nodes.proofs.measuring.run.Goals as goal
 
 -- the writer, the handle, the allocator, the keys and the end
 pub join-writes-requires-send-F : goal.join-writes-requires-send-F
