@@ -1,8 +1,5 @@
 // The digests of worked maps. What is expected was computed by python3's hashlib of the pages, put together by hand.
-use crate::mapped::{
-    Asked, LEFT, NOTHING, ONLY_A, THREE, TWO, TWO_FIELDS, TWO_VALUES, Worked, is_so,
-};
-use hash_path::{Fnv1a, SameHash};
+use crate::mapped::{Asked, By, Map, Row, is_so};
 use prefix_digest::check;
 
 // The key `a` with the dot 1:1 and the value x at the empty field, alone.
@@ -56,49 +53,100 @@ const OF_ABC: [u8; 32] = [
     0xb0, 0x03, 0x61, 0xa3, 0x96, 0x17, 0x7a, 0x9c, 0xb4, 0x10, 0xff, 0x61, 0xf2, 0x00, 0x15, 0xad,
 ];
 
-// Of what, a map, indices that are a prefix, and the digest there.
-type Row = (
-    &'static str,
-    Worked,
-    &'static [u32],
-    Option<&'static [u8; 32]>,
-);
-
 // One key has one digest at each prefix of its path, all values and fields of a key are told, two keys share their first
-// index, what is left has the digest that it has alone, and no keys have none.
-const BY_FNV1A: &[Row] = &[
-    ("one key", ONLY_A, &[], Some(&OF_A)),
-    ("one key, further", ONLY_A, &[12, 9], Some(&OF_A)),
-    ("another prefix", ONLY_A, &[12, 8], None),
-    ("all values", TWO_VALUES, &[], Some(&OF_TWO_VALUES)),
-    ("all fields", TWO_FIELDS, &[], Some(&OF_TWO_FIELDS)),
-    ("two keys", TWO, &[], Some(&AT_ROOT)),
-    ("two keys, further", TWO, &[5], Some(&AT_FIVE)),
-    ("one of two", TWO, &[5, 15], Some(&OF_B)),
-    ("what is left", LEFT, &[], Some(&OF_A)),
-    ("no keys", NOTHING, &[], None),
+// index, what is left has the digest that it has alone, no keys have none, and keys of one hash are told past the last index.
+const ROWS: &[Row] = &[
+    (
+        "one key",
+        By::Fnv1a,
+        Map::OnlyA,
+        &[],
+        Asked::Digest(Some(&OF_A)),
+    ),
+    (
+        "one key, further",
+        By::Fnv1a,
+        Map::OnlyA,
+        &[12, 9],
+        Asked::Digest(Some(&OF_A)),
+    ),
+    (
+        "another prefix",
+        By::Fnv1a,
+        Map::OnlyA,
+        &[12, 8],
+        Asked::Digest(None),
+    ),
+    (
+        "all values",
+        By::Fnv1a,
+        Map::TwoValues,
+        &[],
+        Asked::Digest(Some(&OF_TWO_VALUES)),
+    ),
+    (
+        "all fields",
+        By::Fnv1a,
+        Map::TwoFields,
+        &[],
+        Asked::Digest(Some(&OF_TWO_FIELDS)),
+    ),
+    (
+        "two keys",
+        By::Fnv1a,
+        Map::Two,
+        &[],
+        Asked::Digest(Some(&AT_ROOT)),
+    ),
+    (
+        "two keys, further",
+        By::Fnv1a,
+        Map::Two,
+        &[5],
+        Asked::Digest(Some(&AT_FIVE)),
+    ),
+    (
+        "one of two",
+        By::Fnv1a,
+        Map::Two,
+        &[5, 15],
+        Asked::Digest(Some(&OF_B)),
+    ),
+    (
+        "what is left",
+        By::Fnv1a,
+        Map::Left,
+        &[],
+        Asked::Digest(Some(&OF_A)),
+    ),
+    ("no keys", By::Fnv1a, Map::Nothing, &[], Asked::Digest(None)),
+    (
+        "three keys of one hash",
+        By::OneHash,
+        Map::Three,
+        &[],
+        Asked::Digest(Some(&OF_ONE_HASH)),
+    ),
+    (
+        "three keys of one hash, at the end",
+        By::OneHash,
+        Map::Three,
+        &[0; 7],
+        Asked::Digest(Some(&OF_LIST)),
+    ),
+    (
+        "what is left of them",
+        By::OneHash,
+        Map::Left,
+        &[],
+        Asked::Digest(Some(&OF_A)),
+    ),
 ];
 
 #[test]
 fn each_map_has_one_digest_at_each_prefix(rt: HostRuntime) {
-    for (of, map, path, wanted) in BY_FNV1A {
-        let asked = Asked::Digest(*wanted);
-        assert!(rt; is_so(&rt, rt.alloc(), Fnv1a, *map, path, asked), "{of}");
-    }
-}
-
-const BY_ONE_HASH: &[Row] = &[
-    ("three keys", THREE, &[], Some(&OF_ONE_HASH)),
-    ("three keys, at the end", THREE, &[0; 7], Some(&OF_LIST)),
-    ("what is left", LEFT, &[], Some(&OF_A)),
-];
-
-#[test]
-fn keys_of_one_hash_are_told_past_the_last_index(rt: HostRuntime) {
-    let (alloc, hash) = (rt.alloc(), SameHash(0));
-    for (of, map, path, wanted) in BY_ONE_HASH {
-        let asked = Asked::Digest(*wanted);
-        assert!(rt; is_so(&rt, alloc, hash, *map, path, asked), "{of}");
+    for row in ROWS {
+        assert!(rt; is_so(&rt, rt.alloc(), row), "{}", row.0);
     }
 }
 
@@ -111,13 +159,27 @@ const PAGE_OF_B: [u8; 70] = [
     0x05, 0x1b, 0x0f, 0xdd, 0xc3, 0x26,
 ];
 
+// The same with w changed in one bit.
+const CHANGED: [u8; 70] = [
+    0x00, 0x00, 0x01, 0x62, 0x00, 0x00, 0x00, 0x00, 0x00, 0x00, 0x00, 0x01, 0x00, 0x00, 0x00, 0x00,
+    0x00, 0x00, 0x00, 0x00, 0x00, 0x01, 0x00, 0x00, 0x00, 0x00, 0x00, 0x00, 0x00, 0x02, 0x00, 0x00,
+    0x00, 0x00, 0x00, 0x00, 0x00, 0x02, 0x50, 0xe7, 0x21, 0xe4, 0x9c, 0x01, 0x3f, 0x00, 0xc6, 0x2c,
+    0xf5, 0x9f, 0x21, 0x63, 0x54, 0x2a, 0x9d, 0x8d, 0xf0, 0x24, 0x64, 0xef, 0xeb, 0x61, 0x5d, 0x31,
+    0x05, 0x1b, 0x0f, 0xdd, 0xc3, 0x27,
+];
+
+// Bytes, a digest, and whether it is theirs.
+const CHECKED: &[(&[u8], &[u8; 32], bool)] = &[
+    (b"abc", &OF_ABC, true),
+    (b"abd", &OF_ABC, false),
+    (b"abc", &OF_A, false),
+    (&PAGE_OF_B, &OF_B, true),
+    (&CHANGED, &OF_B, false),
+];
+
 #[test]
 fn a_page_is_checked_by_its_digest(rt: HostRuntime) {
-    let mut changed = PAGE_OF_B;
-    changed[69] ^= 1;
-    assert!(rt; check(b"abc", &OF_ABC));
-    assert!(rt; !check(b"abd", &OF_ABC));
-    assert!(rt; !check(b"abc", &OF_A));
-    assert!(rt; check(&PAGE_OF_B, &OF_B));
-    assert!(rt; !check(&changed, &OF_B));
+    for (bytes, digest, is_theirs) in CHECKED {
+        assert!(rt; check(bytes, digest) == *is_theirs);
+    }
 }

@@ -21,8 +21,4 @@ mod runs;
 #[cfg(test)]
 mod seals;
 #[cfg(test)]
-mod snapshots;
-#[cfg(test)]
 mod summaries;
-#[cfg(test)]
-mod walks;

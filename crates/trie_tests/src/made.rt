@@ -1,11 +1,14 @@
-use dots::Key;
-use gen_trie::{Frozen, GenTrie, NoSummary, Summary};
+// Tries with marks, their frozen maps, and their keys.
+use crate::summaries::Mark;
+use dots::{Key, Text};
+use gen_trie::{Frozen, GenTrie};
 use hash_path::{PathHash, Prefix};
-use std::alloc::Global;
+use std::alloc::{Allocator, Global};
 use std::process::Abort;
 
-// A value that a key has, or None for a key that is not there. Each key is one byte.
-pub type Held = (u8, Option<u64>);
+pub type Trie<H, A = Global> = GenTrie<u64, Mark, H, A>;
+
+pub type Kept<H, A = Global> = Frozen<u64, Mark, H, A>;
 
 // The prefix of these indices.
 pub fn prefix_of(path: &[u32]) -> Option<Prefix> {
@@ -16,51 +19,31 @@ pub fn prefix_of(path: &[u32]) -> Option<Prefix> {
     Some(prefix)
 }
 
-// A trie with the values 1, 2 and 3 at the keys a, b and c.
-pub fn three<H: PathHash>(rt: &impl Abort, alloc: Global, hash: H) -> GenTrie<u64, NoSummary, H> {
-    three_with(rt, alloc, hash)
-}
-
-// The same with any summary.
-pub fn three_with<M: Summary<u64>, H: PathHash>(
-    rt: &impl Abort,
-    alloc: Global,
-    hash: H,
-) -> GenTrie<u64, M, H> {
-    let mut trie = GenTrie::new(alloc, hash);
-    for value in 1..4u8 {
-        let key = Key::new(alloc, &[96 + value]).expect(rt, "memory");
-        trie.insert(key, u64::from(value)).expect(rt, "memory");
+// The first byte of a text that is not empty.
+pub fn first_of<K>(text: &Text<K>) -> u64 {
+    match text.bytes() {
+        [first, ..] => u64::from(*first),
+        [] => 0,
     }
-    trie
 }
 
-// The value at the key of this byte.
-pub fn at<H: PathHash>(
+// Puts a value at the key of these bytes.
+pub fn put<H: PathHash, A: Allocator + Copy>(
     rt: &impl Abort,
-    alloc: Global,
-    trie: &GenTrie<u64, NoSummary, H>,
-    key: u8,
-) -> Option<u64> {
-    let key = Key::new(alloc, &[key]).expect(rt, "memory");
-    trie.lookup(&key).copied()
-}
-
-fn frozen_at<H: PathHash>(
-    rt: &impl Abort,
-    alloc: Global,
-    frozen: &Frozen<u64, NoSummary, H>,
-    key: u8,
-) -> Option<u64> {
-    let key = Key::new(alloc, &[key]).expect(rt, "memory");
-    frozen.lookup(&key).copied()
+    alloc: A,
+    trie: &mut Trie<H, A>,
+    key: &[u8],
+    value: u64,
+) {
+    let key = Key::new(alloc, key).expect(rt, "memory");
+    trie.insert(key, value).expect(rt, "memory");
 }
 
 // Takes the key of these bytes out.
 pub fn taken<H: PathHash>(
     rt: &impl Abort,
     alloc: Global,
-    trie: &mut GenTrie<u64, NoSummary, H>,
+    trie: &mut Trie<H>,
     key: &[u8],
 ) -> Option<u64> {
     let key = Key::new(alloc, key).expect(rt, "memory");
@@ -70,43 +53,19 @@ pub fn taken<H: PathHash>(
     }
 }
 
-// Puts a value at the key of this byte.
-pub fn put<H: PathHash>(
+// The bytes of the key of a number: those of a multiple of it, the most significant first.
+pub fn bytes_of(number: u64) -> [u8; 8] {
+    number.wrapping_mul(0x9e37_79b9_7f4a_7c15).to_be_bytes()
+}
+
+// Puts each number below this one at its key.
+pub fn put_all<H: PathHash, A: Allocator + Copy>(
     rt: &impl Abort,
-    alloc: Global,
-    trie: &mut GenTrie<u64, NoSummary, H>,
-    key: u8,
-    value: u64,
+    alloc: A,
+    trie: &mut Trie<H, A>,
+    count: u64,
 ) {
-    let key = Key::new(alloc, &[key]).expect(rt, "memory");
-    trie.insert(key, value).expect(rt, "memory");
-}
-
-// Whether there are so many keys, and these are the values at these keys.
-pub fn holds<H: PathHash>(
-    rt: &impl Abort,
-    alloc: Global,
-    trie: &GenTrie<u64, NoSummary, H>,
-    size: u64,
-    values: &[Held],
-) -> bool {
-    let mut same = trie.size() == size;
-    for (key, value) in values {
-        same = same && at(rt, alloc, trie, *key) == *value;
+    for number in 0..count {
+        put(rt, alloc, trie, &bytes_of(number), number);
     }
-    same
-}
-
-pub fn frozen_holds<H: PathHash>(
-    rt: &impl Abort,
-    alloc: Global,
-    frozen: &Frozen<u64, NoSummary, H>,
-    size: u64,
-    values: &[Held],
-) -> bool {
-    let mut same = frozen.size() == size;
-    for (key, value) in values {
-        same = same && frozen_at(rt, alloc, frozen, *key) == *value;
-    }
-    same
 }

@@ -3,9 +3,8 @@ ghost use Rattle.std.specs.Prelude.{bit_and};
 ghost use Rattle.hash_path.specs.Fnv1a.{fnv1a};
 ghost use Rattle.trie_tests.specs.FewBits.{few_bits};
 
-use crate::made::taken;
-use dots::Key;
-use gen_trie::{Frozen, GenTrie, NoSummary};
+use crate::made::{Kept, Trie, put, taken};
+use gen_trie::GenTrie;
 use hash_path::{Fnv1a, PathHash};
 use std::alloc::Global;
 use std::collections::BTreeMap;
@@ -17,13 +16,12 @@ type Plain = BTreeMap<u64, u64, Global>;
 fn put_both<H: PathHash>(
     rt: &impl Abort,
     alloc: Global,
-    trie: &mut GenTrie<u64, NoSummary, H>,
+    trie: &mut Trie<H>,
     plain: &mut Plain,
     number: u64,
     value: u64,
 ) {
-    let key = Key::new(alloc, &number.to_be_bytes()).expect(rt, "memory");
-    trie.insert(key, value).expect(rt, "memory");
+    put(rt, alloc, trie, &number.to_be_bytes(), value);
     let put: Result<_, _> = plain.insert(number, value);
     put.expect(rt, "memory");
 }
@@ -33,7 +31,7 @@ fn put_both<H: PathHash>(
 fn step<H: PathHash>(
     rt: &impl Abort,
     alloc: Global,
-    trie: &mut GenTrie<u64, NoSummary, H>,
+    trie: &mut Trie<H>,
     plain: &mut Plain,
     keys: u64,
     seed: u64,
@@ -50,7 +48,7 @@ fn step<H: PathHash>(
 fn run<H: PathHash>(
     rt: &impl Abort,
     alloc: Global,
-    trie: &mut GenTrie<u64, NoSummary, H>,
+    trie: &mut Trie<H>,
     plain: &mut Plain,
     keys: u64,
     from: u64,
@@ -68,13 +66,13 @@ fn run<H: PathHash>(
 }
 
 // Whether the two have the same at this key.
-fn same_at<H: PathHash>(frozen: &Frozen<u64, NoSummary, H>, plain: &Plain, number: u64) -> bool {
+fn same_at<H: PathHash>(frozen: &Kept<H>, plain: &Plain, number: u64) -> bool {
     let value = frozen.lookup_bytes(&number.to_be_bytes()).copied();
     value == plain.get(&number).copied()
 }
 
 // How many keys a walk goes through.
-fn walked<H: PathHash>(frozen: &Frozen<u64, NoSummary, H>) -> usize {
+fn walked<H: PathHash>(frozen: &Kept<H>) -> usize {
     let mut count: usize = 0;
     for _ in frozen {
         count = count.wrapping_add(1);
@@ -83,7 +81,7 @@ fn walked<H: PathHash>(frozen: &Frozen<u64, NoSummary, H>) -> usize {
 }
 
 // Whether the two have the same at each key, and no other keys.
-fn agree<H: PathHash>(frozen: &Frozen<u64, NoSummary, H>, plain: &Plain, keys: u64) -> bool {
+fn agree<H: PathHash>(frozen: &Kept<H>, plain: &Plain, keys: u64) -> bool {
     let mut same = frozen.size() == plain.len() as u64 && walked(frozen) == plain.len();
     for number in 0..keys {
         same = same_at(frozen, plain, number) && same;
@@ -95,7 +93,7 @@ fn agree<H: PathHash>(frozen: &Frozen<u64, NoSummary, H>, plain: &Plain, keys: u
 fn write_beside<H: PathHash>(
     rt: &impl Abort,
     alloc: Global,
-    trie: &mut GenTrie<u64, NoSummary, H>,
+    trie: &mut Trie<H>,
     plain: &mut Plain,
     keys: u64,
     from: u64,
@@ -110,7 +108,7 @@ fn write_beside<H: PathHash>(
 fn write_all<H: PathHash>(
     rt: &impl Abort,
     alloc: Global,
-    trie: &mut GenTrie<u64, NoSummary, H>,
+    trie: &mut Trie<H>,
     plain: &mut Plain,
     keys: u64,
 ) -> bool {

@@ -1,11 +1,11 @@
 // Worked maps from keys to fields, and what is asked of them at a prefix.
-use crate::made::prefix_of;
+use crate::made::{first_of, prefix_of};
 use causal_context::Context;
 use causal_join::Fields;
 use dot_store::{DotFun, DotStore};
 use dots::{Dot, Field, Key, Name, Value};
 use gen_trie::GenTrie;
-use hash_path::{PathHash, Prefix};
+use hash_path::{Fnv1a, PathHash, Prefix, SameHash};
 use prefix_digest::{FrozenMap, ShaSummary, digest, digest_of, page, page_value, values_for};
 use std::alloc::Global;
 use std::process::Abort;
@@ -13,7 +13,7 @@ use std::process::Abort;
 // The dots with their values at a field.
 pub type Values<'a> = &'a [((u64, u64), &'a [u8])];
 
-pub type Trie<H> = GenTrie<Fields, ShaSummary, H>;
+type Trie<H> = GenTrie<Fields, ShaSummary, H>;
 
 fn dot(rt: &impl Abort, name: u64, number: u64) -> Dot {
     let name = Name::new(name).expect(rt, "a name");
@@ -40,7 +40,7 @@ fn put_values(rt: &impl Abort, alloc: Global, fields: &mut Fields, field: &[u8],
 
 // Puts these values at the empty field of a key, others at the field `f`, which is not there where there are none, and
 // nothing else there.
-pub fn put<H: PathHash>(
+fn put<H: PathHash>(
     rt: &impl Abort,
     alloc: Global,
     trie: &mut Trie<H>,
@@ -59,23 +59,39 @@ pub fn put<H: PathHash>(
 type Put = (&'static [u8], Values<'static>, Values<'static>);
 
 // A worked map: what is put into it, and the keys that are taken out then.
-pub type Worked = (&'static [Put], &'static [&'static [u8]]);
+type Worked = (&'static [Put], &'static [&'static [u8]]);
 
-pub const NOTHING: Worked = (&[], &[]);
+// A worked map by its name, so that each row of a table is short.
+#[derive(Clone, Copy)]
+pub enum Map {
+    Nothing,
+    // x under the dot 1:1 at `a`.
+    OnlyA,
+    // Both x and, under the dot 2:1, y there.
+    TwoValues,
+    // The same, and z under the dot 1:2 at the field `f`.
+    TwoFields,
+    // v at the empty key and w at `b`.
+    Two,
+    // x, y and z at `a`, `b` and `c`.
+    Three,
+    // The same with `b` taken out.
+    WithoutB,
+    // The same with `b` and `c` taken out.
+    Left,
+}
 
-// x under the dot 1:1 at `a`.
-pub const ONLY_A: Worked = (&[(b"a", &[((1, 1), b"x")], &[])], &[]);
+const NOTHING: Worked = (&[], &[]);
+
+const ONLY_A: Worked = (&[(b"a", &[((1, 1), b"x")], &[])], &[]);
 
 const X_AND_Y: Values<'static> = &[((2, 1), b"y"), ((1, 1), b"x")];
 
-// Both x and, under the dot 2:1, y there.
-pub const TWO_VALUES: Worked = (&[(b"a", X_AND_Y, &[])], &[]);
+const TWO_VALUES: Worked = (&[(b"a", X_AND_Y, &[])], &[]);
 
-// The same, and z under the dot 1:2 at the field `f`.
-pub const TWO_FIELDS: Worked = (&[(b"a", X_AND_Y, &[((1, 2), b"z")])], &[]);
+const TWO_FIELDS: Worked = (&[(b"a", X_AND_Y, &[((1, 2), b"z")])], &[]);
 
-// v at the empty key and w at `b`.
-pub const TWO: Worked = (
+const TWO: Worked = (
     &[
         (b"b", &[((2, 2), b"w")], &[]),
         (b"", &[((2, 1), b"v")], &[]),
@@ -89,16 +105,24 @@ const X_Y_AND_Z: &[Put] = &[
     (b"c", &[((1, 3), b"z")], &[]),
 ];
 
-// x, y and z at `a`, `b` and `c`.
-pub const THREE: Worked = (X_Y_AND_Z, &[]);
+const WITHOUT_B: &[&[u8]] = &[b"b"];
 
-// The same with `b` taken out.
-pub const WITHOUT_B: Worked = (X_Y_AND_Z, &[b"b"]);
+const WITHOUT_TWO: &[&[u8]] = &[b"b", b"c"];
 
-// The same with `b` and `c` taken out.
-pub const LEFT: Worked = (X_Y_AND_Z, &[b"b", b"c"]);
+fn worked(map: Map) -> Worked {
+    match map {
+        Map::Nothing => NOTHING,
+        Map::OnlyA => ONLY_A,
+        Map::TwoValues => TWO_VALUES,
+        Map::TwoFields => TWO_FIELDS,
+        Map::Two => TWO,
+        Map::Three => (X_Y_AND_Z, &[]),
+        Map::WithoutB => (X_Y_AND_Z, WITHOUT_B),
+        Map::Left => (X_Y_AND_Z, WITHOUT_TWO),
+    }
+}
 
-pub fn take<H: PathHash>(rt: &impl Abort, alloc: Global, trie: &mut Trie<H>, key: &[u8]) {
+fn take<H: PathHash>(rt: &impl Abort, alloc: Global, trie: &mut Trie<H>, key: &[u8]) {
     let key = Key::new(alloc, key).expect(rt, "memory");
     trie.remove(&key).expect(rt, "memory");
 }
@@ -123,23 +147,22 @@ pub enum Asked<'a> {
     // Whether this is its digest.
     Digest(Option<&'a [u8; 32]>),
     // Whether these are the bytes of its page, of which the digest is that of the map there.
-    Page(&'a [u8]),
-    // Whether it has no page.
-    NoPage,
-    // Whether its page names values of these bytes, one each, to who knows these dots.
-    Values(&'a [(u64, u64)], &'a [u8]),
+    Page(Option<&'a [u8]>),
+    // Whether its page names values of these bytes, one each, as the bytes of a number, to who knows these dots.
+    Values(&'a [(u64, u64)], u64),
 }
 
-// Whether the page has the digest of the map there.
-fn is_told<H: PathHash>(
+// The digest of the page, if there is one.
+fn told<H: PathHash>(
     rt: &impl Abort,
     alloc: Global,
     frozen: &FrozenMap<H>,
     prefix: Prefix,
-) -> bool {
-    let page = page_value(alloc, frozen, prefix).expect(rt, "memory");
-    let told = page.expect(rt, "a page");
-    Some(digest_of(&told)) == digest(frozen, prefix)
+) -> Option<[u8; 32]> {
+    match page_value(alloc, frozen, prefix).expect(rt, "memory") {
+        None => None,
+        Some(page) => Some(digest_of(&page)),
+    }
 }
 
 // Whether these are the bytes of the page.
@@ -148,25 +171,10 @@ fn is_spelled<H: PathHash>(
     alloc: Global,
     frozen: &FrozenMap<H>,
     prefix: Prefix,
-    wanted: &[u8],
+    wanted: Option<&[u8]>,
 ) -> bool {
     let page = page(alloc, frozen, prefix).expect(rt, "memory");
-    let bytes = page.expect(rt, "a page");
-    bytes.as_slice() == wanted
-}
-
-fn is_none<T: Drop>(made: Option<T>) -> bool {
-    made.is_none()
-}
-
-fn has_no_page<H: PathHash>(
-    rt: &impl Abort,
-    alloc: Global,
-    frozen: &FrozenMap<H>,
-    prefix: Prefix,
-) -> bool {
-    let has_bytes = !is_none(page(alloc, frozen, prefix).expect(rt, "memory"));
-    is_none(page_value(alloc, frozen, prefix).expect(rt, "memory")) && !has_bytes
+    page.as_deref() == wanted
 }
 
 // The context of these dots.
@@ -178,44 +186,49 @@ fn context_of(rt: &impl Abort, alloc: Global, dots: &[(u64, u64)]) -> Context {
     context
 }
 
-// Whether these are the bytes of the values, each of one byte.
-fn have_bytes(values: &[Value], wanted: &[u8]) -> bool {
-    let mut same = values.len() == wanted.len();
-    for (value, byte) in values.iter().zip(wanted) {
-        same = same && value.bytes() == [*byte].as_slice();
+// The first bytes of values that are not empty, as the bytes of a number.
+fn firsts(values: &[Value]) -> u64 {
+    let mut number: u64 = 0;
+    for value in values {
+        number = number.wrapping_mul(0x100).wrapping_add(first_of(value));
     }
-    same
+    number
 }
 
-// Whether the page names values of these bytes to who knows these dots.
+// Whether the page names values of these first bytes to who knows these dots.
 fn names_values<H: PathHash>(
     rt: &impl Abort,
     alloc: Global,
     frozen: &FrozenMap<H>,
     prefix: Prefix,
     known: &[(u64, u64)],
-    wanted: &[u8],
+    wanted: u64,
 ) -> bool {
     let known = context_of(rt, alloc, known);
     let values = values_for(alloc, frozen, prefix, &known).expect(rt, "memory");
-    have_bytes(&values, wanted)
+    firsts(&values) == wanted
 }
 
+// The hash that keys' paths are by.
+#[derive(Clone, Copy)]
+pub enum By {
+    Fnv1a,
+    // One number for all keys.
+    OneHash,
+}
+
+// Of what, a hash, a map, indices that are a prefix, and what is asked there.
+pub type Row = (&'static str, By, Map, &'static [u32], Asked<'static>);
+
 // Whether what is asked is so of this frozen map.
-fn is_so_of<H: PathHash>(
-    rt: &impl Abort,
-    alloc: Global,
-    frozen: &FrozenMap<H>,
-    prefix: Prefix,
-    asked: Asked,
-) -> bool {
-    match asked {
+fn is_so_of<H: PathHash>(rt: &impl Abort, alloc: Global, frozen: &FrozenMap<H>, row: &Row) -> bool {
+    let prefix = prefix_of(row.3).expect(rt, "a prefix");
+    match row.4 {
         Asked::Digest(wanted) => digest(frozen, prefix) == wanted.copied(),
         Asked::Page(wanted) => {
-            let is_told = is_told(rt, alloc, frozen, prefix);
+            let is_told = told(rt, alloc, frozen, prefix) == digest(frozen, prefix);
             is_spelled(rt, alloc, frozen, prefix, wanted) && is_told
         }
-        Asked::NoPage => has_no_page(rt, alloc, frozen, prefix),
         Asked::Values(known, wanted) => names_values(rt, alloc, frozen, prefix, known, wanted),
     }
 }
@@ -225,25 +238,23 @@ fn is_so_written<H: PathHash>(
     rt: &impl Abort,
     alloc: Global,
     trie: &mut Trie<H>,
-    map: Worked,
-    path: &[u32],
-    asked: Asked,
+    row: &Row,
 ) -> bool {
-    let prefix = prefix_of(path).expect(rt, "a prefix");
-    write(rt, alloc, trie, map);
+    write(rt, alloc, trie, worked(row.2));
     let frozen = trie.freeze().expect(rt, "memory");
-    is_so_of(rt, alloc, &frozen, prefix, asked)
+    is_so_of(rt, alloc, &frozen, row)
 }
 
-// Whether what is asked is so of the map by this hash, frozen, at these indices, which are a prefix.
-pub fn is_so<H: PathHash>(
-    rt: &impl Abort,
-    alloc: Global,
-    hash: H,
-    map: Worked,
-    path: &[u32],
-    asked: Asked,
-) -> bool {
+// The same of a new trie by this hash.
+fn is_so_by<H: PathHash>(rt: &impl Abort, alloc: Global, hash: H, row: &Row) -> bool {
     let mut trie = GenTrie::new(alloc, hash);
-    is_so_written(rt, alloc, &mut trie, map, path, asked)
+    is_so_written(rt, alloc, &mut trie, row)
+}
+
+// Whether what the row asks is so of its map, frozen.
+pub fn is_so(rt: &impl Abort, alloc: Global, row: &Row) -> bool {
+    match row.1 {
+        By::Fnv1a => is_so_by(rt, alloc, Fnv1a, row),
+        By::OneHash => is_so_by(rt, alloc, SameHash(0), row),
+    }
 }

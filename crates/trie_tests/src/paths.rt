@@ -1,6 +1,6 @@
 // Hashes and indices from outside: FNV-1a's published values, and the indices worked out by hand from their bits.
 use crate::made::prefix_of;
-use hash_path::{Fnv1a, PathHash, Prefix, SameHash, index_at};
+use hash_path::{Fnv1a, PathHash, SameHash, index_at};
 
 // Whether the hash of a key is this one, and its seven indices are these.
 fn has_path(key: &[u8], hash: u32, path: &[u32; 7]) -> bool {
@@ -19,6 +19,7 @@ const PATHS: &[(&[u8], u32, [u32; 7])] = &[
     (b"a", 0xe40c_292c, [12, 9, 10, 24, 0, 18, 3]),
     (b"b", 0xe70c_2de5, [5, 15, 11, 24, 16, 19, 3]),
     (b"c", 0xe60c_2c52, [18, 2, 11, 24, 0, 19, 3]),
+    (b"foobar", 0xbf9c_f968, [8, 11, 30, 25, 25, 31, 2]),
 ];
 
 #[test]
@@ -26,59 +27,64 @@ fn fnv1a_gives_its_published_values(rt: HostRuntime) {
     for (key, hash, path) in PATHS {
         assert!(rt; has_path(key, *hash, path), "{hash}");
     }
-    assert!(rt; Fnv1a.hash(b"foobar") == 0xbf9c_f968);
-    assert!(rt; index_at(0xbf9c_f968, 0) == Some(8));
 }
 
 #[test]
 fn one_number_is_the_hash_of_every_key(rt: HostRuntime) {
-    assert!(rt; SameHash(7).hash(b"a") == 7);
-    assert!(rt; SameHash(7).hash(b"") == 7);
+    let of_one = [SameHash(7).hash(b"a"), SameHash(7).hash(b"")];
+    assert!(rt; of_one == [7, 7]);
     assert!(rt; SameHash::default().hash(b"a") == 0);
 }
 
-// What a generic caller gets of a path hash.
-fn hashes_alike<H: PathHash>(hash: &H, key: &[u8], other: &[u8]) -> bool {
-    hash.hash(key) == hash.hash(other)
+// What is told of a prefix: its depth, whether it covers a hash, whether it has a child of the index 0, and its first index with
+// the depth of the others and whether these cover the hash behind that index.
+type Told = (u32, bool, bool, Option<(u32, u32, bool)>);
+
+// What is told of the prefix of these indices, beside this hash.
+fn told(path: &[u32], hash: u32) -> Option<Told> {
+    let prefix = prefix_of(path)?;
+    let split = match prefix.split_first() {
+        None => None,
+        Some((first, rest)) => Some((first, rest.depth(), rest.covers(hash >> 5))),
+    };
+    Some((
+        prefix.depth(),
+        prefix.covers(hash),
+        prefix.child(0).is_some(),
+        split,
+    ))
 }
 
-#[test]
-fn equal_keys_hash_alike(rt: HostRuntime) {
-    assert!(rt; hashes_alike(&Fnv1a, b"milk", b"milk"));
-    assert!(rt; !hashes_alike(&Fnv1a, b"a", b"b"));
-    assert!(rt; hashes_alike(&SameHash(3), b"a", b"b"));
-}
+// The hash of the key a.
+const OF_A: u32 = 0xe40c_292c;
+
+// That of the key b.
+const OF_B: u32 = 0xe70c_2de5;
+
+const WHOLE: &[u32] = &[12, 9, 10, 24, 0, 18, 3];
+
+// Indices, a hash, and what is told of their prefix, if they are one: it covers the hashes that begin with it, ends at the seventh
+// index, and has no index past the greatest.
+const TOLD: &[(&[u32], u32, Option<Told>)] = &[
+    (&[], OF_A, Some((0, true, true, None))),
+    (&[12, 9], OF_A, Some((2, true, true, Some((12, 1, true))))),
+    (&[12, 9], OF_B, Some((2, false, true, Some((12, 1, false))))),
+    (WHOLE, OF_A, Some((7, true, false, Some((12, 6, true))))),
+    (
+        WHOLE,
+        OF_A + 1,
+        Some((7, false, false, Some((12, 6, true)))),
+    ),
+    (&[12, 9, 10, 24, 0, 18, 4], OF_A, None),
+    (&[32], OF_A, None),
+    (&[31], OF_A, Some((1, false, true, Some((31, 0, true))))),
+];
 
 #[test]
 fn a_prefix_covers_the_hashes_that_begin_with_it(rt: HostRuntime) {
-    let root = Prefix::root();
-    assert!(rt; root.depth() == 0 && root.covers(0xe40c_292c));
-    let second = prefix_of(&[12, 9]).expect(&rt, "two indices");
-    assert!(rt; second.depth() == 2);
-    assert!(rt; second.covers(0xe40c_292c) && !second.covers(0xe70c_2de5));
-}
-
-#[test]
-fn a_prefix_ends_at_the_seventh_index(rt: HostRuntime) {
-    let whole = prefix_of(&[12, 9, 10, 24, 0, 18, 3]).expect(&rt, "seven indices");
-    assert!(rt; whole.depth() == 7 && whole.child(0).is_none());
-    assert!(rt; whole.covers(0xe40c_292c) && !whole.covers(0xe40c_292d));
-}
-
-#[test]
-fn an_index_past_the_greatest_makes_no_prefix(rt: HostRuntime) {
-    assert!(rt; prefix_of(&[12, 9, 10, 24, 0, 18, 4]).is_none());
-    assert!(rt; prefix_of(&[32]).is_none());
-    assert!(rt; prefix_of(&[31]).is_some());
-}
-
-#[test]
-fn a_prefix_gives_its_first_index_and_the_others(rt: HostRuntime) {
-    let second = prefix_of(&[12, 9]).expect(&rt, "two indices");
-    let (first, rest) = second.split_first().expect(&rt, "twelve");
-    assert!(rt; first == 12 && rest.depth() == 1);
-    assert!(rt; rest.covers(9) && !rest.covers(12));
-    assert!(rt; Prefix::root().split_first().is_none());
+    for (path, hash, wanted) in TOLD {
+        assert!(rt; told(path, *hash) == *wanted, "{path:?}");
+    }
 }
 
 // Two lists of indices, and whether the prefix of the first comes before that of the others.

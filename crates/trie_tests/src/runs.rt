@@ -1,79 +1,229 @@
-// Runs of several tries.
-use crate::snapshots::one;
-use ctrie_api::{Act, Tries};
+// Workiva's calls: tries with snapshots, by single acts and by runs of them.
+use ctrie_api::{Act, Ctrie, Tries};
 use dots::{Key, Refusal};
+use gen_trie::{Frozen, NoSummary};
 use hash_path::Fnv1a;
 use std::alloc::Global;
 use std::process::Abort;
 
+type Map = Ctrie<u64, Fnv1a>;
+
 type Maps = Tries<u64, Fnv1a>;
 
-// Of a trie with a at 1: insert b 2, a snapshot, remove a, a read-only snapshot of the snapshot, clear that, clear the
-// first.
-fn acts(rt: &impl Abort, alloc: Global) -> Vec<Act<u64>> {
-    let mut acts = Vec::new(alloc);
-    let b = Key::new(alloc, b"b").expect(rt, "memory");
-    acts.push(Act::Insert(0, b, 2)).expect(rt, "memory");
-    acts.push(Act::Snapshot(0)).expect(rt, "memory");
-    let a = Key::new(alloc, b"a").expect(rt, "memory");
-    acts.push(Act::Remove(0, a)).expect(rt, "memory");
-    acts.push(Act::ReadOnlySnapshot(1)).expect(rt, "memory");
-    acts.push(Act::Clear(2)).expect(rt, "memory");
-    acts.push(Act::Clear(0)).expect(rt, "memory");
-    acts
+// An act at the trie of an index. Each key is one byte.
+#[derive(Clone, Copy)]
+enum Step {
+    Put(usize, u8, u64),
+    Take(usize, u8),
+    Clear(usize),
+    Snapshot(usize),
+    ReadOnlySnapshot(usize),
 }
 
-fn size_at(tries: &Maps, index: usize) -> Option<u64> {
-    Some(tries.trie(index)?.size())
+fn key_of(rt: &impl Abort, alloc: Global, byte: u8) -> Key {
+    Key::new(alloc, &[byte]).expect(rt, "memory")
 }
 
-// Whether there are three tries, of which the first is empty and the others have two keys.
-fn are_three(tries: &Maps) -> bool {
-    tries.len() == 3
-        && (size_at(tries, 0), size_at(tries, 1)) == (Some(0), Some(2))
-        && (size_at(tries, 2), size_at(tries, 3)) == (Some(2), None)
+fn act_of(rt: &impl Abort, alloc: Global, step: Step) -> Act<u64> {
+    match step {
+        Step::Put(index, byte, value) => Act::Insert(index, key_of(rt, alloc, byte), value),
+        Step::Take(index, byte) => Act::Remove(index, key_of(rt, alloc, byte)),
+        Step::Clear(index) => Act::Clear(index),
+        Step::Snapshot(index) => Act::Snapshot(index),
+        Step::ReadOnlySnapshot(index) => Act::ReadOnlySnapshot(index),
+    }
 }
 
-// Whether the acts are all made, and there are then those three tries.
-fn is_run(tries: &mut Maps, acts: Vec<Act<u64>>) -> bool {
-    let is_made = tries.run(acts) == Ok(());
-    is_made && are_three(tries)
+// An act, and whether its trie is there, or how it is refused.
+type Told = (Step, Result<bool, Refusal>);
+
+const THERE: Result<bool, Refusal> = Ok(true);
+
+const ABSENT: Result<bool, Refusal> = Ok(false);
+
+const REFUSED: Result<bool, Refusal> = Err(Refusal::ReadOnly);
+
+// Carries the acts out one by one, and tells whether each answers what it has to.
+fn are_told(rt: &impl Abort, alloc: Global, tries: &mut Maps, acts: &[Told]) -> bool {
+    let mut right = true;
+    for (step, told) in acts {
+        let act = act_of(rt, alloc, *step);
+        right = tries.act(act) == *told && right;
+    }
+    right
 }
 
-// The tries of which the first has the value 1 at the key a.
+// The acts as a list.
+fn listed(rt: &impl Abort, alloc: Global, acts: &[Told]) -> Vec<Act<u64>> {
+    let mut list = Vec::new(alloc);
+    for (step, _) in acts {
+        list.push(act_of(rt, alloc, *step)).expect(rt, "memory");
+    }
+    list
+}
+
+// What a trie shows: how many keys, the values in the order of its walk as the digits of a number, and whether it is read-only.
+type Shown = (u64, u64, bool);
+
+fn digits(trie: &Map) -> u64 {
+    let mut number: u64 = 0;
+    for (_, value) in trie {
+        number = number.wrapping_mul(10).wrapping_add(*value);
+    }
+    number
+}
+
+fn shown(tries: &Maps, index: usize) -> Option<Shown> {
+    let trie = tries.trie(index)?;
+    Some((trie.size(), digits(trie), trie.is_read_only()))
+}
+
+// Whether there are just these tries.
+fn are_shown(tries: &Maps, wanted: &[Shown]) -> bool {
+    let mut same = tries.len() == wanted.len() && shown(tries, wanted.len()).is_none();
+    for (index, one) in wanted.iter().enumerate() {
+        same = same && shown(tries, index) == Some(*one);
+    }
+    same
+}
+
+// An empty trie alone.
 fn first(rt: &impl Abort, alloc: Global) -> Maps {
-    Tries::new(alloc, one(rt, alloc)).expect(rt, "memory")
+    Tries::new(alloc, Ctrie::new(alloc, Fnv1a)).expect(rt, "memory")
 }
 
-// The same of a new one.
-fn is_run_anew(rt: &impl Abort, alloc: Global) -> bool {
-    let acts = acts(rt, alloc);
+// Whether there are those tries after these acts at an empty one, each of which answers what it has to.
+fn are_shown_after(rt: &impl Abort, alloc: Global, acts: &[Told], wanted: &[Shown]) -> bool {
     let mut tries = first(rt, alloc);
-    is_run(&mut tries, acts)
+    are_told(rt, alloc, &mut tries, acts) & are_shown(&tries, wanted)
+}
+
+// The same after a run of the acts.
+fn are_shown_after_a_run(rt: &impl Abort, alloc: Global, acts: &[Told], wanted: &[Shown]) -> bool {
+    let mut tries = first(rt, alloc);
+    let is_made = tries.run(listed(rt, alloc, acts)) == Ok(());
+    are_shown(&tries, wanted) && is_made
+}
+
+// Of what, the acts, and the tries then.
+type Row = (&'static str, &'static [Told], &'static [Shown]);
+
+const A: Told = (Step::Put(0, b'a', 1), THERE);
+
+const B: Told = (Step::Put(0, b'b', 2), THERE);
+
+const C: Told = (Step::Put(0, b'c', 3), THERE);
+
+const B_AGAIN: Told = (Step::Put(0, b'b', 9), THERE);
+
+const ROWS: &[Row] = &[
+    (
+        "a trie is walked by the lowest bits of the hash",
+        &[A, B, C],
+        &[(3, 213, false)],
+    ),
+    (
+        "a value is replaced",
+        &[A, B, C, B_AGAIN],
+        &[(3, 913, false)],
+    ),
+    (
+        "a key is taken out once",
+        &[
+            A,
+            B,
+            C,
+            (Step::Take(0, b'a'), THERE),
+            (Step::Take(0, b'a'), THERE),
+        ],
+        &[(2, 23, false)],
+    ),
+    (
+        "a trie and its snapshot do not see what is written into the other",
+        &[
+            A,
+            (Step::Snapshot(0), THERE),
+            B,
+            (Step::Take(0, b'a'), THERE),
+            (Step::Put(1, b'c', 3), THERE),
+        ],
+        &[(1, 2, false), (2, 13, false)],
+    ),
+    (
+        "a read-only snapshot stays what it was",
+        &[A, B, C, (Step::ReadOnlySnapshot(0), THERE), B_AGAIN],
+        &[(3, 913, false), (3, 213, true)],
+    ),
+    (
+        "a read-only snapshot and its snapshots refuse writes",
+        &[
+            A,
+            (Step::ReadOnlySnapshot(0), THERE),
+            (Step::Snapshot(1), THERE),
+            (Step::ReadOnlySnapshot(2), THERE),
+            (Step::Clear(0), THERE),
+            (Step::Put(1, b'e', 4), REFUSED),
+            (Step::Take(1, b'a'), REFUSED),
+            (Step::Clear(1), REFUSED),
+            (Step::Put(2, b'e', 4), REFUSED),
+            (Step::Take(2, b'a'), REFUSED),
+            (Step::Clear(2), REFUSED),
+            (Step::Clear(3), REFUSED),
+        ],
+        &[(0, 0, false), (1, 1, true), (1, 1, true), (1, 1, true)],
+    ),
+    (
+        "an act at a trie that is not there changes nothing",
+        &[
+            A,
+            (Step::Put(1, b'b', 2), ABSENT),
+            (Step::Take(1, b'a'), ABSENT),
+            (Step::Clear(2), ABSENT),
+            (Step::Snapshot(1), ABSENT),
+            (Step::ReadOnlySnapshot(1), ABSENT),
+        ],
+        &[(1, 1, false)],
+    ),
+];
+
+#[test]
+fn acts_write_each_trie_alone(rt: HostRuntime) {
+    for (of, acts, wanted) in ROWS {
+        assert!(rt; are_shown_after(&rt, rt.alloc(), acts, wanted), "{of}");
+        assert!(rt;
+            are_shown_after_a_run(&rt, rt.alloc(), acts, wanted),
+            "{of}, by a run"
+        );
+    }
+}
+
+// Whether a frozen map is thawed to a trie that has the value 1 at one key and can be written.
+fn is_thawed(rt: &impl Abort, frozen: &Frozen<u64, NoSummary, Fnv1a>) -> bool {
+    let thawed: Map = Ctrie::thaw(frozen).expect(rt, "memory");
+    (digits(&thawed) == 1) & !thawed.is_read_only()
+}
+
+// The same of what a trie is frozen to, which keeps its summaries.
+fn is_frozen(rt: &impl Abort, trie: &mut Map) -> bool {
+    let frozen = trie.freeze().expect(rt, "memory");
+    is_thawed(rt, &frozen) & frozen.is_sealed()
+}
+
+// The same of a read-only snapshot.
+fn is_snapshot_frozen(rt: &impl Abort, trie: &mut Map) -> bool {
+    let mut read_only = trie.read_only_snapshot().expect(rt, "memory");
+    is_frozen(rt, &mut read_only)
+}
+
+// Whether it is so of a trie of that key, and of a read-only snapshot of it.
+fn are_frozen(rt: &impl Abort, alloc: Global) -> bool {
+    let mut trie = Ctrie::new(alloc, Fnv1a);
+    let is_put = trie.insert(key_of(rt, alloc, b'a'), 1).is_ok();
+    let is_first = is_frozen(rt, &mut trie);
+    is_snapshot_frozen(rt, &mut trie) & is_first & is_put
 }
 
 #[test]
-fn a_run_writes_each_trie_alone(rt: HostRuntime) {
-    assert!(rt; is_run_anew(&rt, rt.alloc()));
-}
-
-// Whether acts tell if their trie is there, and one that is only read refuses a write.
-fn are_told(tries: &mut Maps) -> bool {
-    let made = tries.act(Act::ReadOnlySnapshot(0));
-    let missing = tries.act(Act::Clear(2));
-    let refused = tries.act(Act::Clear(1));
-    let cleared = tries.act(Act::Clear(0));
-    (made, missing) == (Ok(true), Ok(false))
-        && (refused, cleared) == (Err(Refusal::ReadOnly), Ok(true))
-}
-
-// The same of a new one.
-fn are_told_anew(rt: &impl Abort, alloc: Global) -> bool {
-    let mut tries = first(rt, alloc);
-    are_told(&mut tries)
-}
-
-#[test]
-fn an_act_tells_whether_its_trie_is_there(rt: HostRuntime) {
-    assert!(rt; are_told_anew(&rt, rt.alloc()));
+fn a_trie_is_frozen_and_thawed(rt: HostRuntime) {
+    assert!(rt; are_frozen(&rt, rt.alloc()));
 }
