@@ -1,7 +1,8 @@
 // Random operations on a live pair, beside a plain ordered map.
 ghost use Rattle.std.specs.Prelude.{◌<◌};
 
-use crate::made::{LiveSets, Pair, is_absent, remove_all, stands, write_at};
+use crate::made::{LiveSets, Pair, context_of, join, map_of, size_of, stands};
+use dot_store::{DotMap, DotStore};
 use hash_path::{Fnv1a, PathHash, SameHash};
 use live_map::Live;
 use std::alloc::Global;
@@ -35,15 +36,15 @@ impl Draws {
 fn write<H: PathHash>(
     rt: &impl Abort,
     alloc: Global,
-    live: &mut LiveSets<H, Global>,
+    live: &mut LiveSets<H>,
     plain: &mut Plain,
     key: u64,
     one: Pair,
 ) {
-    match plain.get(&key).copied() {
-        Some(old) => write_at(rt, alloc, live, &key.to_be_bytes(), one, &[old, one]),
-        None => write_at(rt, alloc, live, &key.to_be_bytes(), one, &[one]),
-    }
+    let old = plain.get(&key).copied().unwrap_or(one);
+    let known = context_of(rt, alloc, &[old, one]);
+    let map = map_of(rt, alloc, &[(&key.to_be_bytes(), one)]);
+    join(rt, alloc, live, map, known);
     let put: Result<_, _> = plain.insert(key, one);
     put.expect(rt, "memory");
 }
@@ -52,12 +53,13 @@ fn write<H: PathHash>(
 fn remove<H: PathHash>(
     rt: &impl Abort,
     alloc: Global,
-    live: &mut LiveSets<H, Global>,
+    live: &mut LiveSets<H>,
     plain: &mut Plain,
     key: u64,
 ) {
     if let Some(old) = plain.remove(&key) {
-        remove_all(rt, alloc, live, &[old]);
+        let known = context_of(rt, alloc, &[old]);
+        join(rt, alloc, live, DotMap::empty(alloc), known);
     }
 }
 
@@ -65,24 +67,19 @@ fn remove<H: PathHash>(
 fn agrees_at<H: PathHash>(
     rt: &impl Abort,
     alloc: Global,
-    live: &LiveSets<H, Global>,
+    live: &LiveSets<H>,
     plain: &Plain,
     key: u64,
 ) -> bool {
     match plain.get(&key).copied() {
-        Some(one) => stands(rt, alloc, live, &key.to_be_bytes(), one),
-        None => is_absent(rt, alloc, live, &key.to_be_bytes()),
+        Some(one) => stands(rt, alloc, live, &key.to_be_bytes(), one) == Some(true),
+        None => stands(rt, alloc, live, &key.to_be_bytes(), (1, 1)).is_none(),
     }
 }
 
 // Whether the pair has just what the plain map has, of the keys below 40.
-fn agrees<H: PathHash>(
-    rt: &impl Abort,
-    alloc: Global,
-    live: &LiveSets<H, Global>,
-    plain: &Plain,
-) -> bool {
-    let mut all = live.store().size() == plain.len() as u64;
+fn agrees<H: PathHash>(rt: &impl Abort, alloc: Global, live: &LiveSets<H>, plain: &Plain) -> bool {
+    let mut all = size_of(live) == plain.len() as u64;
     for key in 0..40 {
         all = all && agrees_at(rt, alloc, live, plain, key);
     }
@@ -94,7 +91,7 @@ fn agrees<H: PathHash>(
 fn agree_after<H: PathHash>(
     rt: &impl Abort,
     alloc: Global,
-    live: &mut LiveSets<H, Global>,
+    live: &mut LiveSets<H>,
     plain: &mut Plain,
     count: u64,
 ) -> bool {
@@ -113,7 +110,7 @@ fn agree_after<H: PathHash>(
 // Whether new ones agree after 2,000 steps.
 fn run<H: PathHash>(rt: &impl Abort, alloc: Global, hash: H) -> bool {
     let mut plain = BTreeMap::new(alloc);
-    let mut live: LiveSets<H, Global> = Live::new(alloc, hash);
+    let mut live: LiveSets<H> = Live::new(alloc, hash);
     agree_after(rt, alloc, &mut live, &mut plain, 2_000)
 }
 

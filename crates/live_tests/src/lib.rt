@@ -7,8 +7,6 @@ mod drawn;
 #[cfg(test)]
 mod generations;
 #[cfg(test)]
-mod groups;
-#[cfg(test)]
 mod made;
 #[cfg(test)]
 mod operations;

@@ -1,12 +1,11 @@
-// The operations of a replica on its live pair, and what is read of it.
-use crate::stores::is_its_copy;
-use causal_join::OrMap;
+// The operations of a replica on its live pair, what is read of it, and the group of the deltas that were made.
+use causal_join::{Causal, OrMap};
 use delta_ops::{
-    LiveOrMap, clear, fields, fields_of, keys, put, put_field, remove, remove_field, values,
-    values_at, values_of_key,
+    LiveOrMap, LiveStore, clear, fields, group, keys, put, put_field, remove, remove_field, size,
+    values, values_of_key,
 };
-use dot_store::DotStore;
-use dots::{Field, Key, Name, Value};
+use dot_store::{DotMap, DotStore};
+use dots::{Dot, Field, Key, Name, Refusal, Text, Value};
 use gen_trie::NoSummary;
 use hash_path::Fnv1a;
 use live_map::Live;
@@ -14,264 +13,216 @@ use std::alloc::Global;
 use std::process::Abort;
 use trie_map::TrieMap;
 
-// Joins the delta in, and answers what was told with it.
-fn take<T: Copy>(rt: &impl Abort, alloc: Global, live: &mut LiveOrMap, made: (OrMap, T)) -> T {
+// A kind of operation.
+#[derive(Clone, Copy)]
+enum Kind {
+    // A put by the name of this number.
+    Put(u64),
+    PutField(u64),
+    Remove,
+    RemoveField,
+    Clear,
+}
+
+// An operation: its kind, key, field and value, of one byte each or empty, and what is told with its delta: the number of its dot,
+// or how many writes it observed.
+type Step = (Kind, &'static [u8], &'static [u8], &'static [u8], u64);
+
+// A delta, and the number that is told with it.
+type Made = (OrMap, u64);
+
+fn numbered(made: (OrMap, Dot)) -> Made {
+    (made.0, made.1.number())
+}
+
+// The name of this number, which is not 0.
+fn name(number: u64) -> Result<Name, Refusal> {
+    Name::new(number).ok_or(Refusal::BadLine)
+}
+
+fn made(
+    alloc: Global,
+    live: &LiveOrMap,
+    kind: Kind,
+    key: &Key,
+    field: &Field,
+    value: &Value,
+) -> Result<Made, Refusal> {
+    match kind {
+        Kind::Put(number) => Ok(numbered(put(alloc, name(number)?, live, key, value)?)),
+        Kind::PutField(number) => {
+            Ok(numbered(put_field(alloc, name(number)?, live, key, field, value)?))
+        }
+        Kind::Remove => remove(alloc, live, key),
+        Kind::RemoveField => remove_field(alloc, live, key, field),
+        Kind::Clear => clear(alloc, live),
+    }
+}
+
+// What the operation makes.
+fn made_by(rt: &impl Abort, alloc: Global, live: &LiveOrMap, step: &Step) -> Made {
+    let key = Key::new(alloc, step.1).expect(rt, "memory");
+    let field = Field::new(alloc, step.2).expect(rt, "memory");
+    let value = Value::new(alloc, step.3).expect(rt, "memory");
+    made(alloc, live, step.0, &key, &field, &value).expect(rt, "memory")
+}
+
+// Joins what was made into the pair and into the group, and answers the number.
+fn take(rt: &impl Abort, alloc: Global, live: &mut LiveOrMap, all: &mut OrMap, made: Made) -> u64 {
     live.join_delta(alloc, &made.0).expect(rt, "memory");
+    group(alloc, all, &made.0).expect(rt, "memory");
     made.1
 }
 
-// Puts the value at the field of the key, by the name 1.
-fn write(
+// Makes the operations, and tells whether each is told its number.
+fn are_told(
     rt: &impl Abort,
     alloc: Global,
     live: &mut LiveOrMap,
-    key: &[u8],
-    field: &[u8],
-    value: &[u8],
-) {
-    let name = Name::new(1).expect(rt, "a name");
-    let key = Key::new(alloc, key).expect(rt, "memory");
-    let field = Field::new(alloc, field).expect(rt, "memory");
-    let value = Value::new(alloc, value).expect(rt, "memory");
-    let made = put_field(alloc, name, live, &key, &field, &value).expect(rt, "memory");
-    take(rt, alloc, live, made);
-}
-
-// Makes three writes: at two fields of the key b, and at the empty field of the key a.
-fn write_three(rt: &impl Abort, alloc: Global, live: &mut LiveOrMap) {
-    write(rt, alloc, live, b"b", b"", b"y");
-    write(rt, alloc, live, b"b", b"f", b"x");
-    write(rt, alloc, live, b"a", b"", b"z");
-}
-
-// Whether these are the keys, each of one byte, in order.
-fn are_keys(all: &[Key], wanted: &[u8]) -> bool {
-    let mut same = all.len() == wanted.len();
-    for (key, byte) in all.iter().zip(wanted) {
-        same = same && key.bytes() == [*byte].as_slice();
+    all: &mut OrMap,
+    steps: &[Step],
+) -> bool {
+    let mut right = true;
+    for step in steps {
+        let made = made_by(rt, alloc, live, step);
+        right = take(rt, alloc, live, all, made) == step.4 && right;
     }
-    same
+    right
 }
 
-fn has_keys(rt: &impl Abort, alloc: Global, live: &LiveOrMap, wanted: &[u8]) -> bool {
-    let all = keys(alloc, live.store()).expect(rt, "memory");
-    are_keys(&all, wanted)
-}
-
-// Whether these are the values, each of one byte, in order.
-fn are_values(all: &[Value], wanted: &[u8]) -> bool {
-    let mut same = all.len() == wanted.len();
-    for (value, byte) in all.iter().zip(wanted) {
-        same = same && value.bytes() == [*byte].as_slice();
+// The first byte of a text, or 1 for an empty one.
+fn first_of<K>(text: &Text<K>) -> u64 {
+    match text.bytes() {
+        [first, ..] => u64::from(*first),
+        [] => 1,
     }
-    same
 }
 
-fn has_values(rt: &impl Abort, alloc: Global, live: &LiveOrMap, key: &Key, wanted: &[u8]) -> bool {
-    let all = values_of_key(alloc, live.store(), key).expect(rt, "memory");
-    are_values(&all, wanted)
+// The first bytes of texts, in their order, as the bytes of a number.
+fn firsts<K>(texts: &[Text<K>]) -> u64 {
+    let mut number: u64 = 0;
+    for text in texts {
+        number = number.wrapping_mul(0x100).wrapping_add(first_of(text));
+    }
+    number
 }
 
-fn field_count(rt: &impl Abort, alloc: Global, live: &LiveOrMap, key: &Key) -> usize {
-    let all = fields(alloc, live.store(), key).expect(rt, "memory");
-    all.len()
+// What is read: how many keys there are, and, each as the bytes of a number, the keys, and of a key its fields, its values, and
+// those at its empty field.
+type Read = (u64, u64, u64, u64, u64);
+
+fn read(rt: &impl Abort, alloc: Global, store: &LiveStore, key: &Key) -> Read {
+    let all = firsts(&keys(alloc, store).expect(rt, "memory"));
+    let fields = firsts(&fields(alloc, store, key).expect(rt, "memory"));
+    let within = firsts(&values_of_key(alloc, store, key).expect(rt, "memory"));
+    let unnamed = firsts(&values(alloc, store, key, &Field::empty()).expect(rt, "memory"));
+    (size(store), all, fields, within, unnamed)
 }
 
-// How many values stand at the empty field of the key.
-fn unnamed_count(rt: &impl Abort, alloc: Global, live: &LiveOrMap, key: &Key) -> usize {
-    let field = Field::empty();
-    let all = values(alloc, live.store(), key, &field).expect(rt, "memory");
-    all.len()
-}
-
-// What is left: the keys, how many fields the key b has, its values, and how many of them at its empty field.
-type Left<'a> = (&'a [u8], usize, &'a [u8], usize);
-
-// Whether that is left, where this key is b.
-fn is_left_of(rt: &impl Abort, alloc: Global, live: &LiveOrMap, key: &Key, left: Left) -> bool {
-    let of_fields = field_count(rt, alloc, live, key);
-    let unnamed = unnamed_count(rt, alloc, live, key);
-    let are_values = has_values(rt, alloc, live, key, left.2);
-    let are_keys = has_keys(rt, alloc, live, left.0);
-    (of_fields, unnamed) == (left.1, left.3) && are_values && are_keys
-}
-
-fn is_left(rt: &impl Abort, alloc: Global, live: &LiveOrMap, left: Left) -> bool {
+// What is read of the key b.
+fn read_of_b(rt: &impl Abort, alloc: Global, store: &LiveStore) -> Read {
     let key = Key::new(alloc, b"b").expect(rt, "memory");
-    is_left_of(rt, alloc, live, &key, left)
+    read(rt, alloc, store, &key)
 }
 
-fn remove_at(rt: &impl Abort, alloc: Global, live: &mut LiveOrMap, key: &[u8]) -> u64 {
-    let key = Key::new(alloc, key).expect(rt, "memory");
-    let made = remove(alloc, live, &key).expect(rt, "memory");
-    take(rt, alloc, live, made)
-}
-
-fn remove_f_of_b(rt: &impl Abort, alloc: Global, live: &mut LiveOrMap) -> u64 {
-    let key = Key::new(alloc, b"b").expect(rt, "memory");
-    let field = Field::new(alloc, b"f").expect(rt, "memory");
-    let made = remove_field(alloc, live, &key, &field).expect(rt, "memory");
-    take(rt, alloc, live, made)
-}
-
-fn clear_all(rt: &impl Abort, alloc: Global, live: &mut LiveOrMap) -> u64 {
-    let made = clear(alloc, live).expect(rt, "memory");
-    take(rt, alloc, live, made)
-}
-
-// Puts w at the key b with no field, by the name 2, and answers the number of its dot.
-fn put_plainly(rt: &impl Abort, alloc: Global, live: &mut LiveOrMap) -> u64 {
-    let name = Name::new(2).expect(rt, "a name");
-    let key = Key::new(alloc, b"b").expect(rt, "memory");
-    let value = Value::new(alloc, b"w").expect(rt, "memory");
-    let made = put(alloc, name, live, &key, &value).expect(rt, "memory");
-    take(rt, alloc, live, made).number()
-}
-
-// Puts forty keys, and tells whether they are counted and listed.
-fn are_forty(rt: &impl Abort, alloc: Global, live: &mut LiveOrMap) -> bool {
-    let mut all = [0u8; 40];
-    for byte in 0..40u8 {
-        all[byte as usize] = byte;
-        write(rt, alloc, live, &[byte], b"", b"x");
-    }
-    has_keys(rt, alloc, live, &all) && live.store().size() == 40
-}
-
-// What is taken away of the three writes.
-#[derive(Clone, Copy)]
-enum Taken {
-    Nothing,
-    KeyB,
-    FieldOfB,
-    All,
-}
-
-// Takes it away, and answers how many writes that observed.
-fn take_away(rt: &impl Abort, alloc: Global, live: &mut LiveOrMap, taken: Taken) -> u64 {
-    match taken {
-        Taken::Nothing => 0,
-        Taken::KeyB => remove_at(rt, alloc, live, b"b"),
-        Taken::FieldOfB => remove_f_of_b(rt, alloc, live),
-        Taken::All => clear_all(rt, alloc, live),
-    }
-}
-
-fn has_fields(live: &LiveOrMap, key: &Key) -> bool {
-    fields_of(live.store(), key).is_some()
-}
-
-// How many values stand at the field of the key, if any.
-fn standing(live: &LiveOrMap, key: &Key, field: &Field) -> Option<usize> {
-    let values = values_at(live.store(), key, field)?;
-    Some(values.entries().len())
-}
-
-// Whether the key b has fields, and one value stands at the empty one.
-fn stands_at_b(rt: &impl Abort, alloc: Global, live: &LiveOrMap) -> bool {
-    let key = Key::new(alloc, b"b").expect(rt, "memory");
-    has_fields(live, &key) & (standing(live, &key, &Field::empty()) == Some(1))
-}
-
-// Whether a remove of the key a, where it is not there, observes no write, and its delta knows none.
-fn removes_nothing(rt: &impl Abort, alloc: Global, live: &mut LiveOrMap) -> bool {
-    remove_at(rt, alloc, live, b"a") == 0 && live.context().is_empty()
-}
-
-// What is seen of a pair that had no key.
-#[derive(Clone, Copy)]
-enum Case<'a> {
-    // A remove of an absent key makes no operation.
-    Absent,
-    // Each of forty keys is listed, and counted.
-    Forty,
-    // Three writes stand in a map in order, and in its copy.
-    InOrder,
-    // Of three writes, where this is taken away, so many are observed, and this is left.
-    Left(Taken, u64, Left<'a>),
-    // A put with no field, after three writes, has the number 1, and its value stands at the empty field.
-    Plain,
-}
-
-// Whether these are the entries of the keys a and b.
-fn are_a_and_b<S>(entries: &[(Key, S)]) -> bool {
-    match entries {
-        [(first, _), (second, _)] => {
-            first.bytes() == b"a".as_slice() && second.bytes() == b"b".as_slice()
-        }
-        _ => false,
-    }
-}
-
-// Whether the keys a and b stand in a map in order, and in its copy.
-fn are_in_order<S: DotStore<Global>>(
+// Whether the map in the order of the keys is the other one.
+fn is_listed_as<S: DotStore<Global>>(
     rt: &impl Abort,
     alloc: Global,
     store: &TrieMap<S, NoSummary, Fnv1a>,
+    other: &DotMap<Key, S>,
 ) -> bool {
     let map = store.to_map(alloc).expect(rt, "memory");
-    is_its_copy(rt, alloc, &map) & are_a_and_b(map.entries())
+    map.same(other)
 }
 
-// Whether it is so of this pair, which has no key.
-fn is_so(rt: &impl Abort, alloc: Global, live: &mut LiveOrMap, case: Case) -> bool {
-    match case {
-        Case::Absent => removes_nothing(rt, alloc, live),
-        Case::Forty => are_forty(rt, alloc, live),
-        Case::InOrder => {
-            write_three(rt, alloc, live);
-            are_in_order(rt, alloc, live.store())
-        }
-        Case::Left(taken, observed, left) => {
-            write_three(rt, alloc, live);
-            take_away(rt, alloc, live, taken) == observed && is_left(rt, alloc, live, left)
-        }
-        Case::Plain => {
-            write_three(rt, alloc, live);
-            put_plainly(rt, alloc, live) == 1 && stands_at_b(rt, alloc, live)
-        }
-    }
+// Whether the pair holds and knows what the group does.
+fn is_grouped<S: DotStore<Global>>(
+    rt: &impl Abort,
+    alloc: Global,
+    live: &Live<S>,
+    all: &Causal<DotMap<Key, S>>,
+) -> bool {
+    let is_known = live.context() == all.context();
+    is_listed_as(rt, alloc, live.store(), all.store()) && is_known
 }
 
-// Whether it is so of a new pair. This is the one function that owns a pair: each that does is dear to prove.
-fn holds(rt: &impl Abort, alloc: Global, case: Case) -> bool {
+// What holds, the operations, and what is read then.
+type Row = (&'static str, &'static [Step], Read);
+
+// Whether it is so of a pair and a group, which have nothing, and both then hold the same.
+fn is_so_of(
+    rt: &impl Abort,
+    alloc: Global,
+    live: &mut LiveOrMap,
+    all: &mut OrMap,
+    row: &Row,
+) -> bool {
+    let are_told = are_told(rt, alloc, live, all, row.1);
+    let is_read = read_of_b(rt, alloc, live.store()) == row.2;
+    is_grouped(rt, alloc, live, all) && is_read && are_told
+}
+
+// The same of a new group.
+fn is_so_with(rt: &impl Abort, alloc: Global, live: &mut LiveOrMap, row: &Row) -> bool {
+    let mut all = Causal::bottom(alloc);
+    is_so_of(rt, alloc, live, &mut all, row)
+}
+
+// The same of a new pair.
+fn is_so(rt: &impl Abort, alloc: Global, row: &Row) -> bool {
     let mut live: LiveOrMap = Live::new(alloc, Fnv1a);
-    is_so(rt, alloc, &mut live, case)
+    is_so_with(rt, alloc, &mut live, row)
 }
 
-// What is taken away, how many writes that observed, and what is left: a remove takes all fields of its key, one of a field
-// leaves the others, and a clear takes all keys.
-const TAKEN: &[(Taken, u64, Left)] = &[
-    (Taken::Nothing, 0, (b"ab", 2, b"xy", 1)),
-    (Taken::KeyB, 2, (b"a", 0, b"", 0)),
-    (Taken::FieldOfB, 1, (b"ab", 1, b"y", 1)),
-    (Taken::All, 3, (b"", 0, b"", 0)),
+// Three writes: at two fields of the key b, and at the empty field of the key a.
+const FIRST: Step = (Kind::PutField(1), b"b", b"", b"y", 1);
+
+const SECOND: Step = (Kind::PutField(1), b"b", b"f", b"x", 2);
+
+const THIRD: Step = (Kind::PutField(1), b"a", b"", b"z", 3);
+
+const ROWS: &[Row] = &[
+    (
+        "what was written is listed in order",
+        &[FIRST, SECOND, THIRD],
+        (2, 0x6162, 0x0166, 0x7879, 0x79),
+    ),
+    (
+        "a remove takes all fields of its key",
+        &[FIRST, SECOND, THIRD, (Kind::Remove, b"b", b"", b"", 2)],
+        (1, 0x61, 0, 0, 0),
+    ),
+    (
+        "one of a field leaves the others",
+        &[
+            FIRST,
+            SECOND,
+            THIRD,
+            (Kind::RemoveField, b"b", b"f", b"", 1),
+        ],
+        (2, 0x6162, 0x01, 0x79, 0x79),
+    ),
+    (
+        "a clear takes all keys",
+        &[FIRST, SECOND, THIRD, (Kind::Clear, b"", b"", b"", 3)],
+        (0, 0, 0, 0, 0),
+    ),
+    (
+        "a put with no field is at the empty one, in the place of what stood there",
+        &[FIRST, SECOND, THIRD, (Kind::Put(2), b"b", b"", b"w", 1)],
+        (2, 0x6162, 0x0166, 0x7778, 0x77),
+    ),
+    (
+        "a remove of an absent key makes no operation",
+        &[(Kind::Remove, b"a", b"", b"", 0), FIRST],
+        (1, 0x62, 0x01, 0x79, 0x79),
+    ),
 ];
 
 #[test]
 fn what_was_written_and_not_removed_is_listed_in_order(rt: HostRuntime) {
-    for (taken, observed, left) in TAKEN {
-        let case = Case::Left(*taken, *observed, *left);
-        assert!(rt; holds(&rt, rt.alloc(), case), "{observed} observed");
+    for row in ROWS {
+        assert!(rt; is_so(&rt, rt.alloc(), row), "{}", row.0);
     }
-}
-
-#[test]
-fn a_put_with_no_field_is_at_the_empty_one(rt: HostRuntime) {
-    assert!(rt; holds(&rt, rt.alloc(), Case::Plain));
-}
-
-#[test]
-fn each_of_forty_keys_is_listed(rt: HostRuntime) {
-    assert!(rt; holds(&rt, rt.alloc(), Case::Forty));
-}
-
-#[test]
-fn a_remove_of_an_absent_key_makes_no_operation(rt: HostRuntime) {
-    assert!(rt; holds(&rt, rt.alloc(), Case::Absent));
-}
-
-#[test]
-fn the_fields_of_each_key_stand_in_a_map_in_order(rt: HostRuntime) {
-    assert!(rt; holds(&rt, rt.alloc(), Case::InOrder));
 }

@@ -1,41 +1,27 @@
-// Live pairs, by deltas that are joined in.
-use crate::made::{
-    LiveSets, Pair, dot, join, join_known, pair, put, remove_all, set_of, stands, write_at,
-};
+// Live pairs, by deltas that are joined in, and their stores, through the calls of every dot store.
+use crate::made::{Held, LiveSets, Pair, context_of, delta_of, dot, join, map_of, size_of, stands};
+use crate::stores::{Kept, are_joined, is_copied, is_in_order, is_sealed};
 use causal_context::Context;
 use causal_join::Causal;
-use dot_store::{DotMap, DotStore};
+use dot_store::{DotMap, DotSet, DotStore};
 use dots::{Key, Name};
-use gen_trie::NoSummary;
-use hash_path::{Fnv1a, PathHash};
+use hash_path::Fnv1a;
 use live_map::Live;
 use std::alloc::Global;
 use std::process::Abort;
 
-type LivePair = LiveSets<Fnv1a, Global>;
+type LivePair = LiveSets<Fnv1a>;
 
-// What is joined into a pair.
+// What a delta knows.
 #[derive(Clone, Copy)]
-enum Step {
-    // A write of the dot at the key of this byte, which observed that dot alone.
-    Write(u8, Pair),
-    // A write of the dot at the key, over the other one.
-    Over(u8, Pair, Pair),
-    // A remove that observed the dot.
-    Remove(Pair),
-    // A delta that no replica makes: the dot at the keys a and b.
-    Forged(Pair),
-    // All dots of the name 1 up to the number, and nothing that stands.
-    Known(u64),
+enum Known {
+    Dots(&'static [Pair]),
+    // All dots of the name 1 up to the number.
+    UpTo(u64),
 }
 
-// Joins a delta in that has the dot at two keys.
-fn forge(rt: &impl Abort, alloc: Global, live: &mut LivePair, one: Pair) {
-    let mut map = DotMap::empty(alloc);
-    put(rt, alloc, &mut map, b"a", set_of(rt, alloc, &[one]));
-    put(rt, alloc, &mut map, b"b", set_of(rt, alloc, &[one]));
-    join(rt, alloc, live, map, &[one]);
-}
+// A delta: what it holds, and what it knows.
+type Step = (Held<'static>, Known);
 
 // The context of the dots of the name 1 up to the number.
 fn up_to(rt: &impl Abort, alloc: Global, number: u64) -> Context {
@@ -44,67 +30,49 @@ fn up_to(rt: &impl Abort, alloc: Global, number: u64) -> Context {
     Context::from_parts(alloc, vector, Vec::new(alloc)).expect(rt, "canonical")
 }
 
-// Joins a delta in that knows these dots and holds none.
-fn know<S: DotStore<Global>, H: PathHash>(
-    rt: &impl Abort,
-    alloc: Global,
-    live: &mut Live<S, NoSummary, H>,
-    number: u64,
-) {
-    let known = up_to(rt, alloc, number);
-    join_known(rt, alloc, live, DotMap::empty(alloc), known);
-}
-
-fn take(rt: &impl Abort, alloc: Global, live: &mut LivePair, step: Step) {
-    match step {
-        Step::Write(key, one) => write_at(rt, alloc, live, &[key], one, &[one]),
-        Step::Over(key, one, other) => write_at(rt, alloc, live, &[key], one, &[other, one]),
-        Step::Remove(one) => remove_all(rt, alloc, live, &[one]),
-        Step::Forged(one) => forge(rt, alloc, live, one),
-        Step::Known(number) => know(rt, alloc, live, number),
+fn known_of(rt: &impl Abort, alloc: Global, known: Known) -> Context {
+    match known {
+        Known::Dots(dots) => context_of(rt, alloc, dots),
+        Known::UpTo(number) => up_to(rt, alloc, number),
     }
 }
 
-// Takes these steps.
-fn take_all(rt: &impl Abort, alloc: Global, live: &mut LivePair, steps: &[Step]) {
-    for step in steps {
-        take(rt, alloc, live, *step);
+// Joins these deltas in.
+fn join_all(rt: &impl Abort, alloc: Global, live: &mut LivePair, steps: &[Step]) {
+    for (held, known) in steps {
+        let known = known_of(rt, alloc, *known);
+        join(rt, alloc, live, map_of(rt, alloc, held), known);
     }
 }
 
-// What a pair is to have: so many keys, whether the dots stand at their keys, and whether the others are known.
-#[derive(Clone, Copy)]
-struct Wanted<'a> {
-    size: u64,
-    standing: &'a [(u8, Pair, bool)],
-    known: &'a [(Pair, bool)],
-}
+// What a pair is to have: so many keys, whether the dots stand at their keys, if any does, and whether the others are known.
+type Wanted = (
+    u64,
+    &'static [(&'static [u8], Pair, Option<bool>)],
+    &'static [(Pair, bool)],
+);
 
 fn stand_as_wanted(rt: &impl Abort, alloc: Global, live: &LivePair, wanted: &Wanted) -> bool {
-    let mut all = true;
-    for (key, one, is_there) in wanted.standing {
-        all = all && stands(rt, alloc, live, &[*key], *one) == *is_there;
+    let mut all = size_of(live) == wanted.0;
+    for (key, one, is_there) in wanted.1 {
+        all = all && stands(rt, alloc, live, key, *one) == *is_there;
     }
     all
 }
 
 fn are_known_as_wanted(rt: &impl Abort, live: &LivePair, wanted: &Wanted) -> bool {
     let mut all = true;
-    for (one, is_known) in wanted.known {
+    for (one, is_known) in wanted.2 {
         all = all && live.context().contains(dot(rt, *one)) == *is_known;
     }
     all
 }
 
-fn size_of<S: DotStore<Global>, H: PathHash>(live: &Live<S, NoSummary, H>) -> u64 {
-    live.store().size()
-}
-
-// Prepares the delta and puts it in place, and answers how many keys there were just before.
-fn size_before<S: DotStore<Global>, H: PathHash>(
+// How many keys there are once the delta is prepared, just before it is put in place.
+fn size_before<S: DotStore<Global>>(
     rt: &impl Abort,
     alloc: Global,
-    live: &mut Live<S, NoSummary, H>,
+    live: &mut Live<S>,
     delta: &Causal<DotMap<Key, S>>,
 ) -> u64 {
     let next = live.prepare(alloc, delta).expect(rt, "memory");
@@ -113,179 +81,184 @@ fn size_before<S: DotStore<Global>, H: PathHash>(
     size
 }
 
-// The same of a remove.
-fn size_before_remove<S: DotStore<Global>, H: PathHash>(
+// The same of a remove of 1:1.
+fn size_before_remove<S: DotStore<Global>>(
     rt: &impl Abort,
     alloc: Global,
-    live: &mut Live<S, NoSummary, H>,
-    one: Pair,
+    live: &mut Live<S>,
 ) -> u64 {
-    let delta = pair(rt, alloc, DotMap::empty(alloc), &[one]);
+    let known = context_of(rt, alloc, &[(1, 1)]);
+    let delta = delta_of(rt, DotMap::empty(alloc), known);
     size_before(rt, alloc, live, &delta)
 }
 
-// How many keys a share of the store has once the dot is written at b.
-fn size_of_share(rt: &impl Abort, alloc: Global, live: &mut LivePair, two: Pair) -> u64 {
-    let share = live.store().share().expect(rt, "memory");
-    write_at(rt, alloc, live, b"b", two, &[two]);
-    share.size()
-}
-
-// What is done with a pair that took its steps.
-#[derive(Clone, Copy)]
-enum Then {
-    Nothing,
-    // There is one key until a remove that observed the dot, which is prepared, is in place.
-    Prepared(Pair),
-    // A share of the store has one key, also once the dot is written at b.
-    Shared(Pair),
-}
-
-fn is_so(rt: &impl Abort, alloc: Global, live: &mut LivePair, then: Then) -> bool {
-    match then {
-        Then::Nothing => true,
-        Then::Prepared(one) => size_before_remove(rt, alloc, live, one) == 1,
-        Then::Shared(two) => size_of_share(rt, alloc, live, two) == 1,
+// Puts forty keys, the dot of a key's number plus one at each.
+fn put_forty(rt: &impl Abort, alloc: Global, live: &mut LivePair) {
+    for number in 0..40u8 {
+        let one = (1, number as u64 + 1);
+        let known = context_of(rt, alloc, &[one]);
+        join(
+            rt,
+            alloc,
+            live,
+            map_of(rt, alloc, &[(&[number], one)]),
+            known,
+        );
     }
 }
 
-// Whether this pair, to which nothing happened, is as wanted after these steps and that.
-fn is_given(
+// What is seen of a pair after its deltas.
+#[derive(Clone, Copy)]
+enum Asked {
+    Has(Wanted),
+    // There is one key until a remove of 1:1, which is prepared, is in place, and then none.
+    Prepared,
+    // Of 1:1 at a and 1:2 at b: its copy and its joins are what they have to be.
+    Copied,
+    Joined,
+    // Of forty keys: they stand in order.
+    InOrder,
+    // Of forty keys: it keeps the summaries of its nodes from a seal on.
+    Sealed,
+}
+
+fn is_so_of_store(rt: &impl Abort, alloc: Global, store: &Kept<DotSet>, asked: Asked) -> bool {
+    match asked {
+        Asked::Copied => is_copied(rt, alloc, store),
+        Asked::Joined => are_joined(rt, alloc, store),
+        _ => is_in_order(rt, alloc, store),
+    }
+}
+
+fn is_so(rt: &impl Abort, alloc: Global, live: &mut LivePair, asked: Asked) -> bool {
+    match asked {
+        Asked::Has(wanted) => {
+            let are_known = are_known_as_wanted(rt, live, &wanted);
+            stand_as_wanted(rt, alloc, live, &wanted) && are_known
+        }
+        Asked::Prepared => size_before_remove(rt, alloc, live) == 1 && size_of(live) == 0,
+        Asked::Sealed => is_sealed(rt, live),
+        _ => is_so_of_store(rt, alloc, live.store(), asked),
+    }
+}
+
+// The same of this pair, to which nothing happened, after these deltas.
+fn is_so_after(
     rt: &impl Abort,
     alloc: Global,
     live: &mut LivePair,
     steps: &[Step],
-    then: Then,
-    wanted: &Wanted,
+    asked: Asked,
 ) -> bool {
-    take_all(rt, alloc, live, steps);
-    let is_so = is_so(rt, alloc, live, then);
-    let are_known = are_known_as_wanted(rt, live, wanted);
-    let stand = stand_as_wanted(rt, alloc, live, wanted);
-    is_so && are_known && stand && size_of(live) == wanted.size
+    join_all(rt, alloc, live, steps);
+    if matches!(asked, Asked::InOrder | Asked::Sealed) {
+        put_forty(rt, alloc, live);
+    }
+    is_so(rt, alloc, live, asked)
 }
 
 // The same of a new pair.
-fn gives(rt: &impl Abort, alloc: Global, steps: &[Step], then: Then, wanted: &Wanted) -> bool {
+fn holds(rt: &impl Abort, alloc: Global, steps: &[Step], asked: Asked) -> bool {
     let mut live: LivePair = Live::new(alloc, Fnv1a);
-    is_given(rt, alloc, &mut live, steps, then, wanted)
+    is_so_after(rt, alloc, &mut live, steps, asked)
 }
-
-// What holds, the steps of a new pair, what is done then, how many keys it then has, what stands and what is known.
-type Row = (
-    &'static str,
-    &'static [Step],
-    Then,
-    u64,
-    &'static [(u8, Pair, bool)],
-    &'static [(Pair, bool)],
-);
 
 const LAST: Pair = (u64::MAX, u64::MAX);
 
-const ROWS: &[Row] = &[
+// A write of 1:1 at a, one of 1:2 at b, and a remove that observed 1:1.
+const AT_A: Step = (&[(b"a", (1, 1))], Known::Dots(&[(1, 1)]));
+
+const AT_B: Step = (&[(b"b", (1, 2))], Known::Dots(&[(1, 2)]));
+
+const REMOVE: Step = (&[], Known::Dots(&[(1, 1)]));
+
+// A delta that no replica makes: 1:1 at a and at b.
+const FORGED: Step = (&[(b"a", (1, 1)), (b"b", (1, 1))], Known::Dots(&[(1, 1)]));
+
+const ROWS: &[(&str, &[Step], Asked)] = &[
     (
         "a write stands at its key and is known",
-        &[Step::Write(b'a', (1, 1))],
-        Then::Nothing,
-        1,
-        &[(b'a', (1, 1), true)],
-        &[((1, 1), true)],
+        &[AT_A],
+        Asked::Has((
+            1,
+            &[(b"a", (1, 1), Some(true)), (b"b", (1, 1), None)],
+            &[((1, 1), true), ((1, 2), false)],
+        )),
     ),
     (
         "a remove that names no key finds the key",
-        &[Step::Write(b'a', (1, 1)), Step::Remove((1, 1))],
-        Then::Nothing,
-        0,
-        &[],
-        &[((1, 1), true)],
+        &[AT_A, REMOVE],
+        Asked::Has((0, &[(b"a", (1, 1), None)], &[((1, 1), true)])),
     ),
     (
         "a dot that was removed stays removed",
-        &[Step::Remove((1, 1)), Step::Write(b'a', (1, 1))],
-        Then::Nothing,
-        0,
-        &[],
-        &[],
+        &[REMOVE, AT_A],
+        Asked::Has((0, &[], &[])),
     ),
     (
         "a write over another takes its dot away",
-        &[Step::Write(b'a', (1, 1)), Step::Over(b'a', (2, 1), (1, 1))],
-        Then::Nothing,
-        1,
-        &[(b'a', (2, 1), true), (b'a', (1, 1), false)],
-        &[],
+        &[AT_A, (&[(b"a", (2, 1))], Known::Dots(&[(1, 1), (2, 1)]))],
+        Asked::Has((
+            1,
+            &[(b"a", (2, 1), Some(true)), (b"a", (1, 1), Some(false))],
+            &[],
+        )),
     ),
     (
         "a dot can be at two keys",
-        &[Step::Forged((1, 1))],
-        Then::Nothing,
-        2,
-        &[],
-        &[],
+        &[FORGED],
+        Asked::Has((2, &[], &[])),
     ),
     (
         "a dot at two keys goes from both",
-        &[Step::Forged((1, 1)), Step::Remove((1, 1))],
-        Then::Nothing,
-        0,
-        &[],
-        &[],
+        &[FORGED, REMOVE],
+        Asked::Has((0, &[], &[])),
     ),
     (
         "a write at one of two keys ends the dot at the other",
-        &[Step::Forged((1, 1)), Step::Over(b'a', (1, 2), (1, 1))],
-        Then::Nothing,
-        1,
-        &[(b'a', (1, 2), true)],
-        &[],
+        &[FORGED, (&[(b"a", (1, 2))], Known::Dots(&[(1, 1), (1, 2)]))],
+        Asked::Has((1, &[(b"a", (1, 2), Some(true))], &[])),
     ),
     (
         "a long run of dots costs what stands there",
-        &[Step::Write(b'a', (1, 1)), Step::Known(u64::MAX - 1)],
-        Then::Nothing,
-        0,
-        &[],
-        &[((1, u64::MAX - 1), true), ((1, u64::MAX), false)],
+        &[AT_A, (&[], Known::UpTo(u64::MAX - 1))],
+        Asked::Has((0, &[], &[((1, u64::MAX - 1), true), ((1, u64::MAX), false)])),
     ),
     (
         "the last number of the last name can be removed",
         &[
-            Step::Write(b'a', (1, 1)),
-            Step::Write(b'b', LAST),
-            Step::Remove(LAST),
+            AT_A,
+            (&[(b"b", LAST)], Known::Dots(&[LAST])),
+            (&[], Known::Dots(&[LAST])),
         ],
-        Then::Nothing,
-        1,
-        &[(b'a', (1, 1), true)],
-        &[],
+        Asked::Has((1, &[(b"a", (1, 1), Some(true))], &[])),
     ),
     (
         "a prepared pair changes nothing before it is put in place",
-        &[Step::Write(b'a', (1, 1))],
-        Then::Prepared((1, 1)),
-        0,
-        &[],
-        &[],
+        &[AT_A],
+        Asked::Prepared,
+    ),
+    ("a copy is the same store", &[AT_A, AT_B], Asked::Copied),
+    (
+        "a join takes out just what the other side removed",
+        &[AT_A, AT_B],
+        Asked::Joined,
     ),
     (
-        "a share stays what it was",
-        &[Step::Write(b'a', (1, 1))],
-        Then::Shared((2, 1)),
-        2,
+        "the map of forty keys is in their order",
         &[],
+        Asked::InOrder,
+    ),
+    (
+        "a seal has the nodes keep their summaries",
         &[],
+        Asked::Sealed,
     ),
 ];
 
 #[test]
 fn a_pair_has_what_its_deltas_leave(rt: HostRuntime) {
-    for (what, steps, then, size, standing, known) in ROWS {
-        let wanted = Wanted {
-            size: *size,
-            standing,
-            known,
-        };
-        assert!(rt; gives(&rt, rt.alloc(), steps, *then, &wanted), "{what}");
+    for (what, steps, asked) in ROWS {
+        assert!(rt; holds(&rt, rt.alloc(), steps, *asked), "{what}");
     }
 }
