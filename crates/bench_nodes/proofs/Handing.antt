@@ -8,7 +8,7 @@ use denote.Param.{param, arg}
 use denote.Param.Send.{IsSend, IsSync, sendable}
 use denote.Param.SendFields.{declared_send}
 use denote.Struct.Tuple.{TupleAt}
-use Rattle.std.proofs.Crossing.{crosses}
+use Rattle.std.proofs.Crossing.{crosses, Box-send}
 use Rattle.std.proofs.time.Instant.TheSendSync as Instants
 use Rattle.std.specs.contracts.time.Instant as Instant
 use Rattle.dots.proofs.text.Text.TheSendSync as Texts
@@ -33,10 +33,10 @@ module _ (K W : RattleType) (n : naming.Ghosts K.Denot) where
 
 pub writer_send : (K W : RattleType) (n : naming.Ghosts K.Denot) → IsSend W → IsSend (Writer.the_row K W n)
 writer_send K W n w = declared_send (Writer.the_type K W n)
-    (client_send K n NoGate.the_row W NoGates.the_send NoGates.the_sync w, (search (Texts.the_send, crosses, sendable) depth 20, (search sendable depth 20, tt)))
+    (Box-send _ (client_send K n NoGate.the_row W NoGates.the_send NoGates.the_sync w), (search (Texts.the_send, crosses, sendable) depth 20, (search sendable depth 20, tt)))
 
 pub reader_send : (K S : RattleType) (n : naming.Ghosts K.Denot) → IsSend S → IsSync S → IsSend (Reader.the_row K S n)
-reader_send K S n s y = declared_send (Reader.the_type K S n) (looking_send K n S s y, (search (Texts.the_send, crosses, sendable) depth 20, (search sendable depth 20, tt)))
+reader_send K S n s y = declared_send (Reader.the_type K S n) (Box-send _ (looking_send K n S s y), (search (Texts.the_send, crosses, sendable) depth 20, (search sendable depth 20, tt)))
 
 pub keys_sync : IsSync Keys.the_row
 keys_sync = search (Texts.the_sync, crosses, sendable) depth 20

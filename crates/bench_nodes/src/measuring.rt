@@ -46,7 +46,7 @@ fn race<K: Naming + Send + Sync, R: Threads + Wait + Clock + Copy + Drop + Send 
     plan: &Plan,
 ) -> Result<Told> {
     let keys = Keys::new(alloc)?;
-    let writer = Writer::new(node.client()?);
+    let writer = writer_of(alloc, node)?;
     let readers = readers_of(alloc, node, plan.readers)?;
     run(rt, alloc, writer, readers, &keys, plan.time)
 }
@@ -81,6 +81,22 @@ fn end_after(clock: &impl Clock, time: Duration) -> Result<Instant> {
         .context("past the end of the clock")
 }
 
+fn writer_of<K: Naming, W: Wait + Drop>(
+    alloc: Global,
+    node: &mut Node<K, Lock<K, NoGate, W>>,
+) -> Result<Writer<K, W>, Refusal> {
+    Writer::new(alloc, node.client()?)
+}
+
+// A client of the node, with an order by the seed.
+fn reader_of<K: Naming, S: Drop>(
+    alloc: Global,
+    node: &mut Node<K, S>,
+    seed: u64,
+) -> Result<Reader<K, S>, Refusal> {
+    Reader::new(alloc, node.client()?, seed)
+}
+
 // So many clients of the node, each with an order of its own.
 fn readers_of<K: Naming, S: Drop>(
     alloc: Global,
@@ -89,7 +105,7 @@ fn readers_of<K: Naming, S: Drop>(
 ) -> Result<Vec<Reader<K, S>>, Refusal> {
     let mut readers = Vec::new(alloc);
     for number in 0..count {
-        readers.push(Reader::new(node.client()?, number as u64 + 1))?;
+        readers.push(reader_of(alloc, node, number as u64 + 1)?)?;
     }
     Ok(readers)
 }

@@ -8,22 +8,26 @@ use std::alloc::Global;
 use std::rt::Clock;
 use std::time::{Duration, Instant};
 
-/// A client that reads. It is one of any node, and has no handle by which it could wait.
+/// A client that reads, in a box as that of a writer. It is one of any node, and has no handle by which it could wait.
 #[derive(Drop)]
 pub(crate) struct Reader<K: Naming, S: Drop> {
-    client: Client<K, S>,
+    client: Box<Client<K, S>>,
     field: Field,
     random: Random,
 }
 
 impl<K: Naming, S: Drop> Reader<K, S> {
     /// A reader whose order of keys goes by the seed.
-    pub(crate) fn new(client: Client<K, S>, seed: u64) -> Reader<K, S> {
-        Reader {
-            client,
+    pub(crate) fn new(
+        alloc: Global,
+        client: Client<K, S>,
+        seed: u64,
+    ) -> Result<Reader<K, S>, Refusal> {
+        Ok(Reader {
+            client: Box::new(alloc, client)?,
             field: Field::empty(),
             random: Random::new(seed),
-        }
+        })
     }
 
     // Reads some key, and tells how many values it has.

@@ -9,21 +9,24 @@ use std::rt::Clock;
 use std::sync::Wait;
 use std::time::Instant;
 
-/// A client that writes.
+/// A client that writes. It stands in a box, as a client has many fields, and each call that holds a writer would be proved over all of them.
 #[derive(Drop)]
 pub(crate) struct Writer<K: Naming, W: Wait + Drop> {
-    client: Client<K, Lock<K, NoGate, W>>,
+    client: Box<Client<K, Lock<K, NoGate, W>>>,
     field: Field,
     random: Random,
 }
 
 impl<K: Naming, W: Wait + Drop> Writer<K, W> {
-    pub(crate) fn new(client: Client<K, Lock<K, NoGate, W>>) -> Writer<K, W> {
-        Writer {
-            client,
+    pub(crate) fn new(
+        alloc: Global,
+        client: Client<K, Lock<K, NoGate, W>>,
+    ) -> Result<Writer<K, W>, Refusal> {
+        Ok(Writer {
+            client: Box::new(alloc, client)?,
             field: Field::empty(),
             random: Random::new(0),
-        }
+        })
     }
 
     // Puts a value of eight bytes on the key.
