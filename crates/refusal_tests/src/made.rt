@@ -2,7 +2,7 @@
 use dots::{Key, Name, Refusal, Value};
 use hash_path::Fnv1a;
 use replica_core::{Delivered, Replica};
-use std::alloc::Allocator;
+use std::alloc::{Allocator, Global};
 use std::panic::Expect;
 use std::process::Abort;
 use wire_form::Message;
@@ -15,9 +15,15 @@ pub(crate) fn name(rt: &impl Abort, number: u64) -> Name {
     Name::new(number).expect(rt, "a name")
 }
 
-// A replica of this name, which is not 0, to which nothing happened.
-pub(crate) fn replica<A: Allocator + Copy>(rt: &impl Abort, heap: A, number: u64) -> Here<A> {
-    Replica::new(heap, name(rt, number), Fnv1a)
+// A replica of this name, which is not 0, to which nothing happened. It is in a box, as one that is a local is dear to prove.
+pub(crate) fn replica<A: Allocator + Copy>(
+    rt: &impl Abort,
+    alloc: Global,
+    heap: A,
+    number: u64,
+) -> Box<Here<A>> {
+    let one = Replica::new(heap, name(rt, number), Fnv1a);
+    Box::new(alloc, one).expect(rt, "memory")
 }
 
 // Puts the value on the key, and gives the number of its dot.
@@ -64,6 +70,38 @@ pub(crate) fn first<'t, A: Allocator + Copy>(
     told: &'t Delivered<A>,
 ) -> &'t Message<A> {
     told.replies.first().expect(rt, "a reply")
+}
+
+// How the other opens for the hello.
+pub(crate) fn opened<A: Allocator + Copy>(
+    rt: &impl Abort,
+    here: &mut Here<A>,
+    peer: &mut Here<A>,
+    of: u64,
+) -> Delivered<A> {
+    let hello = asked(rt, here, of);
+    answered(rt, peer, &hello)
+}
+
+// The asks of the one for what the other, of this name, opened with.
+pub(crate) fn asks<A: Allocator + Copy>(
+    rt: &impl Abort,
+    here: &mut Here<A>,
+    peer: &mut Here<A>,
+    of: u64,
+) -> Delivered<A> {
+    let opening = opened(rt, here, peer, of);
+    answered(rt, here, first(rt, &opening))
+}
+
+// The page of the root that it asks the other for, of the name 2.
+pub(crate) fn paged<A: Allocator + Copy>(
+    rt: &impl Abort,
+    here: &mut Here<A>,
+    peer: &mut Here<A>,
+) -> Delivered<A> {
+    let asks = asks(rt, here, peer, 2);
+    answered(rt, peer, first(rt, &asks))
 }
 
 // What a replica shows and knows: the digest of its map, the number of its keys, and how far it knows the replicas 1 and 2.

@@ -45,9 +45,9 @@ impl<'r, A: Allocator + Copy> Trial for Calling<'r, A> {
             Act::Flush => flush(self.here),
             Act::Ask => ask(self.here),
             Act::Retry => retry(self.here),
-            Act::Get => wanted(self.here.get(&seventh(self.heap)?)?.len() == 1),
-            Act::Fields => wanted(self.here.fields(&seventh(self.heap)?)?.len() == 1),
-            Act::List => wanted(self.here.keys()?.len() == 40),
+            Act::Get => get(self.heap, self.here),
+            Act::Fields => fields(self.heap, self.here),
+            Act::List => list(self.here),
             Act::Copy => copy(self.here),
         }
     }
@@ -82,6 +82,26 @@ fn remove_field<A: Allocator + Copy>(heap: A, here: &mut Here<A>) -> Result<u64,
     here.remove_field(&key, &Field::empty())
 }
 
+// Reads its one value.
+fn get<A: Allocator + Copy>(heap: A, here: &Here<A>) -> Result<(), Refusal> {
+    let key = seventh(heap)?;
+    let values = here.get(&key)?;
+    wanted(values.len() == 1)
+}
+
+// Reads its one field.
+fn fields<A: Allocator + Copy>(heap: A, here: &Here<A>) -> Result<(), Refusal> {
+    let key = seventh(heap)?;
+    let fields = here.fields(&key)?;
+    wanted(fields.len() == 1)
+}
+
+// Lists the forty keys.
+fn list<A: Allocator + Copy>(here: &Here<A>) -> Result<(), Refusal> {
+    let keys = here.keys()?;
+    wanted(keys.len() == 40)
+}
+
 // A retry of the synchronisation that is open sends its hello again.
 fn retry<A: Allocator + Copy>(here: &Here<A>) -> Result<(), Refusal> {
     let again = here.retry(1)?;
@@ -96,14 +116,15 @@ fn flush<A: Allocator + Copy>(here: &mut Here<A>) -> Result<(), Refusal> {
 // The first ask that is made has the number 1, however often one was refused before.
 fn ask<A: Allocator + Copy>(here: &mut Here<A>) -> Result<(), Refusal> {
     let peer = here.name();
-    let (number, _hello) = here.ask(peer)?;
+    let number = here.ask(peer)?.0;
     wanted(number == 1)
 }
 
 // A copy shows the same.
 fn copy<A: Allocator + Copy>(here: &Here<A>) -> Result<(), Refusal> {
+    let shown = what_shows(here);
     let copy = here.copy()?;
-    wanted(what_shows(&copy) == what_shows(here))
+    wanted(what_shows(&copy) == shown)
 }
 
 // Has happen what the call needs: a flush of three writes follows one of all, and a retry an ask.
@@ -132,12 +153,13 @@ fn tried<A: Allocator + Copy>(
     heap: A,
     act: Act,
 ) -> usize {
-    let mut here = replica(rt, heap, 1);
-    prepare(rt, heap, &mut here, act);
-    let before = what_shows(&here);
+    let mut boxed = replica(rt, alloc, heap, 1);
+    let here = &mut *boxed;
+    prepare(rt, heap, here, act);
+    let before = what_shows(here);
     let mut calling = Calling {
         heap,
-        here: &mut here,
+        here,
         before,
         act,
     };

@@ -1,5 +1,8 @@
-// Messages that a replica takes in.
-use crate::made::{Here, Shown, answered, asked, first, put, put_forty, replica, what_shows};
+// Messages that a replica takes in, and their bytes.
+use crate::made::{
+    Here, Shown, asked, asks, first, opened, paged, put, put_forty, replica, what_shows,
+};
+use crate::tests::bytes;
 use crate::trial::{Trial, refusals, wanted};
 use dots::Refusal;
 use linked_list_allocator::LocalHeap;
@@ -29,8 +32,18 @@ impl<'r, A: Allocator + Copy> Trial for Delivering<'r, A> {
     }
 }
 
+// What is done with a message.
+#[derive(Clone, Copy)]
+enum Task {
+    // It is delivered, and comes to this.
+    Deliver(Outcome),
+    Write,
+    // It is read from its bytes.
+    Read,
+}
+
 // How often the delivery is refused.
-fn tried<A: Allocator + Copy>(
+fn delivery_is_tried<A: Allocator + Copy>(
     rt: &impl Abort,
     alloc: Global,
     small: &LocalHeap,
@@ -48,9 +61,29 @@ fn tried<A: Allocator + Copy>(
     refusals(rt, alloc, small, 8, &mut delivering)
 }
 
-// What is delivered.
+// How often what is done is refused.
+fn tried<A: Allocator + Copy>(
+    rt: &impl Abort,
+    alloc: Global,
+    small: &LocalHeap,
+    heap: A,
+    here: &mut Here<A>,
+    message: &Message<A>,
+    task: Task,
+) -> usize {
+    match task {
+        Task::Deliver(outcome) => delivery_is_tried(rt, alloc, small, here, message, outcome),
+        Task::Write => bytes::tried(rt, alloc, small, heap, message, false),
+        Task::Read => bytes::tried(rt, alloc, small, heap, message, true),
+    }
+}
+
+// A kind of message.
 #[derive(Clone, Copy)]
 enum Kind {
+    // Of the forty keys of the replica itself.
+    Own,
+    // Of what the other wrote.
     Delta,
     Hello,
     Opening,
@@ -58,90 +91,87 @@ enum Kind {
     Page,
 }
 
-// How the other opens for the hello.
-fn opened<A: Allocator + Copy>(
+// The delta of what was written.
+fn flushed<A: Allocator + Copy>(rt: &impl Abort, here: &mut Here<A>) -> Message<A> {
+    here.flush().expect(rt, "a flush").expect(rt, "a delta")
+}
+
+// A message that is no reply.
+fn message<A: Allocator + Copy>(
     rt: &impl Abort,
     here: &mut Here<A>,
     peer: &mut Here<A>,
-    of: u64,
-) -> Delivered<A> {
-    answered(rt, peer, &asked(rt, here, of))
+    kind: Kind,
+) -> Message<A> {
+    match kind {
+        Kind::Own => flushed(rt, here),
+        Kind::Delta => flushed(rt, peer),
+        _ => asked(rt, peer, 1),
+    }
 }
 
-// The asks of the one for what the other, of this name, opened with.
-fn asks<A: Allocator + Copy>(
-    rt: &impl Abort,
-    here: &mut Here<A>,
-    peer: &mut Here<A>,
-    of: u64,
-) -> Delivered<A> {
-    let opening = opened(rt, here, peer, of);
-    answered(rt, here, first(rt, &opening))
-}
-
-// The page of the root that it asks for.
-fn paged<A: Allocator + Copy>(
-    rt: &impl Abort,
-    here: &mut Here<A>,
-    peer: &mut Here<A>,
-) -> Delivered<A> {
-    let asks = asks(rt, here, peer, 2);
-    answered(rt, peer, first(rt, &asks))
-}
-
-// A delta of what the other wrote.
-fn delta_is_tried<A: Allocator + Copy>(
+fn message_is_tried<A: Allocator + Copy>(
     rt: &impl Abort,
     alloc: Global,
     small: &LocalHeap,
+    heap: A,
     here: &mut Here<A>,
     peer: &mut Here<A>,
+    kind: Kind,
+    task: Task,
 ) -> usize {
-    let delta = peer.flush().expect(rt, "a flush").expect(rt, "a delta");
-    tried(rt, alloc, small, here, &delta, Outcome::Joined)
+    let message = message(rt, here, peer, kind);
+    tried(rt, alloc, small, heap, here, &message, task)
 }
 
-fn hello_is_tried<A: Allocator + Copy>(
+// The replies of which the first is of this kind. The ask is one of the other for the root of the snapshot that is kept for it; the page ends the
+// synchronisation: refused, it leaves the session open, and ends it later.
+fn replies<A: Allocator + Copy>(
+    rt: &impl Abort,
+    here: &mut Here<A>,
+    peer: &mut Here<A>,
+    kind: Kind,
+) -> Delivered<A> {
+    match kind {
+        Kind::Opening => opened(rt, here, peer, 2),
+        Kind::Ask => asks(rt, peer, here, 1),
+        _ => paged(rt, here, peer),
+    }
+}
+
+fn reply_is_tried<A: Allocator + Copy>(
     rt: &impl Abort,
     alloc: Global,
     small: &LocalHeap,
+    heap: A,
     here: &mut Here<A>,
     peer: &mut Here<A>,
+    kind: Kind,
+    task: Task,
 ) -> usize {
-    let hello = asked(rt, peer, 1);
-    tried(rt, alloc, small, here, &hello, Outcome::Sent)
+    let told = replies(rt, here, peer, kind);
+    tried(rt, alloc, small, heap, here, first(rt, &told), task)
 }
 
-// The first of these, which comes to this.
-fn first_is_tried<A: Allocator + Copy>(
-    rt: &impl Abort,
-    alloc: Global,
-    small: &LocalHeap,
-    here: &mut Here<A>,
-    told: &Delivered<A>,
-    outcome: Outcome,
-) -> usize {
-    tried(rt, alloc, small, here, first(rt, told), outcome)
-}
-
-// How often a message of this kind is refused by a replica of 40 keys, whose peer has put one more on another key. The ask is one of the other
-// for the root of the snapshot that is kept for it; the page ends the synchronisation: refused, it leaves the session open, and ends it later.
+// How often that is refused with a message of this kind by a replica of 40 keys, whose peer has put one more on another key.
 fn is_tried<A: Allocator + Copy>(
     rt: &impl Abort,
     alloc: Global,
     small: &LocalHeap,
+    heap: A,
     here: &mut Here<A>,
     peer: &mut Here<A>,
     kind: Kind,
+    task: Task,
 ) -> usize {
-    let (told, outcome) = match kind {
-        Kind::Delta => return delta_is_tried(rt, alloc, small, here, peer),
-        Kind::Hello => return hello_is_tried(rt, alloc, small, here, peer),
-        Kind::Opening => (opened(rt, here, peer, 2), Outcome::Sent),
-        Kind::Ask => (asks(rt, peer, here, 1), Outcome::Sent),
-        Kind::Page => (paged(rt, here, peer), Outcome::Done),
-    };
-    first_is_tried(rt, alloc, small, here, &told, outcome)
+    put_forty(rt, heap, here);
+    put(heap, peer, b"peer", b"w").expect(rt, "a put");
+    match kind {
+        Kind::Own | Kind::Delta | Kind::Hello => {
+            message_is_tried(rt, alloc, small, heap, here, peer, kind, task)
+        }
+        _ => reply_is_tried(rt, alloc, small, heap, here, peer, kind, task),
+    }
 }
 
 // The same of new replicas.
@@ -151,43 +181,66 @@ fn is_tried_anew<A: Allocator + Copy>(
     small: &LocalHeap,
     heap: A,
     kind: Kind,
+    task: Task,
 ) -> usize {
-    let mut here = replica(rt, heap, 1);
-    let mut peer = replica(rt, heap, 2);
-    put_forty(rt, heap, &mut here);
-    put(heap, &mut peer, b"peer", b"w").expect(rt, "a put");
-    is_tried(rt, alloc, small, &mut here, &mut peer, kind)
+    let mut here = replica(rt, alloc, heap, 1);
+    let mut peer = replica(rt, alloc, heap, 2);
+    is_tried(rt, alloc, small, heap, &mut *here, &mut *peer, kind, task)
 }
 
 // The same in a heap of its own, which is empty in the end.
-fn is_tried_in_a_heap(rt: &impl Abort, alloc: Global, kind: Kind) -> usize {
+fn is_tried_in_a_heap(rt: &impl Abort, alloc: Global, kind: Kind, task: Task) -> usize {
     let heap = LocalHeap::new(alloc, 60_000).expect(rt, "memory");
-    let count = is_tried_anew(rt, alloc, &heap, &heap, kind);
+    let count = is_tried_anew(rt, alloc, &heap, &heap, kind, task);
     assert!(rt; heap.used() == 0);
     count
 }
 
 #[test]
 fn a_refused_delta_is_taken_in_later(rt: HostRuntime) {
-    assert!(rt; is_tried_in_a_heap(&rt, rt.alloc(), Kind::Delta) > 3);
+    assert!(rt;
+        is_tried_in_a_heap(&rt, rt.alloc(), Kind::Delta, Task::Deliver(Outcome::Joined)) > 3
+    );
 }
 
 #[test]
 fn a_refused_hello_is_answered_later(rt: HostRuntime) {
-    assert!(rt; is_tried_in_a_heap(&rt, rt.alloc(), Kind::Hello) > 3);
+    assert!(rt; is_tried_in_a_heap(&rt, rt.alloc(), Kind::Hello, Task::Deliver(Outcome::Sent)) > 3);
 }
 
 #[test]
 fn a_refused_opening_is_accepted_later(rt: HostRuntime) {
-    assert!(rt; is_tried_in_a_heap(&rt, rt.alloc(), Kind::Opening) > 3);
+    assert!(rt;
+        is_tried_in_a_heap(&rt, rt.alloc(), Kind::Opening, Task::Deliver(Outcome::Sent)) > 3
+    );
 }
 
 #[test]
 fn a_refused_ask_is_answered_later(rt: HostRuntime) {
-    assert!(rt; is_tried_in_a_heap(&rt, rt.alloc(), Kind::Ask) > 3);
+    assert!(rt; is_tried_in_a_heap(&rt, rt.alloc(), Kind::Ask, Task::Deliver(Outcome::Sent)) > 3);
 }
 
 #[test]
 fn a_refused_page_ends_the_synchronisation_later(rt: HostRuntime) {
-    assert!(rt; is_tried_in_a_heap(&rt, rt.alloc(), Kind::Page) > 3);
+    assert!(rt; is_tried_in_a_heap(&rt, rt.alloc(), Kind::Page, Task::Deliver(Outcome::Done)) > 3);
+}
+
+#[test]
+fn a_refused_delta_is_written_later(rt: HostRuntime) {
+    assert!(rt; is_tried_in_a_heap(&rt, rt.alloc(), Kind::Own, Task::Write) > 3);
+}
+
+#[test]
+fn a_refused_delta_is_read_later(rt: HostRuntime) {
+    assert!(rt; is_tried_in_a_heap(&rt, rt.alloc(), Kind::Own, Task::Read) > 40);
+}
+
+#[test]
+fn a_refused_page_is_written_later(rt: HostRuntime) {
+    assert!(rt; is_tried_in_a_heap(&rt, rt.alloc(), Kind::Page, Task::Write) > 1);
+}
+
+#[test]
+fn a_refused_page_is_read_later(rt: HostRuntime) {
+    assert!(rt; is_tried_in_a_heap(&rt, rt.alloc(), Kind::Page, Task::Read) > 3);
 }

@@ -11,14 +11,6 @@ use std::process::Abort;
 
 type Worlds<A> = World<Fnv1a, A>;
 
-// Forty keys.
-const KEYS: &[&[u8]] = &[
-    b"a0", b"a1", b"a2", b"a3", b"a4", b"a5", b"a6", b"a7", b"a8", b"a9", b"b0", b"b1", b"b2",
-    b"b3", b"b4", b"b5", b"b6", b"b7", b"b8", b"b9", b"c0", b"c1", b"c2", b"c3", b"c4", b"c5",
-    b"c6", b"c7", b"c8", b"c9", b"d0", b"d1", b"d2", b"d3", b"d4", b"d5", b"d6", b"d7", b"d8",
-    b"d9",
-];
-
 // What happens in a world.
 #[derive(Clone, Copy)]
 enum Act {
@@ -80,20 +72,62 @@ fn happen<A: Allocator + Copy>(rt: &impl Abort, heap: A, world: &mut Worlds<A>, 
     let _ = world.event(event).expect(rt, "an event");
 }
 
-// A world of the replicas 1 and 2, in which 1 has put forty keys and sent them in message 1, and one more in message 2, and then put another.
-fn begun<A: Allocator + Copy>(rt: &impl Abort, heap: A) -> Worlds<A> {
-    let mut world = World::new(heap, Fnv1a);
-    happen(rt, heap, &mut world, Act::Node(1));
-    happen(rt, heap, &mut world, Act::Node(2));
-    for key in KEYS {
-        happen(rt, heap, &mut world, Act::Put(key));
+// Has these events happen.
+fn happen_all<A: Allocator + Copy>(rt: &impl Abort, heap: A, world: &mut Worlds<A>, acts: &[Act]) {
+    for act in acts {
+        happen(rt, heap, world, *act);
     }
-    happen(rt, heap, &mut world, Act::Flush);
-    happen(rt, heap, &mut world, Act::Put(b"one"));
-    happen(rt, heap, &mut world, Act::Flush);
-    happen(rt, heap, &mut world, Act::Put(b"two"));
-    world
 }
+
+// Has 1 and 2 be replicas, and 1 put forty keys and send them in message 1, put one more and send it in message 2, and then put another.
+const BEGIN: &[Act] = &[
+    Act::Node(1),
+    Act::Node(2),
+    Act::Put(b"a0"),
+    Act::Put(b"a1"),
+    Act::Put(b"a2"),
+    Act::Put(b"a3"),
+    Act::Put(b"a4"),
+    Act::Put(b"a5"),
+    Act::Put(b"a6"),
+    Act::Put(b"a7"),
+    Act::Put(b"a8"),
+    Act::Put(b"a9"),
+    Act::Put(b"b0"),
+    Act::Put(b"b1"),
+    Act::Put(b"b2"),
+    Act::Put(b"b3"),
+    Act::Put(b"b4"),
+    Act::Put(b"b5"),
+    Act::Put(b"b6"),
+    Act::Put(b"b7"),
+    Act::Put(b"b8"),
+    Act::Put(b"b9"),
+    Act::Put(b"c0"),
+    Act::Put(b"c1"),
+    Act::Put(b"c2"),
+    Act::Put(b"c3"),
+    Act::Put(b"c4"),
+    Act::Put(b"c5"),
+    Act::Put(b"c6"),
+    Act::Put(b"c7"),
+    Act::Put(b"c8"),
+    Act::Put(b"c9"),
+    Act::Put(b"d0"),
+    Act::Put(b"d1"),
+    Act::Put(b"d2"),
+    Act::Put(b"d3"),
+    Act::Put(b"d4"),
+    Act::Put(b"d5"),
+    Act::Put(b"d6"),
+    Act::Put(b"d7"),
+    Act::Put(b"d8"),
+    Act::Put(b"d9"),
+    Act::Flush,
+    Act::Put(b"one"),
+    Act::Flush,
+    Act::Put(b"two"),
+];
 
 // How often the event is refused in this small heap, of which the world has its memory.
 fn tried<A: Allocator + Copy>(
@@ -101,49 +135,62 @@ fn tried<A: Allocator + Copy>(
     alloc: Global,
     small: &LocalHeap,
     heap: A,
+    world: &mut Worlds<A>,
     act: Act,
 ) -> usize {
-    let mut world = begun(rt, heap);
-    let before = count(&world);
+    let before = count(world);
     let mut happening = Happening {
         rt,
         heap,
-        world: &mut world,
+        world,
         before,
         act,
     };
     refusals(rt, alloc, small, 64, &mut happening)
 }
 
+// The same in a new world, after all that.
+fn tried_anew<A: Allocator + Copy>(
+    rt: &impl Abort,
+    alloc: Global,
+    small: &LocalHeap,
+    heap: A,
+    act: Act,
+) -> usize {
+    let mut world = World::new(heap, Fnv1a);
+    happen_all(rt, heap, &mut world, BEGIN);
+    tried(rt, alloc, small, heap, &mut world, act)
+}
+
 // The same in a heap of its own, which is empty in the end.
 fn tried_in_a_heap(rt: &impl Abort, alloc: Global, act: Act) -> usize {
     let heap = LocalHeap::new(alloc, 400_000).expect(rt, "memory");
-    let count = tried(rt, alloc, &heap, &heap, act);
+    let count = tried_anew(rt, alloc, &heap, &heap, act);
     assert!(rt; heap.used() == 0);
     count
 }
 
+// What holds of an event, the event, and how often it is refused at least.
+const EVENTS: &[(&str, Act, usize)] = &[
+    ("a new replica", Act::Node(3), 0),
+    ("a put", Act::Put(b"one"), 4),
+    ("a flush", Act::Flush, 4),
+    ("an ask", Act::Ask, 4),
+    ("a delivery of forty keys", Act::Deliver(1), 40),
+];
+
 #[test]
 fn a_refused_event_changes_nothing_and_happens_later(rt: HostRuntime) {
-    for (act, least) in [
-        (Act::Node(3), 0),
-        (Act::Put(b"one"), 4),
-        (Act::Flush, 4),
-        (Act::Ask, 4),
-        (Act::Deliver(1), 40),
-    ] {
-        let count = tried_in_a_heap(&rt, rt.alloc(), act);
-        assert!(rt; count >= least, "{count} times, and not {least}");
+    for (what, act, least) in EVENTS {
+        assert!(rt; tried_in_a_heap(&rt, rt.alloc(), *act) >= *least, "{what}");
     }
 }
 
-// A world of sixty-four replicas, whose past has no room left, as it grows by doubling.
-fn full<A: Allocator + Copy>(rt: &impl Abort, heap: A) -> Worlds<A> {
-    let mut world = World::new(heap, Fnv1a);
+// Fills the room that a world has for its past, as that grows by doubling, with sixty-four replicas.
+fn fill<A: Allocator + Copy>(rt: &impl Abort, heap: A, world: &mut Worlds<A>) {
     for number in 1..=64u64 {
-        happen(rt, heap, &mut world, Act::Node(number));
+        happen(rt, heap, world, Act::Node(number));
     }
-    world
 }
 
 // What an event comes to in such a world in a heap that is full.
@@ -152,14 +199,14 @@ fn without_memory<A: Allocator + Copy>(
     alloc: Global,
     small: &LocalHeap,
     heap: A,
+    world: &mut Worlds<A>,
     act: Act,
 ) -> Result<(), Refusal> {
-    let mut world = full(rt, heap);
-    let before = count(&world);
+    let before = count(world);
     let mut happening = Happening {
         rt,
         heap,
-        world: &mut world,
+        world,
         before,
         act,
     };
@@ -170,15 +217,31 @@ fn without_memory<A: Allocator + Copy>(
     attempt_in(rt, alloc, small, none, &mut happening)
 }
 
+// The same of a new world.
+fn without_memory_anew<A: Allocator + Copy>(
+    rt: &impl Abort,
+    alloc: Global,
+    small: &LocalHeap,
+    heap: A,
+    act: Act,
+) -> Result<(), Refusal> {
+    let mut world = World::new(heap, Fnv1a);
+    fill(rt, heap, &mut world);
+    without_memory(rt, alloc, small, heap, &mut world, act)
+}
+
+// An event, and how it is refused.
+const REFUSED: &[(Act, Refusal)] = &[
+    (Act::Node(7), Refusal::NameTaken),
+    (Act::Deliver(1), Refusal::UnknownMessage),
+    (Act::Flush, Refusal::OutOfMemory),
+];
+
 #[test]
 fn want_of_memory_comes_last(rt: HostRuntime) {
     let heap = LocalHeap::new(rt.alloc(), 100_000).expect(&rt, "memory");
-    for (act, refusal) in [
-        (Act::Node(7), Refusal::NameTaken),
-        (Act::Deliver(1), Refusal::UnknownMessage),
-        (Act::Flush, Refusal::OutOfMemory),
-    ] {
-        let told = without_memory(&rt, rt.alloc(), &heap, &heap, act);
-        assert!(rt; told == Err(refusal));
+    for (act, refusal) in REFUSED {
+        let told = without_memory_anew(&rt, rt.alloc(), &heap, &heap, *act);
+        assert!(rt; told == Err(*refusal));
     }
 }
