@@ -49,10 +49,12 @@ pub(crate) fn put_forty<A: Allocator + Copy>(rt: &impl Abort, heap: A, here: &mu
 // The hello by which the one asks the other, of this name.
 pub(crate) fn asked<A: Allocator + Copy>(
     rt: &impl Abort,
+    alloc: Global,
     asker: &mut Here<A>,
     peer: u64,
-) -> Message<A> {
-    asker.ask(name(rt, peer)).expect(rt, "an ask").1
+) -> Box<Message<A>> {
+    let hello = asker.ask(name(rt, peer)).expect(rt, "an ask").1;
+    Box::new(alloc, hello).expect(rt, "memory")
 }
 
 // What a message comes to.
@@ -75,32 +77,35 @@ pub(crate) fn first<'t, A: Allocator + Copy>(
 // How the other opens for the hello.
 pub(crate) fn opened<A: Allocator + Copy>(
     rt: &impl Abort,
+    alloc: Global,
     here: &mut Here<A>,
     peer: &mut Here<A>,
     of: u64,
 ) -> Delivered<A> {
-    let hello = asked(rt, here, of);
-    answered(rt, peer, &hello)
+    let hello = asked(rt, alloc, here, of);
+    answered(rt, peer, &*hello)
 }
 
 // The asks of the one for what the other, of this name, opened with.
 pub(crate) fn asks<A: Allocator + Copy>(
     rt: &impl Abort,
+    alloc: Global,
     here: &mut Here<A>,
     peer: &mut Here<A>,
     of: u64,
 ) -> Delivered<A> {
-    let opening = opened(rt, here, peer, of);
+    let opening = opened(rt, alloc, here, peer, of);
     answered(rt, here, first(rt, &opening))
 }
 
 // The page of the root that it asks the other for, of the name 2.
 pub(crate) fn paged<A: Allocator + Copy>(
     rt: &impl Abort,
+    alloc: Global,
     here: &mut Here<A>,
     peer: &mut Here<A>,
 ) -> Delivered<A> {
-    let asks = asks(rt, here, peer, 2);
+    let asks = asks(rt, alloc, here, peer, 2);
     answered(rt, peer, first(rt, &asks))
 }
 

@@ -92,21 +92,27 @@ enum Kind {
 }
 
 // The delta of what was written.
-fn flushed<A: Allocator + Copy>(rt: &impl Abort, here: &mut Here<A>) -> Message<A> {
-    here.flush().expect(rt, "a flush").expect(rt, "a delta")
+fn flushed<A: Allocator + Copy>(
+    rt: &impl Abort,
+    alloc: Global,
+    here: &mut Here<A>,
+) -> Box<Message<A>> {
+    let delta = here.flush().expect(rt, "a flush").expect(rt, "a delta");
+    Box::new(alloc, delta).expect(rt, "memory")
 }
 
 // A message that is no reply.
 fn message<A: Allocator + Copy>(
     rt: &impl Abort,
+    alloc: Global,
     here: &mut Here<A>,
     peer: &mut Here<A>,
     kind: Kind,
-) -> Message<A> {
+) -> Box<Message<A>> {
     match kind {
-        Kind::Own => flushed(rt, here),
-        Kind::Delta => flushed(rt, peer),
-        _ => asked(rt, peer, 1),
+        Kind::Own => flushed(rt, alloc, here),
+        Kind::Delta => flushed(rt, alloc, peer),
+        _ => asked(rt, alloc, peer, 1),
     }
 }
 
@@ -120,22 +126,23 @@ fn message_is_tried<A: Allocator + Copy>(
     kind: Kind,
     task: Task,
 ) -> usize {
-    let message = message(rt, here, peer, kind);
-    tried(rt, alloc, small, heap, here, &message, task)
+    let message = message(rt, alloc, here, peer, kind);
+    tried(rt, alloc, small, heap, here, &*message, task)
 }
 
 // The replies of which the first is of this kind. The ask is one of the other for the root of the snapshot that is kept for it; the page ends the
 // synchronisation: refused, it leaves the session open, and ends it later.
 fn replies<A: Allocator + Copy>(
     rt: &impl Abort,
+    alloc: Global,
     here: &mut Here<A>,
     peer: &mut Here<A>,
     kind: Kind,
 ) -> Delivered<A> {
     match kind {
-        Kind::Opening => opened(rt, here, peer, 2),
-        Kind::Ask => asks(rt, peer, here, 1),
-        _ => paged(rt, here, peer),
+        Kind::Opening => opened(rt, alloc, here, peer, 2),
+        Kind::Ask => asks(rt, alloc, peer, here, 1),
+        _ => paged(rt, alloc, here, peer),
     }
 }
 
@@ -149,7 +156,7 @@ fn reply_is_tried<A: Allocator + Copy>(
     kind: Kind,
     task: Task,
 ) -> usize {
-    let told = replies(rt, here, peer, kind);
+    let told = replies(rt, alloc, here, peer, kind);
     tried(rt, alloc, small, heap, here, first(rt, &told), task)
 }
 
