@@ -110,8 +110,9 @@ fn agree_after<H: PathHash>(
 // Whether new ones agree after 2,000 steps.
 fn run<H: PathHash>(rt: &impl Abort, alloc: Global, hash: H) -> bool {
     let mut plain = BTreeMap::new(alloc);
-    let mut live: LiveSets<H> = Live::new(alloc, hash);
-    agree_after(rt, alloc, &mut live, &mut plain, 2_000)
+    let live: LiveSets<H> = Live::new(alloc, hash);
+    let mut boxed = Box::new(alloc, live).expect(rt, "memory");
+    agree_after(rt, alloc, &mut *boxed, &mut plain, 2_000)
 }
 
 #[test]

@@ -157,10 +157,11 @@ fn is_so_after(
     is_so(rt, alloc, live, asked)
 }
 
-// The same of a new pair.
+// The same of a new pair, in a box, as such a local is dear to prove.
 fn holds(rt: &impl Abort, alloc: Global, steps: &[Step], asked: Asked) -> bool {
-    let mut live: LivePair = Live::new(alloc, Fnv1a);
-    is_so_after(rt, alloc, &mut live, steps, asked)
+    let live: LivePair = Live::new(alloc, Fnv1a);
+    let mut boxed = Box::new(alloc, live).expect(rt, "memory");
+    is_so_after(rt, alloc, &mut *boxed, steps, asked)
 }
 
 const LAST: Pair = (u64::MAX, u64::MAX);
