@@ -150,11 +150,11 @@ fn is_so_of<H: PathHash>(
     are_under(rt, frozen, row.3) && are_seen && are_made
 }
 
-// The same of new ones by this hash.
+// The same of new ones by this hash, in boxes, as such a local is dear to prove.
 fn is_so<H: PathHash>(rt: &impl Abort, alloc: Global, hash: H, row: &Row) -> bool {
-    let mut trie = GenTrie::new(alloc, hash);
-    let mut frozen = Frozen::new(alloc, hash);
-    is_so_of(rt, alloc, &mut trie, &mut frozen, row)
+    let mut trie = Box::new(alloc, GenTrie::new(alloc, hash)).expect(rt, "memory");
+    let mut frozen = Box::new(alloc, Frozen::new(alloc, hash)).expect(rt, "memory");
+    is_so_of(rt, alloc, &mut *trie, &mut *frozen, row)
 }
 
 const A: Step = Step::Put(b"a", 1);
