@@ -1,5 +1,8 @@
-ghost use Rattle.std.specs.Prelude.{◌≡◌, ◌≤◌, IfOk, IfErr};
+ghost use Rattle.std.specs.Prelude.{◌≡◌, ◌≤◌, [], replicate, IfOk, IfErr};
+ghost use Rattle.std.specs.Vec.{vec_len};
 ghost use Rattle.dots.specs.declared.refusal.Refusal.TheVariants.{OutOfMemory};
+ghost use Rattle.delta_ops.specs.LiveMap.{store_state};
+ghost use Rattle.replica_model.specs.Replica.{fresh};
 
 use crate::named::{Named, Naming, Root};
 use crate::node::{Lock, Node};
@@ -7,15 +10,21 @@ use crate::node_event::NodeEvent;
 use dots::{Name, Refusal};
 use hash_path::Fnv1a;
 use replica_core::Replica;
-use root_cell::{Cell, OpenedBook};
-use shared_object::{Gate, Owner, Returned};
+use root_cell::{Cell, OpenedBook, View, Writer};
+use shared_object::{Gate, Object, Owner, Placed, Returned, Shared};
 use std::alloc::Allocator;
 use std::sync::Wait;
+
+// The two ends of the cell of a node.
+type NodeWriter<K, A> = Writer<Root<A>, NodeEvent<A>, Named<K>, A>;
+
+type NodeViews<K, A> = Vec<View<Root<A>, NodeEvent<A>, Named<K>, A>, A>;
 
 /// A node of a replica of this name, which holds nothing yet, with so many places for clients. The caller picks `K` by the book that was
 /// opened and the name. The node keeps the handle, to end with; each of its calls that writes passes the gate.
 ///
 /// It may wait, as it lays the replica under a lock that it makes. Its only refusal is OutOfMemory.
+// The replica is made last: it takes no memory, and a check grows with what is alive where a call may be refused.
 pub fn new_node<K: Naming, G: Gate + Drop, W: Wait + Drop, A: Allocator + Copy, T: Wait>(
     rt: &T,
     alloc: A,
@@ -31,18 +40,74 @@ pub fn new_node<K: Naming, G: Gate + Drop, W: Wait + Drop, A: Allocator + Copy, 
     ensures ok { IfOk result (λ node. node ≡ record { taken = 0; free = places }) }
     ensures err { IfErr result (λ e. e ≡ OutOfMemory) }
 {
+    match new_cell::<K, A, T>(rt, alloc, opened, name, places) {
+        Ok((writer, views)) => {
+            let replica = Replica::new(alloc, name, Fnv1a);
+            own(rt, alloc, replica, writer, views, gate, handle)
+        }
+        Err(refusal) => Err(refusal),
+    }
+}
+
+// The cell of a node, with the root of a replica of this name that holds nothing yet.
+fn new_cell<K: Naming, A: Allocator + Copy, T: Wait>(
+    rt: &T,
+    alloc: A,
+    opened: OpenedBook<NodeEvent<A>>,
+    name: Name,
+    places: usize,
+) -> Result<(NodeWriter<K, A>, NodeViews<K, A>), Refusal>
+    requires places { (1 ≤ places) × (places ≤ 64) }
+    requires book { opened.0 ≡ K.book }
+    requires name { name ≡ K.name }
+    ensures writer { IfOk result (λ r. r.0 ≡ []) }
+    ensures views { IfOk result (λ r. r.1.items ≡ replicate places []) }
+    ensures err { IfErr result (λ e. e ≡ OutOfMemory) }
+{
+    match empty_root(alloc, name) {
+        Ok(root) => Cell::new(rt, alloc, opened, places, root),
+        Err(refusal) => Err(refusal),
+    }
+}
+
+// The root of a replica of this name that holds nothing yet.
+fn empty_root<A: Allocator + Copy>(alloc: A, name: Name) -> Result<Root<A>, Refusal>
+    ensures ok { IfOk result (λ root. (store_state root).at ≡ (fresh name).live.at) }
+    ensures err { IfErr result (λ e. e ≡ OutOfMemory) }
+{
     let replica = Replica::new(alloc, name, Fnv1a);
-    let root = match replica.share() {
-        Ok(root) => root,
-        Err(refusal) => return Err(refusal),
-    };
-    let cell = Cell::<Root<A>, NodeEvent<A>, Named<K>, A>::new(rt, alloc, opened, places, root);
-    let (writer, views) = match cell {
-        Ok(made) => made,
-        Err(refusal) => return Err(refusal),
-    };
-    match Owner::new(rt, alloc, replica, writer, views, gate, handle) {
-        Ok(node) => Ok(node),
+    replica.share()
+}
+
+// Shares an object to which nothing happened yet. Where there is no memory, its cell ends.
+// It is of any object, as a check of what holds a replica and a cell grows with the depth of their types.
+fn own<
+    D: Drop,
+    R: Drop,
+    E: Placed,
+    J: Object<D, R, E>,
+    G: Gate + Drop,
+    W: Wait + Drop,
+    A: Allocator + Copy,
+    T: Wait,
+>(
+    rt: &T,
+    alloc: A,
+    object: D,
+    writer: Writer<R, E, J, A>,
+    views: Vec<View<R, E, J, A>, A>,
+    gate: G,
+    handle: W,
+) -> Result<Owner<R, E, J, Shared<D, R, E, J, G, W, A>, A>, Refusal>
+    requires object { J.after object [] }
+    requires writer { writer ≡ [] }
+    requires places { vec_len views ≤ 64 }
+    requires views { views.items ≡ replicate (vec_len views) [] }
+    ensures ok { IfOk result (λ owner. owner ≡ record { taken = 0; free = vec_len views }) }
+    ensures err { IfErr result (λ e. e ≡ OutOfMemory) }
+{
+    match Owner::new(rt, alloc, object, writer, views, gate, handle) {
+        Ok(owner) => Ok(owner),
         Err(back) => {
             let Returned {
                 object: _,
