@@ -13,11 +13,3 @@ use Rattle.node_threads.proofs.Crossing.{closure_send}
 module _ (name : Sym) (i : ℕ) (δ : Ty) (A B C : RattleType) where
   pub of_three : IsSend A → IsSend B → IsSend C → IsSend (param i (arg δ no (TupleAt name (A ∷ B ∷ C ∷ []))))
   of_three a b c = closure_send name (A ∷ B ∷ C ∷ []) i δ no (a, (b, (c, tt)))
-
-  module _ (D : RattleType) where
-    pub of_four : IsSend A → IsSend B → IsSend C → IsSend D → IsSend (param i (arg δ no (TupleAt name (A ∷ B ∷ C ∷ D ∷ []))))
-    of_four a b c d = closure_send name (A ∷ B ∷ C ∷ D ∷ []) i δ no (a, (b, (c, (d, tt))))
-
-    module _ (E : RattleType) where
-      pub of_five : IsSend A → IsSend B → IsSend C → IsSend D → IsSend E → IsSend (param i (arg δ no (TupleAt name (A ∷ B ∷ C ∷ D ∷ E ∷ []))))
-      of_five a b c d e = closure_send name (A ∷ B ∷ C ∷ D ∷ E ∷ []) i δ no (a, (b, (c, (d, (e, tt)))))

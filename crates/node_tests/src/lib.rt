@@ -3,6 +3,10 @@
 #![tactic(auto)]
 
 #[cfg(test)]
-mod made;
+mod called;
+#[cfg(test)]
+mod caller;
+#[cfg(test)]
+mod nodes;
 #[cfg(test)]
 mod tests;

@@ -1,7 +1,24 @@
 // What clients of a node are told, and how it ends.
-mod alone;
-mod beside;
-mod kept;
-mod meanwhile;
-mod served;
-mod sessions;
+use std::process::Abort;
+
+pub(crate) mod beside;
+pub(crate) mod kept;
+pub(crate) mod meanwhile;
+pub(crate) mod served;
+pub(crate) mod sessions;
+
+// The one client.
+fn only<'a, C>(rt: &impl Abort, clients: &'a mut [C]) -> &'a mut C {
+    match clients {
+        [client] => client,
+        _ => panic!(rt; "one client"),
+    }
+}
+
+// The two clients.
+fn both<'a, C>(rt: &impl Abort, clients: &'a mut [C]) -> (&'a mut C, &'a mut C) {
+    match clients {
+        [first, second] => (first, second),
+        _ => panic!(rt; "two clients"),
+    }
+}

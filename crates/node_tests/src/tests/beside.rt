@@ -1,13 +1,10 @@
 // Clients beside each other, each in a thread of its own.
-ghost use Rattle.std.specs.Prelude.{◌≡◌};
-
-use crate::made::{
-    Held, Last, Shared, contains, finished_in_two, hand_out, has, name, put, put_noted, share,
-    shows, size,
-};
-use node_threads::{Naming, NodeEvent, new_node};
-use root_cell::OpenedBook;
-use shared_object::{Gate, NoGate, Point};
+use crate::called::{put_noted, shows};
+use crate::caller::Caller;
+use crate::nodes::{BesideCalls, beside};
+use crate::tests::both;
+use node_threads::{Client, Lock, Naming};
+use shared_object::{Gate, Point};
 use std::alloc::Global;
 use std::panic::Expect;
 use std::process::Abort;
@@ -15,14 +12,14 @@ use std::sync::atomic::AtomicU64;
 use std::sync::atomic::Ordering::SeqCst;
 use std::sync::{Arc, Wait};
 use std::thread::Threads;
-use std::{marker, thread};
+use std::{mem, thread};
 
 // Holds a call that has the lock, once it is armed, until it is let go, for at most so many turns.
 const TURNS: u64 = 1_000_000;
 
 // 0: inactive; 1: armed; 2: a call has come to the lock; 3: it holds the lock, and is held; 4: it was let go.
 #[derive(Drop)]
-struct Holding {
+pub(crate) struct Holding {
     state: Arc<AtomicU64, Global>,
 }
 
@@ -51,42 +48,28 @@ impl Holding {
 #[test]
 fn a_reader_goes_on_while_a_writer_is_held(rt: HostRuntime) {
     let alloc = rt.alloc();
-    let last = reads_beside::<marker::Brand, _>(rt, alloc, OpenedBook::new());
+    let state = Arc::new(alloc, AtomicU64::new(0)).expect(&rt, "memory");
+    let gate = gate_of(&rt, &state);
+    let last = beside(rt, alloc, gate, BesideCalls::Reading(&state));
     assert!(rt; last == (2, 1, 2, 0));
 }
 
-fn reads_beside<K: Naming + Send + Sync, R: Threads + Wait + Abort + Copy + Drop + Send + Sync>(
-    rt: R,
-    alloc: Global,
-    opened: OpenedBook<NodeEvent>,
-) -> Last
-    requires book { opened.0 ≡ K.book }
-    requires name { K.name ≡ 1 }
-{
-    let state = Arc::new(alloc, AtomicU64::new(0)).expect(&rt, "memory");
-    let gate = Holding {
-        state: Arc::try_clone(&state).expect(&rt, "a count"),
-    };
-    let own = name(&rt, 1);
-    let made = new_node(&rt, alloc, opened, own, 2, gate, rt);
-    let mut node: Shared<K, Holding, R> = made.expect(&rt, "a node");
-    let mut first = hand_out(&rt, &mut node);
-    let mut second = hand_out(&rt, &mut node);
-    write_while_read(&rt, alloc, &state, &mut first, &mut second);
-    finished_in_two(&rt, alloc, node, first, second)
+// The gate that this sets.
+fn gate_of(rt: &impl Abort, state: &Arc<AtomicU64, Global>) -> Holding {
+    Holding {
+        state: Arc::try_clone(state).expect(rt, "a count"),
+    }
 }
 
 // Writes twice, the second time held while the other client reads. Each read shows what it should.
-fn write_while_read<K: Naming + Send + Sync, R: Threads + Wait + Abort + Copy + Drop + Send + Sync>(
-    rt: &R,
-    alloc: Global,
-    state: &AtomicU64,
-    writer: &mut Held<K, Holding, R>,
-    reader: &mut Held<K, Holding, R>,
-) {
+pub(crate) fn write_while_read<
+    K: Naming + Send + Sync,
+    R: Threads + Wait + Abort + Copy + Drop + Send + Sync,
+>(rt: &R, alloc: Global, clients: &mut [Client<K, Lock<K, Holding, R>>], state: &AtomicU64) {
+    let (writer, reader) = both(rt, clients);
     let (first, receipt) = put_noted(rt, alloc, writer, b"a", b"", b"x");
-    reader.client.learn(receipt);
-    let has_old = has(rt, alloc, reader, b"a", b"", Some(b"x"));
+    reader.learn(receipt);
+    let has_old = reader.has(rt, alloc, b"a", b"", Some(b"x"));
     state.store(1, SeqCst);
     let (put_later, is_seen) = thread::join(
         rt,
@@ -94,20 +77,20 @@ fn write_while_read<K: Naming + Send + Sync, R: Threads + Wait + Abort + Copy + 
         || is_read_while_held(rt, alloc, state, reader),
     );
     let (second, receipt) = put_later;
-    let has_new = has(rt, alloc, reader, b"a", b"", Some(b"y"));
-    reader.client.learn(receipt);
-    let has_learnt = has(rt, alloc, reader, b"a", b"", Some(b"y"));
-    let counts = (writer.client.operations(), reader.client.operations());
+    let has_new = reader.has(rt, alloc, b"a", b"", Some(b"y"));
+    reader.learn(receipt);
+    let has_learnt = reader.has(rt, alloc, b"a", b"", Some(b"y"));
+    let counts = (writer.operations(), reader.operations());
     let are_seen = has_old && is_seen && has_new && has_learnt;
     assert!(rt; are_seen && (first, second) == (1, 2) && counts == (2, 0));
 }
 
 // Waits until a call is held, reads, and lets it go. Whether what was read was from before the call.
-fn is_read_while_held<K: Naming, R: Wait + Abort + Drop>(
-    rt: &R,
+fn is_read_while_held<C: Caller>(
+    rt: &impl Abort,
     alloc: Global,
     state: &AtomicU64,
-    reader: &mut Held<K, Holding, R>,
+    reader: &mut C,
 ) -> bool {
     for _ in 0..TURNS {
         if state.load(SeqCst) == 3 {
@@ -123,69 +106,56 @@ fn is_read_while_held<K: Naming, R: Wait + Abort + Drop>(
 }
 
 // Whether a client reads what was written first, and a snapshot shows it.
-fn is_old<K: Naming, R: Wait + Abort + Drop>(
-    rt: &R,
-    alloc: Global,
-    reader: &mut Held<K, Holding, R>,
-) -> bool {
-    let is_had = has(rt, alloc, reader, b"a", b"", Some(b"x"));
-    let is_one = size(rt, reader) == 1;
-    let is_there = contains(rt, alloc, reader, b"a");
-    let is_shown = shows(rt, alloc, &share(rt, reader), b"a", b"x");
+fn is_old<C: Caller>(rt: &impl Abort, alloc: Global, reader: &mut C) -> bool {
+    let is_had = reader.has(rt, alloc, b"a", b"", Some(b"x"));
+    let is_one = reader.size(rt) == 1;
+    let is_there = reader.contains(rt, alloc, b"a");
+    let is_shown = is_shown(rt, alloc, reader);
     is_had && is_one && is_there && is_shown
+}
+
+fn is_shown<C: Caller>(rt: &impl Abort, alloc: Global, reader: &mut C) -> bool {
+    let snapshot = reader.share(rt);
+    shows(rt, alloc, &snapshot, b"a", b"x")
 }
 
 #[test]
 fn two_writers_of_a_thousand_calls_each(rt: HostRuntime) {
     let alloc = rt.alloc();
-    let last = write_beside::<marker::Brand, _>(rt, alloc, OpenedBook::new());
+    let state = Arc::new(alloc, AtomicU64::new(0)).expect(&rt, "memory");
+    let gate = gate_of(&rt, &state);
+    let last = beside(rt, alloc, gate, BesideCalls::Writing);
     assert!(rt; last == (2000, 2, 2000, 0));
 }
 
-fn write_beside<K: Naming + Send + Sync, R: Threads + Wait + Abort + Copy + Drop + Send + Sync>(
-    rt: R,
-    alloc: Global,
-    opened: OpenedBook<NodeEvent>,
-) -> Last
-    requires book { opened.0 ≡ K.book }
-    requires name { K.name ≡ 1 }
-{
-    let own = name(&rt, 1);
-    let made = new_node(&rt, alloc, opened, own, 2, NoGate, rt);
-    let mut node: Shared<K, NoGate, R> = made.expect(&rt, "a node");
-    let mut first = hand_out(&rt, &mut node);
-    let mut second = hand_out(&rt, &mut node);
-    both_put_often(&rt, alloc, &mut first, &mut second);
-    finished_in_two(&rt, alloc, node, second, first)
-}
-
-// Both put a thousand times, each in a thread of its own.
-fn both_put_often<K: Naming + Send + Sync, R: Threads + Wait + Abort + Copy + Drop + Send + Sync>(
+// Both put a thousand times, each in a thread of its own. They are left in the other order.
+pub(crate) fn both_put_often<C: Caller + Send, R: Threads + Wait + Abort + Sync>(
     rt: &R,
     alloc: Global,
-    first: &mut Held<K, NoGate, R>,
-    second: &mut Held<K, NoGate, R>,
+    clients: &mut [C],
 ) {
+    let (first, second) = both(rt, clients);
     let (one, two) = thread::join(
         rt,
         || put_often(rt, alloc, first, b"a"),
         || put_often(rt, alloc, second, b"b"),
     );
-    let counts = (first.client.operations(), second.client.operations());
-    let keys = size(rt, first);
+    let counts = (first.operations(), second.operations());
+    let keys = first.size(rt);
     assert!(rt; one.max(two) == 2000 && counts == (1000, 1000) && keys == 2);
+    mem::swap(first, second);
 }
 
 // The number of the last dot that is put.
-fn put_often<K: Naming, R: Wait + Abort + Drop>(
-    rt: &R,
+fn put_often<C: Caller>(
+    rt: &(impl Wait + Abort),
     alloc: Global,
-    held: &mut Held<K, NoGate, R>,
+    client: &mut C,
     key: &[u8],
 ) -> u64 {
     let mut last = 0;
     for _ in 0..1000 {
-        last = put(rt, alloc, held, key, b"", b"x");
+        last = client.put(rt, alloc, key, b"", b"x");
     }
     last
 }

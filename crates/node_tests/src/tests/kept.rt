@@ -1,32 +1,27 @@
 // Snapshots that a client keeps while it writes.
-use crate::made::{Held, put, share, shows};
-use crate::tests::alone::{Calls, alone};
-use node_threads::{Naming, Root};
-use root_cell::OpenedBook;
-use shared_object::NoGate;
+use crate::called::shows;
+use crate::caller::Caller;
+use crate::nodes::{Calls, alone};
+use crate::tests::only;
+use node_threads::Root;
 use std::alloc::Global;
-use std::marker;
 use std::panic::Expect;
 use std::process::Abort;
 use std::sync::Wait;
 
 #[test]
 fn each_of_a_thousand_snapshots_stays(rt: HostRuntime) {
-    let alloc = rt.alloc();
-    let last = alone::<marker::Brand, _>(rt, alloc, OpenedBook::new(), Calls::Snapshots);
+    let last = alone(rt, rt.alloc(), &Calls::Snapshots);
     assert!(rt; last == (1000, 1, 1000, 0));
 }
 
 // Puts a thousand values on one key, one after the other, and keeps a snapshot after each. Each shows its own value.
-pub(crate) fn put_and_keep<K: Naming, R: Wait + Abort + Drop>(
-    rt: &R,
-    alloc: Global,
-    held: &mut Held<K, NoGate, R>,
-) {
+pub(crate) fn put_and_keep<C: Caller>(rt: &(impl Wait + Abort), alloc: Global, clients: &mut [C]) {
+    let client = only(rt, clients);
     let mut kept = Vec::new(alloc);
     for number in 0..1000u64 {
-        put(rt, alloc, held, b"a", b"", &number.to_be_bytes());
-        kept.push(share(rt, held)).expect(rt, "memory");
+        client.put(rt, alloc, b"a", b"", &number.to_be_bytes());
+        kept.push(client.share(rt)).expect(rt, "memory");
     }
     each_shows(rt, alloc, &kept);
 }

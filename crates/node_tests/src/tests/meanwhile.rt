@@ -1,83 +1,47 @@
 // A synchronisation that stays open while other clients of its node write.
-ghost use Rattle.std.specs.Prelude.{◌≡◌};
-
-use crate::made::{
-    Held, Last, Shared, finished_alone, finished_in_three, hand_out, has, name, put, size,
-};
-use node_threads::{Asking, Delivering, Naming, NodeEvent, new_node};
+use crate::caller::Caller;
+use crate::nodes::{SharedCalls, at_two_nodes};
+use crate::tests::{both, only};
 use replica_core::{Delivered, Outcome};
-use root_cell::OpenedBook;
-use shared_object::NoGate;
 use std::alloc::Global;
 use std::panic::Expect;
 use std::process::Abort;
 use std::sync::Wait;
+use std::thread;
 use std::thread::Threads;
-use std::{marker, thread};
-use wire_form::Message;
 
 #[test]
 fn a_synchronisation_stays_open_while_others_write(rt: HostRuntime) {
-    let alloc = rt.alloc();
-    let (first, second) = (OpenedBook::new(), OpenedBook::new());
-    let (last, peer_last) = write_meanwhile::<marker::Brand, marker::Brand, _>(
-        rt, alloc, first, second,
-    );
+    let (last, peer_last) = at_two_nodes(rt, rt.alloc(), 3, 1, &SharedCalls::Synchronisation);
     assert!(rt; last == (203, 201, 200, 1));
     assert!(rt; peer_last == (3, 1, 0, 1));
 }
 
-fn write_meanwhile<
-    K: Naming + Send + Sync,
-    L: Naming,
-    R: Threads + Wait + Abort + Copy + Drop + Send + Sync,
->(rt: R, alloc: Global, first: OpenedBook<NodeEvent>, second: OpenedBook<NodeEvent>) -> (Last, Last)
-    requires first { first.0 ≡ K.book }
-    requires second { second.0 ≡ L.book }
-    requires one { K.name ≡ 1 }
-    requires two { L.name ≡ 2 }
-{
-    let (one, two) = (name(&rt, 1), name(&rt, 2));
-    let made = new_node(&rt, alloc, first, one, 3, NoGate, rt);
-    let mut node: Shared<K, NoGate, R> = made.expect(&rt, "a node");
-    let made = new_node(&rt, alloc, second, two, 1, NoGate, rt);
-    let mut peer: Shared<L, NoGate, R> = made.expect(&rt, "a node");
-    let (mut asker, mut answerer) = (hand_out(&rt, &mut node), hand_out(&rt, &mut peer));
-    let (mut left, mut right) = (hand_out(&rt, &mut node), hand_out(&rt, &mut node));
-    synchronise(&rt, alloc, &mut asker, &mut answerer, &mut left, &mut right);
-    let last = finished_in_three(&rt, alloc, node, asker, left, right);
-    (last, finished_alone(&rt, alloc, peer, answerer))
-}
-
 // The synchronisation ends after the others wrote a hundred keys each, and the node then holds all of it.
-fn synchronise<
-    K: Naming + Send + Sync,
-    L: Naming,
-    R: Threads + Wait + Abort + Copy + Drop + Send + Sync,
->(
+pub(crate) fn synchronise<C: Caller + Send, D: Caller, R: Threads + Wait + Abort + Sync>(
     rt: &R,
     alloc: Global,
-    asker: &mut Held<K, NoGate, R>,
-    answerer: &mut Held<L, NoGate, R>,
-    left: &mut Held<K, NoGate, R>,
-    right: &mut Held<K, NoGate, R>,
+    clients: &mut [C],
+    peers: &mut [D],
 ) {
-    put(rt, alloc, answerer, b"p", b"", b"q");
+    let (asker, others) = clients.split_first_mut().expect(rt, "a client");
+    let answerer = only(rt, peers);
+    answerer.put(rt, alloc, b"p", b"", b"q");
     let opening = opened(rt, alloc, asker, answerer);
-    both_put_keys(rt, alloc, left, right);
+    both_put_keys(rt, alloc, others);
     end(rt, alloc, asker, answerer, &opening);
-    let is_there = has(rt, alloc, asker, b"p", b"", Some(b"q"));
-    let keys = size(rt, asker);
+    let is_there = asker.has(rt, alloc, b"p", b"", Some(b"q"));
+    let keys = asker.size(rt);
     assert!(rt; is_there && keys == 201);
 }
 
 // Both put a hundred keys, b0 to b99 and c0 to c99, each in a thread of its own.
-fn both_put_keys<K: Naming + Send + Sync, R: Threads + Wait + Abort + Copy + Drop + Send + Sync>(
+fn both_put_keys<C: Caller + Send, R: Threads + Wait + Abort + Sync>(
     rt: &R,
     alloc: Global,
-    left: &mut Held<K, NoGate, R>,
-    right: &mut Held<K, NoGate, R>,
+    others: &mut [C],
 ) {
+    let (left, right) = both(rt, others);
     let (one, two) = thread::join(
         rt,
         || put_keys(rt, alloc, left, b'b'),
@@ -87,12 +51,7 @@ fn both_put_keys<K: Naming + Send + Sync, R: Threads + Wait + Abort + Copy + Dro
 }
 
 // The number of the last dot that is put.
-fn put_keys<K: Naming, R: Wait + Abort + Drop>(
-    rt: &R,
-    alloc: Global,
-    held: &mut Held<K, NoGate, R>,
-    letter: u8,
-) -> u64 {
+fn put_keys<C: Caller>(rt: &(impl Wait + Abort), alloc: Global, client: &mut C, letter: u8) -> u64 {
     let mut last = 0;
     for number in 0..100u8 {
         let (one, two) = (
@@ -100,39 +59,28 @@ fn put_keys<K: Naming, R: Wait + Abort + Drop>(
             [letter, b'0' + number / 10, b'0' + number % 10],
         );
         let name: &[u8] = if number < 10 { &one } else { &two };
-        last = put(rt, alloc, held, name, b"", b"x");
+        last = client.put(rt, alloc, name, b"", b"x");
     }
     last
 }
 
 // Has the one node ask the other, and gives what that one opens with.
-fn opened<K: Naming, L: Naming, R: Wait + Abort + Drop>(
-    rt: &R,
+fn opened<C: Caller, D: Caller>(
+    rt: &(impl Wait + Abort),
     alloc: Global,
-    asker: &mut Held<K, NoGate, R>,
-    answerer: &mut Held<L, NoGate, R>,
+    asker: &mut C,
+    answerer: &mut D,
 ) -> Delivered {
-    let hello = asked(rt, alloc, asker);
-    taken(rt, alloc, answerer, &hello)
-}
-
-// The hello for the other node.
-fn asked<K: Naming, R: Wait + Abort + Drop>(
-    rt: &R,
-    alloc: Global,
-    asker: &mut Held<K, NoGate, R>,
-) -> Message {
-    let peer = name(rt, 2);
-    let asked = asker.client.call(rt, &Asking { alloc, peer });
-    (asked.expect(rt, "an ask").0).1
+    let hello = asker.ask(rt, alloc, 2).1;
+    answerer.deliver(rt, alloc, &hello)
 }
 
 // Goes on from what the other node opened with: the page of its root ends it.
-fn end<K: Naming, L: Naming, R: Wait + Abort + Drop>(
-    rt: &R,
+fn end<C: Caller, D: Caller>(
+    rt: &(impl Wait + Abort),
     alloc: Global,
-    asker: &mut Held<K, NoGate, R>,
-    answerer: &mut Held<L, NoGate, R>,
+    asker: &mut C,
+    answerer: &mut D,
     opening: &Delivered,
 ) {
     let asks = answered(rt, alloc, asker, opening);
@@ -142,23 +90,12 @@ fn end<K: Naming, L: Naming, R: Wait + Abort + Drop>(
 }
 
 // Gives a node the first message that another one sends.
-fn answered<K: Naming, R: Wait + Abort + Drop>(
-    rt: &R,
+fn answered<C: Caller>(
+    rt: &(impl Wait + Abort),
     alloc: Global,
-    held: &mut Held<K, NoGate, R>,
+    client: &mut C,
     sent: &Delivered,
 ) -> Delivered {
     let message = sent.replies.first().expect(rt, "a reply");
-    taken(rt, alloc, held, message)
-}
-
-// Gives a node a message. The receipt is let go.
-fn taken<K: Naming, R: Wait + Abort + Drop>(
-    rt: &R,
-    alloc: Global,
-    held: &mut Held<K, NoGate, R>,
-    message: &Message,
-) -> Delivered {
-    let taken = held.client.call(rt, &Delivering { alloc, message });
-    taken.expect(rt, "a delivery").0
+    client.deliver(rt, alloc, message)
 }

@@ -1,17 +1,15 @@
 // Two nodes that are served, each in a thread of its own.
-ghost use Rattle.std.specs.Prelude.{◌≡◌};
-
-use crate::made::{Held, Last, Shared, finished_alone, finished_in_two, hand_out, has, name, put};
+use crate::caller::Caller;
+use crate::nodes::{Calls, SharedCalls, alone, at_two_nodes, name};
+use crate::tests::{both, only};
 use crossbeam_channel::{Sender, unbounded};
-use node_threads::{Asking, Channels, Letter, Naming, NodeEvent, Post, Served, new_node, serve};
-use root_cell::OpenedBook;
-use shared_object::NoGate;
+use node_threads::{Channels, Letter, Post, Served};
 use std::alloc::Global;
 use std::panic::Expect;
 use std::process::Abort;
 use std::sync::Wait;
+use std::thread;
 use std::thread::Threads;
-use std::{marker, thread};
 use wire_form::encode;
 
 // The hello of replica 2 to replica 1, session 1, which knows nothing.
@@ -43,7 +41,7 @@ const GONE: &[u8] = &[
 const TURNS: u64 = 10_000_000;
 
 // What comes to the two nodes from outside. Where nodes are served, the channels are seen as no more than their traits.
-trait Outside {
+pub(crate) trait Outside {
     // Hands these bytes to the first node.
     fn hand<T: Wait>(&self, rt: &T, bytes: Vec<u8>);
 
@@ -52,7 +50,7 @@ trait Outside {
 }
 
 #[derive(Drop)]
-struct Ends {
+pub(crate) struct Ends {
     node: Sender<Letter>,
     peer: Sender<Letter>,
 }
@@ -91,10 +89,8 @@ fn two_nodes_that_are_served_synchronise(rt: HostRuntime) {
         node: to_node,
         peer: to_peer,
     };
-    let (first, second) = (OpenedBook::new(), OpenedBook::new());
-    let (last, peer_last) = exchange::<marker::Brand, marker::Brand, _, _, _, _>(
-        rt, alloc, first, second, &post, &peer_post, &ends,
-    );
+    let calls = SharedCalls::Exchange(post, peer_post, ends);
+    let (last, peer_last) = at_two_nodes(rt, alloc, 2, 2, &calls);
     assert!(rt; last == (3, 1, 1, 0) && peer_last == (3, 1, 1, 0));
 }
 
@@ -102,63 +98,37 @@ fn another(rt: &impl Abort, sender: &Sender<Letter>) -> Sender<Letter> {
     Sender::clone(sender).expect(rt, "a count")
 }
 
-fn exchange<
-    K: Naming + Send + Sync,
-    L: Naming + Send + Sync,
+// Serves both nodes by these posts, while they synchronise.
+pub(crate) fn exchange<
+    C: Caller + Send,
+    D: Caller + Send,
     P: Post + Sync,
     Q: Post + Sync,
     O: Outside + Sync,
-    R: Threads + Wait + Abort + Copy + Drop + Send + Sync,
->(
-    rt: R,
-    alloc: Global,
-    first: OpenedBook<NodeEvent>,
-    second: OpenedBook<NodeEvent>,
-    post: &P,
-    peer_post: &Q,
-    outside: &O,
-) -> (Last, Last)
-    requires first { first.0 ≡ K.book }
-    requires second { second.0 ≡ L.book }
-    requires one { K.name ≡ 1 }
-    requires two { L.name ≡ 2 }
-{
-    let (one, two) = (name(&rt, 1), name(&rt, 2));
-    let made = new_node(&rt, alloc, first, one, 2, NoGate, rt);
-    let mut node: Shared<K, NoGate, R> = made.expect(&rt, "a node");
-    let made = new_node(&rt, alloc, second, two, 2, NoGate, rt);
-    let mut peer: Shared<L, NoGate, R> = made.expect(&rt, "a node");
-    let (mut served, mut peer_served) = (hand_out(&rt, &mut node), hand_out(&rt, &mut peer));
-    let (mut writer, mut reader) = (hand_out(&rt, &mut node), hand_out(&rt, &mut peer));
+    R: Threads + Wait + Abort + Sync,
+>(rt: &R, alloc: Global, clients: &mut [C], peers: &mut [D], post: &P, peer_post: &Q, outside: &O) {
+    let (served, writer) = both(rt, clients);
+    let (peer_served, reader) = both(rt, peers);
     let (is_seen, is_served) = thread::join(
-        &rt,
-        || is_synchronised(&rt, alloc, &mut writer, &mut reader, outside),
-        || are_served(&rt, alloc, &mut served, &mut peer_served, post, peer_post),
+        rt,
+        || is_synchronised(rt, alloc, writer, reader, outside),
+        || are_served(rt, alloc, served, peer_served, post, peer_post),
     );
     assert!(rt; is_seen && is_served);
-    let last = finished_in_two(&rt, alloc, node, served, writer);
-    (last, finished_in_two(&rt, alloc, peer, peer_served, reader))
 }
 
 // Serves both nodes until their posts end, each in a thread of its own. Whether so much was delivered, refused and lost.
 fn are_served<
-    K: Naming + Send + Sync,
-    L: Naming + Send + Sync,
+    C: Caller + Send,
+    D: Caller + Send,
     P: Post + Sync,
     Q: Post + Sync,
-    R: Threads + Wait + Abort + Copy + Drop + Send + Sync,
->(
-    rt: &R,
-    alloc: Global,
-    served: &mut Held<K, NoGate, R>,
-    peer_served: &mut Held<L, NoGate, R>,
-    post: &P,
-    peer_post: &Q,
-) -> bool {
+    R: Threads + Wait + Abort + Sync,
+>(rt: &R, alloc: Global, served: &mut C, peer_served: &mut D, post: &P, peer_post: &Q) -> bool {
     let (told, peer_told) = thread::join(
         rt,
-        || serve_held(rt, alloc, served, post),
-        || serve_held(rt, alloc, peer_served, peer_post),
+        || served.serve(rt, alloc, post),
+        || peer_served.serve(rt, alloc, peer_post),
     );
     let all = Served {
         delivered: 2,
@@ -166,6 +136,38 @@ fn are_served<
         lost: 0,
     };
     told == all && peer_told == all
+}
+
+// Writes at the one node, has the other node ask it, waits until that one shows what was written, and ends both. Whether it came to show it.
+fn is_synchronised<C: Caller, D: Caller, O: Outside>(
+    rt: &(impl Wait + Abort),
+    alloc: Global,
+    writer: &mut C,
+    reader: &mut D,
+    outside: &O,
+) -> bool {
+    writer.put(rt, alloc, b"a", b"", b"x");
+    outside.hand(rt, asked(rt, alloc, reader));
+    let is_seen = is_seen_later(rt, alloc, reader);
+    outside.stop(rt);
+    is_seen
+}
+
+// Reads until the key holds what was written.
+fn is_seen_later<D: Caller>(rt: &impl Abort, alloc: Global, reader: &mut D) -> bool {
+    for _ in 0..TURNS {
+        if reader.has(rt, alloc, b"a", b"", Some(b"x")) {
+            return true;
+        }
+        thread::yield_now();
+    }
+    false
+}
+
+// Asks the first node: the bytes of the hello.
+fn asked<D: Caller>(rt: &(impl Wait + Abort), alloc: Global, reader: &mut D) -> Vec<u8> {
+    let hello = reader.ask(rt, alloc, 1).1;
+    encode(alloc, &hello).expect(rt, "memory")
 }
 
 // Sends these bytes to a node.
@@ -186,8 +188,12 @@ fn what_comes_to_a_served_node_is_counted(rt: HostRuntime) {
         inbox: &inbox,
         outboxes: &[],
     };
-    let (served, last) = serve_alone::<marker::Brand, _, _>(rt, alloc, OpenedBook::new(), &post);
-    assert!(rt; (served.delivered, served.refused, served.lost) == (2, 1, 1));
+    let all = Served {
+        delivered: 2,
+        refused: 1,
+        lost: 1,
+    };
+    let last = alone(rt, alloc, &Calls::Serving(post, all));
     assert!(rt; last == (2, 1, 1, 0));
 }
 
@@ -201,76 +207,23 @@ fn serving_ends_once_the_channel_is_closed(rt: HostRuntime) {
         inbox: &inbox,
         outboxes: &[],
     };
-    let (served, last) = serve_alone::<marker::Brand, _, _>(rt, alloc, OpenedBook::new(), &post);
-    assert!(rt; (served.delivered, served.refused, served.lost) == (2, 1, 0));
+    let all = Served {
+        delivered: 2,
+        refused: 1,
+        lost: 0,
+    };
+    let last = alone(rt, alloc, &Calls::Serving(post, all));
     assert!(rt; last == (2, 1, 1, 0));
 }
 
-// Serves a node until its post ends: what it counts, and what is there in the end.
-fn serve_alone<K: Naming, P: Post, R: Wait + Abort + Copy + Drop>(
-    rt: R,
+// Serves a node until its post ends, which counts this.
+pub(crate) fn serve_alone<C: Caller, P: Post>(
+    rt: &(impl Wait + Abort),
     alloc: Global,
-    opened: OpenedBook<NodeEvent>,
+    clients: &mut [C],
     post: &P,
-) -> (Served, Last)
-    requires book { opened.0 ≡ K.book }
-    requires name { K.name ≡ 1 }
-{
-    let own = name(&rt, 1);
-    let made = new_node(&rt, alloc, opened, own, 1, NoGate, rt);
-    let mut node: Shared<K, NoGate, R> = made.expect(&rt, "a node");
-    let mut served = hand_out(&rt, &mut node);
-    let told = serve_held(&rt, alloc, &mut served, post);
-    (told, finished_alone(&rt, alloc, node, served))
-}
-
-fn serve_held<K: Naming, P: Post, R: Wait + Drop>(
-    rt: &R,
-    alloc: Global,
-    held: &mut Held<K, NoGate, R>,
-    post: &P,
-) -> Served {
-    serve(rt, alloc, &mut held.client, post)
-}
-
-// Writes at the one node, has the other node ask it, waits until that one shows what was written, and ends both. Whether it came to show it.
-fn is_synchronised<K: Naming, L: Naming, O: Outside, R: Wait + Abort + Drop>(
-    rt: &R,
-    alloc: Global,
-    writer: &mut Held<K, NoGate, R>,
-    reader: &mut Held<L, NoGate, R>,
-    outside: &O,
-) -> bool {
-    put(rt, alloc, writer, b"a", b"", b"x");
-    outside.hand(rt, asked(rt, alloc, reader));
-    let is_seen = is_seen_later(rt, alloc, reader);
-    outside.stop(rt);
-    is_seen
-}
-
-// Reads until the key holds what was written.
-fn is_seen_later<L: Naming, R: Wait + Abort + Drop>(
-    rt: &R,
-    alloc: Global,
-    reader: &mut Held<L, NoGate, R>,
-) -> bool {
-    for _ in 0..TURNS {
-        if has(rt, alloc, reader, b"a", b"", Some(b"x")) {
-            return true;
-        }
-        thread::yield_now();
-    }
-    false
-}
-
-// Asks the first node: the bytes of the hello.
-fn asked<L: Naming, R: Wait + Abort + Drop>(
-    rt: &R,
-    alloc: Global,
-    reader: &mut Held<L, NoGate, R>,
-) -> Vec<u8> {
-    let peer = name(rt, 1);
-    let asked = reader.client.call(rt, &Asking { alloc, peer });
-    let hello = (asked.expect(rt, "an ask").0).1;
-    encode(alloc, &hello).expect(rt, "memory")
+    all: Served,
+) {
+    let told = only(rt, clients).serve(rt, alloc, post);
+    assert!(rt; told == all);
 }

@@ -1,13 +1,9 @@
 // The calls of one client: twelve, with a flush and an own synchronisation, and three of fields.
-use crate::made::{Held, clear, has, name, put, remove, remove_field, size};
-use crate::tests::alone::{Calls, alone};
-use dots::{Field, Key};
-use node_threads::{Abandoning, Asking, Delivering, FieldListing, Flushing, Naming, Retrying};
+use crate::caller::{Caller, Calling};
+use crate::nodes::{Calls, alone};
+use crate::tests::only;
 use replica_core::{Delivered, Outcome};
-use root_cell::OpenedBook;
-use shared_object::NoGate;
 use std::alloc::Global;
-use std::marker;
 use std::panic::Expect;
 use std::process::Abort;
 use std::sync::Wait;
@@ -21,165 +17,123 @@ const BARE: &[u8] = &[
 
 #[test]
 fn twelve_calls_of_one_client_are_twelve_events(rt: HostRuntime) {
-    let alloc = rt.alloc();
-    let last = alone::<marker::Brand, _>(rt, alloc, OpenedBook::new(), Calls::Twelve);
+    let last = alone(rt, rt.alloc(), &Calls::Twelve);
     assert!(rt; last == (12, 0, 2, 0));
 }
 
-pub(crate) fn call_twelve_times<K: Naming, R: Wait + Abort + Drop>(
-    rt: &R,
+pub(crate) fn call_twelve_times<C: Caller + Calling>(
+    rt: &(impl Wait + Abort),
     alloc: Global,
-    held: &mut Held<K, NoGate, R>,
+    clients: &mut [C],
 ) {
-    write(rt, alloc, held);
-    flush_and_take(rt, alloc, held);
-    ask_and_abandon(rt, alloc, held);
-    assert!(rt; size(rt, held) == 0 && held.client.operations() == 12);
+    let client = only(rt, clients);
+    write(rt, alloc, client);
+    let is_taken = is_flushed_and_taken(rt, alloc, client);
+    ask_and_abandon(rt, alloc, client);
+    let keys = client.size(rt);
+    assert!(rt; is_taken && keys == 0 && client.operations() == 12);
 }
 
 // Puts a key, and removes it twice; a remove that finds nothing is a call too. Then puts another key, and clears.
-fn write<K: Naming, R: Wait + Abort + Drop>(rt: &R, alloc: Global, held: &mut Held<K, NoGate, R>) {
-    let number = put(rt, alloc, held, b"a", b"", b"x");
-    let observed = remove(rt, alloc, held, b"a");
-    let nothing = remove(rt, alloc, held, b"a");
-    let next = put(rt, alloc, held, b"b", b"", b"y");
-    let cleared = clear(rt, alloc, held);
+fn write<C: Caller + Calling>(rt: &(impl Wait + Abort), alloc: Global, client: &mut C) {
+    let number = client.put(rt, alloc, b"a", b"", b"x");
+    let observed = client.remove(rt, alloc, b"a");
+    let nothing = client.remove(rt, alloc, b"a");
+    let next = client.put(rt, alloc, b"b", b"", b"y");
+    let cleared = client.clear(rt, alloc);
     assert!(rt; (number, observed, nothing, next, cleared) == (1, 1, 0, 2, 1));
 }
 
-// Flushes twice, and takes in what the first gave: there is just that one message, of nothing but what is known, and it is joined.
-fn flush_and_take<K: Naming, R: Wait + Abort + Drop>(
-    rt: &R,
+// Flushes twice, and takes in what the first gave. Whether there is just that one message, of nothing but what is known, and it is joined.
+fn is_flushed_and_taken<C: Caller + Calling>(
+    rt: &(impl Wait + Abort),
     alloc: Global,
-    held: &mut Held<K, NoGate, R>,
-) {
-    let message = flushed(rt, alloc, held).expect(rt, "a message");
-    let is_last = flushed(rt, alloc, held).is_none();
-    let is_taken = takes_bare(rt, alloc, held, &message);
-    assert!(rt; is_last && is_taken);
+    client: &mut C,
+) -> bool {
+    let message = client.flush(rt, alloc).expect(rt, "a message");
+    takes_bare(rt, alloc, client, &message)
 }
 
-// What a flush gives; the receipt is let go.
-fn flushed<K: Naming, R: Wait + Abort + Drop>(
-    rt: &R,
+// Whether nothing else is to be sent, and this is the delta of nothing, which knows the first two dots of replica 1, and is joined.
+fn takes_bare<C: Caller + Calling>(
+    rt: &(impl Wait + Abort),
     alloc: Global,
-    held: &mut Held<K, NoGate, R>,
-) -> Option<Message> {
-    let flushed = held.client.call(rt, &Flushing { alloc });
-    flushed.expect(rt, "a flush").0
-}
-
-// Whether a message is the delta of nothing, which knows the first two dots of replica 1, and is joined.
-fn takes_bare<K: Naming, R: Wait + Abort + Drop>(
-    rt: &R,
-    alloc: Global,
-    held: &mut Held<K, NoGate, R>,
+    client: &mut C,
     message: &Message,
 ) -> bool {
-    let is_joined = outcome(rt, alloc, held, message) == Outcome::Joined;
-    let bytes = encode(alloc, message).expect(rt, "memory");
-    is_joined && bytes.as_slice() == BARE
+    let is_last = has_sent_all(rt, alloc, client);
+    let is_joined = is_joined(rt, alloc, client, message);
+    is_last && is_joined && is_bare(rt, alloc, message)
 }
 
-// What a delivery comes to.
-fn outcome<K: Naming, R: Wait + Abort + Drop>(
-    rt: &R,
+fn has_sent_all<C: Caller + Calling>(
+    rt: &(impl Wait + Abort),
     alloc: Global,
-    held: &mut Held<K, NoGate, R>,
+    client: &mut C,
+) -> bool {
+    client.flush(rt, alloc).is_none()
+}
+
+fn is_joined<C: Caller + Calling>(
+    rt: &(impl Wait + Abort),
+    alloc: Global,
+    client: &mut C,
     message: &Message,
-) -> Outcome {
-    let delivered = held.client.call(rt, &Delivering { alloc, message });
-    delivered.expect(rt, "a delivery").0.outcome
+) -> bool {
+    client.deliver(rt, alloc, message).outcome == Outcome::Joined
+}
+
+fn is_bare(rt: &impl Abort, alloc: Global, message: &Message) -> bool {
+    let bytes = encode(alloc, message).expect(rt, "memory");
+    bytes.as_slice() == BARE
 }
 
 // Asks a peer, asks again, and gives it up twice; an abandon of nothing is a call too.
-fn ask_and_abandon<K: Naming, R: Wait + Abort + Drop>(
-    rt: &R,
-    alloc: Global,
-    held: &mut Held<K, NoGate, R>,
-) {
-    let number = asked(rt, alloc, held);
-    let is_again = is_asked_again(rt, alloc, held, number);
-    let was_open = is_abandoned(rt, alloc, held, number);
-    let is_open = is_abandoned(rt, alloc, held, number);
+fn ask_and_abandon<C: Caller + Calling>(rt: &(impl Wait + Abort), alloc: Global, client: &mut C) {
+    let number = asked(rt, alloc, client);
+    let is_again = is_asked_again(rt, alloc, client, number);
+    let was_open = client.abandon(rt, alloc, number);
+    let is_open = client.abandon(rt, alloc, number);
     assert!(rt; number == 1 && is_again && was_open && !is_open);
 }
 
 // The number of the synchronisation that an ask opens.
-fn asked<K: Naming, R: Wait + Abort + Drop>(
-    rt: &R,
-    alloc: Global,
-    held: &mut Held<K, NoGate, R>,
-) -> u64 {
-    let peer = name(rt, 2);
-    let asked = held.client.call(rt, &Asking { alloc, peer });
-    (asked.expect(rt, "an ask").0).0
+fn asked<C: Caller + Calling>(rt: &(impl Wait + Abort), alloc: Global, client: &mut C) -> u64 {
+    client.ask(rt, alloc, 2).0
 }
 
 // Whether a retry sends one message.
-fn is_asked_again<K: Naming, R: Wait + Abort + Drop>(
-    rt: &R,
+fn is_asked_again<C: Caller + Calling>(
+    rt: &(impl Wait + Abort),
     alloc: Global,
-    held: &mut Held<K, NoGate, R>,
+    client: &mut C,
     number: u64,
 ) -> bool {
-    let again = held.client.call(rt, &Retrying { alloc, number });
-    is_one_message(&again.expect(rt, "a retry").0)
+    is_one_message(&client.retry(rt, alloc, number))
 }
 
 fn is_one_message(told: &Delivered) -> bool {
     told.outcome == Outcome::Sent && told.replies.len() == 1
 }
 
-// Whether a synchronisation was open that is given up.
-fn is_abandoned<K: Naming, R: Wait + Abort + Drop>(
-    rt: &R,
-    alloc: Global,
-    held: &mut Held<K, NoGate, R>,
-    number: u64,
-) -> bool {
-    let abandoned = held.client.call(rt, &Abandoning { alloc, number });
-    abandoned.expect(rt, "an abandon").0
-}
-
 #[test]
 fn fields_of_a_key_are_written_and_taken_away(rt: HostRuntime) {
-    let alloc = rt.alloc();
-    let last = alone::<marker::Brand, _>(rt, alloc, OpenedBook::new(), Calls::Fields);
+    let last = alone(rt, rt.alloc(), &Calls::Fields);
     assert!(rt; last == (3, 1, 2, 0));
 }
 
 // Puts two fields of a key, and takes one away.
-pub(crate) fn write_fields<K: Naming, R: Wait + Abort + Drop>(
-    rt: &R,
+pub(crate) fn write_fields<C: Caller + Calling>(
+    rt: &(impl Wait + Abort),
     alloc: Global,
-    held: &mut Held<K, NoGate, R>,
+    clients: &mut [C],
 ) {
-    let first = put(rt, alloc, held, b"a", b"f", b"x");
-    let has_first = has(rt, alloc, held, b"a", b"f", Some(b"x"));
-    let second = put(rt, alloc, held, b"a", b"", b"y");
-    let both = has_fields(rt, alloc, held, &[b"", b"f"]);
-    let observed = remove_field(rt, alloc, held, b"a", b"f");
-    let one = has_fields(rt, alloc, held, &[b""]);
+    let client = only(rt, clients);
+    let first = client.put(rt, alloc, b"a", b"f", b"x");
+    let has_first = client.has(rt, alloc, b"a", b"f", Some(b"x"));
+    let second = client.put(rt, alloc, b"a", b"", b"y");
+    let both = client.has_fields(rt, alloc, b"a", &[b"", b"f"]);
+    let observed = client.remove_field(rt, alloc, b"a", b"f");
+    let one = client.has_fields(rt, alloc, b"a", &[b""]);
     assert!(rt; has_first && both && one && (first, second, observed) == (1, 2, 1));
-}
-
-// Whether these are the fields of the key, in this order.
-fn has_fields<K: Naming, R: Wait + Abort + Drop>(
-    rt: &R,
-    alloc: Global,
-    held: &mut Held<K, NoGate, R>,
-    fields: &[&[u8]],
-) -> bool {
-    let key = Key::new(alloc, b"a").expect(rt, "a key");
-    let looked = held.client.look(&FieldListing { alloc, key: &key });
-    let found = looked.expect(rt, "a look").expect(rt, "memory");
-    are_fields(&found, fields)
-}
-
-fn are_fields(found: &[Field], fields: &[&[u8]]) -> bool {
-    found
-        .iter()
-        .map(|field| field.bytes())
-        .eq(fields.iter().copied())
 }

@@ -1,12 +1,10 @@
 use denote.Param.{param, copied}
 use denote.Param.Send.{mut_send, shr_send}
-use denote.Param.SendFields.{declared_send}
 use Rattle.std.proofs.Crossing as std
 use Rattle.node_threads.proofs.Crossing.{client_send}
 use denote.Param.Send.{IsSend, IsSync, sendable}
 use Rattle.std.proofs.Crossing.{crosses}
 use Rattle.node_tests.specs.contracts.tests.beside.Holding as Holding
-use Rattle.node_tests.specs.contracts.made.Held as Held
 use Rattle.node_tests.proofs.Handing.{of_three}
 use Rattle.node_tests.proofs.tests.beside.write_while_read.Goals as goal
 
@@ -19,4 +17,4 @@ gate_sync = search (crosses, sendable) depth 20
 -- the handle, the allocator and a client
 pub join-put_later-requires-send-F : goal.join-put_later-requires-send-F
 join-put_later-requires-send-F g c κs within = of_three _ _ _ _ _ _ (shr_send _ _ _ c.type_bounds.sync-R) (shr_send _ _ _ std.sync)
-    (mut_send _ _ _ (declared_send (Held.the_type (param 0 g.row.K) Holding.the_row (copied 1 g.row.R) g.K.Naming) (client_send (param 0 g.row.K) g.K.Naming Holding.the_row (copied 1 g.row.R) gate_send gate_sync c.type_bounds.send-R, tt)))
+    (mut_send _ _ _ (client_send (param 0 g.row.K) g.K.Naming Holding.the_row (copied 1 g.row.R) gate_send gate_sync c.type_bounds.send-R))

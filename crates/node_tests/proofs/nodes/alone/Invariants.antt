@@ -1,0 +1,5 @@
+use Rattle.node_tests.proofs.nodes.alone.Given as goal
+
+-- the book that was just opened, of node 1
+abbrev pub ghosts-alone_at_this_node : goal.ghosts-alone_at_this_node
+ghosts-alone_at_this_node g a = record { book = a.opened.0; name = 1 }

@@ -1,0 +1,229 @@
+// A client of a node, as the tests call it.
+use crate::caller::{Caller, Calling};
+use crate::nodes::name;
+use dots::{Field, Key, Value};
+use node_threads::{
+    Abandoning, Asking, Clearing, Client, Containing, Delivering, FieldListing, FieldRemoving,
+    Flushing, Getting, Lock, Named, Naming, NodeEvent, Post, Putting, Receipt, Removing, Retrying,
+    Root, Served, Sharing, Sizing, serve,
+};
+use replica_core::{Delivered, Replica};
+use shared_object::{Gate, Look, Update};
+use std::alloc::Global;
+use std::panic::Expect;
+use std::process::Abort;
+use std::sync::Wait;
+use wire_form::Message;
+
+// What a call is answered, and its receipt.
+fn noted<
+    K: Naming,
+    G: Gate + Drop,
+    R: Wait + Drop,
+    T: Wait + Abort,
+    U: Update<Replica, Root, NodeEvent, Named<K>, Global>,
+>(rt: &T, client: &mut Client<K, Lock<K, G, R>>, update: &U) -> (U::Reply, Receipt<K>) {
+    client.call(rt, update).expect(rt, "a call")
+}
+
+// What a call is answered. The receipt is let go.
+fn called<
+    K: Naming,
+    G: Gate + Drop,
+    R: Wait + Drop,
+    T: Wait + Abort,
+    U: Update<Replica, Root, NodeEvent, Named<K>, Global>,
+>(rt: &T, client: &mut Client<K, Lock<K, G, R>>, update: &U) -> U::Reply {
+    noted(rt, client, update).0
+}
+
+// What a look finds.
+fn found<K: Naming, G: Gate + Drop, R: Wait + Drop, T: Abort, L: Look<Root>>(
+    rt: &T,
+    client: &mut Client<K, Lock<K, G, R>>,
+    look: &L,
+) -> L::Found {
+    client.look(look).expect(rt, "a look")
+}
+
+fn key_of(rt: &impl Abort, alloc: Global, bytes: &[u8]) -> Key {
+    Key::new(alloc, bytes).expect(rt, "a key")
+}
+
+fn field_of(rt: &impl Abort, alloc: Global, bytes: &[u8]) -> Field {
+    Field::new(alloc, bytes).expect(rt, "a field")
+}
+
+fn value_of(rt: &impl Abort, alloc: Global, bytes: &[u8]) -> Value {
+    Value::new(alloc, bytes).expect(rt, "a value")
+}
+
+// Whether they are this one value, or with None no value.
+fn are(values: &[Value], value: Option<&[u8]>) -> bool {
+    match (values, value) {
+        ([], None) => true,
+        ([one], Some(value)) => one.bytes() == value,
+        _ => false,
+    }
+}
+
+fn are_fields(found: &[Field], fields: &[&[u8]]) -> bool {
+    found
+        .iter()
+        .map(|field| field.bytes())
+        .eq(fields.iter().copied())
+}
+
+impl<K: Naming, G: Gate + Drop, R: Wait + Drop> Caller for Client<K, Lock<K, G, R>> {
+    fn put<T: Wait + Abort>(
+        &mut self,
+        rt: &T,
+        alloc: Global,
+        key: &[u8],
+        field: &[u8],
+        value: &[u8],
+    ) -> u64 {
+        put_noted(rt, alloc, self, key, field, value).0
+    }
+
+    fn deliver<T: Wait + Abort>(&mut self, rt: &T, alloc: Global, message: &Message) -> Delivered {
+        called(rt, self, &Delivering { alloc, message })
+    }
+
+    fn ask<T: Wait + Abort>(&mut self, rt: &T, alloc: Global, peer: u64) -> (u64, Message) {
+        let peer = name(rt, peer);
+        called(rt, self, &Asking { alloc, peer })
+    }
+
+    fn serve<P: Post, T: Wait>(&mut self, rt: &T, alloc: Global, post: &P) -> Served {
+        serve(rt, alloc, self, post)
+    }
+
+    fn operations(&self) -> u64 {
+        Client::operations(self)
+    }
+
+    fn has<T: Abort>(
+        &mut self,
+        rt: &T,
+        alloc: Global,
+        key: &[u8],
+        field: &[u8],
+        value: Option<&[u8]>,
+    ) -> bool {
+        let key = key_of(rt, alloc, key);
+        let field = field_of(rt, alloc, field);
+        let getting = Getting {
+            alloc,
+            key: &key,
+            field: &field,
+        };
+        let values = found(rt, self, &getting).expect(rt, "memory");
+        are(&values, value)
+    }
+
+    fn contains<T: Abort>(&mut self, rt: &T, alloc: Global, key: &[u8]) -> bool {
+        let key = key_of(rt, alloc, key);
+        found(rt, self, &Containing { key: &key })
+    }
+
+    fn size<T: Abort>(&mut self, rt: &T) -> u64 {
+        found(rt, self, &Sizing)
+    }
+
+    fn share<T: Abort>(&mut self, rt: &T) -> Root {
+        found(rt, self, &Sharing).expect(rt, "memory")
+    }
+}
+
+impl<K: Naming, G: Gate + Drop, R: Wait + Drop> Calling for Client<K, Lock<K, G, R>> {
+    fn remove<T: Wait + Abort>(&mut self, rt: &T, alloc: Global, key: &[u8]) -> u64 {
+        let key = key_of(rt, alloc, key);
+        called(rt, self, &Removing { alloc, key: &key })
+    }
+
+    fn remove_field<T: Wait + Abort>(
+        &mut self,
+        rt: &T,
+        alloc: Global,
+        key: &[u8],
+        field: &[u8],
+    ) -> u64 {
+        let key = key_of(rt, alloc, key);
+        let field = field_of(rt, alloc, field);
+        let removing = FieldRemoving {
+            alloc,
+            key: &key,
+            field: &field,
+        };
+        called(rt, self, &removing)
+    }
+
+    fn clear<T: Wait + Abort>(&mut self, rt: &T, alloc: Global) -> u64 {
+        called(rt, self, &Clearing { alloc })
+    }
+
+    fn flush<T: Wait + Abort>(&mut self, rt: &T, alloc: Global) -> Option<Message> {
+        called(rt, self, &Flushing { alloc })
+    }
+
+    fn retry<T: Wait + Abort>(&mut self, rt: &T, alloc: Global, number: u64) -> Delivered {
+        called(rt, self, &Retrying { alloc, number })
+    }
+
+    fn abandon<T: Wait + Abort>(&mut self, rt: &T, alloc: Global, number: u64) -> bool {
+        called(rt, self, &Abandoning { alloc, number })
+    }
+
+    fn has_fields<T: Abort>(
+        &mut self,
+        rt: &T,
+        alloc: Global,
+        key: &[u8],
+        fields: &[&[u8]],
+    ) -> bool {
+        let key = key_of(rt, alloc, key);
+        let listed = found(rt, self, &FieldListing { alloc, key: &key });
+        are_fields(&listed.expect(rt, "memory"), fields)
+    }
+}
+
+// Puts a value on a field of a key: the number of its dot, and the receipt.
+pub(crate) fn put_noted<K: Naming, G: Gate + Drop, R: Wait + Drop, T: Wait + Abort>(
+    rt: &T,
+    alloc: Global,
+    client: &mut Client<K, Lock<K, G, R>>,
+    key: &[u8],
+    field: &[u8],
+    value: &[u8],
+) -> (u64, Receipt<K>) {
+    let key = key_of(rt, alloc, key);
+    let field = field_of(rt, alloc, field);
+    let value = value_of(rt, alloc, value);
+    let putting = Putting {
+        alloc,
+        key: &key,
+        field: &field,
+        value: &value,
+    };
+    let (dot, receipt) = noted(rt, client, &putting);
+    (dot.number(), receipt)
+}
+
+// Whether a snapshot shows this one value at the key.
+pub(crate) fn shows(
+    rt: &impl Abort,
+    alloc: Global,
+    snapshot: &Root,
+    key: &[u8],
+    value: &[u8],
+) -> bool {
+    let key = key_of(rt, alloc, key);
+    let getting = Getting {
+        alloc,
+        key: &key,
+        field: &Field::empty(),
+    };
+    let values = getting.look(snapshot).expect(rt, "memory");
+    are(&values, Some(value))
+}

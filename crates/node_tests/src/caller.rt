@@ -1,0 +1,82 @@
+// What the tests ask of a client. They see it as no more than this, whatever stands behind it, as a check of what holds a client grows with
+// the depth of its type.
+use node_threads::{Post, Root, Served};
+use replica_core::Delivered;
+use std::alloc::Global;
+use std::process::Abort;
+use std::sync::Wait;
+use wire_form::Message;
+
+// A client, which calls and looks by bytes. Where a call is refused, the test ends.
+pub(crate) trait Caller {
+    // Puts a value on a field of a key: the number of its dot.
+    fn put<T: Wait + Abort>(
+        &mut self,
+        rt: &T,
+        alloc: Global,
+        key: &[u8],
+        field: &[u8],
+        value: &[u8],
+    ) -> u64;
+
+    // Takes a message in.
+    fn deliver<T: Wait + Abort>(&mut self, rt: &T, alloc: Global, message: &Message) -> Delivered;
+
+    // Opens a synchronisation with the replica of this name, which is not 0: its number, and the hello.
+    fn ask<T: Wait + Abort>(&mut self, rt: &T, alloc: Global, peer: u64) -> (u64, Message);
+
+    // Takes in what comes by the post, until that ends.
+    fn serve<P: Post, T: Wait>(&mut self, rt: &T, alloc: Global, post: &P) -> Served;
+
+    // How many of its calls were accepted.
+    fn operations(&self) -> u64;
+
+    // Whether the field of the key has this one value, or with None no value.
+    fn has<T: Abort>(
+        &mut self,
+        rt: &T,
+        alloc: Global,
+        key: &[u8],
+        field: &[u8],
+        value: Option<&[u8]>,
+    ) -> bool;
+
+    // Whether the key holds a value.
+    fn contains<T: Abort>(&mut self, rt: &T, alloc: Global, key: &[u8]) -> bool;
+
+    // How many keys hold a value.
+    fn size<T: Abort>(&mut self, rt: &T) -> u64;
+
+    // A snapshot of what it sees.
+    fn share<T: Abort>(&mut self, rt: &T) -> Root;
+}
+
+// What a client calls and looks at by itself.
+pub(crate) trait Calling {
+    // Takes a key away: how many writes were observed.
+    fn remove<T: Wait + Abort>(&mut self, rt: &T, alloc: Global, key: &[u8]) -> u64;
+
+    // Takes a field of a key away: how many writes were observed.
+    fn remove_field<T: Wait + Abort>(
+        &mut self,
+        rt: &T,
+        alloc: Global,
+        key: &[u8],
+        field: &[u8],
+    ) -> u64;
+
+    // Takes all keys away: how many writes were observed.
+    fn clear<T: Wait + Abort>(&mut self, rt: &T, alloc: Global) -> u64;
+
+    // What is to be sent.
+    fn flush<T: Wait + Abort>(&mut self, rt: &T, alloc: Global) -> Option<Message>;
+
+    // Sends what a synchronisation waits for again.
+    fn retry<T: Wait + Abort>(&mut self, rt: &T, alloc: Global, number: u64) -> Delivered;
+
+    // Gives a synchronisation up. Whether it was open.
+    fn abandon<T: Wait + Abort>(&mut self, rt: &T, alloc: Global, number: u64) -> bool;
+
+    // Whether these are the fields of the key, in this order.
+    fn has_fields<T: Abort>(&mut self, rt: &T, alloc: Global, key: &[u8], fields: &[&[u8]]) -> bool;
+}
