@@ -1,11 +1,13 @@
-// Tests of replicas, through public calls alone: what goes from one to another as bytes, and what they show. They stand in a crate of
-// their own, so that a check of them proves no other crate a second time.
+// Tests of replicas and of worlds, through public calls alone: what goes from one to another as bytes, what they show, and calls that are
+// refused memory. They stand in a crate of their own, so that a check of them proves no other crate a second time.
 #![tactic(auto)]
 
 #[cfg(test)]
 mod asking;
 #[cfg(test)]
 mod calls;
+#[cfg(test)]
+mod events;
 #[cfg(test)]
 mod exchange;
 #[cfg(test)]
@@ -14,6 +16,8 @@ mod hostile;
 mod made;
 #[cfg(test)]
 mod playing;
+#[cfg(test)]
+mod refusals;
 #[cfg(test)]
 mod sealing;
 #[cfg(test)]

@@ -1,0 +1,3 @@
+// Tests of the messages, as bytes and as values.
+mod sessions;
+mod tests;
