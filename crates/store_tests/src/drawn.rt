@@ -1,6 +1,6 @@
 // Contexts of dots that look random, beside an ordered set of dots as the plain program.
-ghost use Rattle.std.specs.Prelude.{◌<◌};
 
+use crate::draws::Draws;
 use crate::forms::has_form;
 use crate::made::{Pair, dot, name};
 use causal_context::Context;
@@ -87,34 +87,14 @@ fn agree(rt: &impl Abort, alloc: Global, context: &Context, plain: &Plain) -> bo
     same && is_formed(rt, alloc, context, plain)
 }
 
-// A source of numbers that look random: a linear congruential generator.
-#[derive(Drop)]
-struct Draws {
-    state: u64,
-}
-
-impl Draws {
-    // A number below the bound.
-    fn below(&mut self, bound: u64) -> u64
-        requires { 0 < bound }
-        ensures { result < bound }
-    {
-        self.state = self
-            .state
-            .wrapping_mul(6364136223846793005)
-            .wrapping_add(1442695040888963407);
-        (self.state >> 33) % bound
-    }
-
-    // A dot of one of three names, of a small number or of one of the greatest.
-    fn dot(&mut self, rt: &impl Abort) -> Dot {
-        let of = self.below(3) + 1;
-        let number = self.below(12) + 1;
-        if self.below(40) == 0 {
-            dot(rt, of, u64::MAX - (number - 1))
-        } else {
-            dot(rt, of, number)
-        }
+// A dot of one of three names, of a small number or of one of the greatest.
+fn drawn_dot(rt: &impl Abort, draws: &mut Draws) -> Dot {
+    let of = draws.below(3) + 1;
+    let number = draws.below(12) + 1;
+    if draws.below(40) == 0 {
+        dot(rt, of, u64::MAX - (number - 1))
+    } else {
+        dot(rt, of, number)
     }
 }
 
@@ -128,7 +108,7 @@ fn add_drawn(
 ) -> bool {
     let mut same = true;
     for _ in 0..count {
-        let dot = draws.dot(rt);
+        let dot = drawn_dot(rt, draws);
         both.0.add(dot).expect(rt, "memory");
         both.1.insert(dot).expect(rt, "memory");
         same = same && agree(rt, alloc, &both.0, &both.1);
@@ -180,7 +160,7 @@ fn agree_drawn(rt: &impl Abort, alloc: Global, draws: &mut Draws, round: u64) ->
 
 #[test]
 fn random_dots_are_kept_as_an_ordered_set_keeps_them(rt: HostRuntime) {
-    let mut draws = Draws { state: 1 };
+    let mut draws = Draws::new(1);
     for round in 0..12 {
         assert!(rt; agree_drawn(&rt, rt.alloc(), &mut draws, round), "{round}");
     }

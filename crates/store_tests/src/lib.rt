@@ -8,6 +8,8 @@ mod contexts;
 #[cfg(test)]
 mod drawn;
 #[cfg(test)]
+mod draws;
+#[cfg(test)]
 mod forms;
 #[cfg(test)]
 mod live;

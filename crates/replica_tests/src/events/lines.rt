@@ -1,5 +1,6 @@
 // Events by numbers and bytes, and what they come to.
-use dots::{Field, Key, Name, Refusal, Value};
+use crate::made::name;
+use dots::{Field, Key, Refusal, Value};
 use replica_core::Outcome;
 use replica_world::{Answer, Call, Event};
 use std::alloc::Global;
@@ -32,11 +33,6 @@ pub(crate) enum Comes {
     Outcome(Outcome),
     Closed(bool),
     Refused(Refusal),
-}
-
-// The name of this number, which is not 0.
-pub(crate) fn name(rt: &impl Abort, number: u64) -> Name {
-    Name::new(number).expect(rt, "a name")
 }
 
 pub(crate) fn key_of(rt: &impl Abort, alloc: Global, byte: u8) -> Key {

@@ -1,6 +1,7 @@
 // A world in which all keys have one hash.
-use crate::events::lines::{Comes, Line, key_of, name};
+use crate::events::lines::{Comes, Line, key_of};
 use crate::events::scenes::happen;
+use crate::made::name;
 use dots::Value;
 use hash_path::SameHash;
 use replica_core::Outcome;

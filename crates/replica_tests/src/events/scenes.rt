@@ -1,5 +1,6 @@
 // What a world is tried with, scene by scene.
-use crate::events::lines::{Comes, Line, event, is_answer, is_refusal, key_of, name};
+use crate::events::lines::{Comes, Line, event, is_answer, is_refusal, key_of};
+use crate::made::name;
 use dots::Value;
 use hash_path::{Fnv1a, PathHash};
 use replica_core::Replica;

@@ -1,4 +1,5 @@
 // Replicas in a heap, and what they show.
+use crate::made::name;
 use dots::{Key, Name, Refusal, Value};
 use hash_path::Fnv1a;
 use replica_core::{Delivered, Replica};
@@ -9,11 +10,6 @@ use wire_form::Message;
 
 // Generic in the allocator, as the borrow checker's part of a proof does not cover these types at a heap that is lent.
 pub(crate) type Here<A> = Replica<Fnv1a, A>;
-
-// The name of this number, which is not 0.
-pub(crate) fn name(rt: &impl Abort, number: u64) -> Name {
-    Name::new(number).expect(rt, "a name")
-}
 
 // A replica of this name, which is not 0, to which nothing happened. It is in a box, as one that is a local is dear to prove.
 pub(crate) fn replica<A: Allocator + Copy>(

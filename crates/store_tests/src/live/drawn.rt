@@ -1,7 +1,7 @@
 // Random operations on a live pair, beside a plain ordered map.
-ghost use Rattle.std.specs.Prelude.{◌<◌};
-
-use crate::live::made::{LiveSets, Pair, context_of, join, map_of, size_of, stands};
+use crate::draws::Draws;
+use crate::live::made::{LiveSets, join, map_of, size_of, stands};
+use crate::made::{Pair, context_of};
 use dot_store::{DotMap, DotStore};
 use hash_path::{Fnv1a, PathHash, SameHash};
 use live_map::Live;
@@ -11,26 +11,6 @@ use std::process::Abort;
 
 // What stands at each key: the dot of its last write.
 type Plain = BTreeMap<u64, Pair>;
-
-// A source of numbers that look random: a linear congruential generator.
-#[derive(Drop)]
-struct Draws {
-    state: u64,
-}
-
-impl Draws {
-    // A number below the bound.
-    fn below(&mut self, bound: u64) -> u64
-        requires { 0 < bound }
-        ensures { result < bound }
-    {
-        self.state = self
-            .state
-            .wrapping_mul(6364136223846793005)
-            .wrapping_add(1442695040888963407);
-        (self.state >> 33) % bound
-    }
-}
 
 // Writes the dot at the key, over what stands there.
 fn write<H: PathHash>(
@@ -95,7 +75,7 @@ fn agree_after<H: PathHash>(
     plain: &mut Plain,
     count: u64,
 ) -> bool {
-    let mut draws = Draws { state: 7 };
+    let mut draws = Draws::new(7);
     for number in 0..count {
         let key = draws.below(40);
         if draws.below(3) == 0 {

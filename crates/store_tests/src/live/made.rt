@@ -1,45 +1,25 @@
 // Live pairs of a map from keys to sets of dots, and the deltas that are joined into them.
+use crate::made::{Pair, dot, set_of};
 use causal_context::Context;
 use causal_join::Causal;
 use dot_store::{DotMap, DotSet, DotStore};
-use dots::{Dot, Key, Name};
+use dots::Key;
 use gen_trie::NoSummary;
 use hash_path::PathHash;
 use live_map::Live;
 use std::alloc::Global;
 use std::process::Abort;
 
-// The name and the number of a dot, neither of them 0.
-pub type Pair = (u64, u64);
-
 // Keys, and the one dot that a delta holds at each.
 pub type Held<'a> = &'a [(&'a [u8], Pair)];
 
 pub type LiveSets<H> = Live<DotSet, NoSummary, H>;
 
-pub fn dot(rt: &impl Abort, pair: Pair) -> Dot {
-    let name = Name::new(pair.0).expect(rt, "a name");
-    Dot::new(name, pair.1).expect(rt, "a number")
-}
-
-pub fn context_of(rt: &impl Abort, alloc: Global, dots: &[Pair]) -> Context {
-    let mut context = Context::new(alloc);
-    for pair in dots {
-        context.add(dot(rt, *pair)).expect(rt, "memory");
-    }
-    context
-}
-
-fn set_of(rt: &impl Abort, alloc: Global, one: Pair) -> DotSet {
-    let mut set = DotSet::empty(alloc);
-    set.insert(dot(rt, one)).expect(rt, "memory");
-    set
-}
-
 // Puts the set of the dot at the key, besides what the map has at other keys.
 fn put(rt: &impl Abort, alloc: Global, map: &mut DotMap<Key, DotSet>, key: &[u8], one: Pair) {
     let key = Key::new(alloc, key).expect(rt, "memory");
-    map.insert(key, set_of(rt, alloc, one)).expect(rt, "memory");
+    map.insert(key, set_of(rt, alloc, &[one]))
+        .expect(rt, "memory");
 }
 
 // The map of these sets of one dot each.
@@ -82,7 +62,7 @@ pub fn stands<S: DotStore<Global>, H: PathHash>(
 ) -> Option<bool> {
     let key = Key::new(alloc, key).expect(rt, "memory");
     let set = live.store().get(&key)?;
-    Some(set.contains(dot(rt, one)))
+    Some(set.contains(dot(rt, one.0, one.1)))
 }
 
 pub fn size_of<S: DotStore<Global>, H: PathHash>(live: &Live<S, NoSummary, H>) -> u64 {

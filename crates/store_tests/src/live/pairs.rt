@@ -1,8 +1,7 @@
 // Live pairs, by deltas that are joined in, and their stores, through the calls of every dot store.
-use crate::live::made::{
-    Held, LiveSets, Pair, context_of, delta_of, dot, join, map_of, size_of, stands,
-};
+use crate::live::made::{Held, LiveSets, delta_of, join, map_of, size_of, stands};
 use crate::live::stores::{Kept, are_joined, is_copied, is_in_order, is_sealed};
+use crate::made::{Pair, context_of, dot};
 use causal_context::Context;
 use causal_join::Causal;
 use dot_store::{DotMap, DotSet, DotStore};
@@ -65,7 +64,7 @@ fn stand_as_wanted(rt: &impl Abort, alloc: Global, live: &LivePair, wanted: &Wan
 fn are_known_as_wanted(rt: &impl Abort, live: &LivePair, wanted: &Wanted) -> bool {
     let mut all = true;
     for (one, is_known) in wanted.2 {
-        all = all && live.context().contains(dot(rt, *one)) == *is_known;
+        all = all && live.context().contains(dot(rt, one.0, one.1)) == *is_known;
     }
     all
 }

@@ -1,5 +1,5 @@
 // A store that is kept as a trie, through the calls of every dot store.
-use crate::live::made::{Pair, context_of, dot};
+use crate::made::{Pair, context_of, dot};
 use dot_store::{DotMap, DotStore};
 use dots::Key;
 use gen_trie::NoSummary;
@@ -72,7 +72,7 @@ fn are_placed<S: DotStore<Global>>(rt: &impl Abort, map: &DotMap<Key, S>) -> boo
     for (number, (key, set)) in map.entries().iter().enumerate() {
         placed = placed
             && key.bytes() == [(number % 0x100) as u8].as_slice()
-            && set.contains(dot(rt, (1, (number as u64).wrapping_add(1))));
+            && set.contains(dot(rt, 1, (number as u64).wrapping_add(1)));
     }
     placed
 }

@@ -1,5 +1,5 @@
 // Events of a world.
-use crate::refusals::made::name;
+use crate::made::name;
 use crate::refusals::trial::{Room, Trial, attempt_in, refusals, wanted};
 use dots::{Key, Refusal, Value};
 use hash_path::Fnv1a;
