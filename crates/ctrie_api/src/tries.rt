@@ -64,6 +64,7 @@ impl<V: Drop, H: PathHash, M: Summary<V>, A: Allocator + Copy> Tries<V, H, M, A>
     /// Carries an act out, and tells whether its trie is there: where it is not, nothing changes. A write on a read-only
     /// trie is refused. A refused act changes nothing.
     /// ReadOnly exactly where the act is a write at a trie that is there and read-only; its only other refusal is OutOfMemory.
+    /// A write touches eight nodes at most, and copies those that a snapshot shares; a snapshot copies no node, and adds a trie to the run.
     pub fn act(&mut self, act: Act<V, A>) -> Result<bool, Refusal>
         ensures there { IfOk result (λ there. IsTrue there ↔ index_of act < length self.old) }
         ensures read_only { IsErrOf result Refusal.ReadOnly ↔ IsTrue (is_refused self.old act) }
@@ -86,6 +87,7 @@ impl<V: Drop, H: PathHash, M: Summary<V>, A: Allocator + Copy> Tries<V, H, M, A>
 impl<V: Drop, H: PathHash, M: Summary<V>, A: Allocator + Copy> Tries<V, H, M, A> {
     /// Carries acts out, one after the other, up to the first for which memory was refused: an error tells how many were
     /// carried out before it. An act that is refused as its trie is read-only, or that is at none, is passed over.
+    /// Takes what the acts take.
     pub fn run(&mut self, acts: Vec<Act<V, A>, A>) -> Result<(), usize>
         ensures ok { OnOk result (self.new ≡ acted_all self.old acts.items) }
         ensures err { IfErr result (λ done. (done < length acts.items) × (self.new ≡ acted_all self.old (take done acts.items))) }

@@ -8,7 +8,9 @@ use dots::Refusal;
 use std::alloc::Allocator;
 
 /// Joins the delta into the group. A refused call leaves the group as it was.
-/// Its only refusal is OutOfMemory.
+///
+/// Its only refusal is OutOfMemory. Takes time in all entries of both, each once, and for a dot that one of them lacks a look in its
+/// context; and memory for the joined pair, beside the old one until it is there.
 pub fn group<A: Allocator + Copy>(
     alloc: A,
     group: &mut OrMap<A>,

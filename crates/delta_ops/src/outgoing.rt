@@ -46,7 +46,9 @@ impl<A: Allocator + Copy> Outgoing<A> {
     }
 
     /// Joins the delta into the group. A refused call leaves the group as it was.
-    /// Its only refusal is OutOfMemory.
+    ///
+    /// Its only refusal is OutOfMemory. Of m deltas all together take time m (log m)^2, as each is joined anew once for each time that its
+    /// run doubles; so one call may take as much as the whole group. Takes memory for the joined runs.
     pub fn push(&mut self, alloc: A, delta: OrMap<A>) -> Result<(), Refusal>
         ensures ok { OnOk result (Same (group_state self.new) (join greater (group_state self.old) (or_map_state delta))) }
         ensures unchanged { OnErr result (Same (group_state self.new) (group_state self.old)) }
@@ -56,7 +58,8 @@ impl<A: Allocator + Copy> Outgoing<A> {
     }
 
     /// The whole group, or None where it knows no dot.
-    /// Its only refusal is OutOfMemory.
+    ///
+    /// Its only refusal is OutOfMemory. Takes time n (log n)^2 in the group's n entries, and memory for them.
     pub fn whole(&self, alloc: A) -> Result<Option<OrMap<A>>, Refusal>
         ensures some { IfOk result (λ found. IfSome found (λ whole.
             Same (or_map_state whole) (group_state self.now) × ¬ HasNone whole.1)) }

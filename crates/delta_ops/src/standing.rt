@@ -1,8 +1,9 @@
-ghost use Rattle.std.specs.Prelude.{◌≡◌, List, ℕ};
+ghost use Rattle.std.specs.Prelude.{◌≡◌, List, ℕ, IfSome};
 ghost use Rattle.std.specs.FinMap as finite;
 ghost use Rattle.std.specs.Option.{option_copied};
 ghost use Rattle.causal_join.specs.OrMap.{fields_at, or_map_at};
 ghost use Rattle.delta_ops.specs.LiveMap.{store_state};
+ghost use Rattle.dot_store.specs.Store.{HasNothing};
 ghost use Rattle.dot_store.specs.Stores.{at_values, held_by};
 ghost use Rattle.dots.specs.Dot.{DotValue};
 ghost use Rattle.op_model.specs.Place.{place_of};
@@ -20,8 +21,9 @@ pub fn fields_of<'a, M: Summary<Fields<A>>, H: PathHash, A: Allocator + Copy>(
     store: &'a LiveStore<M, H, A>,
     key: &Key<A>,
 ) -> Option<&'a Fields<A>>
-    ensures { (place : List ℕ × Unit {0}) (d : DotValue) →
+    ensures held { (place : List ℕ × Unit {0}) (d : DotValue) →
         or_map_at (finite.entries store.now.1) (key.now, place) d ≡ held_by fields_at (option_copied result) place d }
+    ensures filled { IfSome result (λ fields. ¬ HasNothing (fields_at fields.now)) }
 {
     store.get(key)
 }
@@ -33,8 +35,9 @@ pub fn values_at<'a, M: Summary<Fields<A>>, H: PathHash, A: Allocator + Copy>(
     key: &Key<A>,
     field: &Field<A>,
 ) -> Option<&'a DotFun<Value<A>, A>>
-    ensures { (d : DotValue) →
+    ensures held { (d : DotValue) →
         (store_state store.now).at (place_of key.now field.now) d ≡ held_by at_values (option_copied result) tt d }
+    ensures filled { IfSome result (λ values. ¬ HasNothing (at_values values.now)) }
 {
     let fields = fields_of(store, key)?;
     fields.get(field)

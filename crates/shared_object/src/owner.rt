@@ -60,7 +60,8 @@ impl<
         requires places { vec_len views ≤ 64 }
         requires views { views.items ≡ replicate (vec_len views) [] }
         ensures ok { IfOk result (λ owner. owner ≡ record { taken = 0; free = vec_len views }) }
-        ensures back { IfErr result (λ back. (back.object ≡ object) × (back.writer ≡ writer) × (back.views ≡ views)) }
+        ensures back { IfErr result (λ back. (back.object ≡ object) × (back.writer ≡ writer) × (back.views ≡ views)
+            × (back.gate ≡ gate) × (back.handle ≡ handle)) }
     {
         let shared = match Arc::new(
             alloc,

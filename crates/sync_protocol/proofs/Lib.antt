@@ -5,4 +5,3 @@ pub mod NamedFields
 pub mod Sorted
 pub mod Standing
 pub mod Turned
-pub mod KnownStores

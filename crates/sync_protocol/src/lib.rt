@@ -4,7 +4,6 @@
 
 mod answerer;
 mod asker;
-mod covering;
 mod keeping;
 mod laws;
 mod opened;
@@ -18,7 +17,6 @@ mod unposted;
 
 pub use answerer::Answerer;
 pub use asker::Asker;
-pub use covering::knows_store;
 pub use laws::{
     asks_are_taken, few_stay, hashes_stay, hellos_are_kept, hellos_are_taken, repeats_move_nothing,
 };

@@ -1,4 +1,4 @@
-ghost use Rattle.std.specs.Prelude.{⊤};
+ghost use Rattle.std.specs.Prelude.{⊤, IsOk};
 
 use crate::outbox::Outbox;
 use dots::Refusal;
@@ -12,11 +12,15 @@ pub struct Unposted;
 impl<A: Allocator + Copy> Outbox<A> for Unposted {
     ghost gains = { λ _ _ _. ⊤ };
 
-    fn post(&mut self, _alloc: A, _message: &Message<A>) -> Result<(), Refusal> {
+    fn post(&mut self, _alloc: A, _message: &Message<A>) -> Result<(), Refusal>
+        ensures { IsOk result }
+    {
         Ok(())
     }
 
-    fn post_all(&mut self, _alloc: A, _messages: &[Message<A>]) -> Result<(), Refusal> {
+    fn post_all(&mut self, _alloc: A, _messages: &[Message<A>]) -> Result<(), Refusal>
+        ensures { IsOk result }
+    {
         Ok(())
     }
 }

@@ -8,7 +8,7 @@ use dots::Refusal;
 use std::io::Write;
 
 /// Writes the whole text and flushes it, or answers Output at the first failure. A piece that is taken in part is written
-/// on from there; an empty text is a flush alone.
+/// on from there. Takes time in the text, and no memory.
 pub fn write_out<W: Write>(writer: &mut Watched<W>, text: &[u8]) -> Result<(), Refusal>
     requires sound { IsSettled writer.old }
     ensures ok { OnOk result (Appends (W.contents (inner_of writer.old)) (W.contents (inner_of writer.new)) text.now) }

@@ -1,4 +1,5 @@
 mod bytes;
 mod calls;
 mod deliveries;
+mod tries;
 mod worlds;

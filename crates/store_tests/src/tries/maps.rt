@@ -112,7 +112,7 @@ type Seen = (u64, u64, bool);
 type Both = (Seen, u64, Seen);
 
 fn seen<H: PathHash>(trie: &Trie<H>, frozen: &Kept<H>) -> Both {
-    let of_trie = walked(trie.iter()).1;
+    let of_trie = walked(trie.into_iter()).1;
     let of_frozen = walked(frozen.into_iter()).1;
     (
         (trie.size(), of_trie, trie.is_sealed()),

@@ -8,7 +8,7 @@ use Rattle.delta_ops.proofs.erasures.dots_within.Goals.{in-Some+in_ok-gather_fie
 pub returns-clause-ok : goal.returns-clause-ok
 returns-clause-ok g c =
     let live = as_or_map c.args.live.now.0 in
-    let found = rw c.store.ensures.value at c.fields_of.ensures in
+    let found = rw c.store.ensures.value at c.fields_of.ensures.held in
     elim c.match-fields_of.branch [
       | in-Some+in_ok-gather_fields w ↦
           rw w.dots-is (gathers_key live c.args.key.now w.in-Some.fields.now c.new-dots.result.keys w.gather_fields.new.dots.keys

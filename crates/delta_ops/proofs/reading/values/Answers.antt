@@ -20,8 +20,8 @@ returns-clause-held g c value =
     let P : List (List ℕ) → Type 0 = λ found. Contains found value ↔ Stands (live_state (c.args.store.now, no_dots)) (place_of c.args.key.now c.args.field.now) value in
     subst P (sym c.in_ok-listed.ensures) (elim c.match-values_at.branch [
       | in-Some+in_ok-gather_values w ↦
-          rw w.found-is (gathered_stand (as_or_map (c.args.store.now, no_dots)) (place_of c.args.key.now c.args.field.now) w.in-Some.standing.now _ (λ d. rw w.in-Some.is at (c.values_at.ensures d))
+          rw w.found-is (gathered_stand (as_or_map (c.args.store.now, no_dots)) (place_of c.args.key.now c.args.field.now) w.in-Some.standing.now _ (λ d. rw w.in-Some.is at (c.values_at.ensures.held d))
           w.in_ok-gather_values.ensures.entries (gathered_first _ _ _ c.new-found.ensures.empty w.in_ok-gather_values.ensures.ok) value)
       | in_default w ↦
-          rw w.found-is (gathered_nothing (as_or_map (c.args.store.now, no_dots)) (place_of c.args.key.now c.args.field.now) _ (λ d. rw w.in_default.is at (c.values_at.ensures d)) c.new-found.ensures.empty value)
+          rw w.found-is (gathered_nothing (as_or_map (c.args.store.now, no_dots)) (place_of c.args.key.now c.args.field.now) _ (λ d. rw w.in_default.is at (c.values_at.ensures.held d)) c.new-found.ensures.empty value)
     ])

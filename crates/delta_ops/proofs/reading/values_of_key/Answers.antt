@@ -17,7 +17,7 @@ returns-clause-ascending g c =
 pub returns-clause-held : goal.returns-clause-held
 returns-clause-held g c value =
     let P : List (List ℕ) → Type 0 = λ found. Contains found value ↔ StandsWithin (live_state (c.args.store.now, no_dots)) c.args.key.now value in
-    let held = c.fields_of.ensures in
+    let held = c.fields_of.ensures.held in
     subst P (sym c.in_ok-listed.ensures) (elim c.match-fields_of.branch [
       | in-Some+in_ok-gather_fields w ↦
           rw w.found-is (gathered_within (as_or_map (c.args.store.now, no_dots)) c.args.key.now w.in-Some.fields.now w.entries.result.now _ (λ place d. rw w.in-Some.is at (held place d))
