@@ -1,3 +1,4 @@
+pub mod Knowing
 pub mod Stores
 pub mod Puts
 pub mod Erasing

@@ -10,12 +10,16 @@ use Rattle.std.specs.BTreeMap.{BTreeMap, get, is_at, Updates}
 use Rattle.std.specs.Ordering.{nat_cmp}
 use Rattle.dots.specs.declared.refusal.Refusal.{Refusal}
 use Rattle.dots.specs.declared.refusal.Refusal.TheVariants.{OutOfMemory}
+use Rattle.op_model.specs.Meaning.{state}
 use Rattle.op_model.specs.World.{is_among}
+use Rattle.replica_model.specs.Laws.{MeansMail}
+use Rattle.replica_model.specs.Mail.{Mail}
 use Rattle.replica_model.specs.Replica.{Replica, fresh}
 use Rattle.replica_model.specs.Step.{Answer, Nothing}
 use Rattle.replica_model.specs.World.{World, Message, Event, Node, is_node, message_at, nothing, Happens, Runs, Unclashed}
 use Rattle.replica_model.proofs.Deciding.{worlds_one, goes_on}
 use Rattle.replica_model.proofs.Ended.{ends_are}
+use Rattle.replica_model.proofs.Meant.{headline}
 use Rattle.replica_core.specs.Meaning.{ReplicaValue, hash_in, meaning}
 use Rattle.replica_world.specs.Accepting.{IsTold}
 use Rattle.replica_world.specs.Keeping.{Keeps, IsWorld, Makes, LeavesWorld, IsRefusedEvent, ForetellsEvent}
@@ -24,7 +28,7 @@ use Rattle.replica_world.specs.Replaces.{Replaces}
 use Rattle.replica_core.specs.Showing.{ShowsOperations}
 use Rattle.replica_world.specs.Spelled.{IsSpelled}
 use Rattle.replica_world.proofs.Shown.{worlds_show}
-use Rattle.replica_world.proofs.Spelt.{as_many, spelled_at, spelled_past, map_back, map_past}
+use Rattle.replica_world.proofs.Spelt.{as_many, some_back, spelled_at, spelled_past, map_back, map_past}
 
 at_other : (name other : ℕ) → other ≢ name → is_at (nat_cmp name) other ≡ false
 at_other name other apart = grind (arith, nat_tests)
@@ -186,6 +190,22 @@ module _ {Hash : Type 0} (hash_of : Hash → List ℕ → ℕ) (hash : Hash) (ol
       λ w runs unclashed. let keeps = keeps_any w runs in
       subst (λ (q : Replica). ShowsOperations (hash_of hash) q.live (w.seen name)) (sym (keeps.means name r.now (sym found))) (worlds_show (hash_of hash) past w runs unclashed name)
 
+  pub replica_meant : (name : ℕ) (o : Option (Bor (ReplicaValue Hash))) → option_copied o ≡ get nat_cmp old name
+      → IfSome o (λ r. (w : World) → Runs (hash_of hash) nothing past w → Unclashed (hash_of hash) w → ((meaning r.now).live ≡ state (w.seen name)) × ((meaning r.now).group ≡ state (w.outgoing name)))
+  replica_meant name None found = tt
+  replica_meant name (Some r) found =
+      λ w runs unclashed. let is = (keeps_any w runs).means name r.now (sym found) in
+      let meant = headline (hash_of hash) past w runs unclashed in
+      (ap (λ (q : Replica). q.live) is ∙ meant.live name, ap (λ (q : Replica). q.group) is ∙ meant.group name)
+
+  pub message_meant : (number : ℕ) (o : Option (Bor (List ℕ))) → option_copied o ≡ cond (nat_lt 0 number) (slice_get messages (number - 1)) None
+      → IfSome o (λ b. (w : World) → Runs (hash_of hash) nothing past w → Unclashed (hash_of hash) w
+      → (m : Message) × (message_at w.messages number ≡ Some m) × MeansMail (hash_of hash) m.mail m.of.seen)
+  message_meant number None found = tt
+  message_meant number (Some b) found =
+      λ w runs unclashed. let at = found_message hash old messages w (keeps_any w runs) number b.now found in
+      (at.0, at.1, (headline (hash_of hash) past w runs unclashed).messages number at.0 at.1)
+
   pub message_shown : (number : ℕ) (o : Option (Bor (List ℕ))) → option_copied o ≡ cond (nat_lt 0 number) (slice_get messages (number - 1)) None
       → IfSome o (λ b. (w : World) → Runs (hash_of hash) nothing past w → (m : Message) × (message_at w.messages number ≡ Some m) × IsSpelled b.now m.mail)
   message_shown number None found = tt
@@ -195,3 +215,10 @@ module _ {Hash : Type 0} (hash_of : Hash → List ℕ → ℕ) (hash : Hash) (ol
       → (w : World) → Runs (hash_of hash) nothing past w → message_at w.messages number ≡ None
   message_missing number None found none w runs = no_message hash old messages w (keeps_any w runs) number found
   message_missing number (Some b) found none w runs = absurd cc
+
+-- mail that is the mail of a message carries what that message does
+pub mail_carries : (hash_of : List ℕ → ℕ) (ms : List Message) (number : ℕ) (mail : Mail) → (m : Message) × (message_at ms number ≡ Some m) × (mail ≡ m.mail)
+    → (m : Message) × (message_at ms number ≡ Some m) × MeansMail hash_of m.mail m.of.seen → (m : Message) × (message_at ms number ≡ Some m) × MeansMail hash_of mail m.of.seen
+mail_carries hash_of ms number mail (m, at, is) (n, found, means) =
+    let same : m ≡ n = some_back (sym at ∙ found) in
+    (n, found, subst (λ l. MeansMail hash_of l n.of.seen) (sym (is ∙ ap (λ (x : Message). x.mail) same)) means)

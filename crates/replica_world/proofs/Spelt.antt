@@ -32,7 +32,7 @@ posted_spelled old new out ms (inr (is, none)) before =
     let same : ms ++ map mail_of out ≡ ms = ap (λ o. ms ++ map mail_of o) none ∙ append-nil ms in
     subst (λ all. AreSpelled all (ms ++ map mail_of out)) (sym is) (subst (AreSpelled old) (sym same) before)
 
-some_back : {X : Type 0} {x y : X} → Some x ≡ Some y → x ≡ y
+pub some_back : {X : Type 0} {x y : X} → Some x ≡ Some y → x ≡ y
 some_back e = cc
 
 -- the one at a place

@@ -1,6 +1,8 @@
 ghost use Rattle.std.specs.Prelude.{◌≡◌, ◌⊎◌, ◌+◌, ◌++◌, [], ◌∷◌, map, true, false, Some, None, IfOk, IfErr, OnOk, OnErr, IfSome, IsNone, IsOkUnless};
 ghost use Rattle.dots.specs.declared.refusal.Refusal.TheVariants.{OutOfMemory};
 ghost use Rattle.wire_form.specs.Message.{message_of};
+ghost use Rattle.op_model.specs.Meaning.{state};
+ghost use Rattle.replica_model.specs.Laws.{MeansMail};
 ghost use Rattle.replica_model.specs.Mail.{mail_of};
 ghost use Rattle.replica_model.specs.World as model;
 ghost use Rattle.replica_model.specs.World.{nothing, is_node, message_at, Runs, Unclashed};
@@ -105,31 +107,41 @@ impl<H: PathHash, A: Allocator + Copy> World<H, A> {
     /// The replica of this name, if it is there. Takes the logarithm of the number of replicas.
     ///
     /// Unless two pages or two values that one session met have one SHA-256, what it shows is told by the operations that it has seen alone:
-    /// at each field of each key just the values of the writes that it has seen and that no operation that it has seen had observed.
+    /// at each field of each key just the values of the writes that it has seen and that no operation that it has seen had observed. And what it is
+    /// to send is what it made since it last sent.
     pub fn replica(&self, name: Name) -> Option<&Replica<H, A>>
         ensures some { IfSome result (λ replica. (w : model.World) → Runs (H.hash_of self.now.hash) nothing self.now.past w
             → (is_node w name ≡ true) × (meaning replica.now ≡ w.replica name) × (hash_in replica.now ≡ self.now.hash)) }
         ensures none { IsNone result → (w : model.World) → Runs (H.hash_of self.now.hash) nothing self.now.past w → is_node w name ≡ false }
         ensures shown { IfSome result (λ replica. (w : model.World) → Runs (H.hash_of self.now.hash) nothing self.now.past w
             → Unclashed (H.hash_of self.now.hash) w → ShowsOperations (H.hash_of self.now.hash) (meaning replica.now).live (w.seen name)) }
+        ensures holds { IfSome result (λ replica. (w : model.World) → Runs (H.hash_of self.now.hash) nothing self.now.past w → Unclashed (H.hash_of self.now.hash) w
+            → ((meaning replica.now).live ≡ state (w.seen name)) × ((meaning replica.now).group ≡ state (w.outgoing name))) }
     {
         self.replicas.get(&name)
     }
 
     /// The bytes of the message of this number, from 1 on, if there is one. Takes constant time.
+    ///
+    /// Unless two pages or two values that one session met have one SHA-256, a delta carries just the operations that were to be sent when it was
+    /// made, and an opening what its replica had seen when it kept the snapshot.
     pub fn message(&self, number: u64) -> Option<&[u8]>
         ensures some { IfSome result (λ bytes. (w : model.World) → Runs (H.hash_of self.now.hash) nothing self.now.past w
             → (m : model.Message) × (message_at w.messages number ≡ Some m) × IsSpelled bytes.now m.mail) }
+        ensures carries { IfSome result (λ bytes. (w : model.World) → Runs (H.hash_of self.now.hash) nothing self.now.past w → Unclashed (H.hash_of self.now.hash) w
+            → (m : model.Message) × (message_at w.messages number ≡ Some m) × MeansMail (H.hash_of self.now.hash) m.mail m.of.seen) }
         ensures none { IsNone result → (w : model.World) → Runs (H.hash_of self.now.hash) nothing self.now.past w → message_at w.messages number ≡ None }
     {
         self.posted.get(number)
     }
 
-    /// The message of this number, from 1 on, if there is one, read from its bytes. Takes what decoding them takes.
+    /// The message of this number, from 1 on, if there is one, read from its bytes; it carries what these carry. Takes what decoding them takes.
     /// Its only refusal is OutOfMemory.
     pub fn read(&self, number: u64) -> Result<Option<Message<A>>, Refusal>
         ensures some { IfOk result (λ found. IfSome found (λ message. (w : model.World) → Runs (H.hash_of self.now.hash) nothing self.now.past w
             → (m : model.Message) × (message_at w.messages number ≡ Some m) × (mail_of (message_of message) ≡ m.mail))) }
+        ensures carries { IfOk result (λ found. IfSome found (λ message. (w : model.World) → Runs (H.hash_of self.now.hash) nothing self.now.past w → Unclashed (H.hash_of self.now.hash) w
+            → (m : model.Message) × (message_at w.messages number ≡ Some m) × MeansMail (H.hash_of self.now.hash) (mail_of (message_of message)) m.of.seen)) }
         ensures none { IfOk result (λ found. IsNone found → (w : model.World) → Runs (H.hash_of self.now.hash) nothing self.now.past w
             → message_at w.messages number ≡ None) }
         ensures refused { IsOkUnless result OutOfMemory }

@@ -5,5 +5,6 @@ pub mod Pinning
 pub mod Compressing
 pub mod Unique
 pub mod SeenReads
+pub mod SeenWrites
 pub mod Messages
 pub mod Lines

@@ -1,5 +1,5 @@
 // Laws of what a line is answered.
-ghost use Rattle.trace_world.specs.Laws.{AnswersAreOne, LooksAreSeen, ReadsAreSeen};
+ghost use Rattle.trace_world.specs.Laws.{AnswersAreOne, LooksAreSeen, ReadsAreSeen, WritesAreSeen};
 
 /// After given lines before it, a line has one answer.
 pub fn a_line_has_one_answer()
@@ -12,4 +12,11 @@ pub fn a_line_has_one_answer()
 pub fn reads_tell_what_was_seen()
     ensures reads { ReadsAreSeen }
     ensures looks { LooksAreSeen }
+{}
+
+/// And what `put`, `putf`, `remove`, `removef`, `clear` and `flush` are answered where they are not refused, under the same premise: the dot after
+/// the greatest that the replica has seen of its name, the number of the writes that it observes, and whether there is something to send, by what it
+/// made since it last sent.
+pub fn writes_are_told_by_what_was_seen()
+    ensures { WritesAreSeen }
 {}

@@ -10,5 +10,5 @@ mod teller;
 mod telling;
 mod texts;
 
-pub use laws::{a_line_has_one_answer, reads_tell_what_was_seen};
+pub use laws::{a_line_has_one_answer, reads_tell_what_was_seen, writes_are_told_by_what_was_seen};
 pub use machine::Machine;

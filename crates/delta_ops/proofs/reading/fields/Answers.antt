@@ -15,5 +15,5 @@ pub returns-in-Some-clause-held : goal.returns-in-Some-clause-held
 returns-in-Some-clause-held g c =
     IfOk-weaker c.copied_keys.result _ _ (λ found is field.
     let P : List (List ℕ) → Type 0 = λ fields. Contains fields field ↔ HoldsField (live_state (c.args.store.now, no_dots)) c.args.key.now field in
-    subst P (sym is) (fields_hold (as_or_map (c.args.store.now, no_dots)) c.args.key.now c.in-Some.fields.now c.entries.result.now c.in-Some.ensures
+    subst P (sym is) (fields_hold (as_or_map (c.args.store.now, no_dots)) c.args.key.now c.in-Some.fields.now c.entries.result.now c.in-Some.ensures.held
     c.entries.ensures.filled c.entries.ensures.held c.entries.ensures.only field)) c.copied_keys.ensures.ok

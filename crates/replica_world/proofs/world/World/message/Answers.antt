@@ -1,6 +1,6 @@
 use Rattle.std.specs.Prelude.{map}
 use Rattle.replica_world.specs.Happening.{event_value}
-use Rattle.replica_world.proofs.Happened.{message_shown, message_missing}
+use Rattle.replica_world.proofs.Happened.{message_shown, message_missing, message_meant}
 use Rattle.replica_world.proofs.world.World.message.Goals as goal
 
 pub returns-clause-some : goal.returns-clause-some
@@ -10,3 +10,7 @@ returns-clause-some g c =
 pub returns-clause-none : goal.returns-clause-none
 returns-clause-none g c none =
     rw (← c.self.view_is) (message_missing g.H.PathHash.hash_of c.self.inside.hash c.self.inside.replicas c.self.inside.posted (map event_value c.self.inside.past.items) c.self.invariant c.args.number c.get.result c.get.ensures none)
+
+pub returns-clause-carries : goal.returns-clause-carries
+returns-clause-carries g c =
+    rw (← c.self.view_is) (message_meant g.H.PathHash.hash_of c.self.inside.hash c.self.inside.replicas c.self.inside.posted (map event_value c.self.inside.past.items) c.self.invariant c.args.number c.get.result c.get.ensures)

@@ -1,3 +1,4 @@
+use Rattle.replica_world.proofs.Happened.{mail_carries}
 use Rattle.replica_world.proofs.world.World.read.Goals as goal
 
 pub returns-in-Ok-clause-some : goal.returns-in-Ok-clause-some
@@ -10,3 +11,8 @@ returns-in-Err-clause-refused g c =
     let shown = rw (← c.self.view_is) at c.in-Some.ensures.some in
     let m = shown c.self.invariant.world c.self.invariant.runs in
     c.in-Err.ensures m.0.mail m.2
+
+pub returns-in-Ok-clause-carries : goal.returns-in-Ok-clause-carries
+returns-in-Ok-clause-carries g c = λ w runs unclashed.
+    let m = c.in-Some.ensures.some w runs in
+    mail_carries _ w.messages c.args.number _ (m.0, m.1, c.in-Ok.ensures m.0.mail m.2) (c.in-Some.ensures.carries w runs unclashed)

@@ -1,6 +1,6 @@
 use Rattle.std.specs.Prelude.{map}
 use Rattle.replica_world.specs.Happening.{event_value}
-use Rattle.replica_world.proofs.Happened.{replica_shown, replica_missing, replica_holds}
+use Rattle.replica_world.proofs.Happened.{replica_shown, replica_missing, replica_holds, replica_meant}
 use Rattle.replica_world.proofs.world.World.replica.Goals as goal
 
 pub returns-clause-some : goal.returns-clause-some
@@ -14,3 +14,7 @@ returns-clause-none g c none =
 pub returns-clause-shown : goal.returns-clause-shown
 returns-clause-shown g c =
     rw (← c.self.view_is) (replica_holds g.H.PathHash.hash_of c.self.inside.hash c.self.inside.replicas c.self.inside.posted (map event_value c.self.inside.past.items) c.self.invariant c.args.name c.get.result c.get.ensures.value)
+
+pub returns-clause-holds : goal.returns-clause-holds
+returns-clause-holds g c =
+    rw (← c.self.view_is) (replica_meant g.H.PathHash.hash_of c.self.inside.hash c.self.inside.replicas c.self.inside.posted (map event_value c.self.inside.past.items) c.self.invariant c.args.name c.get.result c.get.ensures.value)
