@@ -198,12 +198,14 @@ snapshots_for hash_of events w runs name k h =
     let heard = heard_all hash_of events w runs in
     let at = heard.kept name k h in
     let asked = heard.hellos at.0 at.1 at.2 k.session k.seen at.3 in
+    let tie = (told hash_of events w runs).kept name k h in
     record {
-      answerer = ((told hash_of events w runs).kept name k h).answerer;
+      answerer = tie.answerer;
       number = at.0;
       message = at.1;
       there = at.2;
       hello = at.3;
       own = asked.0;
       asked = asked.1;
+      taken = tie.snap;
     }

@@ -170,7 +170,8 @@ StayWithinLimits = (hash_of : List ℕ → ℕ) (events : List Event) (w : World
 
 -- ---- snapshots, openings and pages
 
--- a snapshot is kept for the hello of its session, which told what the asker knew when it asked
+-- a snapshot is kept for the hello of its session, which told what the asker knew when it asked; and it is what its replica was when it kept it,
+-- whatever that wrote since
 pub record IsKeptFor (hash_of : List ℕ → ℕ) (events : List Event) (w : World) (name : ℕ) (k : Kept) : Type 0 where
   pub answerer : k.session.answerer ≡ name
   pub number : ℕ
@@ -179,6 +180,7 @@ pub record IsKeptFor (hash_of : List ℕ → ℕ) (events : List Event) (w : Wor
   pub hello : message.mail ≡ Hello k.session k.seen
   pub own : Held
   pub asked : IsAskOf hash_of events k.session own k.seen
+  pub taken : IsTakenOf hash_of events k.session (w.kept k.session) k.map k.context
 
 abbrev pub SnapshotsAreFor : Type 0
 SnapshotsAreFor = (hash_of : List ℕ → ℕ) (events : List Event) (w : World) → Runs hash_of nothing events w

@@ -20,8 +20,8 @@ pub fn a_session_that_ends_joins_what_its_peer_had()
     ensures { Ends }
 {}
 
-/// Each kept snapshot is for a hello of its session that was sent, and the dots that it goes by are those that the asker knew when it
-/// asked.
+/// Each kept snapshot is what its replica was when it kept it, whatever that wrote since: its map and the dots known with it. It is for a hello
+/// of its session that was sent, and the dots that it goes by are those that the asker knew when it asked.
 pub fn snapshots_are_for_what_askers_knew()
     ensures { SnapshotsAreFor }
 {}
