@@ -78,7 +78,7 @@ abandon_keeps : (old new : Replica) (o : Option Open) (answer : Answer) → Aban
 abandon_keeps old new None answer (n, a) = ap (λ (r : Replica). r.kept) n
 abandon_keeps old new (Some o) answer (n, a) = ap (λ (r : Replica). r.kept) n
 
-call_keeps : (old new : Replica) (c : Call) (answer : Answer) (out : List Mail) → IsCall old c new answer out → new.kept ≡ old.kept
+pub call_keeps : (old new : Replica) (c : Call) (answer : Answer) (out : List Mail) → IsCall old c new answer out → new.kept ≡ old.kept
 call_keeps old new (Put place value) answer out (w, put, lt, n, a, o) = ap (λ (r : Replica). r.kept) n
 call_keeps old new (Remove key) answer out (over, just, n, a, o) = ap (λ (r : Replica). r.kept) n
 call_keeps old new (RemoveField place) answer out (over, just, n, a, o) = ap (λ (r : Replica). r.kept) n

@@ -235,6 +235,20 @@ abbrev pub SnapshotsStay : Type 0
 SnapshotsStay = (hash_of : List ℕ → ℕ) (old new : Replica) (act : Act) (answer : Answer) (out : List Mail) → IsStep hash_of old act new answer out
     → (k : Kept) → Contains new.kept k → Contains old.kept k ⊎ IsNewFor old act k
 
+-- a step drops this snapshot: it was the oldest where eight were kept, and a ninth is kept now
+pub record IsDropped (old new : Replica) (act : Act) (k : Kept) : Type 0 where
+  pub full : LIMIT ≤ length old.kept
+  pub others : List Kept
+  pub oldest : old.kept ≡ k ∷ others
+  pub ninth : Kept
+  pub is_new : IsNewFor old act ninth
+  pub newest : new.kept ≡ others ++ ninth ∷ []
+
+-- all that a step can do to a kept snapshot is to drop it so
+abbrev pub OldestAreDropped : Type 0
+OldestAreDropped = (hash_of : List ℕ → ℕ) (old new : Replica) (act : Act) (answer : Answer) (out : List Mail) → IsStep hash_of old act new answer out
+    → (k : Kept) → Contains old.kept k → Contains new.kept k ⊎ IsDropped old new act k
+
 -- a delivery was taken
 abbrev pub IsTaken : Answer → Type 0
 IsTaken answer = (answer ≡ Came Sent) ⊎ (answer ≡ Came Done)
