@@ -26,5 +26,6 @@ pub mod Taking
 pub mod Histories
 pub mod Answers
 pub mod Waiting
+pub mod Complete
 pub mod Differing
 pub mod Alone

@@ -8,19 +8,20 @@ use Rattle.dots.specs.declared.refusal.Refusal.{Refusal}
 use Rattle.op_model.specs.Meaning.{state}
 use Rattle.op_model.specs.Operation.{Operation, IsPartOf, IsSameSet, has, known}
 use Rattle.op_model.specs.World as sets
+use Rattle.wire_form.specs.Sent.{SentValue}
 use Rattle.wire_form.specs.Session.{SessionValue}
 use Rattle.prefix_digest.specs.MapOf.{IsMapOf, root_digest}
 use Rattle.wire_form.specs.Page.{PageValue}
 use Rattle.prefix_digest.specs.Page.{page_at, digest_at}
 use Rattle.prefix_digest.specs.Values.{unknown_at}
-use Rattle.sync_model.specs.Laws.{NoClash}
-use Rattle.sync_model.specs.Differ.{Held}
+use Rattle.sync_model.specs.Laws.{TakenAt, NoClash}
+use Rattle.sync_model.specs.Differ.{Held, Differ, Waits}
 use Rattle.replica_model.specs.Mail.{Mail, Delta, Hello, Opening, Ask, Page, Gone}
 use Rattle.replica_model.specs.Replica.{Replica, Open, Accepted, Kept, LIMIT, open_at, kept_at}
 use Rattle.replica_model.specs.Delivery.{Sent, Done}
 use Rattle.replica_model.specs.Step.{Call, Put, Remove, RemoveField, Clear, Flush, Retry, Abandon, Do, Take, Act, Answer, Came, IsStep, Refuses}
 use Rattle.replica_model.specs.Step as step
-use Rattle.replica_model.specs.World.{World, Event, Node, At, Deliver, Message, sets_of, message_at, no_snapshot, nothing, Happens, RefusesEvent, Runs, Unclashed}
+use Rattle.replica_model.specs.World.{World, Event, Node, At, Deliver, Message, sets_of, message_at, no_snapshot, taking_of, nothing, Happens, RefusesEvent, Runs, Unclashed}
 use Rattle.replica_model.specs.Sessions.{IsTakenOf, IsAskOf, IsSession, IsEnd}
 
 -- ---- one
@@ -249,27 +250,33 @@ abbrev pub OldestAreDropped : Type 0
 OldestAreDropped = (hash_of : List ℕ → ℕ) (old new : Replica) (act : Act) (answer : Answer) (out : List Mail) → IsStep hash_of old act new answer out
     → (k : Kept) → Contains old.kept k → Contains new.kept k ⊎ IsDropped old new act k
 
--- a delivery was taken
-abbrev pub IsTaken : Answer → Type 0
-IsTaken answer = (answer ≡ Came Sent) ⊎ (answer ≡ Came Done)
+-- a delivery was taken: it is answered Done where its session has all by that, and else Sent
+abbrev pub IsDoneElseSent : Answer → Type 0 → Type 0
+IsDoneElseSent answer HasAll = ((answer ≡ Came Done) × HasAll) ⊎ ((answer ≡ Came Sent) × (¬ HasAll))
 
--- An open session that accepted no opening takes each opening of it, unless pages or values of the two maps clash, whatever other sessions
--- met.
+-- An open session that accepted no opening takes each opening of it, with Done where the maps differ nowhere, unless pages or values of the two
+-- maps clash, whatever other sessions met.
 abbrev pub TakesOpenings : Type 0
 TakesOpenings = (hash_of : List ℕ → ℕ) (events : List Event) (w : World) → Runs hash_of nothing events w
     → (number name : ℕ) (m : Message) (s : SessionValue) (context : DotValue → Bool) (root : Option (List ℕ)) (o : Open)
     → message_at w.messages number ≡ Some m → m.mail ≡ Opening s context root → open_at (w.replica name).sessions s ≡ Some o → o.accepted ≡ None
-    → NoClash hash_of o.own m.of.map [] → (answer : Answer) (v : World) → Happens hash_of w (Deliver number name) answer v → IsTaken answer
+    → NoClash hash_of o.own m.of.map [] → (answer : Answer) (v : World) → Happens hash_of w (Deliver number name) answer v
+    → IsDoneElseSent answer ((p digest : List ℕ) → ¬ Differ hash_of o.own m.of.map p digest)
 
--- One that accepted an opening takes, at each prefix that it waits for, the page of that snapshot with the values that it had not seen,
--- unless pages or values that the session itself met clash; and the snapshot has such a page.
+-- a page of a map, as it is sent to who knows these dots
+abbrev pub sent_of : (DotValue → Bool) → (List ℕ → ℕ) → Held → List ℕ → PageValue → SentValue
+sent_of known hash_of m p page = record { prefix = p; values = unknown_at known hash_of m p; page = page }
+
+-- One that accepted an opening takes, at each prefix that it waits for, the page of that snapshot with the values that it had not seen, with Done
+-- where nothing is waited for after it, unless pages or values that the session itself met clash; and the snapshot has such a page.
 abbrev pub TakesPages : Type 0
 TakesPages = (hash_of : List ℕ → ℕ) (events : List Event) (w : World) → Runs hash_of nothing events w
     → (name : ℕ) (s : SessionValue) (o : Open) (a : Accepted) → open_at (w.replica name).sessions s ≡ Some o → o.accepted ≡ Some a
     → NoClash hash_of o.own (w.accepted s).map (w.taken s) → (p digest : List ℕ) → finite.get a.fetch.waiting p ≡ Some digest
     → (page : PageValue) × (page_at hash_of (w.accepted s).map p ≡ Some page)
-    × ((number : ℕ) (m : Message) → message_at w.messages number ≡ Some m → m.mail ≡ Page s (record { prefix = p; values = unknown_at o.seen hash_of (w.accepted s).map p; page = page })
-    → (answer : Answer) (v : World) → Happens hash_of w (Deliver number name) answer v → IsTaken answer)
+    × ((number : ℕ) (m : Message) → message_at w.messages number ≡ Some m → let sent = sent_of o.seen hash_of (w.accepted s).map p page in m.mail ≡ Page s sent
+    → (answer : Answer) (v : World) → Happens hash_of w (Deliver number name) answer v
+    → IsDoneElseSent answer ((q d : List ℕ) → ¬ Waits hash_of o.own (w.accepted s).map (TakenAt (taking_of sent ∷ w.taken s)) q d))
 
 -- an ask is told the page of the kept snapshot, with the values that the asker had not seen, by what its hello told
 abbrev pub TellsPages : Type 0
@@ -278,4 +285,4 @@ TellsPages = (hash_of : List ℕ → ℕ) (events : List Event) (w : World) → 
     → message_at w.messages number ≡ Some m → m.mail ≡ Ask s p → kept_at (w.replica name).kept s ≡ Some k → page_at hash_of k.map p ≡ Some page
     → (answer : Answer) (v : World) → Happens hash_of w (Deliver number name) answer v
     → (answer ≡ Came Sent)
-    × (v.messages ≡ w.messages ++ record { mail = Page s (record { prefix = p; values = unknown_at k.seen hash_of k.map p; page = page }); of = no_snapshot } ∷ [])
+    × (v.messages ≡ w.messages ++ record { mail = Page s (sent_of k.seen hash_of k.map p page); of = no_snapshot } ∷ [])

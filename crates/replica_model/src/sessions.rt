@@ -15,7 +15,8 @@ pub fn openings_are_of_snapshots()
 {}
 
 /// A session that ends adds to its asker just what its answerer had seen when the snapshot was taken; and unless two pages or two values
-/// that it met have one SHA-256, whatever other sessions met, it joins into the asker's live state what that of the answerer was then.
+/// that it met have one SHA-256, whatever other sessions met, it took the page of the snapshot, with just the values that it lacked, at just each
+/// prefix where the maps differ, once, and it joins into the asker's live state what that of the answerer was then.
 pub fn a_session_that_ends_joins_what_its_peer_had()
     ensures { Ends }
 {}
@@ -34,9 +35,9 @@ pub fn a_session_has_one_ask()
 {}
 
 /// Unless two pages or two values that an open session itself met have one SHA-256, whatever other sessions met, it takes what it waits for:
-/// an opening of it where it accepted none, and at each prefix that it waits for the page of the snapshot that it accepted, with the values
-/// that it had not seen; and the snapshot has such a page. An ask is told the page of the kept snapshot with the values that the asker had
-/// not seen.
+/// an opening of it where it accepted none, which is answered Done where the maps differ nowhere; and at each prefix that it waits for the page of
+/// the snapshot that it accepted, with the values that it had not seen, which is answered Done where nothing is waited for after it; and the
+/// snapshot has such a page. An ask is told the page of the kept snapshot with the values that the asker had not seen.
 pub fn sessions_take_what_they_wait_for()
     ensures openings { TakesOpenings }
     ensures pages { TakesPages }
