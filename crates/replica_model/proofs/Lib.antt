@@ -23,6 +23,7 @@ pub mod Standing
 pub mod Puts
 pub mod Happening
 pub mod Taking
+pub mod Refusing
 pub mod Histories
 pub mod Answers
 pub mod Waiting

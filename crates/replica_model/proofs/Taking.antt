@@ -45,7 +45,7 @@ went HasAll r o c f asks all = by (is_complete f) refl _ _
     by false e p q = inr (refl, all.incomplete e)
 
 -- a message for a replica is taken by its row
-for_it : (hash_of : List ℕ → ℕ) (own : Held) (r : Replica) (mail : Mail) → is_for r.name mail ≡ true → delivered hash_of own r mail ≡ taken hash_of own r mail
+pub for_it : (hash_of : List ℕ → ℕ) (own : Held) (r : Replica) (mail : Mail) → is_for r.name mail ≡ true → delivered hash_of own r mail ≡ taken hash_of own r mail
 for_it hash_of own r mail is = ap (λ b. cond b (taken hash_of own r mail) (ignored r)) is
 
 the_same : {X : Type 0} (o : Option X) (x y : X) → o ≡ Some x → o ≡ Some y → x ≡ y

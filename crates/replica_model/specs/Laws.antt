@@ -18,7 +18,7 @@ use Rattle.sync_model.specs.Laws.{TakenAt, NoClash}
 use Rattle.sync_model.specs.Differ.{Held, Differ, Waits}
 use Rattle.replica_model.specs.Mail.{Mail, Delta, Hello, Opening, Ask, Page, Gone}
 use Rattle.replica_model.specs.Replica.{Replica, Open, Accepted, Kept, LIMIT, open_at, kept_at}
-use Rattle.replica_model.specs.Delivery.{Sent, Done}
+use Rattle.replica_model.specs.Delivery.{Outcome, Sent, Done, Ignored, Mismatch}
 use Rattle.replica_model.specs.Step.{Call, Put, Remove, RemoveField, Clear, Flush, Retry, Abandon, Do, Take, Act, Answer, Came, IsStep, Refuses}
 use Rattle.replica_model.specs.Step as step
 use Rattle.replica_model.specs.World.{World, Event, Node, At, Deliver, Message, sets_of, message_at, no_snapshot, taking_of, nothing, Happens, RefusesEvent, Runs, Unclashed}
@@ -277,6 +277,36 @@ TakesPages = (hash_of : List ℕ → ℕ) (events : List Event) (w : World) → 
     × ((number : ℕ) (m : Message) → message_at w.messages number ≡ Some m → let sent = sent_of o.seen hash_of (w.accepted s).map p page in m.mail ≡ Page s sent
     → (answer : Answer) (v : World) → Happens hash_of w (Deliver number name) answer v
     → IsDoneElseSent answer ((q d : List ℕ) → ¬ Waits hash_of o.own (w.accepted s).map (TakenAt (taking_of sent ∷ w.taken s)) q d))
+
+-- what came is a page of a map, as it is sent to who knows these dots
+abbrev pub IsPageOf : (DotValue → Bool) → (List ℕ → ℕ) → Held → SentValue → Type 0
+IsPageOf known hash_of m sent = (page_at hash_of m sent.prefix ≡ Some sent.page) × (sent.values ≡ unknown_at known hash_of m sent.prefix)
+
+-- a delivery is so answered and no more: the replica is what it was, and nothing is sent
+pub record IsOnlyAnswered (outcome : Outcome) (old new : Replica) (answer : Answer) (out : List Mail) : Type 0 where
+  pub answers : answer ≡ Came outcome
+  pub replica : new ≡ old
+  pub sends : out ≡ []
+
+-- Any other page at a prefix that an open session waits for, from anywhere, is answered Mismatch and no more, unless pages or values clash that the
+-- session itself met, with those of this page.
+abbrev pub OtherPagesMismatch : Type 0
+OtherPagesMismatch = (hash_of : List ℕ → ℕ) (events : List Event) (w : World) → Runs hash_of nothing events w
+    → (name : ℕ) (s : SessionValue) (o : Open) (a : Accepted) → open_at (w.replica name).sessions s ≡ Some o → o.accepted ≡ Some a
+    → (sent : SentValue) (digest : List ℕ) → finite.get a.fetch.waiting sent.prefix ≡ Some digest
+    → NoClash hash_of o.own (w.accepted s).map (taking_of sent ∷ w.taken s) → ¬ IsPageOf o.seen hash_of (w.accepted s).map sent
+    → (new : Replica) (answer : Answer) (out : List Mail) → IsStep hash_of (w.replica name) (Take (Page s sent)) new answer out
+    → IsOnlyAnswered Mismatch (w.replica name) new answer out
+
+-- a replica waits for the page of a session at this prefix: the session is open, and accepted an opening
+abbrev pub AwaitsPage : Replica → SessionValue → List ℕ → Type 0
+AwaitsPage r s p =
+    (o : Open) × (a : Accepted) × (digest : List ℕ) × (open_at r.sessions s ≡ Some o) × (o.accepted ≡ Some a) × (finite.get a.fetch.waiting p ≡ Some digest)
+
+-- where it waits for none, each page is answered Ignored and no more: by its step alone, whatever clashes
+abbrev pub PagesElsewhereAreIgnored : Type 0
+PagesElsewhereAreIgnored = (hash_of : List ℕ → ℕ) (old new : Replica) (s : SessionValue) (sent : SentValue) (answer : Answer) (out : List Mail)
+    → IsStep hash_of old (Take (Page s sent)) new answer out → ¬ AwaitsPage old s sent.prefix → IsOnlyAnswered Ignored old new answer out
 
 -- an ask is told the page of the kept snapshot, with the values that the asker had not seen, by what its hello told
 abbrev pub TellsPages : Type 0

@@ -1,6 +1,6 @@
 // The laws of the sessions of a world, over all lists of events.
 ghost use Rattle.replica_model.specs.Differing.{SessionsFetch, OpeningsAsk, PagesAsk};
-ghost use Rattle.replica_model.specs.Laws.{AsksAreOne, Sessions, Openings, Ends, SnapshotsAreFor, SnapshotsKnowWhatWasAsked, TakesOpenings, TakesPages, TellsPages};
+ghost use Rattle.replica_model.specs.Laws.{AsksAreOne, Sessions, Openings, Ends, SnapshotsAreFor, SnapshotsKnowWhatWasAsked, TakesOpenings, TakesPages, TellsPages, OtherPagesMismatch, PagesElsewhereAreIgnored};
 
 /// Each open session of a replica is its own, and was opened by an ask, of a map that stood for its live state then, which is below the
 /// live state ever since. Where it accepted an opening, that is of a snapshot that its peer took of what it was when it got the hello,
@@ -42,6 +42,14 @@ pub fn sessions_take_what_they_wait_for()
     ensures openings { TakesOpenings }
     ensures pages { TakesPages }
     ensures told { TellsPages }
+{}
+
+/// Any other page at a prefix that an open session waits for, from anywhere, is answered Mismatch, unless two pages or two values that the session
+/// itself met, with those of this page, have one SHA-256; and a page at a prefix that none waits for is answered Ignored, whatever clashes. Both leave
+/// the replica as it was, and nothing is sent.
+pub fn sessions_take_no_other_pages()
+    ensures others { OtherPagesMismatch }
+    ensures elsewhere { PagesElsewhereAreIgnored }
 {}
 
 /// Unless two pages or two values that an open session itself met have one SHA-256: it has taken just pages of the snapshot that it accepted,
