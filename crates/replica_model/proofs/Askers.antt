@@ -78,7 +78,7 @@ abandon_keeps : (old new : Replica) (o : Option Open) (answer : Answer) → Aban
 abandon_keeps old new None answer (n, a) = ap (λ (r : Replica). r.kept) n
 abandon_keeps old new (Some o) answer (n, a) = ap (λ (r : Replica). r.kept) n
 
-call_keeps : (old new : Replica) (c : Call) (answer : Answer) (out : List Mail) → IsCall old c new answer out → new.kept ≡ old.kept
+pub call_keeps : (old new : Replica) (c : Call) (answer : Answer) (out : List Mail) → IsCall old c new answer out → new.kept ≡ old.kept
 call_keeps old new (Put place value) answer out (w, put, lt, n, a, o) = ap (λ (r : Replica). r.kept) n
 call_keeps old new (Remove key) answer out (over, just, n, a, o) = ap (λ (r : Replica). r.kept) n
 call_keeps old new (RemoveField place) answer out (over, just, n, a, o) = ap (λ (r : Replica). r.kept) n
@@ -198,12 +198,14 @@ snapshots_for hash_of events w runs name k h =
     let heard = heard_all hash_of events w runs in
     let at = heard.kept name k h in
     let asked = heard.hellos at.0 at.1 at.2 k.session k.seen at.3 in
+    let tie = (told hash_of events w runs).kept name k h in
     record {
-      answerer = ((told hash_of events w runs).kept name k h).answerer;
+      answerer = tie.answerer;
       number = at.0;
       message = at.1;
       there = at.2;
       hello = at.3;
       own = asked.0;
       asked = asked.1;
+      taken = tie.snap;
     }

@@ -52,7 +52,7 @@ module _ (hash_of : List ℕ → ℕ) (events : List Event) (w v : World) (numbe
         met = ap (λ (x : World). x.closed) d.after ∙ ap (λ (x : World). x.closed) e.sets;
         all = λ no_clash.
             let law = fetching hash_of e.session.own e.snapshot.map e.session.seen e.context e.takings e.fetched (map_lawful e.session.own _ tie.asked.0.own_then) no_clash e.is_fetched in
-            let done = law.done e.complete in record { each = done.1; no_other = done.2; once = law.once };
+            let done = law.done e.complete in record { each = done.1; no_other = done.2; once = law.once; theirs_taken = law.theirs_taken };
         joins = λ no_clash.
             let live = (w.replica name).live in
             let law = fetching hash_of e.session.own e.snapshot.map e.session.seen e.context e.takings e.fetched (map_lawful e.session.own _ tie.asked.0.own_then) no_clash e.is_fetched in

@@ -23,8 +23,10 @@ pub mod Standing
 pub mod Puts
 pub mod Happening
 pub mod Taking
+pub mod Refusing
 pub mod Histories
 pub mod Answers
 pub mod Waiting
+pub mod Complete
 pub mod Differing
 pub mod Alone

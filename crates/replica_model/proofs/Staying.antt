@@ -1,17 +1,19 @@
 -- What a step does to the sessions and the snapshots that it is not of: an open session stays as it is, and a snapshot stays or is dropped.
 use Rattle.std.proofs.Common.{◌≡◌, ◌⊎◌, inl, inr, ℕ, List, [], ◌∷◌, Bool, true, false, not, Option, Some, None, cond, refl, sym, ap, ◌∙◌, subst, eqb-true}
-use Rattle.std.specs.Prelude.{◌==◌, Contains}
+use Rattle.std.specs.Prelude.{◌==◌, ◌++◌, ◌≤◌, Contains, length, nat_lt}
 use Rattle.std.specs.FinMap as finite
+use Rattle.std.proofs.lemmas.Bool.{ltb-false}
 use Rattle.std.proofs.lemmas.List.Elements.{Contains-append_left}
-use Rattle.op_model.proofs.Members.{in_filter, in_map}
+use Rattle.op_model.proofs.Members.{nothing_in, head_or_tail, in_filter, in_map}
 use Rattle.wire_form.specs.Session.{SessionValue, same_session}
 use Rattle.sync_model.specs.Differ.{Held}
 use Rattle.replica_model.specs.Mail.{Mail, Hello}
-use Rattle.replica_model.specs.Replica.{Replica, Open, Kept, open_numbered, kept_at, advanced, without_session}
+use Rattle.replica_model.specs.Replica.{Replica, Open, Kept, open_numbered, kept_at, advanced, without_session, LIMIT, keeping, keeps}
 use Rattle.replica_model.specs.Delivery.{Turn, delivered}
 use Rattle.replica_model.specs.Step.{Call, Put, Remove, RemoveField, Clear, Flush, Retry, Abandon, Do, Take, Act, Answer, Abandons, IsCall}
 use Rattle.replica_model.specs.Step as step
-use Rattle.replica_model.specs.Laws.{IsOfOpen, IsNewFor, SessionsStay, SnapshotsStay}
+use Rattle.replica_model.specs.Laws.{IsOfOpen, IsNewFor, IsDropped, SessionsStay, SnapshotsStay, OldestAreDropped}
+use Rattle.replica_model.proofs.Askers.{call_keeps}
 use Rattle.replica_model.proofs.Found.{same_is_one, found_open, in_keeping}
 use Rattle.replica_model.proofs.Rows.{snapshot, each_row}
 
@@ -107,25 +109,54 @@ module _ (hash_of : List ℕ → ℕ) (own : Held) (r : Replica) (k : Kept) wher
       by s seen none (inl h) = inl h
       by s seen none (inr e) = inr (ap (λ (x : Kept). x.session) e, none)
 
-same_kept : (old new changed : Replica) (k : Kept) (act : Act) → new ≡ changed → changed.kept ≡ old.kept → Contains new.kept k → Contains old.kept k ⊎ IsNewFor old act k
-same_kept old new changed k act is kept h = inl (subst (λ ks. Contains ks k) (ap (λ (x : Replica). x.kept) is ∙ kept) h)
+-- ---- which are dropped
 
-abandon_keeps : (old new : Replica) (x : Option Open) (answer : Answer) (k : Kept) (act : Act) → Abandons old x new answer → Contains new.kept k → Contains old.kept k ⊎ IsNewFor old act k
-abandon_keeps old new None answer k act (n, a) h = same_kept old new old k act n refl h
-abandon_keeps old new (Some x) answer k act (n, a) h = same_kept old new _ k act n refl h
+-- where one more is kept, each stays but the oldest of eight
+KeptOrOldest : List Kept → Kept → Kept → Type 0
+KeptOrOldest ks ninth k = Contains (keeping ninth ks) k ⊎ ((LIMIT ≤ length ks) × ((others : List Kept) × (ks ≡ k ∷ others) × (keeping ninth ks ≡ others ++ ninth ∷ [])))
 
-call_keeps : (old new : Replica) (c : Call) (answer : Answer) (out : List Mail) (k : Kept) → IsCall old c new answer out → Contains new.kept k → Contains old.kept k ⊎ IsNewFor old (Do c) k
-call_keeps old new (Put place value) answer out k (x, put, few, n, a, z) h = same_kept old new _ k (Do (Put place value)) n refl h
-call_keeps old new (Remove key) answer out k (over, just, n, counts, z) h = same_kept old new _ k (Do (Remove key)) n refl h
-call_keeps old new (RemoveField place) answer out k (over, just, n, counts, z) h = same_kept old new _ k (Do (RemoveField place)) n refl h
-call_keeps old new Clear answer out k (over, just, n, counts, z) h = same_kept old new _ k (Do Clear) n refl h
-call_keeps old new Flush answer out k (a, inl (none, n, z)) h = same_kept old new old k (Do Flush) n refl h
-call_keeps old new Flush answer out k (a, inr (some, n, z)) h = same_kept old new _ k (Do Flush) n refl h
-call_keeps old new (step.Ask peer) answer out k (mine, is, few, left, n, a, z) h = same_kept old new _ k (Do (step.Ask peer)) n refl h
-call_keeps old new (Retry number) answer out k (n, a, z) h = same_kept old new old k (Do (Retry number)) n refl h
-call_keeps old new (Abandon number) answer out k (abandons, z) h = abandon_keeps old new (open_numbered old.sessions number) answer k (Do (Abandon number)) abandons h
+kept_or_oldest : (ks : List Kept) (ninth k : Kept) → Contains ks k → KeptOrOldest ks ninth k
+unfolding KeptOrOldest
+kept_or_oldest [] ninth k there = nothing_in k there
+kept_or_oldest (x ∷ ks) ninth k there = by (nat_lt (length (x ∷ ks)) LIMIT) refl (head_or_tail x ks k there)
+  where
+    kept_by : Bool → List Kept
+    kept_by b = cond b (x ∷ ks) ks ++ ninth ∷ []
+
+    by : (b : Bool) → nat_lt (length (x ∷ ks)) LIMIT ≡ b → (x ≡ k) ⊎ Contains ks k → KeptOrOldest (x ∷ ks) ninth k
+    by true room h = inl (subst (λ b. Contains (kept_by b) k) (sym room) (Contains-append_left (x ∷ ks) (ninth ∷ []) k there))
+    by false full (inl e) = inr (ltb-false (length (x ∷ ks)) LIMIT full, (ks, ap (λ y. y ∷ ks) e, ap kept_by full))
+    by false full (inr h) = inl (subst (λ b. Contains (kept_by b) k) (sym full) (Contains-append_left ks (ninth ∷ []) k h))
+
+module _ (hash_of : List ℕ → ℕ) (own : Held) (r : Replica) (k : Kept) (there : Contains r.kept k) where
+  delivery_drops : (mail : Mail) → Contains (delivered hash_of own r mail).new.kept k ⊎ IsDropped r (delivered hash_of own r mail).new (Take mail) k
+  unfolding KeptOrOldest
+  delivery_drops = each_row hash_of own r (λ mail t. Contains t.new.kept k ⊎ IsDropped r t.new (Take mail) k) (record {
+    ignoring = λ mail. inl there;
+    mismatch = λ mail. inl there;
+    delta = λ d. inl there;
+    told_again = λ s seen x e. inl there;
+    kept = λ s seen here none. by s seen none (kept_or_oldest r.kept (snapshot own r s seen) k there);
+    gone = λ s p. inl there;
+    page = λ s p x page. inl there;
+    opening_done = λ s c root x f found first took complete. inl there;
+    opening_sent = λ s c root x f found first took. inl there;
+    page_done = λ s sent x a f found accepted took complete. inl there;
+    page_sent = λ s sent x a f found accepted took. inl there;
+    ended = λ s x found. inl there;
+  })
+    where
+      by : (s : SessionValue) (seen : _) → kept_at r.kept s ≡ None → KeptOrOldest r.kept (snapshot own r s seen) k
+          → Contains (keeps r (snapshot own r s seen)).kept k ⊎ IsDropped r (keeps r (snapshot own r s seen)) (Take (Hello s seen)) k
+      by s seen none (inl h) = inl h
+      by s seen none (inr (full, (others, oldest, newest))) = inr (record { full = full; others = others; oldest = oldest; ninth = snapshot own r s seen; is_new = (refl, none); newest = newest })
 
 pub snapshots_stay : SnapshotsStay
-snapshots_stay hash_of old new (Do c) answer out is k h = call_keeps old new c answer out k is h
+snapshots_stay hash_of old new (Do c) answer out is k h = inl (subst (λ ks. Contains ks k) (call_keeps old new c answer out is) h)
 snapshots_stay hash_of old new (Take mail) answer out (outcome, a, (own, is_own, steps)) k h =
     delivery_keeps hash_of own old k mail (subst (λ (t : Turn). Contains t.new.kept k) (sym steps) h)
+
+pub oldest_are_dropped : OldestAreDropped
+oldest_are_dropped hash_of old new (Do c) answer out is k h = inl (subst (λ ks. Contains ks k) (sym (call_keeps old new c answer out is)) h)
+oldest_are_dropped hash_of old new (Take mail) answer out (outcome, a, (own, is_own, steps)) k h =
+    subst (λ (t : Turn). Contains t.new.kept k ⊎ IsDropped old t.new (Take mail) k) steps (delivery_drops hash_of own old k h mail)

@@ -8,19 +8,20 @@ use Rattle.dots.specs.declared.refusal.Refusal.{Refusal}
 use Rattle.op_model.specs.Meaning.{state}
 use Rattle.op_model.specs.Operation.{Operation, IsPartOf, IsSameSet, has, known}
 use Rattle.op_model.specs.World as sets
+use Rattle.wire_form.specs.Sent.{SentValue}
 use Rattle.wire_form.specs.Session.{SessionValue}
 use Rattle.prefix_digest.specs.MapOf.{IsMapOf, root_digest}
 use Rattle.wire_form.specs.Page.{PageValue}
 use Rattle.prefix_digest.specs.Page.{page_at, digest_at}
 use Rattle.prefix_digest.specs.Values.{unknown_at}
-use Rattle.sync_model.specs.Laws.{NoClash}
-use Rattle.sync_model.specs.Differ.{Held}
+use Rattle.sync_model.specs.Laws.{TakenAt, NoClash}
+use Rattle.sync_model.specs.Differ.{Held, Differ, Waits}
 use Rattle.replica_model.specs.Mail.{Mail, Delta, Hello, Opening, Ask, Page, Gone}
 use Rattle.replica_model.specs.Replica.{Replica, Open, Accepted, Kept, LIMIT, open_at, kept_at}
-use Rattle.replica_model.specs.Delivery.{Sent, Done}
+use Rattle.replica_model.specs.Delivery.{Outcome, Sent, Done, Ignored, Mismatch}
 use Rattle.replica_model.specs.Step.{Call, Put, Remove, RemoveField, Clear, Flush, Retry, Abandon, Do, Take, Act, Answer, Came, IsStep, Refuses}
 use Rattle.replica_model.specs.Step as step
-use Rattle.replica_model.specs.World.{World, Event, Node, At, Deliver, Message, sets_of, message_at, no_snapshot, nothing, Happens, RefusesEvent, Runs, Unclashed}
+use Rattle.replica_model.specs.World.{World, Event, Node, At, Deliver, Message, sets_of, message_at, no_snapshot, taking_of, nothing, Happens, RefusesEvent, Runs, Unclashed}
 use Rattle.replica_model.specs.Sessions.{IsTakenOf, IsAskOf, IsSession, IsEnd}
 
 -- ---- one
@@ -170,7 +171,8 @@ StayWithinLimits = (hash_of : List ℕ → ℕ) (events : List Event) (w : World
 
 -- ---- snapshots, openings and pages
 
--- a snapshot is kept for the hello of its session, which told what the asker knew when it asked
+-- a snapshot is kept for the hello of its session, which told what the asker knew when it asked; and it is what its replica was when it kept it,
+-- whatever that wrote since
 pub record IsKeptFor (hash_of : List ℕ → ℕ) (events : List Event) (w : World) (name : ℕ) (k : Kept) : Type 0 where
   pub answerer : k.session.answerer ≡ name
   pub number : ℕ
@@ -179,6 +181,7 @@ pub record IsKeptFor (hash_of : List ℕ → ℕ) (events : List Event) (w : Wor
   pub hello : message.mail ≡ Hello k.session k.seen
   pub own : Held
   pub asked : IsAskOf hash_of events k.session own k.seen
+  pub taken : IsTakenOf hash_of events k.session (w.kept k.session) k.map k.context
 
 abbrev pub SnapshotsAreFor : Type 0
 SnapshotsAreFor = (hash_of : List ℕ → ℕ) (events : List Event) (w : World) → Runs hash_of nothing events w
@@ -233,27 +236,77 @@ abbrev pub SnapshotsStay : Type 0
 SnapshotsStay = (hash_of : List ℕ → ℕ) (old new : Replica) (act : Act) (answer : Answer) (out : List Mail) → IsStep hash_of old act new answer out
     → (k : Kept) → Contains new.kept k → Contains old.kept k ⊎ IsNewFor old act k
 
--- a delivery was taken
-abbrev pub IsTaken : Answer → Type 0
-IsTaken answer = (answer ≡ Came Sent) ⊎ (answer ≡ Came Done)
+-- a step drops this snapshot: it was the oldest where eight were kept, and a ninth is kept now
+pub record IsDropped (old new : Replica) (act : Act) (k : Kept) : Type 0 where
+  pub full : LIMIT ≤ length old.kept
+  pub others : List Kept
+  pub oldest : old.kept ≡ k ∷ others
+  pub ninth : Kept
+  pub is_new : IsNewFor old act ninth
+  pub newest : new.kept ≡ others ++ ninth ∷ []
 
--- An open session that accepted no opening takes each opening of it, unless pages or values of the two maps clash, whatever other sessions
--- met.
+-- all that a step can do to a kept snapshot is to drop it so
+abbrev pub OldestAreDropped : Type 0
+OldestAreDropped = (hash_of : List ℕ → ℕ) (old new : Replica) (act : Act) (answer : Answer) (out : List Mail) → IsStep hash_of old act new answer out
+    → (k : Kept) → Contains old.kept k → Contains new.kept k ⊎ IsDropped old new act k
+
+-- a delivery was taken: it is answered Done where its session has all by that, and else Sent
+abbrev pub IsDoneElseSent : Answer → Type 0 → Type 0
+IsDoneElseSent answer HasAll = ((answer ≡ Came Done) × HasAll) ⊎ ((answer ≡ Came Sent) × (¬ HasAll))
+
+-- An open session that accepted no opening takes each opening of it, with Done where the maps differ nowhere, unless pages or values of the two
+-- maps clash, whatever other sessions met.
 abbrev pub TakesOpenings : Type 0
 TakesOpenings = (hash_of : List ℕ → ℕ) (events : List Event) (w : World) → Runs hash_of nothing events w
     → (number name : ℕ) (m : Message) (s : SessionValue) (context : DotValue → Bool) (root : Option (List ℕ)) (o : Open)
     → message_at w.messages number ≡ Some m → m.mail ≡ Opening s context root → open_at (w.replica name).sessions s ≡ Some o → o.accepted ≡ None
-    → NoClash hash_of o.own m.of.map [] → (answer : Answer) (v : World) → Happens hash_of w (Deliver number name) answer v → IsTaken answer
+    → NoClash hash_of o.own m.of.map [] → (answer : Answer) (v : World) → Happens hash_of w (Deliver number name) answer v
+    → IsDoneElseSent answer ((p digest : List ℕ) → ¬ Differ hash_of o.own m.of.map p digest)
 
--- One that accepted an opening takes, at each prefix that it waits for, the page of that snapshot with the values that it had not seen,
--- unless pages or values that the session itself met clash; and the snapshot has such a page.
+-- a page of a map, as it is sent to who knows these dots
+abbrev pub sent_of : (DotValue → Bool) → (List ℕ → ℕ) → Held → List ℕ → PageValue → SentValue
+sent_of known hash_of m p page = record { prefix = p; values = unknown_at known hash_of m p; page = page }
+
+-- One that accepted an opening takes, at each prefix that it waits for, the page of that snapshot with the values that it had not seen, with Done
+-- where nothing is waited for after it, unless pages or values that the session itself met clash; and the snapshot has such a page.
 abbrev pub TakesPages : Type 0
 TakesPages = (hash_of : List ℕ → ℕ) (events : List Event) (w : World) → Runs hash_of nothing events w
     → (name : ℕ) (s : SessionValue) (o : Open) (a : Accepted) → open_at (w.replica name).sessions s ≡ Some o → o.accepted ≡ Some a
     → NoClash hash_of o.own (w.accepted s).map (w.taken s) → (p digest : List ℕ) → finite.get a.fetch.waiting p ≡ Some digest
     → (page : PageValue) × (page_at hash_of (w.accepted s).map p ≡ Some page)
-    × ((number : ℕ) (m : Message) → message_at w.messages number ≡ Some m → m.mail ≡ Page s (record { prefix = p; values = unknown_at o.seen hash_of (w.accepted s).map p; page = page })
-    → (answer : Answer) (v : World) → Happens hash_of w (Deliver number name) answer v → IsTaken answer)
+    × ((number : ℕ) (m : Message) → message_at w.messages number ≡ Some m → let sent = sent_of o.seen hash_of (w.accepted s).map p page in m.mail ≡ Page s sent
+    → (answer : Answer) (v : World) → Happens hash_of w (Deliver number name) answer v
+    → IsDoneElseSent answer ((q d : List ℕ) → ¬ Waits hash_of o.own (w.accepted s).map (TakenAt (taking_of sent ∷ w.taken s)) q d))
+
+-- what came is a page of a map, as it is sent to who knows these dots
+abbrev pub IsPageOf : (DotValue → Bool) → (List ℕ → ℕ) → Held → SentValue → Type 0
+IsPageOf known hash_of m sent = (page_at hash_of m sent.prefix ≡ Some sent.page) × (sent.values ≡ unknown_at known hash_of m sent.prefix)
+
+-- a delivery is so answered and no more: the replica is what it was, and nothing is sent
+pub record IsOnlyAnswered (outcome : Outcome) (old new : Replica) (answer : Answer) (out : List Mail) : Type 0 where
+  pub answers : answer ≡ Came outcome
+  pub replica : new ≡ old
+  pub sends : out ≡ []
+
+-- Any other page at a prefix that an open session waits for, from anywhere, is answered Mismatch and no more, unless pages or values clash that the
+-- session itself met, with those of this page.
+abbrev pub OtherPagesMismatch : Type 0
+OtherPagesMismatch = (hash_of : List ℕ → ℕ) (events : List Event) (w : World) → Runs hash_of nothing events w
+    → (name : ℕ) (s : SessionValue) (o : Open) (a : Accepted) → open_at (w.replica name).sessions s ≡ Some o → o.accepted ≡ Some a
+    → (sent : SentValue) (digest : List ℕ) → finite.get a.fetch.waiting sent.prefix ≡ Some digest
+    → NoClash hash_of o.own (w.accepted s).map (taking_of sent ∷ w.taken s) → ¬ IsPageOf o.seen hash_of (w.accepted s).map sent
+    → (new : Replica) (answer : Answer) (out : List Mail) → IsStep hash_of (w.replica name) (Take (Page s sent)) new answer out
+    → IsOnlyAnswered Mismatch (w.replica name) new answer out
+
+-- a replica waits for the page of a session at this prefix: the session is open, and accepted an opening
+abbrev pub AwaitsPage : Replica → SessionValue → List ℕ → Type 0
+AwaitsPage r s p =
+    (o : Open) × (a : Accepted) × (digest : List ℕ) × (open_at r.sessions s ≡ Some o) × (o.accepted ≡ Some a) × (finite.get a.fetch.waiting p ≡ Some digest)
+
+-- where it waits for none, each page is answered Ignored and no more: by its step alone, whatever clashes
+abbrev pub PagesElsewhereAreIgnored : Type 0
+PagesElsewhereAreIgnored = (hash_of : List ℕ → ℕ) (old new : Replica) (s : SessionValue) (sent : SentValue) (answer : Answer) (out : List Mail)
+    → IsStep hash_of old (Take (Page s sent)) new answer out → ¬ AwaitsPage old s sent.prefix → IsOnlyAnswered Ignored old new answer out
 
 -- an ask is told the page of the kept snapshot, with the values that the asker had not seen, by what its hello told
 abbrev pub TellsPages : Type 0
@@ -262,4 +315,4 @@ TellsPages = (hash_of : List ℕ → ℕ) (events : List Event) (w : World) → 
     → message_at w.messages number ≡ Some m → m.mail ≡ Ask s p → kept_at (w.replica name).kept s ≡ Some k → page_at hash_of k.map p ≡ Some page
     → (answer : Answer) (v : World) → Happens hash_of w (Deliver number name) answer v
     → (answer ≡ Came Sent)
-    × (v.messages ≡ w.messages ++ record { mail = Page s (record { prefix = p; values = unknown_at k.seen hash_of k.map p; page = page }); of = no_snapshot } ∷ [])
+    × (v.messages ≡ w.messages ++ record { mail = Page s (sent_of k.seen hash_of k.map p page); of = no_snapshot } ∷ [])

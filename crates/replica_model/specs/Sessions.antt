@@ -7,7 +7,8 @@ use Rattle.op_model.specs.Operation.{Operation}
 use Rattle.op_model.specs.State.{join}
 use Rattle.wire_form.specs.Session.{SessionValue}
 use Rattle.prefix_digest.specs.MapOf.{IsMapOf}
-use Rattle.prefix_digest.specs.Page.{digest_at}
+use Rattle.prefix_digest.specs.Page.{page_at, digest_at}
+use Rattle.prefix_digest.specs.Values.{unknown_at}
 use Rattle.sync_model.specs.Closing.{held_state, IsBelow}
 use Rattle.sync_model.specs.Differ.{Held, Differ}
 use Rattle.sync_model.specs.Laws.{Taking, TakenAt, Fetched, NoClash}
@@ -79,15 +80,17 @@ module _ (hash_of : List ℕ → ℕ) where
     pub below : IsBelow (held_state o.own o.seen) (w.replica name).live
     pub fetching : IsFetching events w o o.accepted
 
-  -- of these pages there is one at just each prefix where the maps differ, and one only
-  pub record TookAll (own theirs : Held) (takings : List Taking) : Type 0 where
+  -- of these pages there is one at just each prefix where the maps differ, and one only; and each is the page of theirs, with the values whose dots
+  -- are not among the known ones
+  pub record TookAll (own theirs : Held) (known : DotValue → Bool) (takings : List Taking) : Type 0 where
     pub each : (p d : List ℕ) → Differ hash_of own theirs p d → TakenAt takings p
     pub no_other : (p : List ℕ) → TakenAt takings p → (d : List ℕ) × Differ hash_of own theirs p d
     pub once : (t : Taking) (older newer : List Taking) → takings ≡ newer ++ t ∷ older → ¬ TakenAt older t.prefix
+    pub theirs_taken : (t : Taking) → Contains takings t → (page_at hash_of theirs t.prefix ≡ Some t.page) × (t.sent ≡ unknown_at known hash_of theirs t.prefix)
 
   -- How a delivery ends a session with Done: the message is an opening or a page of a session that is open at its asker; it adds to its asker just what
   -- the answerer had seen when the snapshot was taken that the accepted opening shows; and unless two pages or values that the session met have one SHA-256, whatever other sessions
-  -- met, it took a page at just each prefix where the maps differ, once, and it joins into the asker's live state what that of the answerer was then.
+  -- met, it took the snapshot's page at just each prefix where the maps differ, once, and it joins into the asker's live state what that of the answerer was then.
   pub record IsEnd (events : List Event) (w v : World) (number name : ℕ) : Type 0 where
     pub ended : Open
     pub was_open : Contains (w.replica name).sessions ended
@@ -104,5 +107,5 @@ module _ (hash_of : List ℕ → ℕ) where
     pub takings : List Taking
     pub pages : takings ≡ taken_with w message.mail
     pub met : v.closed ≡ w.closed ++ record { own = ended.own; theirs = of.map; takings = takings } ∷ []
-    pub all : NoClash hash_of ended.own of.map takings → TookAll ended.own of.map takings
+    pub all : NoClash hash_of ended.own of.map takings → TookAll ended.own of.map ended.seen takings
     pub joins : NoClash hash_of ended.own of.map takings → (v.replica name).live ≡ join greater (w.replica name).live (snapshot.before.replica ended.session.answerer).live

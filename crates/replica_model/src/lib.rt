@@ -14,7 +14,8 @@ pub use headline::{
 pub use sessions::{
     a_session_has_one_ask, a_session_that_ends_joins_what_its_peer_had, openings_are_of_snapshots,
     sessions_are_of_asks_and_snapshots, sessions_ask_for_what_differs,
-    sessions_take_what_they_wait_for, snapshots_are_for_what_askers_knew,
+    sessions_take_no_other_pages, sessions_take_what_they_wait_for,
+    snapshots_are_for_what_askers_knew,
 };
 pub use steps::{
     a_replica_alone_holds_what_it_has_seen, histories_are_one, steps_are_one,

@@ -1,6 +1,6 @@
 // The laws of the step of one replica, and of its histories.
 ghost use Rattle.replica_model.specs.Alone.{HeadlineAlone, HistoriesAreSeen};
-ghost use Rattle.replica_model.specs.Laws.{StepsAreOne, RefusedMakesNone, SessionsStay, SnapshotsStay};
+ghost use Rattle.replica_model.specs.Laws.{StepsAreOne, RefusedMakesNone, SessionsStay, SnapshotsStay, OldestAreDropped};
 ghost use Rattle.replica_model.specs.History.{HistoriesAreOne, AfterIsOne, HistoryGoesOn};
 
 /// A step decides the new replica, the answer and what is sent.
@@ -17,10 +17,12 @@ pub fn histories_are_one()
 {}
 
 /// A step leaves each open session as it is but the one that it is of: its own map, what it had seen, the opening that it accepted and what it
-/// fetched. And it changes no kept snapshot: each that is kept afterwards was kept before, or is that of the hello that it took in.
+/// fetched. And it changes no kept snapshot: each that is kept afterwards was kept before, or is that of the hello that it took in. All that it can
+/// do to one is to drop it, where it is the oldest of eight and a ninth is kept.
 pub fn steps_leave_other_sessions()
     ensures sessions { SessionsStay }
     ensures snapshots { SnapshotsStay }
+    ensures dropped { OldestAreDropped }
 {}
 
 /// A replica by itself, to which messages come from anywhere. Whatever the messages of a history are said to stand for, there is what it has
