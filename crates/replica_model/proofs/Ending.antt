@@ -29,7 +29,7 @@ use Rattle.replica_model.proofs.Ties.{MailTie}
 use Rattle.replica_model.proofs.Carried.{Ties}
 
 -- a fetch that is complete waits for nothing
-none_waits : (f : Fetch) → is_complete f ≡ true → (p : List ℕ) → finite.get f.waiting p ≡ None
+pub none_waits : (f : Fetch) → is_complete f ≡ true → (p : List ℕ) → finite.get f.waiting p ≡ None
 none_waits f e p = get-entries f.waiting p ∙ step (finite.entries f.waiting) e
   where
     step : (es : List (List ℕ × List ℕ)) → nat_lt (length es) 1 ≡ true → find prefix_cmp p es ≡ None

@@ -28,3 +28,4 @@ pub mod Answers
 pub mod Waiting
 pub mod Differing
 pub mod Alone
+pub mod SessionsAlone

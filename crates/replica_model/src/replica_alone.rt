@@ -1,0 +1,10 @@
+// The laws of the sessions of a replica by itself, to which messages come from anywhere.
+ghost use Rattle.replica_model.specs.SessionsAlone.{SessionsAlone};
+
+/// Whatever calls, messages and other sessions come, and whatever these messages are: each open session of a replica was opened by an ask
+/// of its own, of a map that stood for its live state then, which is below the live state ever since. Where it took an opening, what is
+/// built was fetched under that; and for each map that has the root digest of that opening, unless two pages or two values that the session
+/// itself met have one SHA-256, it took just pages of that map, and waits for just the prefixes where the maps differ.
+pub fn sessions_of_a_replica_alone_are_of_asks()
+    ensures { SessionsAlone }
+{}
