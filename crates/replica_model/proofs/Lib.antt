@@ -29,3 +29,4 @@ pub mod Waiting
 pub mod Differing
 pub mod Alone
 pub mod SessionsAlone
+pub mod EndsAlone
