@@ -30,3 +30,4 @@ pub mod Differing
 pub mod Alone
 pub mod SessionsAlone
 pub mod EndsAlone
+pub mod OpeningsAlone

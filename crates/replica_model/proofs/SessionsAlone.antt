@@ -34,7 +34,7 @@ use Rattle.replica_model.proofs.Rows.{each_row}
 
 -- ---- deeds, the last first
 
-runs_on : (hash_of : List ℕ → ℕ) (name : ℕ) (deeds : List Deed) (u w v : World) (d : Deed) (answer : Answer) → RunsAlone hash_of name u deeds w → Befalls hash_of name w d answer v → RunsAlone hash_of name u (deeds ++ d ∷ []) v
+pub runs_on : (hash_of : List ℕ → ℕ) (name : ℕ) (deeds : List Deed) (u w v : World) (d : Deed) (answer : Answer) → RunsAlone hash_of name u deeds w → Befalls hash_of name w d answer v → RunsAlone hash_of name u (deeds ++ d ∷ []) v
 runs_on hash_of name [] u w v d answer same step = (answer, v, subst (λ s. Befalls hash_of name s d answer v) same step, refl)
 runs_on hash_of name (x ∷ deeds) u w v d answer (a, t, first, rest) step = (a, t, first, runs_on hash_of name deeds t w v d answer rest step)
 
@@ -87,9 +87,9 @@ pub record IsAsking (old : Replica) (c : Call) (o : Open) : Type 0 where
   pub session : o ≡ asking old peer own
 
 -- the name stays, and each open session was open before, or was just asked for
-record CallLeaves (old new : Replica) (c : Call) : Type 0 where
-  same_name : new.name ≡ old.name
-  sessions : (o : Open) → Contains new.sessions o → Contains old.sessions o ⊎ IsAsking old c o
+pub record CallLeaves (old new : Replica) (c : Call) : Type 0 where
+  pub same_name : new.name ≡ old.name
+  pub sessions : (o : Open) → Contains new.sessions o → Contains old.sessions o ⊎ IsAsking old c o
 
 leaves_as : (old new r : Replica) (c : Call) → new ≡ r → CallLeaves old r c → CallLeaves old new c
 leaves_as old new r c e leaves = subst (λ x. CallLeaves old x c) (sym e) leaves
@@ -98,7 +98,7 @@ abandon_leaves : (old new : Replica) (c : Call) (o : Option Open) (answer : Answ
 abandon_leaves old new c None answer (n, a) = leaves_as old new old c n (record { same_name = refl; sessions = λ o h. inl h })
 abandon_leaves old new c (Some x) answer (n, a) = leaves_as old new _ c n (record { same_name = refl; sessions = λ o h. inl (in_without x.session old.sessions o h) })
 
-call_leaves : (old new : Replica) (c : Call) (answer : Answer) (out : List Mail) → IsCall old c new answer out → CallLeaves old new c
+pub call_leaves : (old new : Replica) (c : Call) (answer : Answer) (out : List Mail) → IsCall old c new answer out → CallLeaves old new c
 call_leaves old new (Put place value) answer out (x, put, few, n, a, o) = leaves_as old new _ (Put place value) n (record { same_name = refl; sessions = λ o h. inl h })
 call_leaves old new (Remove key) answer out (over, just, n, counts, o) = leaves_as old new _ (Remove key) n (record { same_name = refl; sessions = λ o h. inl h })
 call_leaves old new (RemoveField place) answer out (over, just, n, counts, o) = leaves_as old new _ (RemoveField place) n (record { same_name = refl; sessions = λ o h. inl h })

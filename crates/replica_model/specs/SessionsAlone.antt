@@ -82,6 +82,16 @@ abbrev pub SessionsAlone : Type 0
 SessionsAlone = (hash_of : List ℕ → ℕ) (name : ℕ) (deeds : List Deed) (w : World) → RunsAlone hash_of name nothing deeds w
     → (o : Open) → Contains (w.replica name).sessions o → IsSessionAlone hash_of name deeds w o
 
+-- A session has one ask, and so one own map and one context of what was known then; and it takes one opening. So these are the ask and the
+-- opening of the session.
+abbrev pub OneAskAlone : Type 0
+OneAskAlone = (hash_of : List ℕ → ℕ) (name : ℕ) (deeds : List Deed) (s : SessionValue) (own own' : Held) (known known' : DotValue → Bool)
+    → IsAskAlone hash_of name deeds s own known → IsAskAlone hash_of name deeds s own' known' → (own ≡ own') × (known ≡ known')
+
+abbrev pub OneOpeningAlone : Type 0
+OneOpeningAlone = (hash_of : List ℕ → ℕ) (name : ℕ) (deeds : List Deed) (s : SessionValue) (context context' : DotValue → Bool) (root root' : Option (List ℕ))
+    → TookOpening hash_of name deeds s context root → TookOpening hash_of name deeds s context' root' → (context ≡ context') × (root ≡ root')
+
 abbrev pub EndsAlone : Type 0
 EndsAlone = (hash_of : List ℕ → ℕ) (name : ℕ) (deeds : List Deed) (w v : World) (mail : Mail) (of : Snapshot) → RunsAlone hash_of name nothing deeds w
     → (answer : Answer) → Befalls hash_of name w (Comes mail of) answer v → answer ≡ Came Done → IsEndAlone hash_of name deeds w v mail of

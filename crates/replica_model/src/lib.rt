@@ -13,6 +13,7 @@ pub use headline::{
     what_has_seen_the_same_holds_the_same,
 };
 pub use replica_alone::{
+    a_session_of_a_replica_alone_has_one_opening,
     a_session_of_a_replica_alone_joins_what_its_opening_shows,
     sessions_of_a_replica_alone_are_of_asks,
 };
