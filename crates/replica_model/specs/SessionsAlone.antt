@@ -63,7 +63,7 @@ module _ (hash_of : List ℕ → ℕ) (name : ℕ) where
 
   -- How a message ends a session with Done: it is an opening or a page of a session that is open. For each map with the root digest of the
   -- opening that the session took, unless two pages or two values that this session met have one SHA-256: it took a page at just each prefix
-  -- where the maps differ, once, and joins that map, under the dots that the opening knows, into the live state.
+  -- where the maps differ, once, and joins that map, if it is lawful, under the dots that the opening knows, into the live state.
   pub record IsEndAlone (deeds : List Deed) (w v : World) (mail : Mail) (of : Snapshot) : Type 0 where
     pub ended : Open
     pub was_open : Contains (w.replica name).sessions ended

@@ -17,7 +17,8 @@ pub fn a_session_of_a_replica_alone_has_one_opening()
 
 /// And a message that ends a session is an opening or a page of one that is open. For each map that has the root digest of the opening that
 /// this session took, unless two pages or two values that it met itself have one SHA-256: it took a page at just each prefix where the maps
-/// differ, once, and joins that map, under the dots that the opening knows, into the live state as it was just before.
+/// differ, once; and where each key of that map holds some field, and each field once and some value, it joins the map, under the dots that
+/// the opening knows, into the live state as it was just before.
 pub fn a_session_of_a_replica_alone_joins_what_its_opening_shows()
     ensures { EndsAlone }
 {}
