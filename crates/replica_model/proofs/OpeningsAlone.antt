@@ -11,7 +11,6 @@ use Rattle.sync_model.specs.Differ.{Held}
 use Rattle.wire_form.specs.Session.{SessionValue, same_session}
 use Rattle.replica_model.specs.Alone.{Deed, Calls, Comes, Befalls, RunsAlone}
 use Rattle.replica_model.specs.Delivery.{Outcome, Sent, Done, Mismatch, Turn, turn, ignored, fetching, delivered}
-use Rattle.replica_model.specs.Laws.{IsTaken}
 use Rattle.replica_model.specs.Mail.{Mail, Delta, Hello, Opening, Page, Gone}
 use Rattle.replica_model.specs.Mail as mail
 use Rattle.replica_model.specs.Replica.{Replica, Open, Accepted, advanced, without_session}
@@ -303,11 +302,11 @@ module _ (hash_of : List ℕ → ℕ) (name : ℕ) where
   took_ever_since s [] u w same t = subst (λ (x : World). TookOne s (x.replica name)) (sym same) t
   took_ever_since s (d ∷ deeds) u w (answer, v, befalls, rest) t = took_ever_since s deeds v w rest (took_next s u v d answer befalls t)
 
-  taken_outcome : (answer : Answer) (outcome : Outcome) → answer ≡ Came outcome → IsTaken answer → IsTakenOutcome outcome
+  taken_outcome : (answer : Answer) (outcome : Outcome) → answer ≡ Came outcome → (answer ≡ Came Sent) ⊎ (answer ≡ Came Done) → IsTakenOutcome outcome
   taken_outcome answer outcome is (inl e) = inl (came_one outcome Sent (sym is ∙ e))
   taken_outcome answer outcome is (inr e) = inr (came_one outcome Done (sym is ∙ e))
 
-  takes_first : (w v : World) (s : SessionValue) (context : DotValue → Bool) (root : Option (List ℕ)) (of : Snapshot) (answer : Answer) → Befalls hash_of name w (Comes (Opening s context root) of) answer v → IsTaken answer
+  takes_first : (w v : World) (s : SessionValue) (context : DotValue → Bool) (root : Option (List ℕ)) (of : Snapshot) (answer : Answer) → Befalls hash_of name w (Comes (Opening s context root) of) answer v → (answer ≡ Came Sent) ⊎ (answer ≡ Came Done)
       → TakesFirst (w.replica name) s (v.replica name).sessions
   takes_first w v s context root of answer befalls taken = by (arrived hash_of name w v (Opening s context root) of answer befalls)
     where

@@ -17,8 +17,7 @@ use Rattle.sync_model.specs.Laws.{Taking, Fetched}
 use Rattle.sync_model.proofs.Fetches.{fetching}
 use Rattle.sync_model.proofs.Lawful.{map_lawful}
 use Rattle.replica_model.specs.Alone.{Deed, Calls, Comes, Befalls, RunsAlone}
-use Rattle.replica_model.specs.Delivery.{Outcome, Sent, Mismatch, Turn, turn, ignored, fetching as with_fetch, delivered}
-use Rattle.replica_model.specs.Laws.{IsTaken}
+use Rattle.replica_model.specs.Delivery.{Outcome, Sent, Done, Mismatch, Turn, turn, ignored, fetching as with_fetch, delivered}
 use Rattle.replica_model.specs.Mail.{Mail, Delta, Hello, Opening, Page, Gone}
 use Rattle.replica_model.specs.Mail as mail
 use Rattle.replica_model.specs.Replica.{Replica, Open, Accepted, open_at, open_numbered, advanced, without_session}
@@ -315,7 +314,7 @@ module _ (hash_of : List ℕ → ℕ) (name : ℕ) where
   -- ---- after all deeds
 
   -- an opening that is taken now
-  pub opened_now : (deeds : List Deed) (w v : World) (mail : Mail) (of : Snapshot) (answer : Answer) → RunsAlone hash_of name nothing deeds w → Befalls hash_of name w (Comes mail of) answer v → IsTaken answer
+  pub opened_now : (deeds : List Deed) (w v : World) (mail : Mail) (of : Snapshot) (answer : Answer) → RunsAlone hash_of name nothing deeds w → Befalls hash_of name w (Comes mail of) answer v → (answer ≡ Came Sent) ⊎ (answer ≡ Came Done)
       → (s : SessionValue) (context : DotValue → Bool) (root : Option (List ℕ)) → mail ≡ Opening s context root → TookOpening hash_of name (deeds ++ Comes mail of ∷ []) s context root
   opened_now deeds w v mail of answer runs befalls taken s context root is = record {
     front = deeds;

@@ -1,6 +1,6 @@
 -- The sessions of a replica by itself, whatever else comes to it: forged messages, other sessions, pages that clash there. Nothing is asked of what
 -- the messages stand for. Of this project.
-use Rattle.std.specs.Prelude.{◌≡◌, ℕ, ◌+◌, Bool, List, [], ◌∷◌, ◌++◌, Option, Some}
+use Rattle.std.specs.Prelude.{◌≡◌, ◌⊎◌, ℕ, ◌+◌, Bool, List, [], ◌∷◌, ◌++◌, Option, Some}
 use Rattle.std.specs.List.{Contains}
 use Rattle.dots.specs.Dot.{DotValue}
 use Rattle.op_model.specs.Meaning.{greater}
@@ -12,8 +12,7 @@ use Rattle.sync_model.specs.Differ.{Held}
 use Rattle.sync_model.specs.Laws.{IsLawfulMap, Fetched, IsFetched, NoClash}
 use Rattle.wire_form.specs.Session.{SessionValue}
 use Rattle.replica_model.specs.Alone.{Deed, Calls, Comes, Befalls, RunsAlone}
-use Rattle.replica_model.specs.Delivery.{Done}
-use Rattle.replica_model.specs.Laws.{IsTaken}
+use Rattle.replica_model.specs.Delivery.{Sent, Done}
 use Rattle.replica_model.specs.Mail.{Mail, Opening, IsTurnOf}
 use Rattle.replica_model.specs.Replica.{Open, Accepted}
 use Rattle.replica_model.specs.Sessions.{TookAll, taken_with}
@@ -43,7 +42,7 @@ module _ (hash_of : List ℕ → ℕ) (name : ℕ) where
     pub runs : RunsAlone hash_of name nothing front before
     pub answer : Answer
     pub after : World
-    pub taken : IsTaken answer
+    pub taken : (answer ≡ Came Sent) ⊎ (answer ≡ Came Done)
     pub befell : Befalls hash_of name before (Comes (Opening s context root) of) answer after
 
   -- What an open session has fetched: pages under the opening that it took. So for each map with the root digest of that opening, unless pages or
