@@ -19,7 +19,7 @@ use Rattle.replica_model.proofs.Fronts.{same_after_calls, delivery, told}
 use Rattle.replica_model.proofs.Askers.{snapshots_for}
 
 -- a delivery opens no session, and a call one at most
-delivery_opens : (hash_of : List ℕ → ℕ) (own : Held) (r : Replica) (mail : Mail) → r.opened ≤ (delivered hash_of own r mail).new.opened
+pub delivery_opens : (hash_of : List ℕ → ℕ) (own : Held) (r : Replica) (mail : Mail) → r.opened ≤ (delivered hash_of own r mail).new.opened
 delivery_opens hash_of own r = each_row hash_of own r (λ mail t. r.opened ≤ t.new.opened) (record {
   ignoring = λ mail. omega arith;
   mismatch = λ mail. omega arith;
@@ -42,7 +42,7 @@ abandon_opens : (old new : Replica) (o : Option Open) (answer : Answer) → Aban
 abandon_opens old new None answer (n, a) = as_many old new old n (omega arith)
 abandon_opens old new (Some o) answer (n, a) = as_many old new _ n (omega arith)
 
-call_opens : (old new : Replica) (c : Call) (answer : Answer) (out : List Mail) → IsCall old c new answer out → old.opened ≤ new.opened
+pub call_opens : (old new : Replica) (c : Call) (answer : Answer) (out : List Mail) → IsCall old c new answer out → old.opened ≤ new.opened
 call_opens old new (Put place value) answer out (x, put, few, n, a, o) = as_many old new _ n (omega arith)
 call_opens old new (Remove key) answer out (over, just, n, counts, o) = as_many old new _ n (omega arith)
 call_opens old new (RemoveField place) answer out (over, just, n, counts, o) = as_many old new _ n (omega arith)

@@ -30,3 +30,6 @@ pub mod Waiting
 pub mod Complete
 pub mod Differing
 pub mod Alone
+pub mod SessionsAlone
+pub mod EndsAlone
+pub mod OpeningsAlone

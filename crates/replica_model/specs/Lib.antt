@@ -9,3 +9,4 @@ pub mod History
 pub mod Answers
 pub mod Differing
 pub mod Alone
+pub mod SessionsAlone

@@ -3,6 +3,7 @@
 #![tactic(auto)]
 
 mod headline;
+mod replica_alone;
 mod sessions;
 mod steps;
 mod worlds;
@@ -10,6 +11,11 @@ mod worlds;
 pub use headline::{
     calls_are_told_by_what_was_seen, replicas_hold_what_they_have_seen,
     what_has_seen_the_same_holds_the_same,
+};
+pub use replica_alone::{
+    a_session_of_a_replica_alone_has_one_opening,
+    a_session_of_a_replica_alone_joins_what_its_opening_shows,
+    sessions_of_a_replica_alone_are_of_asks,
 };
 pub use sessions::{
     a_session_has_one_ask, a_session_that_ends_joins_what_its_peer_had, openings_are_of_snapshots,
