@@ -7,7 +7,8 @@ use dots::{Field, Key, Refusal, Value};
 use shared_object::Look;
 use std::alloc::Allocator;
 
-/// The distinct values of a field of a key, ascending by bytes. Takes two look-ups, and time and memory in what stands there.
+/// The distinct values of a field of a key, ascending by bytes. Its only refusal is OutOfMemory. Takes two look-ups, and time and memory in what stands
+/// there.
 #[derive(Drop)]
 pub struct Getting<'a, A: Allocator + Copy> {
     /// Where memory for the values is taken.
@@ -35,7 +36,7 @@ impl<'a, A: Allocator + Copy> Look<Root<A>> for Getting<'a, A> {
     }
 }
 
-/// The fields of a key that hold a value, ascending by bytes. Takes a look-up, and time and memory in their number.
+/// The fields of a key that hold a value, ascending by bytes. Its only refusal is OutOfMemory. Takes a look-up, and time and memory in their number.
 #[derive(Drop)]
 pub struct FieldListing<'a, A: Allocator + Copy> {
     /// Where memory for the fields is taken.
@@ -100,7 +101,8 @@ impl<A: Allocator + Copy> Look<Root<A>> for Sizing {
     }
 }
 
-/// The map as it is published, which stays so whatever is written. Copies nothing: it takes a reference count.
+/// The map as it is published, which stays so whatever is written. Copies nothing: it takes a reference count, and its only refusal is OutOfMemory,
+/// where that is full.
 #[derive(Drop)]
 pub struct Sharing;
 

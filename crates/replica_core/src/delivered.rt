@@ -43,6 +43,7 @@ impl<A: Allocator + Copy> Delivered<A> {
             Err(_) => unreachable!(),
         }
     }
+
     // What is answered with one message. Its only refusal is OutOfMemory.
     pub(crate) fn alone(alloc: A, reply: Message<A>) -> Result<Delivered<A>, Refusal>
         ensures outcome { IfOk result (λ told. told.outcome ≡ Outcome.Sent) }

@@ -17,8 +17,7 @@ pub fn worlds_are_sound()
     ensures { Sound }
 {}
 
-/// An event at one replica leaves each other replica, with what it has seen and is to send, and adds to the messages and to the names
-/// alone.
+/// An event at one replica leaves each other replica, with what it has seen and is to send; to the messages and to the names it only adds.
 pub fn events_leave_all_else()
     ensures { EventsLeave }
 {}

@@ -21,7 +21,7 @@ const READ_CALLS: u64 = 1_000_000_000;
 /// Both streams are new. Reads at most 4,096 bytes a call, and at most 1,000,000,000 times. The answer of each line is
 /// written, and flushed, before the next line is carried out. The first failure of the reader (Input) or the writer
 /// (Output) ends the run, as does a fault (BadLine, UnknownReplica, UnknownMessage, NameTaken), whose line is written first, and
-/// want of memory (OutOfMemory).
+/// want of memory (OutOfMemory). A trace that takes more reads than these is answered Input too.
 pub fn run<R: Read, W: Write, A: Allocator + Copy>(
     alloc: A,
     reader: &mut Watched<R>,

@@ -20,7 +20,10 @@ use std::alloc::Allocator;
 use std::sync::{Arc, Wait};
 use wire_form::Message;
 
-/// Opens a synchronisation with a peer.
+/// Opens a synchronisation with a peer, as `Replica::ask`. The reply is its number and its hello.
+///
+/// Its refusals are SessionsFull, just where eight are open, NumbersSpent, just where else no number is left, and else OutOfMemory. Takes what that
+/// call takes, and a root.
 #[derive(Drop)]
 pub struct Asking<A: Allocator + Copy> {
     /// Where memory for the root is taken.
@@ -63,7 +66,9 @@ impl<K: Naming, A: Allocator + Copy> Update<Replica<Fnv1a, A>, Root<A>, NodeEven
     ghost placed = { λ c place. refl };
 }
 
-/// Sends a synchronisation's messages again.
+/// Sends a synchronisation's messages again, as `Replica::retry`: its hello, or an ask for each page that it waits for. The reply is what came of it.
+///
+/// Its only refusal is OutOfMemory. Takes what that call takes, and a root.
 #[derive(Drop)]
 pub struct Retrying<A: Allocator + Copy> {
     /// Where memory for the root is taken.
@@ -96,7 +101,9 @@ impl<K: Naming, A: Allocator + Copy> Update<Replica<Fnv1a, A>, Root<A>, NodeEven
     ghost placed = { λ c place. refl };
 }
 
-/// Gives a synchronisation up.
+/// Gives a synchronisation up, as `Replica::abandon`. The reply is whether one of this number was open.
+///
+/// Its only refusal is OutOfMemory, for the root.
 #[derive(Drop)]
 pub struct Abandoning<A: Allocator + Copy> {
     /// Where memory for the root is taken.

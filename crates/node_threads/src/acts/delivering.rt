@@ -17,7 +17,9 @@ use std::alloc::Allocator;
 use std::sync::{Arc, Wait};
 use wire_form::Message;
 
-/// Takes a message in.
+/// Takes a message in, as `Replica::deliver`. The reply is what it comes to, with what is to be sent for it.
+///
+/// Its only refusal is OutOfMemory. Takes what that call takes, and a root.
 #[derive(Drop)]
 pub struct Delivering<'a, A: Allocator + Copy> {
     /// Where memory for the root is taken.

@@ -18,7 +18,9 @@ use std::alloc::Allocator;
 use std::sync::{Arc, Wait};
 use wire_form::Message;
 
-/// Writes a value on a field of a key.
+/// Writes a value on a field of a key, in the place of the values that stand there, as `Replica::put_field`. The reply is the dot of the write.
+///
+/// Its refusals are NumbersSpent, just where no number is left for the dot, and else OutOfMemory. Takes what that call takes, and a root.
 #[derive(Drop)]
 pub struct Putting<'a, A: Allocator + Copy> {
     /// Where memory for the root is taken.
@@ -70,7 +72,9 @@ impl<'a, K: Naming, A: Allocator + Copy> Update<
     ghost placed = { λ c place. refl };
 }
 
-/// Takes a key away.
+/// Takes a key away with all its fields, as `Replica::remove`. The reply is how many writes it observed there.
+///
+/// Its only refusal is OutOfMemory. Takes what that call takes, and a root.
 #[derive(Drop)]
 pub struct Removing<'a, A: Allocator + Copy> {
     /// Where memory for the root is taken.
@@ -108,7 +112,9 @@ impl<'a, K: Naming, A: Allocator + Copy> Update<
     ghost placed = { λ c place. refl };
 }
 
-/// Takes a field of a key away.
+/// Takes a field of a key away, as `Replica::remove_field`. The reply is how many writes it observed there.
+///
+/// Its only refusal is OutOfMemory. Takes what that call takes, and a root.
 #[derive(Drop)]
 pub struct FieldRemoving<'a, A: Allocator + Copy> {
     /// Where memory for the root is taken.
@@ -148,7 +154,9 @@ impl<'a, K: Naming, A: Allocator + Copy> Update<
     ghost placed = { λ c place. refl };
 }
 
-/// Takes all keys away.
+/// Takes all keys away, as `Replica::clear`. The reply is how many writes it observed.
+///
+/// Its only refusal is OutOfMemory. Takes time and memory in the whole map, and a root.
 #[derive(Drop)]
 pub struct Clearing<A: Allocator + Copy> {
     /// Where memory for the root is taken.
@@ -179,7 +187,9 @@ impl<K: Naming, A: Allocator + Copy> Update<Replica<Fnv1a, A>, Root<A>, NodeEven
     ghost placed = { λ c place. refl };
 }
 
-/// Sends what was made.
+/// Sends what was made since the last flush, as `Replica::flush`. The reply is its delta, or None where nothing was made.
+///
+/// Its only refusal is OutOfMemory. Takes what that call takes, and a root.
 #[derive(Drop)]
 pub struct Flushing<A: Allocator + Copy> {
     /// Where memory for the root is taken.
