@@ -1,5 +1,5 @@
 -- A write is told by what its replica has seen, and a flush by what it is to send.
-use Rattle.std.proofs.Common.{◌≡◌, inl, inr, ℕ, suc, ◌+◌, List, [], ◌∷◌, ◌++◌, length, drop, map, refl, sym, ap, ◌∙◌, subst, arith, Option, Some, None}
+use Rattle.std.proofs.Common.{◌≡◌, inl, inr, ℕ, suc, ◌+◌, List, [], ◌∷◌, ◌++◌, length, drop, map, refl, ap, ◌∙◌, arith, Some, None}
 use Rattle.std.specs.Prelude.{codes}
 use Rattle.std.proofs.lemmas.List.{append-nil}
 use Rattle.std.proofs.Math.Seq.{drop-append_seam}
@@ -8,8 +8,7 @@ use Rattle.op_model.specs.Made.{dot_at, removed_at, field_removed_at, cleared_at
 use Rattle.op_model.specs.Operation.{Operation}
 use Rattle.op_model.specs.Place.{place_of}
 use Rattle.replica_model.specs.Answers.{answer_by, flushed_by, IsToldBy}
-use Rattle.replica_model.specs.Mail.{Mail}
-use Rattle.replica_model.specs.Replica.{Replica, Kept}
+use Rattle.replica_model.specs.Replica.{Kept}
 use Rattle.replica_model.specs.Step.{Answer, Nothing, Made, Counted}
 use Rattle.replica_model.specs.Step as step
 use Rattle.replica_model.specs.World.{World, Event, Happens, Message, goes, calls, sent_as}
@@ -17,7 +16,7 @@ use Rattle.replica_model.specs.World as world
 use Rattle.wire_form.specs.Session.{SessionValue}
 use Rattle.replica_model.proofs.Answers.{calls_are_told}
 use Rattle.trace_words.specs.Command.{CommandValue, Node, Put, Get, Flush, Deliver, Sync, Retry, Abandon, Remove, RemoveField, Clear, Fields, Show, Size, Context, Pin, Digest, Look}
-use Rattle.trace_words.specs.Text.{put_text, erased_text, message_text}
+use Rattle.trace_words.specs.Text.{message_text}
 use Rattle.trace_words.specs.declared.kind.Kind.TheVariants.{Delta}
 use Rattle.trace_world.specs.Laws.{WritesAreSeen}
 use Rattle.trace_world.specs.Outcome.{CommandOutcome, Refused, Done, Pinned, at_replica, with_bytes, IsEvent, IsCall, Comes}
