@@ -9,14 +9,12 @@ use Rattle.op_model.specs.Operation.{has}
 use Rattle.op_model.proofs.Dots.{same_dot-self}
 use Rattle.op_model.proofs.Making.{has-write}
 use Rattle.sync_model.specs.Closing.{IsBelow}
-use Rattle.sync_model.specs.Differ.{Held}
-use Rattle.replica_model.specs.Delivery.{delivered}
 use Rattle.replica_model.specs.History.{Entry, Runs}
 use Rattle.replica_model.specs.Mail.{Mail}
 use Rattle.replica_model.specs.Replica.{Replica, Open, fresh, open_numbered}
 use Rattle.replica_model.specs.Step.{Act, Do, Take, Answer, Made, Numbered, Abandons, Put, Remove, RemoveField, Clear, Flush, Ask, Retry, Abandon, IsStep}
+use Rattle.replica_model.proofs.Asks.{delivery_opens, call_opens}
 use Rattle.replica_model.proofs.Growing.{call_grows, delivery_grows}
-use Rattle.replica_model.proofs.Rows.{each_row}
 use Rattle.node_threads.specs.Twice.{ComesOnce, DotsDiffer, NumbersDiffer}
 
 empty_at : {X : Type 0} (i : ℕ) (x : X) → slice_get [] i ≡ Some x → ⊥
@@ -84,44 +82,16 @@ module _ (hash_of : List ℕ → ℕ) where
 
   -- ---- numbers: a number is used where it is not above that of the last own synchronisation
 
-  delivery_opens_none : (own : Held) (r : Replica) (mail : Mail) → (delivered hash_of own r mail).new.opened ≡ r.opened
-  delivery_opens_none own r = each_row hash_of own r (λ mail t. t.new.opened ≡ r.opened) (record {
-    ignoring = λ mail. refl;
-    mismatch = λ mail. refl;
-    delta = λ d. refl;
-    told_again = λ s seen k e. refl;
-    kept = λ s seen here none. refl;
-    gone = λ s p. refl;
-    page = λ s p k page. refl;
-    opening_done = λ s c root o f there first took complete. refl;
-    opening_sent = λ s c root o f there first took. refl;
-    page_done = λ s sent o a f there accepted took complete. refl;
-    page_sent = λ s sent o a f there accepted took. refl;
-    ended = λ s o there. refl;
-  })
-
   opened_is : (old new r : Replica) (n : ℕ) → new ≡ r → n ≤ r.opened → n ≤ new.opened
   opened_is old new r n e le = subst (λ (x : Replica). n ≤ x.opened) (sym e) le
-
-  abandons_none : (old new : Replica) (o : Option Open) (answer : Answer) (n : ℕ) → Abandons old o new answer → n ≤ old.opened → n ≤ new.opened
-  abandons_none old new None answer n (e, a) le = opened_is old new _ n e le
-  abandons_none old new (Some o) answer n (e, a) le = opened_is old new _ n e le
 
   abbrev is_used : Replica → ℕ → Type 0
   is_used r n = n ≤ r.opened
 
   number_stays : (old new : Replica) (act : Act) (answer : Answer) (out : List Mail) (n : ℕ) → IsStep hash_of old act new answer out → is_used old n → is_used new n
-  number_stays old new (Do (Put place value)) answer out n (w, put, lt, e, a, o) le = opened_is old new _ n e le
-  number_stays old new (Do (Remove key)) answer out n (over, just, e, a, o) le = opened_is old new _ n e le
-  number_stays old new (Do (RemoveField place)) answer out n (over, just, e, a, o) le = opened_is old new _ n e le
-  number_stays old new (Do Clear) answer out n (over, just, e, a, o) le = opened_is old new _ n e le
-  number_stays old new (Do Flush) answer out n (a, inl (none, e, o)) le = opened_is old new _ n e le
-  number_stays old new (Do Flush) answer out n (a, inr (some, e, o)) le = opened_is old new _ n e le
-  number_stays old new (Do (Ask peer)) answer out n (own, is, few, left, e, a, o) le = opened_is old new _ n e (omega (arith, le))
-  number_stays old new (Do (Retry number)) answer out n (e, a, o) le = opened_is old new _ n e le
-  number_stays old new (Do (Abandon number)) answer out n (abandons, o) le = abandons_none old new (open_numbered old.sessions number) answer n abandons le
+  number_stays old new (Do call) answer out n step le = let few = call_opens old new call answer out step in omega (arith, few, le)
   number_stays old new (Take mail) answer out n (outcome, a, (own, map, is)) le =
-      subst (λ t. n ≤ t.new.opened) is (subst (λ m. n ≤ m) (sym (delivery_opens_none own old mail)) le)
+      subst (λ t. n ≤ t.new.opened) is (let few = delivery_opens hash_of own old mail in omega (arith, few, le))
 
   no_number_abandoned : (old new : Replica) (o : Option Open) (n : ℕ) → Abandons old o new (Numbered n) → ⊥
   no_number_abandoned old new None n (e, a) = absurd cc

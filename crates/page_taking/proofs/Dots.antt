@@ -4,6 +4,7 @@ use Rattle.std.specs.Prelude.{Option}
 use Rattle.std.specs.Str.{bytes_eq}
 use Rattle.std.specs.List.Sorted.{IsStrictlySortedBy}
 use Rattle.std.specs.Map.{keys_of}
+use Rattle.std.proofs.lemmas.Option.{same_Some}
 use Rattle.dots.specs.Bytes.{bytes_cmp}
 use Rattle.dots.specs.Dot.{DotValue}
 use Rattle.causal_context.specs.Dots.{dot_cmp}
@@ -12,7 +13,6 @@ use Rattle.causal_join.specs.OrMap.{ValuesValue, FieldsValue}
 use Rattle.wire_form.specs.Page.{NamesValue, NamedValue}
 use Rattle.sync_model.specs.Filled.{Made, made_map, checked, fill_seen, fill_unseen, fill_values, then_fields, fill_fields}
 use Rattle.sync_model.specs.Opened.{with_values}
-use Rattle.sync_model.proofs.Found.{same_Some}
 use Rattle.page_taking.proofs.Picks.{Picked, keys_ascend, Each, each_good}
 
 abbrev Anything : List ℕ → Type 0

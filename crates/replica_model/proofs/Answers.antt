@@ -1,6 +1,7 @@
 -- The calls of a replica are told by what it has seen and is to send.
 use Rattle.std.proofs.Common.{◌≡◌, inl, inr, ℕ, List, [], ◌∷◌, Some, None, sym, ap, ◌∙◌}
 use Rattle.std.specs.Prelude.{Contains, IsSome, IsTrue, ◌↔◌}
+use Rattle.std.proofs.lemmas.Option.{same_Some}
 use Rattle.dots.specs.declared.dot.Dot.{Dot}
 use Rattle.op_model.specs.Made.{write_at, IsPutAt, IsWithin, IsAnywhere}
 use Rattle.op_model.specs.Meaning.{state}
@@ -17,9 +18,6 @@ use Rattle.replica_model.proofs.Meant.{meant_all, nothing_outgoing, sound_fits}
 use Rattle.replica_model.proofs.Sound.{sound}
 use Rattle.replica_model.proofs.States.{is_same, counted}
 
-some_is : {X : Type 0} {x y : X} → Some x ≡ Some y → x ≡ y
-some_is e = cc
-
 none_told : (answer told : Answer) → None ≡ Some told → answer ≡ told
 none_told answer told e = absurd cc
 
@@ -35,11 +33,11 @@ module _ (hash_of : List ℕ → ℕ) (r : Replica) (S T : List Operation) (live
   calls_told : (c : Call) (new : Replica) (answer : Answer) (out : List Mail) → IsCall r c new answer out → (told : Answer) → answer_by S r.name c ≡ Some told → answer ≡ told
   calls_told (Put place value) new answer out (v, put, lt, n, a, o) told e =
       let there : IsPutAt r.live r.name place value (write_at S r.name place value) = put_there S r.live same r.name place value in
-      a ∙ ap Made (IsNext-one r.name r.live.has v.id (write_at S r.name place value).id put.id there.id) ∙ some_is e
-  calls_told (Remove key) new answer out step told e = removed (IsWithin r.live key) (ids (shown_within S key)) (remove_there S r.live same key) r new answer out step ∙ some_is e
+      a ∙ ap Made (IsNext-one r.name r.live.has v.id (write_at S r.name place value).id put.id there.id) ∙ same_Some _ _ e
+  calls_told (Remove key) new answer out step told e = removed (IsWithin r.live key) (ids (shown_within S key)) (remove_there S r.live same key) r new answer out step ∙ same_Some _ _ e
   calls_told (RemoveField place) new answer out step told e =
-      removed (λ dot. IsSome (r.live.at place dot)) (ids (shown S place)) (λ dot. (λ h. sym (field_remove_there S r.live same place dot) ∙ h, λ h. field_remove_there S r.live same place dot ∙ h)) r new answer out step ∙ some_is e
-  calls_told Clear new answer out step told e = removed (IsAnywhere r.live) (ids (shown_anywhere S)) (clear_there S r.live same) r new answer out step ∙ some_is e
+      removed (λ dot. IsSome (r.live.at place dot)) (ids (shown S place)) (λ dot. (λ h. sym (field_remove_there S r.live same place dot) ∙ h, λ h. field_remove_there S r.live same place dot ∙ h)) r new answer out step ∙ same_Some _ _ e
+  calls_told Clear new answer out step told e = removed (IsAnywhere r.live) (ids (shown_anywhere S)) (clear_there S r.live same) r new answer out step ∙ same_Some _ _ e
   calls_told Flush new answer out step told e = none_told answer told e
   calls_told (call.Ask peer) new answer out step told e = none_told answer told e
   calls_told (Retry number) new answer out step told e = none_told answer told e

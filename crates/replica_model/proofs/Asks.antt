@@ -12,7 +12,7 @@ use Rattle.replica_model.specs.Step.{Call, Put, Remove, RemoveField, Clear, Flus
 use Rattle.replica_model.specs.World.{World, Event, Node, At, Deliver, nothing, Happens, Runs}
 use Rattle.replica_model.specs.Laws.{AsksAreOne, SnapshotsKnowWhatWasAsked}
 use Rattle.replica_model.specs.Sessions.{IsAskOf}
-use Rattle.replica_model.proofs.Rows.{each_row}
+use Rattle.replica_model.proofs.Unchanged.{unchanged}
 use Rattle.replica_model.proofs.Carried.{by_name, same_replicas}
 use Rattle.replica_model.proofs.Deciding.{worlds_one}
 use Rattle.replica_model.proofs.Fronts.{same_after_calls, delivery, told}
@@ -20,20 +20,7 @@ use Rattle.replica_model.proofs.Askers.{snapshots_for}
 
 -- a delivery opens no session, and a call one at most
 pub delivery_opens : (hash_of : List ℕ → ℕ) (own : Held) (r : Replica) (mail : Mail) → r.opened ≤ (delivered hash_of own r mail).new.opened
-delivery_opens hash_of own r = each_row hash_of own r (λ mail t. r.opened ≤ t.new.opened) (record {
-  ignoring = λ mail. omega arith;
-  mismatch = λ mail. omega arith;
-  delta = λ d. omega arith;
-  told_again = λ s seen k e. omega arith;
-  kept = λ s seen here none. omega arith;
-  gone = λ s p. omega arith;
-  page = λ s p k page. omega arith;
-  opening_done = λ s c root o f there first took complete. omega arith;
-  opening_sent = λ s c root o f there first took. omega arith;
-  page_done = λ s sent o a f there accepted took complete. omega arith;
-  page_sent = λ s sent o a f there accepted took. omega arith;
-  ended = λ s o there. omega arith;
-})
+delivery_opens hash_of own r mail = let same = (unchanged hash_of own r mail).2 in omega (arith, same)
 
 as_many : (old new changed : Replica) → new ≡ changed → old.opened ≤ changed.opened → old.opened ≤ new.opened
 as_many old new changed is few = subst (λ (r : Replica). old.opened ≤ r.opened) (sym is) few

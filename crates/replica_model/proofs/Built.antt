@@ -8,6 +8,7 @@ use Rattle.std.specs.Str.{bytes_eq}
 use Rattle.std.specs.Cmp.Lexicographic.{nat_list_cmp_total}
 use Rattle.std.specs.FinMap as finite
 use Rattle.std.specs.FinMap.{get-insert, get-empty}
+use Rattle.std.proofs.lemmas.Option.{same_Some}
 use Rattle.std.proofs.lemmas.Slice.Eq.{bytes_eq-Decides}
 use Rattle.dots.specs.Bytes.{bytes_cmp}
 use Rattle.dots.specs.Dot.{DotValue}
@@ -25,7 +26,6 @@ use Rattle.sync_model.specs.Fetch.{Fetch, Waiting, Taken, Ignored, Mismatch, Too
 use Rattle.sync_model.specs.Laws.{Taking, Fetched}
 use Rattle.sync_model.proofs.Members.{In, In-filter, filter-In, part_has}
 use Rattle.sync_model.proofs.Fits.{all_pass}
-use Rattle.sync_model.proofs.Found.{same_Some}
 use Rattle.sync_model.proofs.Prefixes.{begins_further}
 use Rattle.sync_model.proofs.Stepping.{from_children, no_entry, if_stays, removed_there, removed_elsewhere}
 use Rattle.sync_model.proofs.Fetching.{same_fetch, refused, both_true, Step, stepped, same_or_not}

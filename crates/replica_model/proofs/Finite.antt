@@ -15,6 +15,7 @@ use Rattle.std.specs.FinMap.{get-empty, get-insert, get-entries, entries_sorted}
 use Rattle.std.specs.FinMap.Entries.{find, is_sorted, below_all}
 use Rattle.std.proofs.lemmas.Bool.{and_from, and_parts}
 use Rattle.std.proofs.lemmas.List.Elements.{All-weaker, All-contains_itself, Contains-append_left, Contains-append_right}
+use Rattle.std.proofs.lemmas.Option.{same_Some}
 use Rattle.dots.specs.Bytes.{bytes_cmp}
 use Rattle.dots.specs.declared.dot.Dot.{Dot}
 use Rattle.causal_context.specs.Dots.{dot_cmp}
@@ -40,7 +41,7 @@ use Rattle.prefix_digest.specs.MapOf.{IsInOrder, IsMapOf}
 use Rattle.sync_model.specs.Differ.{Held}
 use Rattle.sync_model.specs.Closing.{held_state}
 use Rattle.sync_model.specs.Opened.{held_in}
-use Rattle.sync_model.proofs.Found.{same_Some, find_in}
+use Rattle.sync_model.proofs.Found.{find_in}
 use Rattle.sync_model.proofs.Held.{fields_or_none, values_or_none, held_there}
 use Rattle.sync_model.proofs.Keeping.{dot_tied}
 use Rattle.sync_model.proofs.Lawful.{found}

@@ -1,6 +1,7 @@
 pub mod States
 pub mod Found
 pub mod Rows
+pub mod Unchanged
 pub mod One
 pub mod Deciding
 pub mod Sound

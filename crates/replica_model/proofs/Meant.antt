@@ -34,7 +34,7 @@ use Rattle.replica_model.specs.World.{World, Event, Node, At, Deliver, Snapshot,
 use Rattle.replica_model.specs.World as world
 use Rattle.replica_model.specs.Laws.{IsSound, MeansMail, Headline, SameSeen}
 use Rattle.replica_model.proofs.States.{same_is, is_same}
-use Rattle.replica_model.proofs.Rows.{each_row}
+use Rattle.replica_model.proofs.Unchanged.{unchanged}
 use Rattle.replica_model.proofs.Sound.{sound, sound_calls, made_stays, carried}
 use Rattle.replica_model.proofs.Ties.{MailTie}
 use Rattle.replica_model.proofs.Carried.{Ties, by_name, taken_ties, left_as_is, same_replicas}
@@ -227,22 +227,6 @@ meant_call hash_of w name c new answer out whole fits all meant step =
 -- ---- deliveries
 
 -- a delivery leaves the group, and what was to be sent
-pub group_stays : (hash_of : List ℕ → ℕ) (own : Held) (r : Replica) (mail : Mail) → (delivered hash_of own r mail).new.group ≡ r.group
-group_stays hash_of own r = each_row hash_of own r (λ mail t. t.new.group ≡ r.group) (record {
-  ignoring = λ mail. refl;
-  mismatch = λ mail. refl;
-  delta = λ d. refl;
-  told_again = λ s seen k e. refl;
-  kept = λ s seen here none. refl;
-  gone = λ s p. refl;
-  page = λ s p k page. refl;
-  opening_done = λ s c root o f there first took complete. refl;
-  opening_sent = λ s c root o f there first took. refl;
-  page_done = λ s sent o a f there accepted took complete. refl;
-  page_sent = λ s sent o a f there accepted took. refl;
-  ended = λ s o there. refl;
-})
-
 pub outgoing_stays : (w : World) (name : ℕ) (old : Replica) (mail : Mail) (of : Snapshot) (outcome : Outcome) → (takes name old mail of outcome w).outgoing ≡ w.outgoing
 outgoing_stays w name = left_as_is name (λ u. u.outgoing) (λ u m. refl) (λ u o s. refl) (λ u s o. refl) (λ u s t. refl) (λ u o f t. refl) w
 
@@ -351,7 +335,7 @@ module _ (hash_of : List ℕ → ℕ) (w : World) (name : ℕ) (whole : List Ope
       let x = goes name new out [] after in
       let old = w.replica name in
       let own_is = map_is (w.seen name) (NoReuse-part (w.seen name) whole fits.seen fits.once) own old.live is_own (is_same _ _ (meant.live name)) in
-      let group : new.group ≡ state (w.outgoing name) = ap (λ (t : Turn). t.new.group) (sym step) ∙ group_stays hash_of own old mail ∙ meant.group name in
+      let group : new.group ≡ state (w.outgoing name) = ap (λ (t : Turn). t.new.group) (sym step) ∙ (unchanged hash_of own old mail).1 ∙ meant.group name in
       record {
         ties = taken_ties hash_of SnapOf (AskedOf x) SendsOf w name own mail of (more_meant hash_of w x (λ n. takes_grow w name n old mail of outcome) meant.ties)
             (mail_more hash_of SnapOf SnapOf (AskedOf w) (AskedOf x) SendsOf SendsOf (λ s S m c h. h) (λ n s m c a. (a.0, λ o h. takes_grow w name n old mail of outcome o (a.1 o h), a.2, a.3)) (λ d S h. h) mail of tie)

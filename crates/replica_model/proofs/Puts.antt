@@ -37,8 +37,8 @@ use Rattle.replica_model.proofs.Ending.{Ending, Comes, comes}
 use Rattle.replica_model.proofs.Found.{found_kept, in_one}
 use Rattle.replica_model.proofs.Fronts.{Delivered, delivery, by_events, none_at, grown_there, same_after_calls}
 use Rattle.replica_model.proofs.Growing.{call_grows, delivery_grows}
-use Rattle.replica_model.proofs.Meant.{group_stays}
 use Rattle.replica_model.proofs.Rows.{snapshot, each_row}
+use Rattle.replica_model.proofs.Unchanged.{unchanged}
 use Rattle.replica_model.proofs.Standing.{AreOne, IsNamed, IsOf, IsHeldOf, of_more, held_more, entries_more, join_of, erasure_of, nothing_of, write_of, map_of_puts, held_named, page_named}
 
 -- ---- what is said of a snapshot, of an ask, of a delta and of a page
@@ -419,7 +419,7 @@ module _ (hash_of : List ℕ → ℕ) (w : World) (name : ℕ) (puts : List Writ
         grew = subst (λ (t : Turn). IsBelow (w.replica name).live t.new.live) d.step (delivery_grows hash_of d.own (w.replica name) d.message.mail)
 
         group : IsOf puts d.new.group
-        group = subst (IsOf puts) (sym (ap (λ (t : Turn). t.new.group) (sym d.step) ∙ group_stays hash_of d.own (w.replica name) d.message.mail)) (was.group name)
+        group = subst (IsOf puts) (sym (ap (λ (t : Turn). t.new.group) (sym d.step) ∙ (unchanged hash_of d.own (w.replica name) d.message.mail).1)) (was.group name)
 
 -- ---- all events
 

@@ -30,6 +30,7 @@ use Rattle.replica_model.proofs.Ended.{here_new}
 use Rattle.replica_model.proofs.Found.{found_open, in_advanced, in_without, in_one, changed_here, changed_elsewhere}
 use Rattle.replica_model.proofs.Growing.{below_below, map_below, call_grows, delivery_grows}
 use Rattle.replica_model.proofs.Rows.{each_row}
+use Rattle.replica_model.proofs.Unchanged.{unchanged}
 
 -- ---- deeds, the last first
 
@@ -114,22 +115,6 @@ call_leaves old new (Retry number) answer out (n, a, o) = leaves_as old new _ (R
 call_leaves old new (Abandon number) answer out (abandons, o) = abandon_leaves old new (Abandon number) (open_numbered old.sessions number) answer abandons
 
 -- a delivery leaves the name
-delivery_name : (hash_of : List ℕ → ℕ) (own : Held) (r : Replica) (mail : Mail) → (delivered hash_of own r mail).new.name ≡ r.name
-delivery_name hash_of own r = each_row hash_of own r (λ mail t. t.new.name ≡ r.name) (record {
-  ignoring = λ mail. refl;
-  mismatch = λ mail. refl;
-  delta = λ d. refl;
-  told_again = λ s seen k e. refl;
-  kept = λ s seen here none. refl;
-  gone = λ s p. refl;
-  page = λ s p k page. refl;
-  opening_done = λ s c root o f there first took complete. refl;
-  opening_sent = λ s c root o f there first took. refl;
-  page_done = λ s sent o a f there accepted took complete. refl;
-  page_sent = λ s sent o a f there accepted took. refl;
-  ended = λ s o there. refl;
-})
-
 module _ (hash_of : List ℕ → ℕ) (name : ℕ) where
   -- ---- what is said of an open session, with the pages that it took
 
@@ -357,7 +342,7 @@ module _ (hash_of : List ℕ → ℕ) (name : ℕ) where
           let all : AllTied more d.new.live (takes name old mail of d.outcome w).taken d.new.sessions =
           subst (Holds more w d.new.live before d.own mail) d.step (taken_in more w d.new.live before d.own mail) of now in
           subst (TiedWorld more) (sym d.after) (record {
-            named = ap (λ (q : Replica). q.name) here ∙ ap (λ (y : Turn). y.new.name) (sym d.step) ∙ delivery_name hash_of d.own old mail ∙ t.named;
+            named = ap (λ (q : Replica). q.name) here ∙ ap (λ (y : Turn). y.new.name) (sym d.step) ∙ (unchanged hash_of d.own old mail).0 ∙ t.named;
             sessions = subst (λ q. AllTied more q.live x.taken q.sessions) (sym here) all;
           })
 

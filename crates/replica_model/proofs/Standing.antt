@@ -6,6 +6,7 @@ use Rattle.std.specs.Ordering.{eq_by_cmp}
 use Rattle.std.specs.FinMap as finite
 use Rattle.std.specs.FinMap.Entries.{find}
 use Rattle.std.proofs.lemmas.Bool.{or_left, or_right}
+use Rattle.std.proofs.lemmas.Option.{same_Some}
 use Rattle.dots.specs.Bytes.{bytes_cmp}
 use Rattle.dots.specs.Dot.{DotValue}
 use Rattle.dots.specs.declared.dot.Dot.{Dot}
@@ -34,7 +35,7 @@ use Rattle.sync_model.specs.Fetch.{entries_of, within_values}
 use Rattle.sync_model.specs.Laws.{IsLawfulMap, Taking, HoldsValue, NoClash, KnowsEachDot, OneValue}
 use Rattle.sync_model.proofs.Fetching.{Shown, Leaf, Parts, shown}
 use Rattle.sync_model.proofs.Fits.{all_pass}
-use Rattle.sync_model.proofs.Found.{same_Some, find_in}
+use Rattle.sync_model.proofs.Found.{find_in}
 use Rattle.sync_model.proofs.Held.{values_or_none, there, held_there}
 use Rattle.sync_model.proofs.Keeping.{dot_tied}
 use Rattle.sync_model.proofs.Lawful.{map_lawful, found}

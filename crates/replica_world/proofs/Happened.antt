@@ -3,6 +3,7 @@ use Rattle.std.proofs.Common.{◌≡◌, ◌≢◌, inl, inr, ℕ, ◌+◌, ◌-
 use Rattle.std.proofs.lemmas.Bool.{cond-true}
 use Rattle.std.proofs.lemmas.Bool.Decides.{nat_tests}
 use Rattle.std.proofs.lemmas.List.{length-map}
+use Rattle.std.proofs.lemmas.Option.{same_Some}
 use Rattle.std.specs.List.{slice_get}
 use Rattle.std.specs.Option.{option_copied, unwrap_or}
 use Rattle.std.specs.Prelude.{IsNone}
@@ -28,7 +29,7 @@ use Rattle.replica_world.specs.Replaces.{Replaces}
 use Rattle.replica_core.specs.Showing.{ShowsOperations}
 use Rattle.replica_world.specs.Spelled.{IsSpelled}
 use Rattle.replica_world.proofs.Shown.{worlds_show}
-use Rattle.replica_world.proofs.Spelt.{as_many, some_back, spelled_at, spelled_past, map_back, map_past}
+use Rattle.replica_world.proofs.Spelt.{as_many, spelled_at, spelled_past, map_back, map_past}
 
 at_other : (name other : ℕ) → other ≢ name → is_at (nat_cmp name) other ≡ false
 at_other name other apart = grind (arith, nat_tests)
@@ -51,9 +52,6 @@ or_true false = refl
 left_false : (a b : Bool) → (a || b) ≡ false → a ≡ false
 left_false true b e = e
 left_false false b e = refl
-
-some_is : {X : Type 0} {x y : X} → Some x ≡ Some y → x ≡ y
-some_is e = cc
 
 none_some : {X : Type 0} (x : X) → None ≡ Some x → ⊥
 none_some x e = absurd cc
@@ -94,7 +92,7 @@ module _ {Hash : Type 0} (hash : Hash) (old new : BTreeMap ℕ (ReplicaValue Has
     means_at : (n : ℕ) (q : ReplicaValue Hash) → get nat_cmp new n ≡ Some q → (b : Bool) → (name == n) ≡ b → (meaning q ≡ w.replica n) × (hash_in q ≡ hash)
     means_at n q is true eqn =
         let named : name ≡ n = grind (arith, nat_tests) in
-        let same : q ≡ r = some_is (sym is ∙ ap (get nat_cmp new) (sym named) ∙ updates.1) in
+        let same : q ≡ r = same_Some _ _ (sym is ∙ ap (get nat_cmp new) (sym named) ∙ updates.1) in
         (ap meaning same ∙ is_fresh ∙ ap fresh named ∙ sym (keeps.absent n (ap (is_node w) (sym named) ∙ not_there)), ap hash_in same ∙ hashed)
     means_at n q is false eqn =
         let apart : n ≢ name = grind (arith, nat_tests) in
@@ -220,5 +218,5 @@ module _ {Hash : Type 0} (hash_of : Hash → List ℕ → ℕ) (hash : Hash) (ol
 pub mail_carries : (hash_of : List ℕ → ℕ) (ms : List Message) (number : ℕ) (mail : Mail) → (m : Message) × (message_at ms number ≡ Some m) × (mail ≡ m.mail)
     → (m : Message) × (message_at ms number ≡ Some m) × MeansMail hash_of m.mail m.of.seen → (m : Message) × (message_at ms number ≡ Some m) × MeansMail hash_of mail m.of.seen
 mail_carries hash_of ms number mail (m, at, is) (n, found, means) =
-    let same : m ≡ n = some_back (sym at ∙ found) in
+    let same : m ≡ n = same_Some _ _ (sym at ∙ found) in
     (n, found, subst (λ l. MeansMail hash_of l n.of.seen) (sym (is ∙ ap (λ (x : Message). x.mail) same)) means)

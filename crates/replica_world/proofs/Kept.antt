@@ -2,6 +2,7 @@
 use Rattle.std.proofs.Common.{◌≡◌, ◌≢◌, ℕ, ◌==◌, Bool, true, false, cond, List, [], ◌∷◌, ◌++◌, map, Some, is_some, refl, sym, ap, ◌∙◌, subst, arith}
 use Rattle.std.proofs.lemmas.Bool.Decides.{nat_tests}
 use Rattle.std.proofs.lemmas.List.{map-append}
+use Rattle.std.proofs.lemmas.Option.{same_Some}
 use Rattle.std.specs.BTreeMap.{BTreeMap, get}
 use Rattle.std.specs.Ordering.{nat_cmp}
 use Rattle.op_model.specs.Operation.{Operation}
@@ -30,9 +31,6 @@ mails_more : (ms : List Message) (group : List Operation) (kept : SessionValue �
     → map (λ (m : Message). m.mail) (ms ++ map (sent_as group kept ks) out) ≡ map (λ (m : Message). m.mail) ms ++ out
 mails_more ms group kept ks out = map-append (λ (m : Message). m.mail) ms (map (sent_as group kept ks) out) ∙ ap (λ o. map (λ (m : Message). m.mail) ms ++ o) (mails_sent group kept ks out)
 
-some_is : {X : Type 0} {x y : X} → Some x ≡ Some y → x ≡ y
-some_is e = cc
-
 clash : true ≡ false → ⊥
 clash e = absurd cc
 
@@ -58,7 +56,7 @@ module _ {Hash : Type 0} (hash : Hash) (old new : BTreeMap ℕ (ReplicaValue Has
       means_at n r is true eqn =
           let named : n ≡ name = grind (arith, nat_tests) in
           let found : get nat_cmp new name ≡ Some r = subst (λ m. get nat_cmp new m ≡ Some r) named is in
-          let same : r ≡ after = some_is (sym found ∙ replaces.becomes) in
+          let same : r ≡ after = same_Some _ _ (sym found ∙ replaces.becomes) in
           rw eqn (ap meaning same)
       means_at n r is false eqn =
           let apart : n ≢ name = grind (arith, nat_tests) in
@@ -68,7 +66,7 @@ module _ {Hash : Type 0} (hash : Hash) (old new : BTreeMap ℕ (ReplicaValue Has
       by_hash n r is true eqn =
           let named : n ≡ name = grind (arith, nat_tests) in
           let found : get nat_cmp new name ≡ Some r = subst (λ m. get nat_cmp new m ≡ Some r) named is in
-          ap hash_in (some_is (sym found ∙ replaces.becomes)) ∙ hashed ∙ keeps.hashed name before replaces.was
+          ap hash_in (same_Some _ _ (sym found ∙ replaces.becomes)) ∙ hashed ∙ keeps.hashed name before replaces.was
       by_hash n r is false eqn = let apart : n ≢ name = grind (arith, nat_tests) in keeps.hashed n r (sym (replaces.others n apart) ∙ is)
 
       absent_at : (n : ℕ) → is_node w n ≡ false → (b : Bool) → (n == name) ≡ b → cond (n == name) (meaning after) (w.replica n) ≡ fresh n

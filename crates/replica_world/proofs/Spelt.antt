@@ -1,6 +1,7 @@
 -- Messages that are spelled: over plain variables.
 use Rattle.std.proofs.Common.{◌≡◌, ℕ, ◌+◌, ◌<◌, ◌≤◌, zero, suc, List, [], ◌∷◌, ◌++◌, map, length, drop, get_or, Some, None, inl, inr, refl, sym, ap, ◌∙◌, subst, append_assoc}
 use Rattle.std.proofs.lemmas.List.{append-nil, map-append}
+use Rattle.std.proofs.lemmas.Option.{same_Some}
 use Rattle.std.specs.List.{slice_get}
 use Rattle.std.specs.declared.vec.Vec.{Vec}
 use Rattle.wire_form.specs.declared.message.Message.{Message}
@@ -32,15 +33,12 @@ posted_spelled old new out ms (inr (is, none)) before =
     let same : ms ++ map mail_of out ≡ ms = ap (λ o. ms ++ map mail_of o) none ∙ append-nil ms in
     subst (λ all. AreSpelled all (ms ++ map mail_of out)) (sym is) (subst (AreSpelled old) (sym same) before)
 
-pub some_back : {X : Type 0} {x y : X} → Some x ≡ Some y → x ≡ y
-some_back e = cc
-
 -- the one at a place
 pub spelled_at : (bs : List (List ℕ)) (ms : List Mail) → AreSpelled bs ms → (n : ℕ) (b : List ℕ) → slice_get bs n ≡ Some b → (m : Mail) × (slice_get ms n ≡ Some m) × IsSpelled b m
 spelled_at [] [] are n b is = absurd cc
 spelled_at [] (m ∷ ms) are n b is = absurd are
 spelled_at (c ∷ bs) [] are n b is = absurd are
-spelled_at (c ∷ bs) (m ∷ ms) are zero b is = (m, refl, subst (λ x. IsSpelled x m) (some_back is) are.0)
+spelled_at (c ∷ bs) (m ∷ ms) are zero b is = (m, refl, subst (λ x. IsSpelled x m) (same_Some _ _ is) are.0)
 spelled_at (c ∷ bs) (m ∷ ms) are (suc n) b is = spelled_at bs ms are.1 n b is
 
 pub spelled_past : (bs : List (List ℕ)) (ms : List Mail) → AreSpelled bs ms → (n : ℕ) → slice_get bs n ≡ None → slice_get ms n ≡ None
@@ -53,7 +51,7 @@ spelled_past (c ∷ bs) (m ∷ ms) are (suc n) is = spelled_past bs ms are.1 n i
 -- an item of a list by its image
 pub map_back : {X Y : Type 0} (f : X → Y) (xs : List X) (n : ℕ) (y : Y) → slice_get (map f xs) n ≡ Some y → (x : X) × (slice_get xs n ≡ Some x) × (f x ≡ y)
 map_back f [] n y is = absurd cc
-map_back f (x ∷ xs) zero y is = (x, refl, some_back is)
+map_back f (x ∷ xs) zero y is = (x, refl, same_Some _ _ is)
 map_back f (x ∷ xs) (suc n) y is = map_back f xs n y is
 
 pub map_past : {X Y : Type 0} (f : X → Y) (xs : List X) (n : ℕ) → slice_get (map f xs) n ≡ None → slice_get xs n ≡ None

@@ -4,6 +4,7 @@ use Rattle.std.specs.Prelude.{Option, ◌&&◌}
 use Rattle.std.specs.Option.{option_map}
 use Rattle.std.specs.FinMap as finite
 use Rattle.std.specs.FinMap.Entries.{find}
+use Rattle.std.proofs.lemmas.Option.{same_Some}
 use Rattle.dots.specs.Bytes.{bytes_cmp}
 use Rattle.hash_path.specs.Word.{begins}
 use Rattle.hash_path.specs.Map.{path, walk_under}
@@ -16,7 +17,7 @@ use Rattle.sync_model.specs.Fetch.{entries_of}
 use Rattle.sync_model.proofs.Prefixes.{begins_further, length-further, next_below}
 use Rattle.sync_model.proofs.Members.{In, In-map, In-mapped, part_has, part_found}
 use Rattle.sync_model.proofs.Paged.{Paged, Past, Nothing, One, Several, Parted, paged, in_present, present_in}
-use Rattle.sync_model.proofs.Found.{same_Some, find_is}
+use Rattle.sync_model.proofs.Found.{find_is}
 
 abbrev pub names_at : Held → List ℕ → Option NamedValue
 names_at m key = option_map named_fields (finite.get m key)

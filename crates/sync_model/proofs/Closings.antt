@@ -4,6 +4,7 @@ use Rattle.std.specs.Prelude.{Option, ◌||◌, is_some}
 use Rattle.std.specs.Ordering.{eq_by_cmp}
 use Rattle.std.specs.FinMap as finite
 use Rattle.std.specs.FinMap.Entries.{find}
+use Rattle.std.proofs.lemmas.Option.{same_Some}
 use Rattle.dots.specs.Bytes.{bytes_cmp}
 use Rattle.dots.specs.Dot.{DotValue}
 use Rattle.causal_context.specs.Dots.{dot_cmp}
@@ -18,7 +19,7 @@ use Rattle.sync_model.proofs.Held.{fields_or_none, values_or_none, values_of_fie
 use Rattle.sync_model.specs.Laws.{IsLawful}
 use Rattle.sync_model.specs.Closing.{Closing}
 use Rattle.sync_model.proofs.Members.{In, Contains-In}
-use Rattle.sync_model.proofs.Found.{same_Some, find_in}
+use Rattle.sync_model.proofs.Found.{find_in}
 
 -- ---- what is opened holds what was not left out
 

@@ -4,6 +4,7 @@ use Rattle.std.proofs.Common.{◌≡◌, ◌≢◌, ◌⊎◌, inl, inr, ℕ, �
 use Rattle.std.specs.Prelude.{Option, ◌&&◌, ◌||◌}
 use Rattle.std.specs.Option.{option_map}
 use Rattle.std.specs.List.{list_any}
+use Rattle.std.proofs.lemmas.Option.{same_Some}
 use Rattle.std.proofs.lemmas.Slice.Eq.{bytes_eq-Decides}
 use Rattle.std.proofs.lemmas.List.{append-nil, length-append}
 use Rattle.std.specs.FinMap as finite
@@ -23,7 +24,6 @@ use Rattle.sync_model.specs.Laws.{IsLawful}
 use Rattle.sync_model.proofs.Prefixes.{begins_further, comparable, length-further, next_below, snoc, above_child, above_further, not_above_itself}
 use Rattle.sync_model.proofs.Members.{In, In-filter, filter-In, part_has, part_found}
 use Rattle.sync_model.proofs.Paged.{Paged, Past, Nothing, One, Several, Parted, paged, in_present, present_in}
-use Rattle.sync_model.proofs.Found.{same_Some}
 use Rattle.sync_model.proofs.Alike.{none_there, same_names}
 use Rattle.sync_model.proofs.Filling.{EachSent, EachField, EachEntry, EachHeld, open_entries, entries_filled}
 use Rattle.sync_model.proofs.Stepping.{from_children, child_waits, not_child, no_entry, one_entry, if_stays, removed_there, removed_elsewhere}

@@ -8,6 +8,7 @@ use Rattle.std.specs.Cmp.Lexicographic.{nat_list_cmp_total}
 use Rattle.std.specs.FinMap as finite
 use Rattle.std.specs.FinMap.{get-insert, get-empty}
 use Rattle.std.proofs.lemmas.List.{length-append}
+use Rattle.std.proofs.lemmas.Option.{same_Some}
 use Rattle.dots.specs.Bytes.{bytes_cmp}
 use Rattle.dots.specs.Dot.{DotValue}
 use Rattle.hash_path.specs.Path.{prefix_cmp}
@@ -23,7 +24,6 @@ use Rattle.sync_model.specs.Fetch.{Fetch, Mismatch, Took, is_digest, within, tak
 use Rattle.sync_model.specs.Laws.{IsLawfulMap, Taking, TakenAt, Fetched, HoldsValue, MetPage, MetValue, NoClash, Fetching}
 use Rattle.sync_model.proofs.Prefixes.{above_all}
 use Rattle.sync_model.proofs.Members.{In, Contains-In, In-Contains}
-use Rattle.sync_model.proofs.Found.{same_Some}
 use Rattle.sync_model.proofs.Alike.{none_there}
 use Rattle.sync_model.proofs.Filling.{EachSent, EachValue, EachField, EachHeld}
 use Rattle.sync_model.proofs.Fetching.{same_fetch, refused, stepped, same_or_not}

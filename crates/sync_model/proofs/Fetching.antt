@@ -5,6 +5,7 @@ use Rattle.std.specs.Prelude.{Option, ◌&&◌}
 use Rattle.std.specs.Ordering.{eq_by_cmp}
 use Rattle.hash_path.proofs.Words.{tied_same, same_tied}
 use Rattle.std.specs.Str.{bytes_eq}
+use Rattle.std.proofs.lemmas.Option.{same_Some}
 use Rattle.std.proofs.lemmas.Slice.Eq.{bytes_eq-Decides}
 use Rattle.std.specs.FinMap as finite
 use Rattle.dots.specs.Bytes.{bytes_cmp}
@@ -20,7 +21,6 @@ use Rattle.sync_model.specs.Filled.{filled}
 use Rattle.sync_model.specs.Differ.{Held, IsBranchAt}
 use Rattle.sync_model.specs.Fetch.{Fetch, Taken, Ignored, Mismatch, Took, entries_of, children_of, to_ask, fits, stays, put_children, put_entries, took, promised, take_page}
 use Rattle.sync_model.proofs.Paged.{Paged, Past, Nothing, One, Several, Parted, paged}
-use Rattle.sync_model.proofs.Found.{same_Some}
 
 -- ---- what a step was made of
 

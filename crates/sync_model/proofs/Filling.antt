@@ -6,6 +6,7 @@ use Rattle.std.specs.Ordering.{eq_by_cmp}
 use Rattle.std.specs.Str.{bytes_eq}
 use Rattle.std.specs.FinMap as finite
 use Rattle.std.specs.FinMap.Entries.{find}
+use Rattle.std.proofs.lemmas.Option.{same_Some}
 use Rattle.std.proofs.lemmas.Slice.Eq.{bytes_eq-Decides}
 use Rattle.dots.specs.Bytes.{bytes_cmp}
 use Rattle.dots.specs.Dot.{DotValue}
@@ -18,7 +19,6 @@ use Rattle.sync_model.specs.Opened.{held_in, with_values, without_ended, open_fi
 use Rattle.sync_model.proofs.Held.{values_or_none, values_of_field, there, held_there}
 use Rattle.sync_model.specs.Filled.{Made, made_map, checked, fill_unseen, fill_seen, fill_values, then_fields, fill_fields, then_entries, fill_entries}
 use Rattle.sync_model.specs.Differ.{Held}
-use Rattle.sync_model.proofs.Found.{same_Some}
 
 -- ---- what a step was made of
 

@@ -5,6 +5,7 @@ use Rattle.std.specs.Option.{option_map}
 use Rattle.std.specs.List.{filter, list_all}
 use Rattle.std.specs.Str.{bytes_eq}
 use Rattle.std.specs.FinMap as finite
+use Rattle.std.proofs.lemmas.Option.{same_Some}
 use Rattle.std.proofs.lemmas.Slice.Eq.{bytes_eq-Decides}
 use Rattle.std.proofs.lemmas.List.{append-nil}
 use Rattle.dots.specs.Dot.{DotValue}
@@ -21,7 +22,6 @@ use Rattle.sync_model.specs.Differ.{Held}
 use Rattle.sync_model.specs.Fetch.{is_own, within_values, within_fields, within}
 use Rattle.sync_model.specs.Laws.{KnowsEachDot}
 use Rattle.sync_model.proofs.Members.{In, In-mapped, part_found}
-use Rattle.sync_model.proofs.Found.{same_Some}
 use Rattle.sync_model.proofs.Alike.{names_at}
 use Rattle.sync_model.proofs.Filling.{open_entries}
 use Rattle.sync_model.proofs.Fetched.{own_digest}

@@ -5,6 +5,7 @@ use Rattle.std.specs.Option.{option_map}
 use Rattle.std.specs.List.{list_all}
 use Rattle.std.specs.Str.{bytes_eq}
 use Rattle.std.specs.FinMap as finite
+use Rattle.std.proofs.lemmas.Option.{same_Some}
 use Rattle.std.proofs.lemmas.Slice.Eq.{bytes_eq-Decides}
 use Rattle.dots.specs.Dot.{DotValue}
 use Rattle.hash_path.specs.Word.{begins}
@@ -21,7 +22,6 @@ use Rattle.sync_model.specs.Laws.{IsLawfulMap, Taking, NoClash, KnowsEachDot, On
 use Rattle.sync_model.proofs.Prefixes.{length-further}
 use Rattle.sync_model.proofs.Members.{In, Contains-In, part_found}
 use Rattle.sync_model.proofs.Paged.{in_present}
-use Rattle.sync_model.proofs.Found.{same_Some}
 use Rattle.sync_model.proofs.Alike.{names_at, same_names}
 use Rattle.sync_model.proofs.Filling.{open_entries}
 use Rattle.sync_model.proofs.Fetching.{Shown, Leaf, Parts, shown}

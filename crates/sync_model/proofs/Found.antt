@@ -1,15 +1,12 @@
 -- Look-up in a list of entries, by what is in it.
 use Rattle.std.proofs.Common.{◌≡◌, inl, inr, ℕ, List, [], ◌∷◌, Bool, true, false, cond, Some, None, refl, sym, ◌∙◌, ap}
 use Rattle.std.specs.Prelude.{Option}
-use Rattle.std.specs.Option.{unwrap_or}
 use Rattle.std.specs.Ordering.{eq_by_cmp}
 use Rattle.std.specs.FinMap.Entries.{find}
+use Rattle.std.proofs.lemmas.Option.{same_Some}
 use Rattle.dots.specs.Bytes.{bytes_cmp}
 use Rattle.hash_path.proofs.Words.{tied_same, same_tied}
 use Rattle.sync_model.proofs.Members.{In}
-
-pub same_Some : {A : Type 0} (x y : A) → Some x ≡ Some y → x ≡ y
-same_Some x y e = ap (λ o. unwrap_or o x) e
 
 module _ {X : Type 0} where
   -- what is found is there, and what is there is not missed

@@ -5,6 +5,7 @@ use Rattle.std.specs.Ordering.{is_eq, eq_by_cmp}
 use Rattle.std.specs.Cmp.Lexicographic.{nat_list_cmp_total}
 use Rattle.std.specs.FinMap as finite
 use Rattle.std.specs.FinMap.{get-insert, get-remove, get-retain_keys}
+use Rattle.std.proofs.lemmas.Option.{same_Some}
 use Rattle.dots.specs.Bytes.{bytes_cmp}
 use Rattle.hash_path.proofs.Words.{tied_same, same_tied}
 use Rattle.causal_join.specs.OrMap.{ValuesValue, FieldsValue}
@@ -12,7 +13,6 @@ use Rattle.sync_model.specs.Opened.{some_if_any}
 use Rattle.sync_model.specs.Differ.{Held}
 use Rattle.sync_model.specs.Fetch.{Waiting, put_children, put_entry, put_entries}
 use Rattle.sync_model.proofs.Members.{In}
-use Rattle.sync_model.proofs.Found.{same_Some}
 
 apart : (q k : List ℕ) → q ≢ k → eq_by_cmp bytes_cmp q k ≡ false
 apart q k off = step (eq_by_cmp bytes_cmp q k) refl

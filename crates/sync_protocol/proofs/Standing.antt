@@ -7,6 +7,7 @@ use Rattle.std.specs.List.Sorted.{IsStrictlySortedBy}
 use Rattle.std.specs.FinMap as finite
 use Rattle.std.proofs.lemmas.Bool.{cases_lt, eq-eqb}
 use Rattle.std.proofs.lemmas.List.{length-map}
+use Rattle.std.proofs.lemmas.Option.{same_Some}
 use Rattle.dots.specs.Bytes.{bytes_cmp}
 use Rattle.dots.specs.Dot.{DotValue}
 use Rattle.causal_join.specs.OrMap.{FieldsValue}
@@ -23,7 +24,6 @@ use Rattle.prefix_digest.proofs.Parted.{digest_past}
 use Rattle.prefix_digest.proofs.UnknownValues.{values_of_branch}
 use Rattle.sync_model.specs.Differ.{Held}
 use Rattle.sync_model.proofs.Alike.{none_there}
-use Rattle.sync_model.proofs.Found.{same_Some}
 use Rattle.sync_model.proofs.Members.{In, In-mapped, part_found}
 use Rattle.sync_model.proofs.Paged.{in_present, present_in, Paged, Past, Nothing, One, Several, Parted, paged}
 use Rattle.sync_model.proofs.Prefixes.{begins_further, length-further, next_below}

@@ -13,6 +13,7 @@ use Rattle.std.specs.Map.{lookup, keys_of}
 use Rattle.std.specs.Ordering.{match_ordering, nat_cmp, ordering_reverse}
 use Rattle.std.proofs.lemmas.List.Kept.{IsStrictlySortedBy-filter}
 use Rattle.std.proofs.lemmas.Map.Views.{any-filter_same}
+use Rattle.std.proofs.lemmas.Option.{same_Some}
 use Rattle.dots.specs.Dot.{DotValue, same_dot}
 use Rattle.causal_context.specs.Dots.{dot_cmp}
 use Rattle.delta_ops.proofs.Erasing.{has-insert}
@@ -198,10 +199,7 @@ found_entry dots name k names true zero at is not_zero before =
     either false run nothing = sym nothing
 found_entry dots name k names false zero at is not_zero before = (not_zero, before)
 found_entry dots name k names true (suc run) at is not_zero before =
-    rw at ((λ none. let gone : suc run ≡ 0 = some_is (suc run) 0 none in absurd (omega arith)), sym (ap (run_of dots) (at_itself name k at) ∙ is))
-  where
-    some_is : (m n : ℕ) → Some m ≡ Some n → m ≡ n
-    some_is m n same = cc
+    rw at ((λ none. let gone : suc run ≡ 0 = same_Some (suc run) 0 none in absurd (omega arith)), sym (ap (run_of dots) (at_itself name k at) ∙ is))
 found_entry dots name k names false (suc run) at is not_zero before = rw at (not_zero, before)
 
 found_entries : (dots : List DotValue) (name : ℕ) (names : List ℕ)

@@ -1,10 +1,11 @@
 -- A read is told by what its replica has seen.
-use Rattle.std.proofs.Common.{◌≡◌, inl, inr, ℕ, Bool, List, [], ◌∷◌, length, map, refl, sym, ap, ◌∙◌, subst, arith, Option, Some, None}
+use Rattle.std.proofs.Common.{◌≡◌, inl, inr, ℕ, Bool, List, [], ◌∷◌, length, map, refl, sym, ap, ◌∙◌, subst, arith, Some, None}
 use Rattle.std.specs.Prelude.{nat_le}
 use Rattle.std.specs.List.{All}
 use Rattle.std.specs.Map.{keys_of}
 use Rattle.std.proofs.lemmas.Bool.{cond-true, cond-false}
 use Rattle.std.proofs.lemmas.List.Elements.{All-tail}
+use Rattle.std.proofs.lemmas.Option.{same_Some}
 use Rattle.dots.specs.Dot.{DotValue}
 use Rattle.dots.specs.Bytes.{MAX_LENGTH}
 use Rattle.dots.specs.declared.refusal.Refusal.TheVariants.{TooLong, UnknownReplica}
@@ -82,13 +83,6 @@ module _ (live : MapState) (S : List Operation) (shows : ShowsOperations fnv1a l
   digest_just : IsJust (ReadsDigest fnv1a live) (Done (digest_text (root_digest fnv1a S)) [])
   digest_just o (map, is_map, is) = is ∙ ap (λ d. Done (digest_text d) []) (shows.digest map is_map)
 
-some_is : {X : Type 0} {x y : X} → Some x ≡ Some y → x ≡ y
-some_is {X} {x} {y} is = ap the is
-  where
-    the : Option X → X
-    the None = x
-    the (Some z) = z
-
 told_none : (o told : CommandOutcome) → None ≡ Some told → o ≡ told
 told_none o told is = absurd cc
 
@@ -100,12 +94,12 @@ reads_seen events w runs clean pins c outcome told = by c
 
     by : (c : CommandValue) → read_of w c ≡ Some told → Comes fnv1a w pins c outcome → outcome ≡ told
     by (Get name key field) is comes =
-        there_just w name _ _ (short_just key _ _ (short_just field _ _ (values_just (w.replica name).live (w.seen name) (shown name) key field))) outcome comes ∙ some_is is
-    by (Fields name key) is comes = there_just w name _ _ (short_just key _ _ (fields_just (w.replica name).live (w.seen name) (shown name) key)) outcome comes ∙ some_is is
-    by (Show name) is comes = there_just w name _ _ (keys_just (w.replica name).live (w.seen name) (shown name)) outcome comes ∙ some_is is
-    by (Size name) is comes = there_just w name _ _ (size_just (w.replica name).live (w.seen name) (shown name)) outcome comes ∙ some_is is
-    by (Context name) is comes = there_just w name _ _ (context_just (w.replica name).live (w.seen name) (shown name)) outcome comes ∙ some_is is
-    by (Digest name) is comes = there_just w name _ _ (digest_just (w.replica name).live (w.seen name) (shown name)) outcome comes ∙ some_is is
+        there_just w name _ _ (short_just key _ _ (short_just field _ _ (values_just (w.replica name).live (w.seen name) (shown name) key field))) outcome comes ∙ same_Some _ _ is
+    by (Fields name key) is comes = there_just w name _ _ (short_just key _ _ (fields_just (w.replica name).live (w.seen name) (shown name) key)) outcome comes ∙ same_Some _ _ is
+    by (Show name) is comes = there_just w name _ _ (keys_just (w.replica name).live (w.seen name) (shown name)) outcome comes ∙ same_Some _ _ is
+    by (Size name) is comes = there_just w name _ _ (size_just (w.replica name).live (w.seen name) (shown name)) outcome comes ∙ same_Some _ _ is
+    by (Context name) is comes = there_just w name _ _ (context_just (w.replica name).live (w.seen name) (shown name)) outcome comes ∙ same_Some _ _ is
+    by (Digest name) is comes = there_just w name _ _ (digest_just (w.replica name).live (w.seen name) (shown name)) outcome comes ∙ same_Some _ _ is
     by (Node name) is comes = told_none outcome told is
     by (Put name key field value) is comes = told_none outcome told is
     by (Flush name) is comes = told_none outcome told is

@@ -2,6 +2,7 @@
 use Rattle.std.proofs.Common.{◌≡◌, inl, inr, ℕ, suc, ◌+◌, List, [], ◌∷◌, ◌++◌, length, drop, map, refl, ap, ◌∙◌, arith, Some, None}
 use Rattle.std.specs.Prelude.{codes}
 use Rattle.std.proofs.lemmas.List.{append-nil}
+use Rattle.std.proofs.lemmas.Option.{same_Some}
 use Rattle.std.proofs.Math.Seq.{drop-append_seam}
 use Rattle.hash_path.specs.Fnv1a.{fnv1a}
 use Rattle.op_model.specs.Made.{dot_at, removed_at, field_removed_at, cleared_at}
@@ -9,9 +10,9 @@ use Rattle.op_model.specs.Operation.{Operation}
 use Rattle.op_model.specs.Place.{place_of}
 use Rattle.replica_model.specs.Answers.{answer_by, flushed_by, IsToldBy}
 use Rattle.replica_model.specs.Replica.{Kept}
-use Rattle.replica_model.specs.Step.{Answer, Nothing, Made, Counted}
+use Rattle.replica_model.specs.Step.{Answer, Made, Counted}
 use Rattle.replica_model.specs.Step as step
-use Rattle.replica_model.specs.World.{World, Event, Happens, Message, goes, calls, sent_as}
+use Rattle.replica_model.specs.World.{World, Event, Happens, goes, calls, sent_as}
 use Rattle.replica_model.specs.World as world
 use Rattle.wire_form.specs.Session.{SessionValue}
 use Rattle.replica_model.proofs.Answers.{calls_are_told}
@@ -70,9 +71,6 @@ module _ (w : World) (name : ℕ) (told : IsToldBy fnv1a (w.replica name) name (
       ∙ flush_is (w.outgoing name) w.kept gone.0.kept number (w.outgoing name)
       ∙ ap (flush_seen (w.outgoing name)) suc_is
 
-some_is : {X : Type 0} {x y : X} → Some x ≡ Some y → x ≡ y
-some_is e = cc
-
 told_none : (text told : List ℕ) → None ≡ Some told → text ≡ told
 told_none text told is = absurd cc
 
@@ -89,19 +87,19 @@ writes_seen events w runs clean pins c text told more = by c
         (bytes_done field (with_bytes value last) text more
         (bytes_done key (with_bytes field (with_bytes value last)) text more
         (at_done w name (with_bytes key (with_bytes field (with_bytes value last))) text more comes))) in
-        (call_is w name (tells name) text more (step.Put (place_of key field) value) (Made (dot_at (w.seen name) name)) refl call).1 ∙ some_is is
+        (call_is w name (tells name) text more (step.Put (place_of key field) value) (Made (dot_at (w.seen name) name)) refl call).1 ∙ same_Some _ _ is
     by (Remove name key) is comes =
         let last = IsCall fnv1a w name (step.Remove key) in
         let call = bytes_done key last text more (at_done w name (with_bytes key last) text more comes) in
-        (call_is w name (tells name) text more (step.Remove key) (Counted (removed_at (w.seen name) key)) refl call).1 ∙ some_is is
+        (call_is w name (tells name) text more (step.Remove key) (Counted (removed_at (w.seen name) key)) refl call).1 ∙ same_Some _ _ is
     by (RemoveField name key field) is comes =
         let last = IsCall fnv1a w name (step.RemoveField (place_of key field)) in
         let call = bytes_done field last text more
         (bytes_done key (with_bytes field last) text more
         (at_done w name (with_bytes key (with_bytes field last)) text more comes)) in
-        (call_is w name (tells name) text more (step.RemoveField (place_of key field)) (Counted (field_removed_at (w.seen name) (place_of key field))) refl call).1 ∙ some_is is
-    by (Clear name) is comes = (call_is w name (tells name) text more step.Clear (Counted (cleared_at (w.seen name))) refl comes).1 ∙ some_is is
-    by (Flush name) is comes = flush_told w name (tells name) text more comes ∙ some_is is
+        (call_is w name (tells name) text more (step.RemoveField (place_of key field)) (Counted (field_removed_at (w.seen name) (place_of key field))) refl call).1 ∙ same_Some _ _ is
+    by (Clear name) is comes = (call_is w name (tells name) text more step.Clear (Counted (cleared_at (w.seen name))) refl comes).1 ∙ same_Some _ _ is
+    by (Flush name) is comes = flush_told w name (tells name) text more comes ∙ same_Some _ _ is
     by (Node name) is comes = told_none text told is
     by (Get name key field) is comes = told_none text told is
     by (Deliver number name) is comes = told_none text told is

@@ -139,6 +139,26 @@ fn fill<A: Allocator + Copy>(rt: &impl Abort, heap: A, trie: &mut Trie<A>) {
     }
 }
 
+// A trie of the forty. It is in a box, as are the two below: one that is a local is dear to prove.
+fn filled<A: Allocator + Copy>(rt: &impl Abort, alloc: Global, heap: A) -> Box<Trie<A>> {
+    let empty: Trie<A> = GenTrie::new(heap, Fnv1a);
+    let mut trie = Box::new(alloc, empty).expect(rt, "memory");
+    fill(rt, heap, &mut *trie);
+    trie
+}
+
+// The trie as it stands, with which it shares its nodes from then on.
+fn shared<A: Allocator + Copy>(rt: &impl Abort, alloc: Global, trie: &mut Trie<A>) -> Box<Still<A>> {
+    let still = trie.share().expect(rt, "memory");
+    Box::new(alloc, still).expect(rt, "memory")
+}
+
+// A map of Workiva's calls of what the frozen map holds.
+fn thawed<A: Allocator + Copy>(rt: &impl Abort, alloc: Global, still: &Still<A>) -> Box<Map<A>> {
+    let map: Map<A> = Ctrie::thaw(still).expect(rt, "memory");
+    Box::new(alloc, map).expect(rt, "memory")
+}
+
 // How often the call is refused in this small heap, in which all three stand. What is written is shared with the frozen map.
 fn tried<A: Allocator + Copy>(
     rt: &impl Abort,
@@ -147,15 +167,14 @@ fn tried<A: Allocator + Copy>(
     heap: A,
     act: Act,
 ) -> usize {
-    let mut trie: Trie<A> = GenTrie::new(heap, Fnv1a);
-    fill(rt, heap, &mut trie);
-    let still = trie.share().expect(rt, "memory");
-    let mut map: Map<A> = Ctrie::thaw(&still).expect(rt, "memory");
+    let mut trie = filled(rt, alloc, heap);
+    let still = shared(rt, alloc, &mut *trie);
+    let mut map = thawed(rt, alloc, &*still);
     let mut asking = Asking {
         heap,
-        trie: &mut trie,
-        still: &still,
-        map: &mut map,
+        trie: &mut *trie,
+        still: &*still,
+        map: &mut *map,
         act,
     };
     refusals(rt, alloc, small, 8, &mut asking)
