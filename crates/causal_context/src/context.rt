@@ -16,7 +16,8 @@ use std::marker::Model;
 ///
 /// It is kept as a version vector, which has for each name the number up to which all its dots are
 /// known, and a cloud of the other dots. So a million dots of one name with no gap are one entry, and no
-/// call takes time in them. Equal sets have equal representation.
+/// call takes time in them. Equal sets have equal representation. After Almeida, Shoker and Baquero, "Delta
+/// State Replicated Data Types" (2018); that the vector always goes as far as it can is of this project.
 ///
 /// What grows keeps to the allocator that `new` or `copy` was given.
 #[derive(Drop)]
@@ -76,7 +77,7 @@ impl<A: Allocator + Copy> Context<A> {
         })
     }
 
-    /// Whether no dot is in the context. Takes no memory.
+    /// Whether no dot is in the context. Takes constant time, and no memory.
     pub fn is_empty(&self) -> bool
         ensures { IsTrue result ↔ HasNone self.now }
     {
@@ -141,8 +142,8 @@ impl<A: Allocator + Copy> Context<A> {
         true
     }
 
-    /// The version vector: each name that has an entry, in order, with the number up to which all its
-    /// dots are in the context.
+    /// The version vector: each name that has an entry, in order, with the number up to which all its dots are
+    /// in the context. Copies nothing.
     pub fn vector(&self) -> &[(Name, u64)]
         ensures rest { result.now ≡ self.now.vector }
         ensures has { (d : DotValue) → has self.now d ≡ is_known result.now self.now.cloud d }
@@ -151,7 +152,7 @@ impl<A: Allocator + Copy> Context<A> {
         self.vector.entries()
     }
 
-    /// The cloud: the dots that stand apart from the vector, in order.
+    /// The cloud: the dots that stand apart from the vector, in order. Copies nothing.
     pub fn cloud(&self) -> &[Dot]
         ensures rest { result.now ≡ self.now.cloud }
         ensures has { (d : DotValue) → has self.now d ≡ is_known self.now.vector result.now d }
@@ -180,7 +181,8 @@ impl<A: Allocator + Copy> Context<A> {
     /// Adds the dot. A refused call leaves the context as it was. Takes time as `contains` does, and writes one
     /// number where the dot is just above its entry. A new name moves the entries of greater names, and a dot
     /// that goes to the cloud the greater ones there. Where the dot closes the gap below dots of the cloud,
-    /// these go to the vector: a look-up for each, and a pass over the cloud.
+    /// these go to the vector: a look-up for each, and a pass over the cloud. Takes memory for an entry at
+    /// most: at times for twice as many as there are.
     /// Its only refusal is OutOfMemory.
     pub fn add(&mut self, dot: Dot) -> Result<(), Refusal>
         ensures ok { OnOk result ((d : DotValue) → has self.new d ≡ (same_dot dot d || has self.old d)) }

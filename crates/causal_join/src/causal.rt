@@ -10,7 +10,8 @@ use dots::Refusal;
 use std::alloc::{Allocator, Global};
 use std::marker::Model;
 
-/// A causal state: a dot store with its causal context. Each dot of the store is in the context.
+/// A causal state: a dot store with its causal context. Each dot of the store is in the context. After Almeida,
+/// Shoker and Baquero, "Delta State Replicated Data Types" (2018).
 #[derive(Drop)]
 pub struct Causal<S: DotStore<A>, A: Allocator + Copy = Global> {
     store: S,
@@ -42,7 +43,7 @@ impl<S: DotStore<A>, A: Allocator + Copy> Causal<S, A> {
     }
 
     /// The pair of the store and the context, or None exactly where a dot of the store is outside the
-    /// context. Takes no memory.
+    /// context. Takes no memory, and a look in the context for each dot of the store.
     pub fn from_parts(store: S, context: Context<A>) -> Option<Causal<S, A>>
         ensures pair { IfSome result (λ pair. pair ≡ (store, context)) }
         ensures outside { IsNone result ↔ ¬ IsInside (state_with (S.at store) (has context)) }
@@ -53,7 +54,7 @@ impl<S: DotStore<A>, A: Allocator + Copy> Causal<S, A> {
         Some(Causal { store, context })
     }
 
-    /// The store of the pair.
+    /// The store of the pair. Copies nothing.
     pub fn store(&self) -> &S
         ensures value { result.now ≡ self.now.0 }
         ensures inside { IsInside (state_of S.at self.now) }
@@ -61,7 +62,7 @@ impl<S: DotStore<A>, A: Allocator + Copy> Causal<S, A> {
         &self.store
     }
 
-    /// The context of the pair.
+    /// The context of the pair. Copies nothing.
     pub fn context(&self) -> &Context<A>
         ensures value { result.now ≡ self.now.1 }
         ensures inside { IsInside (state_of S.at self.now) }
@@ -69,7 +70,8 @@ impl<S: DotStore<A>, A: Allocator + Copy> Causal<S, A> {
         &self.context
     }
 
-    /// The same state, on this allocator.
+    /// The same state, on this allocator. Takes time and memory in all that it holds, and in the names and
+    /// single dots of the context.
     /// Its only refusal is OutOfMemory.
     pub fn copy(&self, alloc: A) -> Result<Causal<S, A>, Refusal>
         ensures ok { IfOk result (λ copy. Same (state_of S.at copy) (state_of S.at self.now)) }
@@ -80,7 +82,9 @@ impl<S: DotStore<A>, A: Allocator + Copy> Causal<S, A> {
         Ok(Causal { store, context })
     }
 
-    /// The causal join of the two states.
+    /// The causal join of the two states. Takes time in all that both hold, each once, with a look in the
+    /// other context for what one side alone holds, and in the names and single dots of both contexts; and
+    /// memory in what the join holds and knows.
     /// Its only refusal is OutOfMemory.
     pub fn join(&self, alloc: A, other: &Causal<S, A>) -> Result<Causal<S, A>, Refusal>
         ensures ok { IfOk result (λ both. Same (state_of S.at both)
@@ -95,7 +99,8 @@ impl<S: DotStore<A>, A: Allocator + Copy> Causal<S, A> {
         Ok(Causal { store, context })
     }
 
-    /// Joins the other state into this one. A refused call leaves this one as it was.
+    /// Joins the other state into this one. A refused call leaves this one as it was: so it takes what
+    /// `join` does, also of what does not change, and the memory of both until it is done.
     /// Its only refusal is OutOfMemory.
     pub fn join_into(&mut self, alloc: A, other: &Causal<S, A>) -> Result<(), Refusal>
         ensures ok { OnOk result (Same (state_of S.at self.new)
@@ -107,7 +112,9 @@ impl<S: DotStore<A>, A: Allocator + Copy> Causal<S, A> {
         Ok(())
     }
 
-    /// Whether this state is below the other: whether joining it into the other gives the other.
+    /// Whether this state is below the other: whether joining it into the other gives the other. Takes a
+    /// look in the other context for each name and single dot of this one. Where all of them are there, it
+    /// takes what `join` does, and time to compare what that holds with the other.
     /// Its only refusal is OutOfMemory.
     pub fn is_below(&self, alloc: A, other: &Causal<S, A>) -> Result<bool, Refusal>
         ensures ok { IfOk result (λ below. IsTrue below

@@ -37,7 +37,7 @@ impl<A: Allocator + Copy> Model for Fields<A> {
 
 impl<A: Allocator + Copy> Fields<A> {
     /// The fields of these entries, or None exactly where they do not ascend, each field once, or one has no value. Takes the vector
-    /// over as it is, and no memory.
+    /// over as it is, and no memory, and time in the number of fields.
     pub fn from_entries(entries: Vec<(Field<A>, DotFun<Value<A>, A>), A>) -> Option<Fields<A>>
         ensures canonical { IsSome result
             ↔ (IsStrictlySortedBy bytes_cmp (keys_of entries.items) × NoKeyIsEmpty at_values entries.items) }
@@ -47,7 +47,7 @@ impl<A: Allocator + Copy> Fields<A> {
         Some(Fields { values })
     }
 
-    /// What stands at the field, which is never nothing. Takes time in the logarithm of the number of fields.
+    /// What stands at the field, which is never nothing. Takes time in the logarithm of the number of fields, and no memory.
     /// None exactly where nothing stands there.
     pub fn get(&self, field: &Field<A>) -> Option<&DotFun<Value<A>, A>>
         ensures held { (place : Unit {0}) (d : DotValue)
@@ -57,7 +57,7 @@ impl<A: Allocator + Copy> Fields<A> {
         self.values.get(field)
     }
 
-    /// The fields with what stands there, by ascending bytes. None holds nothing.
+    /// The fields with what stands there, by ascending bytes. None holds nothing. Copies nothing.
     pub fn entries(&self) -> &[(Field<A>, DotFun<Value<A>, A>)]
         ensures rest { result.now ≡ self.now }
         ensures filled { NoKeyIsEmpty at_values result.now }
@@ -72,7 +72,8 @@ impl<A: Allocator + Copy> Fields<A> {
     }
 
     /// Puts these values at the field, in place of what was there. No values take the field out, which takes no memory. A refused
-    /// call leaves the fields as they were. Takes time in the number of greater fields, besides that of a look-up.
+    /// call leaves the fields as they were. Takes time in the number of greater fields, besides that of a look-up, and memory for
+    /// the entry: at times for twice as many as there are.
     /// Its only refusal is OutOfMemory.
     pub fn insert(&mut self, field: Field<A>, values: DotFun<Value<A>, A>) -> Result<(), Refusal>
         ensures ok { OnOk result (HoldsSame (fields_at self.new)

@@ -69,7 +69,7 @@ impl<V, H: PathHash, M: Summary<V>, A: Allocator + Copy> Ctrie<V, H, M, A> {
         }
     }
 
-    /// The number of keys.
+    /// The number of keys. It is kept, so this takes constant time, where Workiva's goes through all entries.
     pub fn size(&self) -> u64
         ensures { result ≡ finite.len self.now.map }
     {
@@ -90,7 +90,7 @@ impl<V, H: PathHash, M: Summary<V>, A: Allocator + Copy> Ctrie<V, H, M, A> {
     }
 
     /// The keys with their values, by ascending index sequence of the key's hash, and those of equal hashes by key bytes.
-    /// Takes no memory. To write meanwhile, iterate over a snapshot.
+    /// Takes no memory. A walk of all of them goes into each node once. To write meanwhile, iterate over a snapshot.
     pub fn iter(&self) -> Iter<'_, V, M, A>
         ensures { result ≡ walk (H.hash_of self.now.hash) self.now.map }
     {
@@ -147,7 +147,7 @@ impl<V: Drop, H: PathHash, M: Summary<V>, A: Allocator + Copy> Ctrie<V, H, M, A>
         }
     }
 
-    /// Takes all keys out. Takes no memory.
+    /// Takes all keys out. Takes no memory; the nodes that no snapshot shares are let go, which takes time in them.
     /// ReadOnly exactly where this trie is read-only, and no other refusal. A refused call leaves the map as it was.
     pub fn clear(&mut self) -> Result<(), Refusal>
         ensures read_only { IsErrOf result Refusal.ReadOnly ↔ IsTrue self.old.read_only }
@@ -164,8 +164,9 @@ impl<V: Drop, H: PathHash, M: Summary<V>, A: Allocator + Copy> Ctrie<V, H, M, A>
         }
     }
 
-    /// A trie of the same map, which is read-only where this one is. What is written to either is not seen in the
-    /// other. Copies no node: it takes a few reference counts, and is refused only where one is full.
+    /// A trie of the same map, which is read-only where this one is. What is written to either is not seen in the other.
+    /// Copies no node: it takes two reference counts at most, and is refused only where one is full. A later write to
+    /// either copies the nodes that it meets, eight at most.
     /// Its only refusal is OutOfMemory.
     pub fn snapshot(&mut self) -> Result<Ctrie<V, H, M, A>, Refusal>
         ensures ok { IfOk result (λ snapshot. snapshot ≡ self.old) }
@@ -180,7 +181,8 @@ impl<V: Drop, H: PathHash, M: Summary<V>, A: Allocator + Copy> Ctrie<V, H, M, A>
     }
 
     /// A read-only trie of the same map. What is written to this trie is not seen in it. Copies no node: it takes a
-    /// reference count, and is refused only where that is full.
+    /// reference count, and is refused only where that is full. A later write to this trie copies the nodes that it
+    /// meets, eight at most.
     /// Its only refusal is OutOfMemory.
     pub fn read_only_snapshot(&mut self) -> Result<Ctrie<V, H, M, A>, Refusal>
         ensures ok { IfOk result (λ snapshot. snapshot ≡ record self.old { read_only = true }) }
@@ -196,9 +198,10 @@ impl<V: Drop, H: PathHash, M: Summary<V>, A: Allocator + Copy> Ctrie<V, H, M, A>
         })
     }
 
-    /// The map as it is, which stays so whatever is written afterwards, and whose nodes keep their summaries: those that had
-    /// none are given one first, also of a read-only trie. A refused call leaves the map as it was. Copies the nodes
-    /// without a summary that a snapshot shares.
+    /// The map as it is, which stays so whatever is written afterwards, and whose nodes keep their summaries: those that
+    /// had none are given one first, also of a read-only trie. A refused call leaves the map as it was. Takes time in the
+    /// nodes without a summary and in what stands right below them, copies those that a snapshot shares, and takes a
+    /// reference count.
     /// Its only refusal is OutOfMemory.
     pub fn freeze(&mut self) -> Result<Frozen<V, M, H, A>, Refusal>
         ensures hash { IfOk result (λ frozen. frozen.hash ≡ self.old.hash) }

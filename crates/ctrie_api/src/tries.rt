@@ -35,7 +35,7 @@ impl<V, H: PathHash, M: Summary<V>, A: Allocator> Model for Tries<V, H, M, A> {
 }
 
 impl<V: Drop, H: PathHash, M: Summary<V>, A: Allocator + Copy> Tries<V, H, M, A> {
-    /// This trie alone.
+    /// This trie alone. Takes memory for one place.
     /// Its only refusal is OutOfMemory.
     pub fn new(alloc: A, first: Ctrie<V, H, M, A>) -> Result<Tries<V, H, M, A>, Refusal>
         ensures ok { IfOk result (λ tries. tries ≡ first ∷ []) }
@@ -63,8 +63,10 @@ impl<V: Drop, H: PathHash, M: Summary<V>, A: Allocator + Copy> Tries<V, H, M, A>
 
     /// Carries an act out, and tells whether its trie is there: where it is not, nothing changes. A write on a read-only
     /// trie is refused. A refused act changes nothing.
-    /// ReadOnly exactly where the act is a write at a trie that is there and read-only; its only other refusal is OutOfMemory.
-    /// A write touches eight nodes at most, and copies those that a snapshot shares; a snapshot copies no node, and adds a trie to the run.
+    /// ReadOnly exactly where the act is a write at a trie that is there and read-only; its only other refusal is
+    /// OutOfMemory.
+    /// A write touches eight nodes at most, and copies those that a snapshot shares; a clear lets those go that none
+    /// shares; a snapshot copies no node, and adds a trie to the run.
     pub fn act(&mut self, act: Act<V, A>) -> Result<bool, Refusal>
         ensures there { IfOk result (λ there. IsTrue there ↔ index_of act < length self.old) }
         ensures read_only { IsErrOf result Refusal.ReadOnly ↔ IsTrue (is_refused self.old act) }

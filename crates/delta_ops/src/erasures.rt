@@ -27,7 +27,7 @@ use std::collections::BTreeSet;
 /// field of the key.
 ///
 /// The delta holds nothing, and knows these dots. Where there are none it is the bottom, as no operation is made. Takes a
-/// look-up, and time and memory in what stands there.
+/// look-up, memory in the dots that stand there, and time in them, times the logarithm of their number.
 /// Its only refusal is OutOfMemory.
 pub fn remove<M: Summary<Fields<A>>, H: PathHash, A: Allocator + Copy>(
     alloc: A,
@@ -42,11 +42,11 @@ pub fn remove<M: Summary<Fields<A>>, H: PathHash, A: Allocator + Copy>(
     erasing(alloc, &dots)
 }
 
-/// The delta of a remove of the field of the key, and how many dots it observed, which is how many stand there. The
-/// key's other fields stay as they are.
+/// The delta of a remove of the field of the key, and how many dots it observed, which is how many stand there. The key's
+/// other fields stay as they are.
 ///
 /// The delta holds nothing, and knows these dots. Where there are none it is the bottom, as no operation is made. Takes
-/// two look-ups, and time and memory in what stands there.
+/// two look-ups, memory in the dots that stand there, and time in them, times the logarithm of their number.
 /// Its only refusal is OutOfMemory.
 pub fn remove_field<M: Summary<Fields<A>>, H: PathHash, A: Allocator + Copy>(
     alloc: A,
@@ -65,8 +65,8 @@ pub fn remove_field<M: Summary<Fields<A>>, H: PathHash, A: Allocator + Copy>(
 
 /// The delta of a clear, and how many dots it observed, which is how many stand at any place.
 ///
-/// The delta holds nothing, and knows these dots. Where there are none it is the bottom, as no operation is made. Takes
-/// time and memory in the whole map.
+/// The delta holds nothing, and knows these dots. Where there are none it is the bottom, as no operation is made. Goes
+/// through the whole map: takes memory in all its dots, and time in them, times the logarithm of their number.
 /// Its only refusal is OutOfMemory.
 pub fn clear<M: Summary<Fields<A>>, H: PathHash, A: Allocator + Copy>(
     alloc: A,

@@ -19,12 +19,12 @@ use gen_trie::Summary;
 use hash_path::PathHash;
 use std::alloc::Allocator;
 
-/// The delta of a put of the value on the key by this name, and its dot, which is the next of the name: a put at the
-/// empty field.
+/// The delta of a put of the value on the key by this name, and its dot, which is the next of the name: a put at the empty
+/// field. After the delta-mutators of Almeida, Shoker and Baquero, "Delta State Replicated Data Types" (2018).
 ///
 /// The delta holds the value alone, and knows its dot and the dots that stood there. NumbersSpent exactly where the
-/// greatest known number of the name is 2^64 - 1, else OutOfMemory or the delta. Takes two look-ups, and time and memory
-/// in what stands there.
+/// greatest known number of the name is 2^64 - 1, else OutOfMemory or the delta. Takes two look-ups and one in the
+/// context, and time and memory in what stands at the field and in what is written.
 pub fn put<M: Summary<Fields<A>>, H: PathHash, A: Allocator + Copy>(
     alloc: A,
     name: Name,
@@ -44,7 +44,7 @@ pub fn put<M: Summary<Fields<A>>, H: PathHash, A: Allocator + Copy>(
 ///
 /// The delta holds the value alone, and knows its dot and the dots that stood there; the key's other fields stay as they
 /// are. NumbersSpent exactly where the greatest known number of the name is 2^64 - 1, else OutOfMemory or the delta. Takes
-/// two look-ups, and time and memory in what stands there.
+/// two look-ups and one in the context, and time and memory in what stands at the field and in what is written.
 pub fn put_field<M: Summary<Fields<A>>, H: PathHash, A: Allocator + Copy>(
     alloc: A,
     name: Name,

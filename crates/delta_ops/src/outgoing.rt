@@ -15,7 +15,8 @@ use std::alloc::{Allocator, Global};
 use std::marker::Model;
 use std::sync::Arc;
 
-/// What a replica made since it last sent: a group of deltas.
+/// What a replica made since it last sent: a group of deltas, after the delta groups of Almeida, Shoker and Baquero, "Delta State
+/// Replicated Data Types" (2018).
 ///
 /// It is kept as runs, the oldest first, whose lengths fall as the digits of a binary counter do: a delta takes part
 /// in one join for each time that its run doubles, so that n deltas take as many joins of each entry as n has binary
@@ -85,7 +86,7 @@ impl<A: Allocator + Copy> Outgoing<A> {
         Ok(Outgoing { runs })
     }
 
-    /// Empties the group. Takes no memory.
+    /// Empties the group. Takes no memory; the runs that no copy shares are let go, which takes time in them.
     pub fn clear(&mut self)
         ensures { self.new ≡ [] }
     {

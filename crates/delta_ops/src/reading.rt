@@ -17,8 +17,8 @@ use hash_path::PathHash;
 use std::alloc::{AllocError, Allocator};
 use std::collections::BTreeSet;
 
-/// The distinct values at the field of the key, ascending by bytes. Takes two look-ups, and time and memory in the
-/// values that stand there.
+/// The distinct values at the field of the key, ascending by bytes. Takes two look-ups, memory in the values that stand
+/// there, and time in them, times the logarithm of their number.
 /// Its only refusal is OutOfMemory.
 pub fn values<M: Summary<Fields<A>>, H: PathHash, A: Allocator + Copy>(
     alloc: A,
@@ -38,8 +38,8 @@ pub fn values<M: Summary<Fields<A>>, H: PathHash, A: Allocator + Copy>(
     Ok(listed(alloc, found)?)
 }
 
-/// The distinct values of the key over all its fields, ascending by bytes. Takes a look-up, and time and memory in what
-/// stands at the key.
+/// The distinct values of the key over all its fields, ascending by bytes. Takes a look-up, memory in what stands at
+/// the key, and time in it, times the logarithm of the number of its values.
 /// Its only refusal is OutOfMemory.
 pub fn values_of_key<M: Summary<Fields<A>>, H: PathHash, A: Allocator + Copy>(
     alloc: A,
@@ -76,8 +76,8 @@ pub fn fields<M: Summary<Fields<A>>, H: PathHash, A: Allocator + Copy>(
     }
 }
 
-/// The keys that hold a value at some field, ascending by bytes. Takes memory in their number, and time in it and its
-/// logarithm.
+/// The keys that hold a value at some field, ascending by bytes. Goes through the whole map: takes memory in the keys,
+/// and time in them, times the logarithm of their number.
 /// Its only refusal is OutOfMemory.
 pub fn keys<M: Summary<Fields<A>>, H: PathHash, A: Allocator + Copy>(
     alloc: A,

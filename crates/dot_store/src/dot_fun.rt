@@ -40,7 +40,7 @@ impl<V, A: Allocator> Model for DotFun<V, A> {
 
 impl<V: Drop, A: Allocator + Copy> DotFun<V, A> {
     /// The map of these values, or None exactly where their dots do not ascend, each dot once. Takes the
-    /// vector over as it is, and no memory.
+    /// vector over as it is, and no memory, and time in the number of dots.
     pub fn from_entries(values: Vec<(Dot, V), A>) -> Option<DotFun<V, A>>
         ensures ascend { IsSome result ↔ IsStrictlySortedBy dot_cmp (keys_of values.items) }
         ensures values { IfSome result (λ map. map ≡ values.items) }
@@ -49,7 +49,7 @@ impl<V: Drop, A: Allocator + Copy> DotFun<V, A> {
         Some(DotFun { values })
     }
 
-    /// The value at the dot. Takes time in the logarithm of their number.
+    /// The value at the dot. Takes time in the logarithm of their number, and no memory.
     /// None exactly where it holds none.
     pub fn get(&self, dot: Dot) -> Option<&V>
         ensures { (place : _) → option_copied result ≡ at_values self.now place dot }
@@ -57,7 +57,7 @@ impl<V: Drop, A: Allocator + Copy> DotFun<V, A> {
         self.values.get(&dot)
     }
 
-    /// The dots with their values, in the order of the dots.
+    /// The dots with their values, in the order of the dots. Copies nothing.
     pub fn entries(&self) -> &[(Dot, V)]
         ensures rest { result.now ≡ self.now }
         ensures held { (place : _) (d : DotValue) (v : V)
@@ -68,7 +68,8 @@ impl<V: Drop, A: Allocator + Copy> DotFun<V, A> {
     }
 
     /// Puts the value at the dot, in place of what was there. A refused call leaves the map as it was.
-    /// Takes time in the number of values at greater dots, besides that of a look-up.
+    /// Takes time in the number of values at greater dots, besides that of a look-up, and memory for the
+    /// entry: at times for twice as many as there are.
     /// Its only refusal is OutOfMemory.
     pub fn insert(&mut self, dot: Dot, value: V) -> Result<(), Refusal>
         ensures ok { OnOk result ((place : _) (d : DotValue)

@@ -39,7 +39,7 @@ impl<K: Kept<A>, S: DotStore<A>, A: Allocator + Copy> Model for DotMap<K, S, A> 
 
 impl<K: Kept<A>, S: DotStore<A>, A: Allocator + Copy> DotMap<K, S, A> {
     /// The map of these stores, or None exactly where their keys do not ascend, each key once, or a store is
-    /// empty. Takes the vector over as it is, and no memory.
+    /// empty. Takes the vector over as it is, and no memory, and time in the number of keys.
     pub fn from_entries(stores: Vec<(K, S), A>) -> Option<DotMap<K, S, A>>
         ensures canonical { IsSome result
             ↔ (IsStrictlySortedBy K.cmp (keys_of stores.items) × NoKeyIsEmpty S.at stores.items) }
@@ -52,7 +52,8 @@ impl<K: Kept<A>, S: DotStore<A>, A: Allocator + Copy> DotMap<K, S, A> {
         Some(DotMap { stores })
     }
 
-    /// The store at the key, which is never an empty one. Takes time in the logarithm of the number of keys.
+    /// The store at the key, which is never an empty one. Takes time in the logarithm of the number of keys,
+    /// and no memory.
     /// None exactly where nothing stands at the key.
     pub fn get(&self, key: &K) -> Option<&S>
         ensures held { (place : S.Place) (d : DotValue)
@@ -63,7 +64,7 @@ impl<K: Kept<A>, S: DotStore<A>, A: Allocator + Copy> DotMap<K, S, A> {
         self.stores.get(key)
     }
 
-    /// The keys with their stores, in the order of the keys. No store is empty.
+    /// The keys with their stores, in the order of the keys. No store is empty. Copies nothing.
     pub fn entries(&self) -> &[(K, S)]
         ensures rest { result.now ≡ self.now }
         ensures filled { NoKeyIsEmpty S.at result.now }
@@ -78,9 +79,9 @@ impl<K: Kept<A>, S: DotStore<A>, A: Allocator + Copy> DotMap<K, S, A> {
         self.stores.entries()
     }
 
-    /// Puts the store at the key, in place of what was there. An empty store takes the key out, which
-    /// takes no memory. A refused call leaves the map as it was. Takes time in the number of greater keys,
-    /// besides that of a look-up.
+    /// Puts the store at the key, in place of what was there. An empty store takes the key out, which takes
+    /// no memory. A refused call leaves the map as it was. Takes time in the number of greater keys, besides
+    /// that of a look-up, and memory for the entry: at times for twice as many as there are.
     /// Its only refusal is OutOfMemory.
     pub fn insert(&mut self, key: K, store: S) -> Result<(), Refusal>
         ensures ok { OnOk result (HoldsSame (at_stores S.at K.cmp self.new)

@@ -34,7 +34,7 @@ impl<A: Allocator> Model for DotSet<A> {
 
 impl<A: Allocator + Copy> DotSet<A> {
     /// Adds the dot. A refused call leaves the set as it was. Takes time in the number of greater dots,
-    /// besides that of a look-up.
+    /// besides that of a look-up, and memory for the dot: at times for twice as many as there are.
     /// Its only refusal is OutOfMemory.
     pub fn insert(&mut self, dot: Dot) -> Result<(), Refusal>
         ensures ok { OnOk result ((place : _) (d : DotValue)

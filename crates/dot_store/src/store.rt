@@ -11,7 +11,8 @@ use std::alloc::Allocator;
 /// A dot store: it holds things at dots, each at a place.
 ///
 /// A store knows no context. `join` is handed the contexts of both sides, since a dot that one side lacks
-/// and knows was removed there. Each refusal is OutOfMemory.
+/// and knows was removed there. Each refusal is OutOfMemory. After Almeida, Shoker and Baquero, "Delta State
+/// Replicated Data Types" (2018).
 pub trait DotStore<A: Allocator + Copy>: Drop {
     /// Where a dot can stand: the keys that lead there.
     type Place;
@@ -30,22 +31,25 @@ pub trait DotStore<A: Allocator + Copy>: Drop {
     fn empty(alloc: A) -> Self
         ensures { HasNothing (at result) };
 
-    /// Whether the store holds nothing. Tells also that the store is in its canonical form, as each is: a map asks it of what it
-    /// is given to keep.
+    /// Whether the store holds nothing. Tells also that the store is in its canonical form, as each is: a map asks it
+    /// of what it is given to keep. Takes no memory, and in the stores of these crates constant time.
     fn is_empty(&self) -> bool
         ensures nothing { IsTrue result ↔ HasNothing (at self.now) }
         ensures canonical { canonical self.now };
 
-    /// Whether something is held at the dot, at some place.
+    /// Whether something is held at the dot, at some place. Takes no memory. A set, or a map from dots, takes a
+    /// look-up; a map from keys takes one in the store of each key, up to the first that has the dot.
     fn contains(&self, dot: Dot) -> bool
         ensures found { IsTrue result → HoldsDot (at self.now) dot }
         ensures absent { result ≡ false → (place : Self.Place) → at self.now place dot ≡ None };
 
-    /// Whether each dot of the store is in the context. Takes no memory.
+    /// Whether each dot of the store is in the context. Takes no memory, and a look in the context for each dot, up
+    /// to the first that is not there.
     fn is_inside(&self, context: &Context<A>) -> bool
         ensures { IsTrue result ↔ IsInside (state_with (at self.now) (has context.now)) };
 
-    /// The context of the dots that stand in the store.
+    /// The context of the dots that stand in the store. Takes time and memory in these; but a map from keys makes the
+    /// union anew for each key, so its time is the number of keys times the names and single dots of the context.
     /// Its only refusal is OutOfMemory.
     fn dots(&self, alloc: A) -> Result<Context<A>, Refusal>
         ensures only { IfOk result (λ dots. (d : DotValue) → IsTrue (has dots d) → HoldsDot (at self.now) d) }
@@ -53,8 +57,10 @@ pub trait DotStore<A: Allocator + Copy>: Drop {
             → IsSome (at self.now place d) → IsTrue (has dots d)) }
         ensures err { IsOkUnless result Refusal.OutOfMemory };
 
-    /// The causal join of this store under its context and the other under its context: at each place and
-    /// dot, of two things held the greater, and what one side alone holds where the other does not know it.
+    /// The causal join of this store under its context and the other under its context: at each place and dot, of two
+    /// things held the greater, and what one side alone holds where the other does not know it. Takes time in all
+    /// that both hold, each once, with a look in the other context for what one side alone holds, and memory in what
+    /// is kept; a map that is kept as a trie takes memory in what changes.
     /// Its only refusal is OutOfMemory.
     fn join(
         &self,
@@ -68,13 +74,16 @@ pub trait DotStore<A: Allocator + Copy>: Drop {
             (state_with (at other.now) (has theirs.now))).at) }
         ensures err { IsOkUnless result Refusal.OutOfMemory };
 
-    /// A store that holds the same. What it copies is on this allocator; what it shares with this store stays where it is.
+    /// A store that holds the same. What it copies is on this allocator; what it shares with this store stays where
+    /// it is. Takes time and memory in what it copies: in all that the store holds, and in none of it where it is
+    /// kept as a trie.
     /// Its only refusal is OutOfMemory.
     fn copy(&self, alloc: A) -> Result<Self, Refusal>
         ensures ok { IfOk result (λ copy. HoldsSame (at copy) (at self.now)) }
         ensures err { IsOkUnless result Refusal.OutOfMemory };
 
-    /// Whether the two stores hold the same. Takes no memory.
+    /// Whether the two stores hold the same. Takes no memory, and time in all that both hold, up to the first
+    /// difference.
     fn same(&self, other: &Self) -> bool
         ensures { IsTrue result ↔ HoldsSame (at self.now) (at other.now) };
 

@@ -5,7 +5,8 @@ use std::fmt;
 use std::marker::Model;
 
 /// One write of one replica: the replica's name, and the write's number there, from 1 to 2^64 - 1.
-/// Dots are ordered by name, then by number.
+/// Dots are ordered by name, then by number. After Almeida, Shoker and Baquero, "Delta State Replicated Data
+/// Types" (2018).
 #[derive(Clone, Copy, Debug, PartialEq, Eq, PartialOrd, Ord, Hash)]
 pub struct Dot {
     name: Name,

@@ -5,10 +5,10 @@ ghost use Rattle.dots.specs.declared.refusal.Refusal.TheVariants.{OutOfMemory};
 use std::alloc::{AllocError, AllocFailed};
 use thiserror::Error;
 
-/// Why a call was refused. A refused call changes nothing.
+/// Why a call was refused. A refused call changes nothing, but where a call says otherwise.
 #[derive(Clone, Copy, Debug, PartialEq, Eq, Hash, Error)]
 pub enum Refusal {
-    /// A growth was refused by the allocator.
+    /// A growth was refused by the allocator, or a count is full: of the owners of a part, or of keys.
     #[error("OutOfMemory")]
     OutOfMemory,
     /// A key, a field or a value of more than 65,535 bytes.

@@ -73,7 +73,7 @@ impl<K, A: Allocator + Copy> Text<K, A> {
 }
 
 impl<K, A: Allocator> Text<K, A> {
-    /// The bytes that the text was made of, in order.
+    /// The bytes that the text was made of, in order. Copies nothing.
     pub fn bytes(&self) -> &[u8]
         ensures value { result.now ≡ self.now }
         ensures short { length result.now ≤ MAX_LENGTH }

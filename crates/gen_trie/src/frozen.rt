@@ -17,7 +17,8 @@ use std::alloc::{Allocator, Global};
 use std::marker::Model;
 
 /// A finite map from keys to values that is only read. It shares its nodes with the tries that it comes from, and stays
-/// what it is whatever they write.
+/// what it is whatever they write: each node that they write is copied first. A call at a key with the hash of others goes
+/// through these, as that of a `GenTrie` does.
 #[derive(Drop)]
 pub struct Frozen<V, M: Summary<V>, H: PathHash, A: Allocator = Global> {
     // It is never written.
@@ -67,7 +68,7 @@ impl<V, M: Summary<V>, H: PathHash, A: Allocator + Copy> Frozen<V, M, H, A> {
         self.trie.lookup_bytes(key)
     }
 
-    /// The number of keys.
+    /// The number of keys. It is kept, so this takes constant time.
     pub fn size(&self) -> u64
         ensures { result ≡ finite.len self.now.map }
     {
@@ -82,7 +83,7 @@ impl<V, M: Summary<V>, H: PathHash, A: Allocator + Copy> Frozen<V, M, H, A> {
     }
 
     /// The keys with their values, by ascending index sequence of the key's hash, and those of equal hashes by key bytes.
-    /// Takes no memory.
+    /// Takes no memory. A walk of all of them goes into each node once.
     pub fn iter(&self) -> Iter<'_, V, M, A>
         ensures { result ≡ walk (H.hash_of self.now.hash) self.now.map }
     {
@@ -118,8 +119,8 @@ impl<V: Drop, M: Summary<V>, H: PathHash, A: Allocator + Copy> Frozen<V, M, H, A
     }
 
     /// Gives the nodes that keep no summary, as after a share without a seal, theirs. The map stays as it is, also where it
-    /// is refused; a further call goes on from there. Copies those nodes that a trie or another frozen map shares, and takes
-    /// no other memory.
+    /// is refused; a further call goes on from there. Takes time in those nodes and in what stands right below them, copies
+    /// those that a trie or another frozen map shares, and takes no other memory.
     /// Its only refusal is OutOfMemory.
     pub fn seal(&mut self) -> Result<(), Refusal>
         ensures ok { OnOk result (self.new ≡ record self.old { sealed = true }) }
@@ -130,7 +131,7 @@ impl<V: Drop, M: Summary<V>, H: PathHash, A: Allocator + Copy> Frozen<V, M, H, A
     }
 
     /// A trie of the same map that can be written, in a generation after those of all nodes that it shares; at the last,
-    /// 2^64 - 1, it stays. Copies no node.
+    /// 2^64 - 1, it stays. Copies no node: it takes a reference count, and is refused only where that is full.
     /// Its only refusal is OutOfMemory.
     pub fn thaw(&self) -> Result<GenTrie<V, M, H, A>, Refusal>
         ensures ok { IfOk result (λ trie. trie ≡ record self.now { generation = generation_after self.now.generation }) }
@@ -142,7 +143,9 @@ impl<V: Drop, M: Summary<V>, H: PathHash, A: Allocator + Copy> Frozen<V, M, H, A
 
 impl<V, M: Summary<V>, H: PathHash, A: Allocator + Copy> Frozen<V, M, H, A> {
     /// The summary of the keys whose paths begin with a prefix. None exactly where there are no such keys. It reads what a
-    /// node keeps, and visits the nodes that keep none, as before a seal, with their children. Takes no memory.
+    /// node keeps, and visits the nodes that keep none, as before a seal, with their children; a key alone keeps none, so
+    /// its own is made anew. Takes no memory, and on the stack a call for each child of the branches on the way down, 8
+    /// times 32 at most.
     pub fn summary(&self, prefix: Prefix) -> Option<M>
         ensures summary { result ≡ summary_at M.calls prefix 7 (by_path (H.hash_of self.now.hash) self.now.map) }
         ensures none { (result ≡ None) ↔ ((key : List ℕ) → indices (length prefix) (H.hash_of self.now.hash key) ≡ prefix → finite.get self.now.map key ≡ None) }

@@ -6,14 +6,16 @@ use std::alloc::Allocator;
 use std::sync::Arc;
 
 /// What is told of the entries under a prefix of a trie, as a digest or a count. It is made by three calls, each by law a
-/// function of its arguments' values; so equal maps have equal summaries.
+/// function of its arguments' values; so equal maps have equal summaries. None of the three can be refused, so none is to
+/// take memory.
 pub trait Summary<V>: Copy + Drop {
     ghost use Rattle.hash_path.specs.Fan.{Rise};
     ghost use Rattle.hash_path.specs.Summary.{SummaryCalls};
 
     ghost calls: { SummaryCalls V Self };
 
-    /// The summary of one key alone, at any prefix.
+    /// The summary of one key alone, at any prefix. Called for each key that stands alone in a branch whenever that of
+    /// the branch is made.
     fn leaf(key: &[u8], value: &V) -> Self
         ensures { result ≡ calls.leaf key.now value.now };
 

@@ -26,8 +26,12 @@ use std::sync::Arc;
 /// since the last seal, which are given their summaries.
 ///
 /// It is a trie by the path hash of the keys: 32 children a branch, five bits of the hash a level, and lists of keys
-/// with equal hashes past the last. What is written after a freeze is copied first, node by node, so a frozen map stays
-/// what it was. An entry takes two allocations: the entry with its value, and the key's bytes.
+/// with equal hashes past the last, which a call at such a key goes through. What is written after a freeze is copied first,
+/// node by node, so a frozen map stays what it was. An entry with its value takes one allocation, and a key of more than 22
+/// bytes takes two of its own.
+///
+/// After Prokopec, Bronson, Bagwell and Odersky, "Concurrent Tries with Efficient Non-Blocking Snapshots" (2012), with their
+/// generations and without their lock-free writers; that equal maps have one shape is of this project.
 #[derive(Drop)]
 pub struct GenTrie<V, M: Summary<V>, H: PathHash, A: Allocator = Global> {
     alloc: A,
@@ -102,7 +106,7 @@ impl<V, M: Summary<V>, H: PathHash, A: Allocator + Copy> GenTrie<V, M, H, A> {
         }
     }
 
-    /// The number of keys.
+    /// The number of keys. It is kept, so this takes constant time.
     pub fn size(&self) -> u64
         ensures { result ≡ finite.len self.now.map }
     {
@@ -120,7 +124,7 @@ impl<V, M: Summary<V>, H: PathHash, A: Allocator + Copy> GenTrie<V, M, H, A> {
     }
 
     /// The keys with their values, by ascending index sequence of the key's hash, and those of equal hashes by key bytes.
-    /// Takes no memory.
+    /// Takes no memory. A walk of all of them goes into each node once.
     pub fn iter(&self) -> Iter<'_, V, M, A>
         ensures { result ≡ walk (H.hash_of self.now.hash) self.now.map }
     {
@@ -137,9 +141,11 @@ impl<V, M: Summary<V>, H: PathHash, A: Allocator + Copy> GenTrie<V, M, H, A> {
 }
 
 impl<V: Drop, M: Summary<V>, H: PathHash, A: Allocator + Copy> GenTrie<V, M, H, A> {
-    /// Puts the value at the key, in the place of one that is there. A refused call leaves the map as it was, and drops
-    /// the value. A map of 2^64 - 1 keys refuses a new one as for want of memory. Touches eight nodes at most, and
-    /// copies those that a frozen map shares.
+    /// Puts the value at the key, in the place of one that is there. A refused call leaves the map as it was, and drops the
+    /// value. A map of 2^64 - 1 keys refuses a new one as for want of memory. Touches eight nodes at most, and copies those
+    /// that a frozen map shares; takes memory for the entry besides, and for the nodes between two keys whose paths begin
+    /// alike.
+    /// Its only refusal is OutOfMemory.
     pub fn insert(&mut self, key: Key<A>, value: V) -> Result<(), Refusal>
         ensures ok { OnOk result (self.new ≡ record self.old { map = finite.insert self.old.map key value; sealed = self.new.sealed }) }
         ensures same { OnErr result (self.new ≡ record self.old { sealed = self.new.sealed }) }
@@ -157,8 +163,9 @@ impl<V: Drop, M: Summary<V>, H: PathHash, A: Allocator + Copy> GenTrie<V, M, H, 
         )
     }
 
-    /// Takes the key out, and gives its entry, with the value that was there. A refused call leaves the map as it was. A key that is not
-    /// there takes no memory. Touches eight nodes at most, and copies those that a frozen map shares.
+    /// Takes the key out, and gives its entry, with the value that was there. A refused call leaves the map as it was. A key
+    /// that is not there takes a look-up, and no memory. Touches eight nodes at most, and copies those that a frozen map
+    /// shares.
     /// Its only refusal is OutOfMemory.
     pub fn remove(&mut self, key: &Key<A>) -> Result<Option<Arc<Entry<V, A>, A>>, Refusal>
         ensures value { IfOk result (λ taken. option_map (λ entry. entry.value.value) taken ≡ finite.get self.old.map key.now) }
@@ -178,7 +185,7 @@ impl<V: Drop, M: Summary<V>, H: PathHash, A: Allocator + Copy> GenTrie<V, M, H, 
         )
     }
 
-    /// Takes all keys out.
+    /// Takes all keys out. Takes no memory; the nodes that no frozen map shares are let go, which takes time in them.
     pub fn clear(&mut self)
         ensures { self.new ≡ record self.old { map = finite.empty; sealed = true } }
     {
@@ -187,9 +194,10 @@ impl<V: Drop, M: Summary<V>, H: PathHash, A: Allocator + Copy> GenTrie<V, M, H, 
     }
 
     /// Renews the summaries that writes took away: of the nodes that were written since the last seal, and of those above
-    /// them. Nodes that keep one are passed over. So each node keeps the summary of its entries. The map stays as it is,
-    /// also where it is refused; a further call goes on from there. Copies the nodes without a summary that a frozen map
-    /// shares, and takes no other memory.
+    /// them. Nodes that keep one are passed over, with all that stands below them. So each node keeps the summary of its
+    /// entries. The map stays as it is, also where it is refused; a further call goes on from there. Takes time in the nodes
+    /// without a summary and in what stands right below them, copies those that a frozen map shares, and takes no other
+    /// memory.
     /// Its only refusal is OutOfMemory.
     pub fn seal(&mut self) -> Result<(), Refusal>
         ensures ok { OnOk result (self.new ≡ record self.old { sealed = true }) }
@@ -200,7 +208,7 @@ impl<V: Drop, M: Summary<V>, H: PathHash, A: Allocator + Copy> GenTrie<V, M, H, 
     }
 
     /// Seals, and then shares: the map as it is, whose nodes keep their summaries. A refused call leaves the map and the
-    /// generation as they were.
+    /// generation as they were. Takes what `seal` does, and a reference count.
     /// Its only refusal is OutOfMemory.
     pub fn freeze(&mut self) -> Result<Frozen<V, M, H, A>, Refusal>
         ensures ok { IfOk result (λ frozen. frozen ≡ record self.old { sealed = true }) }
@@ -255,7 +263,9 @@ impl<V: Drop, M: Summary<V>, H: PathHash, A: Allocator + Copy> GenTrie<V, M, H, 
 
 impl<V, M: Summary<V>, H: PathHash, A: Allocator + Copy> GenTrie<V, M, H, A> {
     /// The summary of the keys whose paths begin with a prefix. None exactly where there are no such keys. It reads what a
-    /// node keeps, and visits the nodes that keep none, as before a seal, with their children. Takes no memory.
+    /// node keeps, and visits the nodes that keep none, as before a seal, with their children; a key alone keeps none, so
+    /// its own is made anew. Takes no memory, and on the stack a call for each child of the branches on the way down, 8
+    /// times 32 at most.
     pub fn summary(&self, prefix: Prefix) -> Option<M>
         ensures summary { result ≡ summary_at M.calls prefix 7 (by_path (H.hash_of self.now.hash) self.now.map) }
         ensures none { (result ≡ None) ↔ ((key : List ℕ) → indices (length prefix) (H.hash_of self.now.hash key) ≡ prefix → finite.get self.now.map key ≡ None) }

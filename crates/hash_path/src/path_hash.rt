@@ -7,7 +7,7 @@ pub trait PathHash: Copy + Default {
 
     ghost bounded: { (hash : Self) (key : List ℕ) → hash_of hash key < 2 ^ 32 };
 
-    /// The hash of these bytes. Takes no memory.
+    /// The hash of these bytes. Takes no memory. A trie calls it once for each look-up and each write of a key.
     fn hash(&self, key: &[u8]) -> u32
         ensures { result ≡ hash_of self.now key.now };
 }

@@ -29,7 +29,8 @@ fn last_at(depth: u32) -> u32
 }
 
 /// The indices from the root of a trie down to a node, of which there are at most seven. Prefixes are ordered index by
-/// index from the first on, one that another begins with before it.
+/// index from the first on, one that another begins with before it. Each call takes constant time, and no memory. After the
+/// hash paths of Prokopec, Bronson, Bagwell and Odersky, "Concurrent Tries with Efficient Non-Blocking Snapshots" (2012).
 #[derive(Clone, Copy, Debug)]
 pub struct Prefix {
     depth: u32,

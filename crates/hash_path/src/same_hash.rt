@@ -3,7 +3,8 @@ ghost use Rattle.hash_path.specs.PathLaws.{low_bits};
 
 use crate::path_hash::PathHash;
 
-/// Gives its number for every key, and 0 by default. With it all keys stand in one list: the worst case of a hash.
+/// Gives its number for every key, and 0 by default. With it all keys stand in one list: the worst case of a hash, where
+/// a look-up takes time in all of them.
 #[derive(Clone, Copy, Default, Debug, PartialEq, Eq)]
 pub struct SameHash(pub u32);
 

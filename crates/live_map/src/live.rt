@@ -29,7 +29,8 @@ use trie_map::TrieMap;
 /// The pair of a replica: the store of its keys, and the context of the dots that it knows.
 ///
 /// A delta is joined in at the keys that it touches: those at which it holds something, and those at which dots stand that
-/// its context knows. These are found in an index of where dots stand, which is kept beside the pair.
+/// its context knows. These are found in an index of where dots stand, which is kept beside the pair. What stands at a touched
+/// key is one store, which is made anew as a whole; no other key is looked at.
 #[derive(Drop)]
 pub struct Live<
     S: DotStore<A>,
@@ -84,7 +85,7 @@ impl<S: DotStore<A>, M: Summary<S>, H: PathHash, A: Allocator + Copy> Live<S, M,
         &self.store
     }
 
-    /// The context of the pair.
+    /// The context of the pair. Copies nothing.
     pub fn context(&self) -> &Context<A>
         ensures value { result.now ≡ self.now.0.1 }
         ensures inside { IsInside (state_of (at_keys S.at) self.now.0) }
@@ -93,8 +94,8 @@ impl<S: DotStore<A>, M: Summary<S>, H: PathHash, A: Allocator + Copy> Live<S, M,
     }
 
     /// Gives the nodes of the store that keep no summary theirs. The pair stays as it is, also where it is refused; a further
-    /// call goes on from there. Takes time in the nodes that were written since the last seal, copies those of them that
-    /// another map shares, and takes no other memory.
+    /// call goes on from there. Takes time in the nodes that were written since the last seal and in what stands right below
+    /// them, copies those of them that another map shares, and takes no other memory.
     /// Its only refusal is OutOfMemory.
     pub fn seal(&mut self) -> Result<(), Refusal>
         ensures same { self.new ≡ self.old }
@@ -122,7 +123,8 @@ impl<S: DotStore<A>, M: Summary<S>, H: PathHash, A: Allocator + Copy> Live<S, M,
 
     /// What the pair will be once the delta is joined in. The pair stays as it is, also where the call is refused: only the
     /// index may name more. Takes time and memory in the keys and dots of the delta and in the dots that stand here and are
-    /// known there, each times the logarithm of the map, and in both contexts: their names, and their dots above a gap.
+    /// known there, each times the logarithm of the map; in all that stands at these keys; in what `dots` takes of each store
+    /// of the delta; and in both contexts: their names, and their dots above a gap.
     /// Its only refusal is OutOfMemory.
     pub fn prepare(
         &mut self,
@@ -152,7 +154,8 @@ impl<S: DotStore<A>, M: Summary<S>, H: PathHash, A: Allocator + Copy> Live<S, M,
     /// touched, and the context knows its dots. The base under the dots that were seen was joined into this pair before. The
     /// pair stays as it is, also where the call is refused: only the index may name more. Takes time and memory in the touched
     /// keys, and in the dots that stand here, that the context knows and that lie above the entries that were seen, each times
-    /// the logarithm of the map, and in the names and clouds of the contexts. Neither store is walked.
+    /// the logarithm of the map; in all that stands at these keys, here and in what was built; in what `dots` takes of each
+    /// store that was built there; and in the names and clouds of the contexts. Neither store is walked.
     /// Its only refusal is OutOfMemory.
     pub fn prepare_opened(
         &mut self,
@@ -196,7 +199,8 @@ impl<S: DotStore<A>, M: Summary<S>, H: PathHash, A: Allocator + Copy> Live<S, M,
     }
 
     /// Puts the prepared pair in the place of this one. It has to be prepared of this one as it is; it is not refused, and
-    /// takes no memory.
+    /// takes no memory. For each dot that was found in the index it takes a look-up, and what `contains` takes of the store at
+    /// its key.
     pub fn commit(&mut self, next: Prepared<S, M, H, A>)
         requires { IsIndexed (at_keys S.at next.0) self.old.1 }
         ensures { self.new.0 ≡ next }
@@ -206,7 +210,7 @@ impl<S: DotStore<A>, M: Summary<S>, H: PathHash, A: Allocator + Copy> Live<S, M,
         self.context = next.context;
     }
 
-    /// Joins the delta into the pair. A refused call leaves the pair as it was. Takes what `prepare` does.
+    /// Joins the delta into the pair. A refused call leaves the pair as it was. Takes what `prepare` and `commit` do.
     /// Its only refusal is OutOfMemory.
     pub fn join_delta(
         &mut self,

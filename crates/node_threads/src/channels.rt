@@ -9,7 +9,8 @@ use std::sync::Wait;
 pub struct Channels<'a> {
     /// What comes in.
     pub inbox: &'a Receiver<Letter>,
-    /// Where what is sent back goes, by whom it is for: of two for one replica the first counts.
+    /// Where what is sent back goes, by whom it is for: of two for one replica the first counts. They are gone
+    /// through for each reply.
     pub outboxes: &'a [(Name, Sender<Letter>)],
 }
 

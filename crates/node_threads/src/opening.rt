@@ -23,7 +23,7 @@ type NodeViews<K, A> = Vec<View<Root<A>, NodeEvent<A>, Named<K>, A>, A>;
 /// A node of a replica of this name, which holds nothing yet, with so many places for clients. The caller picks `K` by the book that was
 /// opened and the name. The node keeps the handle, to end with; each of its calls that writes passes the gate.
 ///
-/// It may wait, as it lays the replica under a lock that it makes. Its only refusal is OutOfMemory.
+/// It may wait, as it lays the replica under a lock that it makes. Its only refusal is OutOfMemory. Takes time and memory in the places.
 // The replica is made last: it takes no memory, and a check grows with what is alive where a call may be refused.
 pub fn new_node<K: Naming, G: Gate + Drop, W: Wait + Drop, A: Allocator + Copy, T: Wait>(
     rt: &T,

@@ -27,7 +27,8 @@ pub struct Served {
 /// Takes in each message that comes by the post, and sends each reply to the replica that it is for, before it turns to what comes next.
 /// It ends where the post says so. What is no message, or is refused, changes nothing and is counted: nothing is taken in but what came.
 ///
-/// It waits: for its turn at the node, and for the post.
+/// It waits: for its turn at the node, and for the post. For each message it takes what decoding it, a call with it and encoding its
+/// replies take. It keeps none.
 pub fn serve<K: Naming, G: Gate + Drop, W: Wait + Drop, P: Post, T: Wait>(
     rt: &T,
     alloc: Global,

@@ -28,7 +28,7 @@ impl<'a, K: Ord, V> Model for Merge<'a, K, V> {
 }
 
 impl<'a, K: Ord, V> Merge<'a, K, V> {
-    /// Both lists from their first entries on.
+    /// Both lists from their first entries on. Copies nothing.
     pub fn new(mine: &'a [(K, V)], yours: &'a [(K, V)]) -> Merge<'a, K, V>
         requires mine { IsStrictlySortedBy K.cmp (keys_of mine.now) }
         requires yours { IsStrictlySortedBy K.cmp (keys_of yours.now) }
@@ -37,7 +37,8 @@ impl<'a, K: Ord, V> Merge<'a, K, V> {
         Merge { mine, yours }
     }
 
-    /// The least key that is left, with what each list has there.
+    /// The least key that is left, with what each list has there, or None once both are gone through. Takes
+    /// a comparison at most, and no memory.
     pub fn next(&mut self) -> Option<(&'a K, Option<&'a V>, Option<&'a V>)>
         ensures end { IfNone result (self.old ≡ ([], [])) }
         ensures turn { IfSome result (λ turn. IsTurn K.cmp self.old.0 self.old.1 self.new.0 self.new.1

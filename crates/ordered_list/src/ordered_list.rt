@@ -44,7 +44,7 @@ impl<K: Ord + Drop, V: Drop, A: Allocator + Copy> OrderedList<K, V, A> {
         }
     }
 
-    /// The list with no entries, and with room for this many.
+    /// The list with no entries, and with room for this many, which is the memory that it takes.
     /// Its only refusal is OutOfMemory.
     pub fn with_capacity(alloc: A, capacity: usize) -> Result<OrderedList<K, V, A>, Refusal>
         ensures ok { IfOk result (λ list. list ≡ []) }
@@ -55,7 +55,7 @@ impl<K: Ord + Drop, V: Drop, A: Allocator + Copy> OrderedList<K, V, A> {
     }
 
     /// The list of these entries, or None exactly where their keys do not ascend, each key once. Takes the
-    /// vector over as it is, and no memory.
+    /// vector over as it is, and no memory, and time in the number of entries.
     pub fn from_entries(items: Vec<(K, V), A>) -> Option<OrderedList<K, V, A>>
         ensures ascend { IsSome result ↔ IsStrictlySortedBy K.cmp (keys_of items.items) }
         ensures entries { IfSome result (λ list. list ≡ items.items) }
@@ -66,8 +66,9 @@ impl<K: Ord + Drop, V: Drop, A: Allocator + Copy> OrderedList<K, V, A> {
         Some(OrderedList { items })
     }
 
-    /// Puts the value at the key, in place of what was there. A refused call leaves the list as it was.
-    /// Takes time in the number of greater keys, besides that of a look-up.
+    /// Puts the value at the key, in place of what was there. A refused call leaves the list as it was. Takes
+    /// time in the number of greater keys, besides that of a look-up, and memory for the entry: at times for
+    /// twice as many as there are.
     /// Its only refusal is OutOfMemory.
     pub fn insert(&mut self, key: K, value: V) -> Result<(), Refusal>
         ensures ok { OnOk result (self.new ≡ insert_entry K.cmp self.old key value) }
@@ -86,7 +87,7 @@ impl<K: Ord + Drop, V: Drop, A: Allocator + Copy> OrderedList<K, V, A> {
     }
 
     /// Takes the entry of the key out, if there is one. Takes time in the number of greater keys, besides that
-    /// of a look-up.
+    /// of a look-up, and no memory.
     pub fn remove(&mut self, key: &K)
         ensures entries { self.new ≡ remove_entry (is_at (K.cmp key.now)) self.old }
         ensures updates { (q : K)
@@ -99,7 +100,7 @@ impl<K: Ord + Drop, V: Drop, A: Allocator + Copy> OrderedList<K, V, A> {
 }
 
 impl<K: Ord, V, A: Allocator> OrderedList<K, V, A> {
-    /// The entries, in the order of their keys.
+    /// The entries, in the order of their keys. Copies nothing.
     pub fn entries(&self) -> &[(K, V)]
         ensures all { result.now ≡ self.now }
         ensures ordered { IsStrictlySortedBy K.cmp (keys_of result.now) }
@@ -107,7 +108,7 @@ impl<K: Ord, V, A: Allocator> OrderedList<K, V, A> {
         &self.items
     }
 
-    /// The value at the key. Takes time in the logarithm of their number.
+    /// The value at the key. Takes time in the logarithm of their number, and no memory.
     /// None exactly where it has none.
     pub fn get(&self, key: &K) -> Option<&V>
         ensures { option_copied result ≡ value_at K.cmp self.now key.now }
@@ -120,7 +121,7 @@ impl<K: Ord, V, A: Allocator> OrderedList<K, V, A> {
 }
 
 impl<K: Ord + Copy, V: Copy, A: Allocator + Copy> OrderedList<K, V, A> {
-    /// The same entries, in one copy of their memory.
+    /// The same entries, on this allocator, in one copy of their memory. Takes as much memory.
     /// Its only refusal is OutOfMemory.
     pub fn copy(&self, alloc: A) -> Result<OrderedList<K, V, A>, Refusal>
         ensures ok { IfOk result (λ copy. copy ≡ self.now) }

@@ -42,7 +42,7 @@ impl<T: Ord + Drop, A: Allocator + Copy> OrderedSet<T, A> {
         }
     }
 
-    /// The set with no items, and with room for this many.
+    /// The set with no items, and with room for this many, which is the memory that it takes.
     /// Its only refusal is OutOfMemory.
     pub fn with_capacity(alloc: A, capacity: usize) -> Result<OrderedSet<T, A>, Refusal>
         ensures ok { IfOk result (λ set. set ≡ []) }
@@ -53,7 +53,7 @@ impl<T: Ord + Drop, A: Allocator + Copy> OrderedSet<T, A> {
     }
 
     /// The set of these items, or None exactly where they do not ascend, each once. Takes the vector over as it
-    /// is, and no memory.
+    /// is, and no memory, and time in the number of items.
     pub fn from_items(items: Vec<T, A>) -> Option<OrderedSet<T, A>>
         ensures ascend { IsSome result ↔ IsStrictlySortedBy T.cmp items.items }
         ensures items { IfSome result (λ set. set ≡ items.items) }
@@ -65,7 +65,8 @@ impl<T: Ord + Drop, A: Allocator + Copy> OrderedSet<T, A> {
     }
 
     /// Puts the item in, if it is not there. A refused call leaves the set as it was. Takes time in the number
-    /// of greater items, besides that of a look-up.
+    /// of greater items, besides that of a look-up, and memory for the item: at times for twice as many as
+    /// there are.
     /// Its only refusal is OutOfMemory.
     pub fn insert(&mut self, item: T) -> Result<(), Refusal>
         ensures ok { OnOk result (self.new ≡ insert_key T.cmp self.old item) }
@@ -81,7 +82,7 @@ impl<T: Ord + Drop, A: Allocator + Copy> OrderedSet<T, A> {
     }
 
     /// Takes out the items that are neither below the low one nor above the high one. Takes time in the number
-    /// of all items.
+    /// of all items, and no memory.
     pub fn remove_between(&mut self, low: &T, high: &T)
         ensures { self.new ≡ filter (λ x. not (is_between T.cmp low.now high.now x)) self.old }
     {
@@ -94,7 +95,7 @@ impl<T: Ord + Drop, A: Allocator + Copy> OrderedSet<T, A> {
 }
 
 impl<T: Ord, A: Allocator> OrderedSet<T, A> {
-    /// The items, in order.
+    /// The items, in order. Copies nothing.
     pub fn items(&self) -> &[T]
         ensures all { result.now ≡ self.now }
         ensures ordered { IsStrictlySortedBy T.cmp result.now }
@@ -102,15 +103,15 @@ impl<T: Ord, A: Allocator> OrderedSet<T, A> {
         &self.items
     }
 
-    /// Whether the item is in the set. Takes time in the logarithm of their number.
+    /// Whether the item is in the set. Takes time in the logarithm of their number, and no memory.
     pub fn contains(&self, item: &T) -> bool
         ensures { result ≡ is_among T.cmp self.now item.now }
     {
         place_of(&self.items, item).is_ok()
     }
 
-    /// The greatest item that is not above the high one, if there is one. Takes time in the logarithm of their
-    /// number.
+    /// The greatest item that is not above the high one, or None where there is none. Takes time in the
+    /// logarithm of their number, and no memory.
     pub fn last_up_to(&self, high: &T) -> Option<&T>
         ensures last { IfSome result (λ item. IsLastUpTo T.cmp self.now high.now item.now) }
         ensures none { IfNone result ((q : T) → IsTrue (is_among T.cmp self.now q) → is_gt (T.cmp q high.now) ≡ true) }
@@ -129,7 +130,7 @@ impl<T: Ord, A: Allocator> OrderedSet<T, A> {
 }
 
 impl<T: Ord + Copy, A: Allocator + Copy> OrderedSet<T, A> {
-    /// The same items, in one copy of their memory.
+    /// The same items, on this allocator, in one copy of their memory. Takes as much memory.
     /// Its only refusal is OutOfMemory.
     pub fn copy(&self, alloc: A) -> Result<OrderedSet<T, A>, Refusal>
         ensures ok { IfOk result (λ copy. copy ≡ self.now) }
@@ -139,7 +140,7 @@ impl<T: Ord + Copy, A: Allocator + Copy> OrderedSet<T, A> {
         Ok(OrderedSet { items })
     }
 
-    /// The items of either set, in one pass over both.
+    /// The items of either set, in one pass over both. Takes memory in their number.
     /// Its only refusal is OutOfMemory.
     pub fn union(&self, alloc: A, other: &OrderedSet<T, A>) -> Result<OrderedSet<T, A>, Refusal>
         ensures ok { IfOk result (λ both. (q : T)

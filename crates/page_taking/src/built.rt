@@ -55,7 +55,7 @@ impl<H: PathHash, A: Allocator + Copy> Built<H, A> {
         Built { entries, touched }
     }
 
-    /// The map that is built.
+    /// The map that is built. Copies nothing.
     pub fn entries(&self) -> &FrozenMap<H, A>
         ensures hash { result.now.hash ≡ self.now.hash }
         ensures map { result.now.map ≡ self.now.entries }
@@ -63,7 +63,7 @@ impl<H: PathHash, A: Allocator + Copy> Built<H, A> {
         &self.entries
     }
 
-    /// The keys that were touched: what stands at any other is as it was at first.
+    /// The keys that were touched: what stands at any other is as it was at first. Copies nothing.
     pub fn touched(&self) -> &KeySet<H, A>
         ensures { result.now.map ≡ self.now.touched }
     {

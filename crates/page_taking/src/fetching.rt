@@ -36,9 +36,10 @@ impl<H: PathHash, A: Allocator + Copy> Model for Fetching<H, A> {
 }
 
 impl<H: PathHash, A: Allocator + Copy> Fetching<H, A> {
-    /// What an asker has after an opening with this root digest, which knows these dots: the root is waited for; or nothing is, where
-    /// the digest is that of the own map, all of whose dots were seen. None where that holds a dot which the opening does not know. Takes
-    /// constant time and memory, and that of comparing the contexts; where the opening does not know all that was seen, that of the own map.
+    /// What an asker has after an opening with this root digest, which knows these dots: the root is waited for; or nothing is, where the
+    /// digest is that of the own map, all of whose dots were seen. None where that holds a dot which the opening does not know. Takes
+    /// constant time and memory where the own map is sealed; where the digest is its own, also that of comparing the contexts, and where the
+    /// opening does not know all that was seen, that of the own map.
     /// Its only refusal is OutOfMemory.
     pub fn begin(
         alloc: A,
@@ -89,14 +90,14 @@ impl<H: PathHash, A: Allocator + Copy> Fetching<H, A> {
         self.waiting.size() == 0
     }
 
-    /// What is built so far.
+    /// What is built so far. Copies nothing.
     pub fn built(&self) -> &Built<H, A>
         ensures { result.now ≡ self.now.built }
     {
         &self.built
     }
 
-    /// What is built, for good.
+    /// What is built, for good. Copies nothing.
     pub fn into_built(self) -> Built<H, A>
         ensures { result ≡ self.built }
     {

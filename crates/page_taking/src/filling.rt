@@ -251,9 +251,9 @@ fn fill_some<H: PathHash, A: Allocator + Copy>(
 }
 
 /// The entries of a page with values in the place of their names: of a dot that was seen the value that the own map holds at its
-/// key and field, and of any other the next of the values that came with the page. A dot that was seen and that the own map
-/// does not hold there is left out. None where a value is not of its name, or they are not as many. Takes time and
-/// memory in the page.
+/// key and field, and of any other the next of the values that came with the page. A dot that was seen and that the own map does
+/// not hold there is left out. None where a value is not of its name, or they are not as many. Takes time and memory in the page
+/// and in the values that it names, each of which is hashed, and a look-up for each key.
 /// Its only refusal is OutOfMemory.
 pub fn fill_page<H: PathHash, A: Allocator + Copy>(
     alloc: A,

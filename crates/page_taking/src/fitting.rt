@@ -43,7 +43,7 @@ fn are_under<H: PathHash, A: Allocator + Copy>(
     true
 }
 
-/// Whether the keys that a page tells stand under its prefix. Takes time in their number, and no memory.
+/// Whether the keys that a page tells stand under its prefix. Takes time in their bytes, which are hashed, and no memory.
 pub fn keys_are_under<H: PathHash, A: Allocator + Copy>(
     hash: H,
     prefix: Prefix,
@@ -116,7 +116,8 @@ fn children_to_ask<H: PathHash, A: Allocator + Copy>(
 }
 
 /// The children of a page whose digests are not those of the own map there, so that they have to be asked for: in the order of the
-/// page, which for a page that is no branch are none. Takes time in the page and memory in what it gives.
+/// page, which for a page that is no branch are none. Takes a digest of the own map for each child of the page, and memory in what
+/// it gives.
 /// Its only refusal is OutOfMemory.
 pub fn to_ask<H: PathHash, A: Allocator + Copy>(
     alloc: A,
@@ -198,8 +199,8 @@ fn keeps_known<H: PathHash, A: Allocator + Copy>(
 
 /// Whether a page can be that of the peer, whose opening knows these dots: its keys stand under its prefix, and the dots that it
 /// tells are known, and those that are kept of the own map for it, whose dots were all seen. Takes time in the page and in the
-/// names and single dots of both contexts, and no memory; where the opening does not know all that was seen, also in the entries of
-/// the own map under the children whose digests are its own.
+/// names and single dots of both contexts, and no memory; where the opening does not know all that was seen, also a digest of the
+/// own map for each child of the page, and time in the entries of the own map under the children whose digests are its own.
 pub fn fits<H: PathHash, A: Allocator + Copy>(
     own: &FrozenMap<H, A>,
     seen: &Context<A>,

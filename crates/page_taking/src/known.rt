@@ -55,7 +55,7 @@ fn knows_keys<A: Allocator + Copy>(known: &Context<A>, entries: &[(Key<A>, Named
     true
 }
 
-/// Whether all dots that a page tells are known. Takes time in the page, and no memory.
+/// Whether all dots that a page tells are known. Takes a look in the context for each of them, and no memory.
 pub fn knows_page<A: Allocator + Copy>(known: &Context<A>, page: &Page<A>) -> bool
     ensures { result ≡ within (has known.now) (entries_of (form.value_of page.now)) }
 {
@@ -66,7 +66,8 @@ pub fn knows_page<A: Allocator + Copy>(known: &Context<A>, page: &Page<A>) -> bo
     }
 }
 
-/// Whether all dots of a map under a prefix are known. Takes time in the entries under the prefix, and no memory.
+/// Whether all dots of a map under a prefix are known. Takes a look in the context for each of them, up to the first that
+/// is not, and no memory.
 pub fn knows_under<H: PathHash, A: Allocator + Copy>(
     known: &Context<A>,
     frozen: &FrozenMap<H, A>,

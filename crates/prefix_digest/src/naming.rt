@@ -11,7 +11,7 @@ use sha2::{Digest, Sha256};
 use std::alloc::Allocator;
 use wire_form::{NamedFields, Names};
 
-/// The name of a value in pages: the SHA-256 of its bytes. Takes no memory.
+/// The name of a value in pages: the SHA-256 (FIPS 180-4) of its bytes. Takes time in them, and no memory.
 pub fn value_digest<A: Allocator>(value: &Value<A>) -> [u8; 32]
     ensures { result ≡ sha256 value.now }
 {

@@ -11,8 +11,8 @@ use sha2::{Digest, Sha256};
 use std::alloc::Allocator;
 use wire_form::{NamedFields, Names, Page};
 
-/// The digest of a page: the SHA-256 (FIPS 180-4) of its bytes. Takes no memory, as the bytes are fed to the hasher piece by
-/// piece.
+/// The digest of a page: the SHA-256 (FIPS 180-4) of its bytes. Takes time in them, and no memory, as they are fed to the
+/// hasher piece by piece.
 pub fn digest_of<A: Allocator + Copy>(told: &Page<A>) -> [u8; 32]
     ensures { result ≡ page.digest_of (form.value_of told.now) }
 {

@@ -23,8 +23,8 @@ use wire_form::Page;
 pub type FrozenMap<H, A = Global> = Frozen<Fields<A>, ShaSummary, H, A>;
 
 /// The digest of a map at a prefix: the SHA-256 of the bytes of its page there. None exactly where no key stands under the
-/// prefix. Takes no memory. It reads the digests that nodes keep after a freeze or a seal; where they keep none, it visits
-/// all entries under the prefix.
+/// prefix. Takes no memory. It reads what a node keeps after a freeze or a seal, and below a node that keeps none it goes
+/// on, to the keys. No digest is kept of a key alone: what stands there is hashed each time.
 pub fn digest<H: PathHash, A: Allocator + Copy>(
     frozen: &FrozenMap<H, A>,
     prefix: Prefix,
@@ -37,8 +37,8 @@ pub fn digest<H: PathHash, A: Allocator + Copy>(
     Some(summary.digest())
 }
 
-/// The page of a map at a prefix, or None where no key stands under the prefix. Takes memory in the page, and time in it
-/// and in up to 32 digests.
+/// The page of a map at a prefix, or None where no key stands under the prefix. Takes memory in the page. Of one key, or
+/// of keys of one hash, it takes time in what stands there, as each value is hashed; of a branch, up to 32 digests.
 /// Its only refusal is OutOfMemory.
 pub fn page_value<H: PathHash, A: Allocator + Copy>(
     alloc: A,
@@ -57,8 +57,8 @@ pub fn page_value<H: PathHash, A: Allocator + Copy>(
     }
 }
 
-/// The bytes of the page of a map at a prefix, or None where no key stands under the prefix. Takes time and memory as
-/// `page_value` does.
+/// The bytes of the page of a map at a prefix, or None where no key stands under the prefix. Takes what `page_value` does,
+/// and time and memory in the bytes.
 /// Its only refusal is OutOfMemory.
 pub fn page<H: PathHash, A: Allocator + Copy>(
     alloc: A,
@@ -152,7 +152,7 @@ fn child_digest<H: PathHash, A: Allocator + Copy>(
     digest(frozen, child)
 }
 
-/// Whether the digest is that of the page: the SHA-256 of its bytes.
+/// Whether the digest is that of the page: the SHA-256 of its bytes. Takes time in them, and no memory.
 pub fn check(page: &[u8], digest: &[u8; 32]) -> bool
     ensures { IsTrue result ↔ (digest.now ≡ sha256 page.now) }
 {

@@ -14,7 +14,8 @@ use hash_path::{PathHash, Prefix};
 use std::alloc::Allocator;
 
 /// The values that the page of a map at a prefix names, of those dots that are not known: in the order of keys, fields and
-/// dots. A page that is a branch names none. Takes memory in these values, and time in the values of the page.
+/// dots. A page that is a branch names none. Takes memory in these values, and time in them and in the dots of the page,
+/// with a look in the context for each.
 /// Its only refusal is OutOfMemory.
 pub fn values_for<H: PathHash, A: Allocator + Copy>(
     alloc: A,

@@ -44,12 +44,13 @@ impl<H: PathHash, A: Allocator + Copy> Replica<H, A> {
         None
     }
 
-    /// Opens a synchronisation with a peer: its number, and the hello that is to be sent to that peer. What it adds in the end is what
-    /// the peer had when it answered; meanwhile the replica may be written and read as ever.
+    /// Opens a synchronisation with a peer: its number, and the hello that is to be sent to that peer. What it adds in the end is what the
+    /// peer had when it answered; meanwhile the replica may be written and read as ever.
     ///
     /// Its refusals are SessionsFull, just where eight of them are open; NumbersSpent, just where fewer are and 2^64 - 1 were opened; and else
-    /// OutOfMemory. A refused call changes nothing. Takes time in the nodes that were written since the last synchronisation or
-    /// snapshot, and time and memory in the context; not in the map, whose nodes the session shares.
+    /// OutOfMemory. A refused call changes nothing. Takes time in the nodes that were written since the last synchronisation or answered
+    /// hello, at the first in all of them, and copies those that a snapshot shares; and time and memory in the context; not in the map, whose
+    /// nodes the session shares.
     pub fn ask(&mut self, peer: Name) -> Result<(u64, Message<A>), Refusal>
         ensures ok { IfOk result (λ asked. Steps H.hash_of self.old self.new (Do (Ask peer)) (Numbered asked.0) (mail_of (message_of asked.1) ∷ [])) }
         ensures refused { IfErr result (IsRefused self.old (Ask peer)) }
@@ -58,8 +59,8 @@ impl<H: PathHash, A: Allocator + Copy> Replica<H, A> {
         self.ask_to(peer, &mut Unposted)
     }
 
-    /// Opens a synchronisation with a peer, as `ask` does, and posts its hello in this outbox before it is open: where the outbox refuses
-    /// it, the call is refused, and neither is changed.
+    /// Opens a synchronisation with a peer, as `ask` does, and posts its hello in this outbox before it is open: where the outbox refuses it,
+    /// the call is refused, and neither is changed. Takes what `ask` does, and what the outbox takes, and has the refusals of `ask`.
     pub fn ask_to<O: Outbox<A>>(
         &mut self,
         peer: Name,
@@ -101,7 +102,8 @@ impl<H: PathHash, A: Allocator + Copy> Replica<H, A> {
         })
     }
 
-    /// Gives up the own synchronisation of this number, which adds nothing then, and tells whether it was open. Takes no memory.
+    /// Gives up the own synchronisation of this number, which adds nothing then, and tells whether it was open. Takes a look among eight, and
+    /// no memory; what it alone had built is let go.
     pub fn abandon(&mut self, number: u64) -> bool
         ensures { Steps H.hash_of self.old self.new (Do (Abandon number)) (Closed result) [] }
     {

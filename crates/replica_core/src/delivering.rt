@@ -24,16 +24,17 @@ use wire_form::{Message, Session, decode};
 impl<H: PathHash, A: Allocator + Copy> Replica<H, A> {
     /// Takes a message in, in whatever order messages come and however often, and tells what came of it and what is to be sent for it.
     ///
-    /// A delta is joined in, and not sent on. A hello that is for this replica is answered with the opening of a snapshot, which is kept
-    /// for its synchronisation as one of the last eight, and an ask with the page of that snapshot, or with a gone where it is not
-    /// kept. An opening and a page of an own synchronisation that is open take it further: in the end what its peer had is joined in.
-    /// A gone ends one. All else is ignored, and what does not fit is a mismatch: neither changes anything.
+    /// A delta is joined in, and not sent on. A hello that is for this replica is answered with the opening of a snapshot, which is kept for
+    /// its synchronisation as one of the last eight, and an ask with the page of that snapshot, or with a gone where it is not kept. An
+    /// opening and a page of an own synchronisation that is open take it further: in the end what its peer had is joined in. A gone ends
+    /// one. All else is ignored, and what does not fit is a mismatch: neither changes anything.
     ///
-    /// Its only refusal is OutOfMemory; a refused call changes nothing. Takes time and memory in the message and in what stands here that
-    /// it touches, times the logarithm of the map, and in the contexts; for a hello also time in the nodes that were written since the
-    /// last one; and where a synchronisation ends, time and memory in what differs, times the logarithm of the map. Of a peer that had not
-    /// seen all that was seen here it also takes time in the own entries that stay: for an opening that has the digest of the own map in all
-    /// of them, and for a page in those under the children whose digests are the own ones.
+    /// Its only refusal is OutOfMemory; a refused call changes nothing. Takes time and memory in the message and in all that stands at the
+    /// keys that it touches, times the logarithm of the map, and in the contexts; for a key with many fields on it also time in their number
+    /// times the single dots among theirs; for a hello also time in the nodes that were written since the last one; and where a
+    /// synchronisation ends, time and memory in what differs, as for a delta of it. Of a peer that had not seen all that was seen here it
+    /// also takes time in the own entries that stay: for an opening that has the digest of the own map in all of them, and for a page in
+    /// those under the children whose digests are the own ones.
     pub fn deliver(&mut self, message: &Message<A>) -> Result<Delivered<A>, Refusal>
         ensures ok { IfOk result (λ told. Steps H.hash_of self.old self.new (Take (mail_of (message_of message.now))) (Came (outcome_of told.outcome)) (mails_of told.replies.items)) }
         ensures refused { IsOkUnless result Refusal.OutOfMemory }
@@ -43,7 +44,8 @@ impl<H: PathHash, A: Allocator + Copy> Replica<H, A> {
     }
 
     /// Takes a message in, as `deliver` does, and posts what is to be sent for it in this outbox before it changes anything: where the
-    /// outbox refuses that, the call is refused, and neither is changed.
+    /// outbox refuses that, the call is refused, and neither is changed. Takes what `deliver` does, and what the outbox takes; its only
+    /// refusal is OutOfMemory.
     pub fn deliver_to<O: Outbox<A>>(
         &mut self,
         message: &Message<A>,
@@ -70,8 +72,8 @@ impl<H: PathHash, A: Allocator + Copy> Replica<H, A> {
 
     /// Takes a message in by its bytes, as `deliver` does.
     ///
-    /// Its refusals are NotAMessage, only where the bytes spell no message, and OutOfMemory; a refused call changes nothing. Takes
-    /// time and memory in the bytes besides.
+    /// Its refusals are NotAMessage, only where the bytes spell no message, and OutOfMemory; a refused call changes nothing. Takes what
+    /// `decode` takes of the bytes besides.
     pub fn deliver_bytes(&mut self, bytes: &[u8]) -> Result<Delivered<A>, Refusal>
         ensures ok { IfOk result (λ told. (message : MessageValue) × Spells bytes.now message
             × Steps H.hash_of self.old self.new (Take (mail_of message)) (Came (outcome_of told.outcome)) (mails_of told.replies.items)) }

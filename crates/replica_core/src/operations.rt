@@ -29,11 +29,12 @@ impl<H: PathHash, A: Allocator + Copy> Replica<H, A> {
         }
     }
 
-    /// Writes the value on the key, at its empty field, in the place of the values that stand there; those of its other fields stay. The
-    /// dot of the write.
+    /// Writes the value on the key, at its empty field, in the place of the values that stand there; those of its other fields stay. The dot
+    /// of the write.
     ///
-    /// Its refusals are NumbersSpent, just where no number is left for the dot, and else OutOfMemory; a refused call changes nothing. Takes time
-    /// and memory in what stands there, times the logarithm of the map, in the context, and at times in what was made since the last flush.
+    /// Its refusals are NumbersSpent, just where no number is left for the dot, and else OutOfMemory; a refused call changes nothing. Takes
+    /// time and memory in all that stands at the key, as its fields are made anew, times the logarithm of the map; in the names and single
+    /// dots of the context; and at times in what was made since the last flush.
     pub fn put(&mut self, key: &Key<A>, value: &Value<A>) -> Result<Dot, Refusal>
         ensures ok { IfOk result (λ dot. Steps H.hash_of self.old self.new (Do (Put (plain key.now) value.now)) (Made dot) []) }
         ensures refused { IfErr result (IsRefused self.old (Put (plain key.now) value.now)) }
@@ -42,11 +43,12 @@ impl<H: PathHash, A: Allocator + Copy> Replica<H, A> {
         self.put_field(key, &Field::empty(), value)
     }
 
-    /// Writes the value on the field of the key, in the place of the values that stand there; those of its other fields stay. The dot of
-    /// the write.
+    /// Writes the value on the field of the key, in the place of the values that stand there; those of its other fields stay. The dot of the
+    /// write.
     ///
-    /// Its refusals are NumbersSpent, just where no number is left for the dot, and else OutOfMemory; a refused call changes nothing. Takes time
-    /// and memory in what stands there, times the logarithm of the map, in the context, and at times in what was made since the last flush.
+    /// Its refusals are NumbersSpent, just where no number is left for the dot, and else OutOfMemory; a refused call changes nothing. Takes
+    /// time and memory in all that stands at the key, as its fields are made anew, times the logarithm of the map; in the names and single
+    /// dots of the context; and at times in what was made since the last flush.
     pub fn put_field(
         &mut self,
         key: &Key<A>,
@@ -73,8 +75,9 @@ impl<H: PathHash, A: Allocator + Copy> Replica<H, A> {
 
     /// Takes the key away with all its fields, and says how many writes it observed there; where there is none it changes nothing.
     ///
-    /// Its only refusal is OutOfMemory; a refused call changes nothing. Takes time and memory in what stands at the key, times the
-    /// logarithm of the map, in the context, and at times in what was made since the last flush.
+    /// Its only refusal is OutOfMemory; a refused call changes nothing. Takes time and memory in all that stands at the key, times the
+    /// logarithm of the map; in the names and single dots of the context; and at times in what was made since the last flush. Where it
+    /// observed nothing it takes a look-up.
     pub fn remove(&mut self, key: &Key<A>) -> Result<u64, Refusal>
         ensures ok { IfOk result (λ number. Steps H.hash_of self.old self.new (Do (Remove key.now)) (Counted number) []) }
         ensures refused { IsOkUnless result Refusal.OutOfMemory }
@@ -85,11 +88,12 @@ impl<H: PathHash, A: Allocator + Copy> Replica<H, A> {
         Ok(number)
     }
 
-    /// Takes the field of the key away, and says how many writes it observed there; where there is none it changes nothing. The key's
-    /// other fields stay.
+    /// Takes the field of the key away, and says how many writes it observed there; where there is none it changes nothing. The key's other
+    /// fields stay.
     ///
-    /// Its only refusal is OutOfMemory; a refused call changes nothing. Takes time and memory in what stands there, times the logarithm
-    /// of the map, in the context, and at times in what was made since the last flush.
+    /// Its only refusal is OutOfMemory; a refused call changes nothing. Takes time and memory in all that stands at the key, times the
+    /// logarithm of the map; in the names and single dots of the context; and at times in what was made since the last flush. Where it
+    /// observed nothing it takes two look-ups.
     pub fn remove_field(&mut self, key: &Key<A>, field: &Field<A>) -> Result<u64, Refusal>
         ensures ok { IfOk result (λ number. Steps H.hash_of self.old self.new (Do (RemoveField (place_of key.now field.now))) (Counted number) []) }
         ensures refused { IsOkUnless result Refusal.OutOfMemory }
@@ -102,7 +106,8 @@ impl<H: PathHash, A: Allocator + Copy> Replica<H, A> {
 
     /// Takes all keys away, and says how many writes it observed; where there is none it changes nothing.
     ///
-    /// Its only refusal is OutOfMemory; a refused call changes nothing. Takes time and memory in the whole map.
+    /// Its only refusal is OutOfMemory; a refused call changes nothing. Goes through the whole map: takes memory in it, and time in it, times
+    /// the logarithm of its dots; and at times in what was made since the last flush.
     pub fn clear(&mut self) -> Result<u64, Refusal>
         ensures ok { IfOk result (λ number. Steps H.hash_of self.old self.new (Do Clear) (Counted number) []) }
         ensures refused { IsOkUnless result Refusal.OutOfMemory }
@@ -125,8 +130,9 @@ impl<H: PathHash, A: Allocator + Copy> Replica<H, A> {
         self.flush_to(&mut Unposted)
     }
 
-    /// The delta of all that it made since the last flush, as `flush` gives it, which is posted in this outbox before it counts as sent:
-    /// where the outbox refuses it, the call is refused, and neither is changed.
+    /// The delta of all that it made since the last flush, as `flush` gives it, which is posted in this outbox before it counts as sent: where
+    /// the outbox refuses it, the call is refused, and neither is changed. Takes what `flush` does, and what the outbox takes; its only
+    /// refusal is OutOfMemory.
     pub fn flush_to<O: Outbox<A>>(&mut self, outbox: &mut O) -> Result<Option<Message<A>>, Refusal>
         ensures ok { IfOk result (λ sent. Steps H.hash_of self.old self.new (Do Flush) Nothing (mail_or_none sent)) }
         ensures posted { IfOk result (λ sent. IsPosted O.gains outbox.old outbox.new (message_or_none sent)) }

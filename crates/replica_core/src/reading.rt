@@ -62,7 +62,8 @@ impl<H: PathHash, A: Allocator + Copy> Replica<H, A> {
         self.live.store().get(key).is_some()
     }
 
-    /// The keys that hold a value at some field, ascending by bytes. Takes memory in their number, and time in it and its logarithm.
+    /// The keys that hold a value at some field, ascending by bytes. Goes through the whole map: takes memory in the keys, and time in them,
+    /// times the logarithm of their number.
     /// Its only refusal is OutOfMemory.
     pub fn keys(&self) -> Result<Vec<Key<A>, A>, Refusal>
         ensures ok { IfOk result (λ found. Lists (HoldsKey (meaning self.now).live) found.items) }

@@ -18,10 +18,15 @@ use sync_protocol::{Answerer, Asker};
 /// One replica of the map: what it holds, what it made since it last sent, its own synchronisations that are open, and the snapshots
 /// that it keeps for those of others.
 ///
-/// A write, a delivery and a flush cost what they change, times the logarithm of the map, and the context; of many writes each also joins
-/// what was written since the last flush, as often as that doubles. No call goes through the map but `keys`, `clear` and `copy`, `digest`
-/// and a first synchronisation where the nodes keep no digests yet, and the delivery of an opening or a page of a peer that had not seen all
-/// that was seen here: each dot of the own entries that stay is looked up then.
+/// A write and a delivery cost the keys that they touch, each with all its fields, times the logarithm of the map, and the context; of many
+/// writes each also joins what was written since the last flush, as often as that doubles. A key with many fields is dear: a write at one of
+/// them makes all of them anew, and a message that has many of them takes time in their number times the single dots among theirs. A flush
+/// costs what it sends, times the square of its logarithm.
+///
+/// No call goes through the map but `keys`, `clear` and `copy`, `digest` and a first synchronisation where the nodes keep no digests yet,
+/// and the delivery of an opening or a page of a peer that had not seen all that was seen here: each dot of the own entries that stay is
+/// looked up then. It shows an observed-remove map of multi-value registers, after Almeida, Shoker and Baquero, "Delta State Replicated
+/// Data Types" (2018).
 #[derive(Drop)]
 pub struct Replica<H: PathHash = Fnv1a, A: Allocator + Copy = Global> {
     pub(crate) alloc: A,
@@ -95,7 +100,7 @@ impl<H: PathHash, A: Allocator + Copy> Replica<H, A> {
         self.name
     }
 
-    /// The dots that it has seen: those of the writes, and those that operations observed.
+    /// The dots that it has seen: those of the writes, and those that operations observed. Copies nothing.
     pub fn context(&self) -> &Context<A>
         ensures { has result.now ≡ (meaning self.now).live.has }
     {

@@ -69,10 +69,11 @@ impl<H: PathHash, A: Allocator + Copy> World<H, A> {
 
     /// Makes the event happen, and tells what it was answered and which messages it made.
     ///
-    /// Its refusals are NameTaken, just where a new replica has the name of one that is there; UnknownReplica, just where a call, its
-    /// peer, or a delivery is for one that is not there; UnknownMessage, just where else no message has the number; those of the replica's
-    /// call; and OutOfMemory, only where none of these comes first. A refused event changes nothing and is not kept in the past. Takes what
-    /// the call takes, and the logarithm of the number of replicas.
+    /// Its refusals are NameTaken, just where a new replica has the name of one that is there; UnknownReplica, just where a call, its peer, or
+    /// a delivery is for one that is not there; UnknownMessage, just where else no message has the number; those of the replica's call; and
+    /// OutOfMemory, only where none of these comes first. A refused event changes nothing and is not kept in the past. Takes what the call
+    /// takes, and the logarithm of the number of replicas; of a delivery also the decoding of its message; and of what is sent its bytes.
+    /// These and the event are kept as long as the world.
     pub fn event(&mut self, event: Event<A>) -> Result<Told, Refusal>
         ensures ok { OnOk result (self.new ≡ record { hash = self.old.hash; past = self.old.past ++ event_value event ∷ [] }) }
         ensures happened { IfOk result (λ told. (w : model.World) → Runs (H.hash_of self.old.hash) nothing self.old.past w
@@ -121,10 +122,10 @@ impl<H: PathHash, A: Allocator + Copy> World<H, A> {
         self.replicas.get(&name)
     }
 
-    /// The bytes of the message of this number, from 1 on, if there is one. Takes constant time.
+    /// The bytes of the message of this number, from 1 on, if there is one. Takes constant time, and copies nothing.
     ///
-    /// Unless two pages or two values that one session met have one SHA-256, a delta carries just the operations that were to be sent when it was
-    /// made, and an opening what its replica had seen when it kept the snapshot.
+    /// Unless two pages or two values that one session met have one SHA-256, a delta carries just the operations that were to be sent when it
+    /// was made, and an opening what its replica had seen when it kept the snapshot.
     pub fn message(&self, number: u64) -> Option<&[u8]>
         ensures some { IfSome result (λ bytes. (w : model.World) → Runs (H.hash_of self.now.hash) nothing self.now.past w
             → (m : model.Message) × (message_at w.messages number ≡ Some m) × IsSpelled bytes.now m.mail) }
@@ -155,7 +156,7 @@ impl<H: PathHash, A: Allocator + Copy> World<H, A> {
         }
     }
 
-    /// The events that it accepted, in their order: those that its model's world is the world after. Takes constant time.
+    /// The events that it accepted, in their order: those that its model's world is the world after. Takes constant time, and copies nothing.
     pub fn past(&self) -> &[Event<A>]
         ensures list { map event_value result.now ≡ self.now.past }
         ensures runs { (w : model.World) × Runs (H.hash_of self.now.hash) nothing self.now.past w }

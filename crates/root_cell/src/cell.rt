@@ -25,7 +25,8 @@ pub struct Cell<R, E, J: Brand<R, E>, A: Allocator = Global> {
 
 impl<R: Drop, E, J: Brand<R, E>, A: Allocator + Copy> Cell<R, E, J, A> {
     /// Makes a cell of an opened book: its Writer and one View for each place. All of them have the empty front, for which the root
-    /// has to stand. It may wait, for a Writer that it has to end where it is refused.
+    /// has to stand. It may wait, for a Writer that it has to end where it is refused. Takes memory for the root, for each place,
+    /// and for a log of a few entries, which stays; and time in the places.
     /// Its only refusal is OutOfMemory.
     pub fn new<W: Wait>(
         rt: &W,

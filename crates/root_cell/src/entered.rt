@@ -48,7 +48,7 @@ impl<R: Drop, E, J: Brand<R, E>, A: Allocator> Entered<R, E, J, A> {
         &self.front
     }
 
-    /// The root. It stands for the front.
+    /// The root. It stands for the front. Copies nothing.
     pub fn root(&self) -> &R
         ensures root { result.now ≡ self.now.0 }
         ensures stands { J.stands self.now.0 self.now.1 }
@@ -63,7 +63,7 @@ impl<R: Drop, E, J: Brand<R, E>, A: Allocator> Entered<R, E, J, A> {
         self.front.events()
     }
 
-    /// Leaves. The View has then seen the front that it had entered.
+    /// Leaves. The View has then seen the front that it had entered. It waits for nobody, and takes no memory.
     pub fn leave(self) -> View<R, E, J, A>
         ensures { result ≡ self.1 }
     {

@@ -23,7 +23,8 @@ impl<R, E, J: Brand<R, E>> Model for Note<R, E, J> {
 }
 
 impl<R, E, J: Brand<R, E>> Note<R, E, J> {
-    /// Whether the View would learn something. If not, it saw or learnt all that the Note tells.
+    /// Whether the View would learn something. If not, it saw or learnt all that the Note tells. Takes constant time, and no
+    /// memory.
     pub fn is_ahead_of<A: Allocator>(&self, view: &View<R, E, J, A>) -> bool
     where
         R: Drop,

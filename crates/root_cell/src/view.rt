@@ -46,8 +46,9 @@ impl<R: Drop, E, J: Brand<R, E>, A: Allocator> View<R, E, J, A> {
         &self.front
     }
 
-    /// Enters what is published. It waits for nobody and takes no memory. The View comes back where the Writer has ended; so it
-    /// would where less is published than this View saw or learnt, which a cell with its one Writer does not come to.
+    /// Enters what is published. It waits for nobody, and takes constant time and no memory. The View comes back where the Writer
+    /// has ended; so it would where less is published than this View saw or learnt, which a cell with its one Writer does not come
+    /// to.
     pub fn enter(self) -> Result<Entered<R, E, J, A>, View<R, E, J, A>>
         ensures later { IfOk result (λ e. IsPrefix self e.1) }
         ensures stands { IfOk result (λ e. J.stands e.0 e.1) }
@@ -67,7 +68,8 @@ impl<R: Drop, E, J: Brand<R, E>, A: Allocator> View<R, E, J, A> {
         }
     }
 
-    /// Takes in what a Note told: afterwards the View has seen the longer of its own front and the Note's. It takes no memory.
+    /// Takes in what a Note told: afterwards the View has seen the longer of its own front and the Note's. It takes constant time,
+    /// and no memory.
     pub fn learn(&mut self, note: Note<R, E, J>)
         ensures one { (self.new ≡ self.old) ⊎ (self.new ≡ note) }
         ensures own { IsPrefix self.old self.new }
@@ -80,7 +82,7 @@ impl<R: Drop, E, J: Brand<R, E>, A: Allocator> View<R, E, J, A> {
     }
 
     /// Whether the other View of the cell saw or learnt more. If not, this one saw or learnt all that the other did: the fronts of
-    /// any two Views are beginnings of one list.
+    /// any two Views are beginnings of one list. Takes constant time, and no memory.
     pub fn is_behind(&self, other: &View<R, E, J, A>) -> bool
         ensures { MatchBool result (IsLonger self.now other.now) (IsPrefix other.now self.now) }
     {

@@ -70,8 +70,9 @@ impl<R: Drop, E, J: Brand<R, E>, A: Allocator + Copy> Writer<R, E, J, A> {
         }
     }
 
-    /// Publishes a root in place of the one that is there, and adds the event that `about` tells to the cell's list. It may wait
-    /// for Views to leave. OutOfMemory comes only where no place for the root was found; the cell is then as it was, and nothing pends.
+    /// Publishes a root in place of the one that is there, and adds the event that `about` tells to the cell's list. It may wait for
+    /// Views to leave. OutOfMemory comes only where no place for the root was found; the cell is then as it was, and nothing pends.
+    /// Takes memory for the root, and time in the places; what was published before the last publish is let go.
     pub fn publish<X, M: About<X, E>, W: Wait>(
         self,
         rt: &W,
@@ -111,7 +112,8 @@ impl<R: Drop, E, J: Brand<R, E>, A: Allocator + Copy> Writer<R, E, J, A> {
     }
 
     /// Publishes a root that has its place already, and adds the event that `about` tells to the cell's list. It may wait for Views to
-    /// leave. It is not refused and takes no memory, so whoever changes something beside the cell can make the place first.
+    /// leave. It is not refused and takes no memory, so whoever changes something beside the cell can make the place first. Takes time
+    /// in the places.
     pub fn publish_placed<X, M: About<X, E>, W: Wait>(
         self,
         rt: &W,
@@ -138,14 +140,15 @@ impl<R: Drop, E, J: Brand<R, E>, A: Allocator + Copy> Writer<R, E, J, A> {
         }
     }
 
-    /// Whether something is published that the View neither saw nor learnt. If not, it saw or learnt all that is published.
+    /// Whether something is published that the View neither saw nor learnt. If not, it saw or learnt all that is published. Takes
+    /// constant time, and no memory.
     pub fn is_ahead_of(&self, view: &View<R, E, J, A>) -> bool
         ensures { MatchBool result (IsLonger view.now self.now) (IsPrefix self.now view.now) }
     {
         view.front().is_behind(&self.front)
     }
 
-    /// A Note of all that is published, for a View of this cell to learn. It takes no memory.
+    /// A Note of all that is published, for a View of this cell to learn. It takes constant time, and no memory.
     pub fn tell(&self) -> Note<R, E, J>
         ensures { result ≡ self.now }
     {
@@ -154,7 +157,8 @@ impl<R: Drop, E, J: Brand<R, E>, A: Allocator + Copy> Writer<R, E, J, A> {
         }
     }
 
-    /// Ends the cell, and answers the root that was published last: no View enters any more. It waits for those that are inside.
+    /// Ends the cell, and answers the root that was published last: no View enters any more. It waits for those that are inside. It is
+    /// not refused, and takes time in the places.
     pub fn end<W: Wait>(self, rt: &W) -> Arc<R, A>
         ensures { J.stands result.value self }
     {

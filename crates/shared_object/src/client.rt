@@ -85,8 +85,8 @@ impl<R: Drop, E: Placed, J: Brand<R, E>, S: Drop, A: Allocator> Client<R, E, J, 
         view.learn(receipt);
     }
 
-    /// Reads off the root that is published. It waits for nobody. Its only refusal is NoPlace, where the cell gives no root, as once the
-    /// object was taken out; that it comes nowhere else stands in no clause.
+    /// Reads off the root that is published. It waits for nobody, and takes what the look takes. Its only refusal is NoPlace, where the cell
+    /// gives no root, as once the object was taken out; that it comes nowhere else stands in no clause.
     pub fn look<L: Look<R>>(&mut self, look: &L) -> Result<L::Found, Refusal>
         ensures found { IfOk result (λ found. (root : R) × J.stands root self.new.front × L.finds look.now root found) }
         ensures own { HasNotCalled E.place self.old self.new }
@@ -122,7 +122,8 @@ impl<
     /// call is not made, though the client may have seen more of the history; unless it is refused with NoPlace, the calls of its place that
     /// it has seen then are those that it made. It is refused with NumbersSpent where the history has 2^64 - 1 events, with what the call
     /// itself refuses, else with OutOfMemory, and with NoPlace where the object was taken out; that NoPlace comes nowhere else stands in no
-    /// clause.
+    /// clause. Takes what the update takes, and a publish, which takes time in the places; it waits for its turn, and for readers that are
+    /// inside.
     pub fn call<T: Wait, C: Update<D, R, E, J, A>>(
         &mut self,
         rt: &T,

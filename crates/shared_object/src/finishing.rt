@@ -43,7 +43,8 @@ impl<
     A: Allocator + Copy,
 > Owner<R, E, J, Shared<D, R, E, J, G, W, A>, A> {
     /// Takes the object out, only where these are all clients of the places that were taken. Else all comes back, and nothing has changed,
-    /// though the clients may have seen more. That it is taken out wherever they are all stands in no clause.
+    /// though the clients may have seen more. That it is taken out wherever they are all stands in no clause. Takes time in the square of
+    /// the places, whatever the history, and no memory; it waits for its turn, and for readers that are inside.
     pub fn finish<T: Wait>(
         self,
         rt: &T,

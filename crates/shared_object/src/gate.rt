@@ -9,7 +9,8 @@ pub enum Point {
 
 /// What each call that writes passes on its way: a place to watch or to hold it in a test.
 pub trait Gate {
-    /// A call has come so far. It goes on once this returns.
+    /// A call has come so far. It goes on once this returns, and at `Locked` all others that write wait for
+    /// that.
     fn pass(&self, at: Point);
 }
 

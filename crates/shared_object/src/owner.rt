@@ -45,7 +45,8 @@ impl<
     A: Allocator + Copy,
 > Owner<R, E, J, Shared<D, R, E, J, G, W, A>, A> {
     /// Shares an object to which nothing happened yet, with the writer and the views of its cell. It keeps the handle to end the writer
-    /// with. It may wait, as it lays the object under a lock that it makes. Where there is no memory, all comes back.
+    /// with. It may wait, as it lays the object under a lock that it makes. Takes memory for what the clients share, once. Where there
+    /// is none, all comes back, and that is its only refusal.
     pub fn new<T: Wait>(
         rt: &T,
         alloc: A,
@@ -92,7 +93,8 @@ impl<
 }
 
 impl<R: Drop, E: Placed, J: Brand<R, E>, S: Drop, A: Allocator + Copy> Owner<R, E, J, S, A> {
-    /// A client at the next place. NoPlace comes exactly where no place is free, else OutOfMemory or the client.
+    /// A client at the next place. NoPlace comes exactly where no place is free, else OutOfMemory or the client. Takes a reference
+    /// count, and no memory: OutOfMemory comes only where that is full.
     pub fn client(&mut self) -> Result<Client<R, E, J, S, A>, Refusal>
         ensures client { IfOk result (λ client. client ≡ record { place = self.old.taken; operations = 0; front = [] }) }
         ensures taken { OnOk result ((self.new.taken ≡ self.old.taken + 1) × (self.new.free + 1 ≡ self.old.free)) }

@@ -27,7 +27,7 @@ pub trait Update<D, R, E: Placed, J: Object<D, R, E>, A: Allocator> {
     ghost refuses: { Self → List E → Refusal → Type 0 };
 
     /// Makes the call, and a root of what the object then is, in its place. A refused call changes nothing; for want of memory it is refused
-    /// only where the object does not refuse it.
+    /// only where the object does not refuse it. It is called with the lock held, so the others that write wait for it.
     fn update<W: Wait>(&self, rt: &W, object: &mut D) -> Result<(Self::Reply, Arc<R, A>), Refusal>
         ensures after { IfOk result (λ r. (history : List E) → (place : ℕ) → J.after object.old history → J.after object.new (history ++ event self.now place ∷ [])) }
         ensures root { IfOk result (λ r. (history : List E) → (place : ℕ) → J.after object.old history → J.stands r.1.value (history ++ event self.now place ∷ [])) }

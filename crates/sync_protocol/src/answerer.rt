@@ -82,10 +82,10 @@ impl<H: PathHash, A: Allocator + Copy> Answerer<H, A> {
         Ok(opening)
     }
 
-    /// The answer to an ask of this session for the page at a prefix: the page of the session's snapshot, with just the values of
-    /// those of its dots that the asker did not know, or None where the snapshot has no key under the prefix; and where the session
-    /// is not kept, that it is gone.
-    /// Takes time and memory in the page and its values, and time in up to 32 digests.
+    /// The answer to an ask of this session for the page at a prefix: the page of the session's snapshot, with just the values of those
+    /// of its dots that the asker did not know, or None where the snapshot has no key under the prefix; and where the session is not
+    /// kept, that it is gone.
+    /// Takes a look among eight sessions, what `page_value` takes of the page, and time and memory in the values that go with it.
     /// Its only refusal is OutOfMemory.
     pub fn ask(
         &self,
@@ -102,7 +102,8 @@ impl<H: PathHash, A: Allocator + Copy> Answerer<H, A> {
         }
     }
 
-    /// The same answering end. Its snapshots share the nodes of their stores; it takes memory in their contexts.
+    /// The same answering end. Its snapshots share the nodes of their stores; it takes time and memory in the names and single dots of
+    /// their contexts.
     /// Its only refusal is OutOfMemory.
     pub fn copy(&self, alloc: A) -> Result<Answerer<H, A>, Refusal>
         ensures ok { IfOk result (λ copy. copy ≡ self.now) }

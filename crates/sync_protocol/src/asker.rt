@@ -96,7 +96,7 @@ impl<H: PathHash, A: Allocator + Copy> Asker<H, A> {
         })
     }
 
-    /// What a session gives that is done, or the asker back where it is not.
+    /// What a session gives that is done, or the asker back where it is not. Copies nothing, and takes no memory.
     pub fn result(self) -> Result<Opened<H, A>, Asker<H, A>>
         ensures done { IfOk result (λ opened. self.stage ≡ asking.Complete opened.context opened.built) }
         ensures base { IfOk result (λ opened. (opened.base.hash ≡ self.hash) × (opened.base.map ≡ self.own) × (opened.seen ≡ self.seen)) }

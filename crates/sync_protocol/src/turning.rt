@@ -246,11 +246,12 @@ impl<H: PathHash, A: Allocator + Copy> Asker<H, A> {
         asks_for(alloc, self.session, &prefixes)
     }
 
-    /// What an opening comes to. Where the session is another one, an opening was accepted before, or the message is of another
-    /// kind, it is ignored. With no root digest the session is done, with the empty map. With the own one it is done with
-    /// the own map, if the opening knows all of its dots; else it is a mismatch. With any other the root is asked for.
-    /// The asker stays as it is, also where the call is refused. Takes time and memory in the names and single dots of the
-    /// contexts; where the opening does not know all that was seen, and has the own root digest, time in the own map.
+    /// What an opening comes to. Where the session is another one, an opening was accepted before, or the message is of another kind, it
+    /// is ignored. With no root digest the session is done, with the empty map. With the own one it is done with the own map, if the
+    /// opening knows all of its dots; else it is a mismatch. With any other the root is asked for.
+    /// The asker stays as it is, also where the call is refused, so it takes time and memory in the names and single dots of the contexts,
+    /// whatever comes of the message; and where the opening does not know all that was seen, and has the own root digest, time in the own
+    /// map.
     /// Its only refusal is OutOfMemory.
     pub fn on_opening(&self, alloc: A, message: &Message<A>) -> Result<Turn<H, A>, Refusal>
         ensures ok { IfOk result (λ turn. turn_of turn ≡ turning.on_opening (H.hash_of self.now.hash) (asker_state self.now) (message_of message.now)) }
@@ -269,14 +270,14 @@ impl<H: PathHash, A: Allocator + Copy> Asker<H, A> {
         }
     }
 
-    /// What a page comes to, or that the answerer does not keep the session. A page is taken where its prefix is waited for, its
-    /// digest is the promised one, it fits, and its values are just those of the dots that the asker had not seen: then the
-    /// children are asked for whose digests are not those of the own map, or the session is done. It is ignored where its
-    /// prefix is not waited for, and else a mismatch. A gone ends the session, if it is not done. Of another session, or of
-    /// another kind, a message is ignored.
-    /// The asker stays as it is, also where the call is refused. Takes time and memory in the page, in the keys that it takes away and
-    /// in the contexts, each times the logarithm of the map; and where the opening does not know all that the asker had seen, also time in
-    /// the own entries under the children whose digests are the own ones.
+    /// What a page comes to, or that the answerer does not keep the session. A page is taken where its prefix is waited for, its digest is
+    /// the promised one, it fits, and its values are just those of the dots that the asker had not seen: then the children are asked for
+    /// whose digests are not those of the own map, or the session is done. It is ignored where its prefix is not waited for, and else a
+    /// mismatch. A gone ends the session, if it is not done. Of another session, or of another kind, a message is ignored.
+    /// The asker stays as it is, also where the call is refused, so it takes time and memory in the names and single dots of the contexts,
+    /// whatever comes of the message; of a page also in the page and in the keys that it takes away, each times the logarithm of the map;
+    /// and where the opening does not know all that the asker had seen, also time in the own entries under the children whose digests are
+    /// the own ones.
     /// Its only refusal is OutOfMemory.
     pub fn on_page(&self, alloc: A, message: &Message<A>) -> Result<Turn<H, A>, Refusal>
         ensures ok { IfOk result (λ turn. turn_of turn ≡ turning.on_page (H.hash_of self.now.hash) (asker_state self.now) (message_of message.now)) }

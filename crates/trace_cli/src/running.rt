@@ -22,6 +22,9 @@ const READ_CALLS: u64 = 1_000_000_000;
 /// written, and flushed, before the next line is carried out. The first failure of the reader (Input) or the writer
 /// (Output) ends the run, as does a fault (BadLine, UnknownReplica, UnknownMessage, NameTaken), whose line is written first, and
 /// want of memory (OutOfMemory). A trace that takes more reads than these is answered Input too.
+///
+/// Takes time in the bytes of the trace, and what its commands take; and memory in a line, in what the replicas hold, and in all messages
+/// and accepted events, which are kept to the end.
 pub fn run<R: Read, W: Write, A: Allocator + Copy>(
     alloc: A,
     reader: &mut Watched<R>,
@@ -93,7 +96,8 @@ fn run_all<W: Write, A: Allocator + Copy>(
     trace_run.finish(writer)
 }
 
-/// The text that the whole trace is given, its fault's line with it. The one refusal is OutOfMemory.
+/// The text that the whole trace is given, its fault's line with it. Takes what `run` does, and the text. The one refusal is
+/// OutOfMemory.
 pub fn run_bytes<A: Allocator + Copy>(alloc: A, input: &[u8]) -> Result<Vec<u8, A>, Refusal>
     ensures output { IfOk result (λ text. (given : Given) × IsGiven input.now given × (text.items ≡ given.text)) }
     ensures err { IsOkUnless result Refusal.OutOfMemory }

@@ -30,7 +30,8 @@ pub fn put_answer<A: Allocator + Copy>(alloc: A, dot: Dot) -> Result<String<A>, 
     Ok(format!(in alloc; "ok {name}:{number}")?)
 }
 
-/// The answer to a look at a key: `=`, then a space and the value for each value. The one refusal is OutOfMemory.
+/// The answer to a look at a key: `=`, then a space and the value for each value. Takes time and memory in the values. The one refusal is
+/// OutOfMemory.
 pub fn get_answer<A: Allocator + Copy>(alloc: A, found: &[Value<A>]) -> Result<Vec<u8, A>, Refusal>
     ensures ok { IfOk result (λ text. text.items ≡ values_text found.now) }
     ensures err { IsOkUnless result Refusal.OutOfMemory }
@@ -86,7 +87,8 @@ pub fn map_answer<A: Allocator + Copy>(alloc: A, number: u64) -> Result<String<A
     Ok(format!(in alloc; "map {number}")?)
 }
 
-/// Appends a key or a field with the number of its values and the values. A refusal may leave a part of it there.
+/// Appends a key or a field with the number of its values and the values. A refusal may leave a part of it there. Takes time and memory in
+/// the values.
 /// The one refusal is OutOfMemory.
 pub fn push_entry<A: Allocator + Copy>(
     alloc: A,
@@ -138,8 +140,8 @@ pub fn session_answer<A: Allocator + Copy>(alloc: A, number: u64) -> Result<Stri
     Ok(format!(in alloc; "session {number} sent")?)
 }
 
-/// The answer to a look at the known dots: `context`, then a space and each entry of the version vector, then a space, a plus and each
-/// dot of the cloud. The one refusal is OutOfMemory.
+/// The answer to a look at the known dots: `context`, then a space and each entry of the version vector, then a space, a plus and each dot
+/// of the cloud. Takes time and memory in these. The one refusal is OutOfMemory.
 pub fn context_answer<A: Allocator + Copy>(
     alloc: A,
     vector: &[(Name, u64)],

@@ -83,7 +83,8 @@ pub enum Command<A: Allocator = Global> {
     },
 }
 
-/// The command that a line is, or None where it is none. The one refusal is OutOfMemory.
+/// The command that a line is, or None where it is none. Takes time and memory in the line. The one refusal is
+/// OutOfMemory.
 pub fn parse<A: Allocator + Copy>(alloc: A, line: &[u8]) -> Result<Option<Command<A>>, Refusal>
     ensures ok { IfOk result (λ found. option_map command_value found ≡ command_of line.now) }
     ensures err { IsOkUnless result Refusal.OutOfMemory }

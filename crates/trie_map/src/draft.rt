@@ -46,6 +46,8 @@ impl<S: DotStore<A>, M: Summary<S>, H: PathHash, A: Allocator + Copy> Draft<S, M
 
     /// Puts at the key what the join of these two stores under their contexts holds, whatever stood there, and takes the key out
     /// where that is nothing. Writes nothing where the first store holds just that. A refused call leaves the draft as it was.
+    /// Takes time and memory in both stores, as the join is made as a whole, and where it is not what the first holds, a write
+    /// of the trie.
     /// Its only refusal is OutOfMemory.
     pub fn join_at(
         &mut self,

@@ -84,7 +84,7 @@ impl<S: DotStore<A>, M: Summary<S>, H: PathHash, A: Allocator + Copy> TrieMap<S,
         self.entries.size()
     }
 
-    /// The trie of the keys with their stores.
+    /// The trie of the keys with their stores. Copies nothing.
     pub fn frozen(&self) -> &Frozen<S, M, H, A>
         ensures hash { result.now.hash ≡ self.now.0 }
         ensures map { result.now.map ≡ self.now.1 }
@@ -114,8 +114,8 @@ impl<S: DotStore<A>, M: Summary<S>, H: PathHash, A: Allocator + Copy> TrieMap<S,
         self.entries.seal()
     }
 
-    /// The same stores in a map in the order of the keys. Takes time and memory in all stores, and time in the logarithm of
-    /// their number.
+    /// The same stores in a map in the order of the keys. Takes time and memory in all that the stores hold, and time in the number
+    /// of keys times its logarithm.
     /// Its only refusal is OutOfMemory.
     pub fn to_map(&self, alloc: A) -> Result<DotMap<Key<A>, S, A>, Refusal>
         ensures ok { IfOk result (λ map. HoldsSame (at_stores S.at bytes_cmp map) (at_keys S.at self.now)) }

@@ -10,7 +10,7 @@ use std::io::{Read, Write};
 
 /// A reader or a writer that is watched: it passes reads, writes and flushes on, counts the reads and writes, and
 /// remembers whether any of the three failed, whether one more was asked after that, and whether all that was written
-/// was flushed.
+/// was flushed. It keeps no bytes: each call takes what the one that it passes on takes.
 #[derive(Drop)]
 pub struct Watched<T> {
     inner: T,

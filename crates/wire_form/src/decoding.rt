@@ -13,8 +13,8 @@ use std::alloc::Allocator;
 /// The message that the bytes spell. NotAMessage only where they spell none, else OutOfMemory or the message; bytes that spell none
 /// are refused with OutOfMemory where that comes before their fault is found.
 ///
-/// Takes time in the bytes, times a logarithm, and memory in the bytes: each count is compared with the bytes that are
-/// left before anything grows.
+/// Takes time in the bytes, times a logarithm, and memory in the bytes, whatever they are: each count is compared with the bytes
+/// that are left before anything grows.
 pub fn decode<A: Allocator + Copy>(alloc: A, bytes: &[u8]) -> Result<Message<A>, Refusal>
     // What is decoded is what the bytes spell.
     ensures ok { IfOk result (λ message. Spells bytes.now (message_of message)) }

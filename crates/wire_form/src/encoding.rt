@@ -18,7 +18,8 @@ use dot_store::DotFun;
 use dots::{Dot, Name, Refusal, Value};
 use std::alloc::Allocator;
 
-/// The bytes of the message: the one spelling that it has. Each refusal is OutOfMemory.
+/// The bytes of the message: the one spelling that it has. Takes time and memory in their number.
+/// Its only refusal is OutOfMemory.
 pub fn encode<A: Allocator + Copy>(alloc: A, message: &Message<A>) -> Result<Vec<u8, A>, Refusal>
     ensures ok { IfOk result (λ bytes. Spells bytes.items (message_of message.now)) }
     ensures err { IsOkUnless result Refusal.OutOfMemory }

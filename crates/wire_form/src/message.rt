@@ -38,8 +38,8 @@ pub enum Message<A: Allocator + Copy = Global> {
 }
 
 impl<A: Allocator + Copy> Message<A> {
-    /// The delta of this store and this context, or None exactly where a dot of the store is outside the
-    /// context. Takes no memory.
+    /// The delta of this store and this context, or None exactly where a dot of the store is outside the context. Takes no
+    /// memory, and a look in the context for each dot of the store.
     pub fn delta(store: OrMapStore<A>, context: Context<A>) -> Option<Message<A>>
         ensures delta { IfSome result (λ message. message_of message ≡ Delta (store, context)) }
         ensures outside { IsNone result ↔ ¬ IsInside (state_with (or_map_at store) (has context)) }
@@ -71,7 +71,8 @@ impl<A: Allocator + Copy> Message<A> {
     }
 
     /// The message of this session with the page at this prefix, and with these of its values. None exactly where
-    /// `SentPage::new` makes none of these parts. Takes no memory.
+    /// `SentPage::new` makes none of these parts. Takes no memory, and time in the keys and fields of the page, or in its
+    /// children.
     pub fn page(
         session: Session,
         prefix: Prefix,

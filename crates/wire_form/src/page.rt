@@ -27,7 +27,7 @@ pub enum Page<A: Allocator + Copy = Global> {
 
 impl<A: Allocator + Copy> Page<A> {
     /// The bytes of the page, of which its digest is the SHA-256. Takes time and memory in their number.
-    /// Each refusal is OutOfMemory.
+    /// Its only refusal is OutOfMemory.
     pub fn bytes(&self, alloc: A) -> Result<Vec<u8, A>, Refusal>
         ensures ok { IfOk result (λ bytes. bytes.items ≡ spelled (value_of self.now)) }
         ensures err { IsOkUnless result Refusal.OutOfMemory }

@@ -30,10 +30,12 @@ impl<A: Allocator + Copy> Model for SentPage<A> {
 }
 
 impl<A: Allocator + Copy> SentPage<A> {
-    /// The page for this prefix with these values, which are to be those that the page names, in its order: who takes the page looks
-    /// at that. None exactly where the page cannot stand at the depth of the prefix, or is a branch and there is a value. At any depth can stand one key, with a
-    /// field at least and a dot at each field; at depth 7, two keys or more, by ascending bytes, each as the one; at a lower
-    /// depth, a branch of one child or more, by ascending index, each from 0 to 31, at depth 6 from 0 to 3. Takes no memory.
+    /// The page for this prefix with these values, which are to be those that the page names, in its order: who takes the
+    /// page looks at that. None exactly where the page cannot stand at the depth of the prefix, or is a branch and there is
+    /// a value. At any depth can stand one key, with a field at least and a dot at each field; at depth 7, two keys or
+    /// more, by ascending bytes, each as the one; at a lower depth, a branch of one child or more, by ascending index, each
+    /// from 0 to 31, at depth 6 from 0 to 3. Takes no memory, and time in the keys and fields of the page, or in its
+    /// children.
     pub fn new(prefix: Prefix, values: Vec<Value<A>, A>, page: Page<A>) -> Option<SentPage<A>>
         ensures lawful { IsSome result ↔ CanBeSent (record { prefix = prefix; values = values.items; page = value_of page }) }
         ensures parts { IfSome result (λ sent. sent ≡
@@ -59,14 +61,14 @@ impl<A: Allocator + Copy> SentPage<A> {
         self.prefix
     }
 
-    /// The values, as they were given.
+    /// The values, as they were given. Copies nothing.
     pub fn values(&self) -> &[Value<A>]
         ensures { result.now ≡ self.now.values }
     {
         &self.values
     }
 
-    /// The page, which can be sent for its prefix with its values.
+    /// The page, which can be sent for its prefix with its values. Copies nothing.
     pub fn page(&self) -> &Page<A>
         ensures page { value_of result.now ≡ self.now.page }
         ensures lawful { CanBeSent self.now }

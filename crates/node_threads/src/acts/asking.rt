@@ -103,7 +103,7 @@ impl<K: Naming, A: Allocator + Copy> Update<Replica<Fnv1a, A>, Root<A>, NodeEven
 
 /// Gives a synchronisation up, as `Replica::abandon`. The reply is whether one of this number was open.
 ///
-/// Its only refusal is OutOfMemory, for the root.
+/// Its only refusal is OutOfMemory, for the root. Takes what that call takes, and a root.
 #[derive(Drop)]
 pub struct Abandoning<A: Allocator + Copy> {
     /// Where memory for the root is taken.

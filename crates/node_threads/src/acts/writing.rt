@@ -156,7 +156,7 @@ impl<'a, K: Naming, A: Allocator + Copy> Update<
 
 /// Takes all keys away, as `Replica::clear`. The reply is how many writes it observed.
 ///
-/// Its only refusal is OutOfMemory. Takes time and memory in the whole map, and a root.
+/// Its only refusal is OutOfMemory. Takes what that call takes, which goes through the whole map, and a root.
 #[derive(Drop)]
 pub struct Clearing<A: Allocator + Copy> {
     /// Where memory for the root is taken.
