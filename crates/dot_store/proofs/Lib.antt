@@ -2,3 +2,4 @@ pub mod Gathered
 pub mod Dots
 pub mod Values
 pub mod Stores
+pub mod Halves

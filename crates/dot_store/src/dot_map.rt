@@ -1,5 +1,6 @@
 ghost use Rattle.std.specs.Prelude.{◌≡◌, ◌↔◌, IsTrue, IsSome, IfSome, IfOk, OnOk, OnErr, IsOkUnless, List, Contains};
 ghost use Rattle.std.specs.Option.{option_copied};
+ghost use Rattle.std.specs.List.{All};
 ghost use Rattle.std.specs.List.Sorted.{IsStrictlySortedBy};
 ghost use Rattle.std.specs.Map.{keys_of};
 ghost use Rattle.dots.specs.Dot.{DotValue};
@@ -217,6 +218,32 @@ fn copied<K: Kept<A>, S: DotStore<A>, A: Allocator + Copy>(
     Ok(copies)
 }
 
+// The context of the dots that stand in these stores: the union of those of both halves. So a dot is taken over once for
+// each time that the stores are halved, where one union for each store would take it over once for each store behind it.
+fn dots_of<K, S: DotStore<A>, A: Allocator + Copy>(
+    alloc: A,
+    stores: &[(K, S)],
+) -> Result<Context<A>, Refusal>
+    ensures only { IfOk result (λ dots. (d : DotValue) → IsTrue (has dots d) → (key : K) × (store : S) × (place : S.Place)
+        × Contains stores.now (key, store) × IsSome (S.at store place d)) }
+    ensures all { IfOk result (λ dots. All (λ store. (place : S.Place) (d : DotValue)
+        → IsSome (S.at store.1 place d) → IsTrue (has dots d)) stores.now) }
+    ensures err { IsOkUnless result Refusal.OutOfMemory }
+{
+    let Some((_, store)) = stores.first() else {
+        return Ok(Context::new(alloc));
+    };
+    let middle = stores.len() / 2;
+    if middle == 0 {
+        return store.dots(alloc);
+    }
+    let (front, back) = stores.split_at(middle);
+    let mut dots = dots_of(alloc, front)?;
+    let more = dots_of(alloc, back)?;
+    dots.union(&more)?;
+    Ok(dots)
+}
+
 impl<K: Kept<A>, S: DotStore<A>, A: Allocator + Copy> DotStore<A> for DotMap<K, S, A> {
     type Place = (K, S::Place);
 
@@ -257,12 +284,7 @@ impl<K: Kept<A>, S: DotStore<A>, A: Allocator + Copy> DotStore<A> for DotMap<K, 
     }
 
     fn dots(&self, alloc: A) -> Result<Context<A>, Refusal> {
-        let mut dots = Context::new(alloc);
-        for (_, store) in self.stores.entries() {
-            let more = store.dots(alloc)?;
-            dots.union(&more)?;
-        }
-        Ok(dots)
+        dots_of(alloc, self.stores.entries())
     }
 
     fn join(

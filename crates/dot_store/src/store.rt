@@ -48,8 +48,8 @@ pub trait DotStore<A: Allocator + Copy>: Drop {
     fn is_inside(&self, context: &Context<A>) -> bool
         ensures { IsTrue result ↔ IsInside (state_with (at self.now) (has context.now)) };
 
-    /// The context of the dots that stand in the store. Takes time and memory in these; but a map from keys makes the
-    /// union anew for each key, so its time is the number of keys times the names and single dots of the context.
+    /// The context of the dots that stand in the store. Takes time and memory in these: a map from keys takes each over as
+    /// often as its keys can be halved, but one that is kept as a trie makes the union anew for each key.
     /// Its only refusal is OutOfMemory.
     fn dots(&self, alloc: A) -> Result<Context<A>, Refusal>
         ensures only { IfOk result (λ dots. (d : DotValue) → IsTrue (has dots d) → HoldsDot (at self.now) d) }

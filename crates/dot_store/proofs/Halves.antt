@@ -1,0 +1,43 @@
+-- The dots of the stores of a list, by those of its two halves.
+use Rattle.std.proofs.Common.{◌≡◌, ℕ, ◌<◌, Bool, false, ◌||◌, List, [], ◌∷◌, ◌++◌, length, get_or, sym, ◌∙◌, subst, inl, inr, ⊎_elim, arith}
+use Rattle.std.specs.Prelude.{Option, IsSome, IsTrue, Contains}
+use Rattle.std.specs.List.{All}
+use Rattle.std.proofs.lemmas.List.Elements.{All-nil, All-cons, All-append, Contains-append_left, Contains-append_right}
+use Rattle.dots.specs.Dot.{DotValue}
+use Rattle.dot_store.proofs.Gathered.{union_keeps, union_only, union_adds}
+
+module _ {K S P H : Type 0} (at : S → P → DotValue → Option H) where
+  -- a store of the list holds each dot of the set
+  abbrev pub OnlyOf : List (K × S) → (DotValue → Bool) → Type 0
+  OnlyOf stores dots = (d : DotValue) → IsTrue (dots d) → (key : K) × (store : S) × (place : P) × Contains stores (key, store) × IsSome (at store place d)
+
+  -- each dot that a store of the list holds is in the set
+  abbrev pub AllOf : List (K × S) → (DotValue → Bool) → Type 0
+  AllOf stores dots = All (λ store. (place : P) (d : DotValue) → IsSome (at store.1 place d) → IsTrue (dots d)) stores
+
+  pub only_one : (stores : List (K × S)) (x : K × S) (dots : DotValue → Bool) → 0 < length stores → get_or stores 0 x ≡ x
+      → ((d : DotValue) → IsTrue (dots d) → (place : P) × IsSome (at x.1 place d)) → OnlyOf stores dots
+  only_one stores x dots some is held d h = let there = held d h in (x.0, x.1, there.0, (0, some, is), there.1)
+
+  pub all_one : (stores : List (K × S)) (x : K × S) (dots : DotValue → Bool) → length stores ≡ 1 → get_or stores 0 x ≡ x
+      → ((place : P) (d : DotValue) → IsSome (at x.1 place d) → IsTrue (dots d)) → AllOf stores dots
+  all_one [] x dots one is held = absurd (omega (arith, one))
+  all_one (y ∷ []) x dots one is held =
+      All-cons (λ store. (place : P) (d : DotValue) → IsSome (at store.1 place d) → IsTrue (dots d)) y []
+      (subst (λ (store : K × S). (place : P) (d : DotValue) → IsSome (at store.1 place d) → IsTrue (dots d)) (sym is) held) (All-nil _)
+  all_one (y ∷ z ∷ stores) x dots one is held = absurd (omega (arith, one))
+
+  module _ (front back stores : List (K × S)) (is : stores ≡ front ++ back) (mid more new : DotValue → Bool) (both : (d : DotValue) → new d ≡ (mid d || more d)) where
+    pub only_both : OnlyOf front mid → OnlyOf back more → OnlyOf stores new
+    only_both first second d h =
+        ⊎_elim
+        (λ was. let there = first d was in (there.0, there.1, there.2, subst (λ l. Contains l (there.0, there.1)) (sym is) (Contains-append_left front back (there.0, there.1) there.3), there.4))
+        (λ came. let there = second d came in (there.0, there.1, there.2, subst (λ l. Contains l (there.0, there.1)) (sym is) (Contains-append_right front back (there.0, there.1) there.3), there.4))
+        (union_only mid more new both {Held = λ x. IsTrue (more x)} (λ x e. e) d h)
+
+    pub all_both : AllOf front mid → AllOf back more → AllOf stores new
+    all_both first second =
+        subst (λ l. AllOf l new) (sym is)
+        (All-append (λ store. (place : P) (d : DotValue) → IsSome (at store.1 place d) → IsTrue (new d)) front back
+        (λ k x below place d h. union_keeps mid more new both d (first k x below place d h))
+        (λ k x below place d h. union_adds mid more new both {Held = λ y. IsTrue (more y)} (λ y e. e) d (second k x below place d h)))
