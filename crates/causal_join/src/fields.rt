@@ -1,4 +1,4 @@
-ghost use Rattle.std.specs.Prelude.{◌≡◌, ◌↔◌, Contains, IsSome, IfSome, OnOk, OnErr, IsOkUnless, List, ℕ};
+ghost use Rattle.std.specs.Prelude.{◌≡◌, ◌↔◌, Contains, IsSome, IfSome, IsOk, OnOk, OnErr, IsOkUnless, List, ℕ};
 ghost use Rattle.std.specs.Option.{option_copied};
 ghost use Rattle.std.specs.Ordering.{ord_max};
 ghost use Rattle.std.specs.List.Sorted.{IsStrictlySortedBy};
@@ -78,6 +78,7 @@ impl<A: Allocator + Copy> Fields<A> {
     pub fn insert(&mut self, field: Field<A>, values: DotFun<Value<A>, A>) -> Result<(), Refusal>
         ensures ok { OnOk result (HoldsSame (fields_at self.new)
             (with_store at_values bytes_cmp (fields_at self.old) field values)) }
+        ensures nothing { HasNothing (at_values values) → IsOk result }
         ensures unchanged { OnErr result (self.new ≡ self.old) }
         ensures err { IsOkUnless result Refusal.OutOfMemory }
     {

@@ -1,5 +1,5 @@
 // The root of a trie: nothing, one entry, or a node.
-ghost use Rattle.std.specs.Prelude.{◌≡◌, ◌⊎◌, ◌<◌, ◌≤◌, ◌-◌, ◌^◌, ℕ, IsTrue, true, T, is_some, None, IfSome, OnOk, OnErr, IfOk, IsOkUnless};
+ghost use Rattle.std.specs.Prelude.{◌≡◌, ◌⊎◌, ◌<◌, ◌≤◌, ◌-◌, ◌^◌, ℕ, IsTrue, true, T, is_some, None, IfSome, OnOk, OnErr, IsOk, IfOk, IsOkUnless};
 ghost use Rattle.std.specs.Option.{option_map};
 ghost use Rattle.std.specs.FinMap.Entries.{find, put, is_sorted};
 ghost use Rattle.dots.specs.declared.refusal.Refusal.TheVariants.{OutOfMemory};
@@ -202,6 +202,7 @@ pub(crate) fn remove_at<V: Drop, M: Summary<V>, A: Allocator + Copy>(
     requires stamp { root_stamp root.old ≤ generation }
     ensures stamp { root_stamp root.new ≤ generation }
     ensures value { IfOk result (λ taken. option_map (λ entry. entry.value.value) taken ≡ find bytes_cmp (word 7 hash key.now) (root_entries root.old)) }
+    ensures absent { find bytes_cmp (word 7 hash key.now) (root_entries root.old) ≡ None → IsOk result }
     ensures key { IfOk result (λ taken. IfSome taken (λ entry. entry.value.key ≡ key.now)) }
     ensures ok { OnOk result (root_entries root.new ≡ cut (word 7 hash key.now) (root_entries root.old)) }
     ensures is_root { IsRoot root.new count.new }

@@ -1,4 +1,4 @@
-ghost use Rattle.std.specs.Prelude.{◌≡◌, ◌↔◌, ℕ, List, true, length, IfSome, OnOk, OnErr, IfOk, IsOkUnless};
+ghost use Rattle.std.specs.Prelude.{◌≡◌, ◌↔◌, ℕ, List, true, length, IfSome, OnOk, OnErr, IsOk, IfOk, IsOkUnless};
 ghost use Rattle.std.specs.declared.option.Option.TheVariants.{None};
 ghost use Rattle.std.specs.Option.{option_map};
 ghost use Rattle.std.specs.FinMap as finite;
@@ -169,6 +169,7 @@ impl<V: Drop, M: Summary<V>, H: PathHash, A: Allocator + Copy> GenTrie<V, M, H, 
     /// Its only refusal is OutOfMemory.
     pub fn remove(&mut self, key: &Key<A>) -> Result<Option<Arc<Entry<V, A>, A>>, Refusal>
         ensures value { IfOk result (λ taken. option_map (λ entry. entry.value.value) taken ≡ finite.get self.old.map key.now) }
+        ensures absent { finite.get self.old.map key.now ≡ None → IsOk result }
         ensures key { IfOk result (λ taken. IfSome taken (λ entry. entry.value.key ≡ key.now)) }
         ensures ok { OnOk result (self.new ≡ record self.old { map = finite.remove self.old.map key.now; sealed = self.new.sealed }) }
         ensures same { OnErr result (self.new ≡ record self.old { sealed = self.new.sealed }) }

@@ -10,5 +10,5 @@ mod same_hash;
 
 pub use fnv1a::Fnv1a;
 pub use path_hash::PathHash;
-pub use prefix::{Prefix, index_at};
+pub use prefix::{DEPTHS, Prefix, index_at};
 pub use same_hash::SameHash;

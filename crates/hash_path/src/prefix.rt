@@ -7,8 +7,8 @@ ghost use Rattle.hash_path.specs.Path.{AreIndices, index_in, indices, last_index
 use std::cmp::Ordering;
 use std::marker::Model;
 
-// How many indices a hash has.
-const DEPTHS: u32 = 7;
+/// How many indices a hash has: the depth of a prefix that is a whole path.
+pub const DEPTHS: u32 = 7;
 
 /// The index of a hash at a depth from 0 to 6: five of its bits, from the lowest on, so 0 to 31, and 0 to 3 at the
 /// depth 6, where two bits are left. None past it.

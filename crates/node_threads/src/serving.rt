@@ -6,7 +6,7 @@ use crate::acts::Delivering;
 use crate::named::Naming;
 use crate::node::{Client, Lock};
 use crate::post::Post;
-use dots::{Name, Refusal};
+use dots::Refusal;
 use replica_core::Delivered;
 use shared_object::Gate;
 use std::alloc::Global;
@@ -87,19 +87,8 @@ fn send_all<P: Post, T: Wait>(rt: &T, alloc: Global, replies: &[Message], post: 
 
 // Sends a reply to the replica that it is for, where there is memory for its bytes. Whether it could be sent.
 fn is_sent<P: Post, T: Wait>(rt: &T, alloc: Global, reply: &Message, post: &P) -> bool {
-    match (addressee(reply), encode(alloc, reply)) {
+    match (reply.addressee(), encode(alloc, reply)) {
         (Some(name), Ok(bytes)) => post.send(rt, name, bytes),
         _ => false,
-    }
-}
-
-// Whom a message of a synchronisation is for. A delta is for everyone.
-fn addressee(message: &Message) -> Option<Name> {
-    match message {
-        Message::Delta(_) => None,
-        Message::Hello(session, _) | Message::Ask(session, _) => Some(session.answerer()),
-        Message::Opening(session, _, _) | Message::Page(session, _) | Message::Gone(session) => {
-            Some(session.asker())
-        }
     }
 }

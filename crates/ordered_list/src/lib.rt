@@ -8,5 +8,5 @@ mod ordered_list;
 mod ordered_set;
 
 pub use merge::Merge;
-pub use ordered_list::OrderedList;
+pub use ordered_list::{OrderedList, is_ascending};
 pub use ordered_set::OrderedSet;

@@ -167,8 +167,8 @@ pub(crate) fn insert_at<T: Drop, A: Allocator + Copy>(
     Ok(())
 }
 
-// Whether the keys ascend, each once.
-fn is_ascending<K: Ord, V>(entries: &[(K, V)]) -> bool
+/// Whether the keys ascend, each once. Takes a comparison for each two neighbours, up to the first that do not, and no memory.
+pub fn is_ascending<K: Ord, V>(entries: &[(K, V)]) -> bool
     ensures { IsTrue result ↔ IsStrictlySortedBy K.cmp (keys_of entries.now) }
 {
     entries.is_sorted_by(|x, y| x.0.cmp(&y.0).is_lt())

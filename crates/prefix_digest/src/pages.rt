@@ -10,11 +10,11 @@ ghost use Rattle.prefix_digest.specs.Page.{named_entry, named_entries, page_at, 
 
 use crate::naming::named_fields;
 use crate::sha_summary::ShaSummary;
-use crate::told::{DEPTHS, Told, look_under};
+use crate::told::{Told, look_under};
 use causal_join::Fields;
 use dots::{Key, Refusal};
 use gen_trie::Frozen;
-use hash_path::{PathHash, Prefix};
+use hash_path::{DEPTHS, PathHash, Prefix};
 use sha2::{Digest, Sha256};
 use std::alloc::{Allocator, Global};
 use wire_form::Page;

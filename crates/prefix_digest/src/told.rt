@@ -8,9 +8,6 @@ use dots::Key;
 use hash_path::{PathHash, Prefix};
 use std::alloc::Allocator;
 
-// How many indices a path has: past the last of them no page is a branch.
-pub(crate) const DEPTHS: u32 = 7;
-
 // The keys under a prefix: none, one with its fields, or several.
 #[derive(Drop)]
 pub(crate) enum Told<'a, A: Allocator + Copy> {

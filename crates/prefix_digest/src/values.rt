@@ -5,12 +5,12 @@ ghost use Rattle.hash_path.specs.Map.{walk_under};
 ghost use Rattle.prefix_digest.specs.Values.{unknown_in_values, unknown_in_fields, unknown_in, unknown_at};
 
 use crate::pages::FrozenMap;
-use crate::told::{DEPTHS, Told, look_under};
+use crate::told::{Told, look_under};
 use causal_context::Context;
 use causal_join::Fields;
 use dot_store::DotFun;
 use dots::{Dot, Refusal, Value};
-use hash_path::{PathHash, Prefix};
+use hash_path::{DEPTHS, PathHash, Prefix};
 use std::alloc::Allocator;
 
 /// The values that the page of a map at a prefix names, of those dots that are not known: in the order of keys, fields and

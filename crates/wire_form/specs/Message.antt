@@ -49,6 +49,15 @@ session_of (Ask s p) = Some s
 session_of (Page s p) = Some s
 session_of (Gone s) = Some s
 
+-- whom a message is for: a hello and an ask are for the replica that answers, what answers them for the one that asks, and a delta for everyone
+abbrev pub addressee_of : MessageValue → Option ℕ
+addressee_of (Delta d) = None
+addressee_of (Hello s c) = Some s.answerer
+addressee_of (Opening s c r) = Some s.asker
+addressee_of (Ask s p) = Some s.answerer
+addressee_of (Page s p) = Some s.asker
+addressee_of (Gone s) = Some s.asker
+
 -- the version of the format, and that of a delta whose store is plain
 abbrev pub VERSION : ℕ
 VERSION = 3

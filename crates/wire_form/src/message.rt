@@ -6,14 +6,14 @@ ghost use Rattle.dot_store.specs.Store.{state_with};
 ghost use Rattle.wire_form.specs.Page.{value_of};
 ghost use Rattle.wire_form.specs.Sent.{CanBeSent};
 ghost use Rattle.wire_form.specs.Message as form;
-ghost use Rattle.wire_form.specs.Message.{Delta, Hello, Opening, Ask, Gone, message_of, session_of};
+ghost use Rattle.wire_form.specs.Message.{Delta, Hello, Opening, Ask, Gone, addressee_of, message_of, session_of};
 
 use crate::page::Page;
 use crate::sent_page::SentPage;
 use crate::session::Session;
 use causal_context::Context;
 use causal_join::{Causal, OrMap, OrMapStore};
-use dots::Value;
+use dots::{Name, Value};
 use hash_path::Prefix;
 use std::alloc::{Allocator, Global};
 
@@ -105,6 +105,20 @@ impl<A: Allocator + Copy> Message<A> {
             Message::Ask(session, _) => Some(*session),
             Message::Page(session, _) => Some(*session),
             Message::Gone(session) => Some(*session),
+        }
+    }
+
+    /// The replica that the message is for: the one that answers for a hello and an ask, the one that asks for what answers these. None for
+    /// a delta, which is for everyone. Takes no memory.
+    pub fn addressee(&self) -> Option<Name>
+        ensures { result ≡ addressee_of (message_of self.now) }
+    {
+        match self {
+            Message::Delta(_) => None,
+            Message::Hello(session, _) | Message::Ask(session, _) => Some(session.answerer()),
+            Message::Opening(session, _, _) | Message::Page(session, _) | Message::Gone(session) => {
+                Some(session.asker())
+            }
         }
     }
 }

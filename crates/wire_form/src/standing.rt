@@ -1,18 +1,14 @@
 // Which pages can be sent for a prefix.
 ghost use Rattle.std.specs.Prelude.{◌↔◌, ◌≤◌, length, IsTrue};
 ghost use Rattle.std.specs.List.{AllByRecursion};
-ghost use Rattle.std.specs.List.Sorted.{IsStrictlySortedBy};
-ghost use Rattle.std.specs.Map.{keys_of};
 ghost use Rattle.wire_form.specs.Page.{value_of, Keys, Branch};
 ghost use Rattle.wire_form.specs.Sent.{IsFilled, CanStand, CanCarry};
 
 use crate::page::{NamedFields, Names, Page};
 use dots::{Field, Key, Value};
-use hash_path::Prefix;
+use hash_path::{DEPTHS, Prefix};
+use ordered_list::is_ascending;
 use std::alloc::Allocator;
-
-// How many indices a path has: past the last of them a page can have several keys.
-const DEPTHS: u32 = 7;
 
 // Whether the page can stand at the depth of the prefix.
 pub(crate) fn can_stand<A: Allocator + Copy>(prefix: Prefix, page: &Page<A>) -> bool
@@ -107,9 +103,3 @@ fn have_indices(last: u32, children: &[(u8, [u8; 32])]) -> bool
     true
 }
 
-// Whether the keys ascend, each once.
-fn is_ascending<K: Ord, V>(entries: &[(K, V)]) -> bool
-    ensures { IsTrue result ↔ IsStrictlySortedBy K.cmp (keys_of entries.now) }
-{
-    entries.is_sorted_by(|x, y| x.0.cmp(&y.0).is_lt())
-}

@@ -9,7 +9,6 @@ use replica_world::{Answer, Call, Event, Told, World};
 use std::alloc::Global;
 use std::panic::Expect;
 use std::process::Abort;
-use wire_form::Message;
 
 // What chooses the events, the sum of what came of them, how many messages were made, and the number of the session that was opened last.
 #[derive(Drop)]
@@ -198,19 +197,7 @@ impl Storm {
 // Whom the message of this number is for, where it is there and of a session.
 fn addressee_of(rt: &impl Abort, world: &World, number: u64) -> Option<Name> {
     let message = world.read(number).expect(rt, "memory");
-    message.as_ref().and_then(addressee)
-}
-
-// Whom a message of a session is for.
-fn addressee(message: &Message) -> Option<Name> {
-    match message {
-        Message::Delta(_) => None,
-        Message::Hello(session, _) => Some(session.answerer()),
-        Message::Ask(session, _) => Some(session.answerer()),
-        Message::Opening(session, _, _) => Some(session.asker()),
-        Message::Page(session, _) => Some(session.asker()),
-        Message::Gone(session) => Some(session.asker()),
-    }
+    message.as_ref().and_then(|it| it.addressee())
 }
 
 // The replicas, which are there.

@@ -22,3 +22,6 @@ invariant_of-self-2 g c =
           (λ h. absurd (cc (sym c.if-is_empty.false ∙ c.is_empty-is_empty.ensures.nothing.1 h))) c.insert.ensures.ok c.insert.ensures.unchanged,
       each_after_put g.S.DotStore.canonical cmp c.insert.result es fs c.args.key c.args.store c.self.invariant.1 c.is_empty-is_empty.ensures.canonical c.insert.ensures.ok c.insert.ensures.unchanged,
     )
+
+pub returns-clause-nothing : goal.returns-clause-nothing
+returns-clause-nothing g c = λ h. absurd (cc (sym c.if-is_empty.false ∙ c.is_empty-is_empty.ensures.nothing.1 h))

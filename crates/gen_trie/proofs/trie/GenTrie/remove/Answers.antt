@@ -1,4 +1,4 @@
-use Rattle.std.proofs.Common.{ℕ, List, ◌∙◌, ap}
+use Rattle.std.proofs.Common.{ℕ, List, refl, ◌∙◌, ap}
 use Rattle.std.specs.FinMap as finite
 use Rattle.hash_path.specs.Word.{word}
 use Rattle.hash_path.specs.Cut.{cut}
@@ -46,3 +46,11 @@ returns-clause-same g c =
     (λ same. ap (λ entries. trie_shown c.self.inside.hash (as_map entries) c.self.inside.generation (root_sealed c.remove_at.new.root)) same
     ∙ ap (λ x. trie_shown x.hash x.map x.generation (root_sealed c.remove_at.new.root)) c.self.view_is)
     c.remove_at.ensures.same
+
+pub returns-clause-absent : goal.returns-clause-absent
+returns-clause-absent g c = λ none.
+    c.remove_at.ensures.absent
+    (lookup_at (g.H.PathHash.hash_of c.self.inside.hash) c.self.inside.root c.self.inside.count c.hash-hash.result c.bytes.result.now c.bytes-2.result.now c.args.key.now _ c.self.invariant.0
+    c.hash-hash.ensures c.bytes.ensures.value c.bytes-2.ensures.value refl
+    ∙ ap (λ x. finite.get x.map c.args.key.now) c.self.view_is
+    ∙ none)
