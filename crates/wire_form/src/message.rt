@@ -115,10 +115,11 @@ impl<A: Allocator + Copy> Message<A> {
     {
         match self {
             Message::Delta(_) => None,
-            Message::Hello(session, _) | Message::Ask(session, _) => Some(session.answerer()),
-            Message::Opening(session, _, _) | Message::Page(session, _) | Message::Gone(session) => {
-                Some(session.asker())
-            }
+            Message::Hello(session, _) => Some(session.answerer()),
+            Message::Opening(session, _, _) => Some(session.asker()),
+            Message::Ask(session, _) => Some(session.answerer()),
+            Message::Page(session, _) => Some(session.asker()),
+            Message::Gone(session) => Some(session.asker()),
         }
     }
 }

@@ -102,4 +102,3 @@ fn have_indices(last: u32, children: &[(u8, [u8; 32])]) -> bool
     }
     true
 }
-

@@ -148,7 +148,11 @@ fn filled<A: Allocator + Copy>(rt: &impl Abort, alloc: Global, heap: A) -> Box<T
 }
 
 // The trie as it stands, with which it shares its nodes from then on.
-fn shared<A: Allocator + Copy>(rt: &impl Abort, alloc: Global, trie: &mut Trie<A>) -> Box<Still<A>> {
+fn shared<A: Allocator + Copy>(
+    rt: &impl Abort,
+    alloc: Global,
+    trie: &mut Trie<A>,
+) -> Box<Still<A>> {
     let still = trie.share().expect(rt, "memory");
     Box::new(alloc, still).expect(rt, "memory")
 }
