@@ -1,10 +1,10 @@
 -- The dots of the stores of a list, by those of its two halves.
-use Rattle.std.proofs.Common.{◌≡◌, ℕ, ◌<◌, Bool, false, ◌||◌, List, [], ◌∷◌, ◌++◌, length, get_or, sym, ◌∙◌, subst, inl, inr, ⊎_elim, arith}
+use Rattle.std.proofs.Common.{◌≡◌, Bool, ◌||◌, List, ◌++◌, sym, subst, ⊎_elim}
 use Rattle.std.specs.Prelude.{Option, IsSome, IsTrue, Contains}
 use Rattle.std.specs.declared.cmp.Ordering.{Ordering}
 use Rattle.std.specs.Cmp.{IsTotalOrder}
 use Rattle.std.specs.List.{All}
-use Rattle.std.proofs.lemmas.List.Elements.{All-nil, All-cons, All-append, Contains-append_left, Contains-append_right}
+use Rattle.std.proofs.lemmas.List.Elements.{All-append, Contains-append_left, Contains-append_right}
 use Rattle.dots.specs.Dot.{DotValue}
 use Rattle.ordered_list.proofs.Places.{Ascends}
 use Rattle.dot_store.specs.Store.{HoldsDot}
@@ -20,18 +20,6 @@ module _ {K S P H : Type 0} (at : S → P → DotValue → Option H) where
   -- each dot that a store of the list holds is in the set
   abbrev pub AllOf : List (K × S) → (DotValue → Bool) → Type 0
   AllOf stores dots = All (λ store. (place : P) (d : DotValue) → IsSome (at store.1 place d) → IsTrue (dots d)) stores
-
-  pub only_one : (stores : List (K × S)) (x : K × S) (dots : DotValue → Bool) → 0 < length stores → get_or stores 0 x ≡ x
-      → ((d : DotValue) → IsTrue (dots d) → (place : P) × IsSome (at x.1 place d)) → OnlyOf stores dots
-  only_one stores x dots some is held d h = let there = held d h in (x.0, x.1, there.0, (0, some, is), there.1)
-
-  pub all_one : (stores : List (K × S)) (x : K × S) (dots : DotValue → Bool) → length stores ≡ 1 → get_or stores 0 x ≡ x
-      → ((place : P) (d : DotValue) → IsSome (at x.1 place d) → IsTrue (dots d)) → AllOf stores dots
-  all_one [] x dots one is held = absurd (omega (arith, one))
-  all_one (y ∷ []) x dots one is held =
-      All-cons (λ store. (place : P) (d : DotValue) → IsSome (at store.1 place d) → IsTrue (dots d)) y []
-      (subst (λ (store : K × S). (place : P) (d : DotValue) → IsSome (at store.1 place d) → IsTrue (dots d)) (sym is) held) (All-nil _)
-  all_one (y ∷ z ∷ stores) x dots one is held = absurd (omega (arith, one))
 
   module _ (front back stores : List (K × S)) (is : stores ≡ front ++ back) (mid more new : DotValue → Bool) (both : (d : DotValue) → new d ≡ (mid d || more d)) where
     pub only_both : OnlyOf front mid → OnlyOf back more → OnlyOf stores new

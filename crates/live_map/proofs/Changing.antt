@@ -31,10 +31,11 @@ module _ {S P H : Type 0} (at : S → P → DotValue → Option H) where
   held_either None empty nothing place d = sym (nothing place d)
   held_either (Some store) empty nothing place d = refl
 
-  -- what an entry holds is named
-  pub held_named : (entries : List (List ℕ × S)) (places : List PlaceValue) → All (λ entry. (place : P) (d : DotValue) → IsSome (at entry.1 place d) → IsTrue (names places d entry.0)) entries
-      → (q : List ℕ) (store : S) → Contains entries (q, store) → (place : P) (d : DotValue) → IsSome (at store place d) → IsTrue (names places d q)
-  held_named entries places all q store there place d h = All-contains (λ (e : List ℕ × S). (p : P) (x : DotValue) → IsSome (at e.1 p x) → IsTrue (names places x e.0)) entries (q, store) all there place d h
+  -- what an entry holds and is not known is named
+  pub held_named : (own : DotValue → Bool) (entries : List (List ℕ × S)) (places : List PlaceValue) → All (λ entry. (place : P) (d : DotValue) → IsSome (at entry.1 place d) → own d ≡ false → IsTrue (names places d entry.0)) entries
+      → (q : List ℕ) (store : S) → Contains entries (q, store) → (place : P) (d : DotValue) → IsSome (at store place d) → own d ≡ false → IsTrue (names places d q)
+  held_named own entries places all q store there place d h fresh =
+      All-contains (λ (e : List ℕ × S). (p : P) (x : DotValue) → IsSome (at e.1 p x) → own x ≡ false → IsTrue (names places x e.0)) entries (q, store) all there place d h fresh
 
 -- ---- at other keys the join is what was there
 module _ {P H : Type 0} (mine yours : List ℕ × P → DotValue → Option H) (theirs : DotValue → Bool) (keys : List (List ℕ)) (all : AreAllTouched mine yours theirs keys) where
@@ -116,13 +117,19 @@ module _ (d : DotValue) (R : Type 0) where
       (by_entry vector (lookup (is_at (nat_cmp d.name)) vector) refl entries one) (by_cloud cloud dots)
 
 -- ---- the index, once the delta is joined in
-pub held_in : {H : Type 0} (greater : H → H → H) (x : Option H) (own : Bool) (y : Option H) (theirs : Bool) (R : Type 0) → IsSome (joined greater x own y theirs) → (IsSome x → R) → (IsSome y → R) → R
+-- what stands in a join stands here, or stands there and is not known here
+pub held_in : {H : Type 0} (greater : H → H → H) (x : Option H) (own : Bool) (y : Option H) (theirs : Bool) (R : Type 0) → IsSome (joined greater x own y theirs) → (IsSome x → R) → (IsSome y → own ≡ false → R) → R
 held_in greater (Some x) own y theirs R h mine yours = mine refl
-held_in greater None own (Some y) theirs R h mine yours = yours refl
+held_in greater None true (Some y) theirs R h mine yours = absurd (cc h)
+held_in greater None false (Some y) theirs R h mine yours = yours refl refl
 held_in greater None own None theirs R h mine yours = absurd (cc h)
 
+-- each dot that stands at a key and is not known has the key named for it
+abbrev pub IsIndexedNew : {P H : Type 0} → (List ℕ × P → DotValue → Option H) → (DotValue → Bool) → List PlaceValue → Type 0
+IsIndexedNew {P} at own places = (key : List ℕ) (place : P) (dot : DotValue) → IsSome (at (key, place) dot) → own dot ≡ false → IsTrue (names places dot key)
+
 pub indexed_join : {P H : Type 0} (greater : H → H → H) (mine yours both : List ℕ × P → DotValue → Option H) (own theirs : DotValue → Bool) (places : List PlaceValue)
-    → HoldsSame both (join greater (state_with mine own) (state_with yours theirs)).at → IsIndexed mine places → IsIndexed yours places → IsIndexed both places
+    → HoldsSame both (join greater (state_with mine own) (state_with yours theirs)).at → IsIndexed mine places → IsIndexedNew yours own places → IsIndexed both places
 indexed_join greater mine yours both own theirs places same had has q place d h =
     held_in greater (mine (q, place) d) (own d) (yours (q, place) d) (theirs d) (IsTrue (names places d q)) (ap is_some (sym (same (q, place) d)) ∙ h) (had q place d) (has q place d)
 
@@ -147,3 +154,7 @@ indexed_cut at old new gone cut nothing had q place d h =
 -- ---- where nothing stands
 pub none_stands : {H : Type 0} (o : Option H) (Q : Type 0) → o ≡ None → IsSome o → Q
 none_stands o Q none h = absurd (cc (none, h))
+
+pub not_standing : {H : Type 0} (o : Option H) (known : Bool) → known ≡ false → (IsSome o → IsTrue known) → o ≡ None
+not_standing None known unknown h = refl
+not_standing (Some x) known unknown h = absurd (cc (unknown, h refl))

@@ -50,7 +50,7 @@ module _ {P H : Type 0} (greater : H → H → H) (mine base built : List ℕ ×
 
 module _ {P H : Type 0} (greater : H → H → H) (mine yours both : List ℕ × P → DotValue → Option H) (own theirs : DotValue → Bool) (places : List PlaceValue) (keys : List (List ℕ))
     (only : ChangesOnlyAt greater mine own yours theirs keys) (same : HoldsSame both (join greater (state_with mine own) (state_with yours theirs)).at) (had : IsIndexed mine places)
-    (has_yours : (q : List ℕ) → IsTrue (has_key keys q) → (place : P) (d : DotValue) → IsSome (yours (q, place) d) → IsTrue (names places d q)) where
+    (has_yours : (q : List ℕ) → IsTrue (has_key keys q) → (place : P) (d : DotValue) → IsSome (yours (q, place) d) → own d ≡ false → IsTrue (names places d q)) where
   indexed_at : (q : List ℕ) (b : Bool) → has_key keys q ≡ b → (place : P) (d : DotValue) → IsSome (both (q, place) d) → IsTrue (names places d q)
   indexed_at q true e place d h =
       held_in greater (mine (q, place) d) (own d) (yours (q, place) d) (theirs d) (IsTrue (names places d q)) (ap is_some (sym (same (q, place) d)) ∙ h) (had q place d) (has_yours q e place d)

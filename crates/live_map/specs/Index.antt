@@ -1,6 +1,6 @@
 -- Where dots stand: an index from dots to the keys that hold them, so that a delta whose context knows a dot finds the key
 -- that it is to be taken from. Of this project.
-use Rattle.std.specs.Prelude.{◌≡◌, ℕ, ◌≤◌, List, Bool, Option, IsTrue, IsSome}
+use Rattle.std.specs.Prelude.{◌≡◌, ℕ, ◌≤◌, List, Bool, Option, None, IsTrue, IsSome}
 use Rattle.std.specs.declared.cmp.Ordering.{Ordering}
 use Rattle.std.specs.List.{list_any}
 use Rattle.std.specs.Ordering.{is_eq, ordering_then}
@@ -26,6 +26,10 @@ has_key keys key = list_any (λ k. is_eq (bytes_cmp key k)) keys
 -- each dot that stands at a key has the key named for it. The index may name more
 abbrev pub IsIndexed : {P H : Type 0} → (List ℕ × P → DotValue → Option H) → List PlaceValue → Type 0
 IsIndexed {P} at places = (key : List ℕ) (place : P) (dot : DotValue) → IsSome (at (key, place) dot) → IsTrue (names places dot key)
+
+-- nothing stands at the place
+abbrev pub IsGone : {P H : Type 0} → (List ℕ × P → DotValue → Option H) → PlaceValue → Type 0
+IsGone {P} at gone = (place : P) → at (gone.1, place) gone.0 ≡ None
 
 -- the dot has the name of the first, and a number from that of the first to the last
 pub record IsInSpan (first : DotValue) (last : ℕ) (dot : DotValue) : Type 0 where

@@ -181,37 +181,39 @@ fn join_built_at<S: DotStore<A>, M: Summary<S>, H: PathHash, A: Allocator + Copy
     Ok(())
 }
 
-// Names these keys for the dots that the trie holds there. A refused call may have named some.
+// Names these keys for the dots that the trie holds there and that are not known. A refused call may have named some.
 pub(crate) fn name_built<S: DotStore<A>, M: Summary<S>, H: PathHash, A: Allocator + Copy>(
     alloc: A,
     index: &mut Index<A>,
     built: &Frozen<S, M, H, A>,
     keys: &BTreeSet<Key<A>, A>,
+    known: &Context<A>,
 ) -> Result<(), Refusal>
     ensures there { OnOk result ((q : List ℕ) → IsTrue (has_key keys.now.keys q) → (place : S.Place) (d : DotValue)
-        → IsSome (at_keys S.at (stores_of built.now) (q, place) d) → IsTrue (names index.new d q)) }
+        → IsSome (at_keys S.at (stores_of built.now) (q, place) d) → has known.now d ≡ false → IsTrue (names index.new d q)) }
     ensures kept { (d : DotValue) (q : List ℕ) → IsTrue (names index.old d q) → IsTrue (names index.new d q) }
     ensures err { IsOkUnless result Refusal.OutOfMemory }
 {
     for key in keys {
-        name_key(alloc, index, built, key)?;
+        name_key(alloc, index, built, key, known)?;
     }
     Ok(())
 }
 
-// Names the key for the dots that the trie holds there. A refused call may have named some.
+// Names the key for the dots that the trie holds there and that are not known. A refused call may have named some.
 fn name_key<S: DotStore<A>, M: Summary<S>, H: PathHash, A: Allocator + Copy>(
     alloc: A,
     index: &mut Index<A>,
     built: &Frozen<S, M, H, A>,
     key: &Key<A>,
+    known: &Context<A>,
 ) -> Result<(), Refusal>
     ensures there { OnOk result ((place : S.Place) (d : DotValue) → IsSome (at_keys S.at (stores_of built.now) (key.now, place) d)
-        → IsTrue (names index.new d key.now)) }
+        → has known.now d ≡ false → IsTrue (names index.new d key.now)) }
     ensures kept { (d : DotValue) (q : List ℕ) → IsTrue (names index.old d q) → IsTrue (names index.new d q) }
     ensures err { IsOkUnless result Refusal.OutOfMemory }
 {
     let empty = S::empty(alloc);
     let dots = built.lookup(key).unwrap_or(&empty).dots(alloc)?;
-    index.add_dots(alloc, key, &dots)
+    index.add_dots(alloc, key, &dots, known)
 }

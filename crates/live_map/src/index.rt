@@ -68,60 +68,100 @@ impl<A: Allocator + Copy> Index<A> {
         self.places.remove(place);
     }
 
-    // Names the key for the dots of this name up to this number. A refused call may have named some.
-    fn add_run(&mut self, alloc: A, key: &Key<A>, name: Name, last: u64) -> Result<(), Refusal>
-        ensures there { OnOk result ((d : DotValue) → d.name ≡ name → 1 ≤ d.number → d.number ≤ last → IsTrue (names self.new d key.now)) }
+    // Names the key for the dot, unless it is known.
+    fn add_new(
+        &mut self,
+        alloc: A,
+        key: &Key<A>,
+        dot: Dot,
+        known: &Context<A>,
+    ) -> Result<(), Refusal>
+        ensures there { OnOk result (has known.now dot ≡ false → IsTrue (names self.new dot key.now)) }
         ensures kept { (d : DotValue) (q : List ℕ) → IsTrue (names self.old d q) → IsTrue (names self.new d q) }
         ensures err { IsOkUnless result Refusal.OutOfMemory }
     {
-        for number in 0..last {
-            self.add(dot_at(name, number + 1), key.copy(alloc)?)?;
+        if known.contains(dot) {
+            return Ok(());
+        }
+        self.add(dot, key.copy(alloc)?)
+    }
+
+    // Names the key for the dots of this name up to this number that are not known. A refused call may have named some.
+    fn add_run(
+        &mut self,
+        alloc: A,
+        key: &Key<A>,
+        name: Name,
+        last: u64,
+        known: &Context<A>,
+    ) -> Result<(), Refusal>
+        ensures there { OnOk result ((d : DotValue) → d.name ≡ name → 1 ≤ d.number → d.number ≤ last → has known.now d ≡ false
+            → IsTrue (names self.new d key.now)) }
+        ensures kept { (d : DotValue) (q : List ℕ) → IsTrue (names self.old d q) → IsTrue (names self.new d q) }
+        ensures err { IsOkUnless result Refusal.OutOfMemory }
+    {
+        for number in known.entry(name)..last {
+            self.add_new(alloc, key, dot_at(name, number + 1), known)?;
         }
         Ok(())
     }
 
-    // Names the key for these dots. A refused call may have named some.
+    // Names the key for those of these dots that are not known: what the pair knows and does not hold stays gone, and would be
+    // named for good. A refused call may have named some.
     pub(crate) fn add_dots(
         &mut self,
         alloc: A,
         key: &Key<A>,
         dots: &Context<A>,
+        known: &Context<A>,
     ) -> Result<(), Refusal>
-        ensures there { OnOk result ((d : DotValue) → IsTrue (has dots.now d) → IsTrue (names self.new d key.now)) }
+        ensures there { OnOk result ((d : DotValue) → IsTrue (has dots.now d) → has known.now d ≡ false → IsTrue (names self.new d key.now)) }
         ensures kept { (d : DotValue) (q : List ℕ) → IsTrue (names self.old d q) → IsTrue (names self.new d q) }
         ensures err { IsOkUnless result Refusal.OutOfMemory }
     {
-        self.add_vector(alloc, key, dots.vector())?;
-        self.add_cloud(alloc, key, dots.cloud())
+        self.add_vector(alloc, key, dots.vector(), known)?;
+        self.add_cloud(alloc, key, dots.cloud(), known)
     }
 
-    // Names the key for the dots of a vector.
-    fn add_vector(&mut self, alloc: A, key: &Key<A>, vector: &[(Name, u64)]) -> Result<(), Refusal>
+    // Names the key for the dots of a vector that are not known.
+    fn add_vector(
+        &mut self,
+        alloc: A,
+        key: &Key<A>,
+        vector: &[(Name, u64)],
+        known: &Context<A>,
+    ) -> Result<(), Refusal>
         ensures there { OnOk result (All (λ entry. (d : DotValue) → d.name ≡ entry.0 → 1 ≤ d.number → d.number ≤ entry.1
-            → IsTrue (names self.new d key.now)) vector.now) }
+            → has known.now d ≡ false → IsTrue (names self.new d key.now)) vector.now) }
         ensures kept { (d : DotValue) (q : List ℕ) → IsTrue (names self.old d q) → IsTrue (names self.new d q) }
         ensures err { IsOkUnless result Refusal.OutOfMemory }
     {
         for (name, last) in vector {
-            self.add_run(alloc, key, *name, *last)?;
+            self.add_run(alloc, key, *name, *last, known)?;
         }
         Ok(())
     }
 
-    // Names the key for the dots of a cloud.
-    fn add_cloud(&mut self, alloc: A, key: &Key<A>, cloud: &[Dot]) -> Result<(), Refusal>
-        ensures there { OnOk result (All (λ d. IsTrue (names self.new d key.now)) cloud.now) }
+    // Names the key for the dots of a cloud that are not known.
+    fn add_cloud(
+        &mut self,
+        alloc: A,
+        key: &Key<A>,
+        cloud: &[Dot],
+        known: &Context<A>,
+    ) -> Result<(), Refusal>
+        ensures there { OnOk result (All (λ d. has known.now d ≡ false → IsTrue (names self.new d key.now)) cloud.now) }
         ensures kept { (d : DotValue) (q : List ℕ) → IsTrue (names self.old d q) → IsTrue (names self.new d q) }
         ensures err { IsOkUnless result Refusal.OutOfMemory }
     {
         for dot in cloud {
-            self.add(*dot, key.copy(alloc)?)?;
+            self.add_new(alloc, key, *dot, known)?;
         }
         Ok(())
     }
 
-    // Adds the keys that are named for dots of the name of the first, from its number up to the last. Takes time in these,
-    // and two look-ups.
+    // Adds the keys that are named for dots of the name of the first, from its number up to the last. Takes two look-ups, and
+    // for each of these dots what it takes to keep it.
     pub(crate) fn find(
         &self,
         alloc: A,

@@ -123,8 +123,9 @@ impl<S: DotStore<A>, M: Summary<S>, H: PathHash, A: Allocator + Copy> Live<S, M,
 
     /// What the pair will be once the delta is joined in. The pair stays as it is, also where the call is refused: only the
     /// index may name more. Takes time and memory in the keys and dots of the delta and in the dots that stand here and are
-    /// known there, each times the logarithm of the map; in all that stands at these keys; in what `dots` takes of each store
-    /// of the delta; and in both contexts: their names, and their dots above a gap.
+    /// known there, each times the logarithm of the map and the bytes of its key; in all that stands at these keys; in what
+    /// `dots` takes of each store of the delta, and of what will stand where dots were found; and in both contexts: their names,
+    /// and their dots above a gap.
     /// Its only refusal is OutOfMemory.
     pub fn prepare(
         &mut self,
@@ -139,23 +140,25 @@ impl<S: DotStore<A>, M: Summary<S>, H: PathHash, A: Allocator + Copy> Live<S, M,
         ensures err { IsOkUnless result Refusal.OutOfMemory }
     {
         let touched = touched_by(alloc, &self.index, delta)?;
-        name_all(alloc, &mut self.index, delta.store().entries())?;
+        name_all(
+            alloc,
+            &mut self.index,
+            delta.store().entries(),
+            &self.context,
+        )?;
         let context = known_by_both(alloc, &self.context, delta.context())?;
         // The store comes last: where a call is refused, less is there to be dropped, which is proved sooner.
         let store = joined(alloc, &self.store, &self.context, delta, touched.keys())?;
-        Ok(Prepared {
-            store,
-            context,
-            places: touched.into_places(),
-        })
+        Prepared::new(alloc, store, context, &touched)
     }
 
     /// What the pair will be once a store is joined in that was built from a base: it is the base but at the keys that were
     /// touched, and the context knows its dots. The base under the dots that were seen was joined into this pair before. The
     /// pair stays as it is, also where the call is refused: only the index may name more. Takes time and memory in the touched
     /// keys, and in the dots that stand here, that the context knows and that lie above the entries that were seen, each times
-    /// the logarithm of the map; in all that stands at these keys, here and in what was built; in what `dots` takes of each
-    /// store that was built there; and in the names and clouds of the contexts. Neither store is walked.
+    /// the logarithm of the map and the bytes of its key; in all that stands at these keys, here and in what was built; in what
+    /// `dots` takes of each store that was built there, and of what will stand where dots were found; and in the names and
+    /// clouds of the contexts. Neither store is walked.
     /// Its only refusal is OutOfMemory.
     pub fn prepare_opened(
         &mut self,
@@ -181,7 +184,7 @@ impl<S: DotStore<A>, M: Summary<S>, H: PathHash, A: Allocator + Copy> Live<S, M,
         // The base is spoken of in the contract alone.
         let _ = base;
         let changed = touched_since(alloc, &self.index, seen, touched, context)?;
-        name_built(alloc, &mut self.index, built, changed.keys())?;
+        name_built(alloc, &mut self.index, built, changed.keys(), &self.context)?;
         let next = known_by_both(alloc, &self.context, context)?;
         let store = closed(
             alloc,
@@ -191,21 +194,16 @@ impl<S: DotStore<A>, M: Summary<S>, H: PathHash, A: Allocator + Copy> Live<S, M,
             context,
             changed.keys(),
         )?;
-        Ok(Prepared {
-            store,
-            context: next,
-            places: changed.into_places(),
-        })
+        Prepared::new(alloc, store, next, &changed)
     }
 
     /// Puts the prepared pair in the place of this one. It has to be prepared of this one as it is; it is not refused, and
-    /// takes no memory. For each dot that was found in the index it takes a look-up, and what `contains` takes of the store at
-    /// its key.
+    /// takes no memory. For each dot that stood here and is gone it takes a look-up in the index.
     pub fn commit(&mut self, next: Prepared<S, M, H, A>)
         requires { IsIndexed (at_keys S.at next.0) self.old.1 }
         ensures { self.new.0 ≡ next }
     {
-        cut_all(&mut self.index, &next.store, &next.places);
+        cut_all(&mut self.index, &next.store, &next.gone);
         self.store = next.store;
         self.context = next.context;
     }

@@ -3,14 +3,14 @@ ghost use Rattle.live_map.specs.Index.{has_key};
 
 use dots::{Dot, Key, Refusal};
 use std::alloc::{Allocator, Global};
-use std::collections::BTreeSet;
+use std::collections::{BTreeMap, BTreeSet};
 use std::marker::Model;
 
-// The keys that a delta can change, and the places that were found in the index for dots that it knows.
+// The keys that a delta can change, and at each key the dots that were found in the index and that it knows.
 #[derive(Drop)]
 pub(crate) struct Touched<A: Allocator + Copy = Global> {
     keys: BTreeSet<Key<A>, A>,
-    places: Vec<(Dot, Key<A>), A>,
+    found: BTreeMap<Key<A>, Vec<Dot, A>, A>,
 }
 
 impl<A: Allocator + Copy> Model for Touched<A> {
@@ -22,13 +22,13 @@ impl<A: Allocator + Copy> Model for Touched<A> {
 }
 
 impl<A: Allocator + Copy> Touched<A> {
-    // No key and no place. Takes no memory.
+    // No key and no dot. Takes no memory.
     pub(crate) fn new(alloc: A) -> Touched<A>
         ensures { result ≡ [] }
     {
         Touched {
             keys: BTreeSet::new(alloc),
-            places: Vec::new(alloc),
+            found: BTreeMap::new(alloc),
         }
     }
 
@@ -42,14 +42,32 @@ impl<A: Allocator + Copy> Touched<A> {
         Ok(())
     }
 
-    // Adds the key of a place, and keeps the place.
+    // Adds the key of a place, and keeps the dot that was found there.
     pub(crate) fn add_place(&mut self, alloc: A, dot: Dot, key: &Key<A>) -> Result<(), Refusal>
         ensures there { OnOk result (IsTrue (has_key self.new key.now)) }
         ensures kept { (q : List ℕ) → IsTrue (has_key self.old q) → IsTrue (has_key self.new q) }
         ensures err { IsOkUnless result Refusal.OutOfMemory }
     {
-        self.places.push((dot, key.copy(alloc)?))?;
+        self.keep(alloc, dot, key)?;
+        if self.keys.contains(key) {
+            return Ok(());
+        }
         self.add(key.copy(alloc)?)
+    }
+
+    // Keeps the dot among those that were found at the key.
+    fn keep(&mut self, alloc: A, dot: Dot, key: &Key<A>) -> Result<(), Refusal>
+        ensures same { self.new ≡ self.old }
+        ensures err { IsOkUnless result Refusal.OutOfMemory }
+    {
+        if let Some(dots) = self.found.get_mut(key) {
+            dots.push(dot)?;
+            return Ok(());
+        }
+        let mut dots = Vec::new(alloc);
+        dots.push(dot)?;
+        self.found.insert(key.copy(alloc)?, dots)?;
+        Ok(())
     }
 
     // The keys, in order.
@@ -59,8 +77,8 @@ impl<A: Allocator + Copy> Touched<A> {
         &self.keys
     }
 
-    // The places that were found, each of which may not be needed any more.
-    pub(crate) fn into_places(self) -> Vec<(Dot, Key<A>), A> {
-        self.places
+    // The dots that were found, by key.
+    pub(crate) fn found(&self) -> &BTreeMap<Key<A>, Vec<Dot, A>, A> {
+        &self.found
     }
 }

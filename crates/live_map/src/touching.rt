@@ -1,11 +1,11 @@
 // The keys that a delta can change, and the join at these keys.
-ghost use Rattle.std.specs.Prelude.{◌≡◌, ◌≤◌, false, None, ℕ, List, IsTrue, IsSome, IfOk, OnOk, IsOkUnless};
+ghost use Rattle.std.specs.Prelude.{◌≡◌, ◌≤◌, false, ℕ, List, IsTrue, IsSome, IfOk, OnOk, IsOkUnless};
 ghost use Rattle.std.specs.List.{All};
 ghost use Rattle.causal_context.specs.Context.{has};
 ghost use Rattle.dot_store.specs.Stores.{at_stores};
 ghost use Rattle.dots.specs.Bytes.{bytes_cmp};
 ghost use Rattle.dots.specs.Dot.{DotValue};
-ghost use Rattle.live_map.specs.Index.{names, has_key, IsIndexed, IsTouched};
+ghost use Rattle.live_map.specs.Index.{names, has_key, IsGone, IsIndexed, IsTouched};
 ghost use Rattle.trie_map.specs.Joined.{IsJoinedAt, IsEitherAt};
 ghost use Rattle.trie_map.specs.Keyed.{at_keys};
 
@@ -114,62 +114,92 @@ pub(crate) fn join_at_keys<S: DotStore<A>, M: Summary<S>, H: PathHash, A: Alloca
     Ok(())
 }
 
-// Names the keys of these entries for the dots that stand there. A refused call may have named some.
+// Names the keys of these entries for the dots that stand there and are not known. A refused call may have named some.
 pub(crate) fn name_all<S: DotStore<A>, A: Allocator + Copy>(
     alloc: A,
     index: &mut Index<A>,
     entries: &[(Key<A>, S)],
+    known: &Context<A>,
 ) -> Result<(), Refusal>
     ensures there { OnOk result (All (λ entry. (place : S.Place) (d : DotValue) → IsSome (S.at entry.1 place d)
-        → IsTrue (names index.new d entry.0)) entries.now) }
+        → has known.now d ≡ false → IsTrue (names index.new d entry.0)) entries.now) }
     ensures kept { (d : DotValue) (q : List ℕ) → IsTrue (names index.old d q) → IsTrue (names index.new d q) }
     ensures err { IsOkUnless result Refusal.OutOfMemory }
 {
     for (key, store) in entries {
         let dots = store.dots(alloc)?;
-        index.add_dots(alloc, key, &dots)?;
+        index.add_dots(alloc, key, &dots, known)?;
     }
     Ok(())
 }
 
-// Names keys no more for dots that do not stand there, of these places.
+// The places that were found and at which nothing stands in the store now.
+pub(crate) fn gone_of<S: DotStore<A>, M: Summary<S>, H: PathHash, A: Allocator + Copy>(
+    alloc: A,
+    store: &TrieMap<S, M, H, A>,
+    touched: &Touched<A>,
+) -> Result<Vec<(Dot, Key<A>), A>, Refusal>
+    ensures ok { IfOk result (λ gone. All (IsGone (at_keys S.at store.now)) gone.items) }
+    ensures err { IsOkUnless result Refusal.OutOfMemory }
+{
+    let mut gone = Vec::new(alloc);
+    for (key, dots) in touched.found() {
+        add_gone(alloc, &mut gone, store, key, dots)?;
+    }
+    Ok(gone)
+}
+
+// Adds the places of those of the dots that do not stand at the key. The dots that stand there are gathered once, and not
+// looked for one by one: a store of many fields would be walked for each.
+fn add_gone<S: DotStore<A>, M: Summary<S>, H: PathHash, A: Allocator + Copy>(
+    alloc: A,
+    gone: &mut Vec<(Dot, Key<A>), A>,
+    store: &TrieMap<S, M, H, A>,
+    key: &Key<A>,
+    dots: &[Dot],
+) -> Result<(), Refusal>
+    requires { All (IsGone (at_keys S.at store.now)) gone.old.items }
+    ensures ok { OnOk result (All (IsGone (at_keys S.at store.now)) gone.new.items) }
+    ensures err { IsOkUnless result Refusal.OutOfMemory }
+{
+    let standing = standing_at(alloc, store, key)?;
+    for dot in dots {
+        if !standing.contains(*dot) {
+            gone.push((*dot, key.copy(alloc)?))?;
+        }
+    }
+    Ok(())
+}
+
+// The dots that stand at the key.
+fn standing_at<S: DotStore<A>, M: Summary<S>, H: PathHash, A: Allocator + Copy>(
+    alloc: A,
+    store: &TrieMap<S, M, H, A>,
+    key: &Key<A>,
+) -> Result<Context<A>, Refusal>
+    ensures all { IfOk result (λ dots. (place : S.Place) (d : DotValue)
+        → IsSome (at_keys S.at store.now (key.now, place) d) → IsTrue (has dots d)) }
+    ensures err { IsOkUnless result Refusal.OutOfMemory }
+{
+    match store.get(key) {
+        Some(found) => found.dots(alloc),
+        None => Ok(Context::new(alloc)),
+    }
+}
+
+// Names the keys of these places no more for their dots.
 pub(crate) fn cut_all<S: DotStore<A>, M: Summary<S>, H: PathHash, A: Allocator + Copy>(
     index: &mut Index<A>,
     store: &TrieMap<S, M, H, A>,
     places: &[(Dot, Key<A>)],
 )
-    requires { IsIndexed (at_keys S.at store.now) index.old }
+    requires gone { All (IsGone (at_keys S.at store.now)) places.now }
+    requires indexed { IsIndexed (at_keys S.at store.now) index.old }
     ensures { IsIndexed (at_keys S.at store.now) index.new }
 {
+    // The store is spoken of in the contract alone.
+    let _ = store;
     for place in places {
-        cut(index, store, place);
-    }
-}
-
-// Names the key no more for the dot, if the dot does not stand there.
-fn cut<S: DotStore<A>, M: Summary<S>, H: PathHash, A: Allocator + Copy>(
-    index: &mut Index<A>,
-    store: &TrieMap<S, M, H, A>,
-    place: &(Dot, Key<A>),
-)
-    requires { IsIndexed (at_keys S.at store.now) index.old }
-    ensures { IsIndexed (at_keys S.at store.now) index.new }
-{
-    if stands(store, place) {
-        return;
-    }
-    index.remove(place);
-}
-
-// Whether the dot stands at the key.
-fn stands<S: DotStore<A>, M: Summary<S>, H: PathHash, A: Allocator + Copy>(
-    store: &TrieMap<S, M, H, A>,
-    place: &(Dot, Key<A>),
-) -> bool
-    ensures { result ≡ false → (p : S.Place) → at_keys S.at store.now (place.now.1, p) place.now.0 ≡ None }
-{
-    match store.get(&place.1) {
-        Some(found) => found.contains(place.0),
-        None => false,
+        index.remove(place);
     }
 }

@@ -13,4 +13,4 @@ returns-clause-there g c =
     let holds : (place : _) (d : _) → at_keys at (stores_of c.args.built.now) (key, place) d ≡ at c.unwrap_or.result.now place d =
     subst (λ (b : Bor g.row.S.Denot). (place : _) (d : _) → at_keys at (stores_of c.args.built.now) (key, place) d ≡ at b.now place d) (sym c.unwrap_or.ensures)
     (holds_either at (stores_of c.args.built.now) key c.lookup.result _ c.lookup.ensures c.empty-empty.ensures) in
-    on_ok c.add_dots.result (λ there place d h. there d (c.in_ok-dots.ensures.all place d (ap is_some (sym (holds place d)) ∙ h))) c.add_dots.ensures.there
+    on_ok c.add_dots.result (λ there place d h fresh. there d (c.in_ok-dots.ensures.all place d (ap is_some (sym (holds place d)) ∙ h)) fresh) c.add_dots.ensures.there

@@ -36,3 +36,8 @@ returns-in-Err-clause-refused g c =
     let s = c.self.inside in
     rw (← c.self.view_is, c.unwrap_or.ensures)
     (event_unkept g.H.PathHash.hash_of s.hash s.replicas s.posted (map event_value s.past.items) c.self.invariant (event_value c.args.event) c.foresee-foreseen.result (c.foresee-foreseen.ensures s.hash))
+
+pub returns-in-Err-happen-clause-unchanged : goal.returns-in-Err-happen-clause-unchanged
+returns-in-Err-happen-clause-unchanged g c =
+    let s = c.self.inside in
+    rw (← c.self.view_is) (λ i. record { hash = s.hash; past = map event_value (c.reserve.ensures.items i) })

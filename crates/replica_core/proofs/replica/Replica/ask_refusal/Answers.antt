@@ -1,0 +1,13 @@
+use Rattle.std.proofs.Common.{◌<◌, ◌+◌, ◌^◌, ap, length, arith, rules}
+use Rattle.replica_core.specs.Meaning.{ReplicaValue}
+use Rattle.replica_core.proofs.Asks.{ask_not_refused}
+use Rattle.replica_core.proofs.replica.Replica.ask_refusal.Goals as goal
+
+pub returns : goal.returns
+returns g c peer =
+    let few = c.if-len-ge-LIMIT.false in
+    let count = c.len.ensures in
+    let items = c.self.inside.sessions.ok.0 in
+    let same = ap (λ (r : ReplicaValue _). length r.sessions) c.self.view_is in
+    let left : c.args.self.now.opened + 1 < 2 ^ 64 = search rules in
+    ask_not_refused c.args.self.now peer (omega (arith, few, count, items, same)) left
