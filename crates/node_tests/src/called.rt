@@ -95,8 +95,9 @@ impl<K: Naming, G: Gate + Drop, R: Wait + Drop> Caller for Client<K, Lock<K, G, 
         called(rt, self, &Asking { alloc, peer })
     }
 
-    fn serve<P: Post, T: Wait>(&mut self, rt: &T, alloc: Global, post: &P) -> Served {
-        serve(rt, alloc, self, post)
+    fn serve<P: Post + Copy, T: Wait>(&mut self, rt: &T, alloc: Global, post: &P) -> Served {
+        let mut post = *post;
+        serve(rt, alloc, self, &mut post)
     }
 
     fn operations(&self) -> u64 {

@@ -26,7 +26,7 @@ pub(crate) trait Caller {
     fn ask<T: Wait + Abort>(&mut self, rt: &T, alloc: Global, peer: u64) -> (u64, Message);
 
     // Takes in what comes by the post, until that ends.
-    fn serve<P: Post, T: Wait>(&mut self, rt: &T, alloc: Global, post: &P) -> Served;
+    fn serve<P: Post + Copy, T: Wait>(&mut self, rt: &T, alloc: Global, post: &P) -> Served;
 
     // How many of its calls were accepted.
     fn operations(&self) -> u64;

@@ -166,7 +166,7 @@ pub(crate) enum SharedCalls<P: Drop, Q: Drop, O: Drop> {
 }
 
 // The clients are seen as no more than their traits, as a check of what holds a client grows with the depth of its type.
-fn call<C: Caller + Calling, P: Post + Drop, R: Wait + Abort>(
+fn call<C: Caller + Calling, P: Post + Copy + Drop, R: Wait + Abort>(
     rt: &R,
     alloc: Global,
     clients: &mut [C],
@@ -195,8 +195,8 @@ fn call_beside<K: Naming + Send + Sync, R: Threads + Wait + Abort + Copy + Drop 
 fn call_both<
     C: Caller + Send,
     D: Caller + Send,
-    P: Post + Drop + Sync,
-    Q: Post + Drop + Sync,
+    P: Post + Copy + Drop + Sync,
+    Q: Post + Copy + Drop + Sync,
     O: Outside + Drop + Sync,
     R: Threads + Wait + Abort + Sync,
 >(rt: &R, alloc: Global, clients: &mut [C], peers: &mut [D], calls: &SharedCalls<P, Q, O>) {
@@ -209,7 +209,7 @@ fn call_both<
 }
 
 // Has the one client of a new node, of the replica 1, make these calls: what is there in the end.
-fn alone_at_this_node<K: Naming, P: Post + Drop, R: Wait + Abort + Copy + Drop>(
+fn alone_at_this_node<K: Naming, P: Post + Copy + Drop, R: Wait + Abort + Copy + Drop>(
     rt: R,
     alloc: Global,
     opened: OpenedBook<NodeEvent>,
@@ -242,8 +242,8 @@ fn beside_at_this_node<
 fn with_this_node<
     C: Caller + Send,
     L: Naming + Send + Sync,
-    P: Post + Drop + Sync,
-    Q: Post + Drop + Sync,
+    P: Post + Copy + Drop + Sync,
+    Q: Post + Copy + Drop + Sync,
     O: Outside + Drop + Sync,
     R: Threads + Wait + Abort + Copy + Drop + Send + Sync,
 >(
@@ -268,8 +268,8 @@ fn with_this_node<
 fn at_these_nodes<
     K: Naming + Send + Sync,
     L: Naming + Send + Sync,
-    P: Post + Drop + Sync,
-    Q: Post + Drop + Sync,
+    P: Post + Copy + Drop + Sync,
+    Q: Post + Copy + Drop + Sync,
     O: Outside + Drop + Sync,
     R: Threads + Wait + Abort + Copy + Drop + Send + Sync,
 >(

@@ -1,7 +1,8 @@
 -- A client that only takes messages in.
 use Rattle.std.proofs.Common.{◌≡◌, ℕ, zero, suc, ◌≤◌, List, [], ◌∷◌, ◌++◌, length, take, refl, sym, ap, subst, ◌∙◌, arith, length-append}
+use Rattle.std.specs.Prelude.{Result, Ok, Err, OnErr}
 use Rattle.std.proofs.lemmas.List.{append-nil, append_assoc, take_all}
-use Rattle.std.proofs.lemmas.List.Elements.{All-nil, All-push, All-append, All-weaker}
+use Rattle.std.proofs.lemmas.List.Elements.{All-nil, All-push, All-append}
 use Rattle.root_cell.proofs.Prefixes.{prefix_trans}
 use Rattle.shared_object.proofs.Calls.{calls_more}
 use Rattle.shared_object.specs.Calling.{HasNotCalled, IsAccepted}
@@ -9,10 +10,14 @@ use Rattle.shared_object.specs.History.{Seat, calls_by, made}
 use Rattle.node_threads.specs.declared.node_event.NodeEvent.{NodeEvent}
 use Rattle.node_threads.specs.Serving.{IsDelivery, TookIn}
 
-short : {X : Type 0} (n : ℕ) (xs : List X) → length (take n xs) ≤ n
+pub short : {X : Type 0} (n : ℕ) (xs : List X) → length (take n xs) ≤ n
 short zero xs = omega arith
 short (suc n) [] = omega arith
 short (suc n) (x ∷ xs) = omega (arith, short n xs)
+
+pub on_err : {T E : Type 0} {P : Type 0} (r : Result T E) → P → OnErr r P
+on_err (Ok x) p = tt
+on_err (Err e) p = p
 
 module _ {A : Type 0} where
   abbrev place : NodeEvent A → ℕ
@@ -59,15 +64,6 @@ module _ {A : Type 0} where
     );
   }
 
-  -- what came in as these bytes came in by a post by which they came
-  pub took_by : (Comes : List ℕ → Type 0) (bytes : List ℕ) (old new : Seat (NodeEvent A)) → Comes bytes → TookIn (λ b. b ≡ bytes) old new → TookIn Comes old new
-  took_by Comes bytes old new came f = record {
-    seat = f.seat;
-    seen = f.seen;
-    calls = (
-      f.calls.0,
-      f.calls.1,
-      All-weaker (IsDelivery (λ b. b ≡ bytes)) (IsDelivery Comes) (λ e d. (d.0, d.1, (d.2.0, subst Comes (sym d.2.1) came, d.2.2))) f.calls.0 f.calls.2,
-      f.calls.3,
-    );
-  }
+  -- a client that called nothing, and saw nothing more
+  pub not_called : (s : Seat (NodeEvent A)) → HasNotCalled place s s
+  not_called s = record { seat = refl; operations = refl; made = refl; seen = ([], append-nil s.front) }

@@ -1,4 +1,5 @@
 pub mod Stepping
 pub mod Inboxes
+pub mod Posts
 pub mod Twice
 pub mod Crossing

@@ -15,17 +15,21 @@ pub struct Channels<'a> {
 }
 
 impl<'a> Post for Channels<'a> {
-    // Whatever the senders sent.
-    ghost comes = { λ channels bytes. Unit {0} };
+    // What the channels do is told by nothing that stands here: whatever comes in was sent, and whatever is sent can come.
+    ghost receives = { λ old new bytes. Unit {0} };
 
-    fn receive<T: Wait>(&self, rt: &T) -> Option<Vec<u8>> {
+    ghost sends = { λ old new to bytes. Unit {0} };
+
+    ghost rests = { λ old new. Unit {0} };
+
+    fn receive<T: Wait>(&mut self, rt: &T) -> Option<Vec<u8>> {
         match self.inbox.recv(rt) {
             Ok(Letter::Mail(bytes)) => Some(bytes),
             _ => None,
         }
     }
 
-    fn send<T: Wait>(&self, rt: &T, to: Name, bytes: Vec<u8>) -> bool {
+    fn send<T: Wait>(&mut self, rt: &T, to: Name, bytes: Vec<u8>) -> bool {
         for (name, outbox) in self.outboxes {
             if *name == to {
                 return outbox.send(rt, Letter::Mail(bytes)).is_ok();

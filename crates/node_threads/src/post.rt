@@ -1,4 +1,4 @@
-ghost use Rattle.std.specs.Prelude.{IfSome};
+ghost use Rattle.std.specs.Prelude.{◌≡◌, false, IsTrue, IsNone, IfSome};
 
 use dots::Name;
 use std::sync::Wait;
@@ -8,13 +8,22 @@ use std::sync::Wait;
 pub trait Post {
     ghost use Rattle.std.specs.Prelude.{ℕ, List};
 
-    // What can come in by it.
-    ghost comes: { Self → List ℕ → Type 0 };
+    // From the first state of it to the second, these bytes came in.
+    ghost receives: { Self → Self → List ℕ → Type 0 };
+
+    // From the first state to the second, these bytes were sent to the replica of this name.
+    ghost sends: { Self → Self → ℕ → List ℕ → Type 0 };
+
+    // From the first state to the second, nothing came in and nothing was sent.
+    ghost rests: { Self → Self → Type 0 };
 
     /// The bytes that come in next, for which it may wait. None where it is to be served no longer.
-    fn receive<T: Wait>(&self, rt: &T) -> Option<Vec<u8>>
-        ensures { IfSome result (λ bytes. comes self.now bytes.items) };
+    fn receive<T: Wait>(&mut self, rt: &T) -> Option<Vec<u8>>
+        ensures received { IfSome result (λ bytes. receives self.old self.new bytes.items) }
+        ensures ended { IsNone result → rests self.old self.new };
 
     /// Sends these bytes to a replica, for which it may wait. Whether they could be sent.
-    fn send<T: Wait>(&self, rt: &T, to: Name, bytes: Vec<u8>) -> bool;
+    fn send<T: Wait>(&mut self, rt: &T, to: Name, bytes: Vec<u8>) -> bool
+        ensures sent { IsTrue result → sends self.old self.new to bytes.items }
+        ensures unsent { result ≡ false → rests self.old self.new };
 }

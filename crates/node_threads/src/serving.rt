@@ -1,6 +1,10 @@
 // A node that is served: a client that takes in what comes by a post, and sends what is answered.
-ghost use Rattle.std.specs.Prelude.{◌≡◌, ◌+◌};
-ghost use Rattle.node_threads.specs.Serving.{TookIn};
+ghost use Rattle.std.specs.Prelude.{◌≡◌, ◌<◌, ◌+◌, ◌-◌, ◌^◌, false, length, min, ℕ, List, Option, IsTrue, IsNone, IfSome, IfOk, OnErr};
+ghost use Rattle.node_threads.specs.Serving.{AreSent, CanCome, IsAnswered, IsLost, IsSent, IsTakenIn, Serves, TookIn, lost_of, passed_of};
+ghost use Rattle.replica_core.specs.Answered.{outcome_of};
+ghost use Rattle.replica_model.specs.Step.{Came};
+ghost use Rattle.shared_object.specs.Calling.{HasNotCalled};
+ghost use Rattle.wire_form.specs.Message.{message_of};
 
 use crate::acts::Delivering;
 use crate::named::Naming;
@@ -33,10 +37,12 @@ pub fn serve<K: Naming, G: Gate + Drop, W: Wait + Drop, P: Post, T: Wait>(
     rt: &T,
     alloc: Global,
     client: &mut Client<K, Lock<K, G, W>>,
-    post: &P,
+    post: &mut P,
 ) -> Served
-    ensures took_in { TookIn (P.comes post.now) client.old client.new }
+    ensures took_in { TookIn (CanCome P.receives) client.old client.new }
     ensures delivered { client.new.operations ≡ client.old.operations + result.delivered }
+    ensures served { (steps : List (Option ℕ)) × (end : P) × Serves P.receives P.sends P.rests K.name post.old end client.old client.new steps
+        × P.rests end post.new × (result.refused ≡ min (passed_of steps) (2 ^ 64 - 1)) × (result.lost ≡ min (lost_of steps) (2 ^ 64 - 1)) }
 {
     let begun = client.operations();
     let (mut refused, mut lost) = (0u64, 0u64);
@@ -44,15 +50,32 @@ pub fn serve<K: Naming, G: Gate + Drop, W: Wait + Drop, P: Post, T: Wait>(
         let Some(bytes) = post.receive(rt) else {
             break;
         };
-        match take_in(rt, alloc, client, &bytes) {
-            Ok(told) => lost = lost.saturating_add(send_all(rt, alloc, &told.replies, post)),
-            Err(_) => refused = refused.saturating_add(1),
+        match answer(rt, alloc, client, &bytes, post) {
+            Some(count) => lost = lost.saturating_add(count),
+            None => refused = refused.saturating_add(1),
         }
     }
     Served {
         delivered: client.operations() - begun,
         refused,
         lost,
+    }
+}
+
+// Takes the message in that the bytes spell, and sends the replies: how many of these are lost, or None where it is not taken in.
+fn answer<K: Naming, G: Gate + Drop, W: Wait + Drop, P: Post, T: Wait>(
+    rt: &T,
+    alloc: Global,
+    client: &mut Client<K, Lock<K, G, W>>,
+    bytes: &[u8],
+    post: &mut P,
+) -> Option<u64>
+    ensures taken { IfSome result (IsAnswered P.receives P.sends P.rests K.name bytes.now post.old post.new client.old client.new) }
+    ensures passed { IsNone result → HasNotCalled (λ e. e.place) client.old client.new × (post.new ≡ post.old) }
+{
+    match take_in(rt, alloc, client, bytes) {
+        Ok(told) => Some(send_all(rt, alloc, &told.replies, post)),
+        Err(_) => None,
     }
 }
 
@@ -63,7 +86,8 @@ fn take_in<K: Naming, G: Gate + Drop, W: Wait + Drop, T: Wait>(
     client: &mut Client<K, Lock<K, G, W>>,
     bytes: &[u8],
 ) -> Result<Delivered, Refusal>
-    ensures took_in { TookIn (λ spelled. spelled ≡ bytes.now) client.old client.new }
+    ensures taken { IfOk result (λ told. IsTakenIn K.name bytes.now client.old client.new (Came (outcome_of told.outcome)) told.replies.items) }
+    ensures not_made { OnErr result (HasNotCalled (λ e. e.place) client.old client.new) }
 {
     let message = decode(alloc, bytes)?;
     let delivering = Delivering {
@@ -75,18 +99,24 @@ fn take_in<K: Naming, G: Gate + Drop, W: Wait + Drop, T: Wait>(
 }
 
 // Sends each reply, and counts those that are lost.
-fn send_all<P: Post, T: Wait>(rt: &T, alloc: Global, replies: &[Message], post: &P) -> u64 {
+fn send_all<P: Post, T: Wait>(rt: &T, alloc: Global, replies: &[Message], post: &mut P) -> u64
+    requires { length replies.now < 2 ^ 64 }
+    ensures { AreSent P.receives P.sends P.rests post.old post.new replies.now result }
+{
     let mut lost = 0u64;
     for reply in replies {
         if !is_sent(rt, alloc, reply, post) {
-            lost = lost.saturating_add(1);
+            lost += 1;
         }
     }
     lost
 }
 
 // Sends a reply to the replica that it is for, where there is memory for its bytes. Whether it could be sent.
-fn is_sent<P: Post, T: Wait>(rt: &T, alloc: Global, reply: &Message, post: &P) -> bool {
+fn is_sent<P: Post, T: Wait>(rt: &T, alloc: Global, reply: &Message, post: &mut P) -> bool
+    ensures sent { IsTrue result → IsSent P.sends post.old post.new (message_of reply.now) }
+    ensures lost { result ≡ false → IsLost P.rests post.old post.new }
+{
     match (reply.addressee(), encode(alloc, reply)) {
         (Some(name), Ok(bytes)) => post.send(rt, name, bytes),
         _ => false,

@@ -44,8 +44,11 @@ module _ {Hash : Type 0} (old : ReplicaValue Hash) (peer : ℕ) where
   pub full_refused : 8 ≤ length old.sessions → IsRefused old (Ask peer) SessionsFull
   full_refused full = inr (inl (subst (λ n. 8 ≤ n) (sym (length-map old.sessions open_of)) full, refl))
 
+  pub ask_spent : length old.sessions < 8 → 2 ^ 64 ≤ old.opened + 1 → Refuses (meaning old) (Ask peer) NumbersSpent
+  ask_spent few spent = inr (subst (λ n. n < 8) (sym (length-map old.sessions open_of)) few, spent, refl)
+
   pub spent_refused : length old.sessions < 8 → 2 ^ 64 ≤ old.opened + 1 → IsRefused old (Ask peer) NumbersSpent
-  spent_refused few spent = inr (inr (subst (λ n. n < 8) (sym (length-map old.sessions open_of)) few, spent, refl))
+  spent_refused few spent = inr (ask_spent few spent)
 
   -- where fewer than eight are open and a number is left
   pub ask_not_refused : length old.sessions < 8 → old.opened + 1 < 2 ^ 64 → RefusesNothing (meaning old) (Ask peer)

@@ -30,11 +30,12 @@ impl<H: PathHash, A: Allocator + Copy> Replica<H, A> {
     /// one. All else is ignored, and what does not fit is a mismatch: neither changes anything.
     ///
     /// Its only refusal is OutOfMemory; a refused call changes nothing. Takes time and memory in the message and in all that stands at the
-    /// keys that it touches, times the logarithm of the map, and in the contexts; for a key at which many values go and others stay also time
-    /// in their number times that of the fields there; for a hello also time in the nodes that were written since the last one; and where a
-    /// synchronisation ends, time and memory in what differs, as for a delta of it. Of a peer that had not seen all that was seen here it
-    /// also takes time in the own entries that stay: for an opening that has the digest of the own map in all of them, and for a page in
-    /// those under the children whose digests are the own ones.
+    /// keys that it touches, times the logarithm of the map and the logarithm of what stands there, and in the contexts; for each dot that
+    /// comes or goes, in the bytes of its key; for a hello also time in the nodes that were written since the last one; for an ask in
+    /// the bytes of the keys alone under its prefix, up to 32; and where a synchronisation ends, time and memory in what differs, the own
+    /// keys that the peer lacks among it, as for a delta of it. Of a peer that had not seen all that was seen here it also takes time in
+    /// the own entries that stay: for an opening that has the digest of the own map in all of them, and for a page in those under the
+    /// children whose digests are the own ones.
     pub fn deliver(&mut self, message: &Message<A>) -> Result<Delivered<A>, Refusal>
         ensures ok { IfOk result (λ told. Steps H.hash_of self.old self.new (Take (mail_of (message_of message.now))) (Came (outcome_of told.outcome)) (mails_of told.replies.items)) }
         ensures refused { IsOkUnless result Refusal.OutOfMemory }

@@ -20,13 +20,13 @@ use sync_protocol::{Answerer, Asker};
 ///
 /// A write and a delivery cost the keys that they touch, each with all its fields, times the logarithm of the map, and the context; of many
 /// writes each also joins what was written since the last flush, as often as that doubles. A key with many fields is dear: a write at one of
-/// them makes all of them anew, and a message by which many of its values go and others stay takes time in their number times that of the
-/// fields. A flush costs what it sends, times the square of its logarithm.
+/// them makes all of them anew. So are keys whose hashes of 32 bits are the same, as they are gone through one by one, and long keys with
+/// many values: their bytes are kept once for each dot that stands there. A flush costs what it sends, times the square of its logarithm.
 ///
 /// No call goes through the map but `keys`, `clear` and `copy`, `digest` and a first synchronisation where the nodes keep no digests yet,
 /// and the delivery of an opening or a page of a peer that had not seen all that was seen here: each dot of the own entries that stay is
-/// looked up then. It shows an observed-remove map of multi-value registers, after Almeida, Shoker and Baquero, "Delta State Replicated
-/// Data Types" (2018).
+/// looked up then, and each own key that the peer lacks is joined anew at the end. It shows an observed-remove map of multi-value
+/// registers, after Almeida, Shoker and Baquero, "Delta State Replicated Data Types" (2018).
 #[derive(Drop)]
 pub struct Replica<H: PathHash = Fnv1a, A: Allocator + Copy = Global> {
     pub(crate) alloc: A,

@@ -153,6 +153,18 @@ module _ {Hash : Type 0} (hash : Hash) (old : BTreeMap ℕ (ReplicaValue Hash)) 
       let m = found_message hash old messages w keeps number bytes found in
       delivery_unrefused w number name m.0 (sym (keeps.there name) ∙ sym here) m.1
 
+-- a call that is no ask has no peer
+pub no_peer_asked : {A : Type 0} (w : World) (c : calls.Call A) → ((peer : ℕ) → c ≡ call.Ask peer → ⊥) → true ≡ has_peer w (call_value c)
+no_peer_asked w (call.Put key value) no_ask = refl
+no_peer_asked w (call.PutField key field value) no_ask = refl
+no_peer_asked w (call.Remove key) no_ask = refl
+no_peer_asked w (call.RemoveField key field) no_ask = refl
+no_peer_asked w call.Clear no_ask = refl
+no_peer_asked w call.Flush no_ask = refl
+no_peer_asked w (call.Ask peer) no_ask = absurd (no_ask peer refl)
+no_peer_asked w (call.Retry number) no_ask = refl
+no_peer_asked w (call.Abandon number) no_ask = refl
+
 -- where the entries are as they were
 pub entries_stay : {Hash : Type 0} (hash : Hash) (old new : BTreeMap ℕ (ReplicaValue Hash)) (messages : List (List ℕ)) → new.entries ≡ old.entries → LeavesWorld hash old messages new messages
 entries_stay hash old new messages same w keeps =

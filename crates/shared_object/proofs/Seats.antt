@@ -1,5 +1,6 @@
 -- What a client knows, before a call and after it.
-use Rattle.std.proofs.Common.{◌≡◌, ℕ, ◌+◌, ◌-◌, ◌<◌, ◌≤◌, ◌^◌, List, [], ◌∷◌, ◌++◌, length, refl, ap, arith, length-append}
+use Rattle.std.proofs.Common.{◌≡◌, ◌⊎◌, inl, inr, ℕ, ◌+◌, ◌-◌, ◌<◌, ◌≤◌, ◌^◌, List, [], ◌∷◌, ◌++◌, length, take, refl, sym, ap, arith, length-append}
+use Rattle.std.proofs.lemmas.List.{take_all}
 use mathlib.Core.List.{IsPrefix}
 use Rattle.shared_object.specs.History.{calls_by}
 use Rattle.shared_object.specs.Calling.{HasNotCalled, IsAccepted}
@@ -31,3 +32,8 @@ module _ {E : Type 0} (place : E → ℕ) where
   -- so there is a number for one call more
   pub counted_room : (p n : ℕ) (history : List E) → length (calls_by place p history) ≡ n → length history < 2 ^ 64 - 1 → n + 1 < 2 ^ 64
   counted_room p n history own room = let most = calls_length place p history in omega (arith, most, own, room)
+
+  -- where there are as many calls of its place as it made, these are all that it made
+  pub own_or : {P : Type 0} (p n : ℕ) (front : List E) → P ⊎ (length (calls_by place p front) ≡ n) → P ⊎ (calls_by place p front ≡ take n (calls_by place p front))
+  own_or p n front (inl is) = inl is
+  own_or p n front (inr own) = inr (sym (take_all n (calls_by place p front) (omega (arith, own))))

@@ -1,7 +1,7 @@
 -- The list of the snapshots that are kept: who is found in it, and how long it is.
 use Rattle.std.proofs.Common.{◌≡◌, ℕ, ◌+◌, ◌<◌, ◌≤◌, nat_lt, List, [], ◌∷◌, ◌++◌, length, Bool, true, false, cond, Some, None, arith, refl, sym, ◌∙◌, ap, subst, length-append}
 use Rattle.std.specs.Prelude.{Option, ◌&&◌}
-use Rattle.std.specs.List.{All}
+use Rattle.std.specs.List.{All, remove}
 use Rattle.std.specs.Map.{lookup}
 use Rattle.std.proofs.lemmas.Bool.{ltb-true, eq-eqb}
 use Rattle.std.proofs.lemmas.List.Elements.{All-nil, All-cons, All-tail, All-append}
@@ -56,6 +56,11 @@ module _ {Hash : Type 0} where
       step : (o : Option (SnapshotValue Hash)) → snapshot_of kept s ≡ o → snapshot_of (kept_with s new kept o) s ≡ Some (told_with new o)
       step None none = new_found kept s new none
       step (Some k) found = found
+
+  -- the oldest is taken out
+  pub first_out : (kept : KeptValue Hash) → remove kept 0 ≡ all_but_first kept
+  first_out [] = refl
+  first_out (k ∷ ks) = refl
 
   -- ---- how many there are
 

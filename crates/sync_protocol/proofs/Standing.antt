@@ -1,5 +1,5 @@
 -- The page of a map at a prefix, with the values that are missing, is one that can be sent.
-use Rattle.std.proofs.Common.{◌≡◌, ◌⊎◌, inl, inr, ℕ, ◌+◌, ◌^◌, ◌<◌, ◌≤◌, List, [], ◌∷◌, ◌++◌, length, get_or, Bool, true, Some, None, arith, refl, sym, ◌∙◌, ap, subst}
+use Rattle.std.proofs.Common.{◌≡◌, ◌⊎◌, inl, inr, ℕ, ◌^◌, ◌<◌, ◌≤◌, List, [], ◌∷◌, ◌++◌, length, get_or, Bool, true, Some, None, arith, refl, sym, ◌∙◌, ap, subst}
 use Rattle.std.specs.Prelude.{Option, ◌&&◌}
 use Rattle.std.specs.Option.{option_map}
 use Rattle.std.specs.List.{AllByRecursion}
@@ -8,6 +8,7 @@ use Rattle.std.specs.FinMap as finite
 use Rattle.std.proofs.lemmas.Bool.{cases_lt, eq-eqb}
 use Rattle.std.proofs.lemmas.List.{length-map}
 use Rattle.std.proofs.lemmas.Option.{same_Some}
+use Rattle.causal_context.specs.Context.{has}
 use Rattle.dots.specs.Bytes.{bytes_cmp}
 use Rattle.dots.specs.Dot.{DotValue}
 use Rattle.causal_join.specs.OrMap.{FieldsValue}
@@ -15,8 +16,10 @@ use Rattle.hash_path.specs.Map.{path, walk_under}
 use Rattle.hash_path.specs.Path.{last_index}
 use Rattle.hash_path.specs.Summary.{present}
 use Rattle.hash_path.specs.Word.{begins}
+use Rattle.wire_form.specs.Message.{MessageValue, Page}
 use Rattle.wire_form.specs.Page.{EntryValue, PageValue, OneKey, Keys, Branch}
 use Rattle.wire_form.specs.Sent.{IsFilled, CanStand, CanBeSent}
+use Rattle.wire_form.specs.Session.{SessionValue}
 use Rattle.prefix_digest.specs.Page.{named_fields, named_entry, named_entries, page_at, digest_at, digest_of}
 use Rattle.prefix_digest.specs.Values.{unknown_at}
 use Rattle.prefix_digest.proofs.KeptKeys.{keys_kept}
@@ -27,6 +30,8 @@ use Rattle.sync_model.proofs.Alike.{none_there}
 use Rattle.sync_model.proofs.Members.{In, In-mapped, part_found}
 use Rattle.sync_model.proofs.Paged.{in_present, present_in, Paged, Past, Nothing, One, Several, Parted, paged}
 use Rattle.sync_model.proofs.Prefixes.{begins_further, length-further, next_below}
+use Rattle.sync_protocol.specs.Answering.{page_for, page_of}
+use Rattle.sync_protocol.specs.Snapshot.{SnapshotValue}
 use Rattle.sync_protocol.proofs.Sorted.{keys_sorted, present_sorted}
 
 module _ {X : Type 0} where
@@ -127,3 +132,12 @@ module _ (f : List ℕ → ℕ) (bounded : (key : List ℕ) → f key < 2 ^ 32) 
         → CanBeSent (record { prefix = p; values = values; page = page })
     sendable n values page same are is =
         subst (λ vs. CanBeSent (record { prefix = p; values = vs; page = page })) (sym (are ∙ ap (λ n. unknown_at known f n p) same)) (can_be_sent page (sym (is ∙ ap (λ n. page_at f n p) same)))
+
+-- the message of the page of a snapshot's map, with the values that are missing, is the one that is answered
+module _ {Hash : Type 0} (hash_of : Hash → List ℕ → ℕ) (k : SnapshotValue Hash) (s : SessionValue) (prefix : List ℕ) where
+  pub page_told : (hash : Hash) (n : Held) (values : List (List ℕ)) (page : PageValue) (message : MessageValue) → hash ≡ k.hash → n ≡ k.map
+      → message ≡ Page s (record { prefix = prefix; values = values; page = page }) → values ≡ unknown_at (has k.seen) (hash_of hash) n prefix → Some page ≡ page_at (hash_of hash) n prefix
+      → Some message ≡ page_of hash_of s k prefix
+  page_told hash n values page message same those said are is =
+      ap Some said ∙ ap (λ vs. Some (Page s (record { prefix = prefix; values = vs; page = page }))) (are ∙ (λ i. unknown_at (has k.seen) (hash_of (same i)) (those i) prefix))
+      ∙ ap (option_map (page_for hash_of s k prefix)) (is ∙ (λ i. page_at (hash_of (same i)) (those i) prefix))

@@ -16,8 +16,8 @@ use Rattle.page_taking.proofs.Asks.{complete_is}
 use Rattle.page_taking.proofs.Going.{goes_on_itself}
 use Rattle.page_taking.proofs.Loops.{stands_at, is_past}
 use Rattle.sync_protocol.specs.Asking as asking
-use Rattle.sync_protocol.specs.Asking.{AskerValue, StageValue, AskerState, Stage, is_asked, is_fetching, Waits, Fetches, Has, stage_with, asker_state}
-use Rattle.sync_protocol.specs.Turning.{Sent, Done, StateAndStep, again, goes_on, comes_to, page_at_stage}
+use Rattle.sync_protocol.specs.Asking.{AskerValue, StageValue, AskerState, Stage, is_asked, is_fetching, has_completed, is_over, Waits, Fetches, Has, Ended, stage_with, asker_state}
+use Rattle.sync_protocol.specs.Turning.{Sent, Done, Ignored, IsGone, StateAndStep, at_stage, again, goes_on, comes_to, gone_at, page_at_stage}
 use Rattle.wire_form.specs.Message.{Ask, Hello}
 use Rattle.wire_form.specs.Session.{SessionValue, same_session}
 use Rattle.sync_model.specs.Fetch as model
@@ -145,3 +145,29 @@ module _ {Hash : Type 0} where
 -- a session of one name is tested first
 pub by_session : (s t : SessionValue) (b : Bool) (x y : StateAndStep) → b ≡ same_session s t → b ≡ true → x ≡ cond (same_session s t) x y
 by_session s t b x y is on = ap (λ c. cond c x y) (sym on ∙ is)
+
+-- ---- a session that its answerer does not keep
+
+module _ {Hash : Type 0} where
+  gone_ends : (a : AskerValue Hash) (stage : StageValue Hash) (over : Bool) → over ≡ is_over stage → over ≡ false
+      → (at_stage a.session Ended, IsGone) ≡ gone_at a.session (stage_with a.own a.seen stage)
+  gone_ends a asking.Asked over is off = refl
+  gone_ends a (asking.Fetching c f) over is off = refl
+  gone_ends a (asking.Complete c b) over is off = absurd cc
+  gone_ends a asking.Over over is off = absurd cc
+
+  pub gone_turn : (a next : AskerValue Hash) (t : SessionValue) (b over : Bool) → b ≡ same_session a.session t → b ≡ true → over ≡ is_over a.stage → over ≡ false
+      → next ≡ record a { stage = asking.Over }
+      → (asker_state next, IsGone) ≡ cond (same_session a.session t) (gone_at a.session (stage_with a.own a.seen a.stage)) (asker_state a, Ignored)
+  gone_turn a next t b over same on is off made =
+      ap (λ n. (asker_state n, IsGone)) made ∙ gone_ends a a.stage over is off
+      ∙ by_session a.session t b (gone_at a.session (stage_with a.own a.seen a.stage)) (asker_state a, Ignored) same on
+
+  -- ---- an asker of the parts that another had is that one
+
+  pub comes_back : (a : AskerValue Hash) (s : SessionValue) (hash : Hash) (own : Held) (seen : ContextValue) (was stage : StageValue Hash)
+      → a ≡ record { session = s; hash = hash; own = own; seen = seen; stage = was } → was ≡ stage → has_completed stage ≡ false
+      → (a ≡ record { session = s; hash = hash; own = own; seen = seen; stage = stage }) × (has_completed a.stage ≡ false)
+  comes_back a s hash own seen was stage made is off =
+      let same : a ≡ record { session = s; hash = hash; own = own; seen = seen; stage = stage } = made ∙ (λ k. record { session = s; hash = hash; own = own; seen = seen; stage = is k }) in
+      (same, ap (λ (b : AskerValue Hash). has_completed b.stage) same ∙ off)

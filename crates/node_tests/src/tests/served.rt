@@ -102,8 +102,8 @@ fn another(rt: &impl Abort, sender: &Sender<Letter>) -> Sender<Letter> {
 pub(crate) fn exchange<
     C: Caller + Send,
     D: Caller + Send,
-    P: Post + Sync,
-    Q: Post + Sync,
+    P: Post + Copy + Sync,
+    Q: Post + Copy + Sync,
     O: Outside + Sync,
     R: Threads + Wait + Abort + Sync,
 >(rt: &R, alloc: Global, clients: &mut [C], peers: &mut [D], post: &P, peer_post: &Q, outside: &O) {
@@ -121,8 +121,8 @@ pub(crate) fn exchange<
 fn are_served<
     C: Caller + Send,
     D: Caller + Send,
-    P: Post + Sync,
-    Q: Post + Sync,
+    P: Post + Copy + Sync,
+    Q: Post + Copy + Sync,
     R: Threads + Wait + Abort + Sync,
 >(rt: &R, alloc: Global, served: &mut C, peer_served: &mut D, post: &P, peer_post: &Q) -> bool {
     let (told, peer_told) = thread::join(
@@ -217,7 +217,7 @@ fn serving_ends_once_the_channel_is_closed(rt: HostRuntime) {
 }
 
 // Serves a node until its post ends, which counts this.
-pub(crate) fn serve_alone<C: Caller, P: Post>(
+pub(crate) fn serve_alone<C: Caller, P: Post + Copy>(
     rt: &(impl Wait + Abort),
     alloc: Global,
     clients: &mut [C],

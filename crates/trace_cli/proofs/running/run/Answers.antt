@@ -1,4 +1,4 @@
-use Rattle.std.proofs.Common.{Err, [], ap, arith, length, ◌<◌, length-take, refl}
+use Rattle.std.proofs.Common.{Err, [], ap, arith, inr, length, ◌<◌, length-take, refl}
 use Rattle.std.proofs.lemmas.Result.{err_from_is_err_and, on_ok_weaker, on_err_weaker, IfErr-weaker}
 use Rattle.trace_cli.proofs.RunLemmas.{Ran-start, Ran-kept, Ran-answered, Ran-more, Ran-stops, Ran-begins, Ran-finishes, Ran-ends, Pieces-more, at_end, writer_failed, never_gone_on, all_flushed, input_is_other}
 use Rattle.watched_io.proofs.StreamLemmas.{Keeps-itself, Consumes-nothing, Consumes-kept}
@@ -123,3 +123,7 @@ returns-in_default-clause-output g c is = absurd (input_is_other {T = Unit {0}} 
 
 pub returns-in_default-clause-reader_failed : goal.returns-in_default-clause-reader_failed
 returns-in_default-clause-reader_failed g c _ = refl
+
+-- as many reads were made as there may be
+pub returns-clause-input : goal.returns-clause-input
+returns-clause-input g c _ = inr (omega (arith, c.calls.invariant.calls))

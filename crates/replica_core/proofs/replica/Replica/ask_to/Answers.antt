@@ -1,8 +1,16 @@
-use Rattle.std.proofs.Common.{ap, length, arith}
+use Rattle.std.proofs.Common.{refl, ap, length, arith}
 use Rattle.wire_form.specs.Session.{SessionValue}
 use Rattle.replica_core.specs.Meaning.{ReplicaValue}
-use Rattle.replica_core.proofs.Asks.{asked_stepped, ask_without_memory}
+use Rattle.replica_core.proofs.Asks.{spent_refused, asked_stepped, ask_without_memory}
 use Rattle.replica_core.proofs.replica.Replica.ask_to.Goals as goal
+
+pub returns-in_default-clause-refused : goal.returns-in_default-clause-refused
+returns-in_default-clause-refused g c =
+    let few = c.if-len-ge-LIMIT.false in
+    let count = c.len.ensures in
+    let items = c.self.inside.sessions.ok.0 in
+    let same = ap (λ (r : ReplicaValue _). length r.sessions) c.self.view_is in
+    spent_refused c.args.self.now c.args.peer (omega (arith, few, count, items, same)) (c.in_default.ensures.spent refl)
 
 pub returns-in-Ok-clause-ok : goal.returns-in-Ok-clause-ok
 returns-in-Ok-clause-ok g c =

@@ -1,4 +1,5 @@
 use Rattle.std.proofs.Common.{refl, sym, ap, ◌∙◌, subst}
+use Rattle.std.specs.FinMap as finite
 use Rattle.causal_context.specs.Context.{has}
 use Rattle.delta_ops.specs.LiveMap.{live_state}
 use Rattle.op_model.specs.Meaning.{greater}
@@ -18,6 +19,10 @@ pub prepare_opened-requires-clause-below : goal.prepare_opened-requires-clause-b
 prepare_opened-requires-clause-below g c =
     below_pair c.args.opened.now.base.hash c.self.inside.live.0 c.args.opened.now.base.map c.args.opened.now.seen
     (subst (λ (r : ReplicaValue _). IsBelow (closing.held_state c.args.opened.now.base.map (has c.args.opened.now.seen)) (meaning r).live) (sym c.self.view_is) c.requires.below)
+
+pub prepare_opened-requires-clause-rest : goal.prepare_opened-requires-clause-rest
+prepare_opened-requires-clause-rest g c key none =
+    ap (λ m. finite.get m key) c.entries.ensures.map ∙ c.requires.rest.rest key (ap (λ touched. finite.get touched key) (sym c.touched.ensures) ∙ none)
 
 pub prepare_opened-requires-clause-inside : goal.prepare_opened-requires-clause-inside
 prepare_opened-requires-clause-inside g c =

@@ -16,3 +16,7 @@ pub returns-in-Ok-clause-carries : goal.returns-in-Ok-clause-carries
 returns-in-Ok-clause-carries g c = λ w runs unclashed.
     let m = c.in-Some.ensures.some w runs in
     mail_carries _ w.messages c.args.number _ (m.0, m.1, c.in-Ok.ensures m.0.mail m.2) (c.in-Some.ensures.carries w runs unclashed)
+
+-- there is no message of this number
+pub returns-in_default-clause-none : goal.returns-in_default-clause-none
+returns-in_default-clause-none g c none = c.in_default.ensures.none none

@@ -2,7 +2,7 @@ use Rattle.std.proofs.Common.{◌≡◌, ◌≤◌, ◌+◌, List, length, refl,
 use mathlib.Core.List.{IsPrefix}
 use Rattle.shared_object.specs.History.{calls_by, seen_in}
 use Rattle.shared_object.specs.Calling.{IsAccepted}
-use Rattle.shared_object.proofs.Seats.{accepted, accepted_within, counted_room}
+use Rattle.shared_object.proofs.Seats.{accepted, accepted_within, counted_room, own_or}
 use Rattle.shared_object.proofs.client.Client+R+E+J+Shared+D+R+E+J+G+W+A+A.call.Goals as goal
 
 pub overflow_add-self : goal.overflow_add-self
@@ -35,3 +35,12 @@ returns-in-Ok-clause-ok g c =
           (record { place = c.self.inside.place; operations = c.self.inside.operations + 1; front = f }) ok.0 event) (sym ok.6) made,
       ok.4,
     )
+
+-- it is told what the turn was refused with
+pub returns-in-Err-clause-refused : goal.returns-in-Err-clause-refused
+returns-in-Err-clause-refused g c = rw c.in-Err.is at c.take_turn-view.ensures.refused
+
+pub returns-in-Err-clause-no_others : goal.returns-in-Err-clause-no_others
+returns-in-Err-clause-no_others g c =
+    let whole = rw c.in-Err.is at c.take_turn-view.ensures.whole in
+    own_or g.E.Placed.place c.self.inside.place c.self.inside.operations c.take_turn-view.result.0 whole

@@ -1,4 +1,4 @@
-use Rattle.std.proofs.Common.{◌≡◌, List, sym, ap, ◌∙◌, subst}
+use Rattle.std.proofs.Common.{◌≡◌, List, refl, sym, ap, ◌∙◌, subst}
 use mathlib.Core.List.{IsPrefix}
 use Rattle.root_cell.proofs.Prefixes.{prefix_self}
 use Rattle.shared_object.specs.History.{seen_in}
@@ -11,3 +11,6 @@ returns-in-Err-clause-own g c =
     let same : front ≡ c.in-Err.view = ap seen_in (sym c.take.ensures.value ∙ c.in-Some.is) ∙ sym c.in-Err.ensures.back in
     rw (← c.self.view_is) (seen_more g.E.Placed.place c.self.inside.place c.self.inside.operations front c.in-Err.view c.self.invariant.2
     (subst (λ (f : List _). IsPrefix front f) same (prefix_self front)))
+
+pub returns-in-Err-clause-err : goal.returns-in-Err-clause-err
+returns-in-Err-clause-err g c = refl

@@ -17,3 +17,7 @@ returns-clause-root g c history place after =
     let it = c.args.self.now in
     let e : NodeEvent g.row.A.Denot = record { place = place; deed = Abandon it.number } in
     stands_on g.K.Naming.name history (meaning c.args.replica.now) (meaning c.abandon-reply.new.self) after e (Closed c.abandon-reply.result) [] c.abandon-reply.ensures.step c.show-root.result.value c.show-root.ensures
+
+-- what the replica answered
+pub returns-clause-answers : goal.returns-clause-answers
+returns-clause-answers g c history after = (meaning c.args.replica.now, meaning c.abandon-reply.new.self, after, c.abandon-reply.ensures.step)

@@ -35,3 +35,7 @@ pub returns-in-Err-ask-clause-refused : goal.returns-in-Err-ask-clause-refused
 returns-in-Err-ask-clause-refused g c history after =
     let it = c.args.self.now in
     refused_after g.K.Naming.name history (meaning c.args.replica.now) (step.Ask it.peer) after c.in-Err-ask.refusal c.in-Err-ask.ensures.refused
+
+-- what the replica answered
+pub returns-in-Ok-ask-clause-answers : goal.returns-in-Ok-ask-clause-answers
+returns-in-Ok-ask-clause-answers g c history after = (meaning c.args.replica.now, meaning c.ask.new.self, after, c.in-Ok-ask.ensures.ok.step)

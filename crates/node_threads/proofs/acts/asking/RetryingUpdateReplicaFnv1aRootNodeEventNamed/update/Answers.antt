@@ -18,3 +18,7 @@ returns-clause-root g c history place after =
     let it = c.args.self.now in
     let e : NodeEvent g.row.A.Denot = record { place = place; deed = Retry it.number } in
     stands_on g.K.Naming.name history (meaning c.args.replica.now) (meaning c.args.replica.now) after e (Came (outcome_of c.in_ok-reply.reply.outcome)) (mails_of c.in_ok-reply.reply.replies.items) c.in_ok-reply.ensures.ok.step c.show-root.result.value c.show-root.ensures
+
+-- what the replica answered
+pub returns-clause-answers : goal.returns-clause-answers
+returns-clause-answers g c history after = (meaning c.args.replica.now, meaning c.args.replica.now, after, c.in_ok-reply.ensures.ok.step)

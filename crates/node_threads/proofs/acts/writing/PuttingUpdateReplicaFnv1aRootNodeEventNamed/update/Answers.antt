@@ -34,3 +34,7 @@ pub returns-in-Err-put_field-clause-refused : goal.returns-in-Err-put_field-clau
 returns-in-Err-put_field-clause-refused g c history after =
     let it = c.args.self.now in
     refused_after g.K.Naming.name history (meaning c.args.replica.now) (step.Put (place_of it.key.now it.field.now) it.value.now) after c.in-Err-put_field.refusal c.in-Err-put_field.ensures.refused
+
+-- what the replica answered
+pub returns-in-Ok-put_field-clause-answers : goal.returns-in-Ok-put_field-clause-answers
+returns-in-Ok-put_field-clause-answers g c history after = (meaning c.args.replica.now, meaning c.put_field.new.self, after, c.in-Ok-put_field.ensures.ok.step)
