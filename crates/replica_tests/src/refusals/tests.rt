@@ -1,5 +1,6 @@
 mod bytes;
 mod calls;
 mod deliveries;
+mod late;
 mod tries;
 mod worlds;
