@@ -1,6 +1,5 @@
 -- A client that only takes messages in.
-use Rattle.std.proofs.Common.{◌≡◌, ℕ, zero, suc, ◌≤◌, List, [], ◌∷◌, ◌++◌, length, take, refl, sym, ap, subst, ◌∙◌, arith, length-append}
-use Rattle.std.specs.Prelude.{Result, Ok, Err, OnErr}
+use Rattle.std.proofs.Common.{◌≡◌, ℕ, zero, suc, ◌≤◌, List, [], ◌∷◌, ◌++◌, length, take, refl, sym, ap, ◌∙◌, arith, length-append}
 use Rattle.std.proofs.lemmas.List.{append-nil, append_assoc, take_all}
 use Rattle.std.proofs.lemmas.List.Elements.{All-nil, All-push, All-append}
 use Rattle.root_cell.proofs.Prefixes.{prefix_trans}
@@ -14,10 +13,6 @@ pub short : {X : Type 0} (n : ℕ) (xs : List X) → length (take n xs) ≤ n
 short zero xs = omega arith
 short (suc n) [] = omega arith
 short (suc n) (x ∷ xs) = omega (arith, short n xs)
-
-pub on_err : {T E : Type 0} {P : Type 0} (r : Result T E) → P → OnErr r P
-on_err (Ok x) p = tt
-on_err (Err e) p = p
 
 module _ {A : Type 0} where
   abbrev place : NodeEvent A → ℕ

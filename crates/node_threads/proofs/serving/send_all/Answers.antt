@@ -1,6 +1,5 @@
-use Rattle.std.proofs.Common.{◌≡◌, ◌+◌, List, [], ◌∷◌, ◌++◌, take, ap, sym, subst, ◌∙◌, arith}
+use Rattle.std.proofs.Common.{◌≡◌, ◌+◌, [], ◌∷◌, ◌++◌, take, ap, sym, subst, ◌∙◌, arith}
 use Rattle.std.proofs.lemmas.List.{take_more}
-use Rattle.wire_form.specs.declared.message.Message.{Message}
 use Rattle.node_threads.specs.Serving.{AreSent}
 use Rattle.node_threads.proofs.Inboxes.{short}
 use Rattle.node_threads.proofs.Posts.{sent_more, lost_more, few_lost}

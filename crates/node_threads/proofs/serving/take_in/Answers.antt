@@ -1,4 +1,5 @@
-use Rattle.node_threads.proofs.Inboxes.{not_called, on_err}
+use Rattle.replica_core.proofs.Meant.{on_err}
+use Rattle.node_threads.proofs.Inboxes.{not_called}
 use Rattle.node_threads.proofs.serving.take_in.Goals as goal
 
 pub returns-clause-taken : goal.returns-clause-taken
