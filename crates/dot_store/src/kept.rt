@@ -9,7 +9,7 @@ use std::alloc::Allocator;
 /// What can be a key of a `DotMap` or a value of a `DotFun`: it can be copied, a copy is equal, and two that
 /// are equal by their order are the same.
 pub trait Kept<A: Allocator + Copy>: Ord + Drop {
-    /// The same, on this allocator. Takes time and memory in its length.
+    /// The same. Takes constant time; what a text has past 22 bytes is shared with it.
     /// Its only refusal is OutOfMemory.
     fn copy(&self, alloc: A) -> Result<Self, Refusal>
         ensures ok { IfOk result (λ copy. copy ≡ self.now) }

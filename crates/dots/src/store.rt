@@ -4,14 +4,15 @@ ghost use Rattle.dots.specs.declared.refusal.Refusal.TheVariants.{OutOfMemory};
 
 use crate::refusal::Refusal;
 use std::alloc::Allocator;
+use std::sync::Arc;
 
-// The bytes of a text: up to 22 stand in place, and more in memory of their own. It has 24 bytes in all, which is why
-// the vector stands in a box.
+// The bytes of a text: up to 22 stand in place, and more in memory that all copies of the text share, as no text ever
+// changes. It has 24 bytes in all, which is why the vector stands behind the count of its owners.
 #[derive(Drop)]
 pub(crate) enum Store<A: Allocator> {
     // How many bytes there are, and those bytes with zeros after them.
     Short(u8, [u8; 22]),
-    Long(Box<Vec<u8, A>, A>),
+    Long(Arc<Vec<u8, A>, A>),
 }
 
 impl<A: Allocator + Copy> Store<A> {
@@ -23,7 +24,7 @@ impl<A: Allocator + Copy> Store<A> {
         let count = bytes.len();
         if count > 22 {
             let bytes = Vec::from_slice(alloc, bytes)?;
-            return Ok(Store::Long(Box::new(alloc, bytes)?));
+            return Ok(Store::Long(Arc::new(alloc, bytes)?));
         }
         let mut short = [0; 22];
         short[..count].copy_from_slice(bytes);
@@ -39,6 +40,19 @@ impl<A: Allocator> Store<A> {
         match self {
             Store::Short(count, bytes) => &bytes[..*count as usize],
             Store::Long(bytes) => bytes.as_slice(),
+        }
+    }
+
+    // The same bytes once more. Takes constant time and no memory: an OutOfMemory is a count of owners that is full.
+    pub fn try_clone(&self) -> Result<Store<A>, Refusal>
+        requires { IsInPlace self.now }
+        ensures bytes { IfOk result (λ store. bytes_in store ≡ bytes_in self.now) }
+        ensures in_place { IfOk result IsInPlace }
+        ensures err { IsOkUnless result Refusal.OutOfMemory }
+    {
+        match self {
+            Store::Short(count, bytes) => Ok(Store::Short(*count, *bytes)),
+            Store::Long(bytes) => Ok(Store::Long(Arc::try_clone(bytes)?)),
         }
     }
 }

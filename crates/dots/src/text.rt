@@ -62,13 +62,17 @@ impl<K, A: Allocator + Copy> Text<K, A> {
         })
     }
 
-    /// The same text, on this allocator. Takes time in its length, and memory past 22 bytes.
-    /// Its only refusal is OutOfMemory.
-    pub fn copy(&self, alloc: A) -> Result<Text<K, A>, Refusal>
+    /// The same text, which shares the bytes past 22 with this one: their memory goes with the last of the two. Takes
+    /// constant time and no memory, so the allocator, which each `copy` takes, is asked for none. Its only refusal is
+    /// OutOfMemory, where a text is copied more often than its owners can be counted.
+    pub fn copy(&self, _alloc: A) -> Result<Text<K, A>, Refusal>
         ensures ok { IfOk result (λ copy. copy ≡ self.now) }
         ensures err { IsOkUnless result Refusal.OutOfMemory }
     {
-        Text::new(alloc, self.bytes())
+        Ok(Text {
+            store: self.store.try_clone()?,
+            kind: PhantomData,
+        })
     }
 }
 

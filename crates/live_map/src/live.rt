@@ -105,7 +105,7 @@ impl<S: DotStore<A>, M: Summary<S>, H: PathHash, A: Allocator + Copy> Live<S, M,
     }
 
     /// The same pair. The store's nodes are shared; the index is copied, so it takes time and memory in the dots that it names,
-    /// with the bytes of their keys, and in the context.
+    /// whose keys share their bytes, and in the context.
     /// Its only refusal is OutOfMemory.
     pub fn copy(&self, alloc: A) -> Result<Live<S, M, H, A>, Refusal>
         ensures ok { IfOk result (λ copy. copy.0 ≡ self.now.0) }

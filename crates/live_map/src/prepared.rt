@@ -44,7 +44,7 @@ impl<S: DotStore<A>, M: Summary<S>, H: PathHash, A: Allocator + Copy> Model
 
 impl<S: DotStore<A>, M: Summary<S>, H: PathHash, A: Allocator + Copy> Prepared<S, M, H, A> {
     // The pair of the store and the context, where these keys were touched. Takes what `dots` takes of each store at a key
-    // where dots were found, and for each of these dots a look-up and, where it is gone, a copy of its key.
+    // where dots were found, and for each of these dots a look-up and, where it is gone, a place in a list.
     pub(crate) fn new(
         alloc: A,
         store: TrieMap<S, M, H, A>,

@@ -31,8 +31,8 @@ impl<H: PathHash, A: Allocator + Copy> Replica<H, A> {
     ///
     /// Its only refusal is OutOfMemory; a refused call changes nothing. Takes time and memory in the message and in all that stands at the
     /// keys that it touches, times the logarithm of the map and the logarithm of what stands there, and in the contexts; for each dot that
-    /// comes or goes, in the bytes of its key; for a hello also time in the nodes that were written since the last one; for an ask in
-    /// the bytes of the keys alone under its prefix, up to 32; and where a synchronisation ends, time and memory in what differs, the own
+    /// comes or goes, time in the bytes of its key; for a hello also time in the nodes that were written since the last one; for an ask in
+    /// the keys that stand alone at a child of its prefix, up to 32; and where a synchronisation ends, time and memory in what differs, the own
     /// keys that the peer lacks among it, as for a delta of it. Of a peer that had not seen all that was seen here it also takes time in
     /// the own entries that stay: for an opening that has the digest of the own map in all of them, and for a page in those under the
     /// children whose digests are the own ones.

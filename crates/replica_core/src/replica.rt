@@ -71,7 +71,7 @@ impl<H: PathHash, A: Allocator + Copy> Replica<H, A> {
 
     /// A replica in the same state: it holds, is to send, synchronises and keeps the same. Both make dots of one name, so at most one
     /// of the two may still write, or send what it writes. The map's nodes, the group and the snapshots are shared. Takes time and
-    /// memory in the dots that the index names, with the bytes of their keys, as it is copied, and in the contexts.
+    /// memory in the dots that the index names, as it is copied, though not in the bytes of their keys, and in the contexts.
     /// Its only refusal is OutOfMemory.
     pub fn copy(&self) -> Result<Replica<H, A>, Refusal>
         ensures ok { IfOk result (λ copy. meaning copy ≡ meaning self.now) }
