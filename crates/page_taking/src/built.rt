@@ -1,4 +1,4 @@
-ghost use Rattle.std.specs.Prelude.{◌≡◌, IfOk, IsOkUnless};
+ghost use Rattle.std.specs.Prelude.{◌≡◌, IfOk, OnOk, IsOkUnless};
 ghost use Rattle.std.specs.FinMap as finite;
 ghost use Rattle.sync_model.specs.Fetch.{put_entries, stays};
 ghost use Rattle.page_taking.specs.Building.{GoesOn};
@@ -85,7 +85,7 @@ impl<H: PathHash, A: Allocator + Copy> Built<H, A> {
     /// What is built once a page was taken: what the page says stands no more under its prefix is gone, and these entries, which
     /// the page gives, are there. Takes time and memory in the page and in the keys that go, each times the logarithm of the map.
     /// Its only refusal is OutOfMemory.
-    pub fn take(
+    pub(crate) fn take(
         &self,
         alloc: A,
         sent: &SentPage<A>,
@@ -97,8 +97,25 @@ impl<H: PathHash, A: Allocator + Copy> Built<H, A> {
         ensures err { IsOkUnless result Refusal.OutOfMemory }
     {
         let mut draft = Draft::of(&self.entries, &self.touched)?;
-        clear_for(alloc, &mut draft, &self.entries, sent)?;
-        put_all(alloc, &mut draft, entries)?;
+        change(alloc, &mut draft, &self.entries, sent, entries)?;
         draft.finish()
     }
+}
+
+// Takes out of the draft what the page says stands no more, and puts these entries.
+fn change<H: PathHash, A: Allocator + Copy>(
+    alloc: A,
+    draft: &mut Draft<H, A>,
+    before: &FrozenMap<H, A>,
+    sent: &SentPage<A>,
+    entries: Vec<(Key<A>, Fields<A>), A>,
+) -> Result<(), Refusal>
+    requires { draft.old.entries ≡ before.now.map }
+    ensures entries { OnOk result (draft.new.entries
+        ≡ put_entries entries.items (finite.retain_keys draft.old.entries (stays (H.hash_of before.now.hash) sent.now.prefix sent.now.page))) }
+    ensures further { OnOk result (GoesOn draft.old draft.new) }
+    ensures err { IsOkUnless result Refusal.OutOfMemory }
+{
+    clear_for(alloc, draft, before, sent)?;
+    put_all(alloc, draft, entries)
 }

@@ -44,13 +44,21 @@ impl<H: PathHash, A: Allocator + Copy> Draft<H, A> {
         })
     }
 
+    // Marks a key as touched.
+    fn touch(&mut self, alloc: A, key: &Key<A>) -> Result<(), Refusal>
+        ensures ok { OnOk result (self.new ≡ record self.old { touched = finite.insert self.old.touched key.now tt }) }
+        ensures err { IsOkUnless result Refusal.OutOfMemory }
+    {
+        self.touched.insert(key.copy(alloc)?, ())
+    }
+
     // Takes a key out.
     pub(crate) fn remove(&mut self, alloc: A, key: &Key<A>) -> Result<(), Refusal>
         ensures entries { OnOk result (self.new.entries ≡ finite.remove self.old.entries key.now) }
         ensures further { OnOk result (GoesOn self.old self.new) }
         ensures err { IsOkUnless result Refusal.OutOfMemory }
     {
-        self.touched.insert(key.copy(alloc)?, ())?;
+        self.touch(alloc, key)?;
         self.entries.remove(key)?;
         Ok(())
     }
@@ -64,7 +72,7 @@ impl<H: PathHash, A: Allocator + Copy> Draft<H, A> {
         if fields.entries().is_empty() {
             return Ok(());
         }
-        self.touched.insert(key.copy(alloc)?, ())?;
+        self.touch(alloc, &key)?;
         self.entries.insert(key, fields)?;
         Ok(())
     }

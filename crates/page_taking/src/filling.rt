@@ -255,7 +255,7 @@ fn fill_some<H: PathHash, A: Allocator + Copy>(
 /// not hold there is left out. None where a value is not of its name, or they are not as many. Takes time and memory in the page
 /// and in the values that it names, each of which is hashed, and a look-up for each key.
 /// Its only refusal is OutOfMemory.
-pub fn fill_page<H: PathHash, A: Allocator + Copy>(
+pub(crate) fn fill_page<H: PathHash, A: Allocator + Copy>(
     alloc: A,
     own: &FrozenMap<H, A>,
     page: &Page<A>,

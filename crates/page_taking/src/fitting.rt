@@ -44,7 +44,7 @@ fn are_under<H: PathHash, A: Allocator + Copy>(
 }
 
 /// Whether the keys that a page tells stand under its prefix. Takes time in their bytes, which are hashed, and no memory.
-pub fn keys_are_under<H: PathHash, A: Allocator + Copy>(
+pub(crate) fn keys_are_under<H: PathHash, A: Allocator + Copy>(
     hash: H,
     prefix: Prefix,
     page: &Page<A>,
@@ -119,7 +119,7 @@ fn children_to_ask<H: PathHash, A: Allocator + Copy>(
 /// page, which for a page that is no branch are none. Takes a digest of the own map for each child of the page, and memory in what
 /// it gives.
 /// Its only refusal is OutOfMemory.
-pub fn to_ask<H: PathHash, A: Allocator + Copy>(
+pub(crate) fn to_ask<H: PathHash, A: Allocator + Copy>(
     alloc: A,
     own: &FrozenMap<H, A>,
     sent: &SentPage<A>,
@@ -201,7 +201,7 @@ fn keeps_known<H: PathHash, A: Allocator + Copy>(
 /// tells are known, and those that are kept of the own map for it, whose dots were all seen. Takes time in the page and in the
 /// names and single dots of both contexts, and no memory; where the opening does not know all that was seen, also a digest of the
 /// own map for each child of the page, and time in the entries of the own map under the children whose digests are its own.
-pub fn fits<H: PathHash, A: Allocator + Copy>(
+pub(crate) fn fits<H: PathHash, A: Allocator + Copy>(
     own: &FrozenMap<H, A>,
     seen: &Context<A>,
     known: &Context<A>,

@@ -56,7 +56,7 @@ fn knows_keys<A: Allocator + Copy>(known: &Context<A>, entries: &[(Key<A>, Named
 }
 
 /// Whether all dots that a page tells are known. Takes a look in the context for each of them, and no memory.
-pub fn knows_page<A: Allocator + Copy>(known: &Context<A>, page: &Page<A>) -> bool
+pub(crate) fn knows_page<A: Allocator + Copy>(known: &Context<A>, page: &Page<A>) -> bool
     ensures { result ≡ within (has known.now) (entries_of (form.value_of page.now)) }
 {
     match page {
@@ -68,7 +68,7 @@ pub fn knows_page<A: Allocator + Copy>(known: &Context<A>, page: &Page<A>) -> bo
 
 /// Whether all dots of a map under a prefix are known. Takes a look in the context for each of them, up to the first that
 /// is not, and no memory.
-pub fn knows_under<H: PathHash, A: Allocator + Copy>(
+pub(crate) fn knows_under<H: PathHash, A: Allocator + Copy>(
     known: &Context<A>,
     frozen: &FrozenMap<H, A>,
     prefix: Prefix,
@@ -85,7 +85,7 @@ pub fn knows_under<H: PathHash, A: Allocator + Copy>(
 
 /// Whether all dots of the own map are known, where all of them were seen. Takes time in the names and single dots of both
 /// contexts, and no memory; where not all that was seen is known, also in the entries of the map.
-pub fn knows_all<H: PathHash, A: Allocator + Copy>(
+pub(crate) fn knows_all<H: PathHash, A: Allocator + Copy>(
     own: &FrozenMap<H, A>,
     seen: &Context<A>,
     known: &Context<A>,

@@ -9,7 +9,7 @@ use hash_path::{PathHash, Prefix};
 use std::alloc::{Allocator, Global};
 
 /// The prefixes that an asker waits for, by their indices as the bytes of keys, each with the digest that was promised of it.
-pub type Waiting<H, A = Global> = Frozen<[u8; 32], NoSummary, H, A>;
+pub(crate) type Waiting<H, A = Global> = Frozen<[u8; 32], NoSummary, H, A>;
 
 // The indices of a prefix, one byte each.
 fn indices_of<A: Allocator + Copy>(alloc: A, prefix: Prefix) -> Result<Vec<u8, A>, Refusal>
@@ -42,7 +42,7 @@ fn prefix_key<A: Allocator + Copy>(alloc: A, prefix: Prefix) -> Result<Key<A>, R
 /// The digest that was promised of a prefix, or None where it is not waited for. Takes time in the logarithm of the prefixes
 /// that are, and memory in the prefix.
 /// Its only refusal is OutOfMemory.
-pub fn promised<H: PathHash, A: Allocator + Copy>(
+pub(crate) fn promised<H: PathHash, A: Allocator + Copy>(
     alloc: A,
     waiting: &Waiting<H, A>,
     prefix: Prefix,
@@ -95,7 +95,7 @@ fn put_asks<H: PathHash, A: Allocator + Copy>(
 /// page told of it. What was waited for before stays as it is. Takes time and memory in the children, and the logarithm of the
 /// prefixes that are waited for.
 /// Its only refusal is OutOfMemory.
-pub fn next_waiting<H: PathHash, A: Allocator + Copy>(
+pub(crate) fn next_waiting<H: PathHash, A: Allocator + Copy>(
     alloc: A,
     waiting: &Waiting<H, A>,
     prefix: Prefix,
