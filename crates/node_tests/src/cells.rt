@@ -61,31 +61,18 @@ fn each_view_enters_the_root_that_was_published_last(rt: HostRuntime) {
     assert!(rt; publish_twice::<marker::Brand, _>(&rt, rt.alloc(), OpenedBook::new()));
 }
 
-// Whether each view sees both roots, the one that it did not enter before too.
-fn publish_twice<J: Brand<u64, u64>, R: Wait + Abort>(
-    rt: &R,
-    alloc: Global,
-    opened: OpenedBook<u64>,
-) -> bool
-    requires book { opened.0 ≡ J.book }
-    requires law { (root : ℕ) (events : List ℕ) → root ≡ sum events → J.stands root events }
-{
-    let (writer, views) = Cell::<u64, u64, J>::new(rt, alloc, opened, 2, 0).expect(rt, "memory");
-    let (first, second) = both(rt, views);
-    let (first, nothing) = sees(rt, first, 0, 0);
-    let (writer, answer) = writer.publish::<u64, Itself, R>(rt, 5, &5);
-    assert!(rt; answer.is_ok());
-    let (first, one) = sees(rt, first, 5, 1);
-    let (writer, answer) = writer.publish::<u64, Itself, R>(rt, 12, &7);
-    let (_first, two) = sees(rt, first, 12, 2);
-    let (_second, again) = sees(rt, second, 12, 2);
-    let is_last = *writer.end(rt) == 12;
-    nothing & one & answer.is_ok() & two & again & is_last
-}
-
-#[test]
-fn what_was_learnt_is_entered_and_no_view_enters_after_the_end(rt: HostRuntime) {
-    assert!(rt; learn_and_end::<marker::Brand, _>(&rt, rt.alloc(), OpenedBook::new()));
+// Whether the second view, which did not enter, is behind the first one and the Writer, and the early note tells it nothing.
+fn are_compared<J: Brand<u64, u64>>(
+    writer: &Writer<u64, u64, J>,
+    early: &Note<u64, u64, J>,
+    first: &Seen<J>,
+    second: &Seen<J>,
+) -> bool {
+    let is_behind = second.is_behind(first);
+    let is_not = first.is_behind(second);
+    let is_ahead = writer.is_ahead_of(second);
+    let is_late = early.is_ahead_of(second);
+    is_behind && !is_not && is_ahead && !is_late
 }
 
 // Whether the view, which is not entered any more, stays outside.
@@ -99,69 +86,9 @@ fn has_ended<J: Brand<u64, u64>>(view: Seen<J>) -> bool {
     }
 }
 
-// Whether a view that learns of a publish sees it, and enters no more after the end.
-fn learn_and_end<J: Brand<u64, u64>, R: Wait + Abort>(
-    rt: &R,
-    alloc: Global,
-    opened: OpenedBook<u64>,
-) -> bool
-    requires book { opened.0 ≡ J.book }
-    requires law { (root : ℕ) (events : List ℕ) → root ≡ sum events → J.stands root events }
-{
-    let (writer, views) = Cell::<u64, u64, J>::new(rt, alloc, opened, 1, 0).expect(rt, "memory");
-    let mut view = only(rt, views);
-    let early = writer.tell();
-    let (writer, answer) = writer.publish::<(u64, u64), Amount, R>(rt, 3, &(9, 3));
-    view.learn(writer.tell());
-    view.learn(early);
-    let (view, is_seen) = sees(rt, view, 3, 1);
-    writer.end(rt);
-    answer.is_ok() & is_seen & has_ended(view)
-}
-
-#[test]
-fn fronts_are_compared(rt: HostRuntime) {
-    assert!(rt; compare::<marker::Brand, _>(&rt, rt.alloc(), OpenedBook::new()));
-}
-
-// Whether neither of the two is behind the other.
-fn are_level<J: Brand<u64, u64>>(one: &Seen<J>, other: &Seen<J>) -> bool {
-    !one.is_behind(other) && !other.is_behind(one)
-}
-
-// Whether the first of the two is behind the other, and not the other way round.
-fn is_behind_alone<J: Brand<u64, u64>>(one: &Seen<J>, other: &Seen<J>) -> bool {
-    one.is_behind(other) && !other.is_behind(one)
-}
-
-// Whether the late note alone is ahead of the view, and neither of the other view.
-fn is_ahead_alone<J: Brand<u64, u64>>(
-    late: &Note<u64, u64, J>,
-    early: &Note<u64, u64, J>,
-    view: &Seen<J>,
-    other: &Seen<J>,
-) -> bool {
-    late.is_ahead_of(view) && !early.is_ahead_of(view) && !late.is_ahead_of(other)
-}
-
-// Whether fronts are compared by their events after a publish that the first view entered, and once the second learnt it.
-fn are_compared<J: Brand<u64, u64>>(
-    writer: &Writer<u64, u64, J>,
-    early: &Note<u64, u64, J>,
-    first: &Seen<J>,
-    second: &mut Seen<J>,
-) -> bool {
-    let is_behind = is_behind_alone(second, first);
-    let is_ahead = writer.is_ahead_of(second) && !writer.is_ahead_of(first);
-    let late = writer.tell();
-    let is_late = is_ahead_alone(&late, early, second, first);
-    second.learn(late);
-    let is_learnt = !second.is_behind(first) && !writer.is_ahead_of(second);
-    is_behind && is_ahead && is_late && is_learnt
-}
-
-// The same, and that they are level before it.
-fn compare<J: Brand<u64, u64>, R: Wait + Abort>(
+// Whether each view sees what was published last, the one that learnt of the first root and did not enter it too, and none enters after
+// the end.
+fn publish_twice<J: Brand<u64, u64>, R: Wait + Abort>(
     rt: &R,
     alloc: Global,
     opened: OpenedBook<u64>,
@@ -171,42 +98,15 @@ fn compare<J: Brand<u64, u64>, R: Wait + Abort>(
 {
     let (writer, views) = Cell::<u64, u64, J>::new(rt, alloc, opened, 2, 0).expect(rt, "memory");
     let (first, mut second) = both(rt, views);
-    let is_new = are_level(&first, &second) & !writer.is_ahead_of(&first);
     let early = writer.tell();
-    let (writer, answer) = writer.publish::<u64, Itself, R>(rt, 5, &5);
-    let (first, _, _) = look(rt, first);
-    let are_compared = are_compared(&writer, &early, &first, &mut second);
-    let is_last = *writer.end(rt) == 5;
-    is_new & answer.is_ok() & are_compared & is_last
-}
-
-#[test]
-fn a_cell_has_as_many_views_as_places(rt: HostRuntime) {
-    assert!(rt; many_places::<marker::Brand, _>(&rt, rt.alloc(), OpenedBook::new()));
-}
-
-// Whether there are so many views, and each sees the root 1 of one event.
-fn are_views<J: Brand<u64, u64>>(rt: &impl Abort, views: Vec<Seen<J>>, count: usize) -> bool {
-    let mut all = views.len() == count;
-    for view in views {
-        let (_view, is_seen) = sees(rt, view, 1, 1);
-        all = all && is_seen;
-    }
-    all
-}
-
-// Whether a cell of 64 places has 64 views, which see what is published.
-fn many_places<J: Brand<u64, u64>, R: Wait + Abort>(
-    rt: &R,
-    alloc: Global,
-    opened: OpenedBook<u64>,
-) -> bool
-    requires book { opened.0 ≡ J.book }
-    requires law { (root : ℕ) (events : List ℕ) → root ≡ sum events → J.stands root events }
-{
-    let (writer, views) = Cell::<u64, u64, J>::new(rt, alloc, opened, 64, 0).expect(rt, "memory");
-    let (writer, answer) = writer.publish::<u64, Itself, R>(rt, 1, &1);
-    let are_views = are_views(rt, views, 64);
-    writer.end(rt);
-    answer.is_ok() & are_views
+    let (writer, one) = writer.publish::<(u64, u64), Amount, R>(rt, 5, &(9, 5));
+    assert!(rt; one.is_ok());
+    let (first, is_five) = sees(rt, first, 5, 1);
+    let is_compared = are_compared(&writer, &early, &first, &second);
+    second.learn(writer.tell());
+    let (writer, two) = writer.publish::<u64, Itself, R>(rt, 12, &7);
+    let (first, is_twelve) = sees(rt, first, 12, 2);
+    let (_second, is_again) = sees(rt, second, 12, 2);
+    let is_last = *writer.end(rt) == 12;
+    is_five & is_compared & two.is_ok() & is_twelve & is_again & is_last & has_ended(first)
 }

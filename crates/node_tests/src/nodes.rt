@@ -143,7 +143,7 @@ fn finished<K: Naming, G: Gate + Drop, R: Wait + Abort + Drop>(
 #[derive(Drop)]
 pub(crate) enum Calls<P: Drop> {
     Twelve,
-    Fields,
+    // And three of fields then.
     Snapshots,
     // By which post, and what is counted.
     Serving(P, Served),
@@ -174,8 +174,10 @@ fn call<C: Caller + Calling, P: Post + Copy + Drop, R: Wait + Abort>(
 ) {
     match calls {
         Calls::Twelve => call_twelve_times(rt, alloc, clients),
-        Calls::Fields => write_fields(rt, alloc, clients),
-        Calls::Snapshots => put_and_keep(rt, alloc, clients),
+        Calls::Snapshots => {
+            put_and_keep(rt, alloc, clients);
+            write_fields(rt, alloc, clients);
+        }
         Calls::Serving(post, all) => serve_alone(rt, alloc, clients, post, *all),
     }
 }

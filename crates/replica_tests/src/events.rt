@@ -1,7 +1,2 @@
-// Tests of worlds: what events come to, and the bytes of the messages that they make.
-mod lines;
-mod one_hash;
-mod scenes;
+// Tests of worlds: what events come to.
 mod storm;
-mod world_bytes;
-mod worlds;

@@ -5,8 +5,6 @@
 #[cfg(test)]
 mod asking;
 #[cfg(test)]
-mod calls;
-#[cfg(test)]
 mod events;
 #[cfg(test)]
 mod exchange;

@@ -1,20 +1,14 @@
 // What the tests of replicas are made of.
 use dots::{Key, Name, Value};
-use hash_path::Fnv1a;
 use replica_core::Replica;
 use std::alloc::Global;
 use std::panic::Expect;
 use std::process::Abort;
-use wire_form::{Message, decode, encode};
+use wire_form::{Message, encode};
 
 // The name of this number, which is not 0.
 pub(crate) fn name(rt: &impl Abort, number: u64) -> Name {
     Name::new(number).expect(rt, "a name")
-}
-
-// A replica of this name, which is not 0, to which nothing happened.
-pub(crate) fn replica(rt: &impl Abort, alloc: Global, number: u64) -> Replica {
-    Replica::new(alloc, name(rt, number), Fnv1a)
 }
 
 pub(crate) fn key_of(rt: &impl Abort, alloc: Global, bytes: &[u8]) -> Key {
@@ -45,7 +39,7 @@ pub(crate) fn remove(rt: &impl Abort, alloc: Global, here: &mut Replica, key: &[
 }
 
 // Whether these are the values, in this order.
-pub(crate) fn are(found: &[Value], values: &[&[u8]]) -> bool {
+fn are(found: &[Value], values: &[&[u8]]) -> bool {
     if found.len() != values.len() {
         return false;
     }
@@ -90,16 +84,4 @@ pub(crate) fn sends(rt: &impl Abort, alloc: Global, from: &mut Replica, bytes: &
 // Whether it knows the dots of a name up to this number.
 pub(crate) fn knows(rt: &impl Abort, here: &Replica, of: u64, number: u64) -> bool {
     here.context().entry(name(rt, of)) == number
-}
-
-// Takes the bytes of a delta in; those of another message are left.
-pub(crate) fn take(rt: &impl Abort, alloc: Global, to: &mut Replica, bytes: &[u8]) {
-    if is_delta(&decode(alloc, bytes).expect(rt, "a message")) {
-        let told = to.deliver_bytes(bytes);
-        let _ = told.expect(rt, "a delivery");
-    }
-}
-
-fn is_delta(message: &Message) -> bool {
-    matches!(message, Message::Delta(_))
 }

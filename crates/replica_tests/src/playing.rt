@@ -1,10 +1,11 @@
 // What happens to three replicas, row by row, and what comes of it.
 use crate::asking::{asks, asks_in_vain, asks_often, retries};
-use crate::made::{key_of, knows, put, remove, replica, sends, shows, value_of};
+use crate::made::{key_of, knows, name, put, remove, sends, shows, value_of};
 use crate::session_bytes::bytes_of;
 use crate::spoiled::{leaves_changed, refuses_spoiled};
 use crate::taking::{answers_of, answers_often, has_root, takes};
 use dots::Refusal;
+use hash_path::Fnv1a;
 use replica_core::{Outcome, Replica};
 use std::alloc::Global;
 use std::panic::Expect;
@@ -91,8 +92,9 @@ fn happens(rt: &impl Abort, alloc: Global, here: &mut Replica, event: Event) -> 
 // Replicas of the names 1, 2 and 3.
 fn three(rt: &impl Abort, alloc: Global) -> Vec<Replica> {
     let mut replicas = Vec::new(alloc);
-    for name in 1..4 {
-        replicas.push(replica(rt, alloc, name)).expect(rt, "memory");
+    for number in 1..4 {
+        let one = Replica::new(alloc, name(rt, number), Fnv1a);
+        replicas.push(one).expect(rt, "memory");
     }
     replicas
 }
@@ -111,14 +113,21 @@ fn happens_at(
     }
 }
 
-fn play_at(rt: &impl Abort, alloc: Global, replicas: &mut [Replica], rows: &[(usize, Event)]) {
-    for (row, (at, event)) in rows.iter().enumerate() {
+fn play_at(
+    rt: &impl Abort,
+    alloc: Global,
+    replicas: &mut [Replica],
+    run: &str,
+    rows: &[(usize, Event)],
+) {
+    for (at, event) in rows {
         let is_so = happens_at(rt, alloc, replicas, *at, *event);
-        assert!(rt; is_so, "row {row}");
+        assert!(rt; is_so, "{run}");
     }
 }
 
-// Has these rows happen to three new replicas, one after the other; each comes to what it tells. A row begins with the name of its replica.
-pub(crate) fn play(rt: &impl Abort, alloc: Global, rows: &[(usize, Event)]) {
-    play_at(rt, alloc, &mut three(rt, alloc), rows);
+// Has the rows of this run happen to three new replicas, one after the other; each comes to what it tells. A row begins with the name of its
+// replica.
+pub(crate) fn play(rt: &impl Abort, alloc: Global, run: &str, rows: &[(usize, Event)]) {
+    play_at(rt, alloc, &mut three(rt, alloc), run, rows);
 }

@@ -1,5 +1,6 @@
 // Digests that the nodes of a replica's map keep: from a synchronisation on, and until the next write.
-use crate::made::{name, put, replica};
+use crate::made::put;
+use crate::refusals::made::{opened, replica};
 use replica_core::{Outcome, Replica};
 use std::alloc::Global;
 use std::panic::Expect;
@@ -17,20 +18,25 @@ fn is_written(rt: &impl Abort, alloc: Global, here: &mut Replica) -> bool {
     !is_sealed(rt, here)
 }
 
-// Whether replica 2 answers the one that asks it.
-fn is_answered(rt: &impl Abort, asker: &mut Replica, answerer: &mut Replica) -> bool {
-    let (_number, hello) = asker.ask(name(rt, 2)).expect(rt, "an ask");
-    let told = answerer.deliver(&hello).expect(rt, "a delivery");
-    told.outcome == Outcome::Sent
+// Whether both lose their digests by writes, and keep them again once the answerer, of the name 2, answered the asker.
+fn keep_digests(
+    rt: &impl Abort,
+    alloc: Global,
+    asker: &mut Replica,
+    answerer: &mut Replica,
+) -> bool {
+    let first = is_written(rt, alloc, asker);
+    let second = is_written(rt, alloc, answerer);
+    let is_answered = opened(rt, alloc, asker, answerer, 2).outcome == Outcome::Sent;
+    let asker_keeps = is_sealed(rt, asker);
+    let answerer_keeps = is_sealed(rt, answerer);
+    first && second && is_answered && asker_keeps && answerer_keeps
 }
 
 #[test]
 fn who_asks_and_who_answers_keep_their_digests(rt: HostRuntime) {
-    let mut asker = replica(&rt, rt.alloc(), 1);
-    let mut answerer = replica(&rt, rt.alloc(), 2);
-    let are_written = is_written(&rt, rt.alloc(), &mut asker)
-        && is_written(&rt, rt.alloc(), &mut answerer);
-    let is_answered = is_answered(&rt, &mut asker, &mut answerer);
-    let are_sealed = is_sealed(&rt, &asker) && is_sealed(&rt, &answerer);
-    assert!(rt; are_written && is_answered && are_sealed);
+    let mut asker = replica(&rt, rt.alloc(), rt.alloc(), 1);
+    let mut answerer = replica(&rt, rt.alloc(), rt.alloc(), 2);
+    let are_kept = keep_digests(&rt, rt.alloc(), &mut *asker, &mut *answerer);
+    assert!(rt; are_kept);
 }

@@ -6,10 +6,6 @@
 #[cfg(test)]
 mod contexts;
 #[cfg(test)]
-mod drawn;
-#[cfg(test)]
-mod draws;
-#[cfg(test)]
 mod forms;
 #[cfg(test)]
 mod live;

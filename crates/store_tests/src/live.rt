@@ -1,5 +1,4 @@
-// Tests of the stores that are kept as tries, of the live pairs over them and of the operations on these.
-mod drawn;
+// Tests of the stores that are kept as tries, of the live pairs over them and of a put on these.
 mod generations;
 mod made;
 mod operations;

@@ -1,6 +1,7 @@
 use causal_context::Context;
 use dot_store::{DotMap, DotSet, DotStore};
 use dots::{Dot, Key, Name};
+use hash_path::Prefix;
 use std::alloc::Global;
 use std::process::Abort;
 
@@ -44,4 +45,13 @@ pub fn under<S: DotStore<Global>>(
     let key = Key::new(alloc, key).expect(rt, "memory");
     map.insert(key, store).expect(rt, "memory");
     map
+}
+
+// The prefix of these indices.
+pub fn prefix(rt: &impl Abort, indices: &[u32]) -> Prefix {
+    let mut prefix = Prefix::root();
+    for index in indices {
+        prefix = prefix.child(*index).expect(rt, "an index");
+    }
+    prefix
 }

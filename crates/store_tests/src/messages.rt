@@ -1,3 +1,4 @@
 // Tests of the messages, as bytes and as values.
 mod sessions;
 mod tests;
+mod vectors;

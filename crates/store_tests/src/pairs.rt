@@ -1,7 +1,7 @@
 use crate::made::{Pair, context_of, set_of, under};
 use causal_context::Context;
 use causal_join::Causal;
-use dot_store::{DotSet, DotStore};
+use dot_store::DotStore;
 use std::alloc::Global;
 use std::process::Abort;
 
@@ -126,15 +126,4 @@ fn is_pair<S: DotStore<Global>>(alloc: Global, store: S) -> bool {
 fn a_dot_outside_the_context_makes_no_pair(rt: HostRuntime) {
     let set = set_of(&rt, rt.alloc(), &[(1, 1)]);
     assert!(rt; !is_pair(rt.alloc(), set));
-}
-
-// Whether nothing stands in the least pair.
-fn is_bottom_empty<S: DotStore<Global>>(alloc: Global) -> bool {
-    let bottom: Causal<S> = Causal::bottom(alloc);
-    bottom.store().is_empty()
-}
-
-#[test]
-fn nothing_stands_at_the_bottom(rt: HostRuntime) {
-    assert!(rt; is_bottom_empty::<DotSet>(rt.alloc()));
 }

@@ -1,5 +1,4 @@
 // Tests of the path hashes, the trie, its snapshots and runs of them, and its digests and pages.
-mod digests;
 mod made;
 mod many;
 mod mapped;
@@ -7,5 +6,3 @@ mod maps;
 mod pages;
 mod paths;
 mod runs;
-mod seals;
-mod summaries;

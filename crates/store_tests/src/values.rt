@@ -1,6 +1,6 @@
 // The plain values.
 use crate::made::{dot, name};
-use dots::{Dot, Field, FieldKind, Key, KeyKind, Name, Refusal, Text, ValueKind};
+use dots::{Field, FieldKind, Key, KeyKind, Refusal, Text, ValueKind};
 use std::alloc::Global;
 use std::fmt::Display;
 use std::mem::size_of;
@@ -37,20 +37,6 @@ fn a_text_and_its_copy_hold_what_came_in(rt: HostRuntime) {
     assert!(rt; past_the_place.len() == 23 && size_of::<Key>() == 24);
 }
 
-// Whether the text of the one comes before that of the other.
-fn is_before(rt: &impl Abort, alloc: Global, one: &[u8], other: &[u8]) -> bool {
-    let first = Field::new(alloc, one).expect(rt, "memory");
-    let second = Field::new(alloc, other).expect(rt, "memory");
-    first < second
-}
-
-#[test]
-fn a_text_comes_before_those_that_it_begins(rt: HostRuntime) {
-    let long = b"twenty-two bytes long..";
-    assert!(rt; is_before(&rt, rt.alloc(), &long[..22], long));
-    assert!(rt; is_before(&rt, rt.alloc(), long, b"u"));
-}
-
 // How long the text of this many zero bytes is, if there is one.
 fn length_of_zeros<K>(rt: &impl Abort, alloc: Global, count: usize) -> Result<usize, Refusal> {
     let bytes = many(rt, alloc, 0, count);
@@ -67,21 +53,6 @@ fn texts_end_at_65535_bytes(rt: HostRuntime) {
     assert!(rt; length_of_zeros::<ValueKind>(&rt, alloc, 65536) == Err(Refusal::TooLong));
 }
 
-#[test]
-fn names_and_numbers_begin_at_one(rt: HostRuntime) {
-    assert!(rt; Name::new(0).is_none());
-    assert!(rt; Dot::new(name(&rt, 1), 0).is_none());
-}
-
-#[test]
-fn dots_go_by_name_and_then_by_number(rt: HostRuntime) {
-    let early = dot(&rt, 1, 9);
-    let late = dot(&rt, u64::MAX, 1);
-    assert!(rt; early.name().number() == 1 && early.number() == 9);
-    assert!(rt; late.name().number() == u64::MAX);
-    assert!(rt; early < late);
-}
-
 // Whether the value is printed so.
 fn is_printed<T: Display>(rt: &impl Abort, alloc: Global, value: &T, wanted: &str) -> bool {
     let text = format!(in alloc; "{value}").expect(rt, "memory");
@@ -90,9 +61,6 @@ fn is_printed<T: Display>(rt: &impl Abort, alloc: Global, value: &T, wanted: &st
 
 #[test]
 fn a_refusal_is_written_as_its_name(rt: HostRuntime) {
-    assert!(rt; Refusal::OutOfMemory.number() == 1);
-    assert!(rt; Refusal::Output.number() == 13);
-    assert!(rt; Refusal::NumbersSpent.word() == "NumbersSpent");
     assert!(rt; is_printed(&rt, rt.alloc(), &Refusal::NotAMessage, "NotAMessage"));
 }
 
@@ -119,31 +87,24 @@ fn a_text_is_printed_as_itself_or_by_its_bytes(rt: HostRuntime) {
     }
 }
 
-// The text of so many of this byte, as it is printed.
-fn printed(rt: &impl Abort, alloc: Global, byte: u8, count: usize) -> String {
+// How long the text of so many of this byte is printed.
+fn printed_length(rt: &impl Abort, alloc: Global, byte: u8, count: usize) -> usize {
     let bytes = many(rt, alloc, byte, count);
     let text = Field::new(alloc, &bytes).expect(rt, "memory");
-    format!(in alloc; "{text}").expect(rt, "memory")
+    let printed = format!(in alloc; "{text}").expect(rt, "memory");
+    printed.len()
 }
 
-// Whether a text of so many letters is printed as itself.
-fn is_printed_whole(rt: &impl Abort, alloc: Global, count: usize) -> bool {
-    let bytes = many(rt, alloc, b'x', count);
-    let text = printed(rt, alloc, b'x', count);
-    text.as_str().as_bytes() == bytes.as_slice()
-}
-
-// How long a text of so many zero bytes is printed.
-fn printed_length(rt: &impl Abort, alloc: Global, count: usize) -> usize {
-    let text = printed(rt, alloc, 0, count);
-    text.len()
-}
+// A byte, how many of it are a text, and how long that is printed.
+const LONG: &[(u8, usize, usize)] = &[(b'x', 300, 300), (0, 22, 45), (0, 23, 47), (0, 300, 601)];
 
 #[test]
 fn long_texts_are_printed_whole(rt: HostRuntime) {
-    for (count, digits) in [(7, 15), (22, 45), (23, 47), (300, 601)] {
-        assert!(rt; is_printed_whole(&rt, rt.alloc(), count), "{count}");
-        assert!(rt; printed_length(&rt, rt.alloc(), count) == digits, "{count}");
+    for (byte, count, length) in LONG {
+        assert!(rt;
+            printed_length(&rt, rt.alloc(), *byte, *count) == *length,
+            "{length}"
+        );
     }
 }
 

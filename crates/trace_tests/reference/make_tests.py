@@ -17,8 +17,7 @@ FIELDS = ["#", "f", "g", "port"]
 LOST = (3, 8)  # the messages that no line delivers
 HEAD = """// Made by `python3 crates/trace_tests/reference/make_tests.py`, which has the texts from `text_of_trace.py` beside it, that is from
 // the definitions and not from our program.
-use crate::tests::answering::answers;
-use std::process::Abort;
+use crate::tests::rows::gives;
 """
 
 
@@ -121,15 +120,35 @@ def one_hash():
     return "\n".join([*synchronised(lines, 2, 1), "show 2", "context 2", "digest 1", "digest 2"]) + "\n"
 
 
-def test_of(name, trace):
+TEST = """
+// The name of a trace, the trace, and its text.
+const TRACES: &[(&str, &str, &str)] = &[
+{}];
+
+#[test]
+fn each_has_its_text(rt: HostRuntime) {{
+    for (name, trace, text) in TRACES {{
+        let is_so = gives(&rt, rt.alloc(), trace, text, None);
+        assert!(rt; is_so, "{{name}}");
+    }}
+}}
+"""
+
+
+def texts_of(name, trace):
     assert '"' not in trace and "\\" not in trace
     const = name.upper()
-    test = f"#[test]\nfn {name}_has_its_text(rt: HostRuntime) {{\n    answers(&rt, rt.alloc(), {const}, {const}_TEXT);\n}}\n"
-    return f'\nconst {const}: &str = "{trace}";\n\nconst {const}_TEXT: &str = "{text_of(trace.encode())}";\n\n{test}'
+    return f'\nconst {const}: &str = "{trace}";\n\nconst {const}_TEXT: &str = "{text_of(trace.encode())}";\n'
+
+
+def file_of(traces):
+    """The two texts of each trace, and the table of them all with its test."""
+    rows = "".join(f'    ("{name}", {name.upper()}, {name.upper()}_TEXT),\n' for name in traces)
+    return HEAD + "".join(texts_of(*it) for it in traces.items()) + TEST.format(rows)
 
 
 if __name__ == "__main__":
-    tests = [test_of("forty_keys", generated()), test_of("keys_of_one_hash", one_hash())]
-    (TESTS / "generated.rt").write_text(HEAD + "".join(tests))
-    examples = [test_of(path.stem, path.read_text()) for path in sorted(EXAMPLES.glob("*.trace"))]
-    (TESTS / "examples.rt").write_text(HEAD + "".join(examples))
+    made = {"forty_keys": generated(), "keys_of_one_hash": one_hash()}
+    (TESTS / "generated.rt").write_text(file_of(made))
+    examples = {path.stem: path.read_text() for path in sorted(EXAMPLES.glob("*.trace"))}
+    (TESTS / "examples.rt").write_text(file_of(examples))

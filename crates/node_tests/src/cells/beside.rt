@@ -53,17 +53,16 @@ fn held<J: Brand<u64, u64> + Send + Sync, R: Threads + Wait + Abort + Sync>(
     let view = only(rt, views);
     let writer = Ending { writer, rt };
     let (entered, published) = (AtomicU64::new(0), AtomicU64::new(0));
-    let ((view, root, seen), _writer) = thread::join(
+    let ((view, held_root, seen), _writer) = thread::join(
         rt,
         || hold(rt, view, &entered, &published),
         || -> Ending<'_, J, R>
             requires { (writer.writer ≡ []) × ((root : ℕ) (events : List ℕ) → root ≡ sum events → J.stands root events) }
         { publish_thrice(writer, &entered, &published) },
     );
-    // The first publish waits for nobody, the second for the View that is inside.
-    assert_eq!(rt; (root, seen), (0, 1));
     let (_view, root, events) = look(rt, view);
-    assert_eq!(rt; (root, events), (6, 3));
+    // The first publish waits for nobody, the second for the View that is inside.
+    assert!(rt; (held_root, seen, root, events) == (0, 1, 6, 3));
 }
 
 // Waits until the number is above 0, for a while.

@@ -1,6 +1,6 @@
 // Two nodes that are served, each in a thread of its own.
 use crate::caller::Caller;
-use crate::nodes::{Calls, SharedCalls, alone, at_two_nodes, name};
+use crate::nodes::{Calls, Last, SharedCalls, alone, at_two_nodes, name};
 use crate::tests::{both, only};
 use crossbeam_channel::{Sender, unbounded};
 use node_threads::{Channels, Letter, Post, Served};
@@ -178,42 +178,65 @@ fn send(rt: &(impl Wait + Abort), alloc: Global, to_node: &Sender<Letter>, lette
     }
 }
 
-#[test]
-fn what_comes_to_a_served_node_is_counted(rt: HostRuntime) {
-    let alloc = rt.alloc();
-    let (to_node, inbox) = unbounded(alloc).expect(&rt, "memory");
-    send(&rt, alloc, &to_node, &[&[0], HELLO, DELTA]);
-    let _ = to_node.send(&rt, Letter::Stop);
-    let post = Channels {
-        inbox: &inbox,
-        outboxes: &[],
-    };
-    let all = Served {
-        delivered: 2,
-        refused: 1,
-        lost: 1,
-    };
-    let last = alone(rt, alloc, &Calls::Serving(post, all));
-    assert!(rt; last == (2, 1, 1, 0));
-}
+// What comes to a node, whether it is stopped then or its channel closed, and what is counted.
+const LETTERS: &[(&str, &[&[u8]], bool, Served)] = &[
+    (
+        "stopped",
+        &[&[0], HELLO, DELTA],
+        true,
+        Served {
+            delivered: 2,
+            refused: 1,
+            lost: 1,
+        },
+    ),
+    (
+        "closed",
+        &[&[], GONE, FIELD_DELTA],
+        false,
+        Served {
+            delivered: 2,
+            refused: 1,
+            lost: 0,
+        },
+    ),
+];
 
 #[test]
-fn serving_ends_once_the_channel_is_closed(rt: HostRuntime) {
-    let alloc = rt.alloc();
+fn what_comes_to_a_served_node_is_counted(rt: HostRuntime) {
+    for (what, letters, is_stopped, all) in LETTERS {
+        let last = served_by(rt, rt.alloc(), letters, *is_stopped, *all);
+        assert!(rt; last == (2, 1, 1, 0), "{what}");
+    }
+}
+
+// What is there in the end of a node to which these letters came, and which counts this.
+fn served_by<R: Wait + Abort + Copy + Drop>(
+    rt: R,
+    alloc: Global,
+    letters: &[&[u8]],
+    is_stopped: bool,
+    all: Served,
+) -> Last {
     let (to_node, inbox) = unbounded(alloc).expect(&rt, "memory");
-    send(&rt, alloc, &to_node, &[&[], GONE, FIELD_DELTA]);
-    drop(to_node);
+    send(&rt, alloc, &to_node, letters);
+    let open = stopped(&rt, to_node, is_stopped);
     let post = Channels {
         inbox: &inbox,
         outboxes: &[],
     };
-    let all = Served {
-        delivered: 2,
-        refused: 1,
-        lost: 0,
-    };
     let last = alone(rt, alloc, &Calls::Serving(post, all));
-    assert!(rt; last == (2, 1, 1, 0));
+    drop(open);
+    last
+}
+
+// Stops the node, and keeps the channel, so that it is the stop which ends it. Or closes the channel.
+fn stopped(rt: &impl Wait, to_node: Sender<Letter>, is_stopped: bool) -> Option<Sender<Letter>> {
+    if !is_stopped {
+        return None;
+    }
+    let _ = to_node.send(rt, Letter::Stop);
+    Some(to_node)
 }
 
 // Serves a node until its post ends, which counts this.

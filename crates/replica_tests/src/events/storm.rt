@@ -1,7 +1,6 @@
 // Thousands of random events over four replicas. What came of them, and what the replicas show between them, goes into one sum, which is that of a
 // program that follows the definitions alone: `python3 crates/replica_tests/reference/storm.py`.
-use crate::events::lines::{field_of, key_of, value_of};
-use crate::made::name;
+use crate::made::{key_of, name, value_of};
 use dots::{Field, Key, Name, Refusal, Value};
 use hash_path::Fnv1a;
 use replica_core::{Outcome, Replica};
@@ -49,15 +48,18 @@ impl Storm {
     }
 
     fn key(&mut self, rt: &impl Abort, alloc: Global) -> Key {
-        key_of(rt, alloc, self.byte(b'a', 8))
+        let byte = self.byte(b'a', 8);
+        key_of(rt, alloc, &[byte])
     }
 
     fn field(&mut self, rt: &impl Abort, alloc: Global) -> Field {
-        field_of(rt, alloc, self.byte(b'f', 3))
+        let byte = self.byte(b'f', 3);
+        Field::new(alloc, &[byte]).expect(rt, "a field")
     }
 
     fn value(&mut self, rt: &impl Abort, alloc: Global) -> Value {
-        value_of(rt, alloc, self.byte(b'p', 8))
+        let byte = self.byte(b'p', 8);
+        value_of(rt, alloc, &[byte])
     }
 
     // A message: mostly one of the last ones, and at times one that is not there yet.

@@ -46,9 +46,9 @@ fn take<'a>(
 
 // Free memory of a heap: so many pieces of so many bytes.
 #[derive(Clone, Copy)]
-pub(crate) struct Room {
-    pub(crate) pieces: usize,
-    pub(crate) bytes: usize,
+struct Room {
+    pieces: usize,
+    bytes: usize,
 }
 
 // All of the heap but for this room.
@@ -62,7 +62,7 @@ fn all_but<'a>(rt: &impl Abort, alloc: Global, heap: &'a LocalHeap, room: Room) 
 }
 
 // What the call comes to in a heap that is full but for this room.
-pub(crate) fn attempt_in<T: Trial>(
+fn attempt_in<T: Trial>(
     rt: &impl Abort,
     alloc: Global,
     heap: &LocalHeap,

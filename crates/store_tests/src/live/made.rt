@@ -31,16 +31,7 @@ pub fn map_of(rt: &impl Abort, alloc: Global, held: Held) -> DotMap<Key, DotSet>
     map
 }
 
-// The delta of this map and this context, none of the map's dots being outside.
-pub fn delta_of<S: DotStore<Global>>(
-    rt: &impl Abort,
-    map: DotMap<Key, S>,
-    known: Context,
-) -> Causal<DotMap<Key, S>> {
-    Causal::from_parts(map, known).expect(rt, "inside")
-}
-
-// Joins it in.
+// Joins in the delta of this map and this context, none of the map's dots being outside.
 pub fn join<S: DotStore<Global>, H: PathHash>(
     rt: &impl Abort,
     alloc: Global,
@@ -48,7 +39,7 @@ pub fn join<S: DotStore<Global>, H: PathHash>(
     map: DotMap<Key, S>,
     known: Context,
 ) {
-    let delta = delta_of(rt, map, known);
+    let delta = Causal::from_parts(map, known).expect(rt, "inside");
     live.join_delta(alloc, &delta).expect(rt, "memory");
 }
 
@@ -63,8 +54,4 @@ pub fn stands<S: DotStore<Global>, H: PathHash>(
     let key = Key::new(alloc, key).expect(rt, "memory");
     let set = live.store().get(&key)?;
     Some(set.contains(dot(rt, one.0, one.1)))
-}
-
-pub fn size_of<S: DotStore<Global>, H: PathHash>(live: &Live<S, NoSummary, H>) -> u64 {
-    live.store().size()
 }

@@ -1,11 +1,10 @@
 // Live pairs, by deltas that are joined in, and their stores, through the calls of every dot store.
-use crate::live::made::{Held, LiveSets, delta_of, join, map_of, size_of, stands};
-use crate::live::stores::{Kept, are_joined, is_copied, is_in_order, is_sealed};
+use crate::live::made::{Held, LiveSets, join, map_of, stands};
+use crate::live::stores::{Kept, is_copied, is_in_order, is_joined_with_an_empty_one, is_sealed};
 use crate::made::{Pair, context_of, dot};
 use causal_context::Context;
-use causal_join::Causal;
-use dot_store::{DotMap, DotSet, DotStore};
-use dots::{Key, Name};
+use dot_store::DotSet;
+use dots::Name;
 use hash_path::Fnv1a;
 use live_map::Live;
 use std::alloc::Global;
@@ -54,7 +53,7 @@ type Wanted = (
 );
 
 fn stand_as_wanted(rt: &impl Abort, alloc: Global, live: &LivePair, wanted: &Wanted) -> bool {
-    let mut all = size_of(live) == wanted.0;
+    let mut all = live.store().size() == wanted.0;
     for (key, one, is_there) in wanted.1 {
         all = all && stands(rt, alloc, live, key, *one) == *is_there;
     }
@@ -67,30 +66,6 @@ fn are_known_as_wanted(rt: &impl Abort, live: &LivePair, wanted: &Wanted) -> boo
         all = all && live.context().contains(dot(rt, one.0, one.1)) == *is_known;
     }
     all
-}
-
-// How many keys there are once the delta is prepared, just before it is put in place.
-fn size_before<S: DotStore<Global>>(
-    rt: &impl Abort,
-    alloc: Global,
-    live: &mut Live<S>,
-    delta: &Causal<DotMap<Key, S>>,
-) -> u64 {
-    let next = live.prepare(alloc, delta).expect(rt, "memory");
-    let size = size_of(live);
-    live.commit(next);
-    size
-}
-
-// The same of a remove of 1:1.
-fn size_before_remove<S: DotStore<Global>>(
-    rt: &impl Abort,
-    alloc: Global,
-    live: &mut Live<S>,
-) -> u64 {
-    let known = context_of(rt, alloc, &[(1, 1)]);
-    let delta = delta_of(rt, DotMap::empty(alloc), known);
-    size_before(rt, alloc, live, &delta)
 }
 
 // Puts forty keys, the dot of a key's number plus one at each.
@@ -112,9 +87,7 @@ fn put_forty(rt: &impl Abort, alloc: Global, live: &mut LivePair) {
 #[derive(Clone, Copy)]
 enum Asked {
     Has(Wanted),
-    // There is one key until a remove of 1:1, which is prepared, is in place, and then none.
-    Prepared,
-    // Of 1:1 at a and 1:2 at b: its copy and its joins are what they have to be.
+    // Of 1:1 at a and 1:2 at b: its copy and its join are what they have to be.
     Copied,
     Joined,
     // Of forty keys: they stand in order.
@@ -126,7 +99,7 @@ enum Asked {
 fn is_so_of_store(rt: &impl Abort, alloc: Global, store: &Kept<DotSet>, asked: Asked) -> bool {
     match asked {
         Asked::Copied => is_copied(rt, alloc, store),
-        Asked::Joined => are_joined(rt, alloc, store),
+        Asked::Joined => is_joined_with_an_empty_one(rt, alloc, store),
         _ => is_in_order(rt, alloc, store),
     }
 }
@@ -137,7 +110,6 @@ fn is_so(rt: &impl Abort, alloc: Global, live: &mut LivePair, asked: Asked) -> b
             let are_known = are_known_as_wanted(rt, live, &wanted);
             stand_as_wanted(rt, alloc, live, &wanted) && are_known
         }
-        Asked::Prepared => size_before_remove(rt, alloc, live) == 1 && size_of(live) == 0,
         Asked::Sealed => is_sealed(rt, live),
         _ => is_so_of_store(rt, alloc, live.store(), asked),
     }
@@ -234,11 +206,6 @@ const ROWS: &[(&str, &[Step], Asked)] = &[
             (&[], Known::Dots(&[LAST])),
         ],
         Asked::Has((1, &[(b"a", (1, 1), Some(true))], &[])),
-    ),
-    (
-        "a prepared pair changes nothing before it is put in place",
-        &[AT_A],
-        Asked::Prepared,
     ),
     ("a copy is the same store", &[AT_A, AT_B], Asked::Copied),
     (

@@ -35,24 +35,20 @@ fn is_joined<S: DotStore<Global>>(
     has_just(rt, alloc, &both, wanted)
 }
 
-const BOTH: &[Pair] = &[(1, 1), (1, 2)];
-
-// Whether a store of 1:1 and 1:2 is joined with an empty one as it has to be: 1:1 goes where the other side knows it, both stay
-// where it knows none, and both are taken in.
-fn are_joined_with<S: DotStore<Global>>(
+// Whether of a store of 1:1 and 1:2 the second is left in the join with an empty one, which knows the first.
+pub fn is_joined_with_an_empty_one<S: DotStore<Global>>(
     rt: &impl Abort,
     alloc: Global,
     store: &S,
-    empty: &S,
 ) -> bool {
-    let one_left = is_joined(rt, alloc, (store, BOTH), (empty, &[(1, 1)]), &[(1, 2)]);
-    let both_left = is_joined(rt, alloc, (store, BOTH), (empty, &[]), BOTH);
-    is_joined(rt, alloc, (empty, &[]), (store, BOTH), BOTH) && one_left && both_left
-}
-
-pub fn are_joined<S: DotStore<Global>>(rt: &impl Abort, alloc: Global, store: &S) -> bool {
     let empty = S::empty(alloc);
-    are_joined_with(rt, alloc, store, &empty)
+    is_joined(
+        rt,
+        alloc,
+        (store, &[(1, 1), (1, 2)]),
+        (&empty, &[(1, 1)]),
+        &[(1, 2)],
+    )
 }
 
 // Whether a copy of the store is the same, and an empty one is another.
@@ -91,14 +87,11 @@ fn is_share_sealed<S: DotStore<Global>>(rt: &impl Abort, store: &Kept<S>) -> boo
     map.frozen().is_sealed() && !before
 }
 
-fn keeps_summaries<S: DotStore<Global>>(live: &Live<S>) -> bool {
-    live.store().frozen().is_sealed()
-}
-
 // The same of that map, and then of the pair.
 pub fn is_sealed<S: DotStore<Global>>(rt: &impl Abort, live: &mut Live<S>) -> bool {
     let is_share_sealed = is_share_sealed(rt, live.store());
-    let before = keeps_summaries(live);
+    let before = live.store().frozen().is_sealed();
     live.seal().expect(rt, "memory");
-    keeps_summaries(live) && is_share_sealed && !before
+    let after = live.store().frozen().is_sealed();
+    after && is_share_sealed && !before
 }

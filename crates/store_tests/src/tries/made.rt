@@ -1,23 +1,13 @@
-// Tries with marks, their frozen maps, and their keys.
-use crate::tries::summaries::Mark;
+// Tries of numbers, their frozen maps, and their keys.
 use dots::{Key, Text};
-use gen_trie::{Frozen, GenTrie};
-use hash_path::{PathHash, Prefix};
-use std::alloc::{Allocator, Global};
+use gen_trie::{Frozen, GenTrie, NoSummary};
+use hash_path::PathHash;
+use std::alloc::Global;
 use std::process::Abort;
 
-pub type Trie<H, A = Global> = GenTrie<u64, Mark, H, A>;
+pub type Trie<H> = GenTrie<u64, NoSummary, H>;
 
-pub type Kept<H, A = Global> = Frozen<u64, Mark, H, A>;
-
-// The prefix of these indices.
-pub fn prefix_of(path: &[u32]) -> Option<Prefix> {
-    let mut prefix = Prefix::root();
-    for index in path {
-        prefix = prefix.child(*index)?;
-    }
-    Some(prefix)
-}
+pub type Kept<H> = Frozen<u64, NoSummary, H>;
 
 // The first byte of a text that is not empty.
 pub fn first_of<K>(text: &Text<K>) -> u64 {
@@ -28,10 +18,10 @@ pub fn first_of<K>(text: &Text<K>) -> u64 {
 }
 
 // Puts a value at the key of these bytes.
-pub fn put<H: PathHash, A: Allocator + Copy>(
+pub fn put<H: PathHash>(
     rt: &impl Abort,
-    alloc: A,
-    trie: &mut Trie<H, A>,
+    alloc: Global,
+    trie: &mut Trie<H>,
     key: &[u8],
     value: u64,
 ) {
@@ -59,12 +49,7 @@ pub fn bytes_of(number: u64) -> [u8; 8] {
 }
 
 // Puts each number below this one at its key.
-pub fn put_all<H: PathHash, A: Allocator + Copy>(
-    rt: &impl Abort,
-    alloc: A,
-    trie: &mut Trie<H, A>,
-    count: u64,
-) {
+pub fn put_all<H: PathHash>(rt: &impl Abort, alloc: Global, trie: &mut Trie<H>, count: u64) {
     for number in 0..count {
         put(rt, alloc, trie, &bytes_of(number), number);
     }

@@ -1,11 +1,7 @@
 // Many keys, beside std's BTreeMap as the plain program.
-ghost use Rattle.std.specs.Prelude.{bit_and};
-ghost use Rattle.hash_path.specs.Fnv1a.{fnv1a};
-ghost use Rattle.store_tests.specs.FewBits.{few_bits};
-
 use crate::tries::made::{Kept, Trie, put, taken};
 use gen_trie::GenTrie;
-use hash_path::{Fnv1a, PathHash};
+use hash_path::{Fnv1a, PathHash, SameHash};
 use std::alloc::Global;
 use std::collections::BTreeMap;
 use std::process::Abort;
@@ -65,26 +61,12 @@ fn run<H: PathHash>(
     same
 }
 
-// Whether the two have the same at this key.
-fn same_at<H: PathHash>(frozen: &Kept<H>, plain: &Plain, number: u64) -> bool {
-    let value = frozen.lookup_bytes(&number.to_be_bytes()).copied();
-    value == plain.get(&number).copied()
-}
-
-// How many keys a walk goes through.
-fn walked<H: PathHash>(frozen: &Kept<H>) -> usize {
-    let mut count: usize = 0;
-    for _ in frozen {
-        count = count.wrapping_add(1);
-    }
-    count
-}
-
 // Whether the two have the same at each key, and no other keys.
 fn agree<H: PathHash>(frozen: &Kept<H>, plain: &Plain, keys: u64) -> bool {
-    let mut same = frozen.size() == plain.len() as u64 && walked(frozen) == plain.len();
+    let mut same = frozen.size() == plain.len() as u64;
     for number in 0..keys {
-        same = same_at(frozen, plain, number) && same;
+        let value = frozen.lookup_bytes(&number.to_be_bytes()).copied();
+        same = value == plain.get(&number).copied() && same;
     }
     same
 }
@@ -129,23 +111,5 @@ fn writes_agree<H: PathHash>(rt: &impl Abort, alloc: Global, hash: H, keys: u64)
 #[test]
 fn random_writes_agree_with_a_plain_map(rt: HostRuntime) {
     assert!(rt; writes_agree(&rt, rt.alloc(), Fnv1a, 3000));
-}
-
-// A hash of eight values, which differ at three depths.
-#[derive(Clone, Copy, Default)]
-struct FewHashes;
-
-impl PathHash for FewHashes {
-    ghost hash_of = { λ _ key. bit_and (fnv1a key) 1057 };
-
-    ghost bounded = { λ _ key. few_bits (fnv1a key) };
-
-    fn hash(&self, key: &[u8]) -> u32 {
-        Fnv1a.hash(key) & 0x0421
-    }
-}
-
-#[test]
-fn random_writes_agree_where_hashes_meet(rt: HostRuntime) {
-    assert!(rt; writes_agree(&rt, rt.alloc(), FewHashes, 200));
+    assert!(rt; writes_agree(&rt, rt.alloc(), SameHash(0), 200));
 }

@@ -1,24 +1,18 @@
 // Worked maps from keys to fields, and what is asked of them at a prefix.
-use crate::tries::made::{first_of, prefix_of};
-use causal_context::Context;
+use crate::made::{dot, prefix};
 use causal_join::Fields;
 use dot_store::{DotFun, DotStore};
-use dots::{Dot, Field, Key, Name, Value};
+use dots::{Field, Key, Value};
 use gen_trie::GenTrie;
 use hash_path::{Fnv1a, PathHash, Prefix, SameHash};
-use prefix_digest::{FrozenMap, ShaSummary, digest, digest_of, page, page_value, values_for};
+use prefix_digest::{FrozenMap, ShaSummary, digest, page};
 use std::alloc::Global;
 use std::process::Abort;
 
 // The dots with their values at a field.
-pub type Values<'a> = &'a [((u64, u64), &'a [u8])];
+type Values<'a> = &'a [((u64, u64), &'a [u8])];
 
 type Trie<H> = GenTrie<Fields, ShaSummary, H>;
-
-fn dot(rt: &impl Abort, name: u64, number: u64) -> Dot {
-    let name = Name::new(name).expect(rt, "a name");
-    Dot::new(name, number).expect(rt, "a number")
-}
 
 // The values at these dots.
 fn values_of(rt: &impl Abort, alloc: Global, values: Values) -> DotFun<Value> {
@@ -146,23 +140,8 @@ fn write<H: PathHash>(rt: &impl Abort, alloc: Global, trie: &mut Trie<H>, map: W
 pub enum Asked<'a> {
     // Whether this is its digest.
     Digest(Option<&'a [u8; 32]>),
-    // Whether these are the bytes of its page, of which the digest is that of the map there.
+    // Whether these are the bytes of its page.
     Page(Option<&'a [u8]>),
-    // Whether its page names values of these bytes, one each, as the bytes of a number, to who knows these dots.
-    Values(&'a [(u64, u64)], u64),
-}
-
-// The digest of the page, if there is one.
-fn told<H: PathHash>(
-    rt: &impl Abort,
-    alloc: Global,
-    frozen: &FrozenMap<H>,
-    prefix: Prefix,
-) -> Option<[u8; 32]> {
-    match page_value(alloc, frozen, prefix).expect(rt, "memory") {
-        None => None,
-        Some(page) => Some(digest_of(&page)),
-    }
 }
 
 // Whether these are the bytes of the page.
@@ -175,38 +154,6 @@ fn is_spelled<H: PathHash>(
 ) -> bool {
     let page = page(alloc, frozen, prefix).expect(rt, "memory");
     page.as_deref() == wanted
-}
-
-// The context of these dots.
-fn context_of(rt: &impl Abort, alloc: Global, dots: &[(u64, u64)]) -> Context {
-    let mut context = Context::new(alloc);
-    for (name, number) in dots {
-        context.add(dot(rt, *name, *number)).expect(rt, "memory");
-    }
-    context
-}
-
-// The first bytes of values that are not empty, as the bytes of a number.
-fn firsts(values: &[Value]) -> u64 {
-    let mut number: u64 = 0;
-    for value in values {
-        number = number.wrapping_mul(0x100).wrapping_add(first_of(value));
-    }
-    number
-}
-
-// Whether the page names values of these first bytes to who knows these dots.
-fn names_values<H: PathHash>(
-    rt: &impl Abort,
-    alloc: Global,
-    frozen: &FrozenMap<H>,
-    prefix: Prefix,
-    known: &[(u64, u64)],
-    wanted: u64,
-) -> bool {
-    let known = context_of(rt, alloc, known);
-    let values = values_for(alloc, frozen, prefix, &known).expect(rt, "memory");
-    firsts(&values) == wanted
 }
 
 // The hash that keys' paths are by.
@@ -222,14 +169,10 @@ pub type Row = (&'static str, By, Map, &'static [u32], Asked<'static>);
 
 // Whether what is asked is so of this frozen map.
 fn is_so_of<H: PathHash>(rt: &impl Abort, alloc: Global, frozen: &FrozenMap<H>, row: &Row) -> bool {
-    let prefix = prefix_of(row.3).expect(rt, "a prefix");
+    let prefix = prefix(rt, row.3);
     match row.4 {
         Asked::Digest(wanted) => digest(frozen, prefix) == wanted.copied(),
-        Asked::Page(wanted) => {
-            let is_told = told(rt, alloc, frozen, prefix) == digest(frozen, prefix);
-            is_spelled(rt, alloc, frozen, prefix, wanted) && is_told
-        }
-        Asked::Values(known, wanted) => names_values(rt, alloc, frozen, prefix, known, wanted),
+        Asked::Page(wanted) => is_spelled(rt, alloc, frozen, prefix, wanted),
     }
 }
 

@@ -1,9 +1,7 @@
-// A trie and a frozen map, after calls at them. How many nodes a seal reaches, how many keys stand under a prefix and the
-// walk of a thousand keys were computed by a program in python, from the paths of the keys.
-use crate::tries::made::{Kept, Trie, bytes_of, first_of, prefix_of, put, put_all, taken};
-use crate::tries::summaries::Mark;
-use dots::Key;
-use gen_trie::{Frozen, GenTrie, Iter};
+// A trie and a frozen map, after calls at them. How many nodes a seal reaches and the walk of a thousand keys were computed by
+// a program in python, from the paths of the keys.
+use crate::tries::made::{Kept, Trie, bytes_of, first_of, put, put_all, taken};
+use gen_trie::{Frozen, GenTrie, Iter, NoSummary};
 use hash_path::{Fnv1a, PathHash, SameHash};
 use std::alloc::Global;
 use std::process::Abort;
@@ -20,8 +18,6 @@ enum Step {
     Take(&'static [u8], Option<u64>),
     Clear,
     Seal,
-    // What the trie and the frozen map have at a key.
-    Find(&'static [u8], Option<u64>, Option<u64>),
     // A frozen map that takes the place of the one before.
     Freeze,
     Share,
@@ -29,18 +25,6 @@ enum Step {
     SealFrozen,
     // The frozen map as a trie, in the place of the one before.
     Thaw,
-}
-
-// What a trie and a frozen map have at the key of these bytes.
-fn found<H: PathHash>(
-    rt: &impl Abort,
-    alloc: Global,
-    trie: &Trie<H>,
-    frozen: &Kept<H>,
-    key: &[u8],
-) -> (Option<u64>, Option<u64>) {
-    let key = Key::new(alloc, key).expect(rt, "memory");
-    (trie.lookup(&key).copied(), frozen.lookup(&key).copied())
 }
 
 // Writes the trie, and tells whether the call answers what it has to.
@@ -65,9 +49,6 @@ fn is_made<H: PathHash>(
     step: Step,
 ) -> bool {
     match step {
-        Step::Find(key, first, second) => {
-            return found(rt, alloc, trie, frozen, key) == (first, second);
-        }
         Step::Freeze => *frozen = trie.freeze().expect(rt, "memory"),
         Step::Share => *frozen = trie.share().expect(rt, "memory"),
         Step::Copy => *frozen = frozen.copy().expect(rt, "memory"),
@@ -93,16 +74,14 @@ fn are_made<H: PathHash>(
     right
 }
 
-// How many keys a walk goes through, and the walk as the digits of a number: three of the first byte of each key, and one of its
-// value.
-fn walked(walk: Iter<'_, u64, Mark>) -> (u64, u64) {
-    let (mut count, mut digits) = (0u64, 0u64);
+// The walk as the digits of a number: three of the first byte of each key, and one of its value.
+fn walked(walk: Iter<'_, u64, NoSummary>) -> u64 {
+    let mut digits: u64 = 0;
     for (key, value) in walk {
         let with_key = digits.wrapping_mul(1_000).wrapping_add(first_of(key));
         digits = with_key.wrapping_mul(10).wrapping_add(*value);
-        count = count.wrapping_add(1);
     }
-    (count, digits)
+    digits
 }
 
 // How many keys there are, their walk, and whether all nodes keep their summaries.
@@ -112,8 +91,8 @@ type Seen = (u64, u64, bool);
 type Both = (Seen, u64, Seen);
 
 fn seen<H: PathHash>(trie: &Trie<H>, frozen: &Kept<H>) -> Both {
-    let of_trie = walked(trie.into_iter()).1;
-    let of_frozen = walked(frozen.into_iter()).1;
+    let of_trie = walked(trie.into_iter());
+    let of_frozen = walked(frozen.into_iter());
     (
         (trie.size(), of_trie, trie.is_sealed()),
         trie.stamped(),
@@ -121,21 +100,8 @@ fn seen<H: PathHash>(trie: &Trie<H>, frozen: &Kept<H>) -> Both {
     )
 }
 
-// Indices that are a prefix, how many keys of a frozen map are under them, and its summary there.
-type Under = (&'static [u32], u64, Option<Mark>);
-
-fn are_under<H: PathHash>(rt: &impl Abort, frozen: &Kept<H>, wanted: &[Under]) -> bool {
-    let mut same = true;
-    for (path, count, mark) in wanted {
-        let prefix = prefix_of(path).expect(rt, "a prefix");
-        let is_counted = walked(frozen.iter_under(prefix)).0 == *count;
-        same = frozen.summary(prefix) == *mark && is_counted && same;
-    }
-    same
-}
-
-// Of what, the calls at an empty trie and an empty frozen map, what is seen of both then, and of the second under prefixes.
-type Row = (&'static str, &'static [Step], Both, &'static [Under]);
+// Of what, the calls at an empty trie and an empty frozen map, and what is seen of both then.
+type Row = (&'static str, &'static [Step], Both);
 
 // Whether it is so of these.
 fn is_so_of<H: PathHash>(
@@ -147,7 +113,7 @@ fn is_so_of<H: PathHash>(
 ) -> bool {
     let are_made = are_made(rt, alloc, trie, frozen, row.1);
     let are_seen = seen(trie, frozen) == row.2;
-    are_under(rt, frozen, row.3) && are_seen && are_made
+    are_seen && are_made
 }
 
 // The same of new ones by this hash, in boxes, as such a local is dear to prove.
@@ -176,96 +142,51 @@ const REPLACED: u64 = 989_0971_0993;
 const THOUSAND: u64 = 8_212_025_285_414_519_596;
 
 const BY_FNV1A: &[Row] = &[
-    (
-        "new ones have no keys",
-        &[],
-        (NONE, 0, NONE),
-        &[(&[], 0, None)],
-    ),
+    ("new ones have no keys", &[], (NONE, 0, NONE)),
     (
         "a walk goes by the lowest bits of the hash",
         &[A, B, C],
         ((3, THREE, false), 0, NONE),
-        &[],
     ),
     (
         "a value is replaced",
         &[A, B, C, B_AGAIN],
         ((3, REPLACED, false), 0, NONE),
-        &[],
     ),
     (
         "a key is taken out once",
         &[A, B, C, Step::Take(b"a", Some(1)), Step::Take(b"a", None)],
         ((2, 982_0993, false), 0, NONE),
-        &[],
     ),
     (
         "a clear takes all keys out",
         &[A, B, C, Step::Clear],
         (NONE, 0, NONE),
-        &[],
     ),
     (
         "a freeze keeps the summaries",
         &[A, B, C, Step::Freeze],
         ((3, THREE, true), 0, (3, THREE, true)),
-        &[
-            (&[], 3, Some(Mark::Branch(3))),
-            (&[12], 1, Some(Mark::Leaf(1))),
-            (&[12, 9], 1, Some(Mark::Leaf(1))),
-            (&[12, 8], 0, None),
-        ],
     ),
     (
         "a frozen map stays what it was",
-        &[
-            A,
-            B,
-            C,
-            Step::Freeze,
-            B_AGAIN,
-            Step::Take(b"a", Some(1)),
-            Step::Find(b"b", Some(9), Some(2)),
-        ],
+        &[A, B, C, Step::Freeze, B_AGAIN, Step::Take(b"a", Some(1))],
         ((2, 989_0993, false), 0, (3, THREE, true)),
-        &[(&[5], 1, Some(Mark::Leaf(2)))],
     ),
     (
         "so does its copy",
-        &[
-            A,
-            B,
-            C,
-            Step::Freeze,
-            Step::Copy,
-            Step::Clear,
-            Step::Find(b"c", None, Some(3)),
-        ],
+        &[A, B, C, Step::Freeze, Step::Copy, Step::Clear],
         (NONE, 0, (3, THREE, true)),
-        &[],
     ),
     (
         "and what it was thawed from",
         &[A, B, C, Step::Freeze, Step::Thaw, B_AGAIN],
         ((3, REPLACED, false), 0, (3, THREE, true)),
-        &[],
     ),
     (
         "a seal reaches each node",
         &[Step::PutAll(1_000), Step::Seal],
         ((1_000, THOUSAND, true), 315, NONE),
-        &[],
-    ),
-    (
-        "a walk under a prefix is that part",
-        &[Step::PutAll(1_000), Step::Freeze],
-        ((1_000, THOUSAND, true), 0, (1_000, THOUSAND, true)),
-        &[
-            (&[], 1_000, Some(Mark::Branch(32))),
-            (&[7], 37, Some(Mark::Branch(19))),
-            (&[7, 3], 2, Some(Mark::Branch(2))),
-        ],
     ),
     (
         "a seal after a freeze reaches what was written",
@@ -276,25 +197,21 @@ const BY_FNV1A: &[Row] = &[
             Step::Seal,
         ],
         ((1_001, THOUSAND, true), 3, (1_000, THOUSAND, true)),
-        &[],
     ),
     (
         "a share keeps what summaries there are",
         &[Step::PutAll(1_000), Step::Share],
         ((1_000, THOUSAND, false), 0, (1_000, THOUSAND, false)),
-        &[(&[7], 37, Some(Mark::Branch(19)))],
     ),
     (
         "a share is sealed by itself",
         &[Step::PutAll(1_000), Step::Share, Step::SealFrozen],
         ((1_000, THOUSAND, false), 0, (1_000, THOUSAND, true)),
-        &[],
     ),
     (
         "a seal copies the nodes that are shared",
         &[Step::PutAll(1_000), Step::Share, Step::Seal],
         ((1_000, THOUSAND, true), 315, (1_000, THOUSAND, false)),
-        &[],
     ),
     (
         "as few nodes are sealed after a share as after a freeze",
@@ -306,7 +223,6 @@ const BY_FNV1A: &[Row] = &[
             Step::Seal,
         ],
         ((1_001, THOUSAND, true), 3, (1_000, THOUSAND, true)),
-        &[],
     ),
 ];
 
@@ -320,9 +236,8 @@ fn calls_leave_what_they_have_to(rt: HostRuntime) {
 const BY_ONE_HASH: &[Row] = &[
     (
         "a walk goes by bytes",
-        &[A, B, C, Step::Find(b"d", None, None)],
+        &[A, B, C],
         ((3, 971_0982_0993, false), 0, NONE),
-        &[],
     ),
     (
         "keys are told apart, and one alone has no node that lacks a summary",
@@ -334,16 +249,11 @@ const BY_ONE_HASH: &[Row] = &[
             Step::Take(b"c", Some(3)),
         ],
         ((1, 971, true), 0, NONE),
-        &[],
     ),
     (
         "keys of equal hashes are a list",
         &[A, B, C, Step::Freeze],
         ((3, 971_0982_0993, true), 0, (3, 971_0982_0993, true)),
-        &[
-            (&[], 3, Some(Mark::Branch(1))),
-            (&[0; 7], 3, Some(Mark::List(3))),
-        ],
     ),
 ];
 

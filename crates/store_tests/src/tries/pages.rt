@@ -1,10 +1,52 @@
-// The pages of worked maps, and the values that they name. What is expected was put together by hand, with digests computed
-// by python3's hashlib.
+// The digests and the pages of worked maps. What is expected was put together by hand, with digests computed by python3's
+// hashlib.
 use crate::tries::mapped::{Asked, By, Map, Row, is_so};
-use dots::Value;
-use prefix_digest::value_digest;
-use std::alloc::Global;
-use std::process::Abort;
+use prefix_digest::check;
+
+// The digest of the key `a` with the dot 1:1 and the value x at the empty field, alone.
+const OF_A: [u8; 32] = [
+    0xea, 0xa2, 0x8b, 0x34, 0x8f, 0x28, 0x41, 0xf2, 0xb4, 0x5b, 0xa7, 0xb7, 0xd9, 0x2f, 0xf0, 0xec,
+    0xdf, 0xbf, 0xdd, 0xc7, 0xc7, 0xd9, 0x25, 0x76, 0xb4, 0x10, 0x44, 0xc4, 0x1b, 0xaa, 0xa4, 0x05,
+];
+
+// The same key with the dots 1:1 and 2:1, of the values x and y.
+const OF_TWO_VALUES: [u8; 32] = [
+    0xa2, 0x8c, 0x8f, 0x21, 0xf4, 0x30, 0x84, 0x1a, 0xa6, 0x8b, 0x67, 0x25, 0x93, 0x9d, 0xce, 0x7a,
+    0xa1, 0x22, 0xd8, 0x24, 0x8c, 0x14, 0x4e, 0xc7, 0x97, 0x06, 0x2b, 0xa3, 0x1d, 0x99, 0x46, 0x5f,
+];
+
+// The same, and with the dot 1:2 and the value z at the field `f`.
+const OF_TWO_FIELDS: [u8; 32] = [
+    0x92, 0x61, 0xc4, 0xe4, 0x4e, 0x09, 0xe5, 0x4a, 0x2c, 0xac, 0x1f, 0x05, 0xe9, 0x84, 0x8c, 0xe4,
+    0xcb, 0xe2, 0x01, 0x74, 0x58, 0xbe, 0xba, 0x78, 0xb2, 0x09, 0x18, 0x49, 0x08, 0xd0, 0xdc, 0xea,
+];
+
+// The empty key with 2:1 and v, and b with 2:2 and w: at the index 5, and at the root.
+const AT_FIVE: [u8; 32] = [
+    0x6f, 0x9b, 0xbe, 0x9d, 0x13, 0x3d, 0x94, 0x0f, 0x83, 0x97, 0xb6, 0xa0, 0x8c, 0x4a, 0xdb, 0xe4,
+    0xef, 0x10, 0x1a, 0x7b, 0x31, 0xc5, 0x87, 0x80, 0x37, 0xd3, 0x4f, 0xc2, 0x63, 0xb1, 0x31, 0x17,
+];
+
+const AT_ROOT: [u8; 32] = [
+    0x3a, 0xb5, 0xe2, 0x6a, 0xfd, 0x92, 0xf4, 0x35, 0xe3, 0x4f, 0xef, 0x02, 0xb1, 0xde, 0x23, 0x5e,
+    0x8c, 0x36, 0x26, 0xa8, 0xe3, 0xe7, 0x3e, 0xfd, 0xe3, 0x73, 0x7a, 0xbd, 0x0b, 0x6f, 0x06, 0x0a,
+];
+
+const OF_B: [u8; 32] = [
+    0xa2, 0x2c, 0x68, 0x51, 0xea, 0x25, 0xfa, 0xb7, 0xe9, 0xdd, 0x94, 0x2c, 0xf6, 0x65, 0x98, 0x3a,
+    0x3f, 0xf8, 0x66, 0x6c, 0xed, 0xa0, 0x7f, 0x43, 0x01, 0x05, 0xe5, 0x41, 0xfe, 0x14, 0x4c, 0x9c,
+];
+
+// The keys a, b and c with 1:1, 1:2 and 1:3, of the values x, y and z, all of the hash 0: past the last index, and at the root.
+const OF_LIST: [u8; 32] = [
+    0x7e, 0x3a, 0x07, 0x03, 0x64, 0x8e, 0x20, 0x16, 0xd8, 0xe4, 0x06, 0xb3, 0xce, 0xee, 0x7d, 0xc2,
+    0xe8, 0x23, 0x1b, 0xcd, 0x35, 0x3e, 0x71, 0x15, 0xa1, 0x1d, 0x68, 0x12, 0xf2, 0xa3, 0x66, 0xb8,
+];
+
+const OF_ONE_HASH: [u8; 32] = [
+    0xd7, 0x76, 0x84, 0x48, 0x14, 0xbd, 0x20, 0x40, 0x51, 0x0b, 0xa0, 0x1c, 0xb6, 0x52, 0x39, 0xe0,
+    0xaa, 0x75, 0x5a, 0x88, 0x90, 0xd0, 0xd2, 0x4a, 0xf7, 0x7b, 0x15, 0xfe, 0x7a, 0xd8, 0x46, 0x9d,
+];
 
 // The page of the key `a` with the dot 1:1 and the value x at the empty field, alone.
 const PAGE_OF_A: [u8; 70] = [
@@ -106,159 +148,245 @@ const AT_DEPTH_6: [u8; 34] = [
     0x66, 0xb8,
 ];
 
-// The SHA-256 of the one byte x.
-const NAME_OF_X: [u8; 32] = [
-    0x2d, 0x71, 0x16, 0x42, 0xb7, 0x26, 0xb0, 0x44, 0x01, 0x62, 0x7c, 0xa9, 0xfb, 0xac, 0x32, 0xf5,
-    0xc8, 0x53, 0x0f, 0xb1, 0x90, 0x3c, 0xc4, 0xdb, 0x02, 0x25, 0x87, 0x17, 0x92, 0x1a, 0x48, 0x81,
-];
-
-// A page has the digest of the map there and names its values, and that of the empty key is a byte shorter. Values are given
-// at unknown dots. What is left has the page that it has alone, keys of one hash have a page at each depth, and values of several
-// keys are given in a list alone.
+// One key has one digest at each prefix of its path, all values and fields of a key are told, two keys share their first
+// index, what is left has the digest and the page that it has alone, no keys have none, and keys of one hash are told past the
+// last index and have a page at each depth. The page of the empty key is a byte shorter.
 const ROWS: &[Row] = &[
     (
         "one key",
         By::Fnv1a,
         Map::OnlyA,
         &[],
-        Asked::Page(Some(&PAGE_OF_A)),
+        Asked::Digest(Some(&OF_A)),
     ),
     (
         "one key, further",
+        By::Fnv1a,
+        Map::OnlyA,
+        &[12, 9],
+        Asked::Digest(Some(&OF_A)),
+    ),
+    (
+        "another prefix",
+        By::Fnv1a,
+        Map::OnlyA,
+        &[12, 8],
+        Asked::Digest(None),
+    ),
+    (
+        "all values",
+        By::Fnv1a,
+        Map::TwoValues,
+        &[],
+        Asked::Digest(Some(&OF_TWO_VALUES)),
+    ),
+    (
+        "all fields",
+        By::Fnv1a,
+        Map::TwoFields,
+        &[],
+        Asked::Digest(Some(&OF_TWO_FIELDS)),
+    ),
+    (
+        "two keys",
+        By::Fnv1a,
+        Map::Two,
+        &[],
+        Asked::Digest(Some(&AT_ROOT)),
+    ),
+    (
+        "two keys, further",
+        By::Fnv1a,
+        Map::Two,
+        &[5],
+        Asked::Digest(Some(&AT_FIVE)),
+    ),
+    (
+        "one of two",
+        By::Fnv1a,
+        Map::Two,
+        &[5, 15],
+        Asked::Digest(Some(&OF_B)),
+    ),
+    (
+        "what is left",
+        By::Fnv1a,
+        Map::Left,
+        &[],
+        Asked::Digest(Some(&OF_A)),
+    ),
+    ("no keys", By::Fnv1a, Map::Nothing, &[], Asked::Digest(None)),
+    (
+        "three keys of one hash",
+        By::OneHash,
+        Map::Three,
+        &[],
+        Asked::Digest(Some(&OF_ONE_HASH)),
+    ),
+    (
+        "three keys of one hash, at the end",
+        By::OneHash,
+        Map::Three,
+        &[0; 7],
+        Asked::Digest(Some(&OF_LIST)),
+    ),
+    (
+        "what is left of them",
+        By::OneHash,
+        Map::Left,
+        &[],
+        Asked::Digest(Some(&OF_A)),
+    ),
+    (
+        "the page of one key",
+        By::Fnv1a,
+        Map::OnlyA,
+        &[],
+        Asked::Page(Some(&PAGE_OF_A)),
+    ),
+    (
+        "the page of one key, further",
         By::Fnv1a,
         Map::OnlyA,
         &[12],
         Asked::Page(Some(&PAGE_OF_A)),
     ),
     (
-        "empty key",
+        "the page of the empty key",
         By::Fnv1a,
         Map::Two,
         &[5, 14],
         Asked::Page(Some(&PAGE_OF_EMPTY)),
     ),
     (
-        "two keys",
+        "the page of two keys",
         By::Fnv1a,
         Map::Two,
         &[5],
         Asked::Page(Some(&PAGE_AT_FIVE)),
     ),
-    ("no keys", By::Fnv1a, Map::OnlyA, &[13], Asked::Page(None)),
     (
-        "all values",
+        "no page of no keys",
         By::Fnv1a,
-        Map::TwoFields,
-        &[],
-        Asked::Values(&[], 0x7879_7a),
+        Map::OnlyA,
+        &[13],
+        Asked::Page(None),
     ),
     (
-        "two values",
-        By::Fnv1a,
-        Map::TwoFields,
-        &[12],
-        Asked::Values(&[(1, 1)], 0x797a),
-    ),
-    (
-        "what is left",
+        "the page of what is left",
         By::OneHash,
         Map::Left,
         &[],
         Asked::Page(Some(&PAGE_OF_A)),
     ),
     (
-        "three keys",
+        "the page of three keys",
         By::OneHash,
         Map::Three,
         &[],
         Asked::Page(Some(&AT_DEPTH_0)),
     ),
     (
-        "one index",
+        "the page at one index",
         By::OneHash,
         Map::Three,
         &[0; 1],
         Asked::Page(Some(&AT_DEPTH_1)),
     ),
     (
-        "two indices",
+        "the page at two indices",
         By::OneHash,
         Map::Three,
         &[0; 2],
         Asked::Page(Some(&AT_DEPTH_2)),
     ),
     (
-        "three indices",
+        "the page at three indices",
         By::OneHash,
         Map::Three,
         &[0; 3],
         Asked::Page(Some(&AT_DEPTH_3)),
     ),
     (
-        "four indices",
+        "the page at four indices",
         By::OneHash,
         Map::Three,
         &[0; 4],
         Asked::Page(Some(&AT_DEPTH_4)),
     ),
     (
-        "five indices",
+        "the page at five indices",
         By::OneHash,
         Map::Three,
         &[0; 5],
         Asked::Page(Some(&AT_DEPTH_5)),
     ),
     (
-        "six indices",
+        "the page at six indices",
         By::OneHash,
         Map::Three,
         &[0; 6],
         Asked::Page(Some(&AT_DEPTH_6)),
     ),
     (
-        "list",
+        "the page of a list",
         By::OneHash,
         Map::Three,
         &[0; 7],
         Asked::Page(Some(&PAGE_OF_LIST)),
     ),
     (
-        "a and c",
+        "the page of a and c",
         By::OneHash,
         Map::WithoutB,
         &[0; 7],
         Asked::Page(Some(&PAGE_OF_A_AND_C)),
     ),
-    (
-        "two values of a list",
-        By::OneHash,
-        Map::Three,
-        &[0; 7],
-        Asked::Values(&[(1, 2)], 0x787a),
-    ),
-    (
-        "no values of a branch",
-        By::OneHash,
-        Map::Three,
-        &[0; 6],
-        Asked::Values(&[], 0),
-    ),
 ];
 
 #[test]
-fn a_page_names_its_values(rt: HostRuntime) {
+fn each_map_has_its_digest_and_its_page_at_each_prefix(rt: HostRuntime) {
     for row in ROWS {
         assert!(rt; is_so(&rt, rt.alloc(), row), "{}", row.0);
     }
 }
 
-// The name of the value x.
-fn name_of_x(rt: &impl Abort, alloc: Global) -> [u8; 32] {
-    let value = Value::new(alloc, b"x").expect(rt, "memory");
-    value_digest(&value)
-}
+// FIPS 180-4: the digest of the three bytes abc.
+const OF_ABC: [u8; 32] = [
+    0xba, 0x78, 0x16, 0xbf, 0x8f, 0x01, 0xcf, 0xea, 0x41, 0x41, 0x40, 0xde, 0x5d, 0xae, 0x22, 0x23,
+    0xb0, 0x03, 0x61, 0xa3, 0x96, 0x17, 0x7a, 0x9c, 0xb4, 0x10, 0xff, 0x61, 0xf2, 0x00, 0x15, 0xad,
+];
+
+// The page of b with 2:2 and w.
+const PAGE_OF_B: [u8; 70] = [
+    0x00, 0x00, 0x01, 0x62, 0x00, 0x00, 0x00, 0x00, 0x00, 0x00, 0x00, 0x01, 0x00, 0x00, 0x00, 0x00,
+    0x00, 0x00, 0x00, 0x00, 0x00, 0x01, 0x00, 0x00, 0x00, 0x00, 0x00, 0x00, 0x00, 0x02, 0x00, 0x00,
+    0x00, 0x00, 0x00, 0x00, 0x00, 0x02, 0x50, 0xe7, 0x21, 0xe4, 0x9c, 0x01, 0x3f, 0x00, 0xc6, 0x2c,
+    0xf5, 0x9f, 0x21, 0x63, 0x54, 0x2a, 0x9d, 0x8d, 0xf0, 0x24, 0x64, 0xef, 0xeb, 0x61, 0x5d, 0x31,
+    0x05, 0x1b, 0x0f, 0xdd, 0xc3, 0x26,
+];
+
+// The same with w changed in one bit.
+const CHANGED: [u8; 70] = [
+    0x00, 0x00, 0x01, 0x62, 0x00, 0x00, 0x00, 0x00, 0x00, 0x00, 0x00, 0x01, 0x00, 0x00, 0x00, 0x00,
+    0x00, 0x00, 0x00, 0x00, 0x00, 0x01, 0x00, 0x00, 0x00, 0x00, 0x00, 0x00, 0x00, 0x02, 0x00, 0x00,
+    0x00, 0x00, 0x00, 0x00, 0x00, 0x02, 0x50, 0xe7, 0x21, 0xe4, 0x9c, 0x01, 0x3f, 0x00, 0xc6, 0x2c,
+    0xf5, 0x9f, 0x21, 0x63, 0x54, 0x2a, 0x9d, 0x8d, 0xf0, 0x24, 0x64, 0xef, 0xeb, 0x61, 0x5d, 0x31,
+    0x05, 0x1b, 0x0f, 0xdd, 0xc3, 0x27,
+];
+
+// Bytes, a digest, and whether it is theirs.
+const CHECKED: &[(&[u8], &[u8; 32], bool)] = &[
+    (b"abc", &OF_ABC, true),
+    (b"abd", &OF_ABC, false),
+    (b"abc", &OF_A, false),
+    (&PAGE_OF_B, &OF_B, true),
+    (&CHANGED, &OF_B, false),
+];
 
 #[test]
-fn a_value_is_named_by_its_digest(rt: HostRuntime) {
-    assert!(rt; name_of_x(&rt, rt.alloc()) == NAME_OF_X);
+fn a_page_is_checked_by_its_digest(rt: HostRuntime) {
+    for (bytes, digest, is_theirs) in CHECKED {
+        assert!(rt; check(bytes, digest) == *is_theirs);
+    }
 }

@@ -1,7 +1,6 @@
 // Workiva's calls: tries with snapshots, by single acts and by runs of them.
 use ctrie_api::{Act, Ctrie, Tries};
 use dots::{Key, Refusal};
-use gen_trie::{Frozen, NoSummary};
 use hash_path::Fnv1a;
 use std::alloc::Global;
 use std::process::Abort;
@@ -195,35 +194,4 @@ fn acts_write_each_trie_alone(rt: HostRuntime) {
             "{of}, by a run"
         );
     }
-}
-
-// Whether a frozen map is thawed to a trie that has the value 1 at one key and can be written.
-fn is_thawed(rt: &impl Abort, frozen: &Frozen<u64, NoSummary, Fnv1a>) -> bool {
-    let thawed: Map = Ctrie::thaw(frozen).expect(rt, "memory");
-    (digits(&thawed) == 1) & !thawed.is_read_only()
-}
-
-// The same of what a trie is frozen to, which keeps its summaries.
-fn is_frozen(rt: &impl Abort, trie: &mut Map) -> bool {
-    let frozen = trie.freeze().expect(rt, "memory");
-    is_thawed(rt, &frozen) & frozen.is_sealed()
-}
-
-// The same of a read-only snapshot.
-fn is_snapshot_frozen(rt: &impl Abort, trie: &mut Map) -> bool {
-    let mut read_only = trie.read_only_snapshot().expect(rt, "memory");
-    is_frozen(rt, &mut read_only)
-}
-
-// Whether it is so of a trie of that key, and of a read-only snapshot of it.
-fn are_frozen(rt: &impl Abort, alloc: Global) -> bool {
-    let mut trie = Ctrie::new(alloc, Fnv1a);
-    let is_put = trie.insert(key_of(rt, alloc, b'a'), 1).is_ok();
-    let is_first = is_frozen(rt, &mut trie);
-    is_snapshot_frozen(rt, &mut trie) & is_first & is_put
-}
-
-#[test]
-fn a_trie_is_frozen_and_thawed(rt: HostRuntime) {
-    assert!(rt; are_frozen(&rt, rt.alloc()));
 }

@@ -1,7 +1,6 @@
 // Made by `python3 crates/trace_tests/reference/make_tests.py`, which has the texts from `text_of_trace.py` beside it, that is from
 // the definitions and not from our program.
-use crate::tests::answering::answers;
-use std::process::Abort;
+use crate::tests::rows::gives;
 
 const BASKET: &str = "node 1
 node 2
@@ -46,11 +45,6 @@ joined
 = 3
 = 2
 ";
-
-#[test]
-fn basket_has_its_text(rt: HostRuntime) {
-    answers(&rt, rt.alloc(), BASKET, BASKET_TEXT);
-}
 
 const DEPOTS: &str = "node 1
 node 2
@@ -107,11 +101,6 @@ context 1:3 2:1
 af90962e71e6fe4e81326ba82021d0fe36977f3b9653c1461f64a8ce4e565084
 af90962e71e6fe4e81326ba82021d0fe36977f3b9653c1461f64a8ce4e565084
 ";
-
-#[test]
-fn depots_has_its_text(rt: HostRuntime) {
-    answers(&rt, rt.alloc(), DEPOTS, DEPOTS_TEXT);
-}
 
 const OUTAGE: &str = "node 1
 node 2
@@ -181,11 +170,6 @@ joined
 2c99ef18b229c76e224fd0433e144307da131b425770d3c5a22d5b877d18adec
 ";
 
-#[test]
-fn outage_has_its_text(rt: HostRuntime) {
-    answers(&rt, rt.alloc(), OUTAGE, OUTAGE_TEXT);
-}
-
 const REGISTRY: &str = "node 1
 node 2
 node 3
@@ -244,11 +228,6 @@ ok 0
 empty
 ";
 
-#[test]
-fn registry_has_its_text(rt: HostRuntime) {
-    answers(&rt, rt.alloc(), REGISTRY, REGISTRY_TEXT);
-}
-
 const RELEASE: &str = "node 1
 node 2
 put 1 timeout 30
@@ -296,11 +275,6 @@ ok 2:1
 = 30
 = 5
 ";
-
-#[test]
-fn release_has_its_text(rt: HostRuntime) {
-    answers(&rt, rt.alloc(), RELEASE, RELEASE_TEXT);
-}
 
 const SERVICES: &str = "node 1
 node 2
@@ -358,11 +332,6 @@ map 0
 map 1 billing 3 10.0.0.5 4 9000
 ";
 
-#[test]
-fn services_has_its_text(rt: HostRuntime) {
-    answers(&rt, rt.alloc(), SERVICES, SERVICES_TEXT);
-}
-
 const SETTINGS: &str = "node 1
 node 2
 node 3
@@ -403,7 +372,21 @@ joined
 empty
 ";
 
+// The name of a trace, the trace, and its text.
+const TRACES: &[(&str, &str, &str)] = &[
+    ("basket", BASKET, BASKET_TEXT),
+    ("depots", DEPOTS, DEPOTS_TEXT),
+    ("outage", OUTAGE, OUTAGE_TEXT),
+    ("registry", REGISTRY, REGISTRY_TEXT),
+    ("release", RELEASE, RELEASE_TEXT),
+    ("services", SERVICES, SERVICES_TEXT),
+    ("settings", SETTINGS, SETTINGS_TEXT),
+];
+
 #[test]
-fn settings_has_its_text(rt: HostRuntime) {
-    answers(&rt, rt.alloc(), SETTINGS, SETTINGS_TEXT);
+fn each_has_its_text(rt: HostRuntime) {
+    for (name, trace, text) in TRACES {
+        let is_so = gives(&rt, rt.alloc(), trace, text, None);
+        assert!(rt; is_so, "{name}");
+    }
 }

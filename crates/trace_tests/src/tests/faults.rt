@@ -1,20 +1,19 @@
 ghost use Rattle.watched_io.specs.Watched.{IsNew};
 
-use crate::tests::removing::{BESIDE_A_CLEAR, BESIDE_A_CLEAR_TEXT};
-use crate::tests::sessions::{PAGES_UNDER_ONE_INDEX, PAGES_UNDER_ONE_INDEX_TEXT};
+use crate::tests::rows::{
+    BESIDE_A_CLEAR, BESIDE_A_CLEAR_TEXT, PAGES_UNDER_ONE_INDEX, PAGES_UNDER_ONE_INDEX_TEXT,
+};
 use dots::Refusal;
 use std::alloc::Global;
 use std::io;
 use std::io::{Read, Write};
-use std::process::Abort;
-use std::test::Fail;
 use trace_cli::run;
 use watched_io::Watched;
 
 pub(crate) const TRACE: &str =
     "node 1\nnode 2\nput 1 a x\nput 2 a y\nflush 1\nflush 2\ndeliver 1 2\ndeliver 2 1\nget 1 a\nget 2 a\nput 1 a z\nflush 1\ndeliver 3 2\nget 1 a\nget 2 a\nflush 2\n";
 
-const TEXT: &str =
+pub(crate) const TEXT: &str =
     "ok\nok\nok 1:1\nok 2:1\nsent 1:delta\nsent 2:delta\njoined\njoined\n= x y\n= x y\nok 1:2\nsent 3:delta\njoined\n= z\n= z\nempty\n";
 
 /// Gives so many bytes a call, and fails at the call of this number, counted from 1.
@@ -85,23 +84,6 @@ fn taker(alloc: Global, piece: usize, calls: u64) -> Watched<Taking>
 /// How many whole lines are in the text.
 pub(crate) fn lines(text: &[u8]) -> usize {
     text.iter().filter(|byte| **byte == b'\n').count()
-}
-
-#[test]
-fn a_writer_that_takes_one_byte_a_call_gets_the_whole_text(rt: HostRuntime) {
-    let mut reader = Watched::new(TRACE.as_bytes());
-    let mut writer = taker(rt.alloc(), 1, u64::MAX);
-    assert!(rt; run(rt.alloc(), &mut reader, &mut writer) == Ok(()));
-    let written = writer.into_inner();
-    assert!(rt; written.text.as_slice() == TEXT.as_bytes());
-}
-
-#[test]
-fn a_writer_that_takes_nothing_is_a_failure(rt: HostRuntime) {
-    let mut reader = Watched::new(TRACE.as_bytes());
-    let mut writer = taker(rt.alloc(), 0, u64::MAX);
-    assert!(rt; run(rt.alloc(), &mut reader, &mut writer) == Err(Refusal::Output));
-    assert!(rt; writer.failed());
 }
 
 // The traces of which each read and each write fails in turn, with what they are given: of puts, of a clear beside a put, and of a

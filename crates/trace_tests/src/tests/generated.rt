@@ -1,7 +1,6 @@
 // Made by `python3 crates/trace_tests/reference/make_tests.py`, which has the texts from `text_of_trace.py` beside it, that is from
 // the definitions and not from our program.
-use crate::tests::answering::answers;
-use std::process::Abort;
+use crate::tests::rows::gives;
 
 const FORTY_KEYS: &str = "node 1
 node 2
@@ -575,11 +574,6 @@ fields 2 f 1 v35 g 1 v55
 98bbef0775b2654ee64de9130f7912d7f3b215a5f30fd51a2d373875c1622cc4
 ";
 
-#[test]
-fn forty_keys_has_its_text(rt: HostRuntime) {
-    answers(&rt, rt.alloc(), FORTY_KEYS, FORTY_KEYS_TEXT);
-}
-
 const KEYS_OF_ONE_HASH: &str = "node 1
 node 2
 put 1 gwzx a
@@ -672,7 +666,16 @@ b553f184706c035ceffb7b872e53091e785a9bb92c2c5cac93badf25d56d5883
 b553f184706c035ceffb7b872e53091e785a9bb92c2c5cac93badf25d56d5883
 ";
 
+// The name of a trace, the trace, and its text.
+const TRACES: &[(&str, &str, &str)] = &[
+    ("forty_keys", FORTY_KEYS, FORTY_KEYS_TEXT),
+    ("keys_of_one_hash", KEYS_OF_ONE_HASH, KEYS_OF_ONE_HASH_TEXT),
+];
+
 #[test]
-fn keys_of_one_hash_has_its_text(rt: HostRuntime) {
-    answers(&rt, rt.alloc(), KEYS_OF_ONE_HASH, KEYS_OF_ONE_HASH_TEXT);
+fn each_has_its_text(rt: HostRuntime) {
+    for (name, trace, text) in TRACES {
+        let is_so = gives(&rt, rt.alloc(), trace, text, None);
+        assert!(rt; is_so, "{name}");
+    }
 }

@@ -2,10 +2,10 @@ use crate::tests::faults::{TRACE, lines};
 use std::alloc::Global;
 use std::io;
 use std::io::{Read, Write};
+use std::process::Abort;
 use std::sync::Arc;
 use std::sync::atomic::AtomicU64;
 use std::sync::atomic::Ordering::SeqCst;
-use std::test::Fail;
 use trace_cli::run;
 use watched_io::Watched;
 
@@ -58,25 +58,26 @@ impl Write for Counting {
 }
 
 /// Whether each line is answered before the next is read, and all sixteen are.
-fn are_answered_in_turn(alloc: Global) -> Result<bool, Fail> {
-    let answered = Arc::new(alloc, AtomicU64::new(0))?;
+fn are_answered_in_turn(rt: &impl Abort, alloc: Global) -> bool {
+    let answered = Arc::new(alloc, AtomicU64::new(0)).expect(rt, "memory");
     let mut reader = Watched::new(Lines {
         rest: TRACE.as_bytes(),
         given: 0,
-        answered: Arc::try_clone(&answered)?,
+        answered: Arc::try_clone(&answered).expect(rt, "a count"),
         in_turn: true,
     });
     let mut writer = Watched::new(Counting {
         lines: 0,
-        answered: Arc::try_clone(&answered)?,
+        answered: Arc::try_clone(&answered).expect(rt, "a count"),
     });
     let is_answered = run(alloc, &mut reader, &mut writer) == Ok(());
     let is_in_turn = reader.into_inner().in_turn;
-    Ok(is_answered && is_in_turn && answered.load(SeqCst) == 16)
+    let is_all = answered.load(SeqCst) == 16;
+    is_answered && is_in_turn && is_all
 }
 
 #[test]
-fn each_line_is_answered_before_the_next_is_read(rt: HostRuntime) -> Result<(), Fail> {
-    assert!(rt; are_answered_in_turn(rt.alloc())?);
-    Ok(())
+fn each_line_is_answered_before_the_next_is_read(rt: HostRuntime) {
+    let is_so = are_answered_in_turn(&rt, rt.alloc());
+    assert!(rt; is_so);
 }

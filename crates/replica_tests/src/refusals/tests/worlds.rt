@@ -1,6 +1,6 @@
 // Events of a world.
 use crate::made::name;
-use crate::refusals::trial::{Room, Trial, attempt_in, refusals, wanted};
+use crate::refusals::trial::{Trial, refusals, wanted};
 use dots::{Key, Refusal, Value};
 use hash_path::Fnv1a;
 use linked_list_allocator::LocalHeap;
@@ -16,6 +16,8 @@ type Worlds<A> = World<Fnv1a, A>;
 enum Act {
     Node(u64),
     Put(&'static [u8]),
+    // The key is of the bytes of the number.
+    PutNumber(u64),
     Flush,
     Ask,
     Deliver(u64),
@@ -27,6 +29,7 @@ fn event<A: Allocator + Copy>(rt: &impl Abort, heap: A, act: Act) -> Result<Even
     match act {
         Act::Node(number) => Ok(Event::Node(name(rt, number))),
         Act::Put(key) => Ok(Event::Call(one, put(heap, key)?)),
+        Act::PutNumber(number) => Ok(Event::Call(one, put(heap, &number.to_be_bytes())?)),
         Act::Flush => Ok(Event::Call(one, Call::Flush)),
         Act::Ask => Ok(Event::Call(one, Call::Ask(name(rt, 2)))),
         Act::Deliver(number) => Ok(Event::Deliver(number, name(rt, 2))),
@@ -72,62 +75,25 @@ fn happen<A: Allocator + Copy>(rt: &impl Abort, heap: A, world: &mut Worlds<A>, 
     let _ = world.event(event).expect(rt, "an event");
 }
 
-// Has these events happen.
-fn happen_all<A: Allocator + Copy>(rt: &impl Abort, heap: A, world: &mut Worlds<A>, acts: &[Act]) {
-    for act in acts {
-        happen(rt, heap, world, *act);
+// What happens first: 1 and 2 become replicas, and 1 puts forty keys and sends them in message 1, puts one more and sends it in message 2, and
+// then puts another.
+fn begun_by(number: u64) -> Act {
+    match number {
+        0 => Act::Node(1),
+        1 => Act::Node(2),
+        42 | 44 => Act::Flush,
+        43 => Act::Put(b"one"),
+        45 => Act::Put(b"two"),
+        _ => Act::PutNumber(number),
     }
 }
 
-// Has 1 and 2 be replicas, and 1 put forty keys and send them in message 1, put one more and send it in message 2, and then put another.
-const BEGIN: &[Act] = &[
-    Act::Node(1),
-    Act::Node(2),
-    Act::Put(b"a0"),
-    Act::Put(b"a1"),
-    Act::Put(b"a2"),
-    Act::Put(b"a3"),
-    Act::Put(b"a4"),
-    Act::Put(b"a5"),
-    Act::Put(b"a6"),
-    Act::Put(b"a7"),
-    Act::Put(b"a8"),
-    Act::Put(b"a9"),
-    Act::Put(b"b0"),
-    Act::Put(b"b1"),
-    Act::Put(b"b2"),
-    Act::Put(b"b3"),
-    Act::Put(b"b4"),
-    Act::Put(b"b5"),
-    Act::Put(b"b6"),
-    Act::Put(b"b7"),
-    Act::Put(b"b8"),
-    Act::Put(b"b9"),
-    Act::Put(b"c0"),
-    Act::Put(b"c1"),
-    Act::Put(b"c2"),
-    Act::Put(b"c3"),
-    Act::Put(b"c4"),
-    Act::Put(b"c5"),
-    Act::Put(b"c6"),
-    Act::Put(b"c7"),
-    Act::Put(b"c8"),
-    Act::Put(b"c9"),
-    Act::Put(b"d0"),
-    Act::Put(b"d1"),
-    Act::Put(b"d2"),
-    Act::Put(b"d3"),
-    Act::Put(b"d4"),
-    Act::Put(b"d5"),
-    Act::Put(b"d6"),
-    Act::Put(b"d7"),
-    Act::Put(b"d8"),
-    Act::Put(b"d9"),
-    Act::Flush,
-    Act::Put(b"one"),
-    Act::Flush,
-    Act::Put(b"two"),
-];
+// Has all of it happen.
+fn begin<A: Allocator + Copy>(rt: &impl Abort, heap: A, world: &mut Worlds<A>) {
+    for number in 0..46u64 {
+        happen(rt, heap, world, begun_by(number));
+    }
+}
 
 // How often the event is refused in this small heap, of which the world has its memory.
 fn tried<A: Allocator + Copy>(
@@ -158,7 +124,7 @@ fn tried_anew<A: Allocator + Copy>(
     act: Act,
 ) -> usize {
     let mut world = World::new(heap, Fnv1a);
-    happen_all(rt, heap, &mut world, BEGIN);
+    begin(rt, heap, &mut world);
     tried(rt, alloc, small, heap, &mut world, act)
 }
 
@@ -182,66 +148,7 @@ const EVENTS: &[(&str, Act, usize)] = &[
 #[test]
 fn a_refused_event_changes_nothing_and_happens_later(rt: HostRuntime) {
     for (what, act, least) in EVENTS {
-        assert!(rt; tried_in_a_heap(&rt, rt.alloc(), *act) >= *least, "{what}");
-    }
-}
-
-// Fills the room that a world has for its past, as that grows by doubling, with sixty-four replicas.
-fn fill<A: Allocator + Copy>(rt: &impl Abort, heap: A, world: &mut Worlds<A>) {
-    for number in 1..=64u64 {
-        happen(rt, heap, world, Act::Node(number));
-    }
-}
-
-// What an event comes to in such a world in a heap that is full.
-fn without_memory<A: Allocator + Copy>(
-    rt: &impl Abort,
-    alloc: Global,
-    small: &LocalHeap,
-    heap: A,
-    world: &mut Worlds<A>,
-    act: Act,
-) -> Result<(), Refusal> {
-    let before = count(world);
-    let mut happening = Happening {
-        rt,
-        heap,
-        world,
-        before,
-        act,
-    };
-    let none = Room {
-        pieces: 0,
-        bytes: 8,
-    };
-    attempt_in(rt, alloc, small, none, &mut happening)
-}
-
-// The same of a new world.
-fn without_memory_anew<A: Allocator + Copy>(
-    rt: &impl Abort,
-    alloc: Global,
-    small: &LocalHeap,
-    heap: A,
-    act: Act,
-) -> Result<(), Refusal> {
-    let mut world = World::new(heap, Fnv1a);
-    fill(rt, heap, &mut world);
-    without_memory(rt, alloc, small, heap, &mut world, act)
-}
-
-// An event, and how it is refused.
-const REFUSED: &[(Act, Refusal)] = &[
-    (Act::Node(7), Refusal::NameTaken),
-    (Act::Deliver(1), Refusal::UnknownMessage),
-    (Act::Flush, Refusal::OutOfMemory),
-];
-
-#[test]
-fn want_of_memory_comes_last(rt: HostRuntime) {
-    let heap = LocalHeap::new(rt.alloc(), 100_000).expect(&rt, "memory");
-    for (act, refusal) in REFUSED {
-        let told = without_memory_anew(&rt, rt.alloc(), &heap, &heap, *act);
-        assert!(rt; told == Err(*refusal));
+        let count = tried_in_a_heap(&rt, rt.alloc(), *act);
+        assert!(rt; count >= *least, "{what}");
     }
 }
