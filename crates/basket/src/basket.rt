@@ -23,7 +23,11 @@ pub(crate) fn take_out(alloc: Global, basket: &mut Replica, thing: &[u8]) -> Res
 pub(crate) fn print(rt: &impl Print, name: &str, basket: &Replica) -> Result<()> {
     print!(rt; "{name}:")?;
     let keys = basket.keys()?;
-    for key in keys.as_slice() {
+    print_things(rt, basket, keys.as_slice())
+}
+
+fn print_things(rt: &impl Print, basket: &Replica, keys: &[Key]) -> Result<()> {
+    for key in keys {
         print_thing(rt, basket, key)?;
     }
     println!(rt; "")?;
@@ -33,7 +37,11 @@ pub(crate) fn print(rt: &impl Print, name: &str, basket: &Replica) -> Result<()>
 fn print_thing(rt: &impl Print, basket: &Replica, key: &Key) -> Result<()> {
     print!(rt; " {key}")?;
     let numbers = basket.get(key)?;
-    for number in numbers.as_slice() {
+    print_numbers(rt, numbers.as_slice())
+}
+
+fn print_numbers(rt: &impl Print, numbers: &[Value]) -> Result<()> {
+    for number in numbers {
         print!(rt; " {number}")?;
     }
     Ok(())

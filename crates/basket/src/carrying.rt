@@ -1,19 +1,20 @@
 // What carries the messages: bytes, from one device to the other.
 use anyhow::Result;
 use dots::Refusal;
-use replica_core::{Outcome, Replica};
+use replica_core::{Delivered, Outcome, Replica};
 use std::alloc::Global;
 use wire_form::{Message, encode};
 
 /// What the device wrote since it last sent, as bytes; none where it wrote nothing.
-pub(crate) fn sent(alloc: Global, from: &mut Replica) -> Result<Vec<u8>> {
-    let bytes = flushed(alloc, from)?;
-    Ok(bytes)
+pub(crate) fn sent(alloc: Global, from: &mut Replica) -> Result<Vec<u8>, Refusal> {
+    let message = from.flush()?;
+    spelled(alloc, message.as_ref())
 }
 
-fn flushed(alloc: Global, from: &mut Replica) -> Result<Vec<u8>, Refusal> {
-    match from.flush()? {
-        Some(message) => encode(alloc, &message),
+// The bytes of a message; none where there is none.
+fn spelled(alloc: Global, message: Option<&Message>) -> Result<Vec<u8>, Refusal> {
+    match message {
+        Some(message) => encode(alloc, message),
         None => Ok(Vec::new(alloc)),
     }
 }
@@ -29,43 +30,55 @@ pub(crate) fn synchronise(
     alloc: Global,
     asker: &mut Replica,
     answerer: &mut Replica,
-) -> Result<bool> {
-    let hello = asked(alloc, asker, answerer)?;
+) -> Result<bool, Refusal> {
     let mut messages = Vec::new(alloc);
-    messages.push(hello)?;
+    ask(alloc, asker, answerer, &mut messages)?;
     for _ in 0..u64::MAX {
-        let answers = carry(alloc, answerer, messages.as_slice())?;
-        let turn = carry(alloc, asker, answers.replies.as_slice())?;
-        if turn.is_done || turn.replies.is_empty() {
-            return Ok(turn.is_done);
+        let is_done = turn(alloc, asker, answerer, &mut messages)?;
+        if is_done || messages.is_empty() {
+            return Ok(is_done);
         }
-        messages = turn.replies;
     }
     Ok(false)
 }
 
-// The hello with which the asker begins, as bytes.
-fn asked(alloc: Global, asker: &mut Replica, answerer: &Replica) -> Result<Vec<u8>, Refusal> {
+// Puts the hello with which the asker begins behind the messages.
+fn ask(
+    alloc: Global,
+    asker: &mut Replica,
+    answerer: &Replica,
+    messages: &mut Vec<Vec<u8>>,
+) -> Result<(), Refusal> {
     let (_, hello) = asker.ask(answerer.name())?;
-    encode(alloc, &hello)
+    spell(alloc, &hello, messages)
 }
 
-// What came of some messages: those that were sent for them, as bytes, and whether a synchronisation ended.
-#[derive(Drop)]
-struct Carried {
-    replies: Vec<Vec<u8>>,
-    is_done: bool,
+// Carries the messages to the answerer, and what it sends to the asker. What that sends stands in their place then. Answers whether the
+// synchronisation ended.
+fn turn(
+    alloc: Global,
+    asker: &mut Replica,
+    answerer: &mut Replica,
+    messages: &mut Vec<Vec<u8>>,
+) -> Result<bool, Refusal> {
+    let mut answers = Vec::new(alloc);
+    carry(alloc, answerer, messages.as_slice(), &mut answers)?;
+    *messages = Vec::new(alloc);
+    carry(alloc, asker, answers.as_slice(), messages)
 }
 
-fn carry(alloc: Global, to: &mut Replica, messages: &[Vec<u8>]) -> Result<Carried, Refusal> {
-    let mut carried = Carried {
-        replies: Vec::new(alloc),
-        is_done: false,
-    };
+// Takes the messages in, and puts what is sent for them behind the replies. Answers whether the last one ended a synchronisation.
+fn carry(
+    alloc: Global,
+    to: &mut Replica,
+    messages: &[Vec<u8>],
+    replies: &mut Vec<Vec<u8>>,
+) -> Result<bool, Refusal> {
+    let mut is_done = false;
     for bytes in messages {
-        carried.is_done = carry_one(alloc, to, bytes.as_slice(), &mut carried.replies)?;
+        is_done = carry_one(alloc, to, bytes.as_slice(), replies)?;
     }
-    Ok(carried)
+    Ok(is_done)
 }
 
 fn carry_one(
@@ -75,14 +88,27 @@ fn carry_one(
     replies: &mut Vec<Vec<u8>>,
 ) -> Result<bool, Refusal> {
     let told = to.deliver_bytes(bytes)?;
-    spell(alloc, told.replies.as_slice(), replies)?;
+    reply(alloc, &told, replies)
+}
+
+fn reply(alloc: Global, told: &Delivered, replies: &mut Vec<Vec<u8>>) -> Result<bool, Refusal> {
+    spell_all(alloc, told.replies.as_slice(), replies)?;
     Ok(told.outcome == Outcome::Done)
 }
 
-fn spell(alloc: Global, messages: &[Message], spelled: &mut Vec<Vec<u8>>) -> Result<(), Refusal> {
+fn spell_all(
+    alloc: Global,
+    messages: &[Message],
+    spelled: &mut Vec<Vec<u8>>,
+) -> Result<(), Refusal> {
     for message in messages {
-        let bytes = encode(alloc, message)?;
-        spelled.push(bytes)?;
+        spell(alloc, message, spelled)?;
     }
+    Ok(())
+}
+
+fn spell(alloc: Global, message: &Message, spelled: &mut Vec<Vec<u8>>) -> Result<(), Refusal> {
+    let bytes = encode(alloc, message)?;
+    spelled.push(bytes)?;
     Ok(())
 }

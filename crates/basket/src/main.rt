@@ -38,10 +38,15 @@ fn live(rt: &impl Print, alloc: Global, phone: &mut Replica, laptop: &mut Replic
     print_both(rt, phone, laptop)
 }
 
+// A device of this name, with nothing in its basket. It stands in a box, as one that is a local is dear to prove.
+fn device(alloc: Global, number: u64) -> Result<Box<Replica>> {
+    let name = Name::new(number).context("a name is a number from 1 on")?;
+    let basket = Replica::new(alloc, name, Fnv1a);
+    Ok(Box::new(alloc, basket)?)
+}
+
 fn main(rt: HostRuntime) -> Result<()> {
-    let one = Name::new(1).context("a name is a number from 1 on")?;
-    let two = Name::new(2).context("a name is a number from 1 on")?;
-    let mut phone = Replica::new(rt.alloc(), one, Fnv1a);
-    let mut laptop = Replica::new(rt.alloc(), two, Fnv1a);
-    live(&rt, rt.alloc(), &mut phone, &mut laptop)
+    let mut phone = device(rt.alloc(), 1)?;
+    let mut laptop = device(rt.alloc(), 2)?;
+    live(&rt, rt.alloc(), &mut *phone, &mut *laptop)
 }

@@ -22,6 +22,13 @@ pub record TookIn {A : Type 0} (Comes : List ℕ → Type 0) (old new : Seat (No
   pub seen : IsPrefix old.front new.front
   pub calls : (more : List (NodeEvent A)) × (made (λ e. e.place) new ≡ made (λ e. e.place) old ++ more) × All (IsDelivery Comes) more × (new.operations ≡ old.operations + length more)
 
+-- The client took in this message, and was answered so, with these messages to be sent, as a replica of one thread of this name after a
+-- history that begins with all that the client had seen.
+abbrev pub Takes : {A : Type 0} → ℕ → Message A → Seat (NodeEvent A) → Seat (NodeEvent A) → Answer → List (Message A) → Type 0
+Takes {A} name message old new answer replies =
+    (history : List (NodeEvent A)) × IsAccepted (λ e. e.place) old new history (record { place = old.place; deed = Deliver message })
+    × Replies name history (Deliver message) answer (mails_of replies)
+
 -- The client took in the message that these bytes spell, and was answered so, with these messages to be sent, as a replica of one thread of
 -- this name after a history that begins with all that the client had seen.
 abbrev pub IsTakenIn : {A : Type 0} → ℕ → List ℕ → Seat (NodeEvent A) → Seat (NodeEvent A) → Answer → List (Message A) → Type 0

@@ -1,6 +1,6 @@
 // A node that is served: a client that takes in what comes by a post, and sends what is answered.
 ghost use Rattle.std.specs.Prelude.{◌≡◌, ◌<◌, ◌+◌, ◌-◌, ◌^◌, false, length, min, ℕ, List, Option, IsTrue, IsNone, IfSome, IfOk, OnErr};
-ghost use Rattle.node_threads.specs.Serving.{AreSent, CanCome, IsAnswered, IsLost, IsSent, IsTakenIn, Serves, TookIn, lost_of, passed_of};
+ghost use Rattle.node_threads.specs.Serving.{AreSent, CanCome, IsAnswered, IsLost, IsSent, IsTakenIn, Serves, Takes, TookIn, lost_of, passed_of};
 ghost use Rattle.replica_core.specs.Answered.{outcome_of};
 ghost use Rattle.replica_model.specs.Step.{Came};
 ghost use Rattle.shared_object.specs.Calling.{HasNotCalled};
@@ -90,10 +90,20 @@ fn take_in<K: Naming, G: Gate + Drop, W: Wait + Drop, T: Wait>(
     ensures not_made { OnErr result (HasNotCalled (λ e. e.place) client.old client.new) }
 {
     let message = decode(alloc, bytes)?;
-    let delivering = Delivering {
-        alloc,
-        message: &message,
-    };
+    deliver(rt, alloc, client, &message)
+}
+
+// Takes this message in.
+fn deliver<K: Naming, G: Gate + Drop, W: Wait + Drop, T: Wait>(
+    rt: &T,
+    alloc: Global,
+    client: &mut Client<K, Lock<K, G, W>>,
+    message: &Message,
+) -> Result<Delivered, Refusal>
+    ensures taken { IfOk result (λ told. Takes K.name message.now client.old client.new (Came (outcome_of told.outcome)) told.replies.items) }
+    ensures not_made { OnErr result (HasNotCalled (λ e. e.place) client.old client.new) }
+{
+    let delivering = Delivering { alloc, message };
     let (told, _receipt) = client.call(rt, &delivering)?;
     Ok(told)
 }

@@ -146,6 +146,7 @@ impl<H: PathHash, A: Allocator + Copy> Replica<H, A> {
         let hello = begin(self.alloc, session, &self.live, &mut self.sessions)?;
         if let Err(refusal) = outbox.post(self.alloc, &hello) {
             self.sessions.truncate(others);
+            drop(hello);
             return Err(refusal);
         }
         self.opened = session.number();

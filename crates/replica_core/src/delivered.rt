@@ -50,7 +50,12 @@ impl<A: Allocator + Copy> Delivered<A> {
         ensures replies { IfOk result (λ told. told.replies.items ≡ reply ∷ []) }
         ensures refused { IsOkUnless result Refusal.OutOfMemory }
     {
-        let room = Vec::with_capacity(alloc, 1)?;
-        Ok(Delivered::answered(room, reply))
+        match Vec::with_capacity(alloc, 1) {
+            Ok(room) => Ok(Delivered::answered(room, reply)),
+            Err(_) => {
+                drop(reply);
+                Err(Refusal::OutOfMemory)
+            }
+        }
     }
 }

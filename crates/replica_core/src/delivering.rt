@@ -82,7 +82,9 @@ impl<H: PathHash, A: Allocator + Copy> Replica<H, A> {
         ensures unchanged { OnErr result (Stays self.old self.new) }
     {
         let message = decode(self.alloc, bytes)?;
-        self.deliver(&message)
+        let told = self.deliver(&message);
+        drop(message);
+        told
     }
 
     // Joins a delta in.

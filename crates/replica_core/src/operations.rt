@@ -158,10 +158,20 @@ impl<H: PathHash, A: Allocator + Copy> Replica<H, A> {
         ensures unchanged { OnErr result (meaning self.new ≡ meaning self.old) }
     {
         if delta.context().is_empty() {
+            drop(delta);
             return Ok(());
         }
-        let next = self.live.prepare(self.alloc, &delta)?;
-        self.group.push(self.alloc, delta)?;
+        let next = match self.live.prepare(self.alloc, &delta) {
+            Ok(next) => next,
+            Err(refusal) => {
+                drop(delta);
+                return Err(refusal);
+            }
+        };
+        if let Err(refusal) = self.group.push(self.alloc, delta) {
+            drop(next);
+            return Err(refusal);
+        }
         self.live.commit(next);
         Ok(())
     }

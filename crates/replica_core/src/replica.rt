@@ -20,8 +20,8 @@ use sync_protocol::{Answerer, Asker};
 ///
 /// A write and a delivery cost the keys that they touch, each with all its fields, times the logarithm of the map, and the context; of many
 /// writes each also joins what was written since the last flush, as often as that doubles. A key with many fields is dear: a write at one of
-/// them makes all of them anew. So are keys whose hashes of 32 bits are the same, as they are gone through one by one, and long keys with
-/// many values: their bytes are kept once for each dot that stands there. A flush costs what it sends, times the square of its logarithm.
+/// them makes all of them anew. So are keys whose hashes of 32 bits are the same, as they are gone through one by one. The bytes of a key are
+/// kept once for each call or message that brought a dot which stands there. A flush costs what it sends, times the square of its logarithm.
 ///
 /// No call goes through the map but `keys`, `clear` and `copy`, `digest` and a first synchronisation where the nodes keep no digests yet,
 /// and the delivery of an opening or a page of a peer that had not seen all that was seen here: each dot of the own entries that stay is
@@ -79,8 +79,8 @@ impl<H: PathHash, A: Allocator + Copy> Replica<H, A> {
         ensures err { IsOkUnless result Refusal.OutOfMemory }
     {
         let group = self.group.copy(self.alloc)?;
-        let answerer = self.answerer.copy(self.alloc)?;
         let sessions = copy_sessions(self.alloc, &self.sessions)?;
+        let answerer = self.answerer.copy(self.alloc)?;
         let live = self.live.copy(self.alloc)?;
         Ok(Replica {
             alloc: self.alloc,

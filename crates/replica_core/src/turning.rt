@@ -1,5 +1,5 @@
 // How an own session of a replica goes on.
-ghost use Rattle.std.specs.Prelude.{◌≡◌, ◌⊎◌, ℕ, List, [], map, true, Option, Some, OnOk, IfOk, OnErr, IsOkUnless};
+ghost use Rattle.std.specs.Prelude.{◌≡◌, ◌<◌, ◌⊎◌, ℕ, List, [], length, map, slice_set, true, Option, Some, OnOk, IfOk, OnErr, IsOkUnless};
 ghost use Rattle.std.specs.FinMap as finite;
 ghost use Rattle.std.specs.List.{slice_get};
 ghost use Rattle.causal_context.specs.Context.{ContextValue, has};
@@ -126,7 +126,10 @@ impl<H: PathHash, A: Allocator + Copy> Replica<H, A> {
         ensures refused { IsOkUnless result Refusal.OutOfMemory }
         ensures unchanged { OnErr result (meaning self.new ≡ meaning self.old) }
     {
-        outbox.post_all(self.alloc, replies.as_slice())?;
+        if let Err(refusal) = outbox.post_all(self.alloc, replies.as_slice()) {
+            drop(next);
+            return Err(refusal);
+        }
         self.advance(place, next);
         Ok(Delivered {
             outcome: Outcome::Sent,
@@ -140,7 +143,7 @@ impl<H: PathHash, A: Allocator + Copy> Replica<H, A> {
         ensures step { meaning self.new ≡ advances (meaning self.old) (open_of next) }
         ensures hash { hash_in self.new ≡ hash_in self.old }
     {
-        self.sessions[place] = next;
+        replace(&mut self.sessions, place, next);
     }
 
     // Takes the session at this place out.
@@ -186,7 +189,11 @@ impl<H: PathHash, A: Allocator + Copy> Replica<H, A> {
         ensures unchanged { OnErr result (meaning self.new ≡ meaning self.old) }
     {
         match next.result() {
-            Ok(opened) => self.join_opened(&opened),
+            Ok(opened) => {
+                let joined = self.join_opened(&opened);
+                drop(opened);
+                joined
+            }
             Err(_) => unreachable!(),
         }
     }
@@ -213,6 +220,14 @@ impl<H: PathHash, A: Allocator + Copy> Replica<H, A> {
         self.live.commit(next);
         Ok(())
     }
+}
+
+// Puts an item in the place of another. It is of any type, as what is seen to be a session makes a long proof.
+fn replace<T: Drop, A: Allocator>(items: &mut Vec<T, A>, place: usize, item: T)
+    requires { place < length items.old.items }
+    ensures { items.new.items ≡ slice_set items.old.items place item }
+{
+    items[place] = item;
 }
 
 // What is told without a reply of a turn whose next state is not taken.

@@ -1,5 +1,5 @@
 """Writes src/session_bytes.rt, the same each time, from the definitions in docs/FORMATS.md: no store, no session, no step.
-`rt fmt` lays it out. Tests name a message by its number, so that the bytes stand in one function for the prover. A map is a dictionary from keys to fields to dots to values; pages are those of the digests of traces."""
+`rt fmt` lays it out. Tests name a message by its number, so that the bytes stand in one constant for the prover. A map is a dictionary from keys to fields to dots to values; pages are those of the digests of traces."""
 import pathlib
 import sys
 from hashlib import sha256

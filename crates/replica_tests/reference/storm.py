@@ -1,4 +1,4 @@
-"""Prints the sum of `src/storm.rt`, from the definitions: the random events are the same, and what comes of them is told by the program of the traces."""
+"""Prints the sum of `src/events/storm.rt`, from the definitions: the random events are the same, and what comes of them is told by the program of the traces."""
 import pathlib
 import re
 import sys

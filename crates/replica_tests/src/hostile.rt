@@ -1,4 +1,5 @@
 // Messages that no peer sends who keeps to the rules: they change nothing, and a session goes on after them.
+// Beside them what a peer may send: a dot that it knows, and a thousand hellos.
 use crate::playing::{Event, play};
 use crate::session_bytes::{
     A_AT_5_OPENING, A_AT_5_PAGE, A_AT_5_ROOT, ASK_5, ASK_5_15, ASK_ROOT, B_AT_5_KNOWN,
@@ -139,7 +140,7 @@ const THOUSAND_HELLOS: &[(usize, Event)] = &[
 ];
 
 #[test]
-fn what_no_peer_sends_changes_nothing(rt: HostRuntime) {
+fn hostile_messages_leave_what_was_there(rt: HostRuntime) {
     for (run, rows) in RUNS {
         play(&rt, rt.alloc(), run, rows);
     }

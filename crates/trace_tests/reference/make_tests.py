@@ -126,7 +126,7 @@ const TRACES: &[(&str, &str, &str)] = &[
 {}];
 
 #[test]
-fn each_has_its_text(rt: HostRuntime) {{
+fn each_{}_has_its_text(rt: HostRuntime) {{
     for (name, trace, text) in TRACES {{
         let is_so = gives(&rt, rt.alloc(), trace, text, None);
         assert!(rt; is_so, "{{name}}");
@@ -141,14 +141,14 @@ def texts_of(name, trace):
     return f'\nconst {const}: &str = "{trace}";\n\nconst {const}_TEXT: &str = "{text_of(trace.encode())}";\n'
 
 
-def file_of(traces):
-    """The two texts of each trace, and the table of them all with its test."""
+def file_of(traces, kind):
+    """The two texts of each trace, and the table of them all with its test, which is named by the kind of trace."""
     rows = "".join(f'    ("{name}", {name.upper()}, {name.upper()}_TEXT),\n' for name in traces)
-    return HEAD + "".join(texts_of(*it) for it in traces.items()) + TEST.format(rows)
+    return HEAD + "".join(texts_of(*it) for it in traces.items()) + TEST.format(rows, kind)
 
 
 if __name__ == "__main__":
     made = {"forty_keys": generated(), "keys_of_one_hash": one_hash()}
-    (TESTS / "generated.rt").write_text(file_of(made))
+    (TESTS / "generated.rt").write_text(file_of(made, "generated_trace"))
     examples = {path.stem: path.read_text() for path in sorted(EXAMPLES.glob("*.trace"))}
-    (TESTS / "examples.rt").write_text(file_of(examples))
+    (TESTS / "examples.rt").write_text(file_of(examples, "example"))

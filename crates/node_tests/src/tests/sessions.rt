@@ -1,4 +1,4 @@
-// The calls of one client: twelve, with a flush and an own synchronisation, and three of fields.
+// The calls of one client: twelve, with two flushes and an own synchronisation, and three of fields.
 use crate::caller::{Caller, Calling};
 use crate::nodes::{Calls, alone};
 use crate::tests::only;

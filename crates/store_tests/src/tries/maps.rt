@@ -174,12 +174,12 @@ const BY_FNV1A: &[Row] = &[
         ((2, 989_0993, false), 0, (3, THREE, true)),
     ),
     (
-        "so does its copy",
+        "a copy of a frozen map stays what it was",
         &[A, B, C, Step::Freeze, Step::Copy, Step::Clear],
         (NONE, 0, (3, THREE, true)),
     ),
     (
-        "and what it was thawed from",
+        "a frozen map that was thawed stays what it was",
         &[A, B, C, Step::Freeze, Step::Thaw, B_AGAIN],
         ((3, REPLACED, false), 0, (3, THREE, true)),
     ),

@@ -384,7 +384,7 @@ const TRACES: &[(&str, &str, &str)] = &[
 ];
 
 #[test]
-fn each_has_its_text(rt: HostRuntime) {
+fn each_example_has_its_text(rt: HostRuntime) {
     for (name, trace, text) in TRACES {
         let is_so = gives(&rt, rt.alloc(), trace, text, None);
         assert!(rt; is_so, "{name}");

@@ -673,7 +673,7 @@ const TRACES: &[(&str, &str, &str)] = &[
 ];
 
 #[test]
-fn each_has_its_text(rt: HostRuntime) {
+fn each_generated_trace_has_its_text(rt: HostRuntime) {
     for (name, trace, text) in TRACES {
         let is_so = gives(&rt, rt.alloc(), trace, text, None);
         assert!(rt; is_so, "{name}");

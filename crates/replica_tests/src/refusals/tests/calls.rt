@@ -221,6 +221,6 @@ fn a_refused_clear_changes_nothing_and_is_made_again(rt: HostRuntime) {
 }
 
 #[test]
-fn another_refused_call_changes_nothing_and_is_made_again(rt: HostRuntime) {
+fn other_refused_calls_change_nothing_and_are_made_again(rt: HostRuntime) {
     are_tried(&rt, rt.alloc(), OTHERS);
 }

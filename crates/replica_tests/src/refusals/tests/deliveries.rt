@@ -248,7 +248,7 @@ fn a_refused_message_changes_nothing_and_is_taken_later(rt: HostRuntime) {
     }
 }
 
-// A test of its own, as each has a minute, and this is refused most often.
+// A test of its own, as each has a minute, and of these tasks this one is refused most often.
 #[test]
 fn a_refused_delta_is_read_later(rt: HostRuntime) {
     let count = is_tried_in_a_heap(&rt, rt.alloc(), Kind::Own, Task::Read);

@@ -136,7 +136,7 @@ fn tried_in_a_heap(rt: &impl Abort, alloc: Global, act: Act) -> usize {
     count
 }
 
-// What holds of an event, the event, and how often it is refused at least.
+// What happens, in words and as an event, and how often it is refused at least.
 const EVENTS: &[(&str, Act, usize)] = &[
     ("a new replica", Act::Node(3), 0),
     ("a put", Act::Put(b"one"), 4),
