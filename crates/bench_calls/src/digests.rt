@@ -13,8 +13,13 @@ type Trie = GenTrie<Fields, ShaSummary, Fnv1a>;
 fn put(alloc: Global, trie: &mut Trie, number: u64) -> Result<(), Refusal> {
     let name = Name::new(1).ok_or(Refusal::BadLine)?;
     let key = Key::new(alloc, &number.to_be_bytes())?;
-    let fields = one_field(alloc, name, number.max(1))?;
-    trie.insert(key, fields)
+    match one_field(alloc, name, number.max(1)) {
+        Ok(fields) => trie.insert(key, fields),
+        Err(refusal) => {
+            drop(key);
+            Err(refusal)
+        }
+    }
 }
 
 fn put_all(alloc: Global, trie: &mut Trie, keys: &[u64]) -> Result<(), Refusal> {
@@ -52,7 +57,9 @@ fn count_digests(frozen: &FrozenMap<Fnv1a>, keys: &[u64]) -> u64 {
 // Reads the root digest as often as there are keys.
 fn digest_often(trie: &mut Trie, keys: &[u64]) -> Result<u64, Refusal> {
     let frozen = trie.share()?;
-    Ok(count_digests(&frozen, keys))
+    let count = count_digests(&frozen, keys);
+    drop(frozen);
+    Ok(count)
 }
 
 // One step on a trie that is sealed, with these keys.
@@ -91,7 +98,9 @@ fn steps_on(
 
 fn steps(alloc: Global, keys: &[u64], some: &[u64], step: u32, every: u64) -> Result<u64, Refusal> {
     let mut trie: Trie = GenTrie::new(alloc, Fnv1a);
-    steps_on(alloc, &mut trie, keys, some, step, every)
+    let number = steps_on(alloc, &mut trie, keys, some, step, every);
+    drop(trie);
+    number
 }
 
 /// Puts the keys, eight bytes each, into a new trie, with a value of 16 bytes at the empty field of each, and then: 0 no more,

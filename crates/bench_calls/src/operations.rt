@@ -12,7 +12,7 @@ fn remove_one(alloc: Global, here: &mut Replica, number: u64) -> Result<(), Refu
 
 // Makes the message of what was made, and lets it go.
 fn flush(here: &mut Replica) -> Result<(), Refusal> {
-    here.flush()?;
+    drop(here.flush()?);
     Ok(())
 }
 
@@ -53,7 +53,9 @@ fn got(alloc: Global, here: &Replica, keys: &[u64]) -> Result<u64, Refusal> {
 // How many keys a share of what the replica holds has.
 fn share_once(here: &Replica) -> Result<u64, Refusal> {
     let share = here.share()?;
-    Ok(share.size())
+    let size = share.size();
+    drop(share);
+    Ok(size)
 }
 
 // Shares it as often as there are keys.
@@ -128,12 +130,25 @@ fn steps_on(
     Ok(here.size().wrapping_add(there.size()))
 }
 
-fn steps(alloc: Global, keys: &[u64], step: u32, times: u32) -> Result<u64, Refusal> {
-    let mut replicas = two_replicas(alloc)?;
-    let [here, there] = replicas.as_mut_slice() else {
+// The step of these two replicas, or 0 where there are not two.
+fn steps_of(
+    alloc: Global,
+    replicas: &mut [Replica],
+    keys: &[u64],
+    step: u32,
+    times: u32,
+) -> Result<u64, Refusal> {
+    let [here, there] = replicas else {
         return Ok(0);
     };
     steps_on(alloc, here, there, keys, step, times)
+}
+
+fn steps(alloc: Global, keys: &[u64], step: u32, times: u32) -> Result<u64, Refusal> {
+    let mut replicas = two_replicas(alloc)?;
+    let number = steps_of(alloc, replicas.as_mut_slice(), keys, step, times);
+    drop(replicas);
+    number
 }
 
 /// Puts a value of 16 bytes on each of the keys, eight bytes each, at a replica, and then does the step with all of them:

@@ -12,11 +12,20 @@ fn push_new(alloc: Global, replicas: &mut Vec<Replica>, number: u64) -> Result<(
     Ok(())
 }
 
+// Puts the replicas 1 and 2 behind the others.
+fn push_both(alloc: Global, replicas: &mut Vec<Replica>) -> Result<(), Refusal> {
+    push_new(alloc, replicas, 1)?;
+    push_new(alloc, replicas, 2)
+}
+
 // The replicas 1 and 2, to which nothing happened.
 pub(crate) fn two_replicas(alloc: Global) -> Result<Vec<Replica>, Refusal> {
     let mut replicas = Vec::new(alloc);
-    push_new(alloc, &mut replicas, 1)?;
-    push_new(alloc, &mut replicas, 2)?;
+    let pushed = push_both(alloc, &mut replicas);
+    if let Err(refusal) = pushed {
+        drop(replicas);
+        return Err(refusal);
+    }
     Ok(replicas)
 }
 
@@ -48,13 +57,15 @@ fn spelled(alloc: Global, message: Option<&Message>) -> Result<Vec<u8>, Refusal>
 // The bytes of what the replica made since the last flush.
 pub(crate) fn flushed(alloc: Global, from: &mut Replica) -> Result<Vec<u8>, Refusal> {
     let message = from.flush()?;
-    spelled(alloc, message.as_ref())
+    let bytes = spelled(alloc, message.as_ref());
+    drop(message);
+    bytes
 }
 
 // Takes a message in by its bytes, so many times.
 pub(crate) fn take_often(to: &mut Replica, bytes: &[u8], times: u32) -> Result<(), Refusal> {
     for _ in 0..times {
-        to.deliver_bytes(bytes)?;
+        drop(to.deliver_bytes(bytes)?);
     }
     Ok(())
 }

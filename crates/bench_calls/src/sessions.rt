@@ -86,7 +86,9 @@ fn step(
     let Some(message) = mail.pop() else {
         return Ok(false);
     };
-    answer(alloc, asker, answerer, &message, mail, sent)
+    let answered = answer(alloc, asker, answerer, &message, mail, sent);
+    drop(message);
+    answered
 }
 
 // The hello of a new session.
@@ -97,6 +99,22 @@ fn open(alloc: Global, asker: &mut Replica, peer: Name) -> Result<Vec<Message>, 
     Ok(mail)
 }
 
+// Gives the messages of the mail, and what is sent for them, until none is left.
+fn give_all(
+    alloc: Global,
+    asker: &mut Replica,
+    answerer: &mut Replica,
+    mail: &mut Vec<Message>,
+    sent: &mut Sent,
+) -> Result<(), Refusal> {
+    for _ in 0..10_000_000u32 {
+        if !step(alloc, asker, answerer, mail, sent)? {
+            return Ok(());
+        }
+    }
+    Ok(())
+}
+
 // A session, from its hello to its last page.
 fn synchronise(
     alloc: Global,
@@ -105,12 +123,9 @@ fn synchronise(
     sent: &mut Sent,
 ) -> Result<(), Refusal> {
     let mut mail = open(alloc, asker, answerer.name())?;
-    for _ in 0..10_000_000u32 {
-        if !step(alloc, asker, answerer, &mut mail, sent)? {
-            return Ok(());
-        }
-    }
-    Ok(())
+    let given = give_all(alloc, asker, answerer, &mut mail, sent);
+    drop(mail);
+    given
 }
 
 // Puts some keys at the answerer, and brings the asker to the same, if it is to: by a session, or by the bytes of all keys.
@@ -191,12 +206,26 @@ fn steps_on(
     }
 }
 
-fn steps(alloc: Global, keys: &[u64], some: &[u64], times: u32, step: u32) -> Result<u64, Refusal> {
-    let mut replicas = two_replicas(alloc)?;
-    let [asker, answerer] = replicas.as_mut_slice() else {
+// All of it, between these two replicas, or 0 where there are not two.
+fn steps_of(
+    alloc: Global,
+    replicas: &mut [Replica],
+    keys: &[u64],
+    some: &[u64],
+    times: u32,
+    step: u32,
+) -> Result<u64, Refusal> {
+    let [asker, answerer] = replicas else {
         return Ok(0);
     };
     steps_on(alloc, asker, answerer, keys, some, times, step)
+}
+
+fn steps(alloc: Global, keys: &[u64], some: &[u64], times: u32, step: u32) -> Result<u64, Refusal> {
+    let mut replicas = two_replicas(alloc)?;
+    let number = steps_of(alloc, replicas.as_mut_slice(), keys, some, times, step);
+    drop(replicas);
+    number
 }
 
 /// Puts a value of 16 bytes on each of the keys, eight bytes each, at a replica, and gives all of them to another. Then so many times

@@ -16,7 +16,10 @@ fn put(alloc: Global, values: &mut DotFun<Value>, dot: Dot) -> Result<(), Refusa
 fn one_value(alloc: Global, name: Name, number: u64) -> Result<DotFun<Value>, Refusal> {
     let mut values = DotFun::empty(alloc);
     if let Some(dot) = Dot::new(name, number) {
-        put(alloc, &mut values, dot)?;
+        if let Err(refusal) = put(alloc, &mut values, dot) {
+            drop(values);
+            return Err(refusal);
+        }
     }
     Ok(values)
 }
@@ -25,15 +28,23 @@ fn one_value(alloc: Global, name: Name, number: u64) -> Result<DotFun<Value>, Re
 pub(crate) fn one_field(alloc: Global, name: Name, number: u64) -> Result<Fields, Refusal> {
     let values = one_value(alloc, name, number)?;
     let mut fields = Fields::empty(alloc);
-    fields.insert(Field::empty(), values)?;
+    if let Err(refusal) = fields.insert(Field::empty(), values) {
+        drop(fields);
+        return Err(refusal);
+    }
     Ok(fields)
 }
 
 // Puts one field with one value at the key.
 fn put_key(alloc: Global, store: &mut Store, name: Name, number: u64) -> Result<(), Refusal> {
     let key = Key::new(alloc, &number.to_be_bytes())?;
-    let fields = one_field(alloc, name, number)?;
-    store.insert(key, fields)
+    match one_field(alloc, name, number) {
+        Ok(fields) => store.insert(key, fields),
+        Err(refusal) => {
+            drop(key);
+            Err(refusal)
+        }
+    }
 }
 
 // Puts one field with one value at each of the keys, eight bytes each, and gives how many keys there are then.
@@ -62,17 +73,32 @@ fn join_once(
     nothing: &Context,
 ) -> Result<u64, Refusal> {
     let both = mine.join(alloc, nothing, yours, nothing)?;
-    Ok(both.entries().len() as u64)
+    let count = both.entries().len() as u64;
+    drop(both);
+    Ok(count)
+}
+
+// The keys of so many joins of the two.
+fn join_all(
+    alloc: Global,
+    mine: &Store,
+    yours: &Store,
+    nothing: &Context,
+    times: u32,
+) -> Result<u64, Refusal> {
+    let mut sum: u64 = 0;
+    for _ in 0..times {
+        sum = sum.wrapping_add(join_once(alloc, mine, yours, nothing)?);
+    }
+    Ok(sum)
 }
 
 // The joins, so many times, of the two, of which no side knows a dot.
 fn join_often(alloc: Global, mine: &Store, yours: &Store, times: u32) -> Result<u64, Refusal> {
     let nothing = Context::new(alloc);
-    let mut sum: u64 = 0;
-    for _ in 0..times {
-        sum = sum.wrapping_add(join_once(alloc, mine, yours, &nothing)?);
-    }
-    Ok(sum)
+    let sum = join_all(alloc, mine, yours, &nothing, times);
+    drop(nothing);
+    sum
 }
 
 // The step with two stores that are empty.
@@ -100,7 +126,10 @@ fn steps_on(
 fn steps(alloc: Global, keys: &[u64], step: u32, times: u32) -> Result<u64, Refusal> {
     let mut mine: Store = DotMap::empty(alloc);
     let mut yours: Store = DotMap::empty(alloc);
-    steps_on(alloc, &mut mine, &mut yours, keys, step, times)
+    let number = steps_on(alloc, &mut mine, &mut yours, keys, step, times);
+    drop(yours);
+    drop(mine);
+    number
 }
 
 /// Makes small stores of the keys, eight bytes each: 0 makes a map from dots to values with one value of 16 bytes for each

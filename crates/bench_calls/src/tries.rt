@@ -31,7 +31,7 @@ fn found(alloc: Global, trie: &Trie, keys: &[u64]) -> Result<u64, Refusal> {
 fn remove_all(alloc: Global, trie: &mut Trie, keys: &[u64]) -> Result<(), Refusal> {
     for number in keys {
         let key = key_of(alloc, *number)?;
-        trie.remove(&key)?;
+        drop(trie.remove(&key)?);
     }
     Ok(())
 }
@@ -47,13 +47,18 @@ fn sum_of_walk(trie: &Trie) -> u64 {
 // Writes each key with a frozen map beside it.
 fn write_beside(alloc: Global, trie: &mut Trie, keys: &[u64]) -> Result<u64, Refusal> {
     let frozen: Frozen<u64, NoSummary, Fnv1a> = trie.share()?;
-    insert_all(alloc, trie, keys)?;
-    Ok(frozen.size())
+    let inserted = insert_all(alloc, trie, keys);
+    let size = frozen.size();
+    drop(frozen);
+    inserted?;
+    Ok(size)
 }
 
 fn share_once(trie: &mut Trie) -> Result<u64, Refusal> {
     let frozen: Frozen<u64, NoSummary, Fnv1a> = trie.share()?;
-    Ok(frozen.size())
+    let size = frozen.size();
+    drop(frozen);
+    Ok(size)
 }
 
 // Shares as often as there are keys.
@@ -97,7 +102,9 @@ fn steps_on(
 
 fn steps(alloc: Global, keys: &[u64], step: u32, times: u32) -> Result<u64, Refusal> {
     let mut trie: Trie = GenTrie::new(alloc, Fnv1a);
-    steps_on(alloc, &mut trie, keys, step, times)
+    let number = steps_on(alloc, &mut trie, keys, step, times);
+    drop(trie);
+    number
 }
 
 /// Inserts the keys, eight bytes each, into a new trie, and then so many times does the step with all of them: 0 looks

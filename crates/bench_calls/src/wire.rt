@@ -5,7 +5,7 @@ use std::alloc::Global;
 use wire_form::{Message, decode, encode};
 
 fn decode_once(alloc: Global, bytes: &[u8]) -> Result<(), Refusal> {
-    let _message = decode(alloc, bytes)?;
+    drop(decode(alloc, bytes)?);
     Ok(())
 }
 
@@ -35,7 +35,9 @@ fn encode_often(alloc: Global, message: &Message, times: u32) -> Result<u64, Ref
 
 fn encode_times(alloc: Global, bytes: &[u8], times: u32) -> Result<u64, Refusal> {
     let message = decode(alloc, bytes)?;
-    encode_often(alloc, &message, times)
+    let count = encode_often(alloc, &message, times);
+    drop(message);
+    count
 }
 
 /// Decodes the message so many times, and answers how many.

@@ -35,10 +35,12 @@ pub(crate) fn measure<
         NoGate,
         rt,
     )?;
-    race(&rt, alloc, &mut node, plan)
+    let told = race(&rt, alloc, &mut node, plan);
+    drop(node);
+    told
 }
 
-// Has the writer and the readers of the plan begin.
+// Has the writer put a value on each key, and then the writer and the readers of the plan begin.
 fn race<K: Naming + Send + Sync, R: Threads + Wait + Clock + Copy + Drop + Send + Sync>(
     rt: &R,
     alloc: Global,
@@ -46,12 +48,21 @@ fn race<K: Naming + Send + Sync, R: Threads + Wait + Clock + Copy + Drop + Send 
     plan: &Plan,
 ) -> Result<Told> {
     let keys = Keys::new(alloc)?;
-    let writer = writer_of(alloc, node)?;
-    let readers = readers_of(alloc, node, plan.readers)?;
-    run(rt, alloc, writer, readers, &keys, plan.time)
+    let mut writer = writer_of(alloc, node)?;
+    if let Err(refusal) = writer.fill(rt, alloc, &keys) {
+        drop(writer);
+        return Err(refusal.into());
+    }
+    match readers_of(alloc, node, plan.readers) {
+        Ok(readers) => run(rt, alloc, writer, readers, &keys, plan.time),
+        Err(refusal) => {
+            drop(writer);
+            Err(refusal.into())
+        }
+    }
 }
 
-// Puts a value on each key, and then has the writer write and the readers read for so long, each in a thread of its own.
+// Has the writer write and the readers read for so long, each in a thread of its own.
 fn run<K: Naming + Send + Sync, R: Threads + Wait + Clock + Copy + Drop + Send + Sync>(
     rt: &R,
     alloc: Global,
@@ -60,9 +71,14 @@ fn run<K: Naming + Send + Sync, R: Threads + Wait + Clock + Copy + Drop + Send +
     keys: &Keys,
     time: Duration,
 ) -> Result<Told> {
-    let mut writer = writer;
-    writer.fill(rt, alloc, keys)?;
-    let end = end_after(rt, time)?;
+    let end = match end_after(rt, time) {
+        Ok(end) => end,
+        Err(error) => {
+            drop(readers);
+            drop(writer);
+            return Err(error);
+        }
+    };
     let (writes, reads) = thread::join(
         rt,
         || writer.write_until(rt, alloc, keys, end),

@@ -50,13 +50,26 @@ impl<K: Naming, S: Drop> Reader<K, S> {
         end: Instant,
     ) -> Result<Reads> {
         let mut reader = self;
+        let reads = reader.read_on(clock, alloc, keys, end);
+        drop(reader);
+        reads
+    }
+
+    // Reads one key after the other until the end.
+    fn read_on(
+        &mut self,
+        clock: &impl Clock,
+        alloc: Global,
+        keys: &Keys,
+        end: Instant,
+    ) -> Result<Reads> {
         let mut longest = Duration::ZERO;
         let mut begin = Instant::now(clock)?;
         for count in 0..u64::MAX {
             if begin >= end {
                 return Ok(Reads { count, longest });
             }
-            let values = reader.read(alloc, keys)?;
+            let values = self.read(alloc, keys)?;
             ensure!(
                 values == 1,
                 "a key has {values} values, and one was put last"

@@ -38,7 +38,8 @@ impl<K: Naming, W: Wait + Drop> Writer<K, W> {
             field: &self.field,
             value: &value,
         };
-        let (_dot, _receipt) = self.client.call(rt, &putting)?;
+        let (_, receipt) = self.client.call(rt, &putting)?;
+        drop(receipt);
         Ok(())
     }
 
@@ -64,12 +65,25 @@ impl<K: Naming, W: Wait + Drop> Writer<K, W> {
         end: Instant,
     ) -> Result<u64> {
         let mut writer = self;
+        let count = writer.write_on(rt, alloc, keys, end);
+        drop(writer);
+        count
+    }
+
+    // Puts values on one key after the other until the end, and tells how many.
+    fn write_on<R: Wait + Clock>(
+        &mut self,
+        rt: &R,
+        alloc: Global,
+        keys: &Keys,
+        end: Instant,
+    ) -> Result<u64> {
         for count in 0..u64::MAX {
             if Instant::now(rt)? >= end {
                 return Ok(count);
             }
-            let key = keys.pick(&mut writer.random);
-            writer.put(rt, alloc, key)?;
+            let key = keys.pick(&mut self.random);
+            self.put(rt, alloc, key)?;
         }
         Ok(u64::MAX)
     }

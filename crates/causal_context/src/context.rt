@@ -11,6 +11,7 @@ use dots::{Dot, Name, Refusal};
 use ordered_list::{OrderedList, OrderedSet};
 use std::alloc::{Allocator, Global};
 use std::marker::Model;
+use std::mem;
 
 /// A causal context: a set of dots. Those that a replica has seen, or that a delta speaks of.
 ///
@@ -206,10 +207,13 @@ impl<A: Allocator + Copy> Context<A> {
         ensures as_it_was { OnErr result (self.new ≡ self.old) }
         ensures err { IsOkUnless result Refusal.OutOfMemory }
     {
-        let mut both = covering(self.alloc, &self.vector, &other.vector)?;
         let dots = self.cloud.union(self.alloc, &other.cloud)?;
-        both.add_all(&dots)?;
-        *self = both;
+        let mut both = covering(self.alloc, &self.vector, &other.vector)?;
+        if let Err(refusal) = both.add_all(&dots) {
+            drop(both);
+            return Err(refusal);
+        }
+        drop(mem::replace(self, both));
         Ok(())
     }
 

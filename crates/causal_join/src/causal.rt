@@ -9,6 +9,7 @@ use dot_store::DotStore;
 use dots::Refusal;
 use std::alloc::{Allocator, Global};
 use std::marker::Model;
+use std::mem;
 
 /// A causal state: a dot store with its causal context. Each dot of the store is in the context. After Almeida,
 /// Shoker and Baquero, "Delta State Replicated Data Types" (2018).
@@ -49,6 +50,7 @@ impl<S: DotStore<A>, A: Allocator + Copy> Causal<S, A> {
         ensures outside { IsNone result ↔ ¬ IsInside (state_with (S.at store) (has context)) }
     {
         if !store.is_inside(&context) {
+            drop(context);
             return None;
         }
         Some(Causal { store, context })
@@ -70,8 +72,8 @@ impl<S: DotStore<A>, A: Allocator + Copy> Causal<S, A> {
         &self.context
     }
 
-    /// The same state, on this allocator. Takes time and memory in all that it holds, and in the names and
-    /// single dots of the context.
+    /// The same state. What it copies is on this allocator; what its store shares with this one stays where it is. Takes time
+    /// and memory in all that it holds, and in the names and single dots of the context.
     /// Its only refusal is OutOfMemory.
     pub fn copy(&self, alloc: A) -> Result<Causal<S, A>, Refusal>
         ensures ok { IfOk result (λ copy. Same (state_of S.at copy) (state_of S.at self.now)) }
@@ -95,7 +97,10 @@ impl<S: DotStore<A>, A: Allocator + Copy> Causal<S, A> {
             .store
             .join(alloc, &self.context, &other.store, &other.context)?;
         let mut context = self.context.copy(alloc)?;
-        context.union(&other.context)?;
+        if let Err(refusal) = context.union(&other.context) {
+            drop(context);
+            return Err(refusal);
+        }
         Ok(Causal { store, context })
     }
 
@@ -108,7 +113,8 @@ impl<S: DotStore<A>, A: Allocator + Copy> Causal<S, A> {
         ensures unchanged { OnErr result (self.new ≡ self.old) }
         ensures err { IsOkUnless result Refusal.OutOfMemory }
     {
-        *self = self.join(alloc, other)?;
+        let both = self.join(alloc, other)?;
+        drop(mem::replace(self, both));
         Ok(())
     }
 
@@ -126,6 +132,8 @@ impl<S: DotStore<A>, A: Allocator + Copy> Causal<S, A> {
             return Ok(false);
         }
         let both = other.join(alloc, self)?;
-        Ok(both.store.same(&other.store))
+        let below = both.store.same(&other.store);
+        drop(both);
+        Ok(below)
     }
 }

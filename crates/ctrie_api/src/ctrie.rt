@@ -175,7 +175,12 @@ impl<V: Drop, H: PathHash, M: Summary<V>, A: Allocator + Copy> Ctrie<V, H, M, A>
         ensures err { IsOkUnless result Refusal.OutOfMemory }
     {
         let access = match &mut self.access {
-            Access::Writable(trie) => Access::Writable(trie.share()?.thaw()?),
+            Access::Writable(trie) => {
+                let shared = trie.share()?;
+                let next = shared.thaw();
+                drop(shared);
+                Access::Writable(next?)
+            }
             Access::ReadOnly(frozen) => Access::ReadOnly(frozen.copy()?),
         };
         Ok(Ctrie { access })

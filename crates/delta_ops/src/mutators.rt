@@ -61,9 +61,17 @@ pub fn put_field<M: Summary<Fields<A>>, H: PathHash, A: Allocator + Copy>(
 {
     let dot = live.context().next(name).ok_or(Refusal::NumbersSpent)?;
     let mut context = observed_at(alloc, live, key, field)?;
-    context.add(dot)?;
-    let store = one_value(alloc, dot, key, field, value)?;
-    Ok((Causal::from_parts(store, context).unwrap(), dot))
+    if let Err(refusal) = context.add(dot) {
+        drop(context);
+        return Err(refusal);
+    }
+    match one_value(alloc, dot, key, field, value) {
+        Ok(store) => Ok((Causal::from_parts(store, context).unwrap(), dot)),
+        Err(refusal) => {
+            drop(context);
+            Err(refusal)
+        }
+    }
 }
 
 /// The context of the dots that stand at the field of the key.
@@ -96,11 +104,23 @@ fn one_value<A: Allocator + Copy>(
         ≡ cond (same_place (place_of key.now field.now) place && same_dot dot d) (Some value.now) None) }
     ensures err { IsOkUnless result Refusal.OutOfMemory }
 {
+    let key = key.copy(alloc)?;
+    let field = field.copy(alloc)?;
+    let value = value.copy(alloc)?;
     let mut values = DotFun::empty(alloc);
-    values.insert(dot, value.copy(alloc)?)?;
+    if let Err(refusal) = values.insert(dot, value) {
+        drop(values);
+        return Err(refusal);
+    }
     let mut fields = Fields::empty(alloc);
-    fields.insert(field.copy(alloc)?, values)?;
+    if let Err(refusal) = fields.insert(field, values) {
+        drop(fields);
+        return Err(refusal);
+    }
     let mut store: OrMapStore<A> = DotMap::empty(alloc);
-    store.insert(key.copy(alloc)?, fields)?;
+    if let Err(refusal) = store.insert(key, fields) {
+        drop(store);
+        return Err(refusal);
+    }
     Ok(store)
 }

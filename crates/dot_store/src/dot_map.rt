@@ -240,8 +240,19 @@ fn dots_of<K, S: DotStore<A>, A: Allocator + Copy>(
     }
     let (front, back) = stores.split_at(middle);
     let mut dots = dots_of(alloc, front)?;
-    let more = dots_of(alloc, back)?;
-    dots.union(&more)?;
+    let more = match dots_of(alloc, back) {
+        Ok(more) => more,
+        Err(refusal) => {
+            drop(dots);
+            return Err(refusal);
+        }
+    };
+    let united = dots.union(&more);
+    drop(more);
+    if let Err(refusal) = united {
+        drop(dots);
+        return Err(refusal);
+    }
     Ok(dots)
 }
 

@@ -62,7 +62,7 @@ impl<K, A: Allocator + Copy> Text<K, A> {
         })
     }
 
-    /// The same text, which shares the bytes past 22 with this one: their memory goes with the last of the two. Takes
+    /// The same text. What a text has past 22 bytes all its copies share, and its memory goes with the last of them. Takes
     /// constant time and no memory, so the allocator, which each `copy` takes, is asked for none. Its only refusal is
     /// OutOfMemory, where a text is copied more often than its owners can be counted.
     pub fn copy(&self, _alloc: A) -> Result<Text<K, A>, Refusal>

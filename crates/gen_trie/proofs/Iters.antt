@@ -66,6 +66,26 @@ module _ {V M A : Type 0} where
         (stand.0, rest.1),
       )
 
+  -- what is left once children are put where nothing was left, below the branches that have some
+  pub left_at : (from k n : ℕ) (ls : List (Bor (List (Slot V M A)))) (put : Bor (List (Slot V M A))) → n ≡ from + k → k < length ls
+      → All (StandsBelow n) put.now → LevelsStand from ls → NoneBelow (suc k) ls
+      → (levels_left from (set ls k put) ≡ slots_left n put.now ++ levels_left from ls) × LevelsStand from (set ls k put) × NoneBelow k (set ls k put)
+  left_at from k n [] put e h fits stand past = absurd (omega arith)
+  left_at from zero n (x ∷ xs) put e h fits stand past =
+      let same : n ≡ from = omega arith in (
+        ap (λ m. slots_left m put.now ++ levels_left (suc from) xs) (sym same) ∙ ap (λ y. slots_left n put.now ++ (slots_left from y ++ levels_left (suc from) xs)) (sym past.0),
+        (subst (λ m. All (StandsBelow m) put.now) same fits, stand.1),
+        tt,
+      )
+  left_at from (suc k) n (x ∷ xs) put e h fits stand past =
+      let next : n ≡ suc from + k = omega arith in
+      let rest = left_at (suc from) k n xs put next (omega arith) fits stand.1 past.1 in
+      let none = λ (ls : List (Bor (List (Slot V M A)))). ap (λ y. slots_left from y ++ levels_left (suc from) ls) past.0 in (
+        none (set xs k put) ∙ rest.0 ∙ ap (λ l. slots_left n put.now ++ l) (sym (none xs)),
+        (stand.0, rest.1),
+        (past.0, rest.2),
+      )
+
 -- ---- a slot that is gone into
 
 module _ {V M A : Type 0} (below : ℕ) (s : Slot V M A) (i : ℕ) (n : Arc (Node V M A) A) (x : Node V M A) (shape : Shape V M A)

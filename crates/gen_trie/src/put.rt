@@ -13,6 +13,7 @@ use crate::node::{Node, Seat, Shape, Slot, seat_of};
 use crate::summary::Summary;
 use dots::Refusal;
 use std::alloc::Allocator;
+use std::mem;
 use std::sync::Arc;
 
 // Puts an entry into a node, and tells whether its key is new there. A refused call leaves what the node stands for.
@@ -135,7 +136,10 @@ fn pair<V: Drop, M: Summary<V>, A: Allocator + Copy>(
     ensures err { IsOkUnless result OutOfMemory }
 {
     let mut node = Node::single(alloc, generation, height, Arc::try_clone(first)?)?;
-    put(&mut node, alloc, generation, leaf)?;
+    if let Err(refusal) = put(&mut node, alloc, generation, leaf) {
+        drop(node);
+        return Err(refusal);
+    }
     Ok(Arc::new(alloc, node)?)
 }
 
@@ -160,7 +164,14 @@ fn put_shared<V: Drop, M: Summary<V>, A: Allocator + Copy>(
         }
     }
     let mut copy = node.copy(alloc, generation)?;
-    let fresh = put(&mut copy, alloc, generation, leaf)?;
-    *node = Arc::new(alloc, copy)?;
+    let fresh = match put(&mut copy, alloc, generation, leaf) {
+        Ok(fresh) => fresh,
+        Err(refusal) => {
+            drop(copy);
+            return Err(refusal);
+        }
+    };
+    let copy = Arc::new(alloc, copy)?;
+    drop(mem::replace(node, copy));
     Ok(fresh)
 }

@@ -9,6 +9,7 @@ use crate::summary::Summary;
 use crate::summing::summary;
 use dots::Refusal;
 use std::alloc::Allocator;
+use std::mem;
 use std::sync::Arc;
 
 // Gives a child its summary. A refused call may leave some of the nodes below it renewed, but not its own.
@@ -56,8 +57,12 @@ fn seal_shared<V: Drop, M: Summary<V>, A: Allocator + Copy>(
         return seal_node(own, alloc, generation);
     }
     let mut copy = node.copy(alloc, generation)?;
-    seal_node(&mut copy, alloc, generation)?;
-    *node = Arc::new(alloc, copy)?;
+    if let Err(refusal) = seal_node(&mut copy, alloc, generation) {
+        drop(copy);
+        return Err(refusal);
+    }
+    let copy = Arc::new(alloc, copy)?;
+    drop(mem::replace(node, copy));
     Ok(())
 }
 

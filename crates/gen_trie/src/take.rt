@@ -16,6 +16,7 @@ use crate::node::{Node, Seat, Shape, Slot, seat_of};
 use crate::summary::Summary;
 use dots::Refusal;
 use std::alloc::Allocator;
+use std::mem;
 use std::sync::Arc;
 
 // The entry of a slot that has one alone.
@@ -204,7 +205,7 @@ pub(crate) fn take_below<V: Drop, M: Summary<V>, A: Allocator + Copy>(
         Slot::Many(index, node) => match lone_after(node, hash, key)? {
             Some(entry) => {
                 let index = *index;
-                *slot = Slot::One(index, entry);
+                drop(mem::replace(slot, Slot::One(index, entry)));
                 Ok(())
             }
             None => take_shared(node, alloc, generation, hash, key),
@@ -235,7 +236,11 @@ fn take_shared<V: Drop, M: Summary<V>, A: Allocator + Copy>(
         }
     }
     let mut copy = node.copy(alloc, generation)?;
-    take(&mut copy, alloc, generation, hash, key)?;
-    *node = Arc::new(alloc, copy)?;
+    if let Err(refusal) = take(&mut copy, alloc, generation, hash, key) {
+        drop(copy);
+        return Err(refusal);
+    }
+    let copy = Arc::new(alloc, copy)?;
+    drop(mem::replace(node, copy));
     Ok(())
 }

@@ -14,6 +14,7 @@ ghost use Rattle.trie_map.specs.Keyed.{at_keys};
 use crate::dot_span::dot_at;
 use crate::index::Index;
 use crate::touched::Touched;
+use crate::touching::name_store;
 use causal_context::Context;
 use dot_store::DotStore;
 use dots::{Dot, Key, Name, Refusal};
@@ -23,22 +24,21 @@ use std::alloc::Allocator;
 use std::collections::BTreeSet;
 use trie_map::{Draft, TrieMap};
 
-// The keys that were touched, and those that are named for dots of the context that were not seen.
-pub(crate) fn touched_since<H: PathHash, A: Allocator + Copy>(
+// Adds the keys that were touched, and those that are named for dots of the context that were not seen.
+pub(crate) fn touch_since<H: PathHash, A: Allocator + Copy>(
     alloc: A,
+    keys: &mut Touched<A>,
     index: &Index<A>,
     seen: &Context<A>,
     touched: &Frozen<(), NoSummary, H, A>,
     context: &Context<A>,
-) -> Result<Touched<A>, Refusal>
-    ensures ok { IfOk result (IsTouchedSince index.now touched.now.map (has seen.now) (has context.now)) }
+) -> Result<(), Refusal>
+    ensures ok { OnOk result (IsTouchedSince index.now touched.now.map (has seen.now) (has context.now) keys.new) }
     ensures err { IsOkUnless result Refusal.OutOfMemory }
 {
-    let mut keys = Touched::new(alloc);
-    add_touched(alloc, &mut keys, touched)?;
-    add_vector_since(alloc, &mut keys, index, seen, context.vector())?;
-    add_cloud_since(alloc, &mut keys, index, seen, context.cloud())?;
-    Ok(keys)
+    add_touched(alloc, keys, touched)?;
+    add_vector_since(alloc, keys, index, seen, context.vector())?;
+    add_cloud_since(alloc, keys, index, seen, context.cloud())
 }
 
 // Adds the keys that were touched.
@@ -150,7 +150,10 @@ pub(crate) fn closed<S: DotStore<A>, M: Summary<S>, H: PathHash, A: Allocator + 
     ensures err { IsOkUnless result Refusal.OutOfMemory }
 {
     let mut draft = mine.draft()?;
-    join_built_at(alloc, &mut draft, mine, own, built, theirs, keys)?;
+    if let Err(refusal) = join_built_at(alloc, &mut draft, mine, own, built, theirs, keys) {
+        drop(draft);
+        return Err(refusal);
+    }
     draft.finish()
 }
 
@@ -214,6 +217,6 @@ fn name_key<S: DotStore<A>, M: Summary<S>, H: PathHash, A: Allocator + Copy>(
     ensures err { IsOkUnless result Refusal.OutOfMemory }
 {
     let empty = S::empty(alloc);
-    let dots = built.lookup(key).unwrap_or(&empty).dots(alloc)?;
-    index.add_dots(alloc, key, &dots, known)
+    let store = built.lookup(key).unwrap_or(&empty);
+    name_store(alloc, index, key, store, known)
 }

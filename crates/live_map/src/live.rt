@@ -11,10 +11,11 @@ ghost use Rattle.live_map.specs.Closing.{stores_of};
 ghost use Rattle.live_map.specs.Index.{AreAllTouched, IsIndexed};
 ghost use Rattle.trie_map.specs.Keyed.{at_keys, NoStoreIsEmpty, EachIsCanonical};
 
-use crate::closing::{closed, name_built, touched_since};
+use crate::closing::{closed, name_built, touch_since};
 use crate::index::Index;
 use crate::prepared::Prepared;
-use crate::touching::{cut_all, join_at_keys, name_all, touched_by};
+use crate::touched::Touched;
+use crate::touching::{cut_all, join_at_keys, name_all, touch_by};
 use causal_context::Context;
 use causal_join::Causal;
 use dot_store::{DotMap, DotStore};
@@ -24,6 +25,7 @@ use hash_path::{Fnv1a, PathHash};
 use std::alloc::{Allocator, Global};
 use std::collections::BTreeSet;
 use std::marker::Model;
+use std::mem;
 use trie_map::TrieMap;
 
 /// The pair of a replica: the store of its keys, and the context of the dots that it knows.
@@ -111,9 +113,22 @@ impl<S: DotStore<A>, M: Summary<S>, H: PathHash, A: Allocator + Copy> Live<S, M,
         ensures ok { IfOk result (λ copy. copy.0 ≡ self.now.0) }
         ensures err { IsOkUnless result Refusal.OutOfMemory }
     {
-        let store = self.store.share()?;
         let context = self.context.copy(alloc)?;
-        let index = self.index.copy(alloc)?;
+        let index = match self.index.copy(alloc) {
+            Ok(index) => index,
+            Err(refusal) => {
+                drop(context);
+                return Err(refusal);
+            }
+        };
+        let store = match self.store.share() {
+            Ok(store) => store,
+            Err(refusal) => {
+                drop(index);
+                drop(context);
+                return Err(refusal);
+            }
+        };
         Ok(Live {
             store,
             context,
@@ -123,9 +138,9 @@ impl<S: DotStore<A>, M: Summary<S>, H: PathHash, A: Allocator + Copy> Live<S, M,
 
     /// What the pair will be once the delta is joined in. The pair stays as it is, also where the call is refused: only the
     /// index may name more. Takes time and memory in the keys and dots of the delta and in the dots that stand here and are
-    /// known there, each times the logarithm of the map and the bytes of its key; in all that stands at these keys; in what
-    /// `dots` takes of each store of the delta, and of what will stand where dots were found; and in both contexts: their names,
-    /// and their dots above a gap.
+    /// known there, and time in each of these times the logarithm of the map and the bytes of its key; both in all that stands at
+    /// these keys; in what `dots` takes of each store of the delta, and of what will stand where dots were found; and in both
+    /// contexts: their names, and their dots above a gap.
     /// Its only refusal is OutOfMemory.
     pub fn prepare(
         &mut self,
@@ -139,7 +154,27 @@ impl<S: DotStore<A>, M: Summary<S>, H: PathHash, A: Allocator + Copy> Live<S, M,
         ensures unchanged { self.new.0 ≡ self.old.0 }
         ensures err { IsOkUnless result Refusal.OutOfMemory }
     {
-        let touched = touched_by(alloc, &self.index, delta)?;
+        let mut touched = Touched::new(alloc);
+        let next = self.prepare_at(alloc, delta, &mut touched);
+        drop(touched);
+        next
+    }
+
+    // What `prepare` answers. Adds the keys that the delta can change.
+    fn prepare_at(
+        &mut self,
+        alloc: A,
+        delta: &Causal<DotMap<Key<A>, S, A>, A>,
+        touched: &mut Touched<A>,
+    ) -> Result<Prepared<S, M, H, A>, Refusal>
+        ensures hash { IfOk result (λ next. next.0.0 ≡ self.old.0.0.0) }
+        ensures ok { IfOk result (λ next. Same (state_of (at_keys S.at) next)
+            (join S.greater (state_of (at_keys S.at) self.old.0) (state_of (at_stores S.at bytes_cmp) delta.now))) }
+        ensures fits { IfOk result (λ next. IsIndexed (at_keys S.at next.0) self.new.1) }
+        ensures unchanged { self.new.0 ≡ self.old.0 }
+        ensures err { IsOkUnless result Refusal.OutOfMemory }
+    {
+        touch_by(alloc, touched, &self.index, delta)?;
         name_all(
             alloc,
             &mut self.index,
@@ -147,18 +182,23 @@ impl<S: DotStore<A>, M: Summary<S>, H: PathHash, A: Allocator + Copy> Live<S, M,
             &self.context,
         )?;
         let context = known_by_both(alloc, &self.context, delta.context())?;
-        // The store comes last: where a call is refused, less is there to be dropped, which is proved sooner.
-        let store = joined(alloc, &self.store, &self.context, delta, touched.keys())?;
-        Prepared::new(alloc, store, context, &touched)
+        let store = match joined(alloc, &self.store, &self.context, delta, touched.keys()) {
+            Ok(store) => store,
+            Err(refusal) => {
+                drop(context);
+                return Err(refusal);
+            }
+        };
+        Prepared::new(alloc, store, context, touched)
     }
 
     /// What the pair will be once a store is joined in that was built from a base: it is the base but at the keys that were
     /// touched, and the context knows its dots. The base under the dots that were seen was joined into this pair before. The
     /// pair stays as it is, also where the call is refused: only the index may name more. Takes time and memory in the touched
-    /// keys, and in the dots that stand here, that the context knows and that lie above the entries that were seen, each times
-    /// the logarithm of the map and the bytes of its key; in all that stands at these keys, here and in what was built; in what
-    /// `dots` takes of each store that was built there, and of what will stand where dots were found; and in the names and
-    /// clouds of the contexts. Neither store is walked.
+    /// keys, and in the dots that stand here, that the context knows and that lie above the entries that were seen, and time in
+    /// each of these times the logarithm of the map and the bytes of its key; both in all that stands at these keys, here and in
+    /// what was built; in what `dots` takes of each store that was built there, and of what will stand where dots were found; and
+    /// in the names and clouds of the contexts. Neither store is walked.
     /// Its only refusal is OutOfMemory.
     pub fn prepare_opened(
         &mut self,
@@ -181,20 +221,55 @@ impl<S: DotStore<A>, M: Summary<S>, H: PathHash, A: Allocator + Copy> Live<S, M,
         ensures unchanged { self.new.0 ≡ self.old.0 }
         ensures err { IsOkUnless result Refusal.OutOfMemory }
     {
+        let mut changed = Touched::new(alloc);
+        let next = self.prepare_opened_at(alloc, base, seen, built, touched, context, &mut changed);
+        drop(changed);
+        next
+    }
+
+    // What `prepare_opened` answers. Adds the keys that the store can change.
+    fn prepare_opened_at(
+        &mut self,
+        alloc: A,
+        base: &Frozen<S, M, H, A>,
+        seen: &Context<A>,
+        built: &Frozen<S, M, H, A>,
+        touched: &Frozen<(), NoSummary, H, A>,
+        context: &Context<A>,
+        changed: &mut Touched<A>,
+    ) -> Result<Prepared<S, M, H, A>, Refusal>
+        requires below { Same (join S.greater (state_of (at_keys S.at) self.old.0)
+            (state_of (at_keys S.at) (stores_of base.now, seen.now))) (state_of (at_keys S.at) self.old.0) }
+        requires rest { (key : List ℕ) → finite.get touched.now.map key ≡ None
+            → finite.get built.now.map key ≡ finite.get base.now.map key }
+        requires inside { IsInside (state_of (at_keys S.at) (stores_of built.now, context.now)) }
+        ensures hash { IfOk result (λ next. next.0.0 ≡ self.old.0.0.0) }
+        ensures ok { IfOk result (λ next. Same (state_of (at_keys S.at) next) (join S.greater
+            (state_of (at_keys S.at) self.old.0) (state_of (at_keys S.at) (stores_of built.now, context.now)))) }
+        ensures fits { IfOk result (λ next. IsIndexed (at_keys S.at next.0) self.new.1) }
+        ensures unchanged { self.new.0 ≡ self.old.0 }
+        ensures err { IsOkUnless result Refusal.OutOfMemory }
+    {
         // The base is spoken of in the contract alone.
         let _ = base;
-        let changed = touched_since(alloc, &self.index, seen, touched, context)?;
+        touch_since(alloc, changed, &self.index, seen, touched, context)?;
         name_built(alloc, &mut self.index, built, changed.keys(), &self.context)?;
         let next = known_by_both(alloc, &self.context, context)?;
-        let store = closed(
+        let store = match closed(
             alloc,
             &self.store,
             &self.context,
             built,
             context,
             changed.keys(),
-        )?;
-        Prepared::new(alloc, store, next, &changed)
+        ) {
+            Ok(store) => store,
+            Err(refusal) => {
+                drop(next);
+                return Err(refusal);
+            }
+        };
+        Prepared::new(alloc, store, next, changed)
     }
 
     /// Puts the prepared pair in the place of this one. It has to be prepared of this one as it is; it is not refused, and
@@ -203,9 +278,15 @@ impl<S: DotStore<A>, M: Summary<S>, H: PathHash, A: Allocator + Copy> Live<S, M,
         requires { IsIndexed (at_keys S.at next.0) self.old.1 }
         ensures { self.new.0 ≡ next }
     {
-        cut_all(&mut self.index, &next.store, &next.gone);
-        self.store = next.store;
-        self.context = next.context;
+        let Prepared {
+            store,
+            context,
+            gone,
+        } = next;
+        cut_all(&mut self.index, &store, &gone);
+        drop(gone);
+        drop(mem::replace(&mut self.store, store));
+        drop(mem::replace(&mut self.context, context));
     }
 
     /// Joins the delta into the pair. A refused call leaves the pair as it was. Takes what `prepare` and `commit` do.
@@ -237,8 +318,13 @@ fn known_by_both<A: Allocator + Copy>(
     ensures err { IsOkUnless result Refusal.OutOfMemory }
 {
     let mut both = own.copy(alloc)?;
-    both.union(other)?;
-    Ok(both)
+    match both.union(other) {
+        Ok(()) => Ok(both),
+        Err(refusal) => {
+            drop(both);
+            Err(refusal)
+        }
+    }
 }
 
 // The store with what the delta holds joined in at these keys.
@@ -256,6 +342,9 @@ fn joined<S: DotStore<A>, M: Summary<S>, H: PathHash, A: Allocator + Copy>(
     ensures err { IsOkUnless result Refusal.OutOfMemory }
 {
     let mut draft = mine.draft()?;
-    join_at_keys(alloc, &mut draft, mine, own, delta, keys)?;
+    if let Err(refusal) = join_at_keys(alloc, &mut draft, mine, own, delta, keys) {
+        drop(draft);
+        return Err(refusal);
+    }
     draft.finish()
 }

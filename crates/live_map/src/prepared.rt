@@ -55,11 +55,17 @@ impl<S: DotStore<A>, M: Summary<S>, H: PathHash, A: Allocator + Copy> Prepared<S
         ensures ok { IfOk result (λ next. next ≡ (store, context)) }
         ensures err { IsOkUnless result Refusal.OutOfMemory }
     {
-        let gone = gone_of(alloc, &store, touched)?;
-        Ok(Prepared {
-            store,
-            context,
-            gone,
-        })
+        match gone_of(alloc, &store, touched) {
+            Ok(gone) => Ok(Prepared {
+                store,
+                context,
+                gone,
+            }),
+            Err(refusal) => {
+                drop(store);
+                drop(context);
+                Err(refusal)
+            }
+        }
     }
 }

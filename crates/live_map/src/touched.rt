@@ -64,9 +64,9 @@ impl<A: Allocator + Copy> Touched<A> {
             dots.push(dot)?;
             return Ok(());
         }
-        let mut dots = Vec::new(alloc);
-        dots.push(dot)?;
-        self.found.insert(key.copy(alloc)?, dots)?;
+        let dots = alone(alloc, dot)?;
+        let key = key.copy(alloc)?;
+        drop(self.found.insert(key, dots)?);
         Ok(())
     }
 
@@ -81,4 +81,13 @@ impl<A: Allocator + Copy> Touched<A> {
     pub(crate) fn found(&self) -> &BTreeMap<Key<A>, Vec<Dot, A>, A> {
         &self.found
     }
+}
+
+// The list of this dot.
+fn alone<A: Allocator + Copy>(alloc: A, dot: Dot) -> Result<Vec<Dot, A>, Refusal>
+    ensures err { IsOkUnless result Refusal.OutOfMemory }
+{
+    let mut dots = Vec::new(alloc);
+    dots.push(dot)?;
+    Ok(dots)
 }

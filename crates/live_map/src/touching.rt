@@ -22,20 +22,19 @@ use std::alloc::Allocator;
 use std::collections::BTreeSet;
 use trie_map::{Draft, TrieMap};
 
-// The keys that the delta can change.
-pub(crate) fn touched_by<S: DotStore<A>, A: Allocator + Copy>(
+// Adds the keys that the delta can change.
+pub(crate) fn touch_by<S: DotStore<A>, A: Allocator + Copy>(
     alloc: A,
+    touched: &mut Touched<A>,
     index: &Index<A>,
     delta: &Causal<DotMap<Key<A>, S, A>, A>,
-) -> Result<Touched<A>, Refusal>
-    ensures ok { IfOk result (IsTouched index.now (at_stores S.at bytes_cmp delta.now.0) (has delta.now.1)) }
+) -> Result<(), Refusal>
+    ensures ok { OnOk result (IsTouched index.now (at_stores S.at bytes_cmp delta.now.0) (has delta.now.1) touched.new) }
     ensures err { IsOkUnless result Refusal.OutOfMemory }
 {
-    let mut touched = Touched::new(alloc);
-    add_keys(alloc, &mut touched, delta.store().entries())?;
-    add_vector(alloc, &mut touched, index, delta.context().vector())?;
-    add_cloud(alloc, &mut touched, index, delta.context().cloud())?;
-    Ok(touched)
+    add_keys(alloc, touched, delta.store().entries())?;
+    add_vector(alloc, touched, index, delta.context().vector())?;
+    add_cloud(alloc, touched, index, delta.context().cloud())
 }
 
 // Adds the keys of these entries.
@@ -127,10 +126,28 @@ pub(crate) fn name_all<S: DotStore<A>, A: Allocator + Copy>(
     ensures err { IsOkUnless result Refusal.OutOfMemory }
 {
     for (key, store) in entries {
-        let dots = store.dots(alloc)?;
-        index.add_dots(alloc, key, &dots, known)?;
+        name_store(alloc, index, key, store, known)?;
     }
     Ok(())
+}
+
+// Names the key for the dots of the store that are not known. A refused call may have named some.
+pub(crate) fn name_store<S: DotStore<A>, A: Allocator + Copy>(
+    alloc: A,
+    index: &mut Index<A>,
+    key: &Key<A>,
+    store: &S,
+    known: &Context<A>,
+) -> Result<(), Refusal>
+    ensures there { OnOk result ((place : S.Place) (d : DotValue) → IsSome (S.at store.now place d)
+        → has known.now d ≡ false → IsTrue (names index.new d key.now)) }
+    ensures kept { (d : DotValue) (q : List ℕ) → IsTrue (names index.old d q) → IsTrue (names index.new d q) }
+    ensures err { IsOkUnless result Refusal.OutOfMemory }
+{
+    let dots = store.dots(alloc)?;
+    let named = index.add_dots(alloc, key, &dots, known);
+    drop(dots);
+    named
 }
 
 // The places that were found and at which nothing stands in the store now.
@@ -163,6 +180,28 @@ fn add_gone<S: DotStore<A>, M: Summary<S>, H: PathHash, A: Allocator + Copy>(
     ensures err { IsOkUnless result Refusal.OutOfMemory }
 {
     let standing = standing_at(alloc, store, key)?;
+    let added = add_absent(alloc, gone, store, &standing, key, dots);
+    drop(standing);
+    added
+}
+
+// Adds the places of those of the dots that are not among those that stand at the key.
+fn add_absent<S: DotStore<A>, M: Summary<S>, H: PathHash, A: Allocator + Copy>(
+    alloc: A,
+    gone: &mut Vec<(Dot, Key<A>), A>,
+    store: &TrieMap<S, M, H, A>,
+    standing: &Context<A>,
+    key: &Key<A>,
+    dots: &[Dot],
+) -> Result<(), Refusal>
+    requires gone { All (IsGone (at_keys S.at store.now)) gone.old.items }
+    requires standing { (place : S.Place) (d : DotValue)
+        → IsSome (at_keys S.at store.now (key.now, place) d) → IsTrue (has standing.now d) }
+    ensures ok { OnOk result (All (IsGone (at_keys S.at store.now)) gone.new.items) }
+    ensures err { IsOkUnless result Refusal.OutOfMemory }
+{
+    // The store is spoken of in the contract alone.
+    let _ = store;
     for dot in dots {
         if !standing.contains(*dot) {
             gone.push((*dot, key.copy(alloc)?))?;

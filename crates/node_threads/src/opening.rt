@@ -76,7 +76,9 @@ fn empty_root<A: Allocator + Copy>(alloc: A, name: Name) -> Result<Root<A>, Refu
     ensures err { IfErr result (λ e. e ≡ OutOfMemory) }
 {
     let replica = Replica::new(alloc, name, Fnv1a);
-    replica.share()
+    let root = replica.share();
+    drop(replica);
+    root
 }
 
 // Shares an object to which nothing happened yet. Where there is no memory, its cell ends.

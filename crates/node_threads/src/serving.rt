@@ -74,7 +74,11 @@ fn answer<K: Naming, G: Gate + Drop, W: Wait + Drop, P: Post, T: Wait>(
     ensures passed { IsNone result → HasNotCalled (λ e. e.place) client.old client.new × (post.new ≡ post.old) }
 {
     match take_in(rt, alloc, client, bytes) {
-        Ok(told) => Some(send_all(rt, alloc, &told.replies, post)),
+        Ok(told) => {
+            let lost = send_all(rt, alloc, &told.replies, post);
+            drop(told);
+            Some(lost)
+        }
         Err(_) => None,
     }
 }
@@ -90,7 +94,9 @@ fn take_in<K: Naming, G: Gate + Drop, W: Wait + Drop, T: Wait>(
     ensures not_made { OnErr result (HasNotCalled (λ e. e.place) client.old client.new) }
 {
     let message = decode(alloc, bytes)?;
-    deliver(rt, alloc, client, &message)
+    let told = deliver(rt, alloc, client, &message);
+    drop(message);
+    told
 }
 
 // Takes this message in.
@@ -104,7 +110,8 @@ fn deliver<K: Naming, G: Gate + Drop, W: Wait + Drop, T: Wait>(
     ensures not_made { OnErr result (HasNotCalled (λ e. e.place) client.old client.new) }
 {
     let delivering = Delivering { alloc, message };
-    let (told, _receipt) = client.call(rt, &delivering)?;
+    let (told, receipt) = client.call(rt, &delivering)?;
+    drop(receipt);
     Ok(told)
 }
 

@@ -9,7 +9,7 @@ use hash_path::Fnv1a;
 use replica_core::Replica;
 use std::alloc::Allocator;
 use std::sync::{Arc, Wait};
-use std::thread;
+use std::{mem, thread};
 
 /// A place for a root. Its only refusal is OutOfMemory.
 pub(crate) fn place_for<A: Allocator + Copy>(
@@ -35,7 +35,7 @@ pub(crate) fn show<A: Allocator + Copy, W: Wait>(
     let root = share_in_turn(rt, replica);
     for _ in rt.forever() {
         if let Some(shown) = Arc::get_mut(&mut place) {
-            *shown = root;
+            drop(mem::replace(shown, root));
             return place;
         }
         thread::yield_now();

@@ -76,10 +76,14 @@ impl<H: PathHash, A: Allocator + Copy> Built<H, A> {
         ensures ok { IfOk result (λ copy. copy ≡ self.now) }
         ensures err { IsOkUnless result Refusal.OutOfMemory }
     {
-        Ok(Built {
-            entries: self.entries.copy()?,
-            touched: self.touched.copy()?,
-        })
+        let touched = self.touched.copy()?;
+        match self.entries.copy() {
+            Ok(entries) => Ok(Built { entries, touched }),
+            Err(refusal) => {
+                drop(touched);
+                Err(refusal)
+            }
+        }
     }
 
     /// What is built once a page was taken: what the page says stands no more under its prefix is gone, and these entries, which
@@ -97,7 +101,10 @@ impl<H: PathHash, A: Allocator + Copy> Built<H, A> {
         ensures err { IsOkUnless result Refusal.OutOfMemory }
     {
         let mut draft = Draft::of(&self.entries, &self.touched)?;
-        change(alloc, &mut draft, &self.entries, sent, entries)?;
+        if let Err(refusal) = change(alloc, &mut draft, &self.entries, sent, entries) {
+            drop(draft);
+            return Err(refusal);
+        }
         draft.finish()
     }
 }

@@ -38,10 +38,14 @@ impl<H: PathHash, A: Allocator + Copy> Draft<H, A> {
         ensures ok { IfOk result (λ draft. draft ≡ record { hash = entries.now.hash; entries = entries.now.map; touched = touched.now.map }) }
         ensures err { IsOkUnless result Refusal.OutOfMemory }
     {
-        Ok(Draft {
-            entries: entries.thaw()?,
-            touched: touched.thaw()?,
-        })
+        let touched = touched.thaw()?;
+        match entries.thaw() {
+            Ok(entries) => Ok(Draft { entries, touched }),
+            Err(refusal) => {
+                drop(touched);
+                Err(refusal)
+            }
+        }
     }
 
     // Marks a key as touched.
@@ -70,9 +74,15 @@ impl<H: PathHash, A: Allocator + Copy> Draft<H, A> {
         ensures err { IsOkUnless result Refusal.OutOfMemory }
     {
         if fields.entries().is_empty() {
+            drop(fields);
+            drop(key);
             return Ok(());
         }
-        self.touch(alloc, &key)?;
+        if let Err(refusal) = self.touch(alloc, &key) {
+            drop(fields);
+            drop(key);
+            return Err(refusal);
+        }
         self.entries.insert(key, fields)?;
         Ok(())
     }
@@ -82,8 +92,24 @@ impl<H: PathHash, A: Allocator + Copy> Draft<H, A> {
         ensures ok { IfOk result (λ built. built ≡ self) }
         ensures err { IsOkUnless result Refusal.OutOfMemory }
     {
-        let entries = self.entries.share()?;
+        let built = self.shared();
+        drop(self);
+        built
+    }
+
+    // What is made so far, which stays as it is.
+    fn shared(&mut self) -> Result<Built<H, A>, Refusal>
+        ensures ok { IfOk result (λ built. built ≡ self.old) }
+        ensures same { self.new ≡ self.old }
+        ensures err { IsOkUnless result Refusal.OutOfMemory }
+    {
         let touched = self.touched.share()?;
-        Ok(Built::of(entries, touched))
+        match self.entries.share() {
+            Ok(entries) => Ok(Built::of(entries, touched)),
+            Err(refusal) => {
+                drop(touched);
+                Err(refusal)
+            }
+        }
     }
 }

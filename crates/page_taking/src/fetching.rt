@@ -56,14 +56,21 @@ impl<H: PathHash, A: Allocator + Copy> Fetching<H, A> {
     {
         if !is_digest(own, root) {
             let waiting = first_waiting(alloc, own.hash(), root)?;
-            let built = Built::new(alloc, own.copy()?);
+            let entries = match own.copy() {
+                Ok(entries) => entries,
+                Err(refusal) => {
+                    drop(waiting);
+                    return Err(refusal);
+                }
+            };
+            let built = Built::new(alloc, entries);
             return Ok(Some(Fetching { waiting, built }));
         }
         if !knows_all(own, seen, known) {
             return Ok(None);
         }
-        let waiting = no_waiting(alloc, own.hash());
         let built = Built::new(alloc, own.copy()?);
+        let waiting = no_waiting(alloc, own.hash());
         Ok(Some(Fetching { waiting, built }))
     }
 
@@ -101,7 +108,9 @@ impl<H: PathHash, A: Allocator + Copy> Fetching<H, A> {
     pub fn into_built(self) -> Built<H, A>
         ensures { result ≡ self.built }
     {
-        self.built
+        let Fetching { waiting, built } = self;
+        drop(waiting);
+        built
     }
 
     /// The same. Copies no node: it takes three reference counts, and is refused only where one is full.
@@ -110,9 +119,13 @@ impl<H: PathHash, A: Allocator + Copy> Fetching<H, A> {
         ensures ok { IfOk result (λ copy. copy ≡ self.now) }
         ensures err { IsOkUnless result Refusal.OutOfMemory }
     {
-        Ok(Fetching {
-            waiting: self.waiting.copy()?,
-            built: self.built.copy()?,
-        })
+        let waiting = self.waiting.copy()?;
+        match self.built.copy() {
+            Ok(built) => Ok(Fetching { waiting, built }),
+            Err(refusal) => {
+                drop(waiting);
+                Err(refusal)
+            }
+        }
     }
 }

@@ -138,9 +138,17 @@ fn add_field<A: Allocator + Copy>(
         return Ok(false);
     };
     if values.is_empty() {
+        drop(values);
         return Ok(true);
     }
-    fields.push((field.copy(alloc)?, values))?;
+    let field = match field.copy(alloc) {
+        Ok(field) => field,
+        Err(refusal) => {
+            drop(values);
+            return Err(refusal);
+        }
+    };
+    fields.push((field, values))?;
     Ok(true)
 }
 
@@ -186,7 +194,14 @@ fn add_entry<H: PathHash, A: Allocator + Copy>(
     let Some(fields) = fill_named(alloc, own.lookup(key), named, seen, sent)? else {
         return Ok(false);
     };
-    entries.push((key.copy(alloc)?, fields))?;
+    let key = match key.copy(alloc) {
+        Ok(key) => key,
+        Err(refusal) => {
+            drop(fields);
+            return Err(refusal);
+        }
+    };
+    entries.push((key, fields))?;
     Ok(true)
 }
 

@@ -55,8 +55,13 @@ fn took<H: PathHash, A: Allocator + Copy>(
     let children = to_ask(alloc, own, sent)?;
     let asks = asks_of(alloc, prefix, &children)?;
     let waiting = next_waiting(alloc, fetching.waiting(), prefix, &children)?;
-    let built = fetching.built().take(alloc, sent, entries)?;
-    Ok((Fetching::of(waiting, built), asks))
+    match fetching.built().take(alloc, sent, entries) {
+        Ok(built) => Ok((Fetching::of(waiting, built), asks)),
+        Err(refusal) => {
+            drop(waiting);
+            Err(refusal)
+        }
+    }
 }
 
 impl<H: PathHash, A: Allocator + Copy> Fetching<H, A> {

@@ -91,6 +91,23 @@ fn put_asks<H: PathHash, A: Allocator + Copy>(
     Ok(())
 }
 
+// Takes a prefix out of the draft and puts these children of it, and gives what is waited for then.
+fn removed_and_put<H: PathHash, A: Allocator + Copy>(
+    alloc: A,
+    draft: &mut GenTrie<[u8; 32], NoSummary, H, A>,
+    prefix: Prefix,
+    asks: &[(u8, [u8; 32])],
+) -> Result<Waiting<H, A>, Refusal>
+    ensures ok { IfOk result (λ next. next.map ≡ put_children prefix asks.now (finite.remove draft.old.map prefix)) }
+    ensures same { IfOk result (λ next. draft.new.map ≡ next.map) }
+    ensures err { IsOkUnless result Refusal.OutOfMemory }
+{
+    let key = prefix_key(alloc, prefix)?;
+    draft.remove(&key)?;
+    put_asks(alloc, draft, prefix, asks)?;
+    draft.share()
+}
+
 /// What is waited for once the page at a prefix was taken: the prefix no more, and these children of it, each with the digest that the
 /// page told of it. What was waited for before stays as it is. Takes time and memory in the children, and the logarithm of the
 /// prefixes that are waited for.
@@ -104,11 +121,10 @@ pub(crate) fn next_waiting<H: PathHash, A: Allocator + Copy>(
     ensures ok { IfOk result (λ next. next.map ≡ put_children prefix asks.now (finite.remove waiting.now.map prefix)) }
     ensures err { IsOkUnless result Refusal.OutOfMemory }
 {
-    let key = prefix_key(alloc, prefix)?;
     let mut draft = waiting.thaw()?;
-    draft.remove(&key)?;
-    put_asks(alloc, &mut draft, prefix, asks)?;
-    draft.share()
+    let next = removed_and_put(alloc, &mut draft, prefix, asks);
+    drop(draft);
+    next
 }
 
 // Nothing is waited for.
@@ -129,6 +145,11 @@ pub(crate) fn first_waiting<H: PathHash, A: Allocator + Copy>(
 {
     let key = prefix_key(alloc, Prefix::root())?;
     let mut draft = GenTrie::new(alloc, hash);
-    draft.insert(key, *root)?;
-    draft.share()
+    if let Err(refusal) = draft.insert(key, *root) {
+        drop(draft);
+        return Err(refusal);
+    }
+    let waiting = draft.share();
+    drop(draft);
+    waiting
 }

@@ -71,7 +71,11 @@ pub fn page<H: PathHash, A: Allocator + Copy>(
 {
     match page_value(alloc, frozen, prefix)? {
         None => Ok(None),
-        Some(page) => Ok(Some(page.bytes(alloc)?)),
+        Some(page) => {
+            let bytes = page.bytes(alloc);
+            drop(page);
+            Ok(Some(bytes?))
+        }
     }
 }
 

@@ -119,14 +119,20 @@ impl<H: PathHash, A: Allocator + Copy> Replica<H, A> {
         }
         self.live.seal()?;
         let room = Vec::with_capacity(self.alloc, 1)?;
-        let opening = self.answerer.hello(
+        let opening = match self.answerer.hello(
             self.alloc,
             session,
             seen,
             self.live.store(),
             self.live.context(),
             outbox,
-        )?;
+        ) {
+            Ok(opening) => opening,
+            Err(refusal) => {
+                drop(room);
+                return Err(refusal);
+            }
+        };
         Ok(Delivered::answered(room, opening))
     }
 
@@ -152,7 +158,10 @@ impl<H: PathHash, A: Allocator + Copy> Replica<H, A> {
             return Ok(Delivered::silent(self.alloc, Outcome::Ignored));
         };
         let told = Delivered::alone(self.alloc, answer)?;
-        outbox.post_all(self.alloc, &told.replies)?;
+        if let Err(refusal) = outbox.post_all(self.alloc, &told.replies) {
+            drop(told);
+            return Err(refusal);
+        }
         Ok(told)
     }
 }

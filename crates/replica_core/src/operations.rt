@@ -144,7 +144,10 @@ impl<H: PathHash, A: Allocator + Copy> Replica<H, A> {
             return Ok(None);
         };
         let delta = Message::Delta(whole);
-        outbox.post(self.alloc, &delta)?;
+        if let Err(refusal) = outbox.post(self.alloc, &delta) {
+            drop(delta);
+            return Err(refusal);
+        }
         self.group.clear();
         Ok(Some(delta))
     }

@@ -123,7 +123,10 @@ fn flush<H: PathHash, A: Allocator + Copy>(
     ensures unposted { OnErr result (posted.new ≡ posted.old) }
 {
     match replica.flush_to(posted) {
-        Ok(_) => Ok(Answer::Nothing),
+        Ok(sent) => {
+            drop(sent);
+            Ok(Answer::Nothing)
+        }
         Err(refusal) => Err(refusal),
     }
 }
@@ -148,7 +151,9 @@ fn ask<H: PathHash, A: Allocator + Copy>(
 fn number_of<A: Allocator + Copy>(asked: (u64, Message<A>)) -> u64
     ensures { result ≡ asked.0 }
 {
-    asked.0
+    let (number, hello) = asked;
+    drop(hello);
+    number
 }
 
 fn retry<H: PathHash, A: Allocator + Copy>(
@@ -162,6 +167,15 @@ fn retry<H: PathHash, A: Allocator + Copy>(
     ensures unposted { OnErr result (posted.new ≡ posted.old) }
 {
     let told = replica.retry(number)?;
-    posted.post_all(alloc, told.replies.as_slice())?;
-    Ok(Answer::Outcome(told.outcome))
+    match posted.post_all(alloc, told.replies.as_slice()) {
+        Ok(()) => {
+            let outcome = told.outcome;
+            drop(told);
+            Ok(Answer::Outcome(outcome))
+        }
+        Err(refusal) => {
+            drop(told);
+            Err(refusal)
+        }
+    }
 }

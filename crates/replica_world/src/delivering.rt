@@ -37,7 +37,11 @@ pub(crate) fn take<H: PathHash, A: Allocator + Copy>(
     ensures unposted { OnErr result (posted.new ≡ posted.old) }
 {
     match replica.deliver_to(message, posted) {
-        Ok(told) => Ok(Answer::Outcome(told.outcome)),
+        Ok(told) => {
+            let outcome = told.outcome;
+            drop(told);
+            Ok(Answer::Outcome(outcome))
+        }
         Err(refusal) => Err(refusal),
     }
 }

@@ -57,8 +57,16 @@ fn add<H: PathHash, A: Allocator + Copy>(
     if replicas.contains_key(&name) {
         return Err(Refusal::NameTaken);
     }
-    replicas.insert(name, Replica::new(alloc, name, hash))?;
-    Ok(Answer::Nothing)
+    match replicas.insert(name, Replica::new(alloc, name, hash)) {
+        Ok(was) => {
+            drop(was);
+            Ok(Answer::Nothing)
+        }
+        Err(failed) => {
+            drop(failed);
+            Err(Refusal::OutOfMemory)
+        }
+    }
 }
 
 // A call of the replica of this name.
@@ -117,7 +125,9 @@ fn deliver_at<H: PathHash, A: Allocator + Copy>(
         Ok(message) => message,
         Err(refusal) => return Err(refusal),
     };
-    take_at(replicas, posted, name, &message)
+    let told = take_at(replicas, posted, name, &message);
+    drop(message);
+    told
 }
 
 // Makes a call of the replica of this name, which is there.

@@ -87,6 +87,7 @@ impl<H: PathHash, A: Allocator + Copy> World<H, A> {
             Ok(()) => {}
             Err(_) => {
                 let foreseen = foresee(&self.replicas, &self.posted, &event);
+                drop(event);
                 return Err(foreseen.unwrap_or(Refusal::OutOfMemory));
             }
         }
@@ -98,7 +99,10 @@ impl<H: PathHash, A: Allocator + Copy> World<H, A> {
             &event,
         ) {
             Ok(answer) => answer,
-            Err(refusal) => return Err(refusal),
+            Err(refusal) => {
+                drop(event);
+                return Err(refusal);
+            }
         };
         let made = first..self.posted.len() + 1;
         self.past.push(event).unwrap();

@@ -45,18 +45,46 @@ impl<R: Drop, E, J: Brand<R, E>, A: Allocator + Copy> Cell<R, E, J, A> {
         let OpenedBook { head, seen } = opened;
         let front: Front<R, E, J> = Front::new(0, &seen);
         let first = Published::new(Arc::new(alloc, root)?, 0, seen);
-        let desk: Desk<R, E, J, A> = writer::Writer::new(
-            alloc,
-            first.again()?,
-            first.again()?,
-            places,
-        )?;
-        match furnish(rt, alloc, desk, &first, &front, places) {
-            (desk, Ok(views)) => Ok((Writer::new(alloc, desk, head, front), views)),
-            (desk, Err(refusal)) => {
-                drop(desk.take(rt));
+        let laid = lay_out(rt, alloc, &first, &front, places);
+        drop(first);
+        match laid {
+            Ok((desk, views)) => Ok((Writer::new(alloc, desk, head, front), views)),
+            Err(refusal) => {
+                drop(head);
+                drop(front);
                 Err(refusal)
             }
+        }
+    }
+}
+
+// The two copies of what is published first, and the Views.
+fn lay_out<R: Drop, E, J: Brand<R, E>, A: Allocator + Copy, W: Wait>(
+    rt: &W,
+    alloc: A,
+    first: &Published<R, E, A>,
+    front: &Front<R, E, J>,
+    places: usize,
+) -> Result<(Desk<R, E, J, A>, Vec<View<R, E, J, A>, A>), Refusal>
+    requires places { (1 ≤ places) × (places ≤ 64) }
+    requires first { StandsIn J.book J.stands first.now }
+    requires front { front.now ≡ [] }
+    ensures desk { IfOk result (λ r. r.0.desk.shown.value ≡ first.now) }
+    ensures settled { IfOk result (λ r. drop r.0.behind r.0.log.items ≡ []) }
+    ensures views { IfOk result (λ r. r.1.items ≡ replicate places []) }
+    ensures err { IfErr result (λ e. e ≡ OutOfMemory) }
+{
+    let desk: Desk<R, E, J, A> = writer::Writer::new(
+        alloc,
+        first.again()?,
+        first.again()?,
+        places,
+    )?;
+    match furnish(rt, alloc, desk, first, front, places) {
+        (desk, Ok(views)) => Ok((desk, views)),
+        (desk, Err(refusal)) => {
+            drop(desk.take(rt));
+            Err(refusal)
         }
     }
 }

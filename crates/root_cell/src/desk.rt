@@ -150,6 +150,9 @@ pub fn make_room<R: Drop, E, J: Brand<R, E>, A: Allocator, W: Wait>(
     };
     match lay_once(desk, again) {
         Ok(desk) => show_once(rt, desk),
-        Err((desk, _again)) => (desk, Err(AllocError)),
+        Err((desk, again)) => {
+            drop(again);
+            (desk, Err(AllocError))
+        }
     }
 }

@@ -5,6 +5,7 @@ use left_right::Absorb;
 use logbook::Seen;
 use std::alloc::{AllocError, Allocator, Global};
 use std::marker::Model;
+use std::mem;
 use std::sync::Arc;
 
 /// What lies in the two copies: a root with the front that it goes out for. Contracts see the root, the front, and the front's book.
@@ -94,7 +95,8 @@ impl<R: Drop, E, A: Allocator> Absorb<Published<R, E, A>> for Published<R, E, A>
         operation: &Published<R, E, A>,
         _other: &Published<R, E, A>,
     ) -> Result<(), AllocError> {
-        *self = operation.again()?;
+        let again = operation.again()?;
+        drop(mem::replace(self, again));
         Ok(())
     }
 
@@ -103,7 +105,7 @@ impl<R: Drop, E, A: Allocator> Absorb<Published<R, E, A>> for Published<R, E, A>
         operation: Published<R, E, A>,
         _other: &Published<R, E, A>,
     ) -> Result<(), Published<R, E, A>> {
-        *self = operation;
+        drop(mem::replace(self, operation));
         Ok(())
     }
 }

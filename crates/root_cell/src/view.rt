@@ -12,6 +12,7 @@ use left_right::reader::Reader;
 use std::alloc::{Allocator, Global};
 use std::collections::LinkedList;
 use std::marker::Model;
+use std::mem;
 
 /// A reader's seat at a cell. Contracts see the front that it saw or learnt, a beginning of the cell's one list of events.
 #[derive(Drop)]
@@ -60,9 +61,14 @@ impl<R: Drop, E, J: Brand<R, E>, A: Allocator> View<R, E, J, A> {
             Ok(reading) => {
                 let entered = Entered::new(reading);
                 if entered.front().is_behind(&front) {
-                    let View { reader, front: _ } = entered.leave();
+                    let View {
+                        reader,
+                        front: earlier,
+                    } = entered.leave();
+                    drop(earlier);
                     return Err(View { reader, front });
                 }
+                drop(front);
                 Ok(entered)
             }
         }
@@ -77,7 +83,7 @@ impl<R: Drop, E, J: Brand<R, E>, A: Allocator> View<R, E, J, A> {
     {
         let Note { front } = note;
         if self.front.is_behind(&front) {
-            self.front = front;
+            drop(mem::replace(&mut self.front, front));
         }
     }
 

@@ -130,13 +130,14 @@ impl<R: Drop, E, J: Brand<R, E>, A: Allocator + Copy> Writer<R, E, J, A> {
             head,
             front,
         } = self;
-        let front = add::<R, E, J, X, M, W>(rt, &front, &head, about);
-        let published = Published::new(root, front.events(), front.seen());
+        let next = add::<R, E, J, X, M, W>(rt, &front, &head, about);
+        drop(front);
+        let published = Published::new(root, next.events(), next.seen());
         Writer {
             alloc,
             desk: put_out(rt, desk, published),
             head,
-            front,
+            front: next,
         }
     }
 
@@ -165,9 +166,11 @@ impl<R: Drop, E, J: Brand<R, E>, A: Allocator + Copy> Writer<R, E, J, A> {
         let Writer {
             alloc: _,
             desk,
-            head: _,
-            front: _,
+            head,
+            front,
         } = self;
+        drop(head);
+        drop(front);
         Box::into_inner(desk.take(rt)).into_root()
     }
 }

@@ -57,7 +57,11 @@ impl<
     {
         let mut clients = clients;
         match take_out(self.shared(), rt, self.taken(), &mut clients) {
-            Some(guarded) => Ok(guarded.close()),
+            Some(guarded) => {
+                drop(clients);
+                drop(self);
+                Ok(guarded.close())
+            }
             None => Err(Unfinished {
                 owner: self,
                 clients,
@@ -90,7 +94,7 @@ fn take_out<
     if are_all(&guarded, taken, clients) {
         return Some(guarded);
     }
-    *guard = Some(guarded);
+    drop(guard.replace(guarded));
     None
 }
 

@@ -73,7 +73,8 @@ impl<
         ) {
             Ok(shared) => shared,
             Err(failed) => {
-                let Shared { gate, lock: _ } = failed.value;
+                let Shared { gate, lock } = failed.value;
+                drop(lock);
                 return Err(Returned {
                     object,
                     writer,
@@ -83,7 +84,8 @@ impl<
                 });
             }
         };
-        *shared.lock.lock(rt) = Some(Guarded::new(object, writer, handle));
+        let guarded = Guarded::new(object, writer, handle);
+        drop(shared.lock.lock(rt).replace(guarded));
         Ok(Owner {
             shared,
             views,

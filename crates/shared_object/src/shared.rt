@@ -64,6 +64,6 @@ pub(crate) fn take_turn<
     };
     shared.gate.pass(Point::Locked);
     let (guarded, view, answer) = guarded.turn(rt, view, place, operations, update);
-    *guard = Some(guarded);
+    drop(guard.replace(guarded));
     (view, answer)
 }

@@ -75,9 +75,15 @@ impl<H: PathHash, A: Allocator + Copy> Answerer<H, A> {
         if let Some(snapshot) = self.kept.get(&session) {
             return post_opening(alloc, session, snapshot, outbox);
         }
-        let snapshot = Snapshot::take(alloc, seen, store, context)?;
         self.kept.reserve(1)?;
-        let opening = post_opening(alloc, session, &snapshot, outbox)?;
+        let snapshot = Snapshot::take(alloc, seen, store, context)?;
+        let opening = match post_opening(alloc, session, &snapshot, outbox) {
+            Ok(opening) => opening,
+            Err(refusal) => {
+                drop(snapshot);
+                return Err(refusal);
+            }
+        };
         keep(&mut self.kept, session, snapshot);
         Ok(opening)
     }
@@ -127,6 +133,9 @@ fn post_opening<O: Outbox<A>, H: PathHash, A: Allocator + Copy>(
     ensures err { IsOkUnless result Refusal.OutOfMemory }
 {
     let opening = snapshot.opening(alloc, session)?;
-    outbox.post(alloc, &opening)?;
+    if let Err(refusal) = outbox.post(alloc, &opening) {
+        drop(opening);
+        return Err(refusal);
+    }
     Ok(opening)
 }

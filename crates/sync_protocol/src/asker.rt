@@ -61,8 +61,13 @@ impl<H: PathHash, A: Allocator + Copy> Asker<H, A> {
         ensures err { IsOkUnless result Refusal.OutOfMemory }
     {
         let known = context.copy(alloc)?;
-        let seen = context.copy(alloc)?;
-        let own = store.frozen().copy()?;
+        let (own, seen) = match ground(alloc, store.frozen(), context) {
+            Ok(ground) => ground,
+            Err(refusal) => {
+                drop(known);
+                return Err(refusal);
+            }
+        };
         let asker = Asker {
             session,
             own,
@@ -85,15 +90,8 @@ impl<H: PathHash, A: Allocator + Copy> Asker<H, A> {
         ensures ok { IfOk result (λ copy. copy ≡ self.now) }
         ensures err { IsOkUnless result Refusal.OutOfMemory }
     {
-        let own = self.own.copy()?;
-        let seen = self.seen.copy(alloc)?;
         let stage = copy_stage(alloc, &self.stage)?;
-        Ok(Asker {
-            session: self.session,
-            own,
-            seen,
-            stage,
-        })
+        self.with_stage(alloc, stage)
     }
 
     /// What a session gives that is done, or the asker back where it is not. Copies nothing, and takes no memory.
@@ -144,24 +142,19 @@ impl<H: PathHash, A: Allocator + Copy> Asker<H, A> {
         ensures ok { IfOk result (λ asker. asker ≡ record self.now { stage = staged stage }) }
         ensures err { IsOkUnless result Refusal.OutOfMemory }
     {
-        let (own, seen) = self.ground(alloc)?;
+        let (own, seen) = match ground(alloc, &self.own, &self.seen) {
+            Ok(ground) => ground,
+            Err(refusal) => {
+                drop(stage);
+                return Err(refusal);
+            }
+        };
         Ok(Asker {
             session: self.session,
             own,
             seen,
             stage,
         })
-    }
-
-    // What it asked by, once more: the own map, and the dots seen with it.
-    fn ground(&self, alloc: A) -> Result<(FrozenMap<H, A>, Context<A>), Refusal>
-        ensures own { IfOk result (λ ground. (ground.0.hash ≡ self.now.hash) × (ground.0.map ≡ self.now.own)) }
-        ensures seen { IfOk result (λ ground. ground.1 ≡ self.now.seen) }
-        ensures err { IsOkUnless result Refusal.OutOfMemory }
-    {
-        let seen = self.seen.copy(alloc)?;
-        let own = self.own.copy()?;
-        Ok((own, seen))
     }
 
     // The same session where its peer had no key: it is complete with the empty map, which is built from the empty map.
@@ -174,9 +167,10 @@ impl<H: PathHash, A: Allocator + Copy> Asker<H, A> {
         ensures from { IfOk result (λ asker. IsFrom self.now asker) }
         ensures err { IsOkUnless result Refusal.OutOfMemory }
     {
+        let context = context.copy(alloc)?;
         let hash = self.own.hash();
         let built = Built::new(alloc, FrozenMap::new(alloc, hash));
-        let stage = Stage::Complete(context.copy(alloc)?, built);
+        let stage = Stage::Complete(context, built);
         Ok(Asker {
             session: self.session,
             own: FrozenMap::new(alloc, hash),
@@ -232,6 +226,26 @@ impl<H: PathHash, A: Allocator + Copy> Asker<H, A> {
     }
 }
 
+// What is asked by: the own map, and the dots seen with it, once more.
+fn ground<H: PathHash, A: Allocator + Copy>(
+    alloc: A,
+    own: &FrozenMap<H, A>,
+    seen: &Context<A>,
+) -> Result<(FrozenMap<H, A>, Context<A>), Refusal>
+    ensures own { IfOk result (λ ground. ground.0 ≡ own.now) }
+    ensures seen { IfOk result (λ ground. ground.1 ≡ seen.now) }
+    ensures err { IsOkUnless result Refusal.OutOfMemory }
+{
+    let seen = seen.copy(alloc)?;
+    match own.copy() {
+        Ok(own) => Ok((own, seen)),
+        Err(refusal) => {
+            drop(seen);
+            Err(refusal)
+        }
+    }
+}
+
 // The same stage.
 fn copy_stage<H: PathHash, A: Allocator + Copy>(
     alloc: A,
@@ -244,10 +258,24 @@ fn copy_stage<H: PathHash, A: Allocator + Copy>(
         Stage::Asked => Ok(Stage::Asked),
         Stage::Over => Ok(Stage::Over),
         Stage::Fetching(context, fetching) => {
-            Ok(Stage::Fetching(context.copy(alloc)?, fetching.copy()?))
+            let context = context.copy(alloc)?;
+            match fetching.copy() {
+                Ok(fetching) => Ok(Stage::Fetching(context, fetching)),
+                Err(refusal) => {
+                    drop(context);
+                    Err(refusal)
+                }
+            }
         }
         Stage::Complete(context, built) => {
-            Ok(Stage::Complete(context.copy(alloc)?, built.copy()?))
+            let context = context.copy(alloc)?;
+            match built.copy() {
+                Ok(built) => Ok(Stage::Complete(context, built)),
+                Err(refusal) => {
+                    drop(context);
+                    Err(refusal)
+                }
+            }
         }
     }
 }

@@ -1,6 +1,7 @@
 // The snapshots that are kept, by session.
-ghost use Rattle.std.specs.Prelude.{◌≡◌, ◌<◌, ◌≤◌, ◌++◌, ◌∷◌, [], None, IfOk, IsOkUnless};
-ghost use Rattle.indexmap.specs.IndexMap.{spare};
+ghost use Rattle.std.specs.Prelude.{◌≡◌, ◌<◌, ◌≤◌, ◌++◌, ◌∷◌, [], None, IfOk, OnOk, IsOkUnless};
+ghost use Rattle.indexmap.specs.IndexMap.{insert_entry, spare};
+ghost use Rattle.wire_form.specs.Session.{same_session};
 ghost use Rattle.sync_protocol.specs.Answering.{snapshot_of, all_but_first, with_place, keeping};
 
 use crate::snapshot::Snapshot;
@@ -27,7 +28,7 @@ fn drop_oldest<H: PathHash, A: Allocator + Copy>(kept: &mut Snapshots<H, A>)
     ensures entries { kept.new.entries ≡ all_but_first kept.old.entries }
     ensures room { spare kept.old ≤ spare kept.new }
 {
-    kept.shift_remove_index(0);
+    drop(kept.shift_remove_index(0));
 }
 
 // Makes a place among eight: where there is none the oldest is taken out.
@@ -51,7 +52,7 @@ fn add<H: PathHash, A: Allocator + Copy>(
     ensures { kept.new.entries ≡ kept.old.entries ++ (session, snapshot) ∷ [] }
 {
     match kept.insert(session, snapshot) {
-        Ok(_) => {}
+        Ok(was) => drop(was),
         Err(_) => unreachable!(),
     }
 }
@@ -70,6 +71,21 @@ pub(crate) fn keep<H: PathHash, A: Allocator + Copy>(
     add(kept, session, snapshot);
 }
 
+// Puts the copy of a snapshot at its session.
+fn add_copy<H: PathHash, A: Allocator + Copy>(
+    alloc: A,
+    copies: &mut Snapshots<H, A>,
+    session: Session,
+    snapshot: &Snapshot<H, A>,
+) -> Result<(), Refusal>
+    ensures ok { OnOk result (copies.new.entries ≡ insert_entry same_session copies.old.entries session snapshot.now) }
+    ensures err { IsOkUnless result Refusal.OutOfMemory }
+{
+    let copy = snapshot.copy(alloc)?;
+    drop(copies.insert(session, copy)?);
+    Ok(())
+}
+
 // The same snapshots, which share the nodes of their stores.
 pub(crate) fn copy_snapshots<H: PathHash, A: Allocator + Copy>(
     alloc: A,
@@ -80,8 +96,10 @@ pub(crate) fn copy_snapshots<H: PathHash, A: Allocator + Copy>(
 {
     let mut copies = IndexMap::new(alloc);
     for (session, snapshot) in kept.iter() {
-        let copy = snapshot.copy(alloc)?;
-        copies.insert(*session, copy)?;
+        if let Err(refusal) = add_copy(alloc, &mut copies, *session, snapshot) {
+            drop(copies);
+            return Err(refusal);
+        }
     }
     Ok(copies)
 }

@@ -47,12 +47,18 @@ impl<H: PathHash, A: Allocator + Copy> Snapshot<H, A> {
             record { seen = seen.now; hash = store.now.0; map = store.now.1; context = context.now }) }
         ensures err { IsOkUnless result Refusal.OutOfMemory }
     {
-        let (seen, context) = (seen.copy(alloc)?, context.copy(alloc)?);
-        Ok(Snapshot {
-            seen,
-            store: store.share()?,
-            context,
-        })
+        let store = store.share()?;
+        match contexts(alloc, seen, context) {
+            Ok((seen, context)) => Ok(Snapshot {
+                seen,
+                store,
+                context,
+            }),
+            Err(refusal) => {
+                drop(store);
+                Err(refusal)
+            }
+        }
     }
 
     // The same, which shares the nodes of the store.
@@ -84,13 +90,32 @@ impl<H: PathHash, A: Allocator + Copy> Snapshot<H, A> {
         ensures err { IsOkUnless result Refusal.OutOfMemory }
     {
         let frozen = self.store.frozen();
+        let values = values_for(alloc, frozen, prefix, &self.seen)?;
         let Some(page) = page_value(alloc, frozen, prefix)? else {
             return Ok(None);
         };
-        let values = values_for(alloc, frozen, prefix, &self.seen)?;
         match Message::page(session, prefix, values, page) {
             Some(message) => Ok(Some(message)),
             None => unreachable!(),
+        }
+    }
+}
+
+// These two contexts once more.
+fn contexts<A: Allocator + Copy>(
+    alloc: A,
+    seen: &Context<A>,
+    context: &Context<A>,
+) -> Result<(Context<A>, Context<A>), Refusal>
+    ensures ok { IfOk result (λ copies. copies ≡ (seen.now, context.now)) }
+    ensures err { IsOkUnless result Refusal.OutOfMemory }
+{
+    let seen = seen.copy(alloc)?;
+    match context.copy(alloc) {
+        Ok(context) => Ok((seen, context)),
+        Err(refusal) => {
+            drop(seen);
+            Err(refusal)
         }
     }
 }

@@ -64,8 +64,15 @@ fn go_on<H: PathHash, A: Allocator + Copy>(
     ensures from { IfOk result (λ turn. IsFrom asker.now turn.next) }
     ensures err { IsOkUnless result Refusal.OutOfMemory }
 {
-    let known = context.copy(alloc)?;
+    let known = match context.copy(alloc) {
+        Ok(known) => known,
+        Err(refusal) => {
+            drop(fetching);
+            return Err(refusal);
+        }
+    };
     if fetching.is_complete() {
+        drop(asks);
         let next = asker.with_stage(alloc, Stage::Complete(known, fetching.into_built()))?;
         return Ok(Turn {
             next,
@@ -92,12 +99,12 @@ fn begin<H: PathHash, A: Allocator + Copy>(
     ensures from { IfOk result (λ turn. IsFrom asker.now turn.next) }
     ensures err { IsOkUnless result Refusal.OutOfMemory }
 {
-    let begun = Fetching::begin(alloc, &asker.own, &asker.seen, context, root)?;
-    let Some(fetching) = begun else {
-        return stays(alloc, asker, Step::Mismatch);
-    };
     let asks = asks_for(alloc, asker.session, &[Prefix::root()])?;
-    go_on(alloc, asker, context, fetching, asks)
+    let begun = Fetching::begin(alloc, &asker.own, &asker.seen, context, root)?;
+    match begun {
+        None => stays(alloc, asker, Step::Mismatch),
+        Some(fetching) => go_on(alloc, asker, context, fetching, asks),
+    }
 }
 
 // An opening, where none was accepted yet.
@@ -159,11 +166,24 @@ fn taken<H: PathHash, A: Allocator + Copy>(
     ensures err { IsOkUnless result Refusal.OutOfMemory }
 {
     match taken {
-        Taken::Ignored => stays(alloc, asker, Step::Ignored),
-        Taken::Mismatch => stays(alloc, asker, Step::Mismatch),
+        Taken::Ignored => {
+            drop(taken);
+            stays(alloc, asker, Step::Ignored)
+        }
+        Taken::Mismatch => {
+            drop(taken);
+            stays(alloc, asker, Step::Mismatch)
+        }
         Taken::Took(fetching, prefixes) => {
-            let asks = asks_for(alloc, asker.session, &prefixes)?;
-            go_on(alloc, asker, context, fetching, asks)
+            let made = asks_for(alloc, asker.session, &prefixes);
+            drop(prefixes);
+            match made {
+                Ok(asks) => go_on(alloc, asker, context, fetching, asks),
+                Err(refusal) => {
+                    drop(fetching);
+                    Err(refusal)
+                }
+            }
         }
     }
 }

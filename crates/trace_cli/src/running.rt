@@ -69,13 +69,20 @@ pub fn run<R: Read, W: Write, A: Allocator + Copy>(
     'calls: for _ in 0..READ_CALLS {
         let mut piece = [0; 4096];
         let Ok(count) = reader.read(&mut piece) else {
+            drop(trace_run);
             return Err(Refusal::Input);
         };
         if count == 0 {
-            return trace_run.finish(writer);
+            let ended = trace_run.finish(writer);
+            drop(trace_run);
+            return ended;
         }
-        trace_run.feed(writer, &piece[..count])?;
+        if let Err(refusal) = trace_run.feed(writer, &piece[..count]) {
+            drop(trace_run);
+            return Err(refusal);
+        }
     }
+    drop(trace_run);
     Err(Refusal::Input)
 }
 
@@ -92,8 +99,13 @@ fn run_all<W: Write, A: Allocator + Copy>(
         Appends (W.contents (inner_of writer.old)) (W.contents (inner_of writer.new)) given.text) }
 {
     let mut trace_run = TraceRun::new(alloc);
-    trace_run.feed(writer, input)?;
-    trace_run.finish(writer)
+    if let Err(refusal) = trace_run.feed(writer, input) {
+        drop(trace_run);
+        return Err(refusal);
+    }
+    let ended = trace_run.finish(writer);
+    drop(trace_run);
+    ended
 }
 
 /// The text that the whole trace is given, its fault's line with it. Takes what `run` does, and the text. The one refusal is

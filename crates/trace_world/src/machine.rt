@@ -91,7 +91,13 @@ impl<A: Allocator + Copy> Machine<A> {
         ensures { Brings (In self.old.events (λ w. at_replica w name (λ o. o ≡ Pinned (pin_text (length self.old.pins + 1)) name))) self.old self.new result }
     {
         let store = self.teller.store(name)?;
-        let text = pin_answer(self.alloc, self.pins.len() as u64 + 1)?;
+        let text = match pin_answer(self.alloc, self.pins.len() as u64 + 1) {
+            Ok(text) => text,
+            Err(refusal) => {
+                drop(store);
+                return Err(refusal);
+            }
+        };
         let age = self.teller.age();
         self.pins.push(Pin { name, age, store })?;
         Ok(text.into_bytes())

@@ -156,20 +156,24 @@ fn kind_at<A: Allocator + Copy>(
     ensures err { IsOkUnless result Refusal.OutOfMemory }
 {
     match world.read(number)? {
-        Some(message) => Ok(Some(into_kind(message))),
+        Some(message) => {
+            let kind = kind_of(&message);
+            drop(message);
+            Ok(Some(kind))
+        }
         None => Ok(None),
     }
 }
 
 // The kind of a message.
-fn into_kind<A: Allocator + Copy>(message: Message<A>) -> Kind
-    ensures { result ≡ kind_of (mail_of (message_of message)) }
+fn kind_of<A: Allocator + Copy>(message: &Message<A>) -> Kind
+    ensures { result ≡ kind_of (mail_of (message_of message.now)) }
 {
     match message {
         Message::Delta(_) => Kind::Delta,
         Message::Hello(_, _) => Kind::Hello,
         Message::Opening(_, _, _) => Kind::Opening,
-        Message::Ask(_, prefix) => Kind::Ask(prefix),
+        Message::Ask(_, prefix) => Kind::Ask(*prefix),
         Message::Page(_, sent) => Kind::Page(sent.prefix()),
         Message::Gone(_) => Kind::Gone,
     }

@@ -67,13 +67,21 @@ impl<S: DotStore<A>, M: Summary<S>, H: PathHash, A: Allocator + Copy> Draft<S, M
     {
         let both = mine.join(alloc, own, yours, theirs)?;
         if both.same(mine) {
+            drop(both);
             return Ok(());
         }
         if both.is_empty() {
-            self.entries.remove(key)?;
+            drop(both);
+            drop(self.entries.remove(key)?);
             return Ok(());
         }
-        self.entries.insert(key.copy(alloc)?, both)
+        match key.copy(alloc) {
+            Ok(key) => self.entries.insert(key, both),
+            Err(refusal) => {
+                drop(both);
+                Err(refusal)
+            }
+        }
     }
 
     /// The map of the draft. Copies no node: it takes a reference count, and is refused only where that is full.
@@ -82,7 +90,8 @@ impl<S: DotStore<A>, M: Summary<S>, H: PathHash, A: Allocator + Copy> Draft<S, M
         ensures ok { IfOk result (λ map. map ≡ self) }
         ensures err { IsOkUnless result Refusal.OutOfMemory }
     {
-        let entries = self.entries.share()?;
-        Ok(TrieMap::of(entries))
+        let entries = self.entries.share();
+        drop(self);
+        Ok(TrieMap::of(entries?))
     }
 }

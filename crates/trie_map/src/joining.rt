@@ -13,8 +13,27 @@ use gen_trie::Summary;
 use hash_path::PathHash;
 use std::alloc::Allocator;
 
+// Joins at each key of either map.
+pub(crate) fn join_all<S: DotStore<A>, M: Summary<S>, H: PathHash, A: Allocator + Copy>(
+    alloc: A,
+    draft: &mut Draft<S, M, H, A>,
+    mine: &TrieMap<S, M, H, A>,
+    own: &Context<A>,
+    yours: &TrieMap<S, M, H, A>,
+    theirs: &Context<A>,
+) -> Result<(), Refusal>
+    requires { draft.old ≡ mine.now }
+    ensures hash { draft.new.0 ≡ draft.old.0 }
+    ensures ok { OnOk result (AreJoined S.at S.greater (at_keys S.at mine.now) (has own.now) (at_keys S.at yours.now) (has theirs.now) mine.now.1 draft.new.1
+        × AreJoined S.at S.greater (at_keys S.at mine.now) (has own.now) (at_keys S.at yours.now) (has theirs.now) yours.now.1 draft.new.1) }
+    ensures err { IsOkUnless result Refusal.OutOfMemory }
+{
+    join_own(alloc, draft, mine, own, yours, theirs)?;
+    join_others(alloc, draft, mine, own, yours, theirs)
+}
+
 // Joins at each key of the first map.
-pub(crate) fn join_own<S: DotStore<A>, M: Summary<S>, H: PathHash, A: Allocator + Copy>(
+fn join_own<S: DotStore<A>, M: Summary<S>, H: PathHash, A: Allocator + Copy>(
     alloc: A,
     draft: &mut Draft<S, M, H, A>,
     mine: &TrieMap<S, M, H, A>,
@@ -36,7 +55,7 @@ pub(crate) fn join_own<S: DotStore<A>, M: Summary<S>, H: PathHash, A: Allocator 
 }
 
 // Joins at each key of the other map.
-pub(crate) fn join_others<S: DotStore<A>, M: Summary<S>, H: PathHash, A: Allocator + Copy>(
+fn join_others<S: DotStore<A>, M: Summary<S>, H: PathHash, A: Allocator + Copy>(
     alloc: A,
     draft: &mut Draft<S, M, H, A>,
     mine: &TrieMap<S, M, H, A>,

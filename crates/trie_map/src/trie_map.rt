@@ -10,7 +10,7 @@ ghost use Rattle.trie_map.specs.Keyed.{at_keys, NoStoreIsEmpty, EachIsCanonical}
 
 use crate::copying::{copies, listed};
 use crate::draft::Draft;
-use crate::joining::{join_others, join_own};
+use crate::joining::join_all;
 use crate::same::is_within;
 use causal_context::Context;
 use dot_store::{DotMap, DotStore};
@@ -198,8 +198,10 @@ impl<S: DotStore<A>, M: Summary<S>, H: PathHash, A: Allocator + Copy> DotStore<A
         ensures err { IsOkUnless result Refusal.OutOfMemory }
     {
         let mut draft = self.draft()?;
-        join_own(alloc, &mut draft, self, own, other, theirs)?;
-        join_others(alloc, &mut draft, self, own, other, theirs)?;
+        if let Err(refusal) = join_all(alloc, &mut draft, self, own, other, theirs) {
+            drop(draft);
+            return Err(refusal);
+        }
         draft.finish()
     }
 

@@ -1,7 +1,10 @@
 -- Whole bodies of deltas, with a store in either form.
-use Rattle.std.proofs.Common.{◌≡◌, ℕ, Bool, true, false, List, [], ◌∷◌, ◌++◌, length, refl, sym, ap, subst, ◌∙◌, arith, eqb}
+use Rattle.std.proofs.Common.{◌≡◌, ◌↔◌, ℕ, Bool, true, false, Option, Some, None, IsNone, List, [], ◌∷◌, ◌++◌, length, refl, sym, ap, subst, ◌∙◌, arith, eqb}
+use Rattle.std.specs.Prelude.{IfSome}
+use Rattle.std.specs.Option.{ok_or}
 use Rattle.std.proofs.lemmas.Bool.{eqb-true}
 use Rattle.std.proofs.lemmas.List.{append-nil}
+use Rattle.dots.specs.declared.refusal.Refusal.TheVariants.{NotAMessage}
 use Rattle.causal_context.specs.Context.{ContextValue}
 use Rattle.op_model.specs.State.{State, IsInside}
 use Rattle.causal_join.specs.Causal.{state_of}
@@ -10,6 +13,7 @@ use Rattle.wire_form.specs.Spelling.{pair, IsPair, Begins, HasNoSpelling}
 use Rattle.wire_form.specs.Parts.{context, IsContext}
 use Rattle.wire_form.specs.Store.{is_plain_form, store, IsStore, IsStoreOf}
 use Rattle.wire_form.specs.Message.{SpellsBody, SpellsDelta, version_of}
+use Rattle.wire_form.specs.Reading.{ReadsAll}
 use Rattle.wire_form.specs.Unique.{pair_unique}
 use Rattle.wire_form.specs.Writing.{Appends}
 use Rattle.wire_form.proofs.Pairs.{pair_begins, none_first, none_second}
@@ -72,6 +76,12 @@ body_spelled plain bytes c rest s end made first second e is inside =
       form = second.fits.form;
       spelling = read.parts ∙ ap (λ (t : List ℕ). (context c ++ store plain s) ++ t) (no_rest end e) ∙ append-nil (context c ++ store plain s);
     })
+
+-- the pair of what was read, or none where its store is outside its context
+pub delta_read : (plain : Bool) (bytes : List ℕ) (c : ContextValue) (rest : List ℕ) (s : OrMapStoreValue) (end : List ℕ) → Begins context IsContext bytes c rest → Begins (store plain) (IsStoreOf plain) rest s end → true ≡ eqb (length end) 0
+    → (made : Option OrMapValue) → IfSome made (λ d. d ≡ (s, c)) → IsNone made ↔ ¬ IsInside (state_of or_map_at (s, c)) → ReadsAll (λ d. d) (SpellsBody plain bytes) (ok_or made NotAMessage)
+delta_read plain bytes c rest s end first second e (Some made) is outside = body_spelled plain bytes c rest s end made first second e is outside.1
+delta_read plain bytes c rest s end first second e None is outside = no_body_inside plain bytes c rest first s end second (outside.0 refl)
 
 -- bytes spell the body of one delta at most
 pub one_body : (plain : Bool) (bytes : List ℕ) (d e : OrMapValue) → SpellsBody plain bytes d → SpellsBody plain bytes e → d ≡ e

@@ -58,12 +58,17 @@ fn read_delta<A: Allocator + Copy>(alloc: A, plain: bool, bytes: &[u8]) -> Resul
     ensures { ReadsAll (λ delta. delta) (SpellsBody plain bytes.now) result }
 {
     let (context, rest) = read_context(alloc, bytes)?;
-    let (store, rest) = read_store(alloc, plain, rest)?;
+    let (store, rest) = match read_store(alloc, plain, rest) {
+        Ok(front) => front,
+        Err(refusal) => {
+            drop(context);
+            return Err(refusal);
+        }
+    };
     if !rest.is_empty() {
+        drop(store);
+        drop(context);
         return Err(Refusal::NotAMessage);
     }
-    match Causal::from_parts(store, context) {
-        Some(delta) => Ok(delta),
-        None => Err(Refusal::NotAMessage),
-    }
+    Causal::from_parts(store, context).ok_or(Refusal::NotAMessage)
 }

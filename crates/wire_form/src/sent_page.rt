@@ -41,10 +41,7 @@ impl<A: Allocator + Copy> SentPage<A> {
         ensures parts { IfSome result (λ sent. sent ≡
             record { prefix = prefix; values = values.items; page = value_of page }) }
     {
-        if !can_stand(prefix, &page) {
-            return None;
-        }
-        if !can_carry(&page, &values) {
+        if !can_stand(prefix, &page) || !can_carry(&page, &values) {
             return None;
         }
         Some(SentPage {

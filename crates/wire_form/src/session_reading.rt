@@ -78,6 +78,7 @@ fn read_known<A: Allocator + Copy>(alloc: A, bytes: &[u8]) -> Result<Context<A>,
 {
     let (context, rest) = read_context(alloc, bytes)?;
     if !rest.is_empty() {
+        drop(context);
         return Err(Refusal::NotAMessage);
     }
     Ok(context)
@@ -91,8 +92,13 @@ fn read_shown<A: Allocator + Copy>(
     ensures { ReadsAll (λ shown. shown) (IsWhole opening IsOpening bytes.now) result }
 {
     let (context, rest) = read_context(alloc, bytes)?;
-    let root = read_root(rest)?;
-    Ok((context, root))
+    match read_root(rest) {
+        Ok(root) => Ok((context, root)),
+        Err(refusal) => {
+            drop(context);
+            Err(refusal)
+        }
+    }
 }
 
 fn read_root(bytes: &[u8]) -> Result<Option<[u8; 32]>, Refusal>

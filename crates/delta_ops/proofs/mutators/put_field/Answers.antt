@@ -9,18 +9,18 @@ use Rattle.delta_ops.proofs.mutators.put_field.Goals as goal
 
 pub unwrap-requires : goal.unwrap-requires
 unwrap-requires g c =
-    let delta : IsDelta (as_or_map c.args.live.now.0) (place_of c.args.key.now c.args.field.now) c.args.value.now c.in_ok-dot.dot c.in_ok-store.store c.add.new.self = record {
-      held = c.in_ok-store.ensures.ok;
-      known = λ d. c.in_ok-add.ensures.ok d ∙ ap (λ b. same_dot c.in_ok-dot.dot d || b) (c.in_ok-context.ensures.ok d);
+    let delta : IsDelta (as_or_map c.args.live.now.0) (place_of c.args.key.now c.args.field.now) c.args.value.now c.in_ok-dot.dot c.in-Ok.store c.add.new.self = record {
+      held = c.in-Ok.ensures.ok;
+      known = λ d. c.in_default.ensures.ok d ∙ ap (λ b. same_dot c.in_ok-dot.dot d || b) (c.in_ok-context.ensures.ok d);
     } in
     there_from c.from_parts.result c.from_parts.ensures.outside.0 (delta_inside _ _ _ _ _ _ delta)
 
-pub returns-clause-ok : goal.returns-clause-ok
-returns-clause-ok g c =
+pub returns-in-Ok-clause-ok : goal.returns-in-Ok-clause-ok
+returns-in-Ok-clause-ok g c =
     let live = as_or_map c.args.live.now.0 in
-    let delta : IsDelta (as_or_map c.args.live.now.0) (place_of c.args.key.now c.args.field.now) c.args.value.now c.in_ok-dot.dot c.in_ok-store.store c.add.new.self = record {
-      held = c.in_ok-store.ensures.ok;
-      known = λ d. c.in_ok-add.ensures.ok d ∙ ap (λ b. same_dot c.in_ok-dot.dot d || b) (c.in_ok-context.ensures.ok d);
+    let delta : IsDelta (as_or_map c.args.live.now.0) (place_of c.args.key.now c.args.field.now) c.args.value.now c.in_ok-dot.dot c.in-Ok.store c.add.new.self = record {
+      held = c.in-Ok.ensures.ok;
+      known = λ d. c.in_default.ensures.ok d ∙ ap (λ b. same_dot c.in_ok-dot.dot d || b) (c.in_ok-context.ensures.ok d);
     } in
     let next = rw (c.in_ok-dot.ensures.ok_part, c.context.ensures.value) at c.next.ensures.next in
     let unknown = rw (c.in_ok-dot.ensures.ok_part, c.context.ensures.value) at c.next.ensures.unknown in

@@ -80,8 +80,9 @@ pub put_shared-returns-clause-fresh : goal.put_shared-returns-clause-fresh
 put_shared-returns-clause-fresh g t c =
     let same : c.if-deref-generation.node.value ≡ c.args.node.now.value = search rules in
     let copied : stands_for c.in_ok-copy.copy ≡ stands_for c.args.node.now.value = ap stands_for c.in_ok-copy.ensures.ok ∙ ap stands_for (c.deref-2.ensures ∙ same) in
-    subst (λ n. HasMore c.in_ok-fresh.fresh n.1 c.in_ok-node.field-0.value.1.0) copied
-    (subst (λ n. HasMore c.in_ok-fresh.fresh c.in_ok-copy.copy.1.0 n.1.0) (sym c.in_ok-node.ensures.ok) c.in_ok-fresh.ensures.fresh)
+    let made = ap (λ n. n.value) c.replace.ensures.after ∙ c.in_ok-copy-2.ensures.ok in
+    subst (λ n. HasMore c.in-Ok.fresh n.1 c.replace.new.dest.value.1.0) copied
+    (subst (λ n. HasMore c.in-Ok.fresh c.in_ok-copy.copy.1.0 n.1.0) (sym made) c.in-Ok.ensures.fresh)
 
 pub put_slot-returns-in_ok-node-in-One-clause-fresh : goal.put_slot-returns-in_ok-node-in-One-clause-fresh
 put_slot-returns-in_ok-node-in-One-clause-fresh g t c =

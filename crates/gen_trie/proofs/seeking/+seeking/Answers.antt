@@ -3,7 +3,7 @@ use Rattle.hash_path.specs.Word.{digit}
 use Rattle.hash_path.specs.Summary.{under_prefix}
 use Rattle.hash_path.proofs.Summaries.{under_none}
 use Rattle.gen_trie.specs.Shapes.{child, StandsBelow, height_and_entries, stands_for, IsCanonical}
-use Rattle.gen_trie.proofs.Seeks.{one_away, branch_there, finds_same}
+use Rattle.gen_trie.proofs.Seeks.{one_away, one_there, branch_there, finds_same}
 use Rattle.gen_trie.proofs.seeking.+seeking.Goals as goal
 
 pub slot_below-returns-then-digit_of-parts : goal.slot_below-returns-then-digit_of-parts
@@ -14,6 +14,17 @@ slot_below-returns-then-digit_of-parts g t c =
     (λ k. under_prefix (c.in-Some.ensures.parts k) (child c.args.height (c.in-One.is k)).1)
     ∙ one_away c.in-Some.parts.0 c.in-Some.parts.1 (c.args.height - 1) c.args.height c.in-One.entry.value.hash c.in-One.entry.value.key c.in-One.entry.value.value up
     (λ q. c.if-digit_of-parts.true (c.digit_of.ensures.value ∙ ap (λ e. digit (c.args.height - 1) e.hash) c.deref.ensures ∙ sym q))
+
+pub slot_below-returns-else-digit_of-parts : goal.slot_below-returns-else-digit_of-parts
+slot_below-returns-else-digit_of-parts g t c =
+    let long : length c.args.prefix ≡ suc (length c.in-Some.parts.1) = ap length c.in-Some.ensures.parts in
+    let short = c.requires.short in
+    let up : c.args.height ≡ suc (c.args.height - 1) = omega (arith, long, short) in
+    let there = one_there c.in-Some.parts.0 c.in-Some.parts.1 (c.args.height - 1) c.args.height c.in-One.entry.value.hash c.in-One.entry.value.key c.in-One.entry.value.value up
+    (sym c.if-digit_of-parts.false ∙ c.digit_of.ensures.value ∙ ap (λ e. digit (c.args.height - 1) e.hash) c.deref.ensures) in
+    finds_same (λ x. x.now) _ _ _ _ c.slot_below.result
+    (sym ((λ k. under_prefix (c.in-Some.ensures.parts k) (child c.args.height (c.in-One.is k)).1) ∙ there ∙ (λ k. under_prefix c.in-Some.parts.1 (child (c.args.height - 1) (sym c.in-One.is k)).1)))
+    (omega (arith, long, short)) c.slot_below.ensures
 
 pub slot_below-slot_below-requires : goal.slot_below-slot_below-requires
 slot_below-slot_below-requires g t c κs within =

@@ -17,6 +17,6 @@ returns-clause-ok g c =
     let theirs = has c.args.theirs.now in
     if_ok c.finish.result
     (λ both is. only_joined at greater mine own yours theirs c.args.keys.now.keys c.requires both
-    (λ q. subst (λ m. IsEitherAt at greater (at_keys at mine) own yours theirs m.1 q) (sym is) (c.in_ok-join_built_at.ensures.either q))
-    (λ q h. subst (λ m. IsJoinedAt at greater (at_keys at mine) own yours theirs m.1 q) (sym is) (c.in_ok-join_built_at.ensures.there q h)))
+    (λ q. subst (λ m. IsEitherAt at greater (at_keys at mine) own yours theirs m.1 q) (sym is) (c.in_default.ensures.either q))
+    (λ q h. subst (λ m. IsJoinedAt at greater (at_keys at mine) own yours theirs m.1 q) (sym is) (c.in_default.ensures.there q h)))
     c.finish.ensures.ok

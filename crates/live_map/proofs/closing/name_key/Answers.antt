@@ -10,7 +10,7 @@ pub returns-clause-there : goal.returns-clause-there
 returns-clause-there g c =
     let at = g.S.DotStore.at in
     let key = c.args.key.now in
-    let holds : (place : _) (d : _) → at_keys at (stores_of c.args.built.now) (key, place) d ≡ at c.unwrap_or.result.now place d =
-    subst (λ (b : Bor g.row.S.Denot). (place : _) (d : _) → at_keys at (stores_of c.args.built.now) (key, place) d ≡ at b.now place d) (sym c.unwrap_or.ensures)
+    let holds : (place : _) (d : _) → at_keys at (stores_of c.args.built.now) (key, place) d ≡ at c.unwrap_or-store.result.now place d =
+    subst (λ (b : Bor g.row.S.Denot). (place : _) (d : _) → at_keys at (stores_of c.args.built.now) (key, place) d ≡ at b.now place d) (sym c.unwrap_or-store.ensures)
     (holds_either at (stores_of c.args.built.now) key c.lookup.result _ c.lookup.ensures c.empty-empty.ensures) in
-    on_ok c.add_dots.result (λ there place d h fresh. there d (c.in_ok-dots.ensures.all place d (ap is_some (sym (holds place d)) ∙ h)) fresh) c.add_dots.ensures.there
+    on_ok c.name_store.result (λ there place d h fresh. there place d (ap is_some (sym (holds place d)) ∙ h) fresh) c.name_store.ensures.there

@@ -17,4 +17,4 @@ returns-clause-ok g c =
     some_fields c.args.key.now (fill_fields (has c.args.seen.now) (held_in (finite.get c.args.own.now.map c.args.key.now)) c.args.named.now c.args.sent.now.now)
     c.in-Some.fields c.args.entries.now.items c.push.new.self.items c.fill_named.new.sent.now
     (ap (λ made. made_of made c.fill_named.new.sent.now) (sym c.in-Some.is) ∙ c.in_ok-fields.ensures.ok ∙ ap (λ o. fill_fields (has c.args.seen.now) (held_in o) c.args.named.now c.args.sent.now.now) c.lookup.ensures)
-    (c.in_ok-push.ensures.items ∙ ap (λ k. c.args.entries.now.items ++ (k, c.in-Some.fields) ∷ []) c.in_ok-copy.ensures.ok)
+    (c.in_ok-push.ensures.items ∙ ap (λ k. c.args.entries.now.items ++ (k, c.in-Some.fields) ∷ []) c.in-Ok.ensures.ok)

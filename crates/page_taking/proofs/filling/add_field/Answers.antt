@@ -29,4 +29,4 @@ returns-clause-ok g c =
     (same_held (λ held. fill_values (has c.args.seen.now) held c.args.named.now.1 c.args.sent.now.now) (Some (c.in-Some.values, c.fill_names.new.sent.now)) (held_by at_values (option_copied c.field_at-held.result) tt) (held_in (option_copied c.args.own) c.args.named.now.0) c.field_at-held.ensures
     (ap (λ made. made_of made c.fill_names.new.sent.now) (sym c.in-Some.is) ∙ c.in_ok-values.ensures.ok))
     (λ none. let on : true ≡ false = sym (c.is_empty.ensures.nothing.1 (held_nowhere c.in-Some.values none)) ∙ c.if-is_empty.false in cc)
-    (c.in_ok-push.ensures.items ∙ ap (λ f. c.args.fields.now.items ++ (f, c.in-Some.values) ∷ []) c.in_ok-copy.ensures.ok)
+    (c.in_ok-push.ensures.items ∙ ap (λ f. c.args.fields.now.items ++ (f, c.in-Some.values) ∷ []) c.in-Ok.ensures.ok)

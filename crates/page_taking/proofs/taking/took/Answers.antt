@@ -18,7 +18,7 @@ of-requires g c =
     (subst (AllByRecursion (λ d. IsChildOf c.args.sent.now.prefix d.0)) (sym (c.deref-2.ensures.value ∙ c.in_ok-children.ensures.ok))
     (asks_can (g.H.PathHash.hash_of c.args.own.now.hash) c.args.own.now.map c.args.sent.now c.page-page.ensures.lawful))))
 
-pub returns-clause-asks : goal.returns-clause-asks
-returns-clause-asks g c =
+pub returns-in-Ok-clause-asks : goal.returns-in-Ok-clause-asks
+returns-in-Ok-clause-asks g c =
     c.in_ok-asks.ensures.ok ∙ ap (λ p. map (λ d. p ++ d.0 ∷ []) c.deref.result.now) c.prefix-prefix.ensures
     ∙ ap (map (λ d. c.args.sent.now.prefix ++ d.0 ∷ [])) (c.deref.ensures.value ∙ c.in_ok-children.ensures.ok)

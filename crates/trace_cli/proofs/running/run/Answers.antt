@@ -1,5 +1,5 @@
 use Rattle.std.proofs.Common.{Err, [], ap, arith, inr, length, ◌<◌, length-take, refl}
-use Rattle.std.proofs.lemmas.Result.{err_from_is_err_and, on_ok_weaker, on_err_weaker, IfErr-weaker}
+use Rattle.std.proofs.lemmas.Result.{on_ok_weaker, on_err_weaker, IfErr-weaker}
 use Rattle.trace_cli.proofs.RunLemmas.{Ran-start, Ran-kept, Ran-answered, Ran-more, Ran-stops, Ran-begins, Ran-finishes, Ran-ends, Pieces-more, at_end, writer_failed, never_gone_on, all_flushed, input_is_other}
 use Rattle.watched_io.proofs.StreamLemmas.{Keeps-itself, Consumes-nothing, Consumes-kept}
 use Rattle.trace_cli.specs.Lines.{has_newline}
@@ -18,45 +18,43 @@ pub returns-then-count-eq0-clause-ok : goal.returns-then-count-eq0-clause-ok
 returns-then-count-eq0-clause-ok g c =
     let nothing = rw c.if-count-eq0.true at c.in-Ok.ensures.bytes.0 in
     let room : 0 < length c.read.new.buf = omega arith in
-    on_ok_weaker c.finish.result
+    on_ok_weaker c.finish-ended.result
     (λ then. let end = Ran-finishes _ _ _ _ _ _ _ _ c.calls.invariant.led nothing then in
     (end.0, end.1, (c.in-Ok.ensures.bytes.1 c.if-count-eq0.true room, end.2)))
-    c.finish.ensures.ok
+    c.finish-ended.ensures.ok
 
 pub returns-then-count-eq0-clause-fault : goal.returns-then-count-eq0-clause-fault
 returns-then-count-eq0-clause-fault g c =
     let nothing = rw c.if-count-eq0.true at c.in-Ok.ensures.bytes.0 in
     let room : 0 < length c.read.new.buf = omega arith in
-    IfErr-weaker c.finish.result _ _
+    IfErr-weaker c.finish-ended.result _ _
     (λ refusal told is. let end = Ran-finishes _ _ _ _ _ _ _ _ c.calls.invariant.led nothing (told is) in
     let given = end.2 in
     (end.0, end.1, (given.0, given.1, given.2, given.3, at_end end.0 given.0 _ (c.in-Ok.ensures.bytes.1 c.if-count-eq0.true room) given.1)))
-    c.finish.ensures.fault
+    c.finish-ended.ensures.fault
 
 pub returns-then-count-eq0-clause-front : goal.returns-then-count-eq0-clause-front
 returns-then-count-eq0-clause-front g c =
     let nothing = rw c.if-count-eq0.true at c.in-Ok.ensures.bytes.0 in
-    on_err_weaker c.finish.result (Ran-ends _ _ _ _ _ _ _ c.calls.invariant.led nothing) c.finish.ensures.front
+    on_err_weaker c.finish-ended.result (Ran-ends _ _ _ _ _ _ _ c.calls.invariant.led nothing) c.finish-ended.ensures.front
 
-pub returns-in_err-feed-clause-fault : goal.returns-in_err-feed-clause-fault
-returns-in_err-feed-clause-fault g c =
-    let p = err_from_is_err_and c.from_residual.result c.from_residual.ensures.1 in
-    rw (p.1, p.2) (λ fault. Ran-stops _ _ _ _ _ _ _ _ _ c.calls.invariant.led c.in-Ok.ensures.bytes.0 (c.in_err-feed.ensures.fault fault))
+pub returns-in-Err-clause-fault : goal.returns-in-Err-clause-fault
+returns-in-Err-clause-fault g c =
+    λ fault. Ran-stops _ _ _ _ _ _ _ _ _ c.calls.invariant.led c.in-Ok.ensures.bytes.0 (c.in-Err.ensures.fault fault)
 
-pub returns-in_err-feed-clause-front : goal.returns-in_err-feed-clause-front
-returns-in_err-feed-clause-front g c =
-    let p = err_from_is_err_and c.from_residual.result c.from_residual.ensures.1 in
-    rw p.1 (Ran-begins _ _ _ _ _ _ _ _ c.calls.invariant.led c.in-Ok.ensures.bytes.0 c.in_err-feed.ensures.front)
+pub returns-in-Err-clause-front : goal.returns-in-Err-clause-front
+returns-in-Err-clause-front g c =
+    Ran-begins _ _ _ _ _ _ _ _ c.calls.invariant.led c.in-Ok.ensures.bytes.0 c.in-Err.ensures.front
 
 pub calls-preserved : goal.calls-preserved
 calls-preserved g c = record {
-  led = Ran-more _ _ _ _ _ _ _ _ _ c.calls.invariant.led c.in-Ok.ensures.bytes.0 c.in_ok-feed.ensures.ok;
-  one_line = c.in_ok-feed.ensures.one_line;
-  number = omega (arith, c.in_ok-feed.ensures.number, length-take c.in-Ok.count c.read.new.buf);
+  led = Ran-more _ _ _ _ _ _ _ _ _ c.calls.invariant.led c.in-Ok.ensures.bytes.0 c.in_default-feed.ensures.ok;
+  one_line = c.in_default-feed.ensures.one_line;
+  number = omega (arith, c.in_default-feed.ensures.number, length-take c.in-Ok.count c.read.new.buf);
   calls = omega (arith, c.in-Ok.ensures.calls);
   failed = rw (c.in-Ok.ensures.failed, c.calls.invariant.failed) refl;
   not_gone_on = rw (c.in-Ok.ensures.went_on, c.calls.invariant.not_gone_on, c.calls.invariant.failed) refl;
-  sound = c.in_ok-feed.ensures.writer;
+  sound = c.in_default-feed.ensures.writer;
   pieces = Pieces-more _ _ _ _ _ _ c.calls.invariant.pieces c.in-Ok.ensures.bytes.0 (omega (arith, length-take c.in-Ok.count c.read.new.buf));
 }
 
@@ -89,34 +87,33 @@ returns-then-count-eq0-clause-pieces g c =
     let nothing = rw c.if-count-eq0.true at c.in-Ok.ensures.bytes.0 in
     Pieces-more _ _ _ [] _ _ c.calls.invariant.pieces nothing (omega (arith, c.in-Ok.ensures.calls, c.calls.invariant.calls))
 
-pub returns-in_err-feed-clause-pieces : goal.returns-in_err-feed-clause-pieces
-returns-in_err-feed-clause-pieces g c =
+pub returns-in-Err-clause-pieces : goal.returns-in-Err-clause-pieces
+returns-in-Err-clause-pieces g c =
     Pieces-more _ _ _ _ _ _ c.calls.invariant.pieces c.in-Ok.ensures.bytes.0 (omega (arith, length-take c.in-Ok.count c.read.new.buf, c.in-Ok.ensures.calls, c.calls.invariant.calls))
 
 pub returns-clause-pieces : goal.returns-clause-pieces
 returns-clause-pieces g c = Pieces-more _ _ _ [] _ _ c.calls.invariant.pieces (Consumes-nothing _) (omega (arith, c.calls.invariant.calls))
 
 pub returns-then-count-eq0-clause-writer_failed : goal.returns-then-count-eq0-clause-writer_failed
-returns-then-count-eq0-clause-writer_failed g c = writer_failed c.finish.result _ c.finish.ensures.writer
+returns-then-count-eq0-clause-writer_failed g c = writer_failed c.finish-ended.result _ c.finish-ended.ensures.writer
 
 pub returns-then-count-eq0-clause-ended : goal.returns-then-count-eq0-clause-ended
 returns-then-count-eq0-clause-ended g c =
-    (rw (c.in-Ok.ensures.went_on, c.calls.invariant.not_gone_on, c.calls.invariant.failed) refl, never_gone_on c.finish.result _ c.finish.ensures.writer)
+    (rw (c.in-Ok.ensures.went_on, c.calls.invariant.not_gone_on, c.calls.invariant.failed) refl, never_gone_on c.finish-ended.result _ c.finish-ended.ensures.writer)
 
 pub returns-then-count-eq0-clause-flushed : goal.returns-then-count-eq0-clause-flushed
-returns-then-count-eq0-clause-flushed g c = all_flushed c.finish.result _ c.finish.ensures.writer
+returns-then-count-eq0-clause-flushed g c = all_flushed c.finish-ended.result _ c.finish-ended.ensures.writer
 
-pub returns-in_err-feed-clause-writer_failed : goal.returns-in_err-feed-clause-writer_failed
-returns-in_err-feed-clause-writer_failed g c =
-    let p = err_from_is_err_and c.from_residual.result c.from_residual.ensures.1 in
-    rw (p.1, p.2) (writer_failed {T = Unit {0}} (Err c.in_err-feed.field-0.0) _ c.in_err-feed.ensures.writer)
+pub returns-in-Err-clause-writer_failed : goal.returns-in-Err-clause-writer_failed
+returns-in-Err-clause-writer_failed g c =
+    writer_failed {T = Unit {0}} (Err c.in-Err.refusal) _ c.in-Err.ensures.writer
 
-pub returns-in_err-feed-clause-ended : goal.returns-in_err-feed-clause-ended
-returns-in_err-feed-clause-ended g c =
-    (rw (c.in-Ok.ensures.went_on, c.calls.invariant.not_gone_on, c.calls.invariant.failed) refl, never_gone_on {T = Unit {0}} (Err c.in_err-feed.field-0.0) _ c.in_err-feed.ensures.writer)
+pub returns-in-Err-clause-ended : goal.returns-in-Err-clause-ended
+returns-in-Err-clause-ended g c =
+    (rw (c.in-Ok.ensures.went_on, c.calls.invariant.not_gone_on, c.calls.invariant.failed) refl, never_gone_on {T = Unit {0}} (Err c.in-Err.refusal) _ c.in-Err.ensures.writer)
 
-pub returns-in_err-feed-clause-flushed : goal.returns-in_err-feed-clause-flushed
-returns-in_err-feed-clause-flushed g c = all_flushed {T = Unit {0}} (Err c.in_err-feed.field-0.0) _ c.in_err-feed.ensures.writer
+pub returns-in-Err-clause-flushed : goal.returns-in-Err-clause-flushed
+returns-in-Err-clause-flushed g c = all_flushed {T = Unit {0}} (Err c.in-Err.refusal) _ c.in-Err.ensures.writer
 
 pub returns-in_default-clause-output : goal.returns-in_default-clause-output
 returns-in_default-clause-output g c is = absurd (input_is_other {T = Unit {0}} is)

@@ -7,8 +7,8 @@ use Rattle.causal_join.proofs.Pairs.{joined_parts, inside-same, inside-has, insi
 use Rattle.causal_join.proofs.causal.Causal.join.Goals as goal
 
 -- what the context of the join knows
-known : (g : _) (c : goal.In_ok-union g) (dot : DotValue) → has c.union.new.self dot ≡ has c.self.inside.context dot || has c.other.inside.context dot
-known g c dot = c.in_ok-union.ensures.ok dot ∙ ap (λ b. b || has c.other.inside.context dot) (sym (c.in_ok-context.ensures.ok dot))
+known : (g : _) (c : goal.In_default g) (dot : DotValue) → has c.union.new.self dot ≡ has c.self.inside.context dot || has c.other.inside.context dot
+known g c dot = c.in_default.ensures.ok dot ∙ ap (λ b. b || has c.other.inside.context dot) (sym (c.in_ok-context.ensures.ok dot))
 
 pub returns-clause-ok : goal.returns-clause-ok
 returns-clause-ok g c =

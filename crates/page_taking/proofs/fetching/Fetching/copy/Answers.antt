@@ -3,4 +3,4 @@ use Rattle.page_taking.specs.Taking.{ArePrefixes}
 use Rattle.page_taking.proofs.fetching.Fetching.copy.Goals as goal
 
 pub invariant_of-result : goal.invariant_of-result
-invariant_of-result g c = subst (λ waiting. ArePrefixes waiting.map) (sym c.in_ok-copy.ensures.ok) c.self.invariant
+invariant_of-result g c = subst (λ waiting. ArePrefixes waiting.map) (sym c.in_ok-waiting.ensures.ok) c.self.invariant

@@ -1,4 +1,4 @@
-use Rattle.std.proofs.Common.{refl, sym, ap, ◌∙◌, map}
+use Rattle.std.proofs.Common.{Vec, refl, sym, ap, ◌∙◌, map}
 use Rattle.delta_ops.specs.LiveMap.{live_state}
 use Rattle.live_map.specs.Live.{LiveValue}
 use Rattle.replica_model.specs.Replica.{next_session, opens}
@@ -15,6 +15,13 @@ returns-in_err-reserve-clause-unchanged g c =
     let mid : ReplicaValue _ = record { name = c.self.inside.name; live = c.seal.new.self; group = c.self.inside.group; opened = c.self.inside.opened; sessions = c.reserve.new.self.items; kept = c.self.inside.answerer } in
     let same = meaning_by mid (meaning old) refl (ap (λ (l : LiveValue _ _). live_state l.0) c.seal.ensures.same) refl refl (ap (map open_of) c.reserve.ensures.items) refl in
     on_err c.from_residual-in_err-reserve.result (rw (← c.self.view_is) same)
+
+pub returns-in_err-hello-clause-unchanged : goal.returns-in_err-hello-clause-unchanged
+returns-in_err-hello-clause-unchanged g c =
+    let old : ReplicaValue _ = record { name = c.self.inside.name; live = c.self.inside.live; group = c.self.inside.group; opened = c.self.inside.opened; sessions = c.self.inside.sessions.items; kept = c.self.inside.answerer } in
+    let new : ReplicaValue _ = record { name = c.self.inside.name; live = c.seal.new.self; group = c.self.inside.group; opened = c.self.inside.opened; sessions = c.begin.new.sessions.items; kept = c.self.inside.answerer } in
+    let same = meaning_by new (meaning old) refl (ap (λ (l : LiveValue _ _). live_state l.0) c.seal.ensures.same) refl refl (ap (map open_of) (ap (λ (v : Vec _ _). v.items) c.in_err-hello.ensures.unchanged ∙ c.reserve.ensures.items)) refl in
+    on_err c.from_residual-in_err-hello.result (rw (← c.self.view_is) same)
 
 -- where the hello is not posted the sessions are those that were there before
 pub invariant_of-self-in-Err : goal.invariant_of-self-in-Err

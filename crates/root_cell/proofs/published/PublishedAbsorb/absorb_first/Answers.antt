@@ -1,4 +1,5 @@
+use Rattle.std.proofs.Common.{◌∙◌}
 use Rattle.root_cell.proofs.published.PublishedAbsorb.absorb_first.Goals as goal
 
 pub returns-clause-absorbed : goal.returns-clause-absorbed
-returns-clause-absorbed g c = c.in_ok-self.ensures
+returns-clause-absorbed g c = c.replace.ensures.after ∙ c.in_ok-again.ensures

@@ -1,4 +1,4 @@
-use Rattle.std.proofs.Common.{◌≡◌, ◌++◌, ◌∷◌, [], List, length, sym, ap, arith, subst, length-append}
+use Rattle.std.proofs.Common.{◌≡◌, ◌++◌, ◌∷◌, [], List, length, sym, ap, arith, inl, subst, length-append}
 use Rattle.shared_object.specs.History.{AreCounts}
 use Rattle.shared_object.proofs.Calls.{calls_length, counts_more}
 use Rattle.shared_object.proofs.guarded.Guarded.accept.Goals as goal
@@ -22,3 +22,6 @@ invariant_of-guarded g c =
 
 pub invariant_of-guarded-in-Err : goal.invariant_of-guarded-in-Err
 invariant_of-guarded-in-Err g c = (c.in-Err.ensures.unchanged c.self.inside.writer c.self.invariant.0, c.self.invariant.1, c.self.invariant.2)
+
+pub returns-in-Err-clause-refused : goal.returns-in-Err-clause-refused
+returns-in-Err-clause-refused g c = rw (← c.self.view_is) (inl (omega (arith, c.self.invariant.1), c.in-Err.ensures.refused c.self.inside.writer c.self.invariant.0))

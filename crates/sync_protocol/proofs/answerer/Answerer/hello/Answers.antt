@@ -16,8 +16,11 @@ returns-in-Some-clause-opening g c =
 pub returns-in_err-reserve-clause-few : goal.returns-in_err-reserve-clause-few
 returns-in_err-reserve-clause-few g c = subst (λ kept. length kept ≤ LIMIT) (sym c.in_err-reserve.ensures.entries) c.self.invariant
 
-pub returns-in_err-opening-clause-few : goal.returns-in_err-opening-clause-few
-returns-in_err-opening-clause-few g c = subst (λ kept. length kept ≤ LIMIT) (sym c.reserve.ensures.entries) c.self.invariant
+pub returns-in_err-snapshot-clause-few : goal.returns-in_err-snapshot-clause-few
+returns-in_err-snapshot-clause-few g c = subst (λ kept. length kept ≤ LIMIT) (sym c.reserve.ensures.entries) c.self.invariant
+
+pub returns-in-Err-clause-few : goal.returns-in-Err-clause-few
+returns-in-Err-clause-few g c = subst (λ kept. length kept ≤ LIMIT) (sym c.reserve.ensures.entries) c.self.invariant
 
 pub invariant_of-self-2 : goal.invariant_of-self-2
 invariant_of-self-2 g c =

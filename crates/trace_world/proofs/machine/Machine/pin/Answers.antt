@@ -13,4 +13,4 @@ pub returns : goal.returns
 returns g c =
     rw (← c.self.view_is)
     (pin_done c.self.inside.teller c.self.inside.pins.items c.push.new.self.items (record { name = c.args.name; age = c.age-age.result; store = c.in_ok-store.store }) c.into_bytes.result c.len.result
-    c.age-age.ensures.count c.in_ok-store.ensures.ok c.in_ok-push.ensures.items ((λ i. (c.into_bytes.ensures.value i).items) ∙ c.in_ok-text.ensures.ok) (c.len.ensures ∙ c.self.inside.pins.ok.0))
+    c.age-age.ensures.count c.in_ok-store.ensures.ok c.in_ok-push.ensures.items ((λ i. (c.into_bytes.ensures.value i).items) ∙ c.in-Ok.ensures.ok) (c.len.ensures ∙ c.self.inside.pins.ok.0))

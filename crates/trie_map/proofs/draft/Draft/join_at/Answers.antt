@@ -22,11 +22,11 @@ returns-then-is_empty-clause-ok g c =
     joins_cut g.S.DotStore.at g.S.DotStore.greater c.args.mine.now (has c.args.own.now) c.args.yours.now (has c.args.theirs.now) c.in_ok-both.both c.in_ok-both.ensures.ok
     c.args.self.now.1 c.remove.new.self.map c.args.key.now (ap (λ t. t.map) c.in_ok-remove.ensures.ok ∙ ap (λ p. finite.remove p.1 c.args.key.now) c.self.view_is) (c.if-is_empty.ensures.nothing.0 refl)
 
-pub invariant_of-self-2 : goal.invariant_of-self-2
-invariant_of-self-2 g c =
+pub invariant_of-self-in-Ok : goal.invariant_of-self-in-Ok
+invariant_of-self-in-Ok g c =
     let old = c.self.inside.entries.map in
     let new = c.insert.new.self.map in
-    let key = c.in_ok-copy.field-0 in
+    let key = c.in-Ok.key in
     let both = c.in_ok-both.both in
     let put = on_ok c.insert.result (λ e. ap (λ t. t.map) e) c.insert.ensures.ok in
     let stayed = on_err c.insert.result (λ e. ap (λ t. t.map) e) c.insert.ensures.same in (
@@ -35,10 +35,10 @@ invariant_of-self-2 g c =
       each_after_insert g.S.DotStore.canonical c.insert.result old new key both c.self.invariant.1 c.is_empty.ensures.canonical put stayed,
     )
 
-pub returns-clause-ok : goal.returns-clause-ok
-returns-clause-ok g c =
+pub returns-in-Ok-clause-ok : goal.returns-in-Ok-clause-ok
+returns-in-Ok-clause-ok g c =
     on_ok c.insert.result
     (λ e. joins_put g.S.DotStore.at g.S.DotStore.greater c.args.mine.now (has c.args.own.now) c.args.yours.now (has c.args.theirs.now) c.in_ok-both.both c.in_ok-both.ensures.ok
     c.args.self.now.1 c.insert.new.self.map c.args.key.now
-    (ap (λ t. t.map) e ∙ (λ i. finite.insert (c.self.view_is i).1 (c.in_ok-copy.ensures.ok i) c.in_ok-both.both)))
+    (ap (λ t. t.map) e ∙ (λ i. finite.insert (c.self.view_is i).1 (c.in-Ok.ensures.ok i) c.in_ok-both.both)))
     c.insert.ensures.ok

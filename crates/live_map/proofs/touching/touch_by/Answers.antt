@@ -5,9 +5,10 @@ use Rattle.causal_context.specs.Context.{has, is_known}
 use Rattle.dot_store.specs.Stores.{at_stores}
 use Rattle.dots.specs.Bytes.{bytes_cmp}
 use Rattle.dots.specs.Dot.{DotValue}
+use Rattle.trie_map.proofs.Written.{on_ok}
 use Rattle.live_map.specs.Index.{names, has_key}
 use Rattle.live_map.proofs.Changing.{by_known}
-use Rattle.live_map.proofs.touching.touched_by.Goals as goal
+use Rattle.live_map.proofs.touching.touch_by.Goals as goal
 
 pub returns-clause-ok : goal.returns-clause-ok
 returns-clause-ok g c =
@@ -18,14 +19,16 @@ returns-clause-ok g c =
     let cloud = c.cloud.result.now in
     let same : (d : DotValue) → is_known vector cloud d ≡ has delta.1 d = λ d.
     ap (λ list. is_known vector list d) (c.cloud.ensures.rest ∙ ap (λ x. x.cloud) (c.context-2.ensures.value ∙ sym c.context.ensures.value)) ∙ sym (c.vector.ensures.has d) ∙ ap (λ x. has x d) c.context.ensures.value in
-    record {
+    on_ok c.add_cloud.result
+    (λ there. record {
       own = λ q place d h.
           let found = c.entries.ensures.only q place d (subst (λ stores. IsSome (at_stores at bytes_cmp stores (q, place) d)) (sym c.store.ensures.value) h) in
-          let there = All-contains (λ (e : _ × _). IsTrue (has_key c.add_keys.new.touched e.0)) c.entries.result.now (q, found.0) c.in_ok-add_keys.ensures.there found.1 in
-          c.in_ok-add_cloud.ensures.kept q (c.in_ok-add_vector.ensures.kept q there);
+          let held = All-contains (λ (e : _ × _). IsTrue (has_key c.add_keys.new.touched e.0)) c.entries.result.now (q, found.0) c.in_ok-add_keys.ensures.there found.1 in
+          c.add_cloud.ensures.kept q (c.in_ok-add_vector.ensures.kept q held);
       named = λ d q named known.
           by_known d (IsTrue (has_key keys q)) vector cloud
-          (λ k e below name one up. c.in_ok-add_cloud.ensures.kept q (c.in_ok-add_vector.ensures.there k e below d q name one up named))
-          (λ k e below is. c.in_ok-add_cloud.ensures.there k e below q (subst (λ x. IsTrue (names c.args.index.now x q)) is named))
+          (λ k e below name one up. c.add_cloud.ensures.kept q (c.in_ok-add_vector.ensures.there k e below d q name one up named))
+          (λ k e below is. there k e below q (subst (λ x. IsTrue (names c.args.index.now x q)) is named))
           (same d ∙ known);
-    }
+    })
+    c.add_cloud.ensures.there

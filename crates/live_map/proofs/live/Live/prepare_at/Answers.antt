@@ -11,7 +11,7 @@ use Rattle.trie_map.specs.Keyed.{at_keys}
 use Rattle.trie_map.proofs.Written.{if_ok}
 use Rattle.live_map.specs.Index.{IsIndexed}
 use Rattle.live_map.proofs.Changing.{indexed_join, held_named, IsIndexedNew}
-use Rattle.live_map.proofs.live.Live.prepare.Goals as goal
+use Rattle.live_map.proofs.live.Live.prepare_at.Goals as goal
 
 pub new-requires : goal.new-requires
 new-requires g c =
@@ -21,11 +21,11 @@ new-requires g c =
     let both = join g.S.DotStore.greater own theirs in
     let known : (d : DotValue) → has c.in_ok-context.context d ≡ has c.self.inside.context d || has c.args.delta.now.1 d = λ d.
     c.in_ok-context.ensures.ok d ∙ ap (λ x. has c.self.inside.context d || has x d) c.context.ensures.value in
-    inside-same (at c.in_ok-store.store) both.at (has c.in_ok-context.context) c.in_ok-store.ensures.ok
+    inside-same (at c.in-Ok.store) both.at (has c.in_ok-context.context) c.in-Ok.ensures.ok
     (inside-has both.at (has c.in_ok-context.context) both.has known (inside-join g.S.DotStore.greater own theirs c.self.invariant.0 c.context.ensures.inside))
 
 pub returns-clause-hash : goal.returns-clause-hash
-returns-clause-hash g c = if_ok c.new.result (λ next is. ap (λ n. n.0.0) is ∙ c.in_ok-store.ensures.hash ∙ ap (λ live. live.0.0.0) c.self.view_is) c.new.ensures.ok
+returns-clause-hash g c = if_ok c.new.result (λ next is. ap (λ n. n.0.0) is ∙ c.in-Ok.ensures.hash ∙ ap (λ live. live.0.0.0) c.self.view_is) c.new.ensures.ok
 
 pub returns-clause-ok : goal.returns-clause-ok
 returns-clause-ok g c =
@@ -33,8 +33,8 @@ returns-clause-ok g c =
     let theirs = state_of (at_stores g.S.DotStore.at bytes_cmp) c.args.delta.now in
     let known : (d : DotValue) → has c.in_ok-context.context d ≡ has c.self.inside.context d || has c.args.delta.now.1 d = λ d.
     c.in_ok-context.ensures.ok d ∙ ap (λ x. has c.self.inside.context d || has x d) c.context.ensures.value in
-    let same = subst (λ live. Same (state_of at (c.in_ok-store.store, c.in_ok-context.context)) (join g.S.DotStore.greater (state_of at live.0) theirs)) c.self.view_is
-    (record { at = c.in_ok-store.ensures.ok; has = known }) in
+    let same = subst (λ live. Same (state_of at (c.in-Ok.store, c.in_ok-context.context)) (join g.S.DotStore.greater (state_of at live.0) theirs)) c.self.view_is
+    (record { at = c.in-Ok.ensures.ok; has = known }) in
     if_ok c.new.result (λ next is. subst (λ n. Same (state_of at n) (join g.S.DotStore.greater (state_of at c.args.self.now.0) theirs)) (sym is) same) c.new.ensures.ok
 
 pub returns-clause-fits : goal.returns-clause-fits
@@ -51,5 +51,5 @@ returns-clause-fits g c =
     let found = c.entries.ensures.only q place d there in
     held_named at own c.entries.result.now new c.in_ok-name_all.ensures.there q found.0 found.1 place d
     (ap is_some (sym (c.entries.ensures.held q found.0 found.1 place d)) ∙ there) fresh in
-    let fits = indexed_join g.S.DotStore.greater mine yours (at_keys at c.in_ok-store.store) own (has delta.1) new c.in_ok-store.ensures.ok had has_yours in
+    let fits = indexed_join g.S.DotStore.greater mine yours (at_keys at c.in-Ok.store) own (has delta.1) new c.in-Ok.ensures.ok had has_yours in
     if_ok c.new.result (λ next is. subst (λ n. IsIndexed (at_keys at n.0) new) (sym is) fits) c.new.ensures.ok
