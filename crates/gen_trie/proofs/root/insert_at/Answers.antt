@@ -28,3 +28,9 @@ returns-else-fresh-clause-is_root g c =
     put_root_is c.args.root.now c.put_root.new.root c.args.count.now _ (word 7 c.args.hash c.args.key) c.args.value c.in_ok-fresh.fresh c.requires.is_root
     (c.in_ok-fresh.ensures.ok ∙ (λ i. put bytes_cmp (word 7 (leaf.0 i) (leaf.1 i)) (leaf.2 i) (root_entries c.args.root.now))) c.in_ok-fresh.ensures.stands c.in_ok-fresh.ensures.fresh
     (ap (λ b. cond b (c.args.count.now + 1) c.args.count.now) (sym c.if-fresh.false))
+
+pub returns-then-not-has_room-clause-is_root : goal.returns-then-not-has_room-clause-is_root
+returns-then-not-has_room-clause-is_root g c = c.requires.is_root
+
+pub returns-then-not-has_room-clause-same : goal.returns-then-not-has_room-clause-same
+returns-then-not-has_room-clause-same g c = refl
