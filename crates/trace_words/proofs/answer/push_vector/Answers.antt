@@ -1,0 +1,15 @@
+use Rattle.std.proofs.Common.{◌≡◌, ◌++◌, ◌∙◌, ◌<◌, ◌+◌, ℕ, List, length, take, get_or, ap, sym, ◌∷◌, [], codes}
+use Rattle.std.proofs.lemmas.List.{flat_map_more, take_more}
+use Rattle.std.specs.List.{flat_map}
+use Rattle.trace_words.specs.Text.{dot_text}
+use Rattle.trace_words.proofs.answer.push_vector.Goals as goal
+
+one_more : {X A : Type 0} (f : X → List A) (begin now then : List A) (xs : List X) (i : ℕ) (d x : X) → i < length xs → x ≡ get_or xs i d → now ≡ begin ++ flat_map f (take i xs) → then ≡ now ++ f x → then ≡ begin ++ flat_map f (take (i + 1) xs)
+one_more f begin now then xs i d x small same is was =
+    was ∙ ap (λ items. items ++ f x) is ∙ flat_map_more f begin (take i xs) x ∙ ap (λ items. begin ++ flat_map f items) (ap (λ y. take i xs ++ y ∷ []) same ∙ sym (take_more xs i d small))
+
+-- src/answer.rt
+pub loop-name-preserved : goal.loop-name-preserved
+loop-name-preserved g c =
+    one_more (λ entry. codes " " ++ dot_text entry.0 entry.1) _ _ _ c.args.entries.now c.loop-name.name-index _ c.loop-name-item.result c.loop-name-test.true c.loop-name-item.is c.loop-name.invariant
+    (rw c.number.ensures.value at c.in_ok-push_dot.ensures.ok)
