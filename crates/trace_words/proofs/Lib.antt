@@ -1,3 +1,4 @@
 pub mod WordLemmas
 pub mod CommandLemmas
 pub mod Answering
+pub mod Listing
