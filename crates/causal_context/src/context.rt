@@ -11,7 +11,6 @@ use dots::{Dot, Name, Refusal};
 use ordered_list::{OrderedList, OrderedSet};
 use std::alloc::{Allocator, Global};
 use std::marker::Model;
-use std::mem;
 
 /// A causal context: a set of dots. Those that a replica has seen, or that a delta speaks of.
 ///
@@ -20,12 +19,11 @@ use std::mem;
 /// call takes time in them. Equal sets have equal representation. After Almeida, Shoker and Baquero, "Delta
 /// State Replicated Data Types" (2018); that the vector always goes as far as it can is of this project.
 ///
-/// What grows keeps to the allocator that `new` or `copy` was given.
+/// What grows keeps to the allocator that `new`, `copy` or `union` was given, or that the vectors of `from_parts` are on.
 #[derive(Drop)]
 pub struct Context<A: Allocator = Global> {
     vector: OrderedList<Name, u64, A>,
     cloud: OrderedSet<Dot, A>,
-    alloc: A,
 }
 
 impl<A: Allocator> Model for Context<A> {
@@ -47,7 +45,6 @@ impl<A: Allocator + Copy> Context<A> {
         Context {
             vector: OrderedList::new(alloc),
             cloud: OrderedSet::new(alloc),
-            alloc,
         }
     }
 
@@ -56,11 +53,7 @@ impl<A: Allocator + Copy> Context<A> {
     /// dot, each once, no dot at or below the entry of its name or just above it, an absent entry counting
     /// as 0. Takes both over as they are, and no memory, and time in the number of names and dots, for each
     /// dot times the logarithm of that of the names.
-    pub fn from_parts(
-        alloc: A,
-        vector: Vec<(Name, u64), A>,
-        cloud: Vec<Dot, A>,
-    ) -> Option<Context<A>>
+    pub fn from_parts(vector: Vec<(Name, u64), A>, cloud: Vec<Dot, A>) -> Option<Context<A>>
         ensures canonical { IsSome result
             ↔ IsCanonical (record { vector = vector.items; cloud = cloud.items }) }
         ensures form { IfSome result
@@ -71,11 +64,7 @@ impl<A: Allocator + Copy> Context<A> {
         if !vector::has_no_zero(&vector) || !cloud::is_apart(&cloud, &vector) {
             return None;
         }
-        Some(Context {
-            vector,
-            cloud,
-            alloc,
-        })
+        Some(Context { vector, cloud })
     }
 
     /// Whether no dot is in the context. Takes constant time, and no memory.
@@ -172,11 +161,7 @@ impl<A: Allocator + Copy> Context<A> {
     {
         let vector = self.vector.copy(alloc)?;
         let cloud = self.cloud.copy(alloc)?;
-        Ok(Context {
-            vector,
-            cloud,
-            alloc,
-        })
+        Ok(Context { vector, cloud })
     }
 
     /// Adds the dot. A refused call leaves the context as it was. Takes time as `contains` does, and writes one
@@ -197,24 +182,20 @@ impl<A: Allocator + Copy> Context<A> {
         add_to(&mut self.vector, &mut self.cloud, dot)
     }
 
-    /// Adds each dot of the other. A refused call leaves the context as it was, so the union is made
-    /// anew: it takes memory in the number of names and of the dots in the clouds of both, and time in
-    /// these, for each dot times the logarithm of that of the names.
+    /// The union of the two sets, on this allocator. Takes memory in the number of names and of the dots in
+    /// the clouds of both, and time in these, for each dot times the logarithm of that of the names.
     /// Its only refusal is OutOfMemory.
-    pub fn union(&mut self, other: &Context<A>) -> Result<(), Refusal>
-        ensures ok { OnOk result ((d : DotValue) → has self.new d ≡ (has self.old d || has other.now d)) }
-        ensures unchanged { OnErr result (HasSame self.new self.old) }
-        ensures as_it_was { OnErr result (self.new ≡ self.old) }
+    pub fn union(&self, alloc: A, other: &Context<A>) -> Result<Context<A>, Refusal>
+        ensures ok { IfOk result (λ both. (d : DotValue) → has both d ≡ (has self.now d || has other.now d)) }
         ensures err { IsOkUnless result Refusal.OutOfMemory }
     {
-        let dots = self.cloud.union(self.alloc, &other.cloud)?;
-        let mut both = covering(self.alloc, &self.vector, &other.vector)?;
+        let dots = self.cloud.union(alloc, &other.cloud)?;
+        let mut both = covering(alloc, &self.vector, &other.vector)?;
         if let Err(refusal) = both.add_all(&dots) {
             drop(both);
             return Err(refusal);
         }
-        drop(mem::replace(self, both));
-        Ok(())
+        Ok(both)
     }
 
     // Adds each of the dots.
@@ -263,6 +244,5 @@ fn covering<A: Allocator + Copy>(
     Ok(Context {
         vector,
         cloud: OrderedSet::new(alloc),
-        alloc,
     })
 }

@@ -93,14 +93,10 @@ impl<S: DotStore<A>, A: Allocator + Copy> Causal<S, A> {
             (join S.greater (state_of S.at self.now) (state_of S.at other.now))) }
         ensures err { IsOkUnless result Refusal.OutOfMemory }
     {
+        let context = self.context.union(alloc, &other.context)?;
         let store = self
             .store
             .join(alloc, &self.context, &other.store, &other.context)?;
-        let mut context = self.context.copy(alloc)?;
-        if let Err(refusal) = context.union(&other.context) {
-            drop(context);
-            return Err(refusal);
-        }
         Ok(Causal { store, context })
     }
 

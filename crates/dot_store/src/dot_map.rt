@@ -239,7 +239,7 @@ fn dots_of<K, S: DotStore<A>, A: Allocator + Copy>(
         return store.dots(alloc);
     }
     let (front, back) = stores.split_at(middle);
-    let mut dots = dots_of(alloc, front)?;
+    let dots = dots_of(alloc, front)?;
     let more = match dots_of(alloc, back) {
         Ok(more) => more,
         Err(refusal) => {
@@ -247,13 +247,10 @@ fn dots_of<K, S: DotStore<A>, A: Allocator + Copy>(
             return Err(refusal);
         }
     };
-    let united = dots.union(&more);
+    let both = dots.union(alloc, &more);
     drop(more);
-    if let Err(refusal) = united {
-        drop(dots);
-        return Err(refusal);
-    }
-    Ok(dots)
+    drop(dots);
+    both
 }
 
 impl<K: Kept<A>, S: DotStore<A>, A: Allocator + Copy> DotStore<A> for DotMap<K, S, A> {

@@ -1,11 +1,10 @@
-ghost use Rattle.std.specs.Prelude.{◌≡◌, ◌||◌, ℕ, List, None, IfOk, OnOk, OnErr, IsOkUnless};
+ghost use Rattle.std.specs.Prelude.{◌≡◌, ℕ, List, None, IfOk, OnOk, OnErr, IsOkUnless};
 ghost use Rattle.std.specs.FinMap as finite;
 ghost use Rattle.causal_context.specs.Context.{has, HasNone};
 ghost use Rattle.causal_join.specs.Causal.{state_of};
 ghost use Rattle.dot_store.specs.Store.{HasNothing, HoldsSame, state_with};
 ghost use Rattle.dot_store.specs.Stores.{at_stores};
 ghost use Rattle.dots.specs.Bytes.{bytes_cmp};
-ghost use Rattle.dots.specs.Dot.{DotValue};
 ghost use Rattle.op_model.specs.State.{join, Same, IsInside};
 ghost use Rattle.live_map.specs.Closing.{stores_of};
 ghost use Rattle.live_map.specs.Index.{AreAllTouched, IsIndexed};
@@ -181,7 +180,7 @@ impl<S: DotStore<A>, M: Summary<S>, H: PathHash, A: Allocator + Copy> Live<S, M,
             delta.store().entries(),
             &self.context,
         )?;
-        let context = known_by_both(alloc, &self.context, delta.context())?;
+        let context = self.context.union(alloc, delta.context())?;
         let store = match joined(alloc, &self.store, &self.context, delta, touched.keys()) {
             Ok(store) => store,
             Err(refusal) => {
@@ -254,7 +253,7 @@ impl<S: DotStore<A>, M: Summary<S>, H: PathHash, A: Allocator + Copy> Live<S, M,
         let _ = base;
         touch_since(alloc, changed, &self.index, seen, touched, context)?;
         name_built(alloc, &mut self.index, built, changed.keys(), &self.context)?;
-        let next = known_by_both(alloc, &self.context, context)?;
+        let next = self.context.union(alloc, context)?;
         let store = match closed(
             alloc,
             &self.store,
@@ -305,25 +304,6 @@ impl<S: DotStore<A>, M: Summary<S>, H: PathHash, A: Allocator + Copy> Live<S, M,
         let next = self.prepare(alloc, delta)?;
         self.commit(next);
         Ok(())
-    }
-}
-
-// The dots that either context knows.
-fn known_by_both<A: Allocator + Copy>(
-    alloc: A,
-    own: &Context<A>,
-    other: &Context<A>,
-) -> Result<Context<A>, Refusal>
-    ensures ok { IfOk result (λ both. (d : DotValue) → has both d ≡ (has own.now d || has other.now d)) }
-    ensures err { IsOkUnless result Refusal.OutOfMemory }
-{
-    let mut both = own.copy(alloc)?;
-    match both.union(other) {
-        Ok(()) => Ok(both),
-        Err(refusal) => {
-            drop(both);
-            Err(refusal)
-        }
     }
 }
 

@@ -33,8 +33,9 @@ pub(crate) fn touch_by<S: DotStore<A>, A: Allocator + Copy>(
     ensures err { IsOkUnless result Refusal.OutOfMemory }
 {
     add_keys(alloc, touched, delta.store().entries())?;
-    add_vector(alloc, touched, index, delta.context().vector())?;
-    add_cloud(alloc, touched, index, delta.context().cloud())
+    let context = delta.context();
+    add_vector(alloc, touched, index, context.vector())?;
+    add_cloud(alloc, touched, index, context.cloud())
 }
 
 // Adds the keys of these entries.

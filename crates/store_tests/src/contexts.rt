@@ -58,9 +58,7 @@ fn dots_are_folded_into_a_vector_beside_a_cloud(rt: HostRuntime) {
 
 // The union of the two.
 fn united(rt: &impl Abort, alloc: Global, mine: &Context, yours: &Context) -> Context {
-    let mut both = mine.copy(alloc).expect(rt, "memory");
-    both.union(yours).expect(rt, "memory");
-    both
+    mine.union(alloc, yours).expect(rt, "memory")
 }
 
 // Whether the first includes the other, and not the other way round.

@@ -104,29 +104,30 @@ pub fn parse<A: Allocator + Copy>(alloc: A, line: &[u8]) -> Result<Option<Comman
 fn with_one_word<A: Allocator + Copy>(verb: &[u8], first: &[u8]) -> Option<Command<A>>
     ensures { option_map command_value result ≡ one_word_command verb.now first.now }
 {
+    let replica = name(first)?;
     if verb == b"node".as_slice() {
-        return Some(Command::Node(name(first)?));
+        return Some(Command::Node(replica));
     }
     if verb == b"flush".as_slice() {
-        return Some(Command::Flush(name(first)?));
+        return Some(Command::Flush(replica));
     }
     if verb == b"clear".as_slice() {
-        return Some(Command::Clear(name(first)?));
+        return Some(Command::Clear(replica));
     }
     if verb == b"show".as_slice() {
-        return Some(Command::Show(name(first)?));
+        return Some(Command::Show(replica));
     }
     if verb == b"size".as_slice() {
-        return Some(Command::Size(name(first)?));
+        return Some(Command::Size(replica));
     }
     if verb == b"context".as_slice() {
-        return Some(Command::Context(name(first)?));
+        return Some(Command::Context(replica));
     }
     if verb == b"pin".as_slice() {
-        return Some(Command::Pin(name(first)?));
+        return Some(Command::Pin(replica));
     }
     if verb == b"digest".as_slice() {
-        return Some(Command::Digest(name(first)?));
+        return Some(Command::Digest(replica));
     }
     None
 }

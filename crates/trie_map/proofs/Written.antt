@@ -1,6 +1,6 @@
 -- Joins of maps, key by key.
 use Rattle.std.proofs.Common.{◌≡◌, ℕ, List, cond, Bool, true, false, Option, Some, None, refl, sym, ◌∙◌, ap, subst, inl, inr, ⊎_elim}
-use Rattle.std.specs.Prelude.{is_some, Result, Ok, Err, IfOk, OnOk, OnErr}
+use Rattle.std.specs.Prelude.{is_some, Result, Ok, Err, OnOk, OnErr}
 use Rattle.std.specs.Borrow.{Bor}
 use Rattle.std.specs.Option.{option_copied, unwrap_or}
 use Rattle.std.specs.Ordering.{eq_by_cmp}
@@ -17,19 +17,6 @@ use Rattle.op_model.specs.State.{joined, join}
 use Rattle.hash_path.proofs.Words.{same_tied, tied_same}
 use Rattle.trie_map.specs.Keyed.{TrieMapValue, at_keys}
 use Rattle.trie_map.specs.Joined.{both_at, JoinsAt, IsJoinedAt, IsEitherAt, AreJoined}
-
--- ---- what follows from a clause, where it holds
-pub on_ok : {E P Q : Type 0} (r : Result (Unit {0}) E) → (P → Q) → OnOk r P → OnOk r Q
-on_ok (Ok u) f h = f h
-on_ok (Err e) f h = tt
-
-pub if_ok : {T E : Type 0} {P Q : T → Type 0} (r : Result T E) → ((x : T) → P x → Q x) → IfOk r P → IfOk r Q
-if_ok (Ok x) f h = f x h
-if_ok (Err e) f h = tt
-
-pub on_err : {E P Q : Type 0} (r : Result (Unit {0}) E) → (P → Q) → OnErr r P → OnErr r Q
-on_err (Ok u) f h = tt
-on_err (Err e) f h = f h
 
 -- ---- a fact of each store
 module _ {S : Type 0} (Q : S → Type 0) where

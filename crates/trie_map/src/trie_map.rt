@@ -180,7 +180,8 @@ impl<S: DotStore<A>, M: Summary<S>, H: PathHash, A: Allocator + Copy> DotStore<A
         let mut dots = Context::new(alloc);
         for (_, store) in self.entries.iter() {
             let more = store.dots(alloc)?;
-            dots.union(&more)?;
+            let both = dots.union(alloc, &more)?;
+            dots = both;
         }
         Ok(dots)
     }

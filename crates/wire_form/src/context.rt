@@ -16,7 +16,7 @@ pub(crate) fn read_context<A: Allocator + Copy>(
 {
     let (vector, rest) = read_items::<(Name, u64), A>(alloc, bytes)?;
     let (cloud, rest) = read_items::<Dot, A>(alloc, rest)?;
-    match Context::from_parts(alloc, vector, cloud) {
+    match Context::from_parts(vector, cloud) {
         Some(context) => Ok((context, rest)),
         None => Err(Refusal::NotAMessage),
     }

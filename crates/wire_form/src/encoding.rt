@@ -38,11 +38,12 @@ fn write_delta<A: Allocator + Copy>(alloc: A, delta: &OrMap<A>) -> Result<Vec<u8
     ensures ok { IfOk result (λ bytes. SpellsDelta bytes.items delta.now) }
     ensures err { IsOkUnless result Refusal.OutOfMemory }
 {
-    let plain = is_plain_store(delta.store());
+    let store = delta.store();
+    let plain = is_plain_store(store);
     let version = if plain { 1 } else { 3 };
     let mut out = Vec::from_slice(alloc, &[version, 1])?;
     write_context(&mut out, delta.context())?;
-    write_store(&mut out, plain, delta.store())?;
+    write_store(&mut out, plain, store)?;
     Ok(out)
 }
 

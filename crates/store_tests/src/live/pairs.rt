@@ -27,7 +27,7 @@ type Step = (Held<'static>, Known);
 fn up_to(rt: &impl Abort, alloc: Global, number: u64) -> Context {
     let name = Name::new(1).expect(rt, "a name");
     let vector = Vec::from_slice(alloc, &[(name, number)]).expect(rt, "memory");
-    Context::from_parts(alloc, vector, Vec::new(alloc)).expect(rt, "canonical")
+    Context::from_parts(vector, Vec::new(alloc)).expect(rt, "canonical")
 }
 
 fn known_of(rt: &impl Abort, alloc: Global, known: Known) -> Context {

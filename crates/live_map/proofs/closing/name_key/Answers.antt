@@ -2,7 +2,8 @@ use Rattle.std.proofs.Common.{◌≡◌, ◌∙◌, ap, sym, subst}
 use Rattle.std.specs.Prelude.{is_some}
 use Rattle.std.specs.Borrow.{Bor}
 use Rattle.trie_map.specs.Keyed.{at_keys}
-use Rattle.trie_map.proofs.Written.{on_ok, holds_either}
+use Rattle.std.proofs.lemmas.Result.{on_ok_weaker}
+use Rattle.trie_map.proofs.Written.{holds_either}
 use Rattle.live_map.specs.Closing.{stores_of}
 use Rattle.live_map.proofs.closing.name_key.Goals as goal
 
@@ -13,4 +14,4 @@ returns-clause-there g c =
     let holds : (place : _) (d : _) → at_keys at (stores_of c.args.built.now) (key, place) d ≡ at c.unwrap_or-store.result.now place d =
     subst (λ (b : Bor g.row.S.Denot). (place : _) (d : _) → at_keys at (stores_of c.args.built.now) (key, place) d ≡ at b.now place d) (sym c.unwrap_or-store.ensures)
     (holds_either at (stores_of c.args.built.now) key c.lookup.result _ c.lookup.ensures c.empty-empty.ensures) in
-    on_ok c.name_store.result (λ there place d h fresh. there place d (ap is_some (sym (holds place d)) ∙ h) fresh) c.name_store.ensures.there
+    on_ok_weaker c.name_store.result (λ there place d h fresh. there place d (ap is_some (sym (holds place d)) ∙ h) fresh) c.name_store.ensures.there

@@ -2,7 +2,7 @@ use Rattle.std.proofs.Common.{◌≡◌, ◌∙◌, ◌<◌, ap, sym, subst}
 use Rattle.std.specs.Prelude.{IsTrue}
 use Rattle.causal_context.specs.Context.{has, is_known, known_up_to}
 use Rattle.dots.specs.Dot.{DotValue}
-use Rattle.trie_map.proofs.Written.{on_ok}
+use Rattle.std.proofs.lemmas.Result.{on_ok_weaker}
 use Rattle.live_map.specs.Index.{names, has_key}
 use Rattle.live_map.proofs.Changing.{by_known}
 use Rattle.live_map.proofs.Unchanged.{above_seen}
@@ -15,7 +15,7 @@ returns-clause-ok g c =
     let vector = c.vector.result.now in
     let cloud = c.cloud.result.now in
     let same : (d : DotValue) → is_known vector cloud d ≡ has c.args.context.now d = λ d. ap (λ list. is_known vector list d) c.cloud.ensures.rest ∙ sym (c.vector.ensures.has d) in
-    on_ok c.add_cloud_since.result
+    on_ok_weaker c.add_cloud_since.result
     (λ there. record {
       own = λ q h. c.add_cloud_since.ensures.kept q (c.in_ok-add_vector_since.ensures.kept q (c.in_ok-add_touched.ensures.there q h));
       named = λ d q named known fresh.

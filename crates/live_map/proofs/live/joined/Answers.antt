@@ -1,10 +1,10 @@
 use Rattle.std.proofs.Common.{sym, subst}
+use Rattle.std.proofs.lemmas.Result.{IfOk-weaker}
 use Rattle.causal_context.specs.Context.{has}
 use Rattle.dot_store.specs.Stores.{at_stores}
 use Rattle.dots.specs.Bytes.{bytes_cmp}
 use Rattle.trie_map.specs.Keyed.{at_keys}
 use Rattle.trie_map.specs.Joined.{IsJoinedAt, IsEitherAt}
-use Rattle.trie_map.proofs.Written.{if_ok}
 use Rattle.live_map.proofs.Changing.{touched_joined}
 use Rattle.live_map.proofs.live.joined.Goals as goal
 
@@ -16,7 +16,7 @@ returns-clause-ok g c =
     let own = has c.args.own.now in
     let yours = at_stores at bytes_cmp c.args.delta.now.0 in
     let theirs = has c.args.delta.now.1 in
-    if_ok c.finish.result
+    IfOk-weaker c.finish.result _ _
     (λ both is. touched_joined at greater mine own yours theirs c.args.keys.now.keys c.requires both
     (λ q. subst (λ m. IsEitherAt at greater (at_keys at mine) own yours theirs m.1 q) (sym is) (c.in_default.ensures.either q))
     (λ q h. subst (λ m. IsJoinedAt at greater (at_keys at mine) own yours theirs m.1 q) (sym is) (c.in_default.ensures.there q h)))

@@ -1,12 +1,13 @@
 use Rattle.std.proofs.Common.{sym, subst}
+use Rattle.std.proofs.lemmas.Result.{IfOk-weaker}
 use Rattle.std.specs.Prelude.{IsSome}
-use Rattle.trie_map.proofs.Written.{if_ok, holds_found, nothing_at}
+use Rattle.trie_map.proofs.Written.{holds_found, nothing_at}
 use Rattle.live_map.proofs.Changing.{none_stands}
 use Rattle.live_map.proofs.touching.standing_at.Goals as goal
 
 pub returns-in-Some-clause-all : goal.returns-in-Some-clause-all
 returns-in-Some-clause-all g c =
-    if_ok c.dots.result
+    IfOk-weaker c.dots.result _ _
     (λ dots all place d h. all place d
     (subst IsSome (holds_found g.S.DotStore.at c.args.store.now c.args.key.now c.in-Some.found.now (sym c.in-Some.ensures.store) place d) h))
     c.dots.ensures.all

@@ -5,7 +5,7 @@ use Rattle.causal_context.specs.Context.{has, is_known}
 use Rattle.dot_store.specs.Stores.{at_stores}
 use Rattle.dots.specs.Bytes.{bytes_cmp}
 use Rattle.dots.specs.Dot.{DotValue}
-use Rattle.trie_map.proofs.Written.{on_ok}
+use Rattle.std.proofs.lemmas.Result.{on_ok_weaker}
 use Rattle.live_map.specs.Index.{names, has_key}
 use Rattle.live_map.proofs.Changing.{by_known}
 use Rattle.live_map.proofs.touching.touch_by.Goals as goal
@@ -18,8 +18,8 @@ returns-clause-ok g c =
     let vector = c.vector.result.now in
     let cloud = c.cloud.result.now in
     let same : (d : DotValue) → is_known vector cloud d ≡ has delta.1 d = λ d.
-    ap (λ list. is_known vector list d) (c.cloud.ensures.rest ∙ ap (λ x. x.cloud) (c.context-2.ensures.value ∙ sym c.context.ensures.value)) ∙ sym (c.vector.ensures.has d) ∙ ap (λ x. has x d) c.context.ensures.value in
-    on_ok c.add_cloud.result
+    ap (λ list. is_known vector list d) c.cloud.ensures.rest ∙ sym (c.vector.ensures.has d) ∙ ap (λ x. has x d) c.context-context.ensures.value in
+    on_ok_weaker c.add_cloud.result
     (λ there. record {
       own = λ q place d h.
           let found = c.entries.ensures.only q place d (subst (λ stores. IsSome (at_stores at bytes_cmp stores (q, place) d)) (sym c.store.ensures.value) h) in

@@ -20,6 +20,6 @@ returns-clause-ok g c =
     ] in
     delta_written plain head mid bytes c.args.delta.now is
     (subst (Appends context IsContext head mid) c.context.ensures.value c.in_ok-write_context.ensures.ok)
-    (subst (Appends (store plain) IsStore mid bytes) c.store-2.ensures.value c.in_ok-write_store.ensures.ok)
-    c.store.ensures.inside
-    (sym (c.is_plain_store-plain.ensures ∙ ap is_plain_form c.store.ensures.value))
+    (subst (Appends (store plain) IsStore mid bytes) c.store-store.ensures.value c.in_ok-write_store.ensures.ok)
+    c.store-store.ensures.inside
+    (sym (c.is_plain_store-plain.ensures ∙ ap is_plain_form c.store-store.ensures.value))

@@ -1,5 +1,4 @@
-use Rattle.std.proofs.Common.{◌≡◌, ◌||◌, Result, Ok, Err, refl, sym, ap, ◌∙◌}
-use Rattle.std.specs.Prelude.{OnErr}
+use Rattle.std.proofs.Common.{◌≡◌, ◌||◌, sym, ap, ◌∙◌}
 use Rattle.causal_context.specs.Context.{has, is_known, known_up_to, in_cloud}
 use Rattle.ordered_list.specs.Items.{is_among}
 use Rattle.causal_context.specs.Dots.{dot_cmp}
@@ -16,32 +15,9 @@ returns-clause-ok g c = λ d.
     let there = in_cloud c.other.inside.cloud in
     let dots : in_cloud c.in_ok-dots.dots d ≡ (here d || there d) =
     sym (list_any-dot_cmp d c.in_ok-dots.dots) ∙ c.in_ok-dots.ensures.ok d ∙ ap (λ b. b || is_among dot_cmp c.other.inside.cloud d) (list_any-dot_cmp d c.self.inside.cloud) ∙ ap (λ b. here d || b) (list_any-dot_cmp d c.other.inside.cloud) in
-    ap (λ x. has x d) c.replace.ensures.after ∙ c.in_default.ensures.ok d ∙ ap (λ b. has c.in_ok-both.both d || b) dots ∙ ap (λ b. b || (here d || there d)) (c.in_ok-both.ensures.ok d)
+    c.in_default.ensures.ok d ∙ ap (λ b. has c.in_ok-both.both d || b) dots ∙ ap (λ b. b || (here d || there d)) (c.in_ok-both.ensures.ok d)
     ∙ known-union mine yours here there c.self.invariant.apart c.other.invariant.apart d
     ∙ ap (λ x. has x d || is_known c.other.inside.vector c.other.inside.cloud d) c.self.view_is ∙ ap (λ x. has c.args.self.now d || has x d) c.other.view_is
-
--- what holds anyway holds where there is a refusal
-on_err : {T E P : Type 0} (r : Result T E) → P → OnErr r P
-on_err (Ok x) p = tt
-on_err (Err e) p = p
-
-pub returns-in_err-dots-clause-unchanged : goal.returns-in_err-dots-clause-unchanged
-returns-in_err-dots-clause-unchanged g c = on_err c.from_residual.result (λ dot. refl)
-
-pub returns-in_err-dots-clause-as_it_was : goal.returns-in_err-dots-clause-as_it_was
-returns-in_err-dots-clause-as_it_was g c = on_err c.from_residual.result refl
-
-pub returns-in_err-both-clause-unchanged : goal.returns-in_err-both-clause-unchanged
-returns-in_err-both-clause-unchanged g c = on_err c.from_residual-in_err-both.result (λ dot. refl)
-
-pub returns-in_err-both-clause-as_it_was : goal.returns-in_err-both-clause-as_it_was
-returns-in_err-both-clause-as_it_was g c = on_err c.from_residual-in_err-both.result refl
-
-pub returns-in-Err-clause-unchanged : goal.returns-in-Err-clause-unchanged
-returns-in-Err-clause-unchanged g c = λ dot. refl
-
-pub returns-in-Err-clause-as_it_was : goal.returns-in-Err-clause-as_it_was
-returns-in-Err-clause-as_it_was g c = refl
 
 pub returns-in-Err-clause-err : goal.returns-in-Err-clause-err
 returns-in-Err-clause-err g c = c.in-Err.ensures.err

@@ -2,14 +2,14 @@ use Rattle.std.proofs.Common.{◌∙◌, ap, sym, subst}
 use Rattle.std.specs.Prelude.{IsTrue}
 use Rattle.causal_context.specs.Context.{has, is_known}
 use Rattle.live_map.specs.Index.{names}
-use Rattle.trie_map.proofs.Written.{on_ok}
+use Rattle.std.proofs.lemmas.Result.{on_ok_weaker}
 use Rattle.live_map.proofs.Changing.{by_known}
 use Rattle.live_map.proofs.index.Index.add_dots.Goals as goal
 
 -- the last call's result is the function's
 pub returns-clause-there : goal.returns-clause-there
 returns-clause-there g c =
-    on_ok c.add_cloud.result
+    on_ok_weaker c.add_cloud.result
     (λ there d h fresh.
     by_known d (IsTrue (names c.add_cloud.new.self d c.args.key.now)) c.vector.result.now c.cloud.result.now
     (λ k e below name one up. c.add_cloud.ensures.kept d c.args.key.now (c.in_ok-add_vector.ensures.there k e below d name one up fresh))

@@ -1,4 +1,5 @@
 use Rattle.std.proofs.Common.{◌≡◌, ◌||◌, ◌∙◌, ap, sym, subst}
+use Rattle.std.proofs.lemmas.Result.{IfOk-weaker}
 use Rattle.std.specs.Prelude.{IsSome, is_some}
 use Rattle.causal_context.specs.Context.{has}
 use Rattle.causal_join.proofs.Pairs.{inside-same, inside-has, inside-join}
@@ -8,7 +9,6 @@ use Rattle.dots.specs.Bytes.{bytes_cmp}
 use Rattle.dots.specs.Dot.{DotValue}
 use Rattle.op_model.specs.State.{join, Same}
 use Rattle.trie_map.specs.Keyed.{at_keys}
-use Rattle.trie_map.proofs.Written.{if_ok}
 use Rattle.live_map.specs.Index.{IsIndexed}
 use Rattle.live_map.proofs.Changing.{indexed_join, held_named, IsIndexedNew}
 use Rattle.live_map.proofs.live.Live.prepare_at.Goals as goal
@@ -25,7 +25,7 @@ new-requires g c =
     (inside-has both.at (has c.in_ok-context.context) both.has known (inside-join g.S.DotStore.greater own theirs c.self.invariant.0 c.context.ensures.inside))
 
 pub returns-clause-hash : goal.returns-clause-hash
-returns-clause-hash g c = if_ok c.new.result (λ next is. ap (λ n. n.0.0) is ∙ c.in-Ok.ensures.hash ∙ ap (λ live. live.0.0.0) c.self.view_is) c.new.ensures.ok
+returns-clause-hash g c = IfOk-weaker c.new.result _ _ (λ next is. ap (λ n. n.0.0) is ∙ c.in-Ok.ensures.hash ∙ ap (λ live. live.0.0.0) c.self.view_is) c.new.ensures.ok
 
 pub returns-clause-ok : goal.returns-clause-ok
 returns-clause-ok g c =
@@ -35,7 +35,7 @@ returns-clause-ok g c =
     c.in_ok-context.ensures.ok d ∙ ap (λ x. has c.self.inside.context d || has x d) c.context.ensures.value in
     let same = subst (λ live. Same (state_of at (c.in-Ok.store, c.in_ok-context.context)) (join g.S.DotStore.greater (state_of at live.0) theirs)) c.self.view_is
     (record { at = c.in-Ok.ensures.ok; has = known }) in
-    if_ok c.new.result (λ next is. subst (λ n. Same (state_of at n) (join g.S.DotStore.greater (state_of at c.args.self.now.0) theirs)) (sym is) same) c.new.ensures.ok
+    IfOk-weaker c.new.result _ _ (λ next is. subst (λ n. Same (state_of at n) (join g.S.DotStore.greater (state_of at c.args.self.now.0) theirs)) (sym is) same) c.new.ensures.ok
 
 pub returns-clause-fits : goal.returns-clause-fits
 returns-clause-fits g c =
@@ -52,4 +52,4 @@ returns-clause-fits g c =
     held_named at own c.entries.result.now new c.in_ok-name_all.ensures.there q found.0 found.1 place d
     (ap is_some (sym (c.entries.ensures.held q found.0 found.1 place d)) ∙ there) fresh in
     let fits = indexed_join g.S.DotStore.greater mine yours (at_keys at c.in-Ok.store) own (has delta.1) new c.in-Ok.ensures.ok had has_yours in
-    if_ok c.new.result (λ next is. subst (λ n. IsIndexed (at_keys at n.0) new) (sym is) fits) c.new.ensures.ok
+    IfOk-weaker c.new.result _ _ (λ next is. subst (λ n. IsIndexed (at_keys at n.0) new) (sym is) fits) c.new.ensures.ok

@@ -1,4 +1,5 @@
 use Rattle.std.proofs.Common.{◌≡◌, ◌∙◌, false, ap, sym, subst, ℕ, List}
+use Rattle.std.proofs.lemmas.Result.{IfOk-weaker}
 use Rattle.std.specs.Prelude.{IsTrue, IsSome}
 use Rattle.causal_context.specs.Context.{has}
 use Rattle.causal_join.proofs.Pairs.{inside-same, inside-has, inside-join}
@@ -6,7 +7,6 @@ use Rattle.causal_join.specs.Causal.{state_of}
 use Rattle.dots.specs.Dot.{DotValue}
 use Rattle.op_model.specs.State.{join, Same}
 use Rattle.trie_map.specs.Keyed.{at_keys}
-use Rattle.trie_map.proofs.Written.{if_ok}
 use Rattle.live_map.specs.Closing.{stores_of, ChangesOnlyAt}
 use Rattle.live_map.specs.Index.{IsIndexed, names, has_key}
 use Rattle.live_map.proofs.Unchanged.{opened_only, indexed_only}
@@ -30,7 +30,7 @@ new-requires g c =
     (inside-has both.at (has c.in_ok-next.next) both.has (λ d. c.in_ok-next.ensures.ok d) (inside-join g.S.DotStore.greater own theirs c.self.invariant.0 c.requires.inside))
 
 pub returns-clause-hash : goal.returns-clause-hash
-returns-clause-hash g c = if_ok c.new.result (λ next is. ap (λ n. n.0.0) is ∙ c.in-Ok.ensures.hash ∙ ap (λ live. live.0.0.0) c.self.view_is) c.new.ensures.ok
+returns-clause-hash g c = IfOk-weaker c.new.result _ _ (λ next is. ap (λ n. n.0.0) is ∙ c.in-Ok.ensures.hash ∙ ap (λ live. live.0.0.0) c.self.view_is) c.new.ensures.ok
 
 pub returns-clause-ok : goal.returns-clause-ok
 returns-clause-ok g c =
@@ -38,7 +38,7 @@ returns-clause-ok g c =
     let theirs = state_of at (stores_of c.args.built.now, c.args.context.now) in
     let same = subst (λ live. Same (state_of at (c.in-Ok.store, c.in_ok-next.next)) (join g.S.DotStore.greater (state_of at live.0) theirs)) c.self.view_is
     (record { at = c.in-Ok.ensures.ok; has = λ d. c.in_ok-next.ensures.ok d }) in
-    if_ok c.new.result (λ next is. subst (λ n. Same (state_of at n) (join g.S.DotStore.greater (state_of at c.args.self.now.0) theirs)) (sym is) same) c.new.ensures.ok
+    IfOk-weaker c.new.result _ _ (λ next is. subst (λ n. Same (state_of at n) (join g.S.DotStore.greater (state_of at c.args.self.now.0) theirs)) (sym is) same) c.new.ensures.ok
 
 pub returns-clause-fits : goal.returns-clause-fits
 returns-clause-fits g c =
@@ -52,4 +52,4 @@ returns-clause-fits g c =
     let there = subst (λ keys. (q : List ℕ) → IsTrue (has_key keys q) → (place : _) (d : DotValue) → IsSome (at_keys at (stores_of c.args.built.now) (q, place) d) → own d ≡ false → IsTrue (names new d q)) c.keys.ensures c.in_ok-name_built.ensures.there in
     let fits = indexed_only g.S.DotStore.greater mine (at_keys at (stores_of c.args.built.now)) (at_keys at c.in-Ok.store) own (has c.args.context.now) new c.touch_since.new.keys
     only c.in-Ok.ensures.ok had there in
-    if_ok c.new.result (λ next is. subst (λ n. IsIndexed (at_keys at n.0) new) (sym is) fits) c.new.ensures.ok
+    IfOk-weaker c.new.result _ _ (λ next is. subst (λ n. IsIndexed (at_keys at n.0) new) (sym is) fits) c.new.ensures.ok

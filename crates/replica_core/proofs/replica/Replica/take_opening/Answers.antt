@@ -1,4 +1,5 @@
 use Rattle.std.proofs.Common.{refl, sym, ap, ◌∙◌, subst, arith}
+use Rattle.std.proofs.lemmas.Result.{IfOk-weaker}
 use Rattle.std.proofs.lemmas.Option.{slice_get_within, get_or_from_slice_get}
 use Rattle.delta_ops.specs.LiveMap.{live_state}
 use Rattle.prefix_digest.specs.MapOf.{IsMapOf}
@@ -17,7 +18,6 @@ use Rattle.replica_core.specs.Stepping.{mails_of}
 use Rattle.replica_core.specs.Tied.{IsFirstAt}
 use Rattle.replica_core.proofs.Asks.{told_by}
 use Rattle.replica_core.proofs.MappedPair.{mapped}
-use Rattle.replica_core.proofs.Meant.{if_ok}
 use Rattle.replica_core.proofs.Takes.{no_opening, opening_can, opening_stepped}
 use Rattle.replica_core.proofs.Posted.{posted_none}
 use Rattle.replica_core.proofs.replica.Replica.take_opening.Goals as goal
@@ -54,7 +54,7 @@ returns-clause-ok g c =
     let first = subst (λ (r : ReplicaValue _). IsFirstAt (λ (b : AskerValue _). same_session b.session c.args.session) r.sessions c.in-Some.place found.0) c.self.view_is found.1 in
     let is = subst (IsReplica g.H.PathHash.hash_of) c.self.view_is c.self.invariant in
     let map_is = subst (λ (r : ReplicaValue _). IsMapOf r.live.0.0.1 (live_state r.live.0)) c.self.view_is (mapped c.self.inside.live.0 c.store.result.now c.store.ensures.value c.store.ensures.filled c.store.ensures.canonical) in
-    if_ok c.take_turn.result
+    IfOk-weaker c.take_turn.result _ _
     (λ told came. opening_stepped g.H.PathHash.hash_of now is c.args.session c.in-Some.place found.0 first c.in_ok-turn.turn.next (step_of c.in_ok-turn.turn.step)
     (subst (λ (a : AskerValue _). IsFrom a c.in_ok-turn.turn.next) here c.in_ok-turn.ensures.from) (message_of c.args.message.now) c.requires.0 c.requires.1 c.requires.2
     (c.in_ok-turn.ensures.ok ∙ ap (λ (a : AskerValue _). turning.on_opening (g.H.PathHash.hash_of a.hash) (asker_state a) (message_of c.args.message.now)) here)

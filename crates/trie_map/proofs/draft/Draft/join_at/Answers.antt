@@ -2,7 +2,8 @@ use Rattle.std.proofs.Common.{ap, ◌∙◌, refl}
 use Rattle.std.specs.FinMap as finite
 use Rattle.causal_context.specs.Context.{has}
 use Rattle.dot_store.specs.Store.{HasNothing}
-use Rattle.trie_map.proofs.Written.{on_ok, on_err, each_remove, each_after_insert, joins_kept, joins_cut, joins_put}
+use Rattle.std.proofs.lemmas.Result.{on_err_weaker, on_ok_weaker}
+use Rattle.trie_map.proofs.Written.{each_remove, each_after_insert, joins_kept, joins_cut, joins_put}
 use Rattle.trie_map.proofs.draft.Draft.join_at.Goals as goal
 
 pub returns-then-same-clause-ok : goal.returns-then-same-clause-ok
@@ -28,8 +29,8 @@ invariant_of-self-in-Ok g c =
     let new = c.insert.new.self.map in
     let key = c.in-Ok.key in
     let both = c.in_ok-both.both in
-    let put = on_ok c.insert.result (λ e. ap (λ t. t.map) e) c.insert.ensures.ok in
-    let stayed = on_err c.insert.result (λ e. ap (λ t. t.map) e) c.insert.ensures.same in (
+    let put = on_ok_weaker c.insert.result (λ e. ap (λ t. t.map) e) c.insert.ensures.ok in
+    let stayed = on_err_weaker c.insert.result (λ e. ap (λ t. t.map) e) c.insert.ensures.same in (
       each_after_insert (λ s. HasNothing (g.S.DotStore.at s) → ⊥) c.insert.result old new key both c.self.invariant.0
           (λ h. absurd (cc (c.if-is_empty.false, c.is_empty.ensures.nothing.1 h))) put stayed,
       each_after_insert g.S.DotStore.canonical c.insert.result old new key both c.self.invariant.1 c.is_empty.ensures.canonical put stayed,
@@ -37,7 +38,7 @@ invariant_of-self-in-Ok g c =
 
 pub returns-in-Ok-clause-ok : goal.returns-in-Ok-clause-ok
 returns-in-Ok-clause-ok g c =
-    on_ok c.insert.result
+    on_ok_weaker c.insert.result
     (λ e. joins_put g.S.DotStore.at g.S.DotStore.greater c.args.mine.now (has c.args.own.now) c.args.yours.now (has c.args.theirs.now) c.in_ok-both.both c.in_ok-both.ensures.ok
     c.args.self.now.1 c.insert.new.self.map c.args.key.now
     (ap (λ t. t.map) e ∙ (λ i. finite.insert (c.self.view_is i).1 (c.in-Ok.ensures.ok i) c.in_ok-both.both)))

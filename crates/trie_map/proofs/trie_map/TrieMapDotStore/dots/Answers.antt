@@ -22,17 +22,17 @@ loop-store-preserved g c =
     let at = g.S.DotStore.at in
     let map = c.args.self.now in
     let Had = λ (s : g.row.S.Denot). (d : DotValue) → HoldsDot (at s) d → IsTrue (has c.loop-store.dots d) in
-    let Has = λ (s : g.row.S.Denot). (d : DotValue) → HoldsDot (at s) d → IsTrue (has c.union.new.self d) in
+    let Has = λ (s : g.row.S.Denot). (d : DotValue) → HoldsDot (at s) d → IsTrue (has c.in_ok-both.both d) in
     let mid = has c.loop-store.dots in
     let more = has c.in_ok-more.more in
-    let new = has c.union.new.self in
+    let new = has c.in_ok-both.both in
     let key = c.in-Some.field-0-0.now in
     let store = c.in-Some.store.now in
     let there = visits_next map.1 c.loop-store.store-iterator c.next.new.self key store (Reached map.1 Had) c.loop-store.invariant.0 c.in-Some.ensures.steps in (
       reached_more map.1 Had Has c.loop-store.store-iterator c.next.new.self key store c.loop-store.invariant.0 c.in-Some.ensures.steps
-          (λ s was d held. union_keeps mid more new c.in_ok-union.ensures.ok d (was d held))
-          (union_adds mid more new c.in_ok-union.ensures.ok (λ d held. c.in_ok-more.ensures.all held.0 d held.1)),
-      λ d h. ⊎_elim (λ was. c.loop-store.invariant.1 d was) (λ held. holds_of at map key store there d held) (union_only mid more new c.in_ok-union.ensures.ok c.in_ok-more.ensures.only d h),
+          (λ s was d held. union_keeps mid more new c.in_ok-both.ensures.ok d (was d held))
+          (union_adds mid more new c.in_ok-both.ensures.ok (λ d held. c.in_ok-more.ensures.all held.0 d held.1)),
+      λ d h. ⊎_elim (λ was. c.loop-store.invariant.1 d was) (λ held. holds_of at map key store there d held) (union_only mid more new c.in_ok-both.ensures.ok c.in_ok-more.ensures.only d h),
     )
 
 pub returns-clause-only : goal.returns-clause-only
