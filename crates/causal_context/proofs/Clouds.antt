@@ -45,13 +45,13 @@ pub in_cloud_at : (ds : List DotValue) (i : ℕ) (d : DotValue) → i < length d
 in_cloud_at ds i d l is = list_any_at (same_dot d) ds i d l (ap (same_dot d) (sym is) ∙ same_dot-refl d)
 
 -- the dots that pass a test
-in_cloud-filter : (p : DotValue → Bool) (ds : List DotValue) (d : DotValue) → in_cloud (filter p ds) d ≡ (p d && in_cloud ds d)
+pub in_cloud-filter : (p : DotValue → Bool) (ds : List DotValue) (d : DotValue) → in_cloud (filter p ds) d ≡ (p d && in_cloud ds d)
 in_cloud-filter p ds d = any-filter_same (same_dot d) p (p d) (λ k t. ap p (sym (same_from_test d k t))) ds
 
 between_by : (a b m n e : ℕ) → (not (is_lt (ordering_then (nat_cmp b a) (nat_cmp m (n + 1)))) && not (is_gt (ordering_then (nat_cmp b a) (nat_cmp m e)))) ≡ (eqb a b && (ltb n m && leb m e))
 between_by a b m n e = grind (arith, nat_tests)
 
-and_turned : (a b : Bool) → (not a && b) ≡ (b && not a)
+pub and_turned : (a b : Bool) → (not a && b) ≡ (b && not a)
 and_turned true true = refl
 and_turned true false = refl
 and_turned false true = refl
@@ -146,7 +146,7 @@ added_more seen x base old new h k d =
     h d ∙ ap (λ b. same_dot x d || b) (k d) ∙ more_by (base d) (in_cloud seen d) (same_dot x d)
     ∙ ap (λ b. base d || (in_cloud seen d || b)) (same_dot-comm x d) ∙ ap (λ b. base d || b) (sym (in_cloud-push seen x d))
 
-or_cases : (P : Type 0) (a b : Bool) → IsTrue (a || b) → (IsTrue a → P) → (IsTrue b → P) → P
+pub or_cases : (P : Type 0) (a b : Bool) → IsTrue (a || b) → (IsTrue a → P) → (IsTrue b → P) → P
 or_cases P true b h left right = left refl
 or_cases P false b h left right = right h
 

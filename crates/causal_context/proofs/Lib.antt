@@ -5,3 +5,5 @@ pub mod Clouds
 pub mod Known
 pub mod Forms
 pub mod Equality
+pub mod Taken
+pub mod Growths

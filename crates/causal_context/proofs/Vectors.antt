@@ -1,6 +1,6 @@
 -- Version vectors, read as functions of the name.
 use Rattle.std.proofs.Common.{◌≡◌, ◌≢◌, ℕ, ◌≤◌, Bool, true, false, cond, List, [], ◌∷◌, ◌++◌, Option, Some, None, refl, sym, ap, subst, ◌∙◌, ◌||◌, arith, eqb, max, rules}
-use Rattle.std.specs.Prelude.{IsTrue, is_some, unwrap_or}
+use Rattle.std.specs.Prelude.{IsTrue, IsSome, is_some, unwrap_or}
 use Rattle.std.specs.Ordering.{is_eq, nat_cmp}
 use Rattle.std.specs.declared.cmp.Ordering.{Ordering}
 use Rattle.std.specs.declared.cmp.Ordering.TheVariants.{Less, Equal, Greater}
@@ -34,6 +34,32 @@ no_zero_by false number o l h e = h e
 pub HasNoZero-insert : (old new : List (ℕ × ℕ)) (name number : ℕ) → 1 ≤ number → ((q : ℕ) → lookup (is_at (nat_cmp q)) new ≡ cond (is_eq (nat_cmp name q)) (Some number) (lookup (is_at (nat_cmp q)) old))
     → HasNoZero old → HasNoZero new
 HasNoZero-insert old new name number l h z q e = no_zero_by (is_eq (nat_cmp name q)) number (lookup (is_at (nat_cmp q)) old) l (z q) (sym (h q) ∙ e)
+
+-- an entry that is taken out
+pub known_up_to-remove : (old new : List (ℕ × ℕ)) (name q : ℕ) → lookup (is_at (nat_cmp q)) new ≡ cond (is_eq (nat_cmp name q)) None (lookup (is_at (nat_cmp q)) old)
+    → known_up_to new q ≡ cond (eqb name q) 0 (known_up_to old q)
+known_up_to-remove old new name q h =
+    ap (λ o. unwrap_or o 0) h ∙ at_name (eqb name q) (is_eq-nat_cmp name q)
+  where
+    at_name : (b : Bool) → is_eq (nat_cmp name q) ≡ b → unwrap_or (cond (is_eq (nat_cmp name q)) None (lookup (is_at (nat_cmp q)) old)) 0 ≡ cond b 0 (known_up_to old q)
+    at_name true e = rw e refl
+    at_name false e = rw e refl
+
+no_zero_without : (b : Bool) (o : Option ℕ) → o ≢ Some 0 → cond b None o ≢ Some 0
+no_zero_without true o h e = absurd (cc e)
+no_zero_without false o h e = h e
+
+pub HasNoZero-remove : (old new : List (ℕ × ℕ)) (name : ℕ) → ((q : ℕ) → lookup (is_at (nat_cmp q)) new ≡ cond (is_eq (nat_cmp name q)) None (lookup (is_at (nat_cmp q)) old))
+    → HasNoZero old → HasNoZero new
+HasNoZero-remove old new name h z q e = no_zero_without (is_eq (nat_cmp name q)) (lookup (is_at (nat_cmp q)) old) (z q) (sym (h q) ∙ e)
+
+-- a name whose first dot is known has an entry
+is_some_by : (o : Option ℕ) → 1 ≤ unwrap_or o 0 → IsSome o
+is_some_by None l = absurd (omega arith)
+is_some_by (Some n) l = refl
+
+pub found_from_known : (es : List (ℕ × ℕ)) (name : ℕ) → 1 ≤ known_up_to es name → IsSome (lookup (is_at (nat_cmp name)) es)
+found_from_known es name l = is_some_by (lookup (is_at (nat_cmp name)) es) l
 
 pub HasNoZero-same : (old new : List (ℕ × ℕ)) → new ≡ old → HasNoZero old → HasNoZero new
 HasNoZero-same old new e z = subst HasNoZero (sym e) z

@@ -4,3 +4,4 @@ pub mod Code
 pub mod Canonical
 pub mod Run
 pub mod Equal
+pub mod Growth

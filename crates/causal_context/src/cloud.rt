@@ -13,7 +13,7 @@ use ordered_list::{OrderedList, OrderedSet};
 use std::alloc::Allocator;
 
 // The dot of this name and number.
-fn dot_at(name: Name, number: u64) -> Dot
+pub(crate) fn dot_at(name: Name, number: u64) -> Dot
     requires { 1 ≤ number }
     ensures { result ≡ record { name = name; number = number } }
 {

@@ -1,11 +1,14 @@
-ghost use Rattle.std.specs.Prelude.{◌≡◌, ◌^◌, ◌-◌, ◌↔◌, ◌||◌, ◌&&◌, false, [], IsTrue, IsNone, IsSome, IfSome, IfOk, OnOk, OnErr, IsOkUnless};
+ghost use Rattle.std.specs.Prelude.{◌≡◌, ◌+◌, ◌^◌, ◌-◌, ◌↔◌, ◌||◌, ◌&&◌, not, false, [], IsTrue, IsNone, IsSome, IfSome, IfOk, OnOk, OnErr, IsOkUnless};
 ghost use Rattle.std.specs.Cmp.{partial_equiv_from_equiv};
 ghost use Rattle.dots.specs.Dot.{DotValue, same_dot};
-ghost use Rattle.causal_context.specs.Context.{has, is_known, known_up_to, in_cloud, HasNone, HasSame, Includes, IsGreatest, IsNext};
+ghost use Rattle.causal_context.specs.Context.{ContextValue, has, is_known, known_up_to, in_cloud, HasNone, HasSame, Includes, IsGreatest, IsNext};
 ghost use Rattle.causal_context.specs.Canonical.{IsCanonical, HasNoZero};
 ghost use Rattle.causal_context.specs.Equal.{same_form, same_form_equiv};
+ghost use Rattle.causal_context.specs.Growth.{IsGrowth, IsGrowthAmong, is_up_to};
 
 use crate::adding::add_to;
+use crate::growth::Growth;
+use crate::taking::take_from;
 use crate::{cloud, vector};
 use dots::{Dot, Name, Refusal};
 use ordered_list::{OrderedList, OrderedSet};
@@ -132,6 +135,78 @@ impl<A: Allocator + Copy> Context<A> {
         true
     }
 
+    /// Which dots of the other are not in this one: none, just one, or some. Where there is just one, it may
+    /// still answer some: an entry of the other that is above the one here by more than 1 is not looked into.
+    /// Takes no memory, and time in the number of names and cloud dots of the other, each times that of `contains` here.
+    pub fn growth(&self, other: &Context<A>) -> Growth
+        ensures { IsGrowth self.now other.now result }
+    {
+        let below = self.growth_by_vector(other);
+        let apart = self.growth_by_cloud(other);
+        below.and(apart)
+    }
+
+    // What is lacking of the dots of the other's vector.
+    fn growth_by_vector(&self, other: &Context<A>) -> Growth
+        ensures { IsGrowthAmong (has self.now) (has other.now) (is_known other.now.vector []) result }
+    {
+        let mut growth = Growth::Nothing;
+        for (name, number) in other.vector.entries() {
+            growth = growth.and(self.growth_by_entry(*name, *number));
+        }
+        growth
+    }
+
+    // What is lacking of the dots of this name up to the number.
+    fn growth_by_entry(&self, name: Name, number: u64) -> Growth
+        ensures { IsGrowthAmong (has self.now) (is_up_to name number) (is_up_to name number) result }
+    {
+        let mine = vector::known_up_to(&self.vector, name);
+        if number <= mine {
+            return Growth::Nothing;
+        }
+        if number - mine > 1 {
+            return Growth::More;
+        }
+        Growth::One(cloud::dot_at(name, number))
+    }
+
+    // What is lacking of the dots of the other's cloud.
+    fn growth_by_cloud(&self, other: &Context<A>) -> Growth
+        ensures { IsGrowthAmong (has self.now) (has other.now) (in_cloud other.now.cloud) result }
+    {
+        let mut growth = Growth::Nothing;
+        for dot in other.cloud.items() {
+            growth = growth.and(self.growth_by_dot(*dot));
+        }
+        growth
+    }
+
+    // Whether the dot is lacking.
+    fn growth_by_dot(&self, dot: Dot) -> Growth
+        ensures { IsGrowthAmong (has self.now) (same_dot dot) (same_dot dot) result }
+    {
+        if self.contains(dot) {
+            return Growth::Nothing;
+        }
+        Growth::One(dot)
+    }
+
+    /// Whether the dot of this name and the number above it is in the context. Takes time as `contains` does, and no memory.
+    pub fn contains_above(&self, dot: Dot) -> bool
+        ensures above { result ≡ has self.now (record { name = dot.name; number = dot.number + 1 }) }
+        ensures canonical { IsCanonical self.now }
+    {
+        if dot.number() < vector::known_up_to(&self.vector, dot.name()) {
+            return true;
+        }
+        if dot.number() == u64::MAX {
+            return false;
+        }
+        self.cloud
+            .contains(&cloud::dot_at(dot.name(), dot.number() + 1))
+    }
+
     /// The version vector: each name that has an entry, in order, with the number up to which all its dots are
     /// in the context. Copies nothing.
     pub fn vector(&self) -> &[(Name, u64)]
@@ -180,6 +255,20 @@ impl<A: Allocator + Copy> Context<A> {
             return Ok(());
         }
         add_to(&mut self.vector, &mut self.cloud, dot)
+    }
+
+    /// Takes the dot out, where the one above it is not in the context: after `add` this gives back what was
+    /// there before. It is never refused and takes no memory. Takes time as `contains` does, and writes one number where the
+    /// dot is the entry of its name. An entry of 1 that goes moves those of greater names, and a dot of the
+    /// cloud is taken out by a pass over the cloud.
+    pub fn take_out(&mut self, dot: Dot)
+        requires there { IsTrue (has self.old dot) }
+        requires last { has self.old (record { name = dot.name; number = dot.number + 1 }) ≡ false }
+        ensures taken { (d : DotValue) → has self.new d ≡ (has self.old d && not (same_dot dot d)) }
+        ensures restored { (context : ContextValue) → IsCanonical context → has context dot ≡ false
+            → ((d : DotValue) → has self.old d ≡ (same_dot dot d || has context d)) → self.new ≡ context }
+    {
+        take_from(&mut self.vector, &mut self.cloud, dot);
     }
 
     /// The union of the two sets, on this allocator. Takes memory in the number of names and of the dots in

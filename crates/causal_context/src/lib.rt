@@ -5,8 +5,11 @@
 mod adding;
 mod cloud;
 mod context;
+mod growth;
 mod laws;
+mod taking;
 mod vector;
 
 pub use context::Context;
+pub use growth::Growth;
 pub use laws::{equal_sets_are_one, equality_is_that_of_sets};

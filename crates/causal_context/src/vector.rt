@@ -1,5 +1,5 @@
 // The version vector: for each name the number up to which all its dots are known.
-ghost use Rattle.std.specs.Prelude.{◌≡◌, ℕ, ◌≤◌, ◌↔◌, max, unwrap_or, IsTrue, IfOk, IsOkUnless};
+ghost use Rattle.std.specs.Prelude.{◌≡◌, ℕ, ◌≤◌, ◌-◌, ◌==◌, ◌↔◌, cond, max, unwrap_or, IsTrue, IfOk, IsOkUnless};
 ghost use Rattle.std.specs.Option.{option_copied};
 ghost use Rattle.std.specs.Ordering.{nat_cmp};
 ghost use Rattle.std.specs.List.Sorted.{IsStrictlySortedBy};
@@ -7,7 +7,7 @@ ghost use Rattle.std.specs.Map.{keys_of};
 ghost use Rattle.causal_context.specs.Context.{known_up_to};
 ghost use Rattle.causal_context.specs.Canonical.{HasNoZero};
 
-use dots::{Name, Refusal};
+use dots::{Dot, Name, Refusal};
 use ordered_list::{Merge, OrderedList};
 use std::alloc::Allocator;
 
@@ -54,6 +54,24 @@ pub(crate) fn merged<A: Allocator + Copy>(
         both.insert(*name, greater_of(x, y))?;
     }
     Ok(both)
+}
+
+// Lowers the entry by one, which takes it out of the vector where it is 1.
+pub(crate) fn lower<A: Allocator + Copy>(vector: &mut OrderedList<Name, u64, A>, dot: Dot)
+    requires last { dot.number ≡ known_up_to vector.old dot.name }
+    requires no_zero { HasNoZero vector.old }
+    requires ascend { IsStrictlySortedBy nat_cmp (keys_of vector.old) }
+    ensures lowered { (name : ℕ) → known_up_to vector.new name
+        ≡ cond (dot.name == name) (dot.number - 1) (known_up_to vector.old name) }
+    ensures no_zero { HasNoZero vector.new }
+    ensures ascend { IsStrictlySortedBy nat_cmp (keys_of vector.new) }
+{
+    let name = dot.name();
+    if dot.number() == 1 {
+        vector.remove(&name);
+        return;
+    }
+    vector.replace(&name, dot.number() - 1);
 }
 
 // The greater of the two numbers, one that is not there counting as 0.

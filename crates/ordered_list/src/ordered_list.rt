@@ -86,6 +86,19 @@ impl<K: Ord + Drop, V: Drop, A: Allocator + Copy> OrderedList<K, V, A> {
         }
     }
 
+    /// Puts the value at the key in place of the one that is there. Takes the time of a look-up, and no memory.
+    pub fn replace(&mut self, key: &K, value: V)
+        requires { IsSome (value_at K.cmp self.old key.now) }
+        ensures entries { self.new ≡ insert_entry K.cmp self.old key.now value }
+        ensures updates { (q : K)
+            → value_at K.cmp self.new q ≡ cond (is_eq (K.cmp key.now q)) (Some value) (value_at K.cmp self.old q) }
+    {
+        match place_of(&self.items, key) {
+            Ok(place) => self.items[place].1 = value,
+            Err(_) => unreachable!(),
+        }
+    }
+
     /// Takes the entry of the key out, if there is one. Takes time in the number of greater keys, besides that
     /// of a look-up, and no memory.
     pub fn remove(&mut self, key: &K)
