@@ -58,6 +58,15 @@ fn shared_list<V: Drop, A: Allocator + Copy>(
 }
 
 impl<V: Drop, M: Summary<V>, A: Allocator + Copy> Node<V, M, A> {
+    // Has this generation write the node, which no other owner has.
+    pub fn restamp(&mut self, generation: u64)
+        requires { node_stamp self.old ≤ generation }
+        ensures same { stands_for self.new ≡ stands_for self.old }
+        ensures stamp { node_stamp self.new ≡ generation }
+    {
+        self.stamp = generation;
+    }
+
     // The same node in a later generation, without its summary. What stands below it is shared.
     pub fn copy(&self, alloc: A, generation: u64) -> Result<Node<V, M, A>, Refusal>
         requires { node_stamp self.now ≤ generation }

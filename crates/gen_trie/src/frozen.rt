@@ -1,4 +1,4 @@
-ghost use Rattle.std.specs.Prelude.{◌≡◌, ◌↔◌, ℕ, List, length, true, OnOk, OnErr, IfOk, IsOkUnless};
+ghost use Rattle.std.specs.Prelude.{◌≡◌, ◌↔◌, ℕ, List, length, true, IfSome, OnOk, OnErr, IsOk, IfOk, IsOkUnless};
 ghost use Rattle.std.specs.declared.option.Option.TheVariants.{None};
 ghost use Rattle.std.specs.Option.{option_map};
 ghost use Rattle.std.specs.FinMap as finite;
@@ -8,6 +8,7 @@ ghost use Rattle.hash_path.specs.Summary.{summary_at};
 ghost use Rattle.gen_trie.specs.Shown.{trie_shown, generation_after};
 ghost use Rattle.dots.specs.declared.refusal.Refusal.TheVariants.{OutOfMemory};
 
+use crate::entry::Entry;
 use crate::iter::Iter;
 use crate::summary::Summary;
 use crate::trie::GenTrie;
@@ -15,13 +16,14 @@ use dots::{Key, Refusal};
 use hash_path::{PathHash, Prefix};
 use std::alloc::{Allocator, Global};
 use std::marker::Model;
+use std::sync::Arc;
 
 /// A finite map from keys to values that is only read. It shares its nodes with the tries that it comes from, and stays
 /// what it is whatever they write: each node that they write is copied first. A call at a key with the hash of others goes
 /// through these, as that of a `GenTrie` does.
 #[derive(Drop)]
 pub struct Frozen<V, M: Summary<V>, H: PathHash, A: Allocator = Global> {
-    // It is never written.
+    // It is written by a `Written` alone, which owns it: nodes that another map shares are copied first.
     trie: GenTrie<V, M, H, A>,
 }
 
@@ -107,6 +109,27 @@ impl<V, M: Summary<V>, H: PathHash, A: Allocator + Copy> Frozen<V, M, H, A> {
 }
 
 impl<V: Drop, M: Summary<V>, H: PathHash, A: Allocator + Copy> Frozen<V, M, H, A> {
+    // Puts the value at the key, as `GenTrie::insert` does. Its only refusal is OutOfMemory.
+    pub(crate) fn insert(&mut self, key: Key<A>, value: V) -> Result<(), Refusal>
+        ensures ok { OnOk result (self.new ≡ record self.old { map = finite.insert self.old.map key value; sealed = self.new.sealed }) }
+        ensures same { OnErr result (self.new ≡ record self.old { sealed = self.new.sealed }) }
+        ensures err { IsOkUnless result OutOfMemory }
+    {
+        self.trie.insert(key, value)
+    }
+
+    // Takes the key out, as `GenTrie::remove` does. Its only refusal is OutOfMemory.
+    pub(crate) fn remove(&mut self, key: &Key<A>) -> Result<Option<Arc<Entry<V, A>, A>>, Refusal>
+        ensures value { IfOk result (λ taken. option_map (λ entry. entry.value.value) taken ≡ finite.get self.old.map key.now) }
+        ensures absent { finite.get self.old.map key.now ≡ None → IsOk result }
+        ensures key { IfOk result (λ taken. IfSome taken (λ entry. entry.value.key ≡ key.now)) }
+        ensures ok { OnOk result (self.new ≡ record self.old { map = finite.remove self.old.map key.now; sealed = self.new.sealed }) }
+        ensures same { OnErr result (self.new ≡ record self.old { sealed = self.new.sealed }) }
+        ensures err { IsOkUnless result OutOfMemory }
+    {
+        self.trie.remove(key)
+    }
+
     /// The same map. Copies no node: it takes a reference count, and is refused only where that is full.
     /// Its only refusal is OutOfMemory.
     pub fn copy(&self) -> Result<Frozen<V, M, H, A>, Refusal>

@@ -18,6 +18,7 @@ mod summary;
 mod summing;
 mod take;
 mod trie;
+mod written;
 
 pub use children::Children;
 pub use entry::Entry;
@@ -26,3 +27,4 @@ pub use iter::Iter;
 pub use no_summary::NoSummary;
 pub use summary::Summary;
 pub use trie::GenTrie;
+pub use written::Written;

@@ -158,10 +158,9 @@ fn put_shared<V: Drop, M: Summary<V>, A: Allocator + Copy>(
     ensures stamp { node_stamp node.new.value ≤ generation }
     ensures err { IsOkUnless result OutOfMemory }
 {
-    if node.stamp == generation && generation != u64::MAX {
-        if let Some(own) = Arc::get_mut(node) {
-            return put(own, alloc, generation, leaf);
-        }
+    if let Some(own) = Arc::get_mut(node) {
+        own.restamp(generation);
+        return put(own, alloc, generation, leaf);
     }
     let mut copy = node.copy(alloc, generation)?;
     let fresh = match put(&mut copy, alloc, generation, leaf) {

@@ -230,10 +230,9 @@ fn take_shared<V: Drop, M: Summary<V>, A: Allocator + Copy>(
     ensures stamp { node_stamp node.new.value ≤ generation }
     ensures err { IsOkUnless result OutOfMemory }
 {
-    if node.stamp == generation && generation != u64::MAX {
-        if let Some(own) = Arc::get_mut(node) {
-            return take(own, alloc, generation, hash, key);
-        }
+    if let Some(own) = Arc::get_mut(node) {
+        own.restamp(generation);
+        return take(own, alloc, generation, hash, key);
     }
     let mut copy = node.copy(alloc, generation)?;
     if let Err(refusal) = take(&mut copy, alloc, generation, hash, key) {

@@ -2,3 +2,4 @@ pub mod Visits
 pub mod Holding
 pub mod Written
 pub mod Copied
+pub mod Here

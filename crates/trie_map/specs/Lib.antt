@@ -1,3 +1,4 @@
 pub mod Keyed
 pub mod Joined
 pub mod Copied
+pub mod Here

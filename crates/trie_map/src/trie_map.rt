@@ -1,4 +1,4 @@
-ghost use Rattle.std.specs.Prelude.{◌≡◌, ◌↔◌, IfSome, IfOk, IsOkUnless, false};
+ghost use Rattle.std.specs.Prelude.{◌≡◌, ◌↔◌, IfSome, IfOk, OnOk, OnErr, IsOkUnless, false};
 ghost use Rattle.std.specs.FinMap as finite;
 ghost use Rattle.std.specs.Option.{option_copied};
 ghost use Rattle.causal_context.specs.Context.{has};
@@ -6,6 +6,7 @@ ghost use Rattle.dot_store.specs.Store.{HasNothing, HoldsSame, state_with};
 ghost use Rattle.dot_store.specs.Stores.{at_stores};
 ghost use Rattle.dots.specs.Bytes.{bytes_cmp};
 ghost use Rattle.op_model.specs.State.{join};
+ghost use Rattle.trie_map.specs.Here.{IsJoinHere, IsWritten};
 ghost use Rattle.trie_map.specs.Keyed.{at_keys, NoStoreIsEmpty, EachIsCanonical};
 
 use crate::copying::{copies, listed};
@@ -15,7 +16,7 @@ use crate::same::is_within;
 use causal_context::Context;
 use dot_store::{DotMap, DotStore};
 use dots::{Dot, Key, Refusal};
-use gen_trie::{Frozen, NoSummary, Summary};
+use gen_trie::{Frozen, NoSummary, Summary, Written};
 use hash_path::{Fnv1a, PathHash};
 use std::alloc::{Allocator, Global};
 use std::marker::Model;
@@ -31,7 +32,7 @@ pub struct TrieMap<
     H: PathHash = Fnv1a,
     A: Allocator + Copy = Global,
 > {
-    entries: Frozen<S, M, H, A>,
+    entries: Written<S, M, H, A>,
 }
 
 impl<S: DotStore<A>, M: Summary<S>, H: PathHash, A: Allocator + Copy> Model
@@ -55,7 +56,7 @@ impl<S: DotStore<A>, M: Summary<S>, H: PathHash, A: Allocator + Copy> TrieMap<S,
         ensures { result ≡ (hash, finite.empty) }
     {
         TrieMap {
-            entries: Frozen::new(alloc, hash),
+            entries: Written::new(alloc, hash),
         }
     }
 
@@ -65,7 +66,9 @@ impl<S: DotStore<A>, M: Summary<S>, H: PathHash, A: Allocator + Copy> TrieMap<S,
         requires canonical { EachIsCanonical S.canonical entries.map }
         ensures { result ≡ (entries.hash, entries.map) }
     {
-        TrieMap { entries }
+        TrieMap {
+            entries: Written::of(entries),
+        }
     }
 
     /// The store at the key, which is never an empty one. Touches eight nodes at most, and takes no memory.
@@ -91,7 +94,7 @@ impl<S: DotStore<A>, M: Summary<S>, H: PathHash, A: Allocator + Copy> TrieMap<S,
         ensures filled { NoStoreIsEmpty S.at result.now.map }
         ensures canonical { EachIsCanonical S.canonical result.now.map }
     {
-        &self.entries
+        self.entries.frozen()
     }
 
     /// The same map. Copies no node: it takes a reference count, and is refused only where that is full.
@@ -100,8 +103,61 @@ impl<S: DotStore<A>, M: Summary<S>, H: PathHash, A: Allocator + Copy> TrieMap<S,
         ensures ok { IfOk result (λ copy. copy ≡ self.now) }
         ensures err { IsOkUnless result Refusal.OutOfMemory }
     {
-        let entries = self.entries.copy()?;
-        Ok(TrieMap { entries })
+        let entries = self.entries.frozen().copy()?;
+        Ok(TrieMap {
+            entries: Written::of(entries),
+        })
+    }
+
+    /// The join of what stands at the key with another store, or None where that is what stands there. Takes time and memory in
+    /// both stores, as the join is made as a whole; where the two hold the same, time to compare them alone.
+    /// Its only refusal is OutOfMemory.
+    pub fn joined_at(
+        &self,
+        alloc: A,
+        key: &Key<A>,
+        own: &Context<A>,
+        yours: &S,
+        theirs: &Context<A>,
+    ) -> Result<Option<S>, Refusal>
+        ensures ok { IfOk result (IsJoinHere S.at S.greater (finite.get self.now.1 key.now) (has own.now) yours.now (has theirs.now)) }
+        ensures err { IsOkUnless result Refusal.OutOfMemory }
+    {
+        let empty = S::empty(alloc);
+        let mine = self.get(key).unwrap_or(&empty);
+        if mine.same(yours) {
+            return Ok(None);
+        }
+        let both = mine.join(alloc, own, yours, theirs)?;
+        if both.same(mine) {
+            drop(both);
+            return Ok(None);
+        }
+        Ok(Some(both))
+    }
+
+    /// Puts the store at the key, in place of what stood there, or takes the key out where the store is empty. A refused call
+    /// leaves the map as it was. Touches eight nodes at most, and copies those that another map shares; takes memory for the
+    /// entry besides, and for the nodes between two keys whose paths begin alike.
+    /// Its only refusal is OutOfMemory.
+    pub fn put(&mut self, alloc: A, key: &Key<A>, store: S) -> Result<(), Refusal>
+        ensures hash { self.new.0 ≡ self.old.0 }
+        ensures ok { OnOk result (IsWritten S.at self.old.1 self.new.1 key.now store) }
+        ensures unchanged { OnErr result (self.new ≡ self.old) }
+        ensures err { IsOkUnless result Refusal.OutOfMemory }
+    {
+        if store.is_empty() {
+            drop(store);
+            drop(self.entries.remove(key)?);
+            return Ok(());
+        }
+        match key.copy(alloc) {
+            Ok(key) => self.entries.insert(key, store),
+            Err(refusal) => {
+                drop(store);
+                Err(refusal)
+            }
+        }
     }
 
     /// Gives the nodes that keep no summary, as after a join, theirs. The map stays as it is, also where it is refused; a further
@@ -133,7 +189,7 @@ impl<S: DotStore<A>, M: Summary<S>, H: PathHash, A: Allocator + Copy> TrieMap<S,
         ensures ok { IfOk result (λ draft. draft ≡ self.now) }
         ensures err { IsOkUnless result Refusal.OutOfMemory }
     {
-        let entries = self.entries.thaw()?;
+        let entries = self.entries.frozen().thaw()?;
         Ok(Draft::of(entries))
     }
 }

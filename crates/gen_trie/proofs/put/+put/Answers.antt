@@ -74,12 +74,12 @@ put-returns-clause-fresh g t c =
     ]
 
 pub put_shared-returns-in-Some-clause-fresh : goal.put_shared-returns-in-Some-clause-fresh
-put_shared-returns-in-Some-clause-fresh g t c = if_ok_so c.put.result (λ fresh more. subst (λ n. HasMore fresh n.1.0 c.put.new.node.1.0) c.in-Some.ensures.value more) c.put.ensures.fresh
+put_shared-returns-in-Some-clause-fresh g t c = if_ok_so c.put.result (λ fresh more. subst (λ n. HasMore fresh n.1.0 c.put.new.node.1.0) c.in-Some.ensures.value (subst (λ n. HasMore fresh n.1 c.put.new.node.1.0) c.restamp.ensures.same more)) c.put.ensures.fresh
 
 pub put_shared-returns-clause-fresh : goal.put_shared-returns-clause-fresh
 put_shared-returns-clause-fresh g t c =
-    let same : c.if-deref-generation.node.value ≡ c.args.node.now.value = search rules in
-    let copied : stands_for c.in_ok-copy.copy ≡ stands_for c.args.node.now.value = ap stands_for c.in_ok-copy.ensures.ok ∙ ap stands_for (c.deref-2.ensures ∙ same) in
+    let same : c.deref.result.now ≡ c.args.node.now.value = search rules in
+    let copied : stands_for c.in_ok-copy.copy ≡ stands_for c.args.node.now.value = ap stands_for c.in_ok-copy.ensures.ok ∙ ap stands_for same in
     let made = ap (λ n. n.value) c.replace.ensures.after ∙ c.in_ok-copy-2.ensures.ok in
     subst (λ n. HasMore c.in-Ok.fresh n.1 c.replace.new.dest.value.1.0) copied
     (subst (λ n. HasMore c.in-Ok.fresh c.in_ok-copy.copy.1.0 n.1.0) (sym made) c.in-Ok.ensures.fresh)
