@@ -23,7 +23,7 @@ use Rattle.ordered_list.proofs.Places.{entry_found}
 use Rattle.trie_map.specs.Keyed.{TrieMapValue, at_keys}
 use Rattle.trie_map.specs.Joined.{IsJoinedAt, IsEitherAt}
 use Rattle.live_map.specs.Closing.{ChangesOnlyAt}
-use Rattle.live_map.specs.Index.{PlaceValue, place_cmp, names, has_key, IsIndexed, IsTouched, AreAllTouched}
+use Rattle.live_map.specs.Index.{PlaceValue, place_cmp, names, has_key, IsEnded, IsGone, IsIndexed, IsTouched, AreAllTouched}
 
 module _ {S P H : Type 0} (at : S → P → DotValue → Option H) where
   -- what a store that was looked up holds, where an empty one stands for none
@@ -158,3 +158,15 @@ none_stands o Q none h = absurd (cc (none, h))
 pub not_standing : {H : Type 0} (o : Option H) (known : Bool) → known ≡ false → (IsSome o → IsTrue known) → o ≡ None
 not_standing None known unknown h = refl
 not_standing (Some x) known unknown h = absurd (cc (unknown, h refl))
+
+-- ---- what a delta knows and does not hold stands nowhere in the join
+ended_none : {H : Type 0} (greater : H → H → H) (x : Option H) (own : Bool) (y : Option H) (theirs : Bool) → IsTrue theirs → y ≡ None → joined greater x own y theirs ≡ None
+ended_none greater (Some x) own None true t n = refl
+ended_none greater (Some x) own None false t n = absurd (cc t)
+ended_none greater (Some x) own (Some y) theirs t n = absurd (cc n)
+ended_none greater None own None theirs t n = refl
+ended_none greater None own (Some y) theirs t n = absurd (cc n)
+
+pub ended_gone : {P H : Type 0} (greater : H → H → H) (mine yours both : List ℕ × P → DotValue → Option H) (own theirs : DotValue → Bool) → HoldsSame both (join greater (state_with mine own) (state_with yours theirs)).at
+    → (e : PlaceValue) → IsEnded yours theirs e → IsGone both e
+ended_gone greater mine yours both own theirs same e is place = same (e.1, place) e.0 ∙ ended_none greater (mine (e.1, place) e.0) (own e.0) (yours (e.1, place) e.0) (theirs e.0) is.0 (is.1 place)

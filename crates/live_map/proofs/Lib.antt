@@ -3,3 +3,4 @@ pub mod Passing
 pub mod Places
 pub mod Changing
 pub mod Unchanged
+mod OneKey

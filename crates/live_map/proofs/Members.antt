@@ -1,6 +1,6 @@
 -- Which items a set has, once one was put in or taken out.
-use Rattle.std.proofs.Common.{◌≡◌, List, [], ◌∷◌, Bool, true, false, cond, refl, sym, ap, subst, inl, inr, ⊎_elim}
-use Rattle.std.specs.Prelude.{IsTrue, ◌⊎◌, ◌||◌}
+use Rattle.std.proofs.Common.{◌≡◌, List, [], ◌∷◌, Bool, true, false, cond, not, refl, sym, ap, subst, inl, inr, ⊎_elim, ◌∙◌, arith}
+use Rattle.std.specs.Prelude.{IsTrue, IfSome, ◌⊎◌, ◌||◌, ℕ, length, slice_get, Option, Some, None}
 use Rattle.std.specs.declared.cmp.Ordering.{Ordering}
 use Rattle.std.specs.declared.cmp.Ordering.TheVariants.{Less, Equal, Greater}
 use Rattle.std.specs.Ordering.{is_eq}
@@ -40,3 +40,17 @@ filtered p x xs false y e h there = ⊎_elim (λ is. let same = ap p is in absur
 pub among_filter : {K : Type 0} (p : K → Bool) (xs : List K) (x : K) → Among xs x → p x ≡ true → Among (filter p xs) x
 among_filter p [] x h e = absurd h
 among_filter p (y ∷ ys) x h e = filtered p x ys (p y) y refl e (⊎_elim (λ is. inl is) (λ rest. inr (among_filter p ys x rest e)) h)
+
+-- ---- a list of one item has no other
+pub one_among : {K : Type 0} (keys : List K) (k q : K) → length keys ≡ 1 → slice_get keys 0 ≡ Some k → Among keys q → q ≡ k
+one_among [] k q one first h = absurd h
+one_among (x ∷ []) k q one first h = let is : x ≡ k = cc in let same : x ≡ q = ⊎_elim (λ e. e) (λ no. absurd no) h in sym same ∙ is
+one_among (x ∷ y ∷ rest) k q one first h = absurd (omega (arith, one))
+
+pub if_some : {V : Type 0} (r : Option V) (Q R : V → Type 0) → ((v : V) → Q v → R v) → IfSome r Q → IfSome r R
+if_some None Q R f h = h
+if_some (Some v) Q R f h = f v h
+
+pub not_true : (b : Bool) → IsTrue (not b) → b ≡ false
+not_true true t = absurd (cc t)
+not_true false t = refl

@@ -31,6 +31,10 @@ IsIndexed {P} at places = (key : List ℕ) (place : P) (dot : DotValue) → IsSo
 abbrev pub IsGone : {P H : Type 0} → (List ℕ × P → DotValue → Option H) → PlaceValue → Type 0
 IsGone {P} at gone = (place : P) → at (gone.1, place) gone.0 ≡ None
 
+-- the place's dot is known, and nothing of it stands there
+abbrev pub IsEnded : {P H : Type 0} → (List ℕ × P → DotValue → Option H) → (DotValue → Bool) → PlaceValue → Type 0
+IsEnded {P} yours theirs ended = IsTrue (theirs ended.0) × ((place : P) → yours (ended.1, place) ended.0 ≡ None)
+
 -- the dot has the name of the first, and a number from that of the first to the last
 pub record IsInSpan (first : DotValue) (last : ℕ) (dot : DotValue) : Type 0 where
   pub name : dot.name ≡ first.name

@@ -1,3 +1,4 @@
 pub mod Index
 pub mod Live
 pub mod Closing
+pub mod OneKey

@@ -7,6 +7,7 @@ mod closing;
 mod dot_span;
 mod index;
 mod live;
+mod one_key;
 mod prepared;
 mod touched;
 mod touching;

@@ -1,4 +1,4 @@
-ghost use Rattle.std.specs.Prelude.{◌≡◌, ℕ, List, None, IfOk, OnOk, OnErr, IsOkUnless};
+ghost use Rattle.std.specs.Prelude.{◌≡◌, ℕ, List, None, IsTrue, IfOk, OnOk, OnErr, IsOkUnless};
 ghost use Rattle.std.specs.FinMap as finite;
 ghost use Rattle.causal_context.specs.Context.{has, HasNone};
 ghost use Rattle.causal_join.specs.Causal.{state_of};
@@ -7,14 +7,15 @@ ghost use Rattle.dot_store.specs.Stores.{at_stores};
 ghost use Rattle.dots.specs.Bytes.{bytes_cmp};
 ghost use Rattle.op_model.specs.State.{join, Same, IsInside};
 ghost use Rattle.live_map.specs.Closing.{stores_of};
-ghost use Rattle.live_map.specs.Index.{AreAllTouched, IsIndexed};
+ghost use Rattle.live_map.specs.Index.{has_key, AreAllTouched, IsIndexed, IsTouched};
 ghost use Rattle.trie_map.specs.Keyed.{at_keys, NoStoreIsEmpty, EachIsCanonical};
 
 use crate::closing::{closed, name_built, touch_since};
 use crate::index::Index;
+use crate::one_key::join_at_one;
 use crate::prepared::Prepared;
 use crate::touched::Touched;
-use crate::touching::{cut_all, join_at_keys, name_all, touch_by};
+use crate::touching::{cut_all, ended_by, join_at_keys, name_all, touch_by};
 use causal_context::Context;
 use causal_join::Causal;
 use dot_store::{DotMap, DotStore};
@@ -135,17 +136,15 @@ impl<S: DotStore<A>, M: Summary<S>, H: PathHash, A: Allocator + Copy> Live<S, M,
         })
     }
 
-    /// What the pair will be once the delta is joined in. The pair stays as it is, also where the call is refused: only the
-    /// index may name more. Takes time and memory in the keys and dots of the delta and in the dots that stand here and are
-    /// known there, and time in each of these times the logarithm of the map and the bytes of its key; both in all that stands at
-    /// these keys; in what `dots` takes of each store of the delta, and of what will stand where dots were found; and in both
-    /// contexts: their names, and their dots above a gap.
-    /// Its only refusal is OutOfMemory.
-    pub fn prepare(
+    // What the pair will be once the delta is joined in, which can change these keys alone. The pair stays as it is, also where the
+    // call is refused: only the index may name more.
+    fn prepare(
         &mut self,
         alloc: A,
         delta: &Causal<DotMap<Key<A>, S, A>, A>,
+        touched: &Touched<A>,
     ) -> Result<Prepared<S, M, H, A>, Refusal>
+        requires { IsTouched self.old.1 (at_stores S.at bytes_cmp delta.now.0) (has delta.now.1) touched.now }
         ensures hash { IfOk result (λ next. next.0.0 ≡ self.old.0.0.0) }
         ensures ok { IfOk result (λ next. Same (state_of (at_keys S.at) next)
             (join S.greater (state_of (at_keys S.at) self.old.0) (state_of (at_stores S.at bytes_cmp) delta.now))) }
@@ -153,27 +152,6 @@ impl<S: DotStore<A>, M: Summary<S>, H: PathHash, A: Allocator + Copy> Live<S, M,
         ensures unchanged { self.new.0 ≡ self.old.0 }
         ensures err { IsOkUnless result Refusal.OutOfMemory }
     {
-        let mut touched = Touched::new(alloc);
-        let next = self.prepare_at(alloc, delta, &mut touched);
-        drop(touched);
-        next
-    }
-
-    // What `prepare` answers. Adds the keys that the delta can change.
-    fn prepare_at(
-        &mut self,
-        alloc: A,
-        delta: &Causal<DotMap<Key<A>, S, A>, A>,
-        touched: &mut Touched<A>,
-    ) -> Result<Prepared<S, M, H, A>, Refusal>
-        ensures hash { IfOk result (λ next. next.0.0 ≡ self.old.0.0.0) }
-        ensures ok { IfOk result (λ next. Same (state_of (at_keys S.at) next)
-            (join S.greater (state_of (at_keys S.at) self.old.0) (state_of (at_stores S.at bytes_cmp) delta.now))) }
-        ensures fits { IfOk result (λ next. IsIndexed (at_keys S.at next.0) self.new.1) }
-        ensures unchanged { self.new.0 ≡ self.old.0 }
-        ensures err { IsOkUnless result Refusal.OutOfMemory }
-    {
-        touch_by(alloc, touched, &self.index, delta)?;
         name_all(
             alloc,
             &mut self.index,
@@ -288,7 +266,14 @@ impl<S: DotStore<A>, M: Summary<S>, H: PathHash, A: Allocator + Copy> Live<S, M,
         drop(mem::replace(&mut self.context, context));
     }
 
-    /// Joins the delta into the pair. A refused call leaves the pair as it was. Takes what `prepare` and `commit` do.
+    /// Joins the delta into the pair. A refused call leaves the pair as it was: only the index may name more. Takes time and memory
+    /// in the keys and dots of the delta and in the dots that stand here and are known there, and time in each of these times the
+    /// logarithm of the map and the bytes of its key; both in all that stands at these keys; and in what `dots` takes of each store of
+    /// the delta.
+    ///
+    /// Where the delta can change one key alone, it is written in place: just those nodes are copied that another map shares, and the
+    /// context is copied only where the delta knows more than one dot that is new, or one below others. Else the nodes on the way to
+    /// each key are copied once, and both contexts, in their names and their dots above a gap.
     /// Its only refusal is OutOfMemory.
     pub fn join_delta(
         &mut self,
@@ -301,8 +286,70 @@ impl<S: DotStore<A>, M: Summary<S>, H: PathHash, A: Allocator + Copy> Live<S, M,
         ensures unchanged { OnErr result (self.new.0 ≡ self.old.0) }
         ensures err { IsOkUnless result Refusal.OutOfMemory }
     {
-        let next = self.prepare(alloc, delta)?;
+        let mut touched = Touched::new(alloc);
+        let joined = self.join_touched(alloc, delta, &mut touched);
+        drop(touched);
+        joined
+    }
+
+    // What `join_delta` does. Adds the keys that the delta can change: where it is one alone, it is written in place.
+    fn join_touched(
+        &mut self,
+        alloc: A,
+        delta: &Causal<DotMap<Key<A>, S, A>, A>,
+        touched: &mut Touched<A>,
+    ) -> Result<(), Refusal>
+        ensures hash { self.new.0.0.0 ≡ self.old.0.0.0 }
+        ensures ok { OnOk result (Same (state_of (at_keys S.at) self.new.0)
+            (join S.greater (state_of (at_keys S.at) self.old.0) (state_of (at_stores S.at bytes_cmp) delta.now))) }
+        ensures unchanged { OnErr result (self.new.0 ≡ self.old.0) }
+        ensures err { IsOkUnless result Refusal.OutOfMemory }
+    {
+        touch_by(alloc, touched, &self.index, delta)?;
+        if let Some(key) = touched.only() {
+            return self.join_one(alloc, delta, touched, key);
+        }
+        let next = self.prepare(alloc, delta, touched)?;
         self.commit(next);
+        Ok(())
+    }
+
+    // Joins the delta in where it can change this key alone.
+    fn join_one(
+        &mut self,
+        alloc: A,
+        delta: &Causal<DotMap<Key<A>, S, A>, A>,
+        touched: &Touched<A>,
+        key: &Key<A>,
+    ) -> Result<(), Refusal>
+        requires touched { IsTouched self.old.1 (at_stores S.at bytes_cmp delta.now.0) (has delta.now.1) touched.now }
+        requires only { (q : List ℕ) → IsTrue (has_key touched.now q) → q ≡ key.now }
+        ensures hash { self.new.0.0.0 ≡ self.old.0.0.0 }
+        ensures ok { OnOk result (Same (state_of (at_keys S.at) self.new.0)
+            (join S.greater (state_of (at_keys S.at) self.old.0) (state_of (at_stores S.at bytes_cmp) delta.now))) }
+        ensures unchanged { OnErr result (self.new.0 ≡ self.old.0) }
+        ensures err { IsOkUnless result Refusal.OutOfMemory }
+    {
+        name_all(
+            alloc,
+            &mut self.index,
+            delta.store().entries(),
+            &self.context,
+        )?;
+        let ended = ended_by(alloc, delta, touched)?;
+        if let Err(refusal) = join_at_one(
+            alloc,
+            &mut self.store,
+            &mut self.context,
+            delta,
+            touched,
+            key,
+        ) {
+            drop(ended);
+            return Err(refusal);
+        }
+        cut_all(&mut self.index, &self.store, &ended);
+        drop(ended);
         Ok(())
     }
 }

@@ -1,4 +1,4 @@
-ghost use Rattle.std.specs.Prelude.{◌≡◌, [], ℕ, List, IsTrue, OnOk, IsOkUnless};
+ghost use Rattle.std.specs.Prelude.{◌≡◌, [], ℕ, List, IsTrue, IfSome, OnOk, IsOkUnless};
 ghost use Rattle.live_map.specs.Index.{has_key};
 
 use dots::{Dot, Key, Refusal};
@@ -75,6 +75,16 @@ impl<A: Allocator + Copy> Touched<A> {
         ensures { result.now.keys ≡ self.now }
     {
         &self.keys
+    }
+
+    // The key, where there is just one.
+    pub(crate) fn only(&self) -> Option<&Key<A>>
+        ensures { IfSome result (λ key. (q : List ℕ) → IsTrue (has_key self.now q) → q ≡ key.now) }
+    {
+        if self.keys.len() == 1 {
+            return self.keys.first();
+        }
+        None
     }
 
     // The dots that were found, by key.

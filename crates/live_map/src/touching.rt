@@ -5,7 +5,7 @@ ghost use Rattle.causal_context.specs.Context.{has};
 ghost use Rattle.dot_store.specs.Stores.{at_stores};
 ghost use Rattle.dots.specs.Bytes.{bytes_cmp};
 ghost use Rattle.dots.specs.Dot.{DotValue};
-ghost use Rattle.live_map.specs.Index.{names, has_key, IsGone, IsIndexed, IsTouched};
+ghost use Rattle.live_map.specs.Index.{names, has_key, IsEnded, IsGone, IsIndexed, IsTouched};
 ghost use Rattle.trie_map.specs.Joined.{IsJoinedAt, IsEitherAt};
 ghost use Rattle.trie_map.specs.Keyed.{at_keys};
 
@@ -225,6 +225,59 @@ fn standing_at<S: DotStore<A>, M: Summary<S>, H: PathHash, A: Allocator + Copy>(
         Some(found) => found.dots(alloc),
         None => Ok(Context::new(alloc)),
     }
+}
+
+// The places that were found, that the delta knows and at which it holds nothing: nothing will stand there.
+pub(crate) fn ended_by<S: DotStore<A>, A: Allocator + Copy>(
+    alloc: A,
+    delta: &Causal<DotMap<Key<A>, S, A>, A>,
+    touched: &Touched<A>,
+) -> Result<Vec<(Dot, Key<A>), A>, Refusal>
+    ensures ok { IfOk result (λ ended. All (IsEnded (at_stores S.at bytes_cmp delta.now.0) (has delta.now.1)) ended.items) }
+    ensures err { IsOkUnless result Refusal.OutOfMemory }
+{
+    let mut ended = Vec::new(alloc);
+    for (key, dots) in touched.found() {
+        add_ended(alloc, &mut ended, delta, key, dots)?;
+    }
+    Ok(ended)
+}
+
+// Adds the places of those of the dots that the delta knows and does not hold at the key.
+fn add_ended<S: DotStore<A>, A: Allocator + Copy>(
+    alloc: A,
+    ended: &mut Vec<(Dot, Key<A>), A>,
+    delta: &Causal<DotMap<Key<A>, S, A>, A>,
+    key: &Key<A>,
+    dots: &[Dot],
+) -> Result<(), Refusal>
+    requires { All (IsEnded (at_stores S.at bytes_cmp delta.now.0) (has delta.now.1)) ended.old.items }
+    ensures ok { OnOk result (All (IsEnded (at_stores S.at bytes_cmp delta.now.0) (has delta.now.1)) ended.new.items) }
+    ensures err { IsOkUnless result Refusal.OutOfMemory }
+{
+    for dot in dots {
+        if is_ended(alloc, delta, key, *dot) {
+            ended.push((*dot, key.copy(alloc)?))?;
+        }
+    }
+    Ok(())
+}
+
+// Whether the delta knows the dot and does not hold it at the key.
+fn is_ended<S: DotStore<A>, A: Allocator + Copy>(
+    alloc: A,
+    delta: &Causal<DotMap<Key<A>, S, A>, A>,
+    key: &Key<A>,
+    dot: Dot,
+) -> bool
+    ensures { IsTrue result → IsEnded (at_stores S.at bytes_cmp delta.now.0) (has delta.now.1) (dot, key.now) }
+{
+    let empty = S::empty(alloc);
+    let store = delta.store().get(key).unwrap_or(&empty);
+    if !delta.context().contains(dot) {
+        return false;
+    }
+    !store.contains(dot)
 }
 
 // Names the keys of these places no more for their dots.

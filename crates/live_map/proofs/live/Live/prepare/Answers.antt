@@ -11,7 +11,7 @@ use Rattle.op_model.specs.State.{join, Same}
 use Rattle.trie_map.specs.Keyed.{at_keys}
 use Rattle.live_map.specs.Index.{IsIndexed}
 use Rattle.live_map.proofs.Changing.{indexed_join, held_named, IsIndexedNew}
-use Rattle.live_map.proofs.live.Live.prepare_at.Goals as goal
+use Rattle.live_map.proofs.live.Live.prepare.Goals as goal
 
 pub new-requires : goal.new-requires
 new-requires g c =

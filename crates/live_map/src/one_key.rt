@@ -1,0 +1,174 @@
+// The join of a delta at the one key that it can change, in place: all that may be refused comes first, and what is written last.
+ghost use Rattle.std.specs.Prelude.{◌≡◌, ◌+◌, ◌||◌, false, ℕ, List, Option, IsTrue, IfOk, OnOk, OnErr, IsOkUnless};
+ghost use Rattle.causal_context.specs.Canonical.{IsCanonical};
+ghost use Rattle.causal_context.specs.Context.{has};
+ghost use Rattle.causal_join.specs.Causal.{state_of};
+ghost use Rattle.dot_store.specs.Store.{HoldsSame, state_with};
+ghost use Rattle.dot_store.specs.Stores.{at_stores};
+ghost use Rattle.dots.specs.Bytes.{bytes_cmp};
+ghost use Rattle.dots.specs.Dot.{DotValue, same_dot};
+ghost use Rattle.op_model.specs.State.{join};
+ghost use Rattle.live_map.specs.Index.{has_key, AreAllTouched};
+ghost use Rattle.live_map.specs.OneKey.{IsMadeAt};
+ghost use Rattle.trie_map.specs.Here.{Writes};
+ghost use Rattle.trie_map.specs.Keyed.{at_keys};
+
+use crate::touched::Touched;
+use causal_context::{Context, Growth};
+use causal_join::Causal;
+use dot_store::{DotMap, DotStore};
+use dots::{Dot, Key, Refusal};
+use gen_trie::Summary;
+use hash_path::PathHash;
+use std::alloc::Allocator;
+use std::mem;
+use trie_map::TrieMap;
+
+// Joins the delta into the store and the context, where it can change this key of the store alone. A refused call leaves both.
+pub(crate) fn join_at_one<S: DotStore<A>, M: Summary<S>, H: PathHash, A: Allocator + Copy>(
+    alloc: A,
+    store: &mut TrieMap<S, M, H, A>,
+    context: &mut Context<A>,
+    delta: &Causal<DotMap<Key<A>, S, A>, A>,
+    touched: &Touched<A>,
+    key: &Key<A>,
+) -> Result<(), Refusal>
+    requires all { AreAllTouched (at_keys S.at store.old) (at_stores S.at bytes_cmp delta.now.0) (has delta.now.1) touched.now }
+    requires only { (q : List ℕ) → IsTrue (has_key touched.now q) → q ≡ key.now }
+    ensures hash { store.new.0 ≡ store.old.0 }
+    ensures ok { OnOk result (HoldsSame (at_keys S.at store.new) (join S.greater (state_with (at_keys S.at store.old) (has context.old))
+        (state_of (at_stores S.at bytes_cmp) delta.now)).at) }
+    ensures known { OnOk result ((d : DotValue) → has context.new d ≡ (has context.old d || has delta.now.1 d)) }
+    ensures store { OnErr result (store.new ≡ store.old) }
+    ensures context { OnErr result (context.new ≡ context.old) }
+    ensures err { IsOkUnless result Refusal.OutOfMemory }
+{
+    // The keys are spoken of in the contract alone.
+    let _ = touched;
+    let made = made_at(alloc, store, context, delta, key)?;
+    write_knowing(alloc, store, context, key, made, delta.context())
+}
+
+// What is to stand at the key once the delta is joined in, or None where that is what stands there.
+fn made_at<S: DotStore<A>, M: Summary<S>, H: PathHash, A: Allocator + Copy>(
+    alloc: A,
+    mine: &TrieMap<S, M, H, A>,
+    own: &Context<A>,
+    delta: &Causal<DotMap<Key<A>, S, A>, A>,
+    key: &Key<A>,
+) -> Result<Option<S>, Refusal>
+    ensures ok { IfOk result (IsMadeAt S.at S.greater mine.now.1 key.now (has own.now) (at_stores S.at bytes_cmp delta.now.0) (has delta.now.1)) }
+    ensures err { IsOkUnless result Refusal.OutOfMemory }
+{
+    let empty = S::empty(alloc);
+    let yours = delta.store().get(key).unwrap_or(&empty);
+    mine.joined_at(alloc, key, own, yours, delta.context())
+}
+
+// Writes the store at the key, where there is one, and adds what the other context knows.
+fn write_knowing<S: DotStore<A>, M: Summary<S>, H: PathHash, A: Allocator + Copy>(
+    alloc: A,
+    store: &mut TrieMap<S, M, H, A>,
+    context: &mut Context<A>,
+    key: &Key<A>,
+    made: Option<S>,
+    theirs: &Context<A>,
+) -> Result<(), Refusal>
+    ensures hash { store.new.0 ≡ store.old.0 }
+    ensures ok { OnOk result (Writes S.at store.old.1 store.new.1 key.now made) }
+    ensures known { OnOk result ((d : DotValue) → has context.new d ≡ (has context.old d || has theirs.now d)) }
+    ensures store { OnErr result (store.new ≡ store.old) }
+    ensures context { OnErr result (context.new ≡ context.old) }
+    ensures err { IsOkUnless result Refusal.OutOfMemory }
+{
+    match context.growth(theirs) {
+        Growth::Nothing => write(alloc, store, key, made),
+        Growth::One(dot) => {
+            if context.contains_above(dot) {
+                return write_uniting(alloc, store, context, key, made, theirs);
+            }
+            write_adding(alloc, store, context, key, made, dot)
+        }
+        Growth::More => write_uniting(alloc, store, context, key, made, theirs),
+    }
+}
+
+// Writes the store at the key, where there is one.
+fn write<S: DotStore<A>, M: Summary<S>, H: PathHash, A: Allocator + Copy>(
+    alloc: A,
+    store: &mut TrieMap<S, M, H, A>,
+    key: &Key<A>,
+    made: Option<S>,
+) -> Result<(), Refusal>
+    ensures hash { store.new.0 ≡ store.old.0 }
+    ensures ok { OnOk result (Writes S.at store.old.1 store.new.1 key.now made) }
+    ensures unchanged { OnErr result (store.new ≡ store.old) }
+    ensures err { IsOkUnless result Refusal.OutOfMemory }
+{
+    match made {
+        Some(both) => store.put(alloc, key, both),
+        None => Ok(()),
+    }
+}
+
+// Writes the store at the key, where there is one, and adds a dot, above which none is known. The dot comes first, and is taken
+// out again where the store is not written: that needs no memory.
+fn write_adding<S: DotStore<A>, M: Summary<S>, H: PathHash, A: Allocator + Copy>(
+    alloc: A,
+    store: &mut TrieMap<S, M, H, A>,
+    context: &mut Context<A>,
+    key: &Key<A>,
+    made: Option<S>,
+    dot: Dot,
+) -> Result<(), Refusal>
+    requires canonical { IsCanonical context.old }
+    requires fresh { has context.old dot ≡ false }
+    requires last { has context.old (record { name = dot.name; number = dot.number + 1 }) ≡ false }
+    ensures hash { store.new.0 ≡ store.old.0 }
+    ensures ok { OnOk result (Writes S.at store.old.1 store.new.1 key.now made) }
+    ensures known { OnOk result ((d : DotValue) → has context.new d ≡ (same_dot dot d || has context.old d)) }
+    ensures store { OnErr result (store.new ≡ store.old) }
+    ensures context { OnErr result (context.new ≡ context.old) }
+    ensures err { IsOkUnless result Refusal.OutOfMemory }
+{
+    if let Err(refusal) = context.add(dot) {
+        drop(made);
+        return Err(refusal);
+    }
+    if let Err(refusal) = write(alloc, store, key, made) {
+        context.take_out(dot);
+        return Err(refusal);
+    }
+    Ok(())
+}
+
+// Writes the store at the key, where there is one, and puts the union of both contexts in the place of the first.
+fn write_uniting<S: DotStore<A>, M: Summary<S>, H: PathHash, A: Allocator + Copy>(
+    alloc: A,
+    store: &mut TrieMap<S, M, H, A>,
+    context: &mut Context<A>,
+    key: &Key<A>,
+    made: Option<S>,
+    theirs: &Context<A>,
+) -> Result<(), Refusal>
+    ensures hash { store.new.0 ≡ store.old.0 }
+    ensures ok { OnOk result (Writes S.at store.old.1 store.new.1 key.now made) }
+    ensures known { OnOk result ((d : DotValue) → has context.new d ≡ (has context.old d || has theirs.now d)) }
+    ensures store { OnErr result (store.new ≡ store.old) }
+    ensures context { OnErr result (context.new ≡ context.old) }
+    ensures err { IsOkUnless result Refusal.OutOfMemory }
+{
+    let next = match context.union(alloc, theirs) {
+        Ok(next) => next,
+        Err(refusal) => {
+            drop(made);
+            return Err(refusal);
+        }
+    };
+    if let Err(refusal) = write(alloc, store, key, made) {
+        drop(next);
+        return Err(refusal);
+    }
+    drop(mem::replace(context, next));
+    Ok(())
+}
