@@ -130,6 +130,18 @@ impl<A: Allocator + Copy> DotStore<A> for Fields<A> {
         Ok(Fields { values })
     }
 
+    fn join_into(
+        &mut self,
+        alloc: A,
+        own: &Context<A>,
+        yours: &Fields<A>,
+        theirs: &Context<A>,
+        found: &[Dot],
+    ) -> Result<(), Refusal> {
+        self.values
+            .join_into(alloc, own, &yours.values, theirs, found)
+    }
+
     fn copy(&self, alloc: A) -> Result<Fields<A>, Refusal> {
         let values = self.values.copy(alloc)?;
         Ok(Fields { values })

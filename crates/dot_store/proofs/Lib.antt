@@ -3,3 +3,4 @@ pub mod Dots
 pub mod Values
 pub mod Stores
 pub mod Halves
+pub mod OneKey

@@ -1,6 +1,6 @@
 -- What the three dot stores hold, after Almeida, Shoker and Baquero, "Delta State Replicated Data Types" (2018):
 -- DotSet is a set of dots, DotFun a map from dots to values, DotMap a map from keys to dot stores.
-use Rattle.std.specs.Prelude.{Bool, cond, Option, Some, None, List, Contains}
+use Rattle.std.specs.Prelude.{◌≡◌, Bool, false, cond, Option, Some, None, List, Contains}
 use Rattle.std.specs.declared.cmp.Ordering.{Ordering}
 use Rattle.std.specs.List.{list_any, All}
 use Rattle.std.specs.Ordering.{is_eq}
@@ -60,3 +60,8 @@ module _ {S P H : Type 0} (at : S → P → DotValue → Option H) where
     pub ordered : IsStrictlySortedBy cmp (keys_of stores)
     pub filled : NoKeyIsEmpty stores
     pub each : (key : K) (store : S) → Contains stores (key, store) → canonical store
+
+  -- at each other key yours has no store, and mine none that holds one of these dots
+  pub record IsOnlyKey {K : Type 0} (cmp : K → K → Ordering) (mine yours : List (K × S)) (dots : List DotValue) (key : K) : Type 0 where
+    pub yours_none : (q : K) → is_eq (cmp key q) ≡ false → lookup (is_at (cmp q)) yours ≡ None
+    pub mine_apart : (q : K) (store : S) → is_eq (cmp key q) ≡ false → lookup (is_at (cmp q)) mine ≡ Some store → (place : P) (dot : DotValue) → Contains dots dot → at store place dot ≡ None

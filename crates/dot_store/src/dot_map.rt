@@ -10,6 +10,7 @@ ghost use Rattle.dot_store.specs.Store.{HasNothing, HoldsSame};
 ghost use Rattle.dot_store.specs.Stores.{at_stores, held_by, joined_store, with_store, NoKeyIsEmpty, AreCanonical, IsCanonicalMap};
 
 use crate::kept::Kept;
+use crate::one_key::join_list;
 use crate::put::put_some;
 use crate::store::DotStore;
 use causal_context::Context;
@@ -114,7 +115,7 @@ fn are_filled<K: Kept<A>, S: DotStore<A>, A: Allocator + Copy>(stores: &[(K, S)]
 }
 
 // What the join keeps at a key, of what stands there on the two sides: no store where it would be empty.
-fn joined_at<S: DotStore<A>, A: Allocator + Copy>(
+pub(crate) fn joined_at<S: DotStore<A>, A: Allocator + Copy>(
     alloc: A,
     mine: Option<&S>,
     own: &Context<A>,
@@ -145,7 +146,7 @@ fn joined_at<S: DotStore<A>, A: Allocator + Copy>(
 }
 
 // The join of the two lists, in one pass over both.
-fn join_stores<K: Kept<A>, S: DotStore<A>, A: Allocator + Copy>(
+pub(crate) fn join_stores<K: Kept<A>, S: DotStore<A>, A: Allocator + Copy>(
     alloc: A,
     mine: &OrderedList<K, S, A>,
     own: &Context<A>,
@@ -305,6 +306,17 @@ impl<K: Kept<A>, S: DotStore<A>, A: Allocator + Copy> DotStore<A> for DotMap<K, 
     ) -> Result<DotMap<K, S, A>, Refusal> {
         let stores = join_stores(alloc, &self.stores, own, &other.stores, theirs)?;
         Ok(DotMap { stores })
+    }
+
+    fn join_into(
+        &mut self,
+        alloc: A,
+        own: &Context<A>,
+        yours: &DotMap<K, S, A>,
+        theirs: &Context<A>,
+        found: &[Dot],
+    ) -> Result<(), Refusal> {
+        join_list(alloc, &mut self.stores, own, &yours.stores, theirs, found)
     }
 
     fn copy(&self, alloc: A) -> Result<DotMap<K, S, A>, Refusal> {

@@ -7,6 +7,7 @@ mod dot_fun;
 mod dot_map;
 mod dot_set;
 mod kept;
+mod one_key;
 mod put;
 mod store;
 

@@ -1,12 +1,13 @@
-ghost use Rattle.std.specs.Prelude.{◌≡◌, ◌↔◌, ◌⊎◌, Option, None, false, IsTrue, IsSome, IfOk, IsOkUnless};
+ghost use Rattle.std.specs.Prelude.{◌≡◌, ◌↔◌, ◌⊎◌, Option, None, false, IsTrue, IsSome, IfOk, OnOk, OnErr, IsOkUnless};
 ghost use Rattle.dots.specs.Dot.{DotValue};
 ghost use Rattle.causal_context.specs.Context.{has};
 ghost use Rattle.op_model.specs.State.{join, IsInside};
-ghost use Rattle.dot_store.specs.Store.{HasNothing, HoldsDot, HoldsSame, state_with};
+ghost use Rattle.dot_store.specs.Store.{HasEachKnown, HasNothing, HoldsDot, HoldsSame, state_with};
 
 use causal_context::Context;
 use dots::{Dot, Refusal};
 use std::alloc::Allocator;
+use std::mem;
 
 /// A dot store: it holds things at dots, each at a place.
 ///
@@ -73,6 +74,31 @@ pub trait DotStore<A: Allocator + Copy>: Drop {
             (join greater (state_with (at self.now) (has own.now))
             (state_with (at other.now) (has theirs.now))).at) }
         ensures err { IsOkUnless result Refusal.OutOfMemory };
+
+    /// Joins the other store, under its context, into this one. `found` has each dot that stands here and that the other
+    /// context knows: so a store that is changed at one key alone need not look at the others. A refused call leaves this
+    /// store as it was. Takes what `join` does, and the memory of both until it is done; a map from keys takes less where
+    /// one key alone is changed.
+    /// Its only refusal is OutOfMemory.
+    fn join_into(
+        &mut self,
+        alloc: A,
+        own: &Context<A>,
+        yours: &Self,
+        theirs: &Context<A>,
+        found: &[Dot],
+    ) -> Result<(), Refusal>
+        requires { HasEachKnown (at self.old) (has theirs.now) found.now }
+        ensures ok { OnOk result (HoldsSame (at self.new)
+            (join greater (state_with (at self.old) (has own.now))
+            (state_with (at yours.now) (has theirs.now))).at) }
+        ensures unchanged { OnErr result (self.new ≡ self.old) }
+        ensures err { IsOkUnless result Refusal.OutOfMemory }
+    {
+        let both = self.join(alloc, own, yours, theirs)?;
+        drop(mem::replace(self, both));
+        Ok(())
+    }
 
     /// A store that holds the same. What it copies is on this allocator; what it shares with this store stays where
     /// it is. Takes time and memory in what it copies: in all that the store holds, and in none of it where it is
