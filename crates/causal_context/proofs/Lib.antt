@@ -7,3 +7,4 @@ pub mod Forms
 pub mod Equality
 pub mod Taken
 pub mod Growths
+pub mod Raised

@@ -1,5 +1,5 @@
 // What adding a dot does to a vector and a cloud.
-ghost use Rattle.std.specs.Prelude.{◌≡◌, ◌+◌, ◌||◌, false, OnOk, OnErr, IsOkUnless};
+ghost use Rattle.std.specs.Prelude.{◌≡◌, ◌≤◌, ◌+◌, ◌||◌, false, OnOk, OnErr, IsOkUnless};
 ghost use Rattle.dots.specs.Dot.{DotValue, same_dot};
 ghost use Rattle.causal_context.specs.Context.{is_known, known_up_to};
 ghost use Rattle.causal_context.specs.Canonical.{IsCanonical};
@@ -50,4 +50,24 @@ fn close_gap<A: Allocator + Copy>(
     vector.insert(dot.name(), end)?;
     cloud::take_run(cloud, dot, end);
     Ok(())
+}
+
+// Raises the entry to the dot just above it, where the one above that is not there. It needs no memory, as the entry is there.
+pub(crate) fn raise<A: Allocator + Copy>(
+    vector: &mut OrderedList<Name, u64, A>,
+    cloud: &OrderedSet<Dot, A>,
+    dot: Dot,
+)
+    requires canonical { IsCanonical (record { vector = vector.old; cloud = cloud.now }) }
+    requires entry { 1 ≤ known_up_to vector.old dot.name }
+    requires next { dot.number ≡ known_up_to vector.old dot.name + 1 }
+    requires last { is_known vector.old cloud.now (record { name = dot.name; number = dot.number + 1 }) ≡ false }
+    ensures ok { (d : DotValue) → is_known vector.new cloud.now d
+        ≡ (same_dot dot d || is_known vector.old cloud.now d) }
+    ensures canonical { IsCanonical (record { vector = vector.new; cloud = cloud.now }) }
+{
+    // The cloud is spoken of in the contract alone.
+    let _ = cloud;
+    let name = dot.name();
+    vector.replace(&name, dot.number());
 }

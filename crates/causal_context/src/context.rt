@@ -1,4 +1,4 @@
-ghost use Rattle.std.specs.Prelude.{◌≡◌, ◌+◌, ◌^◌, ◌-◌, ◌↔◌, ◌||◌, ◌&&◌, not, false, [], IsTrue, IsNone, IsSome, IfSome, IfOk, OnOk, OnErr, IsOkUnless};
+ghost use Rattle.std.specs.Prelude.{◌≡◌, ◌≤◌, ◌+◌, ◌^◌, ◌-◌, ◌↔◌, ◌||◌, ◌&&◌, not, false, [], IsTrue, IsNone, IsSome, IfSome, IfOk, OnOk, OnErr, IsOkUnless};
 ghost use Rattle.std.specs.Cmp.{partial_equiv_from_equiv};
 ghost use Rattle.dots.specs.Dot.{DotValue, same_dot};
 ghost use Rattle.causal_context.specs.Context.{ContextValue, has, is_known, known_up_to, in_cloud, HasNone, HasSame, Includes, IsGreatest, IsNext};
@@ -6,7 +6,7 @@ ghost use Rattle.causal_context.specs.Canonical.{IsCanonical, HasNoZero};
 ghost use Rattle.causal_context.specs.Equal.{same_form, same_form_equiv};
 ghost use Rattle.causal_context.specs.Growth.{IsGrowth, IsGrowthAmong, is_up_to};
 
-use crate::adding::add_to;
+use crate::adding::{add_to, raise};
 use crate::growth::Growth;
 use crate::taking::take_from;
 use crate::{cloud, vector};
@@ -255,6 +255,17 @@ impl<A: Allocator + Copy> Context<A> {
             return Ok(());
         }
         add_to(&mut self.vector, &mut self.cloud, dot)
+    }
+
+    /// Adds the dot just above the entry of its name, where the entry is there and the dot above is not in the context: as a
+    /// replica does that writes on. It is never refused and takes no memory. Takes time as `contains` does, and writes one number.
+    pub fn raise(&mut self, dot: Dot)
+        requires entry { 1 ≤ known_up_to self.old.vector dot.name }
+        requires next { dot.number ≡ known_up_to self.old.vector dot.name + 1 }
+        requires last { has self.old (record { name = dot.name; number = dot.number + 1 }) ≡ false }
+        ensures { (d : DotValue) → has self.new d ≡ (same_dot dot d || has self.old d) }
+    {
+        raise(&mut self.vector, &self.cloud, dot);
     }
 
     /// Takes the dot out, where the one above it is not in the context: after `add` this gives back what was
