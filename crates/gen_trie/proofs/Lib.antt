@@ -11,3 +11,5 @@ pub mod Sums
 pub mod Seals
 pub mod Stamps
 pub mod Seeks
+pub mod Changes
+pub mod ChangedRoots

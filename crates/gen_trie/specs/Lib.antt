@@ -5,3 +5,4 @@ pub mod Falls
 pub mod Root
 pub mod Left
 pub mod Shown
+pub mod Changes

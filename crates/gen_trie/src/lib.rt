@@ -2,6 +2,8 @@
 // Offered to the crates above: the calls of a finite map. A frozen map stays what it was, whatever is written afterwards.
 #![tactic(auto)]
 
+mod change;
+mod changing;
 mod children;
 mod copied;
 mod entry;
@@ -20,6 +22,7 @@ mod take;
 mod trie;
 mod written;
 
+pub use change::Change;
 pub use children::Children;
 pub use entry::Entry;
 pub use frozen::Frozen;

@@ -62,7 +62,11 @@ pub(crate) fn put_in_list<V: Drop, A: Allocator + Copy>(
 }
 
 // The position of the entry of a key, or the number of entries.
-fn place_of<V, A: Allocator>(entries: &[Arc<Entry<V, A>, A>], hash: u32, key: &[u8]) -> usize
+pub(crate) fn place_of<V, A: Allocator>(
+    entries: &[Arc<Entry<V, A>, A>],
+    hash: u32,
+    key: &[u8],
+) -> usize
     ensures { result ≡ spot (hash ∷ key.now) (listed entries.now) }
 {
     let mut count = 0;

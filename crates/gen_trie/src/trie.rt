@@ -1,13 +1,16 @@
-ghost use Rattle.std.specs.Prelude.{◌≡◌, ◌↔◌, ℕ, List, true, length, IfSome, OnOk, OnErr, IsOk, IfOk, IsOkUnless};
+ghost use Rattle.std.specs.Prelude.{◌≡◌, ◌↔◌, ℕ, List, true, length, is_some, IfSome, MatchOption, OnOk, OnErr, IsOk, IfOk, IsOkUnless};
 ghost use Rattle.std.specs.declared.option.Option.TheVariants.{None};
 ghost use Rattle.std.specs.Option.{option_map};
 ghost use Rattle.std.specs.FinMap as finite;
 ghost use Rattle.hash_path.specs.Map.{by_path, walk, walk_under};
 ghost use Rattle.hash_path.specs.Path.{indices};
 ghost use Rattle.hash_path.specs.Summary.{summary_at};
+ghost use Rattle.gen_trie.specs.Changes.{ChangesValue};
 ghost use Rattle.gen_trie.specs.Shown.{trie_shown, generation_after};
 ghost use Rattle.dots.specs.declared.refusal.Refusal.TheVariants.{OutOfMemory};
 
+use crate::change::Change;
+use crate::changing::change_at;
 use crate::entry::Entry;
 use crate::frozen::Frozen;
 use crate::iter::Iter;
@@ -160,6 +163,29 @@ impl<V: Drop, M: Summary<V>, H: PathHash, A: Allocator + Copy> GenTrie<V, M, H, 
             hash,
             key,
             value,
+        )
+    }
+
+    /// Changes the value at the key, and tells whether the key is there. A refused call leaves the map as it was. Touches eight
+    /// nodes at most, and copies those that a frozen map shares. The entry is changed in place, without memory of its own, where
+    /// no one else has it, and is else made anew.
+    /// Its only refusal is OutOfMemory.
+    pub fn change<C: Change<V>>(&mut self, key: &Key<A>, change: &C) -> Result<bool, Refusal>
+        requires { IfSome (finite.get self.old.map key.now) (C.fits change.now) }
+        ensures there { IfOk result (λ there. there ≡ is_some (finite.get self.old.map key.now)) }
+        ensures ok { OnOk result (MatchOption (finite.get self.old.map key.now) (self.new ≡ self.old)
+            (ChangesValue (C.becomes change.now) key.now self.old self.new)) }
+        ensures same { OnErr result (self.new ≡ record self.old { sealed = self.new.sealed }) }
+        ensures err { IsOkUnless result OutOfMemory }
+    {
+        let hash = self.hash.hash(key.bytes());
+        change_at(
+            &mut self.root,
+            self.alloc,
+            self.generation,
+            hash,
+            key.bytes(),
+            change,
         )
     }
 
