@@ -1,5 +1,5 @@
 -- The distinct values of a list, ascending by bytes, gathered one after another: over plain variables.
-use Rattle.std.proofs.Common.{◌≡◌, ℕ, ◌+◌, ◌<◌, List, [], ◌∷◌, ◌++◌, map, take, length, get_or, Contains, None, Some, is_some, IsSome, zero, suc, arith, refl, sym, ◌∙◌, ap, subst, ◌⊎◌, ◌↔◌, inl, inr, append_assoc}
+use Rattle.std.proofs.Common.{◌≡◌, ℕ, ◌+◌, ◌<◌, List, [], ◌∷◌, ◌++◌, map, take, length, get_or, Contains, None, Some, is_some, IsSome, zero, suc, arith, refl, sym, ◌∙◌, ap, subst, ◌⊎◌, ◌↔◌, inl, inr, append_assoc, Result, Ok, Err}
 use Rattle.std.specs.declared.cmp.Ordering.{Ordering}
 use Rattle.std.specs.declared.cmp.Ordering.TheVariants.{Less, Equal, Greater}
 use Rattle.std.specs.BTreeSet.{insert_key}
@@ -13,7 +13,8 @@ use Rattle.dots.specs.Bytes.{bytes_cmp}
 use Rattle.dots.specs.Dot.{DotValue}
 use Rattle.op_model.specs.Meaning.{Stands, StandsWithin}
 use Rattle.op_model.specs.Place.{Place}
-use Rattle.op_model.specs.Shown.{with_one, placed}
+use Rattle.std.specs.Prelude.{IfOk}
+use Rattle.op_model.specs.Shown.{with_one, placed, IsAscending}
 use Rattle.op_model.proofs.Members.{nothing_in, at_head, in_tail, head_or_tail, at_same, in_map, from_map}
 use Rattle.op_model.proofs.Ascending.{nothing_ascends, from_with_one, in_with_one, with_one-ascends}
 use Rattle.delta_ops.specs.Gathers.{Gathers, GathersMore, AreEntries}
@@ -152,3 +153,52 @@ pub gathered_no_key : (live : OrMapValue) (key : List ℕ) (found : List (List �
 gathered_no_key live key found nothing none value =
     let P : List (List ℕ) → Type 0 = λ vs. Contains vs value ↔ StandsWithin (or_map_state live) key value in
     subst P (sym none) (λ in_it. nothing_in value in_it, λ (field, (dot, stands)). absurd (let both : None ≡ Some value = sym (nothing (field, tt) dot) ∙ stands in cc))
+
+-- one value alone
+pub Gathers-one : (value : List ℕ) → Gathers (value ∷ []) (value ∷ [])
+Gathers-one value = Gathers-more [] (value ∷ []) [] value Gathers-nothing refl
+
+-- ---- of what a call answers
+pub ascending_if : {V E : Type 0} (r : Result V E) (items : V → List (List ℕ)) (values : List (List ℕ)) → IfOk r (λ found. Gathers (items found) values) → IfOk r (λ found. IsAscending (items found))
+ascending_if (Ok found) items values gathered = gathered.ascending
+ascending_if (Err e) items values gathered = tt
+
+pub held_if : {V E : Type 0} (r : Result V E) (items : V → List (List ℕ)) (values : List (List ℕ)) (P : Type 0) (held : List ℕ → Type 0) → IfOk r (λ found. Gathers (items found) values) → IfOk r (λ _. P)
+    → (P → (found : List (List ℕ)) → Gathers found values → (value : List ℕ) → Contains found value ↔ held value) → IfOk r (λ found. (value : List ℕ) → Contains (items found) value ↔ held value)
+held_if (Ok found) items values P held gathered p is = is p (items found) gathered
+held_if (Err e) items values P held gathered p is = tt
+
+pub gathers_if : {V E : Type 0} (r : Result V E) (items : V → List (List ℕ)) (values all : List (List ℕ)) → values ≡ all → IfOk r (λ found. Gathers (items found) values) → IfOk r (λ found. Gathers (items found) all)
+gathers_if (Ok found) items values all same gathered = let P : List (List ℕ) → Type 0 = λ vs. Gathers (items found) vs in subst P same gathered
+gathers_if (Err e) items values all same gathered = tt
+
+pub one_if : {V E : Type 0} (r : Result V E) (items : V → List (List ℕ)) (value : List ℕ) (values : List (List ℕ)) → values ≡ value ∷ [] → IfOk r (λ list. items list ≡ value ∷ []) → IfOk r (λ found. Gathers (items found) values)
+one_if (Ok found) items value values same is = rw (is, same) (Gathers-one value)
+one_if (Err e) items value values same is = tt
+
+pub any_if : {V E P : Type 0} (r : Result V E) → P → IfOk r (λ _. P)
+any_if (Ok found) p = p
+any_if (Err e) p = tt
+
+-- the one entry that there is
+one_of : {X : Type 0} (xs : List X) (x : X) → length xs ≡ 1 → xs ≡ get_or xs 0 x ∷ []
+one_of [] x n = absurd (omega arith)
+one_of (y ∷ []) x n = refl
+one_of (y ∷ z ∷ xs) x n = absurd (omega arith)
+
+pub entry_alone : {K X : Type 0} (es : List (K × X)) (e : K × X) → length es ≡ 1 → map (λ entry. entry.1) es ≡ (get_or es 0 e).1 ∷ []
+entry_alone es e n = ap (map (λ entry. entry.1)) (one_of es e n)
+
+pub field_alone : (fields : FieldsValue) (field : List ℕ × ValuesValue) → length fields ≡ 1 → values_in fields ≡ map (λ e. e.1) (get_or fields 0 field).1
+field_alone fields field n = ap values_in (one_of fields field n) ∙ append-nil (map (λ e. e.1) (get_or fields 0 field).1)
+
+pub entries_if : {V E : Type 0} (r : Result V E) (fields : FieldsValue) (field : List ℕ × ValuesValue) → length fields ≡ 1 → IfOk r (λ _. AreEntries (get_or fields 0 field).1)
+    → IfOk r (λ _. All (λ entry. AreEntries entry.1) fields)
+entries_if (Ok found) fields field n are =
+    let Q : FieldsValue → Type 0 = All (λ entry. AreEntries entry.1) in
+    subst Q (sym (one_of fields field n)) alone
+  where
+    alone : All (λ entry. AreEntries entry.1) (get_or fields 0 field ∷ [])
+    alone zero d l = are
+    alone (suc k) d l = absurd (omega (arith, l))
+entries_if (Err e) fields field n are = tt

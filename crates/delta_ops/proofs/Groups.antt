@@ -1,76 +1,187 @@
--- Groups of deltas, to which one is added, or of which two become one: over plain variables.
-use Rattle.std.proofs.Common.{◌≡◌, ◌<◌, ◌+◌, length, take, slice_index_or, ℕ, List, [], ◌∷◌, ◌++◌, sym, ◌∙◌, ap}
+-- Groups of deltas, to which one is added, or which are joined part by part: over plain variables.
+use Rattle.std.proofs.Common.{◌≡◌, ◌<◌, length, suc, List, [], ◌∷◌, ◌++◌, fold, sym, ◌∙◌, ap, subst, refl, arith, get_or}
+use Rattle.std.specs.Prelude.{◌↔◌, ◌-◌, Bool, false, Result, Ok, Err, IfOk, Option, Some, None, IsSome, option_to_list, slice_get}
 use Rattle.std.proofs.lemmas.List.Sums.{fold-append}
-use Rattle.std.proofs.lemmas.List.{map-append, take_more}
+use Rattle.std.proofs.lemmas.List.{map-append}
 use Rattle.std.specs.declared.sync.Arc.{Arc}
-use Rattle.delta_ops.specs.Group.{group_state}
+use Rattle.delta_ops.specs.Group.{group_state, IsPushed}
 use Rattle.causal_join.specs.Causal.{state_of}
 use Rattle.causal_join.specs.OrMap.{OrMapValue, or_map_at, or_map_state, path_of}
-use Rattle.delta_ops.specs.Run.{groups_of}
-use Rattle.delta_ops.specs.declared.run.Run.{Run}
-use Rattle.op_model.specs.Meaning.{greater, state}
-use Rattle.op_model.specs.State.{Same, join}
+use Rattle.delta_ops.specs.Log.{deltas_of}
+use Rattle.op_model.specs.Meaning.{MapState, greater, state}
+use Rattle.op_model.specs.State.{Same, join, joined}
 use Rattle.op_model.proofs.Greater.{greater-assoc}
-use Rattle.op_model.proofs.Joins.{join-assoc, join-same, same-itself, same-back, same-chain}
+use Rattle.op_model.proofs.Joins.{join-assoc, join-same, same-itself, same-back, same-chain, or_comm}
 
 -- the join of pairs is that of their states
 pub join-states : (both p q : OrMapValue) → Same (state_of or_map_at both) (join greater (state_of or_map_at p) (state_of or_map_at q))
     → Same (or_map_state both) (join greater (or_map_state p) (or_map_state q))
 join-states both p q same = record { at = λ place dot. same.at (path_of place) dot; has = same.has }
 
+pub copy-states : (copy p : OrMapValue) → Same (state_of or_map_at copy) (state_of or_map_at p) → Same (or_map_state copy) (or_map_state p)
+copy-states copy p same = record { at = λ place dot. same.at (path_of place) dot; has = same.has }
+
+-- the same of what a call answers
+pub both-joined : {E : Type 0} (r : Result OrMapValue E) (p q : OrMapValue) → IfOk r (λ both. Same (state_of or_map_at both) (join greater (state_of or_map_at p) (state_of or_map_at q)))
+    → IfOk r (λ whole. Same (or_map_state whole) (join greater (or_map_state p) (or_map_state q)))
+both-joined (Ok both) p q same = join-states both p q same
+both-joined (Err e) p q same = tt
+
+pub both-joined_after : {E : Type 0} (r : Result OrMapValue E) (first q : OrMapValue) (start : MapState) → Same (or_map_state first) start
+    → IfOk r (λ both. Same (state_of or_map_at both) (join greater (state_of or_map_at first) (state_of or_map_at q))) → IfOk r (λ whole. Same (or_map_state whole) (join greater start (or_map_state q)))
+both-joined_after (Ok both) first q start is same = same-chain _ _ _ (join-states both first q same) (join-same greater (or_map_state first) (or_map_state q) start (or_map_state q) is (same-itself (or_map_state q)))
+both-joined_after (Err e) first q start is same = tt
+
+-- the state of no operation changes nothing
+joined-none : {H : Type 0} (top : H → H → H) (b : Option H) (t : Bool) → joined top None false b t ≡ b
+joined-none top None t = refl
+joined-none top (Some v) t = refl
+
+joined-with_none : {H : Type 0} (top : H → H → H) (b : Option H) (t : Bool) → joined top b t None false ≡ b
+joined-with_none top None t = refl
+joined-with_none top (Some v) t = refl
+
+pub none-join : (p : MapState) → Same (join greater (state []) p) p
+none-join p = record { at = λ place dot. joined-none greater (p.at place dot) (p.has dot); has = λ dot. refl }
+
+pub join-none : (p : MapState) → Same (join greater p (state [])) p
+join-none p = record { at = λ place dot. joined-with_none greater (p.at place dot) (p.has dot); has = λ dot. or_comm (p.has dot) false }
+
 pub group-push : (pairs : List OrMapValue) (pair : OrMapValue) → group_state (pairs ++ pair ∷ []) ≡ join greater (group_state pairs) (or_map_state pair)
 group-push pairs pair = fold-append (λ group pair. join greater group (or_map_state pair)) (state []) pairs (pair ∷ [])
 
--- the group is the same where its two newest pairs become their join
-pub group-joined : (pairs : List OrMapValue) (older newest both : OrMapValue) → Same (or_map_state both) (join greater (or_map_state older) (or_map_state newest))
-    → Same (group_state (pairs ++ both ∷ [])) (group_state ((pairs ++ older ∷ []) ++ newest ∷ []))
-group-joined pairs older newest both is =
-    rw (group-push pairs both, group-push (pairs ++ older ∷ []) newest, group-push pairs older)
-    (same-chain _ _ _
-    (join-same greater (group_state pairs) (or_map_state both) (group_state pairs) (join greater (or_map_state older) (or_map_state newest)) (same-itself (group_state pairs)) is)
-    (same-back _ _ (join-assoc greater greater-assoc (group_state pairs) (or_map_state older) (or_map_state newest))))
+-- the pairs joined on to a state: the join with their group
+group-from : (start : MapState) (pairs : List OrMapValue) → Same (fold (λ group pair. join greater group (or_map_state pair)) start pairs) (join greater start (group_state pairs))
+group-from start [] = same-back _ _ (join-none start)
+group-from start (pair ∷ pairs) =
+    let first = or_map_state pair in
+    let rest = group_state pairs in
+    same-chain _ _ _ (group-from (join greater start first) pairs)
+    (same-chain _ _ _ (join-assoc greater greater-assoc start first rest)
+    (join-same greater start (join greater first rest) start (group_state (pair ∷ pairs)) (same-itself start)
+    (same-back _ _ (same-chain _ _ _ (group-from (join greater (state []) first) pairs) (join-same greater (join greater (state []) first) rest first rest (none-join first) (same-itself rest))))))
+
+pub group-append : (older newer : List OrMapValue) → Same (group_state (older ++ newer)) (join greater (group_state older) (group_state newer))
+group-append older newer = rw (fold-append (λ group pair. join greater group (or_map_state pair)) (state []) older newer) (group-from (group_state older) newer)
+
+-- the group of one, of two and of three
+pub group-of_one : (whole pair : OrMapValue) → Same (or_map_state whole) (or_map_state pair) → Same (or_map_state whole) (group_state (pair ∷ []))
+group-of_one whole pair is = same-chain _ _ _ is (same-back _ _ (none-join (or_map_state pair)))
+
+pub group-of_two : (whole older newer : OrMapValue) → Same (or_map_state whole) (join greater (or_map_state older) (or_map_state newer)) → Same (or_map_state whole) (group_state (older ∷ newer ∷ []))
+group-of_two whole older newer is =
+    same-chain _ _ _ is (join-same greater (or_map_state older) (or_map_state newer) (group_state (older ∷ [])) (or_map_state newer) (same-back _ _ (none-join (or_map_state older))) (same-itself (or_map_state newer)))
+
+pub group-of_three : (whole oldest older newer : OrMapValue) → Same (or_map_state whole) (join greater (join greater (or_map_state oldest) (or_map_state older)) (or_map_state newer))
+    → Same (or_map_state whole) (group_state (oldest ∷ older ∷ newer ∷ []))
+group-of_three whole oldest older newer is =
+    let first = same-back _ _ (none-join (or_map_state oldest)) in
+    let both = join-same greater (or_map_state oldest) (or_map_state older) (group_state (oldest ∷ [])) (or_map_state older) first (same-itself (or_map_state older)) in
+    same-chain _ _ _ is (join-same greater (join greater (or_map_state oldest) (or_map_state older)) (or_map_state newer) (group_state (oldest ∷ older ∷ [])) (or_map_state newer) both (same-itself (or_map_state newer)))
+
+-- a log with one delta more
+pub pushed_log : (old new : List OrMapValue) (pair : OrMapValue) → new ≡ old ++ pair ∷ [] → IsPushed old new pair
+pushed_log old new pair is = record { rest = old; last = is; same = same-itself (group_state old) }
+
+-- ---- lists that are written out
+pub list_of_none : {X : Type 0} (xs : List X) → length xs ≡ 0 → xs ≡ []
+list_of_none [] n = refl
+list_of_none (x ∷ xs) n = absurd (omega arith)
+
+pub list_of_one : {X : Type 0} (xs : List X) (a : X) → length xs ≡ 1 → a ≡ get_or xs 0 a → xs ≡ a ∷ []
+list_of_one [] a n at = absurd (omega arith)
+list_of_one (x ∷ xs) a n at = let none = list_of_none xs (omega arith) in λ i. sym at i ∷ none i
+
+pub list_of_two : {X : Type 0} (xs : List X) (a b : X) → length xs ≡ 2 → a ≡ get_or xs 0 a → b ≡ get_or xs 1 b → xs ≡ a ∷ b ∷ []
+list_of_two [] a b n at next = absurd (omega arith)
+list_of_two (x ∷ xs) a b n at next = let rest = list_of_one xs b (omega arith) next in λ i. sym at i ∷ rest i
+
+pub list_of_three : {X : Type 0} (xs : List X) (a b c : X) → length xs ≡ 3 → a ≡ get_or xs 0 a → b ≡ get_or xs 1 b → c ≡ get_or xs 2 c → xs ≡ a ∷ b ∷ c ∷ []
+list_of_three [] a b c n at next last = absurd (omega arith)
+list_of_three (x ∷ xs) a b c n at next last = let rest = list_of_two xs b c (omega arith) next last in λ i. sym at i ∷ rest i
+
+-- a list whose last item is taken out
+snoc_same : {X : Type 0} (xs ys : List X) (x y : X) → xs ++ x ∷ [] ≡ ys ++ y ∷ [] → xs ≡ ys
+snoc_same [] [] x y e = refl
+snoc_same [] (b ∷ []) x y e = absurd (cc e)
+snoc_same [] (b ∷ c ∷ ys) x y e = absurd (cc e)
+snoc_same (a ∷ []) [] x y e = absurd (cc e)
+snoc_same (a ∷ c ∷ xs) [] x y e = absurd (cc e)
+snoc_same (a ∷ xs) (b ∷ ys) x y e =
+    let head : a ≡ b = cc in
+    let tail : xs ++ x ∷ [] ≡ ys ++ y ∷ [] = cc in
+    let rest = snoc_same xs ys x y tail in
+    (λ i. head i ∷ rest i)
+
+no_snoc : {X : Type 0} (ys : List X) (y : X) → [] ≡ ys ++ y ∷ [] → ⊥
+no_snoc [] y e = absurd (cc e)
+no_snoc (b ∷ ys) y e = absurd (cc e)
 
 module _ {A : Type 0} where
-  -- the runs with one more at the end
-  pub groups_of-push : (runs : List (Arc (Run A) A)) (run : Arc (Run A) A) → groups_of (runs ++ run ∷ []) ≡ groups_of runs ++ run.value.group ∷ []
-  groups_of-push runs run = map-append (λ run. run.value.group) runs (run ∷ [])
+  -- the log with one more delta at the end
+  pub deltas_of-push : (log : List (Arc OrMapValue A)) (delta : Arc OrMapValue A) → deltas_of (log ++ delta ∷ []) ≡ deltas_of log ++ delta.value ∷ []
+  deltas_of-push log delta = map-append (λ delta. delta.value) log (delta ∷ [])
 
-  -- runs of which the two newest became one
-  pub runs-joined : (old popped rest new : List (Arc (Run A) A)) (older newest both : Arc (Run A) A) → old ≡ popped ++ newest ∷ [] → popped ≡ rest ++ older ∷ [] → new ≡ rest ++ both ∷ []
-      → Same (or_map_state both.value.group) (join greater (or_map_state older.value.group) (or_map_state newest.value.group))
-      → Same (group_state (groups_of new)) (group_state (groups_of old))
-  runs-joined old popped rest new older newest both was before becomes is =
-      rw (was, before, becomes, groups_of-push rest both, groups_of-push (rest ++ older ∷ []) newest, groups_of-push rest older)
-      (group-joined (groups_of rest) older.value.group newest.value.group both.value.group is)
+  pub deltas_of-append : (older newer : List (Arc OrMapValue A)) → deltas_of (older ++ newer) ≡ deltas_of older ++ deltas_of newer
+  deltas_of-append older newer = map-append (λ delta. delta.value) older newer
 
-  -- runs of which the two newest were taken out and put back, the older with the same group
-  pub runs-restored : (old popped rest first new : List (Arc (Run A) A)) (older kept newest : Arc (Run A) A) → old ≡ popped ++ newest ∷ [] → popped ≡ rest ++ older ∷ [] → first ≡ rest ++ kept ∷ []
-      → new ≡ first ++ newest ∷ [] → kept.value.group ≡ older.value.group → Same (group_state (groups_of new)) (group_state (groups_of old))
-  runs-restored old popped rest first new older kept newest was before again after same =
-      let both : groups_of new ≡ groups_of old =
-      ap groups_of (after ∙ ap (λ runs. runs ++ newest ∷ []) again)
-      ∙ groups_of-push (rest ++ kept ∷ []) newest
-      ∙ ap (λ groups. groups ++ newest.value.group ∷ []) (groups_of-push rest kept ∙ ap (λ group. groups_of rest ++ group ∷ []) same ∙ sym (groups_of-push rest older))
-      ∙ sym (groups_of-push (rest ++ older ∷ []) newest)
-      ∙ sym (ap groups_of (was ∙ ap (λ runs. runs ++ newest ∷ []) before)) in
-      rw both (same-itself (group_state (groups_of old)))
+  -- ---- the join of a log, part by part
+  pub joined-one : {E : Type 0} (r : Result OrMapValue E) (log : List (Arc OrMapValue A)) (only : Arc OrMapValue A) → log ≡ only ∷ [] → IfOk r (λ copy. Same (state_of or_map_at copy) (state_of or_map_at only.value))
+      → IfOk r (λ whole. Same (or_map_state whole) (group_state (deltas_of log)))
+  joined-one (Ok copy) log only is same =
+      subst (λ (l : List (Arc OrMapValue A)). Same (or_map_state copy) (group_state (deltas_of l))) (sym is) (group-of_one copy only.value (copy-states copy only.value same))
+  joined-one (Err e) log only is same = tt
 
-  -- runs with a delta at the end, after they were joined as far as is due
-  pub runs-pushed : (old settled new : List (Arc (Run A) A)) (run : Arc (Run A) A) → Same (group_state (groups_of settled)) (group_state (groups_of old)) → new ≡ settled ++ run ∷ []
-      → Same (group_state (groups_of new)) (join greater (group_state (groups_of old)) (or_map_state run.value.group))
-  runs-pushed old settled new run same becomes =
-      rw (becomes, groups_of-push settled run, group-push (groups_of settled) run.value.group)
-      (join-same greater (group_state (groups_of settled)) (or_map_state run.value.group) (group_state (groups_of old)) (or_map_state run.value.group) same (same-itself (or_map_state run.value.group)))
+  pub joined-two : {E : Type 0} (r : Result OrMapValue E) (log : List (Arc OrMapValue A)) (older newer : Arc OrMapValue A) → log ≡ older ∷ newer ∷ []
+      → IfOk r (λ both. Same (state_of or_map_at both) (join greater (state_of or_map_at older.value) (state_of or_map_at newer.value))) → IfOk r (λ whole. Same (or_map_state whole) (group_state (deltas_of log)))
+  joined-two (Ok both) log older newer is same =
+      subst (λ (l : List (Arc OrMapValue A)). Same (or_map_state both) (group_state (deltas_of l))) (sym is) (group-of_two both older.value newer.value (join-states both older.value newer.value same))
+  joined-two (Err e) log older newer is same = tt
 
-  -- one run more is in the whole
-  pub whole-more : (runs : List (Arc (Run A) A)) (run : Arc (Run A) A) (whole more : OrMapValue) → Same (or_map_state whole) (group_state (groups_of runs))
-      → Same (or_map_state more) (join greater (or_map_state whole) (or_map_state run.value.group)) → Same (or_map_state more) (group_state (groups_of (runs ++ run ∷ [])))
-  whole-more runs run whole more same is =
-      rw (groups_of-push runs run, group-push (groups_of runs) run.value.group)
-      (same-chain _ _ _ is (join-same greater (or_map_state whole) (or_map_state run.value.group) (group_state (groups_of runs)) (or_map_state run.value.group) same (same-itself (or_map_state run.value.group))))
+  pub joined-three : {E : Type 0} (r : Result OrMapValue E) (log : List (Arc OrMapValue A)) (oldest older newer : Arc OrMapValue A) → log ≡ oldest ∷ older ∷ newer ∷ []
+      → IfOk r (λ whole. Same (or_map_state whole) (join greater (join greater (or_map_state oldest.value) (or_map_state older.value)) (or_map_state newer.value)))
+      → IfOk r (λ whole. Same (or_map_state whole) (group_state (deltas_of log)))
+  joined-three (Ok whole) log oldest older newer is same =
+      subst (λ (l : List (Arc OrMapValue A)). Same (or_map_state whole) (group_state (deltas_of l))) (sym is) (group-of_three whole oldest.value older.value newer.value same)
+  joined-three (Err e) log oldest older newer is same = tt
 
-  -- the same of a run by its place
-  pub whole-more_at : (runs : List (Arc (Run A) A)) (i : ℕ) (run : Arc (Run A) A) (whole more : OrMapValue) → i < length runs → run ≡ slice_index_or runs i run → Same (or_map_state whole) (group_state (groups_of (take i runs)))
-      → Same (or_map_state more) (join greater (or_map_state whole) (or_map_state run.value.group)) → Same (or_map_state more) (group_state (groups_of (take (i + 1) runs)))
-  whole-more_at runs i run whole more within at same is =
-      rw (take_more runs i run within ∙ ap (λ item. take i runs ++ item ∷ []) (sym at)) (whole-more (take i runs) run whole more same is)
+  pub joined-halves : {E : Type 0} (r : Result OrMapValue E) (log first second : List (Arc OrMapValue A)) (older newer : OrMapValue) → log ≡ first ++ second → Same (or_map_state older) (group_state (deltas_of first))
+      → Same (or_map_state newer) (group_state (deltas_of second)) → IfOk r (λ whole. Same (or_map_state whole) (join greater (or_map_state older) (or_map_state newer)))
+      → IfOk r (λ whole. Same (or_map_state whole) (group_state (deltas_of log)))
+  joined-halves (Ok whole) log first second older newer parts left right is =
+      subst (λ (pairs : List OrMapValue). Same (or_map_state whole) (group_state pairs)) (sym (ap deltas_of parts ∙ deltas_of-append first second))
+      (same-chain _ _ _ is (same-chain _ _ _ (join-same greater (or_map_state older) (or_map_state newer) (group_state (deltas_of first)) (group_state (deltas_of second)) left right)
+      (same-back _ _ (group-append (deltas_of first) (deltas_of second)))))
+  joined-halves (Err e) log first second older newer parts left right is = tt
+
+  -- what a push leaves
+  pub log-pushed : (old new : List (Arc OrMapValue A)) (delta : Arc OrMapValue A) → new ≡ old ++ delta ∷ [] → deltas_of new ≡ deltas_of old ++ delta.value ∷ []
+  log-pushed old new delta is = ap deltas_of is ∙ deltas_of-push old delta
+
+  -- the delta that stands last is the newest, and goes where it is taken back
+  pub taken_back : (old new : List (Arc OrMapValue A)) (r : Option (Arc OrMapValue A)) → old ≡ new ++ option_to_list r → (IsSome r ↔ (0 < length old)) → (rest : List OrMapValue) (pair : OrMapValue) → deltas_of old ≡ rest ++ pair ∷ [] → deltas_of new ≡ rest
+  taken_back old new (Some delta) items some rest pair is = snoc_same (deltas_of new) rest delta.value pair (sym (deltas_of-push new delta) ∙ sym (ap deltas_of items) ∙ is)
+  taken_back [] new None items some rest pair is = absurd (no_snoc rest pair is)
+  taken_back (x ∷ old) new None items some rest pair is = absurd (cc (some.1 (omega arith)))
+
+  pub last_delta : (log : List (Arc OrMapValue A)) (rest : List OrMapValue) (pair : OrMapValue) (delta : Arc OrMapValue A) → deltas_of log ≡ rest ++ pair ∷ [] → slice_get log (length log - 1) ≡ Some delta → delta.value ≡ pair
+  last_delta [] rest pair delta is found = absurd (no_snoc rest pair is)
+  last_delta (x ∷ []) [] pair delta is found =
+      let same : x ≡ delta = cc in
+      let value : x.value ≡ pair = cc in
+      subst (λ r. r.value ≡ pair) same value
+  last_delta (x ∷ []) (b ∷ rest) pair delta is found = let e : [] ≡ rest ++ pair ∷ [] = cc in absurd (no_snoc rest pair e)
+  last_delta (x ∷ y ∷ log) [] pair delta is found = absurd (cc is)
+  last_delta (x ∷ y ∷ log) (b ∷ rest) pair delta is found =
+      let tail : deltas_of (y ∷ log) ≡ rest ++ pair ∷ [] = cc in
+      let n : length (x ∷ y ∷ log) - 1 ≡ suc (length (y ∷ log) - 1) = omega arith in
+      last_delta (y ∷ log) rest pair delta tail (ap (slice_get (x ∷ y ∷ log)) (sym n) ∙ found)
+
+  pub last_there : (log : List (Arc OrMapValue A)) (rest : List OrMapValue) (pair : OrMapValue) → deltas_of log ≡ rest ++ pair ∷ [] → slice_get log (length log - 1) ≡ None → ⊥
+  last_there [] rest pair is none = no_snoc rest pair is
+  last_there (x ∷ []) rest pair is none = absurd (cc none)
+  last_there (x ∷ y ∷ log) [] pair is none = absurd (cc is)
+  last_there (x ∷ y ∷ log) (b ∷ rest) pair is none =
+      let tail : deltas_of (y ∷ log) ≡ rest ++ pair ∷ [] = cc in
+      let n : length (x ∷ y ∷ log) - 1 ≡ suc (length (y ∷ log) - 1) = omega arith in
+      last_there (y ∷ log) rest pair tail (ap (slice_get (x ∷ y ∷ log)) (sym n) ∙ none)

@@ -1,4 +1,4 @@
 pub mod Group
-pub mod Run
+pub mod Log
 pub mod Gathers
 pub mod LiveMap

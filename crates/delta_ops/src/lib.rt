@@ -5,11 +5,11 @@
 
 mod erasures;
 mod grouping;
+mod joining;
 mod live_or_map;
 mod mutators;
 mod outgoing;
 mod reading;
-mod run;
 mod standing;
 
 pub use erasures::{clear, remove, remove_field};

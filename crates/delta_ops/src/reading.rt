@@ -1,7 +1,7 @@
-ghost use Rattle.std.specs.Prelude.{◌≡◌, ◌↔◌, ℕ, List, length, Contains, IfOk, OnOk, IsOkUnless};
+ghost use Rattle.std.specs.Prelude.{◌≡◌, ◌↔◌, ◌∷◌, [], ℕ, List, length, Contains, IfOk, OnOk, IsOkUnless};
 ghost use Rattle.std.specs.List.{All, flat_map};
 ghost use Rattle.std.specs.Map.{keys_of, values_of};
-ghost use Rattle.delta_ops.specs.Gathers.{GathersMore, AreEntries};
+ghost use Rattle.delta_ops.specs.Gathers.{Gathers, GathersMore, AreEntries};
 ghost use Rattle.delta_ops.specs.LiveMap.{store_state};
 ghost use Rattle.op_model.specs.Meaning.{Stands, StandsWithin, HoldsField, HoldsKey};
 ghost use Rattle.op_model.specs.Place.{place_of};
@@ -31,11 +31,10 @@ pub fn values<M: Summary<Fields<A>>, H: PathHash, A: Allocator + Copy>(
         Contains found.items value ↔ Stands (store_state store.now) (place_of key.now field.now) value) }
     ensures err { IsOkUnless result Refusal.OutOfMemory }
 {
-    let mut found = BTreeSet::new(alloc);
-    if let Some(standing) = values_at(store, key, field) {
-        gather_values(alloc, &mut found, standing)?;
+    match values_at(store, key, field) {
+        Some(standing) => distinct(alloc, standing),
+        None => Ok(Vec::new(alloc)),
     }
-    Ok(listed(alloc, found)?)
 }
 
 /// The distinct values of the key over all its fields, ascending by bytes. Takes a look-up, memory in what stands at
@@ -51,11 +50,10 @@ pub fn values_of_key<M: Summary<Fields<A>>, H: PathHash, A: Allocator + Copy>(
         Contains found.items value ↔ StandsWithin (store_state store.now) key.now value) }
     ensures err { IsOkUnless result Refusal.OutOfMemory }
 {
-    let mut found = BTreeSet::new(alloc);
-    if let Some(fields) = fields_of(store, key) {
-        gather_fields(alloc, &mut found, fields.entries())?;
+    match fields_of(store, key) {
+        Some(fields) => distinct_within(alloc, fields.entries()),
+        None => Ok(Vec::new(alloc)),
     }
-    Ok(listed(alloc, found)?)
 }
 
 /// The fields of the key that hold a value, ascending by bytes. Takes a look-up, and time and memory in their number.
@@ -103,6 +101,53 @@ pub fn size<M: Summary<Fields<A>>, H: PathHash, A: Allocator + Copy>(
         ((key : List ℕ) → Contains listed key ↔ HoldsKey (store_state store.now) key) × (result ≡ length listed) }
 {
     store.frozen().size()
+}
+
+/// The distinct values of a field, ascending by bytes. Where one stands there, as mostly, it is the list.
+/// Its only refusal is OutOfMemory.
+fn distinct<A: Allocator + Copy>(
+    alloc: A,
+    standing: &DotFun<Value<A>, A>,
+) -> Result<Vec<Value<A>, A>, Refusal>
+    ensures ok { IfOk result (λ found. Gathers found.items (values_of standing.now)) }
+    ensures entries { IfOk result (λ _. AreEntries standing.now) }
+    ensures err { IsOkUnless result Refusal.OutOfMemory }
+{
+    if let [(_, value)] = standing.entries() {
+        return alone(alloc, value);
+    }
+    let mut found = BTreeSet::new(alloc);
+    gather_values(alloc, &mut found, standing)?;
+    Ok(listed(alloc, found)?)
+}
+
+/// The distinct values of all these fields, ascending by bytes.
+/// Its only refusal is OutOfMemory.
+fn distinct_within<A: Allocator + Copy>(
+    alloc: A,
+    fields: &[(Field<A>, DotFun<Value<A>, A>)],
+) -> Result<Vec<Value<A>, A>, Refusal>
+    ensures ok { IfOk result (λ found. Gathers found.items (flat_map (λ field. values_of field.1) fields.now)) }
+    ensures entries { IfOk result (λ _. All (λ field. AreEntries field.1) fields.now) }
+    ensures err { IsOkUnless result Refusal.OutOfMemory }
+{
+    if let [(_, standing)] = fields {
+        return distinct(alloc, standing);
+    }
+    let mut found = BTreeSet::new(alloc);
+    gather_fields(alloc, &mut found, fields)?;
+    Ok(listed(alloc, found)?)
+}
+
+/// The list of this value alone, with room for no more.
+/// Its only refusal is OutOfMemory.
+fn alone<A: Allocator + Copy>(alloc: A, value: &Value<A>) -> Result<Vec<Value<A>, A>, Refusal>
+    ensures ok { IfOk result (λ list. list.items ≡ value.now ∷ []) }
+    ensures err { IsOkUnless result Refusal.OutOfMemory }
+{
+    let mut list = Vec::with_capacity(alloc, 1)?;
+    list.push(value.copy(alloc)?)?;
+    Ok(list)
 }
 
 /// Adds the values of a field.

@@ -1,6 +1,6 @@
 use Rattle.std.proofs.Common.{◌≡◌, take}
-use Rattle.delta_ops.specs.Run.{groups_of}
+use Rattle.delta_ops.specs.Log.{deltas_of}
 use Rattle.delta_ops.proofs.outgoing.shared.Given as goal
 
-abbrev pub invariant-loop-run : goal.invariant-loop-run
-invariant-loop-run g l = groups_of l.copies.items ≡ groups_of (take l.run-index l.runs.items)
+abbrev pub invariant-loop-delta : goal.invariant-loop-delta
+invariant-loop-delta g l = deltas_of l.copies.items ≡ deltas_of (take l.delta-index l.deltas.items)

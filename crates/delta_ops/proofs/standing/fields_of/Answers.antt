@@ -1,5 +1,4 @@
 use Rattle.std.proofs.Common.{sym, ap, ◌∙◌}
-use Rattle.std.specs.FinMap as finite
 use Rattle.causal_join.specs.OrMap.{fields_at}
 use Rattle.dot_store.specs.Stores.{at_stores, held_by}
 use Rattle.delta_ops.proofs.AsOrMap.{lookup_is}

@@ -1,11 +1,11 @@
 use Rattle.std.proofs.Common.{◌≡◌, List, [], ap, rules}
 use Rattle.std.specs.declared.sync.Arc.{Arc}
-use Rattle.delta_ops.specs.Run.{groups_of}
-use Rattle.delta_ops.specs.declared.run.Run.{Run}
+use Rattle.causal_join.specs.OrMap.{OrMapValue}
+use Rattle.delta_ops.specs.Log.{deltas_of}
 use Rattle.delta_ops.proofs.outgoing.Outgoing.clear.Goals as goal
 
-none_of : {A : Type 0} (runs : List (Arc (Run A) A)) → runs ≡ [] → groups_of runs ≡ []
-none_of runs is = ap groups_of is
+none_of : {A : Type 0} (log : List (Arc OrMapValue A)) → log ≡ [] → deltas_of log ≡ []
+none_of log is = ap deltas_of is
 
 -- src/outgoing.rt
 pub returns : goal.returns

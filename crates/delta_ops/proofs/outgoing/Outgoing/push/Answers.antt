@@ -1,8 +1,10 @@
+use Rattle.std.proofs.Common.{◌++◌, ◌∷◌, [], ap, ◌∙◌}
+use Rattle.delta_ops.specs.Log.{deltas_of}
+use Rattle.delta_ops.proofs.Groups.{log-pushed, pushed_log}
 use Rattle.delta_ops.proofs.outgoing.Outgoing.push.Goals as goal
 
--- src/outgoing.rt
-pub returns-clause-ok : goal.returns-clause-ok
-returns-clause-ok g c = rw (← c.self.view_is) c.push_run.ensures.ok
-
-pub returns-clause-unchanged : goal.returns-clause-unchanged
-returns-clause-unchanged g c = rw (← c.self.view_is) c.push_run.ensures.unchanged
+pub returns-clause-pushed : goal.returns-clause-pushed
+returns-clause-pushed g c =
+    pushed_log c.args.self.now (deltas_of c.push.new.self.items) c.args.delta
+    (log-pushed c.self.inside.deltas.items c.push.new.self.items c.in_ok-delta.delta c.in_ok-push.ensures.items ∙ ap (λ pairs. pairs ++ c.in_ok-delta.delta.value ∷ []) c.self.view_is
+    ∙ ap (λ pair. c.args.self.now ++ pair ∷ []) c.in_ok-delta.ensures.ok)
