@@ -1,13 +1,15 @@
-ghost use Rattle.std.specs.Prelude.{◌≡◌, ◌↔◌, ℕ, List, length, true, IfSome, OnOk, OnErr, IsOk, IfOk, IsOkUnless};
+ghost use Rattle.std.specs.Prelude.{◌≡◌, ◌↔◌, ℕ, List, length, is_some, true, IfSome, OnOk, OnErr, IsOk, IfOk, IsOkUnless};
 ghost use Rattle.std.specs.declared.option.Option.TheVariants.{None};
-ghost use Rattle.std.specs.Option.{option_map};
+ghost use Rattle.std.specs.Option.{option_map, MatchOption};
 ghost use Rattle.std.specs.FinMap as finite;
 ghost use Rattle.hash_path.specs.Map.{by_path, walk, walk_under};
 ghost use Rattle.hash_path.specs.Path.{indices};
 ghost use Rattle.hash_path.specs.Summary.{summary_at};
 ghost use Rattle.gen_trie.specs.Shown.{trie_shown, generation_after};
+ghost use Rattle.gen_trie.specs.Changes.{ChangesValue};
 ghost use Rattle.dots.specs.declared.refusal.Refusal.TheVariants.{OutOfMemory};
 
+use crate::change::Change;
 use crate::entry::Entry;
 use crate::iter::Iter;
 use crate::summary::Summary;
@@ -128,6 +130,18 @@ impl<V: Drop, M: Summary<V>, H: PathHash, A: Allocator + Copy> Frozen<V, M, H, A
         ensures err { IsOkUnless result OutOfMemory }
     {
         self.trie.remove(key)
+    }
+
+    // Changes the value at the key, as `GenTrie::change` does. Its only refusal is OutOfMemory.
+    pub(crate) fn change<C: Change<V>>(&mut self, key: &Key<A>, change: &C) -> Result<bool, Refusal>
+        requires { IfSome (finite.get self.old.map key.now) (C.fits change.now) }
+        ensures there { IfOk result (λ there. there ≡ is_some (finite.get self.old.map key.now)) }
+        ensures ok { OnOk result (MatchOption (finite.get self.old.map key.now) (self.new ≡ self.old)
+            (ChangesValue (C.becomes change.now) key.now self.old self.new)) }
+        ensures same { OnErr result (self.new ≡ record self.old { sealed = self.new.sealed }) }
+        ensures err { IsOkUnless result OutOfMemory }
+    {
+        self.trie.change(key, change)
     }
 
     /// The same map. Copies no node: it takes a reference count, and is refused only where that is full.

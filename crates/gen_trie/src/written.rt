@@ -1,11 +1,13 @@
-ghost use Rattle.std.specs.Prelude.{◌≡◌, true, IfSome, OnOk, OnErr, IsOk, IfOk, IsOkUnless};
+ghost use Rattle.std.specs.Prelude.{◌≡◌, is_some, true, IfSome, OnOk, OnErr, IsOk, IfOk, IsOkUnless};
 ghost use Rattle.std.specs.declared.option.Option.TheVariants.{None};
-ghost use Rattle.std.specs.Option.{option_map};
+ghost use Rattle.std.specs.Option.{option_map, MatchOption};
 ghost use Rattle.std.specs.FinMap as finite;
 ghost use Rattle.hash_path.specs.Map.{walk};
 ghost use Rattle.gen_trie.specs.Shown.{trie_shown};
+ghost use Rattle.gen_trie.specs.Changes.{ChangesValue};
 ghost use Rattle.dots.specs.declared.refusal.Refusal.TheVariants.{OutOfMemory};
 
+use crate::change::Change;
 use crate::entry::Entry;
 use crate::frozen::Frozen;
 use crate::iter::Iter;
@@ -110,6 +112,22 @@ impl<V: Drop, M: Summary<V>, H: PathHash, A: Allocator + Copy> Written<V, M, H, 
         ensures err { IsOkUnless result OutOfMemory }
     {
         self.frozen.remove(key)
+    }
+
+    /// Changes the value at the key, and tells whether the key is there: where it is not, nothing changes. A refused call leaves
+    /// the map as it was. Touches eight nodes at most, and copies those that another map shares; the value is changed as it stands
+    /// where no other map has its entry, and else it is made anew, with memory for the entry. A key that is not there takes a
+    /// look-up, and no memory.
+    /// Its only refusal is OutOfMemory.
+    pub fn change<C: Change<V>>(&mut self, key: &Key<A>, change: &C) -> Result<bool, Refusal>
+        requires { IfSome (finite.get self.old.map key.now) (C.fits change.now) }
+        ensures there { IfOk result (λ there. there ≡ is_some (finite.get self.old.map key.now)) }
+        ensures ok { OnOk result (MatchOption (finite.get self.old.map key.now) (self.new ≡ self.old)
+            (ChangesValue (C.becomes change.now) key.now self.old self.new)) }
+        ensures same { OnErr result (self.new ≡ record self.old { sealed = self.new.sealed }) }
+        ensures err { IsOkUnless result OutOfMemory }
+    {
+        self.frozen.change(key, change)
     }
 
     /// Renews the summaries that writes took away, so that each node keeps the summary of its entries. The map stays as it is,

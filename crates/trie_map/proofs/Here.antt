@@ -1,6 +1,6 @@
 -- A join at one key, written in place.
 use Rattle.std.proofs.Common.{◌≡◌, ℕ, List, Bool, true, false, Option, Some, None, refl, sym, ◌∙◌, ap, subst, inl, inr}
-use Rattle.std.specs.Prelude.{Result, Ok, Err, OnOk, OnErr}
+use Rattle.std.specs.Prelude.{Result, Ok, Err, OnOk, OnErr, IfOk, IsTrue, is_some, MatchOption}
 use Rattle.std.specs.Borrow.{Bor}
 use Rattle.std.specs.Option.{option_copied, unwrap_or}
 use Rattle.std.specs.Ordering.{eq_by_cmp}
@@ -13,8 +13,10 @@ use Rattle.op_model.specs.State.{joined}
 use Rattle.hash_path.proofs.Words.{tied_same}
 use Rattle.trie_map.specs.Keyed.{TrieMapValue, at_keys}
 use Rattle.trie_map.specs.Joined.{both_at, IsJoinedAt, IsEitherAt}
-use Rattle.trie_map.specs.Here.{IsWritten, Writes, IsJoinHere, JoinsHere, with_store}
-use Rattle.trie_map.proofs.Written.{get_put, get_apart, get_cut, get_cut_apart, each_remove}
+use Rattle.gen_trie.specs.Changes.{ChangesValue}
+use Rattle.gen_trie.specs.Shown.{Shown}
+use Rattle.trie_map.specs.Here.{IsWritten, Writes, IsJoinHere, IsJoinOf, JoinsHere, with_store}
+use Rattle.trie_map.proofs.Written.{Each, get_put, get_apart, get_cut, get_cut_apart, each_insert}
 
 module _ {S P H : Type 0} (at : S → P → DotValue → Option H) where
   -- what stands at a key, where an empty store stands for none
@@ -79,3 +81,36 @@ module _ {S P H : Type 0} (at : S → P → DotValue → Option H) where
         by_test : (b : Bool) → eq_by_cmp bytes_cmp q key ≡ b → IsEitherAt at greater (at_keys at mine) own yours theirs new q
         by_test true t = inr (subst (IsJoinedAt at greater (at_keys at mine) own yours theirs new) (sym (tied_same q key t)) here_joined)
         by_test false t = inl (apart_kept q t)
+
+-- ---- a change in place
+module _ {Hash S : Type 0} (becomes : S → S → Type 0) (key : List ℕ) (old new : Shown Hash S) where
+  -- a fact of each store holds on, where it holds of what the change makes
+  pub each_changed : {E : Type 0} (Q : S → Type 0) → ((s both : S) → becomes s both → Q both) → Each Q old.map → (r : Result Bool E) → OnOk r (MatchOption (finite.get old.map key) (new ≡ old) (ChangesValue becomes key old new))
+      → OnErr r (new ≡ record old { sealed = new.sealed }) → Each Q new.map
+  each_changed Q made all (Ok there) ok err = by_store (finite.get old.map key) ok
+    where
+      by_store : (o : Option S) → MatchOption o (new ≡ old) (ChangesValue becomes key old new) → Each Q new.map
+      by_store None same = subst (Each Q) (sym (ap (λ m. m.map) same)) all
+      by_store (Some s) change = subst (Each Q) (sym (ap (λ m. m.map) change.rest)) (each_insert Q old.map key change.value all (made s change.value change.change))
+  each_changed Q made all (Err e) ok err = subst (Each Q) (sym (ap (λ m. m.map) err)) all
+
+  module _ {P H : Type 0} (at : S → P → DotValue → Option H) (greater : H → H → H) (own : DotValue → Bool) (yours : S) (theirs : DotValue → Bool) (joins : (s both : S) → becomes s both → IsJoinOf at greater s own yours theirs both) where
+    changed_here : (s : S) → finite.get old.map key ≡ Some s → ChangesValue becomes key old new s → JoinsHere at greater old.map new.map key own yours theirs
+    changed_here s found change =
+        let is : new.map ≡ finite.insert old.map key change.value = ap (λ m. m.map) change.rest in
+        let both = joins s change.value change.change in
+        record {
+          apart = λ q e. ap (λ m. finite.get m q) is ∙ get_apart at old.map key change.value q e;
+          here = λ place d. ap (λ o. held_by at o place d) (ap (λ m. finite.get m key) is ∙ get_put at old.map key change.value) ∙ both.holds place d
+              ∙ (λ i. joined greater (held_by at (sym found i) place d) (own d) (at yours place d) (theirs d));
+        }
+
+    -- where something stood there, it is the join that stands there now
+    pub joined_in : {E : Type 0} (r : Result Bool E) → IfOk r (λ there. there ≡ is_some (finite.get old.map key)) → OnOk r (MatchOption (finite.get old.map key) (new ≡ old) (ChangesValue becomes key old new))
+        → IfOk r (λ there. IsTrue there → JoinsHere at greater old.map new.map key own yours theirs)
+    joined_in (Ok there) is ok = λ t. by_store (finite.get old.map key) refl ok (sym is ∙ t)
+      where
+        by_store : (o : Option S) → finite.get old.map key ≡ o → MatchOption o (new ≡ old) (ChangesValue becomes key old new) → is_some o ≡ true → JoinsHere at greater old.map new.map key own yours theirs
+        by_store None found same t = absurd (cc t)
+        by_store (Some s) found change t = changed_here s found change
+    joined_in (Err e) is ok = is

@@ -26,7 +26,7 @@ module _ {S : Type 0} (Q : S → Type 0) where
   pub each_none : (m : finite.FinMap bytes_cmp S) → m ≡ finite.empty → Each m
   each_none m is key store has = absurd (let gone : None ≡ Some store = sym (get-empty bytes_cmp key) ∙ ap (λ n. finite.get n key) (sym is) ∙ has in cc)
 
-  each_insert : (m : finite.FinMap bytes_cmp S) (key : List ℕ) (store : S) → Each m → Q store → Each (finite.insert m key store)
+  pub each_insert : (m : finite.FinMap bytes_cmp S) (key : List ℕ) (store : S) → Each m → Q store → Each (finite.insert m key store)
   each_insert m key store all here q s is = step (eq_by_cmp bytes_cmp q key) (sym (get-insert nat_list_cmp_total m key store q) ∙ is)
     where
       step : (b : Bool) → cond b (Some store) (finite.get m q) ≡ Some s → Q s

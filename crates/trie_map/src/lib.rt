@@ -5,6 +5,7 @@
 
 mod copying;
 mod draft;
+mod join_in;
 mod joining;
 mod same;
 mod trie_map;

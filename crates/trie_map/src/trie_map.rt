@@ -1,16 +1,17 @@
-ghost use Rattle.std.specs.Prelude.{◌≡◌, ◌↔◌, IfSome, IfOk, OnOk, OnErr, IsOkUnless, false};
+ghost use Rattle.std.specs.Prelude.{◌≡◌, ◌↔◌, IsTrue, IfSome, IfOk, OnOk, OnErr, IsOkUnless, false};
 ghost use Rattle.std.specs.FinMap as finite;
 ghost use Rattle.std.specs.Option.{option_copied};
 ghost use Rattle.causal_context.specs.Context.{has};
-ghost use Rattle.dot_store.specs.Store.{HasNothing, HoldsSame, state_with};
+ghost use Rattle.dot_store.specs.Store.{HasEachKnown, HasNothing, HoldsSame, state_with};
 ghost use Rattle.dot_store.specs.Stores.{at_stores};
 ghost use Rattle.dots.specs.Bytes.{bytes_cmp};
 ghost use Rattle.op_model.specs.State.{join};
-ghost use Rattle.trie_map.specs.Here.{IsJoinHere, IsWritten};
+ghost use Rattle.trie_map.specs.Here.{HoldsAny, IsJoinHere, IsWritten, JoinsHere};
 ghost use Rattle.trie_map.specs.Keyed.{at_keys, NoStoreIsEmpty, EachIsCanonical};
 
 use crate::copying::{copies, listed};
 use crate::draft::Draft;
+use crate::join_in::JoinIn;
 use crate::joining::join_all;
 use crate::same::is_within;
 use causal_context::Context;
@@ -158,6 +159,39 @@ impl<S: DotStore<A>, M: Summary<S>, H: PathHash, A: Allocator + Copy> TrieMap<S,
                 Err(refusal)
             }
         }
+    }
+
+    /// Joins another store, under its context, into what stands at the key, in place, and tells whether something stands there:
+    /// where nothing does, nothing changes. `found` has each dot that stands there and that the other context knows. A refused call
+    /// leaves the map as it was. Touches eight nodes at most, and copies those that another map shares; takes what `join_into` does
+    /// where no other map has the entry, and else what `join` does.
+    /// Its only refusal is OutOfMemory.
+    pub fn join_in(
+        &mut self,
+        alloc: A,
+        key: &Key<A>,
+        own: &Context<A>,
+        yours: &S,
+        theirs: &Context<A>,
+        found: &[Dot],
+    ) -> Result<bool, Refusal>
+        requires { IfSome (finite.get self.old.1 key.now) (λ s. HasEachKnown (S.at s) (has theirs.now) found.now
+            × HoldsAny S.at S.greater s (has own.now) yours.now (has theirs.now)) }
+        ensures hash { self.new.0 ≡ self.old.0 }
+        ensures ok { IfOk result (λ there. IsTrue there
+            → JoinsHere S.at S.greater self.old.1 self.new.1 key.now (has own.now) yours.now (has theirs.now)) }
+        ensures absent { IfOk result (λ there. there ≡ false → self.new ≡ self.old) }
+        ensures unchanged { OnErr result (self.new ≡ self.old) }
+        ensures err { IsOkUnless result Refusal.OutOfMemory }
+    {
+        let change = JoinIn {
+            alloc,
+            own,
+            yours,
+            theirs,
+            found,
+        };
+        self.entries.change(key, &change)
     }
 
     /// Gives the nodes that keep no summary, as after a join, theirs. The map stays as it is, also where it is refused; a further
