@@ -18,6 +18,10 @@ use ordered_list::OrderedList;
 use std::alloc::Allocator;
 use std::mem;
 
+// How many dots are looked for in the stores of all keys. Of more the join is made as a whole: to look for each of them in each
+// store would take longer.
+const MOST_LOOKED_FOR: usize = 8;
+
 // Whether something is held in the store at one of these dots.
 fn holds_any<S: DotStore<A>, A: Allocator + Copy>(store: &S, dots: &[Dot]) -> bool
     ensures { result ≡ false → All (λ d. (place : S.Place) → S.at store.now place d ≡ None) dots.now }
@@ -45,7 +49,7 @@ fn first_holder<'a, K, S: DotStore<A>, A: Allocator + Copy>(
     None
 }
 
-// Whether no other key's store holds one of these dots.
+// Whether no other key's store holds one of these dots. Where there are none, it looks at no store.
 fn is_alone<K: Ord, S: DotStore<A>, A: Allocator + Copy>(
     stores: &[(K, S)],
     key: &K,
@@ -53,6 +57,9 @@ fn is_alone<K: Ord, S: DotStore<A>, A: Allocator + Copy>(
 ) -> bool
     ensures { IsTrue result → All (λ e. is_eq (K.cmp key.now e.0) ≡ false → All (λ d. (place : S.Place) → S.at e.1 place d ≡ None) dots.now) stores.now }
 {
+    if dots.is_empty() {
+        return true;
+    }
     for (other, store) in stores {
         if holds_any(store, dots) && !key.cmp(other).is_eq() {
             return false;
@@ -84,6 +91,9 @@ fn only_key<'a, K: Kept<A>, S: DotStore<A>, A: Allocator + Copy>(
 ) -> Option<&'a K>
     ensures { IfSome result (λ key. IsOnlyKey S.at K.cmp mine.now yours.now found.now key.now) }
 {
+    if found.len() > MOST_LOOKED_FOR {
+        return None;
+    }
     let key = first_touched(mine, yours, found)?;
     if is_alone(mine, key, found) {
         Some(key)

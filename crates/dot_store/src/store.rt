@@ -76,9 +76,10 @@ pub trait DotStore<A: Allocator + Copy>: Drop {
         ensures err { IsOkUnless result Refusal.OutOfMemory };
 
     /// Joins the other store, under its context, into this one. `found` has each dot that stands here and that the other
-    /// context knows: so a store that is changed at one key alone need not look at the others. A refused call leaves this
-    /// store as it was. Takes what `join` does, and the memory of both until it is done; a map from keys takes less where
-    /// one key alone is changed.
+    /// context knows. A refused call leaves this store as it was. Takes what `join` does, and the memory of both until it is
+    /// done. A map from keys takes less where the other has one key at most, and eight dots at most are found: it looks for
+    /// these in the store of each key, and where they stand at that key alone, or at one key alone, it makes the store of that
+    /// key anew and leaves the others as they are.
     /// Its only refusal is OutOfMemory.
     fn join_into(
         &mut self,
