@@ -79,11 +79,11 @@ module _ {S P H Hash : Type 0} (at : S → P → DotValue → Option H) (greater
   touched_joined all both either there = only_joined (left_alone (at_keys at mine) yours theirs keys all greater own) both either there
 
 -- ---- what is touched, by the parts of a context
-and_first : (a b : Bool) → IsTrue (a && b) → IsTrue a
+pub and_first : (a b : Bool) → IsTrue (a && b) → IsTrue a
 and_first true b h = refl
 and_first false b h = absurd (cc h)
 
-and_second : (a b : Bool) → IsTrue (a && b) → IsTrue b
+pub and_second : (a b : Bool) → IsTrue (a && b) → IsTrue b
 and_second true b h = h
 and_second false b h = absurd (cc h)
 
@@ -94,7 +94,7 @@ or_cases false b Q h left right = right h
 same_name : (a b : ℕ) → is_eq (nat_cmp a b) ≡ true → a ≡ b
 same_name a b e = nat_cmp-IsAntisymmetric a b (equal (nat_cmp a b) e)
 
-known_none : (n : ℕ) → IsTrue (nat_le 1 n) → IsTrue (nat_le n 0) → ⊥
+pub known_none : (n : ℕ) → IsTrue (nat_le 1 n) → IsTrue (nat_le n 0) → ⊥
 known_none n one zero = let a : 1 ≤ n = leb-true _ _ one in let b : n ≤ 0 = leb-true _ _ zero in absurd (omega arith)
 
 module _ (d : DotValue) (R : Type 0) where

@@ -1,9 +1,11 @@
 -- The join of a delta at the one key that it can change. Of this project.
-use Rattle.std.specs.Prelude.{◌≡◌, ℕ, List, Bool, Option}
+use Rattle.std.specs.Prelude.{◌≡◌, ℕ, ◌≤◌, ◌+◌, List, Bool, false, Option}
 use Rattle.std.specs.FinMap as finite
 use Rattle.dots.specs.Bytes.{bytes_cmp}
 use Rattle.dots.specs.Dot.{DotValue}
-use Rattle.trie_map.specs.Here.{IsJoinHere}
+use Rattle.causal_context.specs.Context.{ContextValue, has, known_up_to}
+use Rattle.causal_context.specs.Growth.{IsOnlyNew}
+use Rattle.trie_map.specs.Here.{IsJoinHere, JoinsHere}
 
 -- what was made for a key is the join of what stands there in a map with what a delta holds there, or none where the two are the same
 pub record IsMadeAt {S P H : Type 0} (at : S → P → DotValue → Option H) (greater : H → H → H) (mine : finite.FinMap bytes_cmp S) (key : List ℕ) (own : DotValue → Bool) (yours : List ℕ × P → DotValue → Option H)
@@ -11,3 +13,17 @@ pub record IsMadeAt {S P H : Type 0} (at : S → P → DotValue → Option H) (g
   pub store : S
   pub holds : (place : P) (d : DotValue) → yours (key, place) d ≡ at store place d
   pub joins : IsJoinHere at greater (finite.get mine key) own store theirs made
+
+-- the dot is the only one that a context lacks of another, and the one just above an entry that it has
+pub record IsRaise (own theirs : ContextValue) (dot : DotValue) : Type 0 where
+  pub only : IsOnlyNew (has own) (has theirs) (has theirs) dot
+  pub entry : 1 ≤ known_up_to own.vector dot.name
+  pub next : dot.number ≡ known_up_to own.vector dot.name + 1
+  pub last : has own (record { name = dot.name; number = dot.number + 1 }) ≡ false
+
+-- what stands at a key of a map became its join with what a delta holds there
+pub record IsJoinedIn {S P H : Type 0} (at : S → P → DotValue → Option H) (greater : H → H → H) (old new : finite.FinMap bytes_cmp S) (key : List ℕ) (own : DotValue → Bool) (yours : List ℕ × P → DotValue → Option H)
+    (theirs : DotValue → Bool) : Type 0 where
+  pub store : S
+  pub holds : (place : P) (d : DotValue) → yours (key, place) d ≡ at store place d
+  pub joins : JoinsHere at greater old new key own store theirs

@@ -1,5 +1,6 @@
 // The join of a delta at the one key that it can change, in place: all that may be refused comes first, and what is written last.
-ghost use Rattle.std.specs.Prelude.{◌≡◌, ◌+◌, ◌||◌, false, ℕ, List, Option, IsTrue, IfOk, OnOk, OnErr, IsOkUnless};
+ghost use Rattle.std.specs.Prelude.{◌≡◌, ◌+◌, ◌||◌, false, ℕ, List, Option, Contains, IsTrue, IfSome, IfOk, OnOk, OnErr, IsOkUnless};
+ghost use Rattle.std.specs.List.{All};
 ghost use Rattle.causal_context.specs.Canonical.{IsCanonical};
 ghost use Rattle.causal_context.specs.Context.{has};
 ghost use Rattle.causal_join.specs.Causal.{state_of};
@@ -7,9 +8,9 @@ ghost use Rattle.dot_store.specs.Store.{HoldsSame, state_with};
 ghost use Rattle.dot_store.specs.Stores.{at_stores};
 ghost use Rattle.dots.specs.Bytes.{bytes_cmp};
 ghost use Rattle.dots.specs.Dot.{DotValue, same_dot};
-ghost use Rattle.op_model.specs.State.{join};
+ghost use Rattle.op_model.specs.State.{join, IsInside};
 ghost use Rattle.live_map.specs.Index.{has_key, AreAllTouched};
-ghost use Rattle.live_map.specs.OneKey.{IsMadeAt};
+ghost use Rattle.live_map.specs.OneKey.{IsJoinedIn, IsMadeAt, IsRaise};
 ghost use Rattle.trie_map.specs.Here.{Writes};
 ghost use Rattle.trie_map.specs.Keyed.{at_keys};
 
@@ -26,6 +27,139 @@ use trie_map::TrieMap;
 
 // Joins the delta into the store and the context, where it can change this key of the store alone. A refused call leaves both.
 pub(crate) fn join_at_one<S: DotStore<A>, M: Summary<S>, H: PathHash, A: Allocator + Copy>(
+    alloc: A,
+    store: &mut TrieMap<S, M, H, A>,
+    context: &mut Context<A>,
+    delta: &Causal<DotMap<Key<A>, S, A>, A>,
+    touched: &Touched<A>,
+    key: &Key<A>,
+) -> Result<(), Refusal>
+    requires inside { IsInside (state_of (at_keys S.at) (store.old, context.old)) }
+    requires all { AreAllTouched (at_keys S.at store.old) (at_stores S.at bytes_cmp delta.now.0) (has delta.now.1) touched.now }
+    requires only { (q : List ℕ) → IsTrue (has_key touched.now q) → q ≡ key.now }
+    ensures hash { store.new.0 ≡ store.old.0 }
+    ensures ok { OnOk result (HoldsSame (at_keys S.at store.new) (join S.greater (state_with (at_keys S.at store.old) (has context.old))
+        (state_of (at_stores S.at bytes_cmp) delta.now)).at) }
+    ensures known { OnOk result ((d : DotValue) → has context.new d ≡ (has context.old d || has delta.now.1 d)) }
+    ensures store { OnErr result (store.new ≡ store.old) }
+    ensures context { OnErr result (context.new ≡ context.old) }
+    ensures err { IsOkUnless result Refusal.OutOfMemory }
+{
+    match raised_by(context, delta.context()) {
+        Some(dot) => join_raising(alloc, store, context, delta, touched, key, dot),
+        None => join_anew(alloc, store, context, delta, touched, key),
+    }
+}
+
+// Joins the delta in, whose one new dot is just above the entry of its name: in place, where something stands at the key.
+fn join_raising<S: DotStore<A>, M: Summary<S>, H: PathHash, A: Allocator + Copy>(
+    alloc: A,
+    store: &mut TrieMap<S, M, H, A>,
+    context: &mut Context<A>,
+    delta: &Causal<DotMap<Key<A>, S, A>, A>,
+    touched: &Touched<A>,
+    key: &Key<A>,
+    dot: Dot,
+) -> Result<(), Refusal>
+    requires raise { IsRaise context.old delta.now.1 dot }
+    requires inside { IsInside (state_of (at_keys S.at) (store.old, context.old)) }
+    requires all { AreAllTouched (at_keys S.at store.old) (at_stores S.at bytes_cmp delta.now.0) (has delta.now.1) touched.now }
+    requires only { (q : List ℕ) → IsTrue (has_key touched.now q) → q ≡ key.now }
+    ensures hash { store.new.0 ≡ store.old.0 }
+    ensures ok { OnOk result (HoldsSame (at_keys S.at store.new) (join S.greater (state_with (at_keys S.at store.old) (has context.old))
+        (state_of (at_stores S.at bytes_cmp) delta.now)).at) }
+    ensures known { OnOk result ((d : DotValue) → has context.new d ≡ (has context.old d || has delta.now.1 d)) }
+    ensures store { OnErr result (store.new ≡ store.old) }
+    ensures context { OnErr result (context.new ≡ context.old) }
+    ensures err { IsOkUnless result Refusal.OutOfMemory }
+{
+    if !join_in(alloc, store, context, delta, key, dot)? {
+        return join_anew(alloc, store, context, delta, touched, key);
+    }
+    context.raise(dot);
+    Ok(())
+}
+
+// The only dot that the own context lacks of the other, if it is just above an entry of the own one: that entry can be raised as it
+// stands.
+fn raised_by<A: Allocator + Copy>(own: &Context<A>, theirs: &Context<A>) -> Option<Dot>
+    ensures { IfSome result (IsRaise own.now theirs.now) }
+{
+    let Growth::One(dot) = own.growth(theirs) else {
+        return None;
+    };
+    let entry = own.entry(dot.name());
+    if entry == 0 || dot.number() - 1 != entry || own.contains_above(dot) {
+        return None;
+    }
+    Some(dot)
+}
+
+// Joins what the delta holds at the key into what stands there, in place, and tells whether it did: it does so where something stands
+// there and the delta holds the dot there, which is new, and knows no run of dots.
+fn join_in<S: DotStore<A>, M: Summary<S>, H: PathHash, A: Allocator + Copy>(
+    alloc: A,
+    mine: &mut TrieMap<S, M, H, A>,
+    own: &Context<A>,
+    delta: &Causal<DotMap<Key<A>, S, A>, A>,
+    key: &Key<A>,
+    dot: Dot,
+) -> Result<bool, Refusal>
+    requires fresh { has own.now dot ≡ false }
+    requires inside { IsInside (state_of (at_keys S.at) (mine.old, own.now)) }
+    ensures hash { mine.new.0 ≡ mine.old.0 }
+    ensures ok { IfOk result (λ done. IsTrue done
+        → IsJoinedIn S.at S.greater mine.old.1 mine.new.1 key.now (has own.now) (at_stores S.at bytes_cmp delta.now.0) (has delta.now.1)) }
+    ensures absent { IfOk result (λ done. done ≡ false → mine.new ≡ mine.old) }
+    ensures unchanged { OnErr result (mine.new ≡ mine.old) }
+    ensures err { IsOkUnless result Refusal.OutOfMemory }
+{
+    let theirs = delta.context();
+    let empty = S::empty(alloc);
+    let yours = delta.store().get(key).unwrap_or(&empty);
+    if !theirs.vector().is_empty() || !yours.contains(dot) {
+        return Ok(false);
+    }
+    let found = known_of(alloc, own, theirs.cloud())?;
+    let done = mine.join_in(alloc, key, own, yours, theirs, &found);
+    drop(found);
+    done
+}
+
+// Those of the dots that the context knows.
+fn known_of<A: Allocator + Copy>(
+    alloc: A,
+    context: &Context<A>,
+    dots: &[Dot],
+) -> Result<Vec<Dot, A>, Refusal>
+    ensures ok { IfOk result (λ known. All (λ d. IsTrue (has context.now d) → Contains known.items d) dots.now) }
+    ensures err { IsOkUnless result Refusal.OutOfMemory }
+{
+    let mut known = Vec::new(alloc);
+    for dot in dots {
+        add_known(context, &mut known, *dot)?;
+    }
+    Ok(known)
+}
+
+// Adds the dot where the context knows it.
+fn add_known<A: Allocator + Copy>(
+    context: &Context<A>,
+    known: &mut Vec<Dot, A>,
+    dot: Dot,
+) -> Result<(), Refusal>
+    ensures there { OnOk result (IsTrue (has context.now dot) → Contains known.new.items dot) }
+    ensures kept { (d : DotValue) → Contains known.old.items d → Contains known.new.items d }
+    ensures err { IsOkUnless result Refusal.OutOfMemory }
+{
+    if context.contains(dot) {
+        known.push(dot)?;
+    }
+    Ok(())
+}
+
+// Joins the delta in, by a new store for the key.
+fn join_anew<S: DotStore<A>, M: Summary<S>, H: PathHash, A: Allocator + Copy>(
     alloc: A,
     store: &mut TrieMap<S, M, H, A>,
     context: &mut Context<A>,

@@ -4,7 +4,7 @@ use Rattle.causal_context.specs.Context.{has}
 use Rattle.dot_store.specs.Stores.{at_stores}
 use Rattle.dots.specs.Bytes.{bytes_cmp}
 use Rattle.live_map.proofs.OneKey.{made_written}
-use Rattle.live_map.proofs.one_key.join_at_one.Goals as goal
+use Rattle.live_map.proofs.one_key.join_anew.Goals as goal
 
 pub returns-clause-ok : goal.returns-clause-ok
 returns-clause-ok g c =
