@@ -154,6 +154,14 @@ module _ {A : Type 0} where
       (same-back _ _ (group-append (deltas_of first) (deltas_of second)))))
   joined-halves (Err e) log first second older newer parts left right is = tt
 
+  -- a log that became one delta
+  pub log-settled : (log emptied new : List (Arc OrMapValue A)) (group : Arc OrMapValue A) (whole : OrMapValue) (old : List OrMapValue) → deltas_of log ≡ old → Same (or_map_state whole) (group_state (deltas_of log)) → group.value ≡ whole
+      → emptied ≡ [] → new ≡ emptied ++ group ∷ [] → Same (group_state (deltas_of new)) (group_state old)
+  log-settled log emptied new group whole old was is value none becomes =
+      let only : deltas_of new ≡ whole ∷ [] = ap deltas_of (becomes ∙ ap (λ l. l ++ group ∷ []) none) ∙ ap (λ pair. pair ∷ []) value in
+      let before : Same (or_map_state whole) (group_state old) = subst (λ (pairs : List OrMapValue). Same (or_map_state whole) (group_state pairs)) was is in
+      subst (λ (pairs : List OrMapValue). Same (group_state pairs) (group_state old)) (sym only) (same-chain _ _ _ (same-back _ _ (group-of_one whole whole (same-itself (or_map_state whole)))) before)
+
   -- what a push leaves
   pub log-pushed : (old new : List (Arc OrMapValue A)) (delta : Arc OrMapValue A) → new ≡ old ++ delta ∷ [] → deltas_of new ≡ deltas_of old ++ delta.value ∷ []
   log-pushed old new delta is = ap deltas_of is ∙ deltas_of-push old delta
