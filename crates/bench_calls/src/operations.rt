@@ -1,5 +1,5 @@
-use crate::replicas::{flushed, key_of, put_one, take_often, two_replicas};
-use dots::Refusal;
+use crate::replicas::{flushed, key_of, put_all, put_one, take_often, two_replicas};
+use dots::{Field, Key, Refusal, Value};
 use replica_core::Replica;
 use std::alloc::Global;
 
@@ -20,6 +20,49 @@ fn flush(here: &mut Replica) -> Result<(), Refusal> {
 fn put_each(alloc: Global, here: &mut Replica, keys: &[u64]) -> Result<(), Refusal> {
     for number in keys {
         put_one(alloc, here, *number)?;
+        flush(here)?;
+    }
+    Ok(())
+}
+
+// Puts a value of 16 bytes on the field of this number of the key.
+fn put_field_one(alloc: Global, here: &mut Replica, key: &Key, number: u64) -> Result<(), Refusal> {
+    let field = Field::new(alloc, &number.to_be_bytes())?;
+    let value = Value::new(alloc, &[118; 16])?;
+    here.put_field(key, &field, &value)?;
+    Ok(())
+}
+
+// Puts each number as a field of the key, and flushes each put.
+fn put_fields_of(
+    alloc: Global,
+    here: &mut Replica,
+    key: &Key,
+    numbers: &[u64],
+) -> Result<(), Refusal> {
+    for number in numbers {
+        put_field_one(alloc, here, key, *number)?;
+        flush(here)?;
+    }
+    Ok(())
+}
+
+// Puts each number as a field of one key.
+fn put_fields(alloc: Global, here: &mut Replica, numbers: &[u64]) -> Result<(), Refusal> {
+    let key = key_of(alloc, 0)?;
+    put_fields_of(alloc, here, &key, numbers)
+}
+
+// Puts each number as a field of this many keys, in turn.
+fn put_fields_over(
+    alloc: Global,
+    here: &mut Replica,
+    numbers: &[u64],
+    keys: u64,
+) -> Result<(), Refusal> {
+    for number in numbers {
+        let key = key_of(alloc, number % keys.max(1))?;
+        put_field_one(alloc, here, &key, *number)?;
         flush(here)?;
     }
     Ok(())
@@ -88,6 +131,21 @@ fn put_and_send(
     Ok(())
 }
 
+// Puts each key here, and sends each put there but the first, which is lost.
+fn put_and_lose_one(
+    alloc: Global,
+    here: &mut Replica,
+    there: &mut Replica,
+    keys: &[u64],
+) -> Result<(), Refusal> {
+    if let Some((first, rest)) = keys.split_first() {
+        put_one(alloc, here, *first)?;
+        flush(here)?;
+        put_and_send(alloc, here, there, rest, 1)?;
+    }
+    Ok(())
+}
+
 // Removes each key here, and sends each remove there so many times.
 fn remove_and_send(
     alloc: Global,
@@ -118,6 +176,10 @@ fn steps_on(
             put_and_send(alloc, here, there, keys, 1)?;
             remove_and_send(alloc, here, there, keys, times)?;
         }
+        7 | 8 => put_all(alloc, here, keys)?,
+        9 => put_fields(alloc, here, keys)?,
+        10 => put_fields_over(alloc, here, keys, u64::from(times))?,
+        11 => put_and_lose_one(alloc, here, there, keys)?,
         _ => put_each(alloc, here, keys)?,
     }
     match step {
@@ -125,6 +187,7 @@ fn steps_on(
         2 => remove_each(alloc, here, keys)?,
         3 => return got(alloc, here, keys),
         4 => return share_often(here, keys),
+        8 => put_all(alloc, here, keys)?,
         _ => {}
     }
     Ok(here.size().wrapping_add(there.size()))
@@ -154,7 +217,9 @@ fn steps(alloc: Global, keys: &[u64], step: u32, times: u32) -> Result<u64, Refu
 /// Puts a value of 16 bytes on each of the keys, eight bytes each, at a replica, and then does the step with all of them:
 /// 0 nothing, 1 puts each again, 2 removes each, 3 gets each, 4 shares what it holds once for each key. 5 puts each and sends
 /// each put, as bytes, to another replica so many times; 6 puts and sends each once, and then removes each and sends that so
-/// many times. Each put and each remove is flushed at once, as by a replica that sends what it makes.
+/// many times; 7 puts each and flushes none, and 8 puts each again then; 9 puts each as a field of one key, and 10 as fields of so many
+/// keys in turn; 11 does what 5 does once, but the message of the first put is lost. Where nothing else is said each put and each
+/// remove is flushed at once, as by a replica that sends what it makes.
 #[unsafe(no_mangle)]
 pub extern "C" fn measure_operations(alloc: Global, keys: &[u64], step: u32, times: u32) -> u64 {
     match steps(alloc, keys, step, times) {

@@ -1,5 +1,4 @@
-// Putting an entry into a node: in place where the node is of the current generation and has no other owner, and else
-// into a copy.
+// Putting an entry into a node: in place where the node has no other owner, and else into a copy.
 ghost use Rattle.std.specs.Prelude.{◌≡◌, ℕ, suc, ◌≤◌, [], ◌∷◌, vec_len, false, OnOk, OnErr, IfOk, IsOkUnless};
 ghost use Rattle.std.specs.List.{All};
 ghost use Rattle.dots.specs.declared.refusal.Refusal.TheVariants.{OutOfMemory};
@@ -143,7 +142,7 @@ fn pair<V: Drop, M: Summary<V>, A: Allocator + Copy>(
     Ok(Arc::new(alloc, node)?)
 }
 
-// Puts an entry into a node that may be shared. At the last generation each node is copied.
+// Puts an entry into a node that may be shared: one that has another owner is copied.
 #[cycle(put)]
 fn put_shared<V: Drop, M: Summary<V>, A: Allocator + Copy>(
     node: &mut Arc<Node<V, M, A>, A>,

@@ -213,7 +213,7 @@ pub(crate) fn take_below<V: Drop, M: Summary<V>, A: Allocator + Copy>(
     }
 }
 
-// Takes the entry of a key out of a node that may be shared. At the last generation each node is copied.
+// Takes the entry of a key out of a node that may be shared: one that has another owner is copied.
 #[cycle(take)]
 fn take_shared<V: Drop, M: Summary<V>, A: Allocator + Copy>(
     node: &mut Arc<Node<V, M, A>, A>,

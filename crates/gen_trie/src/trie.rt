@@ -69,7 +69,7 @@ impl<V, M: Summary<V>, H: PathHash, A: Allocator + Copy> GenTrie<V, M, H, A> {
     }
 
     /// The map with no keys that begins at this generation, as one that was frozen so many times. At the last one, 2^64 - 1, the
-    /// generation stays, and a write copies each node that it meets. Takes no memory.
+    /// generation stays. Takes no memory.
     pub fn at_generation(alloc: A, hash: H, generation: u64) -> GenTrie<V, M, H, A>
         ensures { result ≡ trie_shown hash finite.empty generation true }
     {

@@ -1,6 +1,6 @@
 -- What a replica means, part by part.
 use Rattle.std.proofs.Common.{◌≡◌, ℕ, List, [], map, refl, sym, ap, subst}
-use Rattle.std.specs.Prelude.{◌≤◌, IfOk, OnErr, Result, Ok, Err}
+use Rattle.std.specs.Prelude.{◌≤◌, IfOk, OnOk, OnErr, Result, Ok, Err}
 use Rattle.std.specs.List.{All}
 use Rattle.std.specs.List.Sorted.{IsStrictlySortedBy}
 use Rattle.std.specs.Ordering.{nat_cmp}
@@ -56,3 +56,17 @@ on_err (Err e) p = p
 pub both_ok : {T E : Type 0} {P Q R : T → Type 0} (r : Result T E) → ((x : T) → P x → Q x → R x) → IfOk r P → IfOk r Q → IfOk r R
 both_ok (Ok x) f p q = f x p q
 both_ok (Err e) f p q = tt
+
+-- two facts of one result
+pub both_on_ok : {T E : Type 0} {P Q R : Type 0} (r : Result T E) → (P → Q → R) → OnOk r P → OnOk r Q → OnOk r R
+both_on_ok (Ok x) f p q = f p q
+both_on_ok (Err e) f p q = tt
+
+pub both_on_err : {T E : Type 0} {P Q R : Type 0} (r : Result T E) → (P → Q → R) → OnErr r P → OnErr r Q → OnErr r R
+both_on_err (Ok x) f p q = tt
+both_on_err (Err e) f p q = f p q
+
+-- what follows of a result, whichever it is
+pub by_result : {T E : Type 0} {P Q R : Type 0} (r : Result T E) → (P → R) → (Q → R) → OnOk r P → OnErr r Q → R
+by_result (Ok x) f g p q = f p
+by_result (Err e) f g p q = g q

@@ -1,7 +1,11 @@
 // The own operations of a replica, and what it is to send of them.
 ghost use Rattle.std.specs.Prelude.{◌≡◌, ◌<◌, ◌^◌, ℕ, List, true, [], IfOk, IfErr, OnOk, OnErr, IsOkUnless};
 ghost use Rattle.causal_join.specs.OrMap.{or_map_state};
+ghost use Rattle.delta_ops.specs.Group.{group_state};
+ghost use Rattle.delta_ops.specs.LiveMap.{live_state};
+ghost use Rattle.op_model.specs.Meaning.{greater};
 ghost use Rattle.op_model.specs.Place.{Place, place_of, plain};
+ghost use Rattle.op_model.specs.State.{join};
 ghost use Rattle.replica_model.specs.Replica.{makes};
 ghost use Rattle.replica_model.specs.Step.{Do, Put, Remove, RemoveField, Clear, Flush, Made, Counted, Nothing};
 ghost use Rattle.replica_core.specs.Meaning.{hash_in, meaning};
@@ -10,9 +14,10 @@ ghost use Rattle.replica_core.specs.Stepping.{Foretells, Steps, Stays, IsRefused
 
 use crate::replica::Replica;
 use causal_join::OrMap;
-use delta_ops::{clear, put_field, remove, remove_field};
+use delta_ops::{LiveOrMap, Outgoing, clear, put_field, remove, remove_field};
 use dots::{Dot, Field, Key, Refusal, Value};
 use hash_path::PathHash;
+use prefix_digest::ShaSummary;
 use std::alloc::Allocator;
 use sync_protocol::{Outbox, Unposted};
 use wire_form::Message;
@@ -152,7 +157,7 @@ impl<H: PathHash, A: Allocator + Copy> Replica<H, A> {
         Ok(Some(delta))
     }
 
-    // Joins the delta of an own operation into what the replica holds and into what it is to send. One that knows no dot, as of a remove
+    // Joins the delta of an own operation into what it is to send and into what the replica holds. One that knows no dot, as of a remove
     // that found nothing, changes nothing and costs nothing.
     fn make(&mut self, delta: OrMap<A>) -> Result<(), Refusal>
         ensures ok { OnOk result (meaning self.new ≡ makes (meaning self.old) (or_map_state delta)) }
@@ -164,20 +169,44 @@ impl<H: PathHash, A: Allocator + Copy> Replica<H, A> {
             drop(delta);
             return Ok(());
         }
-        let next = match self.live.prepare(self.alloc, &delta) {
-            Ok(next) => next,
-            Err(refusal) => {
-                drop(delta);
-                return Err(refusal);
-            }
-        };
-        if let Err(refusal) = self.group.push(self.alloc, delta) {
-            drop(next);
-            return Err(refusal);
-        }
-        self.live.commit(next);
-        Ok(())
+        make_in(self.alloc, &mut self.live, &mut self.group, delta)
     }
+}
+
+// Joins the delta into both. It comes into the group first, and is taken back where the live pair refuses it: that is never refused.
+fn make_in<H: PathHash, A: Allocator + Copy>(
+    alloc: A,
+    live: &mut LiveOrMap<ShaSummary, H, A>,
+    group: &mut Outgoing<A>,
+    delta: OrMap<A>,
+) -> Result<(), Refusal>
+    ensures hash { live.new.0.0.0 ≡ live.old.0.0.0 }
+    ensures live { OnOk result (live_state live.new.0 ≡ join greater (live_state live.old.0) (or_map_state delta)) }
+    ensures group { OnOk result (group_state group.new ≡ join greater (group_state group.old) (or_map_state delta)) }
+    ensures kept { OnErr result (live.new.0 ≡ live.old.0) }
+    ensures grouped { OnErr result (group_state group.new ≡ group_state group.old) }
+    ensures refused { IsOkUnless result Refusal.OutOfMemory }
+{
+    let most = most_deltas(live.store().size());
+    if let Err(refusal) = group.settle(alloc, most) {
+        drop(delta);
+        return Err(refusal);
+    }
+    group.push(alloc, delta)?;
+    let Some(newest) = group.newest() else {
+        unreachable!();
+    };
+    if let Err(refusal) = live.join_delta(alloc, newest) {
+        group.take_back();
+        return Err(refusal);
+    }
+    Ok(())
+}
+
+// So many deltas stand in the group before they are joined into one: some for each key of the map, so that a replica that is never
+// flushed does not keep each of its writes, and one that is flushed joins none before.
+fn most_deltas(keys: u64) -> u64 {
+    keys.saturating_mul(8).saturating_add(4096)
 }
 
 // That the number of a dot is one of 64 bits, which is so always: it is asked in a proof alone.

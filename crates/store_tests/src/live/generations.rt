@@ -1,4 +1,4 @@
-// A trie that comes to the last generation, where a write copies each node that it meets.
+// A trie that comes to the last generation, where the stamp stays.
 use dots::Key;
 use gen_trie::{Frozen, GenTrie, NoSummary};
 use hash_path::Fnv1a;
