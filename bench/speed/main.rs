@@ -357,6 +357,16 @@ fn operations(count: usize) {
         "  deliver of a remove    {:8.3}",
         (ours(6, 1) - ours(6, 0)) * scale
     );
+    let unflushed = ours(7, 0);
+    println!("  put with no flush      {:8.3}", unflushed * scale);
+    println!(
+        "  overwrite, no flush    {:8.3}",
+        (ours(8, 0) - unflushed) * scale
+    );
+    println!(
+        "  deliver behind a loss  {:8.3}",
+        (ours(11, 0) - unsent) * scale
+    );
     let bytes = counting::most_live(&|| {
         assert_ne!(
             unsafe { measure_operations(keys.as_ptr(), keys.len(), 0, 0) },
@@ -367,6 +377,26 @@ fn operations(count: usize) {
         "  bytes a key            {:8.1}",
         bytes as f64 / count as f64
     );
+}
+
+/// Writes of one more field at keys that have so many.
+fn fields() {
+    let ours = |count: usize, step, times| {
+        let numbers = random_keys(count);
+        seconds(|| {
+            let number =
+                unsafe { measure_operations(numbers.as_ptr(), numbers.len(), step, times) };
+            assert_ne!(number, u64::MAX, "want of memory");
+        })
+    };
+    println!("one more field, with a flush: microseconds");
+    for count in [1, 10, 100, 1_000, 10_000] {
+        let more = count.max(100);
+        let each = 1e6 * (ours(count + more, 9, 0) - ours(count, 9, 0)) / more as f64;
+        println!("  at a key of {count:6}       {each:8.3}");
+    }
+    let each = 1e6 * ours(100_000, 10, 10_000) / 100_000.0;
+    println!("  10,000 keys of 10 each   {each:8.3}");
 }
 
 /// Digests that nodes keep, of so many keys, and SHA-256 alone of as many values and pages of one key.
@@ -448,6 +478,7 @@ fn main() {
     for count in [1_000, 10_000, 100_000] {
         operations(count);
     }
+    fields();
     stores(10_000, 100);
     tries(100_000, Repeats { times: 5, runs: 2 });
     tries(1_000_000, Repeats { times: 5, runs: 3 });

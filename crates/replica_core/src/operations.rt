@@ -38,8 +38,10 @@ impl<H: PathHash, A: Allocator + Copy> Replica<H, A> {
     /// of the write.
     ///
     /// Its refusals are NumbersSpent, just where no number is left for the dot, and else OutOfMemory; a refused call changes nothing. Takes
-    /// time and memory in all that stands at the key, as its fields are made anew, times the logarithm of the map; in the names and single
-    /// dots of the context; and at times in what was made since the last flush.
+    /// look-ups in the map and the context, time and memory in what stands at the field, and time in the number of the key's fields, of
+    /// which it moves those that come after; all that stands at the key, and the nodes on the way, where a snapshot shares it. Where it overwrites
+    /// the first number of a name, it takes all that stands at the key too. What is never flushed is joined into one where it has eight
+    /// writes for each key of the map, and 4,096 more.
     pub fn put(&mut self, key: &Key<A>, value: &Value<A>) -> Result<Dot, Refusal>
         ensures ok { IfOk result (λ dot. Steps H.hash_of self.old self.new (Do (Put (plain key.now) value.now)) (Made dot) []) }
         ensures refused { IfErr result (IsRefused self.old (Put (plain key.now) value.now)) }
@@ -52,8 +54,10 @@ impl<H: PathHash, A: Allocator + Copy> Replica<H, A> {
     /// write.
     ///
     /// Its refusals are NumbersSpent, just where no number is left for the dot, and else OutOfMemory; a refused call changes nothing. Takes
-    /// time and memory in all that stands at the key, as its fields are made anew, times the logarithm of the map; in the names and single
-    /// dots of the context; and at times in what was made since the last flush.
+    /// look-ups in the map and the context, time and memory in what stands at the field, and time in the number of the key's fields, of
+    /// which it moves those that come after; all that stands at the key, and the nodes on the way, where a snapshot shares it. Where it overwrites
+    /// the first number of a name, it takes all that stands at the key too. What is never flushed is joined into one where it has eight
+    /// writes for each key of the map, and 4,096 more.
     pub fn put_field(
         &mut self,
         key: &Key<A>,
@@ -80,9 +84,8 @@ impl<H: PathHash, A: Allocator + Copy> Replica<H, A> {
 
     /// Takes the key away with all its fields, and says how many writes it observed there; where there is none it changes nothing.
     ///
-    /// Its only refusal is OutOfMemory; a refused call changes nothing. Takes time and memory in all that stands at the key, times the
-    /// logarithm of the map; in the names and single dots of the context; and at times in what was made since the last flush. Where it
-    /// observed nothing it takes a look-up.
+    /// Its only refusal is OutOfMemory; a refused call changes nothing. Takes time and memory in all that stands at the key, and
+    /// look-ups in the map. Where it observed nothing it takes a look-up.
     pub fn remove(&mut self, key: &Key<A>) -> Result<u64, Refusal>
         ensures ok { IfOk result (λ number. Steps H.hash_of self.old self.new (Do (Remove key.now)) (Counted number) []) }
         ensures refused { IsOkUnless result Refusal.OutOfMemory }
@@ -96,9 +99,8 @@ impl<H: PathHash, A: Allocator + Copy> Replica<H, A> {
     /// Takes the field of the key away, and says how many writes it observed there; where there is none it changes nothing. The key's other
     /// fields stay.
     ///
-    /// Its only refusal is OutOfMemory; a refused call changes nothing. Takes time and memory in all that stands at the key, times the
-    /// logarithm of the map; in the names and single dots of the context; and at times in what was made since the last flush. Where it
-    /// observed nothing it takes two look-ups.
+    /// Its only refusal is OutOfMemory; a refused call changes nothing. Takes time and memory in all that stands at the key, and
+    /// look-ups in the map. Where it observed nothing it takes two look-ups.
     pub fn remove_field(&mut self, key: &Key<A>, field: &Field<A>) -> Result<u64, Refusal>
         ensures ok { IfOk result (λ number. Steps H.hash_of self.old self.new (Do (RemoveField (place_of key.now field.now))) (Counted number) []) }
         ensures refused { IsOkUnless result Refusal.OutOfMemory }
@@ -112,7 +114,7 @@ impl<H: PathHash, A: Allocator + Copy> Replica<H, A> {
     /// Takes all keys away, and says how many writes it observed; where there is none it changes nothing.
     ///
     /// Its only refusal is OutOfMemory; a refused call changes nothing. Goes through the whole map: takes memory in it, and time in it, times
-    /// the logarithm of its dots; and at times in what was made since the last flush.
+    /// the logarithm of its dots.
     pub fn clear(&mut self) -> Result<u64, Refusal>
         ensures ok { IfOk result (λ number. Steps H.hash_of self.old self.new (Do Clear) (Counted number) []) }
         ensures refused { IsOkUnless result Refusal.OutOfMemory }

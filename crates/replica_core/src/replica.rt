@@ -18,10 +18,10 @@ use sync_protocol::{Answerer, Asker};
 /// One replica of the map: what it holds, what it made since it last sent, its own synchronisations that are open, and the snapshots
 /// that it keeps for those of others.
 ///
-/// A write and a delivery cost the keys that they touch, each with all its fields, times the logarithm of the map, and the context; of many
-/// writes each also joins what was written since the last flush, as often as that doubles. A key with many fields is dear: a write at one of
-/// them makes all of them anew. So are keys whose hashes of 32 bits are the same, as they are gone through one by one. The bytes of a key are
-/// kept once for each call or message that brought a dot which stands there. A flush costs what it sends, times the square of its logarithm.
+/// A write costs the field that it writes, and look-ups in the map; a delivery the keys that it touches, each with all its fields unless it
+/// brings one write, and the context where it brings several. Both copy what a snapshot shares: then a key with many fields is dear, as all of them
+/// are made anew. The bytes of a key are kept once for each call or message that brought a dot which stands there. What was written since the
+/// last flush is kept as it was written, and a flush costs what it sends, times the square of its logarithm.
 ///
 /// No call goes through the map but `keys`, `clear` and `copy`, `digest` and a first synchronisation where the nodes keep no digests yet,
 /// and the delivery of an opening or a page of a peer that had not seen all that was seen here: each dot of the own entries that stay is
