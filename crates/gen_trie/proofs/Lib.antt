@@ -1,6 +1,7 @@
 pub mod Seats
 pub mod Lookups
 pub mod Puts
+pub mod Halves
 pub mod Roots
 pub mod Marks
 pub mod Ordered

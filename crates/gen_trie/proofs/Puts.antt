@@ -13,14 +13,13 @@ use Rattle.hash_path.specs.Fan.{fan, at, there, place, put_child, bits_of, Rise}
 use Rattle.hash_path.proofs.Putting.{put-fan, length-put_child}
 use Rattle.hash_path.proofs.Places.{set_there, insert_absent, bits_there, bits_absent, bits_fit, Rise-put_child, there_at, at_absent}
 use Rattle.std.proofs.lemmas.List.{get_or-map as get_or-map_at}
-use Rattle.std.proofs.Math.Seq.{drop-cons}
 use Rattle.std.specs.Prelude.{OnOk, OnErr, IfOk}
-use Rattle.std.proofs.Common.{Ok, Err, add-one}
+use Rattle.std.proofs.Common.{Ok, Err}
 use Rattle.std.specs.declared.result.Result.{Result}
-use Rattle.std.specs.Ordering.{eq_by_cmp, is_gt}
+use Rattle.std.specs.Ordering.{eq_by_cmp}
 use Rattle.dots.specs.Bytes.{bytes_cmp}
 use Rattle.hash_path.specs.Rank.{rank}
-use Rattle.hash_path.proofs.Ranks.{put_set, put_insert, rank_le, rank_more, rank_none}
+use Rattle.hash_path.proofs.Ranks.{put_set, put_insert, rank_le}
 use Rattle.hash_path.proofs.Words.{IsWord-word, AllWords-put, tied_same, tied-word, put_tied, two_apart, length_put_ge, length_put_le}
 use Rattle.gen_trie.specs.declared.entry.Entry.{Entry}
 use Rattle.gen_trie.specs.declared.node.Slot.{Slot}
@@ -188,25 +187,11 @@ module _ {V A : Type 0} where
       ap listed is ∙ map-append f (take n es) (e ∷ drop n es) ∙ (λ i. sym (take-map f n es) i ++ f e ∷ sym (drop-map f n es) i) ∙ ap (λ k. insert (listed es) k d) p
       ∙ sym (put_insert w e.value.value d (listed es) apart)
 
-  pub rank_step : (k : ℕ) (e : Entry V A) (x : Arc (Entry V A) A) (es : List (Arc (Entry V A) A)) → k < length es → x ≡ get_or es k x
-      → true ≡ is_gt (bytes_cmp (e.hash ∷ e.key) (x.value.hash ∷ x.value.key))
-      → rank (e.hash ∷ e.key) (listed (drop k es)) ≡ suc (rank (e.hash ∷ e.key) (listed (drop (k + 1) es)))
-  rank_step k e x es h is t =
-      let split : drop k es ≡ x ∷ drop (suc k) es = drop-cons es k x h ∙ (λ i. sym is i ∷ drop (suc k) es) in
-      ap (λ l. rank (e.hash ∷ e.key) (listed l)) split ∙ rank_more (e.hash ∷ e.key) e.value (entry_at 0 x.value) (listed (drop (suc k) es)) (sym t)
-      ∙ ap (λ m. suc (rank (e.hash ∷ e.key) (listed (drop m es)))) (sym (add-one k))
-
-  pub rank_stop : (k : ℕ) (e : Entry V A) (x : Arc (Entry V A) A) (es : List (Arc (Entry V A) A)) → k < length es → x ≡ get_or es k x
-      → false ≡ is_gt (bytes_cmp (e.hash ∷ e.key) (x.value.hash ∷ x.value.key)) → rank (e.hash ∷ e.key) (listed (drop k es)) ≡ 0
-  rank_stop k e x es h is t =
-      let split : drop k es ≡ x ∷ drop (suc k) es = drop-cons es k x h ∙ (λ i. sym is i ∷ drop (suc k) es) in
-      ap (λ l. rank (e.hash ∷ e.key) (listed l)) split ∙ rank_none (e.hash ∷ e.key) e.value (entry_at 0 x.value) (listed (drop (suc k) es)) (sym t)
-
-  pub key_at : (n : ℕ) (e : Entry V A) (x : Arc (Entry V A) A) (r : Bool) (es : List (Arc (Entry V A) A)) (d : List ℕ × V) → n < length es → x ≡ get_or es n x
-      → r ≡ eq_by_cmp bytes_cmp (e.hash ∷ e.key) (x.value.hash ∷ x.value.key) → r ≡ eq_by_cmp bytes_cmp (e.hash ∷ e.key) (get_or (listed es) n d).0
-  key_at n e x r es d h is t =
+  pub key_at : (n : ℕ) (w : List ℕ) (x : Arc (Entry V A) A) (r : Bool) (es : List (Arc (Entry V A) A)) (d : List ℕ × V) → n < length es → x ≡ get_or es n x
+      → r ≡ eq_by_cmp bytes_cmp w (x.value.hash ∷ x.value.key) → r ≡ eq_by_cmp bytes_cmp w (get_or (listed es) n d).0
+  key_at n w x r es d h is t =
       let at_n : get_or (listed es) n d ≡ entry_at 0 x.value = get_or-map_at (λ (y : Arc (Entry V A) A). entry_at 0 y.value) es n x d h ∙ ap (λ (y : Arc (Entry V A) A). entry_at 0 y.value) (sym is) in
-      t ∙ ap (λ y. eq_by_cmp bytes_cmp (e.hash ∷ e.key) y.0) (sym at_n)
+      t ∙ ap (λ y. eq_by_cmp bytes_cmp w y.0) (sym at_n)
 
   -- ---- a slot
 

@@ -73,13 +73,3 @@ pub(crate) fn same_key<V, A: Allocator>(
 {
     entry.is_at(other.hash, other.key.bytes())
 }
-
-// Whether the first comes before the other.
-pub(crate) fn comes_before<V, A: Allocator>(
-    entry: &Arc<Entry<V, A>, A>,
-    other: &Arc<Entry<V, A>, A>,
-) -> bool
-    ensures { result ≡ is_gt (bytes_cmp (other.now.value.hash ∷ other.now.value.key) (entry.now.value.hash ∷ entry.now.value.key)) }
-{
-    entry.is_before(other.hash, other.key.bytes())
-}

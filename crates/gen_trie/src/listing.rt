@@ -1,6 +1,6 @@
 // Lists of keys with equal hashes, by key bytes.
 ghost use Rattle.std.specs.Prelude.{◌≡◌, ℕ, ◌<◌, List, ◌∷◌, length, slice_index_or, T, IsTrue, OnOk, OnErr, IfOk, IsOkUnless};
-ghost use Rattle.std.specs.Ordering.{eq_by_cmp};
+ghost use Rattle.std.specs.Ordering.{eq_by_cmp, is_gt};
 ghost use Rattle.std.specs.FinMap.Entries.{is_sorted};
 ghost use Rattle.dots.specs.Bytes.{bytes_cmp};
 ghost use Rattle.dots.specs.declared.refusal.Refusal.TheVariants.{OutOfMemory};
@@ -8,27 +8,49 @@ ghost use Rattle.hash_path.specs.Cut.{cut, spot};
 ghost use Rattle.hash_path.specs.Rank.{rank};
 ghost use Rattle.gen_trie.specs.Shapes.{listed, with_entry, HasMore};
 
-use crate::entry::{Entry, comes_before, same_key};
+use crate::entry::Entry;
 use dots::Refusal;
 use std::alloc::Allocator;
 use std::sync::Arc;
 
-// How many entries come before another, up to the first that does not.
+// How many entries come before a key, found by halves.
+fn rank_at<V, A: Allocator>(entries: &[Arc<Entry<V, A>, A>], hash: u32, key: &[u8]) -> usize
+    requires { T (is_sorted bytes_cmp (listed entries.now)) }
+    ensures { result ≡ rank (hash ∷ key.now) (listed entries.now) }
+{
+    entries.partition_point(
+        |entry| -> bool
+            ensures { result ≡ is_gt (bytes_cmp (hash ∷ key.entry.now) (entry.now.value.hash ∷ entry.now.value.key)) }
+        { entry.is_before(hash, key) },
+    )
+}
+
+// How many entries come before another.
 fn rank_of<V, A: Allocator>(entries: &[Arc<Entry<V, A>, A>], leaf: &Arc<Entry<V, A>, A>) -> usize
+    requires { T (is_sorted bytes_cmp (listed entries.now)) }
     ensures { result ≡ rank (leaf.now.value.hash ∷ leaf.now.value.key) (listed entries.now) }
 {
-    let mut count = 0;
-    for entry in entries {
-        if !comes_before(entry, leaf) {
-            return count;
-        }
-        count += 1;
+    rank_at(entries, leaf.hash, leaf.key.bytes())
+}
+
+// Whether the entry at a position is that of a key.
+fn has_key_at<V, A: Allocator>(
+    entries: &[Arc<Entry<V, A>, A>],
+    at: usize,
+    hash: u32,
+    key: &[u8],
+) -> bool
+    ensures within { IsTrue result → at < length entries.now }
+    ensures same { at < length entries.now → (d : List ℕ × V) → result ≡ eq_by_cmp bytes_cmp (hash ∷ key.now) (slice_index_or (listed entries.now) at d).0 }
+{
+    match entries.get(at) {
+        Some(entry) => entry.is_at(hash, key),
+        None => false,
     }
-    count
 }
 
 // Whether the entry at a position is that of another's key.
-fn has_key_at<V, A: Allocator>(
+fn has_key_of<V, A: Allocator>(
     entries: &[Arc<Entry<V, A>, A>],
     at: usize,
     leaf: &Arc<Entry<V, A>, A>,
@@ -36,10 +58,7 @@ fn has_key_at<V, A: Allocator>(
     ensures within { IsTrue result → at < length entries.now }
     ensures same { at < length entries.now → (d : List ℕ × V) → result ≡ eq_by_cmp bytes_cmp (leaf.now.value.hash ∷ leaf.now.value.key) (slice_index_or (listed entries.now) at d).0 }
 {
-    match entries.get(at) {
-        Some(entry) => same_key(entry, leaf),
-        None => false,
-    }
+    has_key_at(entries, at, leaf.hash, leaf.key.bytes())
 }
 
 // Puts an entry in its place, or in that of the entry of its key, and tells whether the key is new.
@@ -47,13 +66,14 @@ pub(crate) fn put_in_list<V: Drop, A: Allocator + Copy>(
     entries: &mut Vec<Arc<Entry<V, A>, A>, A>,
     leaf: Arc<Entry<V, A>, A>,
 ) -> Result<bool, Refusal>
+    requires { T (is_sorted bytes_cmp (listed entries.old.items)) }
     ensures ok { OnOk result (listed entries.new.items ≡ with_entry 0 leaf.value (listed entries.old.items)) }
     ensures fresh { IfOk result (λ fresh. HasMore fresh (listed entries.old.items) (listed entries.new.items)) }
     ensures same { OnErr result (listed entries.new.items ≡ listed entries.old.items) }
     ensures err { IsOkUnless result OutOfMemory }
 {
     let at = rank_of(entries, &leaf);
-    if has_key_at(entries, at, &leaf) {
+    if has_key_of(entries, at, &leaf) {
         entries[at] = leaf;
         return Ok(false);
     }
@@ -61,22 +81,20 @@ pub(crate) fn put_in_list<V: Drop, A: Allocator + Copy>(
     Ok(true)
 }
 
-// The position of the entry of a key, or the number of entries.
+// The position of the entry of a key, or the number of entries, found by halves.
 pub(crate) fn place_of<V, A: Allocator>(
     entries: &[Arc<Entry<V, A>, A>],
     hash: u32,
     key: &[u8],
 ) -> usize
+    requires { T (is_sorted bytes_cmp (listed entries.now)) }
     ensures { result ≡ spot (hash ∷ key.now) (listed entries.now) }
 {
-    let mut count = 0;
-    for entry in entries {
-        if entry.is_at(hash, key) {
-            return count;
-        }
-        count += 1;
+    let at = rank_at(entries, hash, key);
+    if has_key_at(entries, at, hash, key) {
+        return at;
     }
-    count
+    entries.len()
 }
 
 // Takes the entry of a key out, if it is there.

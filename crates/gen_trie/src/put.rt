@@ -1,7 +1,9 @@
 // Putting an entry into a node: in place where the node has no other owner, and else into a copy.
-ghost use Rattle.std.specs.Prelude.{◌≡◌, ℕ, suc, ◌≤◌, [], ◌∷◌, vec_len, false, OnOk, OnErr, IfOk, IsOkUnless};
+ghost use Rattle.std.specs.Prelude.{◌≡◌, ℕ, suc, ◌≤◌, [], ◌∷◌, vec_len, T, false, OnOk, OnErr, IfOk, IsOkUnless};
 ghost use Rattle.std.specs.List.{All};
+ghost use Rattle.std.specs.FinMap.Entries.{is_sorted};
 ghost use Rattle.dots.specs.declared.refusal.Refusal.TheVariants.{OutOfMemory};
+ghost use Rattle.dots.specs.Bytes.{bytes_cmp};
 ghost use Rattle.hash_path.specs.Word.{digit};
 ghost use Rattle.hash_path.specs.Fan.{fan};
 ghost use Rattle.gen_trie.specs.Shapes.{children, child, entry_at, with_entry, HasMore, stands_for, StandsBelow, IsBranch, IsNoNewer, IsSeat, node_stamp};
@@ -23,7 +25,8 @@ pub(crate) fn put<V: Drop, M: Summary<V>, A: Allocator + Copy>(
     generation: u64,
     leaf: Arc<Entry<V, A>, A>,
 ) -> Result<bool, Refusal>
-    requires { node_stamp node.old ≡ generation }
+    requires sorted { T (is_sorted bytes_cmp node.old.1.0) }
+    requires stamp { node_stamp node.old ≡ generation }
     ensures ok { OnOk result (stands_for node.new ≡ (node.old.0, with_entry node.old.0 leaf.value node.old.1.0)) }
     ensures fresh { IfOk result (λ fresh. HasMore fresh node.old.1.0 node.new.1.0) }
     ensures same { OnErr result (stands_for node.new ≡ stands_for node.old) }
@@ -49,6 +52,7 @@ fn put_branch<V: Drop, M: Summary<V>, A: Allocator + Copy>(
     leaf: Arc<Entry<V, A>, A>,
 ) -> Result<bool, Refusal>
     requires branch { IsBranch below bitmap.old slots.old.items }
+    requires sorted { T (is_sorted bytes_cmp (fan (children below slots.old.items))) }
     requires stamps { All (IsNoNewer generation) slots.old.items }
     ensures ok { OnOk result (fan (children below slots.new.items) ≡ with_entry (suc below) leaf.value (fan (children below slots.old.items))) }
     ensures fresh { IfOk result (λ fresh. HasMore fresh (fan (children below slots.old.items)) (fan (children below slots.new.items))) }
@@ -97,6 +101,7 @@ pub(crate) fn put_slot<V: Drop, M: Summary<V>, A: Allocator + Copy>(
 ) -> Result<bool, Refusal>
     requires fits { StandsBelow below slot.old }
     requires height { below ≤ 7 }
+    requires sorted { T (is_sorted bytes_cmp (child below slot.old).1) }
     requires stamp { IsNoNewer generation slot.old }
     ensures ok { OnOk result (child below slot.new ≡ ((child below slot.old).0, with_entry below leaf.value (child below slot.old).1)) }
     ensures fresh { IfOk result (λ fresh. HasMore fresh (child below slot.old).1 (child below slot.new).1) }
@@ -150,7 +155,8 @@ fn put_shared<V: Drop, M: Summary<V>, A: Allocator + Copy>(
     generation: u64,
     leaf: Arc<Entry<V, A>, A>,
 ) -> Result<bool, Refusal>
-    requires { node_stamp node.old.value ≤ generation }
+    requires sorted { T (is_sorted bytes_cmp node.old.value.1.0) }
+    requires stamp { node_stamp node.old.value ≤ generation }
     ensures ok { OnOk result (stands_for node.new.value ≡ (node.old.value.0, with_entry node.old.value.0 leaf.value node.old.value.1.0)) }
     ensures fresh { IfOk result (λ fresh. HasMore fresh node.old.value.1.0 node.new.value.1.0) }
     ensures same { OnErr result (stands_for node.new.value ≡ stands_for node.old.value) }

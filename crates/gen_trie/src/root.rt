@@ -84,6 +84,7 @@ fn put_root<V: Drop, M: Summary<V>, A: Allocator + Copy>(
     leaf: Arc<Entry<V, A>, A>,
 ) -> Result<bool, Refusal>
     requires stands { RootStands root.old }
+    requires sorted { T (is_sorted bytes_cmp (root_entries root.old)) }
     requires stamp { root_stamp root.old ≤ generation }
     ensures ok { OnOk result (root_entries root.new ≡ with_entry 7 leaf.value (root_entries root.old)) }
     ensures fresh { IfOk result (λ fresh. HasMore fresh (root_entries root.old) (root_entries root.new)) }

@@ -4,9 +4,19 @@ use Rattle.std.proofs.lemmas.List.Elements.{All-set}
 use Rattle.hash_path.specs.Fan.{fan}
 use Rattle.hash_path.specs.Word.{digit}
 use Rattle.gen_trie.specs.Shapes.{children, child, listed, height_and_entries, stands_for, HasMore, StandsBelow, IsNoNewer, IsSeat}
+use Rattle.gen_trie.proofs.Changes.{child_sorted}
+use Rattle.gen_trie.proofs.Seats.{found}
 use Rattle.gen_trie.proofs.Puts.{put_old_is, put_none_is, replaced, two_keys, one_more_key, more_keys, grown, ok_with, if_ok_so, ok_so, err_so, either_so, not_false}
 use Rattle.gen_trie.proofs.put.+put.Goals.{put-in-Branch, put-in-Keys}
 use Rattle.gen_trie.proofs.put.+put.Goals as goal
+
+pub put_branch-put_slot-requires : goal.put_branch-put_slot-requires
+put_branch-put_slot-requires g t c =
+    let taken = not_false c.seat_of-seat.result.taken c.if-not-seat.false in
+    let seat = subst (λ e. IsSeat (digit c.args.below e.hash) (children c.args.below c.args.slots.now.items) (vec_len c.args.slots.now) c.seat_of-seat.result.index c.seat_of-seat.result.at c.seat_of-seat.result.taken) c.deref.ensures c.seat_of-seat.ensures in
+    let here = found c.args.below c.args.slots.now.items c.args.bitmap.now _ _ _ _ _ c.index_mut.result.now c.requires.branch seat c.args.slots.now.ok.0 taken c.index_mut.ensures.value in
+    let sorted = child_sorted c.args.below c.args.leaf.value.hash c.args.leaf.value.key c.args.bitmap.now c.args.slots.now.items c.requires.branch c.index_mut.result.now here.0 c.requires.sorted in
+    search (rules, here.1, sorted)
 
 pub put_branch-returns-clause-ok : goal.put_branch-returns-clause-ok
 put_branch-returns-clause-ok g t c =
@@ -96,7 +106,7 @@ put_slot-returns-in-Many-clause-fresh g t c =
 pub put-invariant_of-node : goal.put-invariant_of-node
 put-invariant_of-node g t c =
     elim c.match-node.branch [
-      | put-in-Branch w ↦ rw w.node-inside-is (w.put_branch.ensures.branch, tt, subst (λ s. All (IsNoNewer s) w.put_branch.new.slots.items) (sym (ap (λ n. n.1.1.1) c.node.view_is ∙ c.requires)) w.put_branch.ensures.stamps)
+      | put-in-Branch w ↦ rw w.node-inside-is (w.put_branch.ensures.branch, tt, subst (λ s. All (IsNoNewer s) w.put_branch.new.slots.items) (sym (ap (λ n. n.1.1.1) c.node.view_is ∙ c.requires.stamp)) w.put_branch.ensures.stamps)
       | put-in-Keys w ↦ rw w.node-inside-is (tt, tt, tt)
     ]
 
