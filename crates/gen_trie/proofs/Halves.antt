@@ -1,20 +1,26 @@
 -- Where a word stands among keys with equal hashes, which ascend: so it is found by halves.
-use Rattle.std.proofs.Common.{◌≡◌, ℕ, zero, suc, ◌<◌, ◌≤◌, List, [], ◌∷◌, length, get_or, Bool, true, false, cond, T, arith, refl, sym, ◌∙◌, ap, subst}
-use Rattle.std.specs.Prelude.{◌&&◌}
+use Rattle.std.proofs.Common.{◌≡◌, ℕ, zero, suc, ◌<◌, ◌≤◌, List, [], ◌∷◌, length, get_or, drop, Bool, true, false, cond, T, Some, ltb-true, ltb-false, arith, refl, sym, ◌∙◌, ap, subst}
+use Rattle.std.specs.Prelude.{◌&&◌, is_some, None, IfSome}
+use Rattle.std.specs.Borrow.{Bor}
+use Rattle.std.specs.Option.{option_map}
+use Rattle.std.specs.Slice.{IsItemAt}
+use Rattle.std.specs.declared.option.Option.{Option}
 use Rattle.std.specs.declared.cmp.Ordering.{Ordering}
 use Rattle.std.specs.declared.cmp.Ordering.TheVariants.{Less, Equal, Greater}
 use Rattle.std.specs.declared.sync.Arc.{Arc}
-use Rattle.std.proofs.lemmas.List.{length-map}
+use Rattle.std.proofs.lemmas.List.{length-map, get_or-map}
 use Rattle.std.specs.Cmp.{upto}
 use Rattle.std.specs.Cmp.Lexicographic.{nat_list_cmp_total}
 use Rattle.std.specs.Ordering.{eq_by_cmp, is_eq, is_gt, is_lt}
-use Rattle.std.specs.FinMap.Entries.{by_order, below_all, is_sorted}
+use Rattle.std.specs.FinMap.Entries.{by_order, find, below_all, is_sorted}
 use Rattle.dots.specs.Bytes.{bytes_cmp}
 use Rattle.hash_path.specs.Cut.{spot}
 use Rattle.hash_path.specs.Rank.{rank}
 use Rattle.hash_path.proofs.Ranks.{rank_more, rank_none}
+use Rattle.hash_path.proofs.Words.{tied_same}
 use Rattle.gen_trie.specs.declared.entry.Entry.{Entry}
 use Rattle.gen_trie.specs.Shapes.{entry_at, listed}
+use Rattle.gen_trie.proofs.Changes.{find_spot, tied_spot}
 use Rattle.gen_trie.proofs.Ordered.{less_from, first_below, rest_below, first_sorted, rest_sorted}
 
 no_greater : (o : Ordering) → T (is_lt o) → is_gt o ≡ false
@@ -133,3 +139,46 @@ module _ {V A : Type 0} (w : List ℕ) (n : ℕ) where
       → (n < length es → (d : List ℕ × V) → false ≡ eq_by_cmp bytes_cmp w (get_or (listed es) n d).0) → length es ≡ spot w (listed es)
   place_none [] s p t = refl
   place_none (e ∷ es) s p t = none_by w n (e ∷ es) (entry_at 0 e.value) s p (λ h. t h (entry_at 0 e.value))
+
+-- ---- what is found at the place
+
+module _ {V : Type 0} (w : List ℕ) where
+  spot_found : (es : List (List ℕ × V)) → spot w es < length es → is_some (find bytes_cmp w es) ≡ true
+  spot_found [] h = absurd (omega arith)
+  spot_found (e ∷ es) h = step (eq_by_cmp bytes_cmp w e.0) (spot_found es) h
+    where
+      step : (b : Bool) → (spot w es < length es → is_some (find bytes_cmp w es) ≡ true) → cond b 0 (suc (spot w es)) < suc (length es) → is_some (cond b (Some e.1) (find bytes_cmp w es)) ≡ true
+      step true rest l = refl
+      step false rest l = rest (omega arith)
+
+  none_found : (es : List (List ℕ × V)) → length es ≤ spot w es → find bytes_cmp w es ≡ None
+  none_found [] h = refl
+  none_found (e ∷ es) h = step (eq_by_cmp bytes_cmp w e.0) (none_found es) h
+    where
+      step : (b : Bool) → (length es ≤ spot w es → find bytes_cmp w es ≡ None) → suc (length es) ≤ cond b 0 (suc (spot w es)) → cond b (Some e.1) (find bytes_cmp w es) ≡ None
+      step true rest l = absurd (omega arith)
+      step false rest l = rest (omega arith)
+
+module _ {V A : Type 0} (hash : ℕ) (key : List ℕ) (n : ℕ) (es : List (Arc (Entry V A) A)) (place : n ≡ spot (hash ∷ key) (listed es)) where
+  entry_found : (x : Arc (Entry V A) A) → n < length es → x ≡ get_or es n x → (find bytes_cmp (hash ∷ key) (listed es) ≡ Some x.value.value) × (x.value.key ≡ key)
+  entry_found x h is =
+      let w = hash ∷ key in
+      let d = entry_at 0 x.value in
+      let within : spot w (listed es) < length (listed es) = subst (λ k. k < length (listed es)) place (subst (λ k. n < k) (sym (length-map es (λ (y : Arc (Entry V A) A). entry_at 0 y.value))) h) in
+      let there = spot_found w (listed es) within in
+      let here : get_or (listed es) (spot w (listed es)) d ≡ d =
+      ap (λ k. get_or (listed es) k d) (sym place) ∙ get_or-map (λ (y : Arc (Entry V A) A). entry_at 0 y.value) es n x d h ∙ ap (λ (y : Arc (Entry V A) A). entry_at 0 y.value) (sym is) in
+      let tied : eq_by_cmp bytes_cmp w d.0 ≡ true = subst (λ (y : List ℕ × V). eq_by_cmp bytes_cmp w y.0 ≡ true) here (tied_spot w d (listed es) there) in (
+        find_spot w d (listed es) there ∙ ap (λ (y : List ℕ × V). Some y.1) here,
+        sym (ap (drop 1) (tied_same w d.0 tied)),
+      )
+
+  pub get_value : (o : Option (Bor (Arc (Entry V A) A))) → IsItemAt es n o → option_map (λ found. found.now.value.value) o ≡ find bytes_cmp (hash ∷ key) (listed es)
+  get_value None get =
+      let past = ltb-false n (length es) (sym get.0) in
+      sym (none_found (hash ∷ key) (listed es) (subst (λ k. length (listed es) ≤ k) place (subst (λ k. k ≤ n) (sym (length-map es (λ (y : Arc (Entry V A) A). entry_at 0 y.value))) past)))
+  get_value (Some x) get = sym (entry_found x.now (ltb-true n (length es) (sym get.0)) get.1).0
+
+  pub get_key : (o : Option (Bor (Arc (Entry V A) A))) → IsItemAt es n o → IfSome o (λ found. found.now.value.key ≡ key)
+  get_key None get = tt
+  get_key (Some x) get = (entry_found x.now (ltb-true n (length es) (sym get.0)) get.1).1

@@ -1,11 +1,12 @@
 -- Looking up in a node that is a branch.
-use Rattle.std.proofs.Common.{◌≡◌, ℕ, suc, List, [], ◌∷◌, cond, Vec, Some, None, ◌∙◌, ap, sym, subst}
+use Rattle.std.proofs.Common.{◌≡◌, ℕ, suc, List, [], ◌∷◌, cond, Vec, T, Some, None, ◌∙◌, ap, sym, subst}
 use Rattle.std.specs.declared.option.Option.{Option}
 use Rattle.std.specs.declared.sync.Arc.{Arc}
-use Rattle.std.specs.FinMap.Entries.{find}
+use Rattle.std.specs.FinMap.Entries.{find, is_sorted}
 use Rattle.dots.specs.Bytes.{bytes_cmp}
 use Rattle.hash_path.specs.Word.{digit, word}
 use Rattle.hash_path.specs.Fan.{fan, at}
+use Rattle.hash_path.proofs.Cutting.{sorted-at}
 use Rattle.hash_path.proofs.Finding.{find-fan}
 use Rattle.hash_path.proofs.Words.{tied-word}
 use Rattle.gen_trie.specs.declared.entry.Entry.{Entry}
@@ -45,3 +46,13 @@ module _ {V M A : Type 0} (shape : Shape V M A) (node : ℕ × List (List ℕ ×
       let entries : n.value.1.0 ≡ at (digit below hash) (children below slots.items) = ap (λ c. c.1) (ap (child below) (sym many) ∙ h.0) in
       let low = subst (StandsBelow below) many h.1 in
       f ∙ ap (λ y. find bytes_cmp (word y.0 hash key) y.1.0) q ∙ ap (λ k. find bytes_cmp (word k hash key) n.value.1.0) low.0 ∙ ap (find bytes_cmp (word below hash key)) entries ∙ sym below_it
+
+  -- and the entries of the child ascend where those of the node do
+  pub look_sorted : (s : Slot V M A) (i : ℕ) (n : Arc (Node V M A) A) (x : Node V M A) → s ≡ Many i n → x ≡ n.value
+      → (child below s ≡ (digit below hash, at (digit below hash) (children below slots.items))) × StandsBelow below s
+      → T (is_sorted bytes_cmp node.1) → T (is_sorted bytes_cmp x.1.0)
+  look_sorted s i n x many q h sorted =
+      let e : node ≡ (suc below, fan (children below slots.items)) = sym seen ∙ ap height_and_entries is in
+      let entries : n.value.1.0 ≡ at (digit below hash) (children below slots.items) = ap (λ c. c.1) (ap (child below) (sym many) ∙ h.0) in
+      subst (λ (l : List (List ℕ × V)). T (is_sorted bytes_cmp l)) (sym (ap (λ y. y.1.0) q ∙ entries))
+      (sorted-at (digit below hash) (children below slots.items) (subst (λ (y : ℕ × List (List ℕ × V)). T (is_sorted bytes_cmp y.1)) e sorted))

@@ -1,11 +1,14 @@
-// Lists of keys with equal hashes, by key bytes.
-ghost use Rattle.std.specs.Prelude.{◌≡◌, ℕ, ◌<◌, List, ◌∷◌, length, slice_index_or, T, IsTrue, OnOk, OnErr, IfOk, IsOkUnless};
+// Lists of keys with equal hashes, by key bytes. A key is found there by halves, so each call asks that they ascend, as the
+// entries of a whole trie do: a node alone does not say it.
+ghost use Rattle.std.specs.Prelude.{◌≡◌, ℕ, ◌<◌, List, ◌∷◌, length, slice_index_or, T, IsTrue, OnOk, OnErr, IfOk, IfSome, IsOkUnless};
+ghost use Rattle.std.specs.Option.{option_map};
 ghost use Rattle.std.specs.Ordering.{eq_by_cmp, is_gt};
-ghost use Rattle.std.specs.FinMap.Entries.{is_sorted};
+ghost use Rattle.std.specs.FinMap.Entries.{find, is_sorted};
 ghost use Rattle.dots.specs.Bytes.{bytes_cmp};
 ghost use Rattle.dots.specs.declared.refusal.Refusal.TheVariants.{OutOfMemory};
 ghost use Rattle.hash_path.specs.Cut.{cut, spot};
 ghost use Rattle.hash_path.specs.Rank.{rank};
+ghost use Rattle.hash_path.specs.Word.{word};
 ghost use Rattle.gen_trie.specs.Shapes.{listed, with_entry, HasMore};
 
 use crate::entry::Entry;
@@ -95,6 +98,20 @@ pub(crate) fn place_of<V, A: Allocator>(
         return at;
     }
     entries.len()
+}
+
+// The entry of a key.
+pub(crate) fn in_list<'a, V, A: Allocator>(
+    entries: &'a [Arc<Entry<V, A>, A>],
+    hash: u32,
+    key: &[u8],
+) -> Option<&'a Arc<Entry<V, A>, A>>
+    requires { T (is_sorted bytes_cmp (listed entries.now)) }
+    ensures value { option_map (λ found. found.now.value.value) result ≡ find bytes_cmp (word 0 hash key.now) (listed entries.now) }
+    ensures key { IfSome result (λ found. found.now.value.key ≡ key.now) }
+{
+    let at = place_of(entries, hash, key);
+    entries.get(at)
 }
 
 // Takes the entry of a key out, if it is there.

@@ -1,12 +1,13 @@
-ghost use Rattle.std.specs.Prelude.{◌≡◌, ℕ, ◌<◌, ◌≤◌, [], ◌^◌, ◌%◌, count_ones, MatchOption, IfSome, vec_len};
+ghost use Rattle.std.specs.Prelude.{◌≡◌, ℕ, ◌<◌, ◌≤◌, [], ◌^◌, ◌%◌, count_ones, MatchOption, IfSome, vec_len, T};
 ghost use Rattle.std.specs.Option.{option_map};
-ghost use Rattle.std.specs.FinMap.Entries.{find};
+ghost use Rattle.std.specs.FinMap.Entries.{find, is_sorted};
 ghost use Rattle.dots.specs.Bytes.{bytes_cmp};
 ghost use Rattle.hash_path.specs.Word.{word, digit};
 ghost use Rattle.hash_path.specs.Fan.{at, place, there};
 ghost use Rattle.gen_trie.specs.Shapes.{children, child, is_sealed, StandsBelow, IsBranch, IsSeat, listed};
 
 use crate::entry::{Entry, entry_for};
+use crate::listing::in_list;
 use crate::summary::Summary;
 use hash_path::index_at;
 use std::alloc::Allocator;
@@ -189,26 +190,10 @@ fn slot_at<V, M: Summary<V>, A: Allocator>(
     slot_of(slots, below, bitmap, index)
 }
 
-// The entry of a key among those of equal hashes.
-fn in_list<'a, V, A: Allocator>(
-    entries: &'a [Arc<Entry<V, A>, A>],
-    hash: u32,
-    key: &[u8],
-) -> Option<&'a Arc<Entry<V, A>, A>>
-    ensures value { option_map (λ found. found.now.value.value) result ≡ find bytes_cmp (word 0 hash key.now) (listed entries.now) }
-    ensures key { IfSome result (λ found. found.now.value.key ≡ key.now) }
-{
-    for entry in entries {
-        if let Some(found) = entry_for(entry, hash, key) {
-            return Some(found);
-        }
-    }
-    None
-}
-
 impl<V, M: Summary<V>, A: Allocator> Node<V, M, A> {
     // The entry of this hash and these bytes.
     pub fn lookup<'a>(&'a self, hash: u32, key: &[u8]) -> Option<&'a Arc<Entry<V, A>, A>>
+        requires { T (is_sorted bytes_cmp self.now.1.0) }
         ensures value { option_map (λ found. found.now.value.value) result ≡ find bytes_cmp (word self.now.0 hash key.now) self.now.1.0 }
         ensures key { IfSome result (λ found. found.now.value.key ≡ key.now) }
     {

@@ -26,7 +26,8 @@ pub(crate) fn look_root<'a, V, M: Summary<V>, A: Allocator>(
     hash: u32,
     key: &[u8],
 ) -> Option<&'a Arc<Entry<V, A>, A>>
-    requires { RootStands root.now }
+    requires stands { RootStands root.now }
+    requires sorted { T (is_sorted bytes_cmp (root_entries root.now)) }
     ensures value { option_map (λ found. found.now.value.value) result ≡ find bytes_cmp (word 7 hash key.now) (root_entries root.now) }
     ensures key { IfSome result (λ found. found.now.value.key ≡ key.now) }
 {
@@ -122,7 +123,8 @@ fn has_room<V, M: Summary<V>, A: Allocator>(
     hash: u32,
     key: &[u8],
 ) -> bool
-    requires { RootStands root.now }
+    requires stands { RootStands root.now }
+    requires sorted { T (is_sorted bytes_cmp (root_entries root.now)) }
     ensures { IsTrue result → (count < 2 ^ 64 - 1) ⊎ (is_some (find bytes_cmp (word 7 hash key.now) (root_entries root.now)) ≡ true) }
 {
     if count < u64::MAX {

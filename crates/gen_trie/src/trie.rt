@@ -29,7 +29,7 @@ use std::sync::Arc;
 /// since the last seal, which are given their summaries.
 ///
 /// It is a trie by the path hash of the keys: 32 children a branch, five bits of the hash a level, and lists of keys
-/// with equal hashes past the last, which a call at such a key goes through. What is written after a freeze is copied first,
+/// with equal hashes past the last, in which a key is found by halves. What is written after a freeze is copied first,
 /// node by node, so a frozen map stays what it was. An entry with its value takes one allocation, and a key of more than 22
 /// bytes takes two of its own.
 ///
