@@ -20,9 +20,10 @@ use sync_protocol::{Answerer, Asker};
 ///
 /// A write costs the field that it writes, and look-ups in the map; a delivery the keys that it touches, each with all its fields unless it
 /// brings one write, and the context where it brings several. Both copy what a snapshot shares: then a key with many fields is dear, as all of them
-/// are made anew. So are many keys whose hashes of 32 bits are the same: one is found among them by halves, but the list that they stand in is moved
-/// or copied by a write, and a seal goes through it. The bytes of a key are kept once for each call or message that brought a dot which stands there. What was written since the
-/// last flush is kept as it was written, and a flush costs what it sends, times the square of its logarithm.
+/// are made anew. So are many keys whose hashes of 32 bits are the same: one is found among them by halves, but a write moves or copies the
+/// list that they stand in, and a seal goes through it. The bytes of a key are kept once for each call or message that brought a dot which
+/// stands there. What was written since the last flush is kept as it was written, and a flush costs what it sends, times the square of its
+/// logarithm.
 ///
 /// No call goes through the map but `keys`, `clear` and `copy`, `digest` and a first synchronisation where the nodes keep no digests yet,
 /// and the delivery of an opening or a page of a peer that had not seen all that was seen here: each dot of the own entries that stay is
