@@ -1,7 +1,8 @@
 // Contexts, by their version vectors and clouds.
 use crate::forms::has_form;
 use crate::made::{Pair, context_of, dot};
-use causal_context::Context;
+use causal_context::{Context, Growth};
+use dots::Dot;
 use std::alloc::Global;
 use std::process::Abort;
 
@@ -107,4 +108,208 @@ fn is_one_entry(rt: &impl Abort, alloc: Global) -> bool {
 #[test]
 fn a_million_writes_of_one_name_are_one_entry(rt: HostRuntime) {
     assert!(rt; is_one_entry(&rt, rt.alloc()));
+}
+
+// What a context lacks of another.
+#[derive(Clone, Copy)]
+enum Lacks {
+    Nothing,
+    One(Pair),
+    More,
+}
+
+// Whether this dot alone is lacking.
+fn is_one(found: Dot, lacks: Lacks) -> bool {
+    match lacks {
+        Lacks::One((of, number)) => found.name().number() == of && found.number() == number,
+        _ => false,
+    }
+}
+
+fn is_growth(growth: Growth, lacks: Lacks) -> bool {
+    match growth {
+        Growth::Nothing => matches!(lacks, Lacks::Nothing),
+        Growth::One(found) => is_one(found, lacks),
+        Growth::More => matches!(lacks, Lacks::More),
+    }
+}
+
+// Whether the context of the first dots lacks this of that of the others.
+fn lacks_so(rt: &impl Abort, alloc: Global, mine: &[Pair], yours: &[Pair], lacks: Lacks) -> bool {
+    let here = context_of(rt, alloc, mine);
+    let there = context_of(rt, alloc, yours);
+    is_growth(here.growth(&there), lacks)
+}
+
+// What holds, the dots of a context and of another, and what the first lacks.
+const GROWTHS: &[(&str, &[Pair], &[Pair], Lacks)] = &[
+    ("two without dots", &[], &[], Lacks::Nothing),
+    (
+        "each is there",
+        &[(1, 1), (1, 2), (1, 4), (2, 3)],
+        &[(1, 1), (1, 4)],
+        Lacks::Nothing,
+    ),
+    (
+        "the one above an entry",
+        &[(1, 1), (2, 1)],
+        &[(1, 1), (1, 2), (2, 1)],
+        Lacks::One((1, 2)),
+    ),
+    (
+        "the first of a name",
+        &[(1, 1)],
+        &[(2, 1)],
+        Lacks::One((2, 1)),
+    ),
+    (
+        "one of the cloud",
+        &[(1, 1)],
+        &[(1, 1), (1, 3)],
+        Lacks::One((1, 3)),
+    ),
+    (
+        "the one in a gap",
+        &[(1, 1), (1, 3)],
+        &[(1, 1), (1, 2)],
+        Lacks::One((1, 2)),
+    ),
+    (
+        "two above entries",
+        &[(1, 1)],
+        &[(1, 1), (1, 2), (2, 1)],
+        Lacks::More,
+    ),
+    (
+        "two above one entry",
+        &[(1, 1)],
+        &[(1, 1), (1, 2), (1, 3)],
+        Lacks::More,
+    ),
+    (
+        "two of the cloud",
+        &[(1, 1)],
+        &[(1, 3), (2, 3)],
+        Lacks::More,
+    ),
+    (
+        "one above an entry and one of the cloud",
+        &[],
+        &[(1, 1), (1, 3)],
+        Lacks::More,
+    ),
+];
+
+#[test]
+fn a_context_tells_what_it_lacks(rt: HostRuntime) {
+    for (what, mine, yours, lacks) in GROWTHS {
+        assert!(rt; lacks_so(&rt, rt.alloc(), mine, yours, *lacks), "{what}");
+    }
+}
+
+// Takes a dot out, where it is there and the one above is not. Whether that is so.
+fn is_taken_out(context: &mut Context, dot: Dot) -> bool {
+    if !context.contains(dot) {
+        return false;
+    }
+    if context.contains_above(dot) {
+        return false;
+    }
+    context.take_out(dot);
+    true
+}
+
+// Raises the entry to a dot, where it is just below and the dot above is not there. Whether that is so.
+fn is_raised(context: &mut Context, dot: Dot) -> bool {
+    let entry = context.entry(dot.name());
+    if entry == 0 || entry == u64::MAX {
+        return false;
+    }
+    if dot.number() != entry + 1 || context.contains_above(dot) {
+        return false;
+    }
+    context.raise(dot);
+    true
+}
+
+// The context with the dot besides.
+fn added(rt: &impl Abort, alloc: Global, context: &Context, dot: Dot) -> Context {
+    let mut more = context.copy(alloc).expect(rt, "memory");
+    more.add(dot).expect(rt, "memory");
+    more
+}
+
+// Whether the dot is taken out again, which leaves what was there.
+fn is_given_back(rt: &impl Abort, alloc: Global, context: &Context, dot: Dot) -> bool {
+    let mut more = added(rt, alloc, context, dot);
+    let is_taken = is_taken_out(&mut more, dot);
+    let is_same = more == *context;
+    is_taken && is_same
+}
+
+// Whether the entry is raised to the dot, which leaves what an add does.
+fn is_raised_so(rt: &impl Abort, alloc: Global, context: &Context, dot: Dot) -> bool {
+    let mut raised = context.copy(alloc).expect(rt, "memory");
+    let is_raised = is_raised(&mut raised, dot);
+    let is_same = raised == added(rt, alloc, context, dot);
+    is_raised && is_same
+}
+
+// A dot that comes to a context: whether the dot above is not there, and whether it is just above its entry besides.
+type Come = (Pair, bool, bool);
+
+fn comes_so(rt: &impl Abort, alloc: Global, dots: &[Pair], come: Come) -> bool {
+    let context = context_of(rt, alloc, dots);
+    let dot = dot(rt, come.0.0, come.0.1);
+    let is_last = !context.contains_above(dot);
+    let is_given_back = is_given_back(rt, alloc, &context, dot);
+    let is_raised = is_raised_so(rt, alloc, &context, dot);
+    is_last == come.1 && is_given_back == come.1 && is_raised == come.2
+}
+
+// What holds, the dots of a context, and one that comes.
+const COMES: &[(&str, &[Pair], Come)] = &[
+    ("the first dot", &[], ((1, 1), true, false)),
+    (
+        "the first of a name",
+        &[(2, 1), (3, 1)],
+        ((1, 1), true, false),
+    ),
+    (
+        "the one above an entry",
+        &[(1, 1), (1, 2), (2, 1)],
+        ((1, 3), true, true),
+    ),
+    (
+        "the one above an entry below a gap",
+        &[(1, 1), (1, 4), (2, 3)],
+        ((1, 2), true, true),
+    ),
+    (
+        "one past a gap",
+        &[(1, 1), (1, 5), (2, 2)],
+        ((1, 3), true, false),
+    ),
+    (
+        "the last of a name",
+        &[(1, 1)],
+        ((1, u64::MAX), true, false),
+    ),
+    (
+        "one that closes a gap",
+        &[(1, 1), (1, 3)],
+        ((1, 2), false, false),
+    ),
+    (
+        "one below another of the cloud",
+        &[(1, 5)],
+        ((1, 4), false, false),
+    ),
+];
+
+#[test]
+fn a_dot_that_came_is_taken_out_again(rt: HostRuntime) {
+    for (what, dots, come) in COMES {
+        assert!(rt; comes_so(&rt, rt.alloc(), dots, *come), "{what}");
+    }
 }

@@ -2,5 +2,6 @@
 mod generations;
 mod made;
 mod operations;
+mod outgoing;
 mod pairs;
 mod stores;

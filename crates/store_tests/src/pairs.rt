@@ -6,7 +6,7 @@ use std::alloc::Global;
 use std::process::Abort;
 
 // Whether the pairs have the same store and the same context.
-fn are_same<S: DotStore<Global>>(one: &Causal<S>, other: &Causal<S>) -> bool {
+pub fn are_same<S: DotStore<Global>>(one: &Causal<S>, other: &Causal<S>) -> bool {
     one.store().same(other.store())
         && one.context().includes(other.context())
         && other.context().includes(one.context())

@@ -6,3 +6,4 @@ mod maps;
 mod pages;
 mod paths;
 mod runs;
+mod written;

@@ -7,12 +7,18 @@ use live_map::Live;
 use std::alloc::Global;
 use std::process::Abort;
 
+// A pair to which nothing happened. It is in a box, as one that is a local is dear to prove.
+pub fn new_pair(rt: &impl Abort, alloc: Global) -> Box<LiveOrMap> {
+    let live: LiveOrMap = Live::new(alloc, Fnv1a);
+    Box::new(alloc, live).expect(rt, "memory")
+}
+
 // Whether a put is made at a new pair.
 fn is_put(rt: &impl Abort, alloc: Global) -> bool {
-    let live: LiveOrMap = Live::new(alloc, Fnv1a);
+    let live = new_pair(rt, alloc);
     let key = Key::empty();
     let value = Value::empty();
-    let made = put(alloc, name(rt, 1), &live, &key, &value);
+    let made = put(alloc, name(rt, 1), &*live, &key, &value);
     made.is_ok()
 }
 
