@@ -9,6 +9,8 @@ mod events;
 #[cfg(test)]
 mod exchange;
 #[cfg(test)]
+mod fields;
+#[cfg(test)]
 mod hostile;
 #[cfg(test)]
 mod made;
