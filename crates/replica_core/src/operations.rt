@@ -40,8 +40,8 @@ impl<H: PathHash, A: Allocator + Copy> Replica<H, A> {
     /// Its refusals are NumbersSpent, just where no number is left for the dot, and else OutOfMemory; a refused call changes nothing. Takes
     /// look-ups in the map and the context, time and memory in what stands at the field, and time in the number of the key's fields, of
     /// which it moves those that come after; all that stands at the key, and the nodes on the way, where a snapshot shares it. Where it overwrites
-    /// the first number of a name, it takes all that stands at the key too. What is never flushed is joined into one where it has eight
-    /// writes for each key of the map, and 4,096 more.
+    /// the first number of a name, it takes all that stands at the key too. What is never flushed is joined into one where it has two
+    /// writes for each key of the map, and 1,024 more.
     pub fn put(&mut self, key: &Key<A>, value: &Value<A>) -> Result<Dot, Refusal>
         ensures ok { IfOk result (λ dot. Steps H.hash_of self.old self.new (Do (Put (plain key.now) value.now)) (Made dot) []) }
         ensures refused { IfErr result (IsRefused self.old (Put (plain key.now) value.now)) }
@@ -56,8 +56,8 @@ impl<H: PathHash, A: Allocator + Copy> Replica<H, A> {
     /// Its refusals are NumbersSpent, just where no number is left for the dot, and else OutOfMemory; a refused call changes nothing. Takes
     /// look-ups in the map and the context, time and memory in what stands at the field, and time in the number of the key's fields, of
     /// which it moves those that come after; all that stands at the key, and the nodes on the way, where a snapshot shares it. Where it overwrites
-    /// the first number of a name, it takes all that stands at the key too. What is never flushed is joined into one where it has eight
-    /// writes for each key of the map, and 4,096 more.
+    /// the first number of a name, it takes all that stands at the key too. What is never flushed is joined into one where it has two
+    /// writes for each key of the map, and 1,024 more.
     pub fn put_field(
         &mut self,
         key: &Key<A>,
@@ -208,7 +208,7 @@ fn make_in<H: PathHash, A: Allocator + Copy>(
 // So many deltas stand in the group before they are joined into one: some for each key of the map, so that a replica that is never
 // flushed does not keep each of its writes, and one that is flushed joins none before.
 fn most_deltas(keys: u64) -> u64 {
-    keys.saturating_mul(8).saturating_add(4096)
+    keys.saturating_mul(2).saturating_add(1024)
 }
 
 // That the number of a dot is one of 64 bits, which is so always: it is asked in a proof alone.
