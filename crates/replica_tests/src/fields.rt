@@ -149,10 +149,12 @@ fn catches_up(
     from: &Replica,
     all: &[Vec<u8>],
 ) -> bool {
-    let (first, rest) = all.split_at(1);
+    let Some((first, rest)) = all.split_first() else {
+        return false;
+    };
     take(rt, here, rest);
     let without = here.digest() == from.digest();
-    take(rt, here, first);
+    here.deliver_bytes(first).expect(rt, "a delivery");
     without && here.digest() == from.digest() && has_written(rt, alloc, here)
 }
 
