@@ -120,17 +120,18 @@ pub extern "C" fn measure_digests(
     }
 }
 
-/// Hashes for each key the 16 bytes of a value and the 77 bytes of a page of one key.
+// The first byte of the SHA-256 of so many of the bytes.
+fn hash_first(bytes: &[u8], length: u64) -> u64 {
+    let end = (length as usize).min(bytes.len());
+    u64::from(Sha256::digest(&bytes[..end])[0])
+}
+
+/// Hashes, for each of these lengths, so many of the bytes.
 #[unsafe(no_mangle)]
-pub extern "C" fn measure_hash(keys: &[u64]) -> u64 {
+pub extern "C" fn measure_hash(bytes: &[u8], lengths: &[u64]) -> u64 {
     let mut sum: u64 = 0;
-    for number in keys {
-        let byte = (*number % 0x100) as u8;
-        let value = Sha256::digest([byte; 16]);
-        let page = Sha256::digest([byte; 77]);
-        sum = sum
-            .wrapping_add(u64::from(value[0]))
-            .wrapping_add(u64::from(page[0]));
+    for length in lengths {
+        sum = sum.wrapping_add(hash_first(bytes, *length));
     }
     sum
 }

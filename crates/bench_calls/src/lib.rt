@@ -7,5 +7,6 @@ mod operations;
 mod replicas;
 mod sessions;
 mod stores;
+mod texts;
 mod tries;
 mod wire;

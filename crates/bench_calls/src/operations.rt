@@ -146,6 +146,37 @@ fn put_and_lose_one(
     Ok(())
 }
 
+// Puts each key here, and sends them there by so many at once.
+fn put_and_send_by(
+    alloc: Global,
+    here: &mut Replica,
+    there: &mut Replica,
+    keys: &[u64],
+    many: u32,
+) -> Result<(), Refusal> {
+    for some in keys.chunks(many.max(1) as usize) {
+        put_all(alloc, here, some)?;
+        send(alloc, here, there, 1)?;
+    }
+    Ok(())
+}
+
+// Puts each key here and sends each put there, where the first is lost or not; then puts each there.
+fn put_there_behind(
+    alloc: Global,
+    here: &mut Replica,
+    there: &mut Replica,
+    keys: &[u64],
+    is_lost: bool,
+) -> Result<(), Refusal> {
+    if is_lost {
+        put_and_lose_one(alloc, here, there, keys)?;
+    } else {
+        put_and_send(alloc, here, there, keys, 1)?;
+    }
+    put_each(alloc, there, keys)
+}
+
 // Removes each key here, and sends each remove there so many times.
 fn remove_and_send(
     alloc: Global,
@@ -180,6 +211,8 @@ fn steps_on(
         9 => put_fields(alloc, here, keys)?,
         10 => put_fields_over(alloc, here, keys, u64::from(times))?,
         11 => put_and_lose_one(alloc, here, there, keys)?,
+        12 => put_and_send_by(alloc, here, there, keys, times)?,
+        13 => put_there_behind(alloc, here, there, keys, times > 0)?,
         _ => put_each(alloc, here, keys)?,
     }
     match step {
@@ -218,8 +251,9 @@ fn steps(alloc: Global, keys: &[u64], step: u32, times: u32) -> Result<u64, Refu
 /// 0 nothing, 1 puts each again, 2 removes each, 3 gets each, 4 shares what it holds once for each key. 5 puts each and sends
 /// each put, as bytes, to another replica so many times; 6 puts and sends each once, and then removes each and sends that so
 /// many times; 7 puts each and flushes none, and 8 puts each again then; 9 puts each as a field of one key, and 10 as fields of so many
-/// keys in turn; 11 does what 5 does once, but the message of the first put is lost. Where nothing else is said each put and each
-/// remove is flushed at once, as by a replica that sends what it makes.
+/// keys in turn; 11 does what 5 does once, but the message of the first put is lost; 12 puts each and sends them by so many at once; 13
+/// does what 5 does once, or what 11 does where the times are not zero, and then puts each at the other replica. Where nothing else is
+/// said each put and each remove is flushed at once, as by a replica that sends what it makes.
 #[unsafe(no_mangle)]
 pub extern "C" fn measure_operations(alloc: Global, keys: &[u64], step: u32, times: u32) -> u64 {
     match steps(alloc, keys, step, times) {

@@ -193,3 +193,7 @@ module _ {A : Type 0} where
       let tail : deltas_of (y ∷ log) ≡ rest ++ pair ∷ [] = cc in
       let n : length (x ∷ y ∷ log) - 1 ≡ suc (length (y ∷ log) - 1) = omega arith in
       last_there (y ∷ log) rest pair tail (ap (slice_get (x ∷ y ∷ log)) (sym n) ∙ none)
+
+  pub no_last : (log : List (Arc OrMapValue A)) (delta : Arc OrMapValue A) → deltas_of log ≡ [] → slice_get log (length log - 1) ≡ Some delta → ⊥
+  no_last [] delta is found = absurd (cc found)
+  no_last (x ∷ log) delta is found = absurd (cc is)

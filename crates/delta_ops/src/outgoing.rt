@@ -60,9 +60,10 @@ impl<A: Allocator + Copy> Outgoing<A> {
         Ok(())
     }
 
-    /// The delta that was joined in last, which stands alone until the log is settled. Takes constant time.
+    /// The delta that was joined in last, which stands alone until the log is settled, or None where there is none. Takes constant time.
     pub fn newest(&self) -> Option<&OrMap<A>>
-        ensures { (rest : List OrMapValue) (pair : OrMapValue) → self.now ≡ rest ++ (pair ∷ []) → option_copied result ≡ Some pair }
+        ensures none { self.now ≡ [] → result ≡ None }
+        ensures value { (rest : List OrMapValue) (pair : OrMapValue) → self.now ≡ rest ++ (pair ∷ []) → option_copied result ≡ Some pair }
     {
         match self.deltas.last() {
             Some(last) => Some(last),

@@ -18,7 +18,7 @@ use Rattle.dots.specs.Dot.{DotValue, same_dot}
 use Rattle.causal_context.specs.Context.{known_up_to, in_cloud, is_known}
 use Rattle.dot_store.specs.Store.{HasNothing, HoldsSame, state_with}
 use Rattle.dot_store.specs.Stores.{held_by}
-use Rattle.op_model.specs.State.{joined, join}
+use Rattle.op_model.specs.State.{joined, join, IsInside}
 use Rattle.ordered_list.proofs.Places.{entry_found}
 use Rattle.trie_map.specs.Keyed.{TrieMapValue, at_keys}
 use Rattle.trie_map.specs.Joined.{IsJoinedAt, IsEitherAt}
@@ -133,8 +133,22 @@ pub indexed_join : {P H : Type 0} (greater : H → H → H) (mine yours both : L
 indexed_join greater mine yours both own theirs places same had has q place d h =
     held_in greater (mine (q, place) d) (own d) (yours (q, place) d) (theirs d) (IsTrue (names places d q)) (ap is_some (sym (same (q, place) d)) ∙ h) (had q place d) (has q place d)
 
-pub all_touched : {P H : Type 0} (mine yours : List ℕ × P → DotValue → Option H) (theirs : DotValue → Bool) (places : List PlaceValue) (keys : List (List ℕ)) → IsIndexed mine places → IsTouched places yours theirs keys → AreAllTouched mine yours theirs keys
-all_touched mine yours theirs places keys had touched = record { own = touched.own; known = λ q place d h k. touched.named d q (had q place d h) k }
+pub all_touched : {P H : Type 0} (mine yours : List ℕ × P → DotValue → Option H) (own theirs : DotValue → Bool) (places : List PlaceValue) (keys : List (List ℕ)) → IsInside (state_with mine own) → IsIndexed mine places
+    → IsTouched places own yours theirs keys → AreAllTouched mine yours theirs keys
+all_touched mine yours own theirs places keys inside had touched = record { own = touched.held; known = λ q place d h k. touched.named d q (had q place d h) (inside (q, place) d h) k }
+
+-- all keys are among more of them
+pub all_touched_more : {P H : Type 0} (mine yours : List ℕ × P → DotValue → Option H) (theirs : DotValue → Bool) (keys more : List (List ℕ)) → ((q : List ℕ) → IsTrue (has_key keys q) → IsTrue (has_key more q))
+    → AreAllTouched mine yours theirs keys → AreAllTouched mine yours theirs more
+all_touched_more mine yours theirs keys more there all = record { own = λ q place d h. there q (all.own q place d h); known = λ q place d h k. there q (all.known q place d h k) }
+
+not_more : (b m : Bool) → (IsTrue b → IsTrue m) → m ≡ false → b ≡ false
+not_more true m there apart = absurd (cc (there refl, apart))
+not_more false m there apart = refl
+
+pub changes_only_more : {P H : Type 0} (greater : H → H → H) (mine : List ℕ × P → DotValue → Option H) (own : DotValue → Bool) (yours : List ℕ × P → DotValue → Option H) (theirs : DotValue → Bool) (keys more : List (List ℕ))
+    → ((q : List ℕ) → IsTrue (has_key keys q) → IsTrue (has_key more q)) → ChangesOnlyAt greater mine own yours theirs keys → ChangesOnlyAt greater mine own yours theirs more
+changes_only_more greater mine own yours theirs keys more there only q apart = only q (not_more (has_key keys q) (has_key more q) (there q) apart)
 
 -- ---- and once a place is taken out at which nothing stands
 cut_by : (b : Bool) (n : Bool) (R : Type 0) → IsTrue n → (b ≡ true → R) → IsTrue (cond b false n) ⊎ R

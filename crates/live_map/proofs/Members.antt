@@ -1,10 +1,17 @@
 -- Which items a set has, once one was put in or taken out.
-use Rattle.std.proofs.Common.{◌≡◌, List, [], ◌∷◌, Bool, true, false, cond, not, refl, sym, ap, subst, inl, inr, ⊎_elim, ◌∙◌, arith}
-use Rattle.std.specs.Prelude.{IsTrue, IfSome, ◌⊎◌, ◌||◌, ℕ, length, slice_get, Option, Some, None}
+use Rattle.std.proofs.Common.{◌≡◌, ◌<◌, List, [], ◌∷◌, Bool, true, false, cond, not, get_or, refl, sym, ap, subst, inl, inr, ⊎_elim, ◌∙◌, arith}
+use Rattle.std.specs.Prelude.{IsTrue, is_some, ◌⊎◌, ◌||◌, ◌++◌, ℕ, length, slice_get, Option, Some, None}
 use Rattle.std.specs.declared.cmp.Ordering.{Ordering}
 use Rattle.std.specs.declared.cmp.Ordering.TheVariants.{Less, Equal, Greater}
-use Rattle.std.specs.Ordering.{is_eq}
-use Rattle.std.specs.List.{list_any, filter}
+use Rattle.std.specs.Cmp.{eq_by_cmp_equiv}
+use Rattle.std.specs.Cmp.Lexicographic.{nat_list_cmp_total}
+use Rattle.std.specs.Ordering.{eq_by_cmp, is_eq}
+use Rattle.std.specs.List.{All, list_any, filter}
+use Rattle.std.proofs.lemmas.List.Elements.{All-head, All-tail}
+use Rattle.std.proofs.lemmas.List.Folds.{list_any-append}
+use Rattle.std.proofs.lemmas.Map.Keys.{any_passes_from_place}
+use Rattle.dots.specs.Bytes.{bytes_cmp}
+use Rattle.live_map.specs.Index.{has_key}
 use Rattle.trie_map.proofs.Visits.{Among}
 
 pub equal : (o : Ordering) → is_eq o ≡ true → o ≡ Equal
@@ -42,15 +49,34 @@ among_filter p [] x h e = absurd h
 among_filter p (y ∷ ys) x h e = filtered p x ys (p y) y refl e (⊎_elim (λ is. inl is) (λ rest. inr (among_filter p ys x rest e)) h)
 
 -- ---- a list of one item has no other
-pub one_among : {K : Type 0} (keys : List K) (k q : K) → length keys ≡ 1 → slice_get keys 0 ≡ Some k → Among keys q → q ≡ k
+pub one_among : {K : Type 0} (keys : List K) (k q : K) → length keys < 2 → k ≡ get_or keys 0 k → Among keys q → q ≡ k
 one_among [] k q one first h = absurd h
-one_among (x ∷ []) k q one first h = let is : x ≡ k = cc in let same : x ≡ q = ⊎_elim (λ e. e) (λ no. absurd no) h in sym same ∙ is
+one_among (x ∷ []) k q one first h = let same : x ≡ q = ⊎_elim (λ e. e) (λ no. absurd no) h in sym (first ∙ same)
 one_among (x ∷ y ∷ rest) k q one first h = absurd (omega (arith, one))
-
-pub if_some : {V : Type 0} (r : Option V) (Q R : V → Type 0) → ((v : V) → Q v → R v) → IfSome r Q → IfSome r R
-if_some None Q R f h = h
-if_some (Some v) Q R f h = f v h
 
 pub not_true : (b : Bool) → IsTrue (not b) → b ≡ false
 not_true true t = absurd (cc t)
 not_true false t = refl
+
+-- ---- lists
+pub any_more : {K : Type 0} (p : K → Bool) (xs ys : List K) → IsTrue (list_any p xs) → IsTrue (list_any p (xs ++ ys))
+any_more p xs ys h = list_any-append p xs ys ∙ ap (λ b. b || list_any p ys) h
+
+pub all_among : {K : Type 0} (P : K → Type 0) (xs : List K) → All P xs → (x : K) → Among xs x → P x
+all_among P [] all x h = absurd h
+all_among P (y ∷ ys) all x h = ⊎_elim (λ is. subst P is (All-head P y ys all)) (λ rest. all_among P ys (All-tail P y ys all) x rest) h
+
+pub none_of : {V : Type 0} (o : Option V) → is_some o ≡ false → o ≡ None
+none_of None e = refl
+none_of (Some v) e = absurd (cc e)
+
+pub has_last : (keys : List (List ℕ)) (n : ℕ) (o : Option (List ℕ)) (k key : List ℕ) → o ≡ slice_get keys n → o ≡ Some k → eq_by_cmp bytes_cmp k key ≡ true → IsTrue (has_key keys key)
+has_last keys n o k key place is same =
+    any_passes_from_place (λ x. is_eq (bytes_cmp key x)) keys n k (sym place ∙ is) ((eq_by_cmp_equiv nat_list_cmp_total).symm key k ∙ same)
+
+or_second : (a b : Bool) → b ≡ true → IsTrue (a || b)
+or_second true b h = refl
+or_second false b h = h
+
+pub any_pushed : {K : Type 0} (p : K → Bool) (xs : List K) (x : K) → p x ≡ true → IsTrue (list_any p (xs ++ (x ∷ [])))
+any_pushed p xs x h = list_any-append p xs (x ∷ []) ∙ or_second (list_any p xs) (p x || false) (ap (λ b. b || false) h)

@@ -115,3 +115,11 @@ last_added own new dot added last =
 
 pub known_added : (own new : ContextValue) (dot : DotValue) → ((d : DotValue) → has new d ≡ same_dot dot d || has own d) → IsTrue (has new dot)
 known_added own new dot added = added dot ∙ ap (λ b. b || has own dot) (same_dot-refl dot)
+
+is_only : (s h : Bool) → IsTrue (s || h) → h ≡ false → IsTrue s
+is_only true h or fresh = refl
+is_only false h or fresh = absurd (cc (or, fresh))
+
+-- the only dot that is new is each one that is
+pub only_new : (here there seen : DotValue → Bool) (dot : DotValue) → IsOnlyNew here there seen dot → (d : DotValue) → here d ≡ false → IsTrue (seen d) → dot ≡ d
+only_new here there seen dot only d fresh known = same_from_test dot d (is_only (same_dot dot d) (here d) (only.others d known) fresh)

@@ -14,12 +14,16 @@ pub record IsMadeAt {S P H : Type 0} (at : S → P → DotValue → Option H) (g
   pub holds : (place : P) (d : DotValue) → yours (key, place) d ≡ at store place d
   pub joins : IsJoinHere at greater (finite.get mine key) own store theirs made
 
--- the dot is the only one that a context lacks of another, and the one just above an entry that it has
-pub record IsRaise (own theirs : ContextValue) (dot : DotValue) : Type 0 where
-  pub only : IsOnlyNew (has own) (has theirs) (has theirs) dot
+-- the dot is the one just above an entry that a context has, and the one above it is not known
+pub record IsAboveEntry (own : ContextValue) (dot : DotValue) : Type 0 where
   pub entry : 1 ≤ known_up_to own.vector dot.name
   pub next : dot.number ≡ known_up_to own.vector dot.name + 1
   pub last : has own (record { name = dot.name; number = dot.number + 1 }) ≡ false
+
+-- and it is the only one that the context lacks of another
+pub record IsRaise (own theirs : ContextValue) (dot : DotValue) : Type 0 where
+  pub only : IsOnlyNew (has own) (has theirs) (has theirs) dot
+  pub above : IsAboveEntry own dot
 
 -- what stands at a key of a map became its join with what a delta holds there
 pub record IsJoinedIn {S P H : Type 0} (at : S → P → DotValue → Option H) (greater : H → H → H) (old new : finite.FinMap bytes_cmp S) (key : List ℕ) (own : DotValue → Bool) (yours : List ℕ × P → DotValue → Option H)

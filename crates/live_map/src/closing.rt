@@ -51,7 +51,7 @@ fn add_touched<H: PathHash, A: Allocator + Copy>(
     ensures err { IsOkUnless result Refusal.OutOfMemory }
 {
     for (key, _) in touched.iter() {
-        keys.add(key.copy(alloc)?)?;
+        keys.add(alloc, key)?;
     }
     Ok(())
 }
@@ -133,8 +133,30 @@ fn find_unseen<A: Allocator + Copy>(
     index.find(alloc, dot, dot.number(), keys)
 }
 
-// The store with what the trie holds joined in at these keys.
+// The store with what the trie holds joined in at the touched keys.
 pub(crate) fn closed<S: DotStore<A>, M: Summary<S>, H: PathHash, A: Allocator + Copy>(
+    alloc: A,
+    mine: &TrieMap<S, M, H, A>,
+    own: &Context<A>,
+    built: &Frozen<S, M, H, A>,
+    theirs: &Context<A>,
+    touched: &Touched<A>,
+) -> Result<TrieMap<S, M, H, A>, Refusal>
+    requires { ChangesOnlyAt S.greater (at_keys S.at mine.now) (has own.now) (at_keys S.at (stores_of built.now)) (has theirs.now)
+        touched.now }
+    ensures hash { IfOk result (λ both. both.0 ≡ mine.now.0) }
+    ensures ok { IfOk result (λ both. HoldsSame (at_keys S.at both) (join S.greater (state_with (at_keys S.at mine.now) (has own.now))
+        (state_with (at_keys S.at (stores_of built.now)) (has theirs.now))).at) }
+    ensures err { IsOkUnless result Refusal.OutOfMemory }
+{
+    let keys = touched.key_set(alloc)?;
+    let both = closed_at(alloc, mine, own, built, theirs, &keys);
+    drop(keys);
+    both
+}
+
+// The store with what the trie holds joined in at these keys.
+fn closed_at<S: DotStore<A>, M: Summary<S>, H: PathHash, A: Allocator + Copy>(
     alloc: A,
     mine: &TrieMap<S, M, H, A>,
     own: &Context<A>,
@@ -184,8 +206,27 @@ fn join_built_at<S: DotStore<A>, M: Summary<S>, H: PathHash, A: Allocator + Copy
     Ok(())
 }
 
-// Names these keys for the dots that the trie holds there and that are not known. A refused call may have named some.
+// Names the touched keys for the dots that the trie holds there and that are not known. A refused call may have named some.
 pub(crate) fn name_built<S: DotStore<A>, M: Summary<S>, H: PathHash, A: Allocator + Copy>(
+    alloc: A,
+    index: &mut Index<A>,
+    built: &Frozen<S, M, H, A>,
+    touched: &Touched<A>,
+    known: &Context<A>,
+) -> Result<(), Refusal>
+    ensures there { OnOk result ((q : List ℕ) → IsTrue (has_key touched.now q) → (place : S.Place) (d : DotValue)
+        → IsSome (at_keys S.at (stores_of built.now) (q, place) d) → has known.now d ≡ false → IsTrue (names index.new d q)) }
+    ensures kept { (d : DotValue) (q : List ℕ) → IsTrue (names index.old d q) → IsTrue (names index.new d q) }
+    ensures err { IsOkUnless result Refusal.OutOfMemory }
+{
+    let keys = touched.key_set(alloc)?;
+    let named = name_keys(alloc, index, built, &keys, known);
+    drop(keys);
+    named
+}
+
+// Names these keys for the dots that the trie holds there and that are not known. A refused call may have named some.
+fn name_keys<S: DotStore<A>, M: Summary<S>, H: PathHash, A: Allocator + Copy>(
     alloc: A,
     index: &mut Index<A>,
     built: &Frozen<S, M, H, A>,

@@ -51,7 +51,7 @@ impl<A: Allocator + Copy> Index<A> {
     }
 
     // Names the key for the dot.
-    fn add(&mut self, dot: Dot, key: Key<A>) -> Result<(), Refusal>
+    pub(crate) fn add(&mut self, dot: Dot, key: Key<A>) -> Result<(), Refusal>
         ensures there { OnOk result (IsTrue (names self.new dot key)) }
         ensures kept { (d : DotValue) (q : List ℕ) → IsTrue (names self.old d q) → IsTrue (names self.new d q) }
         ensures err { IsOkUnless result Refusal.OutOfMemory }

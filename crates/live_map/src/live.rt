@@ -1,13 +1,14 @@
-ghost use Rattle.std.specs.Prelude.{◌≡◌, ℕ, List, None, IsTrue, IfOk, OnOk, OnErr, IsOkUnless};
+ghost use Rattle.std.specs.Prelude.{◌≡◌, false, ℕ, List, None, IsTrue, IsSome, IfOk, OnOk, OnErr, IsOkUnless};
 ghost use Rattle.std.specs.FinMap as finite;
 ghost use Rattle.causal_context.specs.Context.{has, HasNone};
 ghost use Rattle.causal_join.specs.Causal.{state_of};
 ghost use Rattle.dot_store.specs.Store.{HasNothing, HoldsSame, state_with};
 ghost use Rattle.dot_store.specs.Stores.{at_stores};
 ghost use Rattle.dots.specs.Bytes.{bytes_cmp};
+ghost use Rattle.dots.specs.Dot.{DotValue};
 ghost use Rattle.op_model.specs.State.{join, Same, IsInside};
 ghost use Rattle.live_map.specs.Closing.{stores_of};
-ghost use Rattle.live_map.specs.Index.{has_key, AreAllTouched, IsIndexed, IsTouched};
+ghost use Rattle.live_map.specs.Index.{names, has_key, AreAllTouched, IsIndexed, IsTouched};
 ghost use Rattle.trie_map.specs.Keyed.{at_keys, NoStoreIsEmpty, EachIsCanonical};
 
 use crate::closing::{closed, name_built, touch_since};
@@ -15,8 +16,8 @@ use crate::index::Index;
 use crate::one_key::join_at_one;
 use crate::prepared::Prepared;
 use crate::touched::Touched;
-use crate::touching::{cut_all, ended_by, join_at_keys, name_all, touch_by};
-use causal_context::Context;
+use crate::touching::{cut_all, cut_ended, join_at_keys, name_all, name_dot, touch_by};
+use causal_context::{Context, Growth};
 use causal_join::Causal;
 use dot_store::{DotMap, DotStore};
 use dots::{Key, Refusal};
@@ -144,7 +145,7 @@ impl<S: DotStore<A>, M: Summary<S>, H: PathHash, A: Allocator + Copy> Live<S, M,
         delta: &Causal<DotMap<Key<A>, S, A>, A>,
         touched: &Touched<A>,
     ) -> Result<Prepared<S, M, H, A>, Refusal>
-        requires { IsTouched self.old.1 (at_stores S.at bytes_cmp delta.now.0) (has delta.now.1) touched.now }
+        requires { IsTouched self.old.1 (has self.old.0.1) (at_stores S.at bytes_cmp delta.now.0) (has delta.now.1) touched.now }
         ensures hash { IfOk result (λ next. next.0.0 ≡ self.old.0.0.0) }
         ensures ok { IfOk result (λ next. Same (state_of (at_keys S.at) next)
             (join S.greater (state_of (at_keys S.at) self.old.0) (state_of (at_stores S.at bytes_cmp) delta.now))) }
@@ -159,7 +160,7 @@ impl<S: DotStore<A>, M: Summary<S>, H: PathHash, A: Allocator + Copy> Live<S, M,
             &self.context,
         )?;
         let context = self.context.union(alloc, delta.context())?;
-        let store = match joined(alloc, &self.store, &self.context, delta, touched.keys()) {
+        let store = match joined(alloc, &self.store, &self.context, delta, touched) {
             Ok(store) => store,
             Err(refusal) => {
                 drop(context);
@@ -230,16 +231,9 @@ impl<S: DotStore<A>, M: Summary<S>, H: PathHash, A: Allocator + Copy> Live<S, M,
         // The base is spoken of in the contract alone.
         let _ = base;
         touch_since(alloc, changed, &self.index, seen, touched, context)?;
-        name_built(alloc, &mut self.index, built, changed.keys(), &self.context)?;
+        name_built(alloc, &mut self.index, built, changed, &self.context)?;
         let next = self.context.union(alloc, context)?;
-        let store = match closed(
-            alloc,
-            &self.store,
-            &self.context,
-            built,
-            context,
-            changed.keys(),
-        ) {
+        let store = match closed(alloc, &self.store, &self.context, built, context, changed) {
             Ok(store) => store,
             Err(refusal) => {
                 drop(next);
@@ -305,7 +299,7 @@ impl<S: DotStore<A>, M: Summary<S>, H: PathHash, A: Allocator + Copy> Live<S, M,
         ensures unchanged { OnErr result (self.new.0 ≡ self.old.0) }
         ensures err { IsOkUnless result Refusal.OutOfMemory }
     {
-        touch_by(alloc, touched, &self.index, delta)?;
+        touch_by(alloc, touched, &self.index, &self.context, delta)?;
         if let Some(key) = touched.only() {
             return self.join_one(alloc, delta, touched, key);
         }
@@ -322,7 +316,7 @@ impl<S: DotStore<A>, M: Summary<S>, H: PathHash, A: Allocator + Copy> Live<S, M,
         touched: &Touched<A>,
         key: &Key<A>,
     ) -> Result<(), Refusal>
-        requires touched { IsTouched self.old.1 (at_stores S.at bytes_cmp delta.now.0) (has delta.now.1) touched.now }
+        requires touched { IsTouched self.old.1 (has self.old.0.1) (at_stores S.at bytes_cmp delta.now.0) (has delta.now.1) touched.now }
         requires only { (q : List ℕ) → IsTrue (has_key touched.now q) → q ≡ key.now }
         ensures hash { self.new.0.0.0 ≡ self.old.0.0.0 }
         ensures ok { OnOk result (Same (state_of (at_keys S.at) self.new.0)
@@ -330,32 +324,63 @@ impl<S: DotStore<A>, M: Summary<S>, H: PathHash, A: Allocator + Copy> Live<S, M,
         ensures unchanged { OnErr result (self.new.0 ≡ self.old.0) }
         ensures err { IsOkUnless result Refusal.OutOfMemory }
     {
-        name_all(
-            alloc,
-            &mut self.index,
-            delta.store().entries(),
-            &self.context,
-        )?;
-        let ended = ended_by(alloc, delta, touched)?;
-        if let Err(refusal) = join_at_one(
+        name_new(alloc, &mut self.index, delta, &self.context, key)?;
+        join_at_one(
             alloc,
             &mut self.store,
             &mut self.context,
             delta,
             touched,
             key,
-        ) {
-            drop(ended);
-            return Err(refusal);
-        }
-        cut_all(&mut self.index, &self.store, &ended);
-        drop(ended);
+        )?;
+        cut_ended(alloc, &mut self.index, &self.store, delta, touched.found());
         Ok(())
     }
 }
 
-// The store with what the delta holds joined in at these keys.
+// Names the key, the only one at which the delta holds something, for the dots that stand there and are not known.
+fn name_new<S: DotStore<A>, A: Allocator + Copy>(
+    alloc: A,
+    index: &mut Index<A>,
+    delta: &Causal<DotMap<Key<A>, S, A>, A>,
+    own: &Context<A>,
+    key: &Key<A>,
+) -> Result<(), Refusal>
+    requires { (q : List ℕ) (place : S.Place) (d : DotValue) → IsSome (at_stores S.at bytes_cmp delta.now.0 (q, place) d) → q ≡ key.now }
+    ensures there { OnOk result ((q : List ℕ) (place : S.Place) (d : DotValue) → IsSome (at_stores S.at bytes_cmp delta.now.0 (q, place) d)
+        → has own.now d ≡ false → IsTrue (names index.new d q)) }
+    ensures kept { (d : DotValue) (q : List ℕ) → IsTrue (names index.old d q) → IsTrue (names index.new d q) }
+    ensures err { IsOkUnless result Refusal.OutOfMemory }
+{
+    match own.growth(delta.context()) {
+        Growth::Nothing => Ok(()),
+        Growth::One(dot) => name_dot(alloc, index, delta, key, dot),
+        Growth::More => name_all(alloc, index, delta.store().entries(), own),
+    }
+}
+
+// The store with what the delta holds joined in at the touched keys.
 fn joined<S: DotStore<A>, M: Summary<S>, H: PathHash, A: Allocator + Copy>(
+    alloc: A,
+    mine: &TrieMap<S, M, H, A>,
+    own: &Context<A>,
+    delta: &Causal<DotMap<Key<A>, S, A>, A>,
+    touched: &Touched<A>,
+) -> Result<TrieMap<S, M, H, A>, Refusal>
+    requires { AreAllTouched (at_keys S.at mine.now) (at_stores S.at bytes_cmp delta.now.0) (has delta.now.1) touched.now }
+    ensures hash { IfOk result (λ both. both.0 ≡ mine.now.0) }
+    ensures ok { IfOk result (λ both. HoldsSame (at_keys S.at both) (join S.greater (state_with (at_keys S.at mine.now) (has own.now))
+        (state_of (at_stores S.at bytes_cmp) delta.now)).at) }
+    ensures err { IsOkUnless result Refusal.OutOfMemory }
+{
+    let keys = touched.key_set(alloc)?;
+    let both = joined_at(alloc, mine, own, delta, &keys);
+    drop(keys);
+    both
+}
+
+// The store with what the delta holds joined in at these keys.
+fn joined_at<S: DotStore<A>, M: Summary<S>, H: PathHash, A: Allocator + Copy>(
     alloc: A,
     mine: &TrieMap<S, M, H, A>,
     own: &Context<A>,

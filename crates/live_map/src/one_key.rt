@@ -1,8 +1,10 @@
 // The join of a delta at the one key that it can change, in place: all that may be refused comes first, and what is written last.
-ghost use Rattle.std.specs.Prelude.{◌≡◌, ◌+◌, ◌||◌, false, ℕ, List, Option, Contains, IsTrue, IfSome, IfOk, OnOk, OnErr, IsOkUnless};
+ghost use Rattle.std.specs.Prelude.{◌≡◌, ◌+◌, ◌||◌, false, ℕ, List, None, Option, Contains, IsTrue, IfOk, OnOk, OnErr, IsOkUnless};
+ghost use Rattle.std.specs.FinMap as finite;
 ghost use Rattle.std.specs.List.{All};
 ghost use Rattle.causal_context.specs.Canonical.{IsCanonical};
 ghost use Rattle.causal_context.specs.Context.{has};
+ghost use Rattle.causal_context.specs.Growth.{IsGrowth};
 ghost use Rattle.causal_join.specs.Causal.{state_of};
 ghost use Rattle.dot_store.specs.Store.{HoldsSame, state_with};
 ghost use Rattle.dot_store.specs.Stores.{at_stores};
@@ -10,8 +12,8 @@ ghost use Rattle.dots.specs.Bytes.{bytes_cmp};
 ghost use Rattle.dots.specs.Dot.{DotValue, same_dot};
 ghost use Rattle.op_model.specs.State.{join, IsInside};
 ghost use Rattle.live_map.specs.Index.{has_key, AreAllTouched};
-ghost use Rattle.live_map.specs.OneKey.{IsJoinedIn, IsMadeAt, IsRaise};
-ghost use Rattle.trie_map.specs.Here.{Writes};
+ghost use Rattle.live_map.specs.OneKey.{IsAboveEntry, IsJoinedIn, IsMadeAt, IsRaise};
+ghost use Rattle.trie_map.specs.Here.{JoinsHere, Writes};
 ghost use Rattle.trie_map.specs.Keyed.{at_keys};
 
 use crate::touched::Touched;
@@ -41,13 +43,16 @@ pub(crate) fn join_at_one<S: DotStore<A>, M: Summary<S>, H: PathHash, A: Allocat
     ensures ok { OnOk result (HoldsSame (at_keys S.at store.new) (join S.greater (state_with (at_keys S.at store.old) (has context.old))
         (state_of (at_stores S.at bytes_cmp) delta.now)).at) }
     ensures known { OnOk result ((d : DotValue) → has context.new d ≡ (has context.old d || has delta.now.1 d)) }
+    ensures inside { OnOk result (IsInside (state_of (at_keys S.at) (store.new, context.new))) }
     ensures store { OnErr result (store.new ≡ store.old) }
     ensures context { OnErr result (context.new ≡ context.old) }
     ensures err { IsOkUnless result Refusal.OutOfMemory }
 {
-    match raised_by(context, delta.context()) {
-        Some(dot) => join_raising(alloc, store, context, delta, touched, key, dot),
-        None => join_anew(alloc, store, context, delta, touched, key),
+    match context.growth(delta.context()) {
+        Growth::One(dot) if can_raise(context, dot) => {
+            join_raising(alloc, store, context, delta, touched, key, dot)
+        }
+        growth => join_anew(alloc, store, context, delta, touched, key, growth),
     }
 }
 
@@ -74,29 +79,23 @@ fn join_raising<S: DotStore<A>, M: Summary<S>, H: PathHash, A: Allocator + Copy>
     ensures err { IsOkUnless result Refusal.OutOfMemory }
 {
     if !join_in(alloc, store, context, delta, key, dot)? {
-        return join_anew(alloc, store, context, delta, touched, key);
+        return join_anew(alloc, store, context, delta, touched, key, Growth::One(dot));
     }
     context.raise(dot);
     Ok(())
 }
 
-// The only dot that the own context lacks of the other, if it is just above an entry of the own one: that entry can be raised as it
-// stands.
-fn raised_by<A: Allocator + Copy>(own: &Context<A>, theirs: &Context<A>) -> Option<Dot>
-    ensures { IfSome result (IsRaise own.now theirs.now) }
+// Whether the entry of the dot's name can be raised to the dot as it stands: there is one, the dot is the next, and none above it is
+// known.
+fn can_raise<A: Allocator + Copy>(own: &Context<A>, dot: Dot) -> bool
+    ensures { IsTrue result → IsAboveEntry own.now dot }
 {
-    let Growth::One(dot) = own.growth(theirs) else {
-        return None;
-    };
     let entry = own.entry(dot.name());
-    if entry == 0 || dot.number() - 1 != entry || own.contains_above(dot) {
-        return None;
-    }
-    Some(dot)
+    entry != 0 && dot.number() - 1 == entry && !own.contains_above(dot)
 }
 
-// Joins what the delta holds at the key into what stands there, in place, and tells whether it did: it does so where something stands
-// there and the delta holds the dot there, which is new, and knows no run of dots.
+// Joins what the delta holds at the key into what stands there, in place, and tells whether it did: it does so where the delta holds
+// the dot there, which is new, and knows no run of dots.
 fn join_in<S: DotStore<A>, M: Summary<S>, H: PathHash, A: Allocator + Copy>(
     alloc: A,
     mine: &mut TrieMap<S, M, H, A>,
@@ -121,9 +120,32 @@ fn join_in<S: DotStore<A>, M: Summary<S>, H: PathHash, A: Allocator + Copy>(
         return Ok(false);
     }
     let found = known_of(alloc, own, theirs.cloud())?;
-    let done = mine.join_in(alloc, key, own, yours, theirs, &found);
+    let there = mine.join_in(alloc, key, own, yours, theirs, &found);
     drop(found);
-    done
+    if !there? {
+        put_first(alloc, mine, own, yours, theirs, key)?;
+    }
+    Ok(true)
+}
+
+// Puts the join with the other store at the key, at which nothing stands.
+fn put_first<S: DotStore<A>, M: Summary<S>, H: PathHash, A: Allocator + Copy>(
+    alloc: A,
+    mine: &mut TrieMap<S, M, H, A>,
+    own: &Context<A>,
+    yours: &S,
+    theirs: &Context<A>,
+    key: &Key<A>,
+) -> Result<(), Refusal>
+    requires { finite.get mine.old.1 key.now ≡ None }
+    ensures hash { mine.new.0 ≡ mine.old.0 }
+    ensures ok { OnOk result (JoinsHere S.at S.greater mine.old.1 mine.new.1 key.now (has own.now) yours.now (has theirs.now)) }
+    ensures unchanged { OnErr result (mine.new ≡ mine.old) }
+    ensures err { IsOkUnless result Refusal.OutOfMemory }
+{
+    let empty = S::empty(alloc);
+    let both = empty.join(alloc, own, yours, theirs)?;
+    mine.put(alloc, key, both)
 }
 
 // Those of the dots that the context knows.
@@ -166,7 +188,9 @@ fn join_anew<S: DotStore<A>, M: Summary<S>, H: PathHash, A: Allocator + Copy>(
     delta: &Causal<DotMap<Key<A>, S, A>, A>,
     touched: &Touched<A>,
     key: &Key<A>,
+    growth: Growth,
 ) -> Result<(), Refusal>
+    requires growth { IsGrowth context.old delta.now.1 growth }
     requires all { AreAllTouched (at_keys S.at store.old) (at_stores S.at bytes_cmp delta.now.0) (has delta.now.1) touched.now }
     requires only { (q : List ℕ) → IsTrue (has_key touched.now q) → q ≡ key.now }
     ensures hash { store.new.0 ≡ store.old.0 }
@@ -180,7 +204,7 @@ fn join_anew<S: DotStore<A>, M: Summary<S>, H: PathHash, A: Allocator + Copy>(
     // The keys are spoken of in the contract alone.
     let _ = touched;
     let made = made_at(alloc, store, context, delta, key)?;
-    write_knowing(alloc, store, context, key, made, delta.context())
+    write_knowing(alloc, store, context, key, made, delta.context(), growth)
 }
 
 // What is to stand at the key once the delta is joined in, or None where that is what stands there.
@@ -207,7 +231,9 @@ fn write_knowing<S: DotStore<A>, M: Summary<S>, H: PathHash, A: Allocator + Copy
     key: &Key<A>,
     made: Option<S>,
     theirs: &Context<A>,
+    growth: Growth,
 ) -> Result<(), Refusal>
+    requires { IsGrowth context.old theirs.now growth }
     ensures hash { store.new.0 ≡ store.old.0 }
     ensures ok { OnOk result (Writes S.at store.old.1 store.new.1 key.now made) }
     ensures known { OnOk result ((d : DotValue) → has context.new d ≡ (has context.old d || has theirs.now d)) }
@@ -215,15 +241,12 @@ fn write_knowing<S: DotStore<A>, M: Summary<S>, H: PathHash, A: Allocator + Copy
     ensures context { OnErr result (context.new ≡ context.old) }
     ensures err { IsOkUnless result Refusal.OutOfMemory }
 {
-    match context.growth(theirs) {
+    match growth {
         Growth::Nothing => write(alloc, store, key, made),
-        Growth::One(dot) => {
-            if context.contains_above(dot) {
-                return write_uniting(alloc, store, context, key, made, theirs);
-            }
+        Growth::One(dot) if !context.contains_above(dot) => {
             write_adding(alloc, store, context, key, made, dot)
         }
-        Growth::More => write_uniting(alloc, store, context, key, made, theirs),
+        _ => write_uniting(alloc, store, context, key, made, theirs),
     }
 }
 

@@ -1,4 +1,4 @@
-ghost use Rattle.std.specs.Prelude.{◌≡◌, [], ℕ, List, IsTrue, IfSome, OnOk, IsOkUnless};
+ghost use Rattle.std.specs.Prelude.{◌≡◌, [], ℕ, List, IsTrue, IfSome, IfOk, OnOk, IsOkUnless};
 ghost use Rattle.live_map.specs.Index.{has_key};
 
 use dots::{Dot, Key, Refusal};
@@ -6,11 +6,13 @@ use std::alloc::{Allocator, Global};
 use std::collections::{BTreeMap, BTreeSet};
 use std::marker::Model;
 
-// The keys that a delta can change, and at each key the dots that were found in the index and that it knows.
+// The keys that a delta can change, and the places that were found in the index for dots that it knows. They are lists, as most
+// deltas can change one key alone.
 #[derive(Drop)]
 pub(crate) struct Touched<A: Allocator + Copy = Global> {
-    keys: BTreeSet<Key<A>, A>,
-    found: BTreeMap<Key<A>, Vec<Dot, A>, A>,
+    // As they came: a key may stand there more than once, but not twice in a row.
+    keys: Vec<Key<A>, A>,
+    found: Vec<(Dot, Key<A>), A>,
 }
 
 impl<A: Allocator + Copy> Model for Touched<A> {
@@ -18,86 +20,117 @@ impl<A: Allocator + Copy> Model for Touched<A> {
 
     ghost Value = { List (List ℕ) };
 
-    ghost view = { λ touched. touched.keys.keys };
+    ghost view = { λ touched. touched.keys.items };
 }
 
 impl<A: Allocator + Copy> Touched<A> {
-    // No key and no dot. Takes no memory.
+    // No key and no place. Takes no memory.
     pub(crate) fn new(alloc: A) -> Touched<A>
         ensures { result ≡ [] }
     {
         Touched {
-            keys: BTreeSet::new(alloc),
-            found: BTreeMap::new(alloc),
+            keys: Vec::new(alloc),
+            found: Vec::new(alloc),
         }
     }
 
     // Adds the key.
-    pub(crate) fn add(&mut self, key: Key<A>) -> Result<(), Refusal>
-        ensures there { OnOk result (IsTrue (has_key self.new key)) }
+    pub(crate) fn add(&mut self, alloc: A, key: &Key<A>) -> Result<(), Refusal>
+        ensures there { OnOk result (IsTrue (has_key self.new key.now)) }
         ensures kept { (q : List ℕ) → IsTrue (has_key self.old q) → IsTrue (has_key self.new q) }
         ensures err { IsOkUnless result Refusal.OutOfMemory }
     {
-        self.keys.insert(key)?;
+        if self.is_last(key) {
+            return Ok(());
+        }
+        self.push(alloc, key)
+    }
+
+    // Puts the key behind the others.
+    fn push(&mut self, alloc: A, key: &Key<A>) -> Result<(), Refusal>
+        ensures there { OnOk result (IsTrue (has_key self.new key.now)) }
+        ensures kept { (q : List ℕ) → IsTrue (has_key self.old q) → IsTrue (has_key self.new q) }
+        ensures err { IsOkUnless result Refusal.OutOfMemory }
+    {
+        self.keys.push(key.copy(alloc)?)?;
         Ok(())
     }
 
-    // Adds the key of a place, and keeps the dot that was found there.
+    // Whether the key is the last one that came.
+    fn is_last(&self, key: &Key<A>) -> bool
+        ensures { IsTrue result → IsTrue (has_key self.now key.now) }
+    {
+        let Some(last) = self.keys.last() else {
+            return false;
+        };
+        last == key
+    }
+
+    // Adds the key of a place that was found for a dot, and keeps the place.
     pub(crate) fn add_place(&mut self, alloc: A, dot: Dot, key: &Key<A>) -> Result<(), Refusal>
         ensures there { OnOk result (IsTrue (has_key self.new key.now)) }
         ensures kept { (q : List ℕ) → IsTrue (has_key self.old q) → IsTrue (has_key self.new q) }
         ensures err { IsOkUnless result Refusal.OutOfMemory }
     {
-        self.keep(alloc, dot, key)?;
-        if self.keys.contains(key) {
-            return Ok(());
-        }
-        self.add(key.copy(alloc)?)
-    }
-
-    // Keeps the dot among those that were found at the key.
-    fn keep(&mut self, alloc: A, dot: Dot, key: &Key<A>) -> Result<(), Refusal>
-        ensures same { self.new ≡ self.old }
-        ensures err { IsOkUnless result Refusal.OutOfMemory }
-    {
-        if let Some(dots) = self.found.get_mut(key) {
-            dots.push(dot)?;
-            return Ok(());
-        }
-        let dots = alone(alloc, dot)?;
-        let key = key.copy(alloc)?;
-        drop(self.found.insert(key, dots)?);
-        Ok(())
-    }
-
-    // The keys, in order.
-    pub(crate) fn keys(&self) -> &BTreeSet<Key<A>, A>
-        ensures { result.now.keys ≡ self.now }
-    {
-        &self.keys
+        self.found.push((dot, key.copy(alloc)?))?;
+        self.add(alloc, key)
     }
 
     // The key, where there is just one.
     pub(crate) fn only(&self) -> Option<&Key<A>>
         ensures { IfSome result (λ key. (q : List ℕ) → IsTrue (has_key self.now q) → q ≡ key.now) }
     {
-        if self.keys.len() == 1 {
-            return self.keys.first();
+        let [key] = self.keys.as_slice() else {
+            return None;
+        };
+        Some(key)
+    }
+
+    // The keys, each once, in their order.
+    pub(crate) fn key_set(&self, alloc: A) -> Result<BTreeSet<Key<A>, A>, Refusal>
+        ensures ok { IfOk result (λ set. (q : List ℕ) → IsTrue (has_key self.now q) → IsTrue (has_key set.keys q)) }
+        ensures err { IsOkUnless result Refusal.OutOfMemory }
+    {
+        let mut set = BTreeSet::new(alloc);
+        for key in &self.keys {
+            set.insert(key.copy(alloc)?)?;
         }
-        None
+        Ok(set)
+    }
+
+    // The places that were found.
+    pub(crate) fn found(&self) -> &[(Dot, Key<A>)] {
+        &self.found
     }
 
     // The dots that were found, by key.
-    pub(crate) fn found(&self) -> &BTreeMap<Key<A>, Vec<Dot, A>, A> {
-        &self.found
+    pub(crate) fn found_by_key(&self, alloc: A) -> Result<BTreeMap<Key<A>, Vec<Dot, A>, A>, Refusal>
+        ensures err { IsOkUnless result Refusal.OutOfMemory }
+    {
+        let mut by_key = BTreeMap::new(alloc);
+        for (dot, key) in &self.found {
+            add_dot(alloc, &mut by_key, *dot, key)?;
+        }
+        Ok(by_key)
     }
 }
 
-// The list of this dot.
-fn alone<A: Allocator + Copy>(alloc: A, dot: Dot) -> Result<Vec<Dot, A>, Refusal>
+// Adds the dot to those of the key.
+fn add_dot<A: Allocator + Copy>(
+    alloc: A,
+    by_key: &mut BTreeMap<Key<A>, Vec<Dot, A>, A>,
+    dot: Dot,
+    key: &Key<A>,
+) -> Result<(), Refusal>
     ensures err { IsOkUnless result Refusal.OutOfMemory }
 {
+    if let Some(dots) = by_key.get_mut(key) {
+        dots.push(dot)?;
+        return Ok(());
+    }
     let mut dots = Vec::new(alloc);
     dots.push(dot)?;
-    Ok(dots)
+    let key = key.copy(alloc)?;
+    drop(by_key.insert(key, dots)?);
+    Ok(())
 }

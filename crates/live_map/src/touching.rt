@@ -5,7 +5,7 @@ ghost use Rattle.causal_context.specs.Context.{has};
 ghost use Rattle.dot_store.specs.Stores.{at_stores};
 ghost use Rattle.dots.specs.Bytes.{bytes_cmp};
 ghost use Rattle.dots.specs.Dot.{DotValue};
-ghost use Rattle.live_map.specs.Index.{names, has_key, IsEnded, IsGone, IsIndexed, IsTouched};
+ghost use Rattle.live_map.specs.Index.{PlaceValue, names, has_key, IsEnded, IsGone, IsIndexed, IsTouched};
 ghost use Rattle.trie_map.specs.Joined.{IsJoinedAt, IsEitherAt};
 ghost use Rattle.trie_map.specs.Keyed.{at_keys};
 
@@ -19,23 +19,25 @@ use dots::{Dot, Key, Name, Refusal};
 use gen_trie::Summary;
 use hash_path::PathHash;
 use std::alloc::Allocator;
-use std::collections::BTreeSet;
+use std::collections::{BTreeMap, BTreeSet};
 use trie_map::{Draft, TrieMap};
 
-// Adds the keys that the delta can change.
+// Adds the keys that the delta can change: those at which it holds something, and those that are named for a dot that both know.
+// For a dot that is new nothing stands here, so it is not looked for.
 pub(crate) fn touch_by<S: DotStore<A>, A: Allocator + Copy>(
     alloc: A,
     touched: &mut Touched<A>,
     index: &Index<A>,
+    own: &Context<A>,
     delta: &Causal<DotMap<Key<A>, S, A>, A>,
 ) -> Result<(), Refusal>
-    ensures ok { OnOk result (IsTouched index.now (at_stores S.at bytes_cmp delta.now.0) (has delta.now.1) touched.new) }
+    ensures ok { OnOk result (IsTouched index.now (has own.now) (at_stores S.at bytes_cmp delta.now.0) (has delta.now.1) touched.new) }
     ensures err { IsOkUnless result Refusal.OutOfMemory }
 {
     add_keys(alloc, touched, delta.store().entries())?;
     let context = delta.context();
     add_vector(alloc, touched, index, context.vector())?;
-    add_cloud(alloc, touched, index, context.cloud())
+    add_cloud(alloc, touched, index, own, context.cloud())
 }
 
 // Adds the keys of these entries.
@@ -48,7 +50,7 @@ fn add_keys<S, A: Allocator + Copy>(
     ensures err { IsOkUnless result Refusal.OutOfMemory }
 {
     for (key, _) in entries {
-        touched.add(key.copy(alloc)?)?;
+        touched.add(alloc, key)?;
     }
     Ok(())
 }
@@ -71,21 +73,40 @@ fn add_vector<A: Allocator + Copy>(
     Ok(())
 }
 
-// Adds the keys that are named for dots of the cloud.
+// Adds the keys that are named for those dots of the cloud that are known here.
 fn add_cloud<A: Allocator + Copy>(
     alloc: A,
     touched: &mut Touched<A>,
     index: &Index<A>,
+    own: &Context<A>,
     cloud: &[Dot],
 ) -> Result<(), Refusal>
-    ensures there { OnOk result (All (λ d. (q : List ℕ) → IsTrue (names index.now d q) → IsTrue (has_key touched.new q)) cloud.now) }
+    ensures there { OnOk result (All (λ d. IsTrue (has own.now d) → (q : List ℕ) → IsTrue (names index.now d q) → IsTrue (has_key touched.new q)) cloud.now) }
     ensures kept { (q : List ℕ) → IsTrue (has_key touched.old q) → IsTrue (has_key touched.new q) }
     ensures err { IsOkUnless result Refusal.OutOfMemory }
 {
     for dot in cloud {
-        index.find(alloc, *dot, dot.number(), touched)?;
+        find_known(alloc, touched, index, own, *dot)?;
     }
     Ok(())
+}
+
+// Adds the keys that are named for the dot, if it is known here.
+fn find_known<A: Allocator + Copy>(
+    alloc: A,
+    touched: &mut Touched<A>,
+    index: &Index<A>,
+    own: &Context<A>,
+    dot: Dot,
+) -> Result<(), Refusal>
+    ensures there { OnOk result (IsTrue (has own.now dot) → (q : List ℕ) → IsTrue (names index.now dot q) → IsTrue (has_key touched.new q)) }
+    ensures kept { (q : List ℕ) → IsTrue (has_key touched.old q) → IsTrue (has_key touched.new q) }
+    ensures err { IsOkUnless result Refusal.OutOfMemory }
+{
+    if !own.contains(dot) {
+        return Ok(());
+    }
+    index.find(alloc, dot, dot.number(), touched)
 }
 
 // Joins what the delta holds into the draft of the store, at these keys.
@@ -112,6 +133,26 @@ pub(crate) fn join_at_keys<S: DotStore<A>, M: Summary<S>, H: PathHash, A: Alloca
         draft.join_at(alloc, key, store, own, other, delta.context())?;
     }
     Ok(())
+}
+
+// Names the key for the dot where the delta holds it there.
+pub(crate) fn name_dot<S: DotStore<A>, A: Allocator + Copy>(
+    alloc: A,
+    index: &mut Index<A>,
+    delta: &Causal<DotMap<Key<A>, S, A>, A>,
+    key: &Key<A>,
+    dot: Dot,
+) -> Result<(), Refusal>
+    ensures there { OnOk result ((place : S.Place) → IsSome (at_stores S.at bytes_cmp delta.now.0 (key.now, place) dot) → IsTrue (names index.new dot key.now)) }
+    ensures kept { (d : DotValue) (q : List ℕ) → IsTrue (names index.old d q) → IsTrue (names index.new d q) }
+    ensures err { IsOkUnless result Refusal.OutOfMemory }
+{
+    let empty = S::empty(alloc);
+    let store = delta.store().get(key).unwrap_or(&empty);
+    if !store.contains(dot) {
+        return Ok(());
+    }
+    index.add(dot, key.copy(alloc)?)
 }
 
 // Names the keys of these entries for the dots that stand there and are not known. A refused call may have named some.
@@ -160,8 +201,23 @@ pub(crate) fn gone_of<S: DotStore<A>, M: Summary<S>, H: PathHash, A: Allocator +
     ensures ok { IfOk result (λ gone. All (IsGone (at_keys S.at store.now)) gone.items) }
     ensures err { IsOkUnless result Refusal.OutOfMemory }
 {
+    let found = touched.found_by_key(alloc)?;
+    let gone = gone_at(alloc, store, &found);
+    drop(found);
+    gone
+}
+
+// Those of these places, by key, at which nothing stands in the store now.
+fn gone_at<S: DotStore<A>, M: Summary<S>, H: PathHash, A: Allocator + Copy>(
+    alloc: A,
+    store: &TrieMap<S, M, H, A>,
+    found: &BTreeMap<Key<A>, Vec<Dot, A>, A>,
+) -> Result<Vec<(Dot, Key<A>), A>, Refusal>
+    ensures ok { IfOk result (λ gone. All (IsGone (at_keys S.at store.now)) gone.items) }
+    ensures err { IsOkUnless result Refusal.OutOfMemory }
+{
     let mut gone = Vec::new(alloc);
-    for (key, dots) in touched.found() {
+    for (key, dots) in found {
         add_gone(alloc, &mut gone, store, key, dots)?;
     }
     Ok(gone)
@@ -227,42 +283,6 @@ fn standing_at<S: DotStore<A>, M: Summary<S>, H: PathHash, A: Allocator + Copy>(
     }
 }
 
-// The places that were found, that the delta knows and at which it holds nothing: nothing will stand there.
-pub(crate) fn ended_by<S: DotStore<A>, A: Allocator + Copy>(
-    alloc: A,
-    delta: &Causal<DotMap<Key<A>, S, A>, A>,
-    touched: &Touched<A>,
-) -> Result<Vec<(Dot, Key<A>), A>, Refusal>
-    ensures ok { IfOk result (λ ended. All (IsEnded (at_stores S.at bytes_cmp delta.now.0) (has delta.now.1)) ended.items) }
-    ensures err { IsOkUnless result Refusal.OutOfMemory }
-{
-    let mut ended = Vec::new(alloc);
-    for (key, dots) in touched.found() {
-        add_ended(alloc, &mut ended, delta, key, dots)?;
-    }
-    Ok(ended)
-}
-
-// Adds the places of those of the dots that the delta knows and does not hold at the key.
-fn add_ended<S: DotStore<A>, A: Allocator + Copy>(
-    alloc: A,
-    ended: &mut Vec<(Dot, Key<A>), A>,
-    delta: &Causal<DotMap<Key<A>, S, A>, A>,
-    key: &Key<A>,
-    dots: &[Dot],
-) -> Result<(), Refusal>
-    requires { All (IsEnded (at_stores S.at bytes_cmp delta.now.0) (has delta.now.1)) ended.old.items }
-    ensures ok { OnOk result (All (IsEnded (at_stores S.at bytes_cmp delta.now.0) (has delta.now.1)) ended.new.items) }
-    ensures err { IsOkUnless result Refusal.OutOfMemory }
-{
-    for dot in dots {
-        if is_ended(alloc, delta, key, *dot) {
-            ended.push((*dot, key.copy(alloc)?))?;
-        }
-    }
-    Ok(())
-}
-
 // Whether the delta knows the dot and does not hold it at the key.
 fn is_ended<S: DotStore<A>, A: Allocator + Copy>(
     alloc: A,
@@ -278,6 +298,27 @@ fn is_ended<S: DotStore<A>, A: Allocator + Copy>(
         return false;
     }
     !store.contains(dot)
+}
+
+// Names the keys no more for those dots of these places that the delta, which was joined in, knows and does not hold there. Takes no memory.
+pub(crate) fn cut_ended<S: DotStore<A>, M: Summary<S>, H: PathHash, A: Allocator + Copy>(
+    alloc: A,
+    index: &mut Index<A>,
+    store: &TrieMap<S, M, H, A>,
+    delta: &Causal<DotMap<Key<A>, S, A>, A>,
+    places: &[(Dot, Key<A>)],
+)
+    requires gone { (e : PlaceValue) → IsEnded (at_stores S.at bytes_cmp delta.now.0) (has delta.now.1) e → IsGone (at_keys S.at store.now) e }
+    requires indexed { IsIndexed (at_keys S.at store.now) index.old }
+    ensures { IsIndexed (at_keys S.at store.now) index.new }
+{
+    // The store is spoken of in the contract alone.
+    let _ = store;
+    for place in places {
+        if is_ended(alloc, delta, &place.1, place.0) {
+            index.remove(place);
+        }
+    }
 }
 
 // Names the keys of these places no more for their dots.

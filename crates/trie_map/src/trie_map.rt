@@ -1,4 +1,4 @@
-ghost use Rattle.std.specs.Prelude.{◌≡◌, ◌↔◌, IsTrue, IfSome, IfOk, OnOk, OnErr, IsOkUnless, false};
+ghost use Rattle.std.specs.Prelude.{◌≡◌, ◌↔◌, IsTrue, IfSome, IfOk, OnOk, OnErr, IsOkUnless, false, is_some};
 ghost use Rattle.std.specs.FinMap as finite;
 ghost use Rattle.std.specs.Option.{option_copied};
 ghost use Rattle.causal_context.specs.Context.{has};
@@ -180,6 +180,7 @@ impl<S: DotStore<A>, M: Summary<S>, H: PathHash, A: Allocator + Copy> TrieMap<S,
         ensures hash { self.new.0 ≡ self.old.0 }
         ensures ok { IfOk result (λ there. IsTrue there
             → JoinsHere S.at S.greater self.old.1 self.new.1 key.now (has own.now) yours.now (has theirs.now)) }
+        ensures there { IfOk result (λ there. there ≡ is_some (finite.get self.old.1 key.now)) }
         ensures absent { IfOk result (λ there. there ≡ false → self.new ≡ self.old) }
         ensures unchanged { OnErr result (self.new ≡ self.old) }
         ensures err { IsOkUnless result Refusal.OutOfMemory }

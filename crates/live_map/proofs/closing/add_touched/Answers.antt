@@ -1,4 +1,4 @@
-use Rattle.std.proofs.Common.{◌∙◌, subst}
+use Rattle.std.proofs.Common.{◌∙◌}
 use Rattle.std.specs.Prelude.{IsTrue}
 use Rattle.std.specs.FinMap as finite
 use Rattle.live_map.specs.Index.{has_key}
@@ -15,7 +15,7 @@ pub loop-key-preserved : goal.loop-key-preserved
 loop-key-preserved g c =
     visits_more c.args.touched.now.map c.loop-key.key-iterator c.next.new.self c.in-Some.key.now _
     (λ q. IsTrue (has_key c.loop-key.keys q)) (λ q. IsTrue (has_key c.add.new.self q)) c.loop-key.invariant c.in-Some.ensures.steps
-    (subst (λ k. IsTrue (has_key c.add.new.self k)) c.in_ok-copy.ensures.ok c.in_ok-add.ensures.there)
+    c.in_ok-add.ensures.there
     (λ q apart was. c.in_ok-add.ensures.kept q was)
 
 pub returns-clause-there : goal.returns-clause-there

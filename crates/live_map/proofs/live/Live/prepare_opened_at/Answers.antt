@@ -1,14 +1,12 @@
-use Rattle.std.proofs.Common.{◌≡◌, ◌∙◌, false, ap, sym, subst, ℕ, List}
+use Rattle.std.proofs.Common.{◌∙◌, ap, sym, subst}
 use Rattle.std.proofs.lemmas.Result.{IfOk-weaker}
-use Rattle.std.specs.Prelude.{IsTrue, IsSome}
 use Rattle.causal_context.specs.Context.{has}
 use Rattle.causal_join.proofs.Pairs.{inside-same, inside-has, inside-join}
 use Rattle.causal_join.specs.Causal.{state_of}
-use Rattle.dots.specs.Dot.{DotValue}
 use Rattle.op_model.specs.State.{join, Same}
 use Rattle.trie_map.specs.Keyed.{at_keys}
-use Rattle.live_map.specs.Closing.{stores_of, ChangesOnlyAt}
-use Rattle.live_map.specs.Index.{IsIndexed, names, has_key}
+use Rattle.live_map.specs.Closing.{stores_of}
+use Rattle.live_map.specs.Index.{IsIndexed}
 use Rattle.live_map.proofs.Unchanged.{opened_only, indexed_only}
 use Rattle.live_map.proofs.live.Live.prepare_opened_at.Goals as goal
 
@@ -16,9 +14,8 @@ use Rattle.live_map.proofs.live.Live.prepare_opened_at.Goals as goal
 pub closed-requires : goal.closed-requires
 closed-requires g c =
     let at = g.S.DotStore.at in
-    subst (λ keys. ChangesOnlyAt g.S.DotStore.greater (at_keys at c.self.inside.store) (has c.self.inside.context) (at_keys at (stores_of c.args.built.now)) (has c.args.context.now) keys) (sym c.keys-2.ensures)
-    (opened_only at g.S.DotStore.greater c.self.inside.store (stores_of c.args.base.now) (stores_of c.args.built.now) c.self.inside.context c.args.seen.now c.args.context.now c.args.self.now.0 c.self.inside.index
-    c.args.touched.now.map c.touch_since.new.keys (ap (λ live. live.0) c.self.view_is) c.in_ok-touch_since.ensures.ok c.self.invariant.1 c.requires.below c.requires.rest)
+    opened_only at g.S.DotStore.greater c.self.inside.store (stores_of c.args.base.now) (stores_of c.args.built.now) c.self.inside.context c.args.seen.now c.args.context.now c.args.self.now.0 c.self.inside.index
+    c.args.touched.now.map c.touch_since.new.keys (ap (λ live. live.0) c.self.view_is) c.in_ok-touch_since.ensures.ok c.self.invariant.1 c.requires.below c.requires.rest
 
 pub new-requires : goal.new-requires
 new-requires g c =
@@ -49,7 +46,6 @@ returns-clause-fits g c =
     let had : IsIndexed mine new = λ q place d h. c.in_ok-name_built.ensures.kept d q (c.self.invariant.1 q place d h) in
     let only = opened_only at g.S.DotStore.greater c.self.inside.store (stores_of c.args.base.now) (stores_of c.args.built.now) c.self.inside.context c.args.seen.now c.args.context.now c.args.self.now.0 c.self.inside.index
     c.args.touched.now.map c.touch_since.new.keys (ap (λ live. live.0) c.self.view_is) c.in_ok-touch_since.ensures.ok c.self.invariant.1 c.requires.below c.requires.rest in
-    let there = subst (λ keys. (q : List ℕ) → IsTrue (has_key keys q) → (place : _) (d : DotValue) → IsSome (at_keys at (stores_of c.args.built.now) (q, place) d) → own d ≡ false → IsTrue (names new d q)) c.keys.ensures c.in_ok-name_built.ensures.there in
     let fits = indexed_only g.S.DotStore.greater mine (at_keys at (stores_of c.args.built.now)) (at_keys at c.in-Ok.store) own (has c.args.context.now) new c.touch_since.new.keys
-    only c.in-Ok.ensures.ok had there in
+    only c.in-Ok.ensures.ok had c.in_ok-name_built.ensures.there in
     IfOk-weaker c.new.result _ _ (λ next is. subst (λ n. IsIndexed (at_keys at n.0) new) (sym is) fits) c.new.ensures.ok

@@ -5,7 +5,7 @@ use Rattle.trie_map.specs.Keyed.{at_keys}
 use Rattle.trie_map.specs.Joined.{IsJoinedAt, IsEitherAt}
 use Rattle.live_map.specs.Closing.{stores_of}
 use Rattle.live_map.proofs.Changing.{only_joined}
-use Rattle.live_map.proofs.closing.closed.Goals as goal
+use Rattle.live_map.proofs.closing.closed_at.Goals as goal
 
 pub returns-clause-ok : goal.returns-clause-ok
 returns-clause-ok g c =

@@ -6,7 +6,7 @@ use Rattle.trie_map.specs.Keyed.{at_keys}
 use Rattle.live_map.specs.Closing.{stores_of}
 use Rattle.live_map.specs.Index.{names}
 use Rattle.live_map.proofs.Passing.{Passes}
-use Rattle.live_map.proofs.closing.name_built.Given as goal
+use Rattle.live_map.proofs.closing.name_keys.Given as goal
 
 abbrev pub invariant-loop-key : goal.invariant-loop-key
 invariant-loop-key g l =

@@ -1,11 +1,13 @@
-//! An allocator that counts: the linker puts these in the places of malloc, realloc and free (--wrap).
+//! What is taken of the heap: the linker puts these in the places of malloc, realloc and free (--wrap), for the library that is
+//! measured and for what it is compared with.
 use std::ffi::c_void;
 use std::sync::atomic::{AtomicUsize, Ordering::Relaxed};
 
 static LIVE: AtomicUsize = AtomicUsize::new(0);
 static MOST: AtomicUsize = AtomicUsize::new(0);
+static CALLS: AtomicUsize = AtomicUsize::new(0);
 
-unsafe extern "C" {
+extern "C" {
     fn __real_malloc(size: usize) -> *mut c_void;
     fn __real_realloc(old: *mut c_void, size: usize) -> *mut c_void;
     fn __real_free(old: *mut c_void);
@@ -21,6 +23,7 @@ fn cost(block: *mut c_void) -> usize {
 }
 
 fn add(block: *mut c_void) -> *mut c_void {
+    CALLS.fetch_add(1, Relaxed);
     let added = cost(block);
     let live = LIVE.fetch_add(added, Relaxed).wrapping_add(added);
     MOST.fetch_max(live, Relaxed);
@@ -31,25 +34,32 @@ fn take(block: *mut c_void) {
     LIVE.fetch_sub(cost(block), Relaxed);
 }
 
-#[unsafe(no_mangle)]
+#[no_mangle]
 unsafe extern "C" fn __wrap_malloc(size: usize) -> *mut c_void {
     add(unsafe { __real_malloc(size) })
 }
 
-#[unsafe(no_mangle)]
+#[no_mangle]
 unsafe extern "C" fn __wrap_realloc(old: *mut c_void, size: usize) -> *mut c_void {
     take(old);
     add(unsafe { __real_realloc(old, size) })
 }
 
-#[unsafe(no_mangle)]
+#[no_mangle]
 unsafe extern "C" fn __wrap_free(old: *mut c_void) {
     take(old);
     unsafe { __real_free(old) }
 }
 
+/// How often memory was asked for in the run.
+pub fn calls(run: impl FnOnce()) -> usize {
+    let before = CALLS.load(Relaxed);
+    run();
+    CALLS.load(Relaxed) - before
+}
+
 /// The most bytes that were live at once in the run, above those at its start.
-pub fn most_live(run: impl Fn()) -> usize {
+pub fn most_live(run: impl FnOnce()) -> usize {
     let before = LIVE.load(Relaxed);
     MOST.store(before, Relaxed);
     run();

@@ -10,7 +10,7 @@ use Rattle.live_map.specs.Closing.{stores_of}
 use Rattle.live_map.specs.Index.{names}
 use Rattle.live_map.proofs.Members.{among_exact}
 use Rattle.live_map.proofs.Passing.{passes_none, passes_more, passes_all}
-use Rattle.live_map.proofs.closing.name_built.Goals as goal
+use Rattle.live_map.proofs.closing.name_keys.Goals as goal
 
 pub loop-key-init : goal.loop-key-init
 loop-key-init g c = (

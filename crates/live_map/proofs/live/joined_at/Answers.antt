@@ -6,7 +6,7 @@ use Rattle.dots.specs.Bytes.{bytes_cmp}
 use Rattle.trie_map.specs.Keyed.{at_keys}
 use Rattle.trie_map.specs.Joined.{IsJoinedAt, IsEitherAt}
 use Rattle.live_map.proofs.Changing.{touched_joined}
-use Rattle.live_map.proofs.live.joined.Goals as goal
+use Rattle.live_map.proofs.live.joined_at.Goals as goal
 
 pub returns-clause-ok : goal.returns-clause-ok
 returns-clause-ok g c =

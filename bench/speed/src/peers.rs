@@ -1,0 +1,140 @@
+//! The same work by what a user would pick instead: `Map` from keys to multi-value registers of the crate `crdts`, whose messages are
+//! its operations by bincode, and a map of std and of im-rc without any replication.
+use crate::keys::bytes;
+use crdts::{CmRDT, CvRDT, MVReg, Map};
+use std::collections::BTreeMap;
+use std::hint::black_box;
+
+type Bytes = Vec<u8>;
+type Register = MVReg<Bytes, u64>;
+pub type Plain = Map<Bytes, Register, u64>;
+type Op = crdts::map::Op<Bytes, Register, u64>;
+pub type Nested = Map<Bytes, Map<Bytes, Register, u64>, u64>;
+
+fn value() -> Bytes {
+    black_box([118_u8; 16]).to_vec()
+}
+
+fn made(map: &Plain, actor: u64, key: u64) -> Op {
+    let context = map.read_ctx().derive_add_ctx(actor);
+    map.update(bytes(key), context, |register, context| {
+        register.write(value(), context)
+    })
+}
+
+pub fn put(map: &mut Plain, actor: u64, key: u64) {
+    let op = made(map, actor, key);
+    map.apply(op);
+}
+
+/// A put, and the bytes of its message.
+fn put_and_send(map: &mut Plain, actor: u64, key: u64) -> Bytes {
+    let op = made(map, actor, key);
+    let message = bincode::serialize(&op).unwrap();
+    map.apply(op);
+    message
+}
+
+fn deliver(map: &mut Plain, message: &[u8]) {
+    let op: Op = bincode::deserialize(message).unwrap();
+    map.apply(op);
+}
+
+fn remove(map: &mut Plain, key: u64) {
+    let context = map.get(&bytes(key)).derive_rm_ctx();
+    let op = map.rm(bytes(key), context);
+    map.apply(op);
+}
+
+pub fn filled(keys: &[u64]) -> Plain {
+    let mut map = Plain::new();
+    keys.iter().for_each(|key| put(&mut map, 1, *key));
+    map
+}
+
+/// The steps of `measure_operations` that the map has.
+pub fn operations(keys: &[u64], step: u32, times: u32) {
+    let mut map = Plain::new();
+    let mut other = Plain::new();
+    if step == 5 {
+        for key in keys {
+            let message = put_and_send(&mut map, 1, *key);
+            (0..times).for_each(|_| deliver(&mut other, &message));
+        }
+    } else {
+        keys.iter().for_each(|key| put(&mut map, 1, *key));
+    }
+    match step {
+        1 => keys.iter().for_each(|key| put(&mut map, 1, *key)),
+        2 => keys.iter().for_each(|key| remove(&mut map, *key)),
+        3 => keys.iter().for_each(|key| {
+            black_box(
+                map.get(&bytes(*key))
+                    .val
+                    .map(|register| register.read().val),
+            );
+        }),
+        _ => {}
+    }
+    drop(black_box((map, other)));
+}
+
+fn put_field(map: &mut Nested, key: u64, field: u64) {
+    let context = map.read_ctx().derive_add_ctx(1);
+    let op = map.update(bytes(key), context, |fields, context| {
+        fields.update(bytes(field), context, |register, context| {
+            register.write(value(), context)
+        })
+    });
+    map.apply(op);
+}
+
+/// Writes each number as a field of so many keys, in turn.
+pub fn fields(numbers: &[u64], keys: u64) {
+    let mut map = Nested::new();
+    numbers
+        .iter()
+        .for_each(|number| put_field(&mut map, number % keys, *number));
+    drop(black_box(map));
+}
+
+/// Seconds that a merge of the whole state takes, where the other map has written some keys anew.
+pub fn merge(keys: &[u64], some: &[u64], seconds: &dyn Fn(&mut dyn FnMut()) -> f64) -> f64 {
+    let mut map = filled(keys);
+    let mut other = map.clone();
+    some.iter().for_each(|key| put(&mut other, 2, *key));
+    let mut copy = Some(other);
+    seconds(&mut || map.merge(copy.take().unwrap()))
+}
+
+/// The same calls on a map of std: put, and then 1 overwrite, 2 remove or 3 read each.
+pub fn std_map(keys: &[u64], step: u32) {
+    let mut map: BTreeMap<Bytes, Bytes> = BTreeMap::new();
+    keys.iter()
+        .for_each(|key| drop(map.insert(bytes(*key), value())));
+    for key in keys {
+        match step {
+            1 => drop(map.insert(bytes(*key), value())),
+            2 => drop(map.remove(&bytes(*key))),
+            3 => drop(black_box(map.get(&bytes(*key)).cloned())),
+            _ => {}
+        }
+    }
+    drop(black_box(map));
+}
+
+/// The same on a shared map of im-rc.
+pub fn shared_map(keys: &[u64], step: u32) {
+    let mut map: im_rc::HashMap<Bytes, Bytes> = im_rc::HashMap::new();
+    keys.iter()
+        .for_each(|key| drop(map.insert(bytes(*key), value())));
+    for key in keys {
+        match step {
+            1 => drop(map.insert(bytes(*key), value())),
+            2 => drop(map.remove(&bytes(*key))),
+            3 => drop(black_box(map.get(&bytes(*key)).cloned())),
+            _ => {}
+        }
+    }
+    drop(black_box(map));
+}
