@@ -5,13 +5,15 @@ It ends with status 1 where there is one.
     python3 docs/check.py
 
 A finding is a line over 100 columns outside tables and fenced code, a table's cell of over 200
-characters, a path that is not there, and a page with more words than the list gives it. What is
+characters, a path that is not there, a page with more words than the list gives it, and a page or a
+picture that a script makes and that is not what it would make now. What is
 built (out/) and names in capitals that stand for another (crates/CRATE/src) are not looked for.
 """
 
 import glob
 import os
 import re
+import subprocess
 import sys
 
 ROOT = os.path.dirname(os.path.dirname(os.path.abspath(__file__)))
@@ -23,8 +25,12 @@ CELL = 200
 PAGES = {
     "README.md": 700,
     "docs/CONTRIBUTING.md": 500,
+    "docs/PROMISES.md": 1800,
     "docs/PROOF-COSTS.md": 1500,
 }
+
+# The scripts of the pages and pictures that are made: each tells whether what it made is stale.
+MADE = ["docs/api.py", "docs/crates.py"]
 
 FENCE = re.compile(r"\s*(```|~~~)")
 LINK = re.compile(r"\]\(([^)\s#]+)[^)]*\)")
@@ -100,13 +106,23 @@ def findings(page, most):
         yield f"{page}:1: {words} words, where {most} are the most"
 
 
+def stale():
+    """What the scripts say of what they made."""
+    for script in MADE:
+        command = [sys.executable, os.path.join(ROOT, script), "--check"]
+        made = subprocess.run(command, capture_output=True, text=True)
+        if made.returncode:
+            yield made.stdout.strip() or f"{script}: it failed: {made.stderr.strip()}"
+
+
 def main():
     found = [it for page, most in PAGES.items() for it in findings(page, most)]
+    found += stale()
     for it in found:
         print(it)
     if found:
         return 1
-    print(f"docs: {len(PAGES)} pages")
+    print(f"docs: {len(PAGES)} pages, and {len(MADE)} that are made")
     return 0
 
 
