@@ -20,10 +20,15 @@ ROOT = os.path.dirname(os.path.dirname(os.path.abspath(__file__)))
 COLUMNS = 100
 CELL = 200
 
-# The pages with the words that each may have. The other pages of docs/, bench/README.md and
-# CHANGES.md follow as they are rewritten.
+# The pages with the words that each may have. BELIEVE.md, FORMATS.md and CHANGES.md
+# follow as they are rewritten.
 PAGES = {
     "README.md": 700,
+    "bench/README.md": 500,
+    "docs/COSTS.md": 1500,
+    "docs/DECISIONS.md": 3000,
+    "docs/DEFINITIONS.md": 3000,
+    "docs/DESIGN.md": 2500,
     "docs/CONTRIBUTING.md": 500,
     "docs/PROMISES.md": 1800,
     "docs/PROOF-COSTS.md": 1500,

@@ -1,5 +1,5 @@
 // The own operations of a replica, and what it is to send of them.
-ghost use Rattle.std.specs.Prelude.{◌≡◌, ◌<◌, ◌+◌, ◌-◌, ◌*◌, ◌^◌, nat_min, ℕ, List, true, [], IfOk, IfErr, OnOk, OnErr, IsOkUnless};
+ghost use Rattle.std.specs.Prelude.{◌≡◌, ◌<◌, ◌+◌, ◌-◌, ◌*◌, ◌^◌, min, ℕ, List, true, [], IfOk, IfErr, OnOk, OnErr, IsOkUnless};
 ghost use Rattle.causal_join.specs.OrMap.{or_map_state};
 ghost use Rattle.delta_ops.specs.Group.{group_state};
 ghost use Rattle.delta_ops.specs.LiveMap.{live_state};
@@ -208,7 +208,7 @@ fn make_in<H: PathHash, A: Allocator + Copy>(
 // So many deltas stand in the group before they are joined into one: some for each key of the map, so that a replica that is never
 // flushed does not keep each of its writes, and one that is flushed joins none before.
 fn most_deltas(keys: u64) -> u64
-    ensures { result ≡ nat_min (2 * keys + 1024) (2 ^ 64 - 1) }
+    ensures { result ≡ min (min (keys * 2) (2 ^ 64 - 1) + 1024) (2 ^ 64 - 1) }
 {
     keys.saturating_mul(2).saturating_add(1024)
 }
