@@ -13,12 +13,7 @@ fn put_text(alloc: Global, here: &mut Replica, bytes: &[u8]) -> Result<(), Refus
 }
 
 // Puts each piece of this length as a key.
-fn put_texts(
-    alloc: Global,
-    here: &mut Replica,
-    bytes: &[u8],
-    length: u32,
-) -> Result<(), Refusal> {
+fn put_texts(alloc: Global, here: &mut Replica, bytes: &[u8], length: u32) -> Result<(), Refusal> {
     for text in bytes.chunks(length.max(1) as usize) {
         put_text(alloc, here, text)?;
     }
