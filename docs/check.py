@@ -5,9 +5,10 @@ It ends with status 1 where there is one.
     python3 docs/check.py
 
 A finding is a line over 100 columns outside tables and fenced code, a table's cell of over 200
-characters, a path that is not there, a page with more words than the list gives it, and a page or a
-picture that a script makes and that is not what it would make now. What is
-built (out/) and names in capitals that stand for another (crates/CRATE/src) are not looked for.
+characters, a path that is not there, a page with more words than the list gives it (without what a
+script writes into it), code that a page says to have from a program that does not have it, and a page
+or a picture that a script makes and that is not what it would make now. What is built (out/) and names
+in capitals that stand for another (crates/CRATE/src) are not looked for.
 """
 
 import glob
@@ -29,6 +30,7 @@ PAGES = {
     "docs/DECISIONS.md": 3000,
     "docs/DEFINITIONS.md": 3000,
     "docs/DESIGN.md": 2500,
+    "docs/GUIDE.md": 1800,
     "docs/CONTRIBUTING.md": 500,
     "docs/PROMISES.md": 1800,
     "docs/PROOF-COSTS.md": 1500,
@@ -48,6 +50,8 @@ NAMED = re.compile(
     r"|(?:[\w.*-]+/)+[\w*-]+\.(?:rt|antt|edit|trace))\b"
 )
 PLACEHOLDER = re.compile(r"[A-Z]+")
+# Code that a page has from a program.
+SNIPPET = re.compile(r"<!-- from: (\S+) -->\n```\w*\n(.*?)```", re.S)
 # What a script writes into a page is not counted among its words.
 MADE_PART = re.compile(r"<!-- made: \w+ -->.*?<!-- end -->", re.S)
 
@@ -100,6 +104,10 @@ def findings(page, most):
         return
     with open(path, encoding="utf-8") as it:
         text = it.read()
+    for path, code in SNIPPET.findall(text):
+        with open(os.path.join(ROOT, path), encoding="utf-8") as it:
+            if code not in it.read():
+                yield f"{page}:1: this does not stand in {path}: {code.strip().splitlines()[0]}"
     is_code = False
     for number, line in enumerate(text.splitlines(), 1):
         if FENCE.match(line):
