@@ -1,3 +1,5 @@
 pub mod LineLemmas
 pub mod RunLemmas
+pub mod StatusLemmas
+pub mod TurnLemmas
 pub mod Unique

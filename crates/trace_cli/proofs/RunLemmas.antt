@@ -10,7 +10,8 @@ use Rattle.dots.specs.declared.refusal.Refusal.TheVariants.{OutOfMemory, TooLong
 use Rattle.watched_io.specs.declared.watched.Watched.{Watched}
 use Rattle.watched_io.specs.Watched.{has_failed, has_gone_on, is_flushed}
 use Rattle.trace_cli.specs.Ends.{LeavesWriter}
-use Rattle.trace_cli.specs.Lines.{has_newline, ends_line, IsWholeLinesOf}
+use Rattle.trace_cli.specs.Lines.{has_newline, ends_line}
+use Rattle.trace_cli.specs.Turns.{IsAnswered}
 use Rattle.trace_cli.specs.Output.{Given, nothing_given, prepend, IsGiven, IsGivenFront, GivesFront}
 use Rattle.trace_cli.specs.declared.trace_run.TraceRun.{TraceRun}
 use Rattle.trace_cli.specs.TraceRun.{Point, start_point, point_of, GivesAt, Leads, Stops, IsFrontFrom}
@@ -26,23 +27,26 @@ Ran ro rn wo wn point = TakenBytes ro rn (λ read. Written wo wn (λ text. Leads
 given-Leads : (read text : List ℕ) (point : Point) (later : Given) → Leads start_point read text point → GivesAt point [] later → IsGiven read (prepend text later)
 given-Leads read text point later led gives = subst (λ bytes. IsGiven bytes (prepend text later)) (append-nil read) (given_at-Leads start_point point read [] text later led gives)
 
--- the whole lines that were read were answered
-pub Ran-answered : (ro rm rn wo wn : Option (List ℕ)) (point : Point) → Ran ro rm wo wn point → has_newline point.line ≡ false → Keeps rm rn
-    → TakenBytes ro rn (λ read. (whole : List ℕ) × IsWholeLinesOf whole read × ((given : Given) × IsGiven whole given × Appends wo wn given.text × (given.fault ≡ None)))
-Ran-answered ro rm rn wo wn point ran no_end kept =
-    let read = ran.0 in
-    let text = ran.2.0 in
-    let led : Leads start_point read text point = ran.2.2 in
+-- the whole lines of what led to a point were answered
+pub answered_at : (read text : List ℕ) (wo wn : Option (List ℕ)) (point : Point) → Leads start_point read text point → Appends wo wn text
+    → has_newline point.line ≡ false → IsAnswered wo wn read
+answered_at read text wo wn point led wrote no_end =
     let is : IsGiven led.whole (record { text = text; fault = None }) =
     subst (λ bytes. IsGiven bytes (record { text = text; fault = None })) (append-nil led.whole)
     (subst (λ t. IsGiven (led.whole ++ []) (record { text = t; fault = None })) (append-nil text) (led.goes_on [] nothing_given refl)) in (
-      read ++ [],
-      Consumes-trans ro rm rn read [] ran.1 (Consumes-kept rm rn kept),
-      (
-        led.whole,
-        record { rest = point.line; parts = append-nil read ∙ led.parts; ends = led.ends; no_end = no_end },
-        (record { text = text; fault = None }, is, ran.2.1, refl),
-      ),
+      led.whole,
+      record { rest = point.line; parts = led.parts; ends = led.ends; no_end = no_end },
+      (record { text = text; fault = None }, is, wrote, refl),
+    )
+
+-- the whole lines that were read were answered
+pub Ran-answered : (ro rm rn wo wn : Option (List ℕ)) (point : Point) → Ran ro rm wo wn point → has_newline point.line ≡ false → Keeps rm rn
+    → TakenBytes ro rn (λ read. IsAnswered wo wn read)
+Ran-answered ro rm rn wo wn point ran no_end kept =
+    let P : List ℕ → Type 0 = λ bytes. Consumes ro rn bytes in (
+      ran.0,
+      subst P (append-nil ran.0) (Consumes-trans ro rm rn ran.0 [] ran.1 (Consumes-kept rm rn kept)),
+      answered_at ran.0 ran.2.0 wo wn point ran.2.2 ran.2.1 no_end,
     )
 
 -- at most n bytes were read, and then a piece

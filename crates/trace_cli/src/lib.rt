@@ -4,8 +4,10 @@
 
 mod laws;
 mod running;
+mod status;
 mod trace_run;
 mod writing;
 
 pub use laws::a_trace_is_given_one_text;
 pub use running::{run, run_bytes};
+pub use status::run_to_status;

@@ -1,20 +1,21 @@
-ghost use Rattle.std.specs.Prelude.{◌≡◌, ◌≤◌, ◌*◌, ◌++◌, ◌⊎◌, ℕ, List, length, true, false, Some, None, OnOk, OnErr, IfOk, IfErr, IfSome, IsErrOf, IsOkUnless};
+ghost use Rattle.std.specs.Prelude.{◌≡◌, ◌≤◌, ◌*◌, ◌++◌, ◌⊎◌, [], List, length, true, false, Some, None, OnOk, OnErr, IfOk, IfErr, IfSome, IsErrOf, IsOkUnless};
 ghost use Rattle.std.specs.Io.KnownBytes.{Appends, IsAtEnd};
-ghost use Rattle.trace_cli.specs.Lines.{IsWholeLinesOf};
 ghost use Rattle.trace_words.specs.Fault.{is_fault, ends_run};
 ghost use Rattle.trace_cli.specs.Output.{Given, IsGiven, IsGivenFront};
+ghost use Rattle.trace_cli.specs.Turns.{IsAnswered, AreInTurn};
+ghost use Rattle.watched_io.specs.Reads.{Reading, ReadsLead};
 ghost use Rattle.watched_io.specs.Streams.{TakenBytes, Written};
 ghost use Rattle.watched_io.specs.Watched.{inner_of, calls_of, has_failed, has_gone_on, is_flushed, IsNew, IsSettled};
 
 use crate::trace_run::TraceRun;
 use dots::Refusal;
 use std::alloc::Allocator;
-use std::io::{Read, Write};
+use std::io::Write;
 use trace_words::is_fault;
-use watched_io::Watched;
+use watched_io::{Source, Watched};
 
 /// At most so many reads are made of one trace.
-const READ_CALLS: u64 = 1_000_000_000;
+pub(crate) const READ_CALLS: u64 = 1_000_000_000;
 
 /// Runs the trace that the reader gives, and writes its answers.
 ///
@@ -25,7 +26,7 @@ const READ_CALLS: u64 = 1_000_000_000;
 ///
 /// Takes time in the bytes of the trace, and what its commands take; and memory in a line, in what the replicas hold, and in all messages
 /// and accepted events, which are kept to the end.
-pub fn run<R: Read, W: Write, A: Allocator + Copy>(
+pub fn run<R: Source<W>, W: Write, A: Allocator + Copy>(
     alloc: A,
     reader: &mut Watched<R>,
     writer: &mut Watched<W>,
@@ -34,23 +35,26 @@ pub fn run<R: Read, W: Write, A: Allocator + Copy>(
     requires writer_is_new { IsNew writer.old }
 
     // The whole input was read, and what it is given was written, and nothing else.
-    ensures ok { OnOk result (TakenBytes (R.remaining (inner_of reader.old)) (R.remaining (inner_of reader.new)) (λ input.
-        IsAtEnd (R.remaining (inner_of reader.new)) × ((given : Given) × IsGiven input given ×
+    ensures ok { OnOk result (TakenBytes (R.left (inner_of reader.old)) (R.left (inner_of reader.new)) (λ input.
+        IsAtEnd (R.left (inner_of reader.new)) × ((given : Given) × IsGiven input given ×
         Appends (W.contents (inner_of writer.old)) (W.contents (inner_of writer.new)) given.text × (given.fault ≡ None)))) }
     // What was read is given just this fault, whatever the reader has left.
     ensures fault { IfErr result (λ refusal. is_fault refusal ≡ true →
-        TakenBytes (R.remaining (inner_of reader.old)) (R.remaining (inner_of reader.new)) (λ read.
+        TakenBytes (R.left (inner_of reader.old)) (R.left (inner_of reader.new)) (λ read.
         (given : Given) × IsGiven read given ×
         Appends (W.contents (inner_of writer.old)) (W.contents (inner_of writer.new)) given.text × (given.fault ≡ Some refusal) ×
-        IfSome (R.remaining (inner_of reader.new)) (λ rest. IsGiven (read ++ rest) given))) }
+        IfSome (R.left (inner_of reader.new)) (λ rest. IsGiven (read ++ rest) given))) }
     // Whatever the refusal, a front of what is given to whole lines that were read, or to all of them, was written.
-    ensures front { OnErr result (TakenBytes (R.remaining (inner_of reader.old)) (R.remaining (inner_of reader.new)) (λ read.
+    ensures front { OnErr result (TakenBytes (R.left (inner_of reader.old)) (R.left (inner_of reader.new)) (λ read.
         Written (W.contents (inner_of writer.old)) (W.contents (inner_of writer.new)) (λ text. IsGivenFront read text))) }
     // Where reading failed, each whole line that was read was answered.
     ensures answered { IsErrOf result Refusal.Input →
-        TakenBytes (R.remaining (inner_of reader.old)) (R.remaining (inner_of reader.new)) (λ read.
-        (whole : List ℕ) × IsWholeLinesOf whole read × ((given : Given) × IsGiven whole given ×
-        Appends (W.contents (inner_of writer.old)) (W.contents (inner_of writer.new)) given.text × (given.fault ≡ None))) }
+        TakenBytes (R.left (inner_of reader.old)) (R.left (inner_of reader.new)) (λ read.
+        IsAnswered (W.contents (inner_of writer.old)) (W.contents (inner_of writer.new)) read) }
+    // Whatever the outcome, the reads that were made asked for a byte each, and each was made when all lines whose ends
+    // had been read were answered, and the answers flushed.
+    ensures in_turn { (reads : List (Reading W)) × ReadsLead R.gives (inner_of reader.old) reads (inner_of reader.new)
+        × AreInTurn W.contents (W.contents (inner_of writer.old)) [] reads }
 
     ensures refusal { IfErr result (λ refusal. ends_run refusal ≡ true) }
     ensures input { IsErrOf result Refusal.Input → (has_failed reader.new ≡ true) ⊎ (calls_of reader.new ≡ READ_CALLS) }
@@ -62,13 +66,13 @@ pub fn run<R: Read, W: Write, A: Allocator + Copy>(
     // All that was written was flushed.
     ensures flushed { has_failed writer.new ≡ false → is_flushed writer.new ≡ true }
     ensures calls { calls_of reader.new ≤ READ_CALLS }
-    ensures pieces { TakenBytes (R.remaining (inner_of reader.old)) (R.remaining (inner_of reader.new)) (λ read.
+    ensures pieces { TakenBytes (R.left (inner_of reader.old)) (R.left (inner_of reader.new)) (λ read.
         length read ≤ 4096 * calls_of reader.new) }
 {
     let mut trace_run = TraceRun::new(alloc);
     'calls: for _ in 0..READ_CALLS {
         let mut piece = [0; 4096];
-        let Ok(count) = reader.read(&mut piece) else {
+        let Ok(count) = reader.read_beside(writer, &mut piece) else {
             drop(trace_run);
             return Err(Refusal::Input);
         };

@@ -1,2 +1,3 @@
 pub mod Watched
 pub mod Streams
+pub mod Reads

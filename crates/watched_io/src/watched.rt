@@ -1,12 +1,11 @@
 ghost use Rattle.std.specs.Prelude.{◌≡◌, ◌||◌, ◌+◌, ◌-◌, ◌^◌, min, is_ok, is_err, false};
-ghost use Rattle.std.specs.Result.{result_ok};
 ghost use Rattle.std.specs.Io.{ReadsAtMost, WritesAtMost};
 ghost use Rattle.std.specs.Io.KnownBytes.{Keeps, ReadConsumes, WriteAppends};
 
 use crate::sink::Sink;
 use crate::source::Source;
 use std::io;
-use std::io::{Read, Write};
+use std::io::Write;
 
 /// A reader or a writer that is watched: it passes reads, writes and flushes on, counts the reads and writes, and
 /// remembers whether any of the three failed, whether one more was asked after that, and whether all that was written
@@ -74,15 +73,16 @@ impl<T> Watched<T> {
     }
 }
 
-impl<R: Source> Read for Watched<R> {
+impl<R> Watched<R> {
     ghost use Rattle.watched_io.specs.Watched.{inner_of, calls_of, has_failed, has_gone_on, is_flushed};
 
-    ghost remaining = { λ w. R.left (inner_of w) };
-
-    fn read(&mut self, buf: &mut [u8]) -> io::Result<usize>
-        ensures bound { ReadsAtMost result buf.new }
-        ensures bytes { ReadConsumes (R.left (inner_of self.old)) (R.left (inner_of self.new)) result buf.new }
-        ensures gives { R.gives (inner_of self.old) (inner_of self.new) (result_ok result) buf.new }
+    /// One read of at most the piece's length, beside a writer, which stays as it is.
+    pub fn read_beside<W>(&mut self, writer: &Watched<W>, piece: &mut [u8]) -> io::Result<usize>
+    where
+        R: Source<W>,
+        ensures bound { ReadsAtMost result piece.new }
+        ensures bytes { ReadConsumes (R.left (inner_of self.old)) (R.left (inner_of self.new)) result piece.new }
+        ensures gives { R.gives (inner_of self.old) (inner_of self.new) writer.now result piece.new }
         ensures calls { calls_of self.new ≡ min (calls_of self.old + 1) (2 ^ 64 - 1) }
         ensures failed { has_failed self.new ≡ (has_failed self.old || is_err result) }
         ensures went_on { has_gone_on self.new ≡ (has_gone_on self.old || has_failed self.old) }
@@ -90,7 +90,7 @@ impl<R: Source> Read for Watched<R> {
     {
         self.calls = self.calls.saturating_add(1);
         self.went_on = self.went_on || self.failed;
-        let result = self.inner.pull(buf);
+        let result = self.inner.pull(writer, piece);
         self.failed = self.failed || result.is_err();
         result
     }
@@ -104,7 +104,7 @@ impl<W: Sink> Write for Watched<W> {
     fn write(&mut self, buf: &[u8]) -> io::Result<usize>
         ensures bound { WritesAtMost result buf.now }
         ensures bytes { WriteAppends (W.held (inner_of self.old)) (W.held (inner_of self.new)) result buf.now }
-        ensures takes { W.takes (inner_of self.old) (inner_of self.new) (result_ok result) buf.now }
+        ensures takes { W.takes (inner_of self.old) (inner_of self.new) result buf.now }
         ensures calls { calls_of self.new ≡ min (calls_of self.old + 1) (2 ^ 64 - 1) }
         ensures failed { has_failed self.new ≡ (has_failed self.old || took_nothing result buf.now) }
         ensures went_on { has_gone_on self.new ≡ (has_gone_on self.old || has_failed self.old) }
@@ -124,7 +124,7 @@ impl<W: Sink> Write for Watched<W> {
 
     fn flush(&mut self) -> io::Result<()>
         ensures bytes { Keeps (W.held (inner_of self.old)) (W.held (inner_of self.new)) }
-        ensures flushes { W.flushes (inner_of self.old) (inner_of self.new) (is_ok result) }
+        ensures flushes { W.flushes (inner_of self.old) (inner_of self.new) result }
         ensures calls { calls_of self.new ≡ calls_of self.old }
         ensures failed { has_failed self.new ≡ (has_failed self.old || is_err result) }
         ensures went_on { has_gone_on self.new ≡ (has_gone_on self.old || has_failed self.old) }

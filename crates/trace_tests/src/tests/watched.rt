@@ -1,14 +1,14 @@
-use std::io::{Read, Write};
+use std::io::Write;
 use watched_io::Watched;
 
 #[test]
 fn calls_are_passed_on_and_counted(rt: HostRuntime) {
     let mut reader = Watched::new(b"abc".as_slice());
+    let mut writer = Watched::new(Vec::new(rt.alloc()));
     let mut two = [0; 2];
-    assert!(rt; reader.read(&mut two).ok() == Some(2));
+    assert!(rt; reader.read_beside(&writer, &mut two).ok() == Some(2));
     assert!(rt; two == *b"ab");
     assert!(rt; reader.calls() == 1);
-    let mut writer = Watched::new(Vec::new(rt.alloc()));
     assert!(rt; writer.write(b"abc").ok() == Some(3));
     assert!(rt; !writer.flushed());
     assert!(rt; writer.flush().is_ok() && writer.flushed());

@@ -1,6 +1,7 @@
-use Rattle.std.proofs.Common.{Err, [], ap, arith, inr, length, ◌<◌, length-take, refl}
+use Rattle.std.proofs.Common.{Ok, Err, [], ap, arith, inr, length, ◌<◌, length-take, refl}
 use Rattle.std.proofs.lemmas.Result.{on_ok_weaker, on_err_weaker, IfErr-weaker}
 use Rattle.trace_cli.proofs.RunLemmas.{Ran-start, Ran-kept, Ran-answered, Ran-more, Ran-stops, Ran-begins, Ran-finishes, Ran-ends, Pieces-more, at_end, writer_failed, never_gone_on, all_flushed, input_is_other}
+use Rattle.trace_cli.proofs.TurnLemmas.{Turned-start, Turned-read, Turned-more}
 use Rattle.watched_io.proofs.StreamLemmas.{Keeps-itself, Consumes-nothing, Consumes-kept}
 use Rattle.trace_cli.specs.Lines.{has_newline}
 use Rattle.trace_cli.specs.TraceRun.{Point}
@@ -17,7 +18,7 @@ returns-clause-answered g c _ =
 pub returns-then-count-eq0-clause-ok : goal.returns-then-count-eq0-clause-ok
 returns-then-count-eq0-clause-ok g c =
     let nothing = rw c.if-count-eq0.true at c.in-Ok.ensures.bytes.0 in
-    let room : 0 < length c.read.new.buf = omega arith in
+    let room : 0 < length c.read_beside.new.piece = omega arith in
     on_ok_weaker c.finish-ended.result
     (λ then. let end = Ran-finishes _ _ _ _ _ _ _ _ c.calls.invariant.led nothing then in
     (end.0, end.1, (c.in-Ok.ensures.bytes.1 c.if-count-eq0.true room, end.2)))
@@ -26,7 +27,7 @@ returns-then-count-eq0-clause-ok g c =
 pub returns-then-count-eq0-clause-fault : goal.returns-then-count-eq0-clause-fault
 returns-then-count-eq0-clause-fault g c =
     let nothing = rw c.if-count-eq0.true at c.in-Ok.ensures.bytes.0 in
-    let room : 0 < length c.read.new.buf = omega arith in
+    let room : 0 < length c.read_beside.new.piece = omega arith in
     IfErr-weaker c.finish-ended.result _ _
     (λ refusal told is. let end = Ran-finishes _ _ _ _ _ _ _ _ c.calls.invariant.led nothing (told is) in
     let given = end.2 in
@@ -49,13 +50,18 @@ returns-in-Err-clause-front g c =
 pub calls-preserved : goal.calls-preserved
 calls-preserved g c = record {
   led = Ran-more _ _ _ _ _ _ _ _ _ c.calls.invariant.led c.in-Ok.ensures.bytes.0 c.in_default-feed.ensures.ok;
+  turned =
+      (let room : 0 < length c.read_beside.new.piece = omega arith in
+      let i = c.calls.invariant in
+      Turned-more g.R.Source.gives g.W.Write.contents _ _ _ _ _ _ _ _ (Ok c.in-Ok.count) c.read_beside.new.piece i.turned i.sound.flushed i.one_line room c.in-Ok.ensures.gives
+      c.in_default-feed.ensures.ok);
   one_line = c.in_default-feed.ensures.one_line;
-  number = omega (arith, c.in_default-feed.ensures.number, length-take c.in-Ok.count c.read.new.buf);
+  number = omega (arith, c.in_default-feed.ensures.number, length-take c.in-Ok.count c.read_beside.new.piece);
   calls = omega (arith, c.in-Ok.ensures.calls);
   failed = rw (c.in-Ok.ensures.failed, c.calls.invariant.failed) refl;
   not_gone_on = rw (c.in-Ok.ensures.went_on, c.calls.invariant.not_gone_on, c.calls.invariant.failed) refl;
   sound = c.in_default-feed.ensures.writer;
-  pieces = Pieces-more _ _ _ _ _ _ c.calls.invariant.pieces c.in-Ok.ensures.bytes.0 (omega (arith, length-take c.in-Ok.count c.read.new.buf));
+  pieces = Pieces-more _ _ _ _ _ _ c.calls.invariant.pieces c.in-Ok.ensures.bytes.0 (omega (arith, length-take c.in-Ok.count c.read_beside.new.piece));
 }
 
 pub calls-init : goal.calls-init
@@ -63,6 +69,7 @@ calls-init g c =
     let at_start = c.new-trace_run.ensures in
     record {
       led = Ran-start _ _ c.new-trace_run.result at_start;
+      turned = Turned-start g.R.Source.gives g.W.Write.contents _ _ c.new-trace_run.result at_start;
       one_line = ap (λ (point : Point). has_newline point.line) at_start;
       number = (let first = ap (λ (point : Point). point.number) at_start in omega (arith, first));
       calls = c.requires.reader_is_new.no_calls;
@@ -89,7 +96,7 @@ returns-then-count-eq0-clause-pieces g c =
 
 pub returns-in-Err-clause-pieces : goal.returns-in-Err-clause-pieces
 returns-in-Err-clause-pieces g c =
-    Pieces-more _ _ _ _ _ _ c.calls.invariant.pieces c.in-Ok.ensures.bytes.0 (omega (arith, length-take c.in-Ok.count c.read.new.buf, c.in-Ok.ensures.calls, c.calls.invariant.calls))
+    Pieces-more _ _ _ _ _ _ c.calls.invariant.pieces c.in-Ok.ensures.bytes.0 (omega (arith, length-take c.in-Ok.count c.read_beside.new.piece, c.in-Ok.ensures.calls, c.calls.invariant.calls))
 
 pub returns-clause-pieces : goal.returns-clause-pieces
 returns-clause-pieces g c = Pieces-more _ _ _ [] _ _ c.calls.invariant.pieces (Consumes-nothing _) (omega (arith, c.calls.invariant.calls))
@@ -124,3 +131,24 @@ returns-in_default-clause-reader_failed g c _ = refl
 -- as many reads were made as there may be
 pub returns-clause-input : goal.returns-clause-input
 returns-clause-input g c _ = inr (omega (arith, c.calls.invariant.calls))
+
+pub returns-in_default-clause-in_turn : goal.returns-in_default-clause-in_turn
+returns-in_default-clause-in_turn g c =
+    let room : 0 < length c.read_beside.new.piece = omega arith in
+    let i = c.calls.invariant in
+    Turned-read g.R.Source.gives g.W.Write.contents _ _ _ _ _ _ _ c.read_beside.new.piece i.turned i.sound.flushed i.one_line room c.in_default.ensures.gives
+
+pub returns-then-count-eq0-clause-in_turn : goal.returns-then-count-eq0-clause-in_turn
+returns-then-count-eq0-clause-in_turn g c =
+    let room : 0 < length c.read_beside.new.piece = omega arith in
+    let i = c.calls.invariant in
+    Turned-read g.R.Source.gives g.W.Write.contents _ _ _ _ _ _ (Ok c.in-Ok.count) c.read_beside.new.piece i.turned i.sound.flushed i.one_line room c.in-Ok.ensures.gives
+
+pub returns-in-Err-clause-in_turn : goal.returns-in-Err-clause-in_turn
+returns-in-Err-clause-in_turn g c =
+    let room : 0 < length c.read_beside.new.piece = omega arith in
+    let i = c.calls.invariant in
+    Turned-read g.R.Source.gives g.W.Write.contents _ _ _ _ _ _ (Ok c.in-Ok.count) c.read_beside.new.piece i.turned i.sound.flushed i.one_line room c.in-Ok.ensures.gives
+
+pub returns-clause-in_turn : goal.returns-clause-in_turn
+returns-clause-in_turn g c = let turned = c.calls.invariant.turned in (turned.0, turned.1, turned.2)

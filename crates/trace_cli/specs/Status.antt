@@ -1,4 +1,4 @@
--- The status that the program ends with. Of this project.
+-- The status that a program ends with which runs a trace. Of this project.
 use Rattle.std.specs.Prelude.{ℕ, Result, Ok, Err}
 use Rattle.dots.specs.declared.refusal.Refusal.{Refusal}
 use Rattle.dots.specs.declared.refusal.Refusal.TheVariants.{OutOfMemory, TooLong, ReadOnly, NumbersSpent, SessionsFull, NotAMessage, NoPlace, NameTaken, UnknownReplica, UnknownMessage, BadLine, Input, Output}
