@@ -1,5 +1,5 @@
 -- How the lines of a text, and what is given to them, go from one byte to the next: over plain variables.
-use Rattle.std.proofs.Common.{◌≡◌, ◌⊎◌, inl, inr, ℕ, ◌+◌, Bool, true, false, ◌==◌, ◌||◌, List, [], ◌∷◌, ◌++◌, refl, ap, sym, ◌∙◌, subst, append_assoc, take, drop, get_or, length, ◌<◌, arith, Option, Some, None}
+use Rattle.std.proofs.Common.{◌≡◌, ◌⊎◌, inl, inr, ℕ, ◌+◌, Bool, true, false, ◌==◌, ◌||◌, List, [], ◌∷◌, ◌++◌, refl, ap, sym, ◌∙◌, subst, append_assoc, take, drop, get_or, length, ◌<◌, arith, Option, Some, None, Result, Ok, Err, OnOk, OnErr}
 use Rattle.std.proofs.lemmas.List.{append-nil, take_more, take-append-drop}
 use Rattle.std.proofs.lemmas.Bool.Decides.{nat_tests}
 use Rattle.std.proofs.lemmas.Bool.{true≢false}
@@ -126,6 +126,48 @@ Begins-nothing old piece = record {
   gives = refl;
   front = record { rest = []; joined = refl };
 }
+
+-- what was written to whole lines is a front of what is given to them
+pub Begins-led : (old new : Point) (piece text : List ℕ) → Leads old piece text new → IsFrontFrom old piece text
+Begins-led old new piece text led = record {
+  lines = led.whole;
+  rest = new.line;
+  parts = led.parts;
+  ends = led.ends;
+  given = prepend text nothing_given;
+  gives = subst (λ bytes. Gives old.past old.number (lines_of bytes) (prepend text nothing_given)) (append-nil led.whole) (led.goes_on [] nothing_given refl);
+  front = record { rest = []; joined = refl };
+}
+
+-- and so is a front of a front
+pub Begins-part : (old : Point) (piece text part : List ℕ) → IsFrontFrom old piece text → IsFront part text → IsFrontFrom old piece part
+Begins-part old piece text part begin front = record {
+  lines = begin.lines;
+  rest = begin.rest;
+  parts = begin.parts;
+  ends = begin.ends;
+  given = begin.given;
+  gives = begin.gives;
+  front = record {
+    rest = front.rest ++ begin.front.rest;
+    joined = begin.front.joined ∙ (ap (λ t. t ++ begin.front.rest) front.joined ∙ append_assoc part front.rest begin.front.rest);
+  };
+}
+
+-- A front was written of a text that was held in memory, which was empty before a piece was answered in it.
+pub Begins-held : (fed : Result (Unit {0}) Refusal) (old new : Point) (piece before items text : List ℕ) (wo wn : Option (List ℕ)) → before ≡ [] → text ≡ items
+    → OnOk fed (Written (Some before) (Some items) (λ t. Leads old piece t new)) → OnErr fed (Written (Some before) (Some items) (λ t. IsFrontFrom old piece t))
+    → Written wo wn (λ part. IsFront part text) → Written wo wn (λ part. IsFrontFrom old piece part)
+Begins-held fed old new piece before items text wo wn empty same led begun (part, wrote, front) =
+    (part, wrote, Begins-part old piece text part (whole fed led begun) front)
+  where
+    held : (t : List ℕ) → items ≡ before ++ t → text ≡ t
+    held t is = same ∙ (is ∙ ap (λ b. b ++ t) empty)
+
+    whole : (fed : Result (Unit {0}) Refusal) → OnOk fed (Written (Some before) (Some items) (λ t. Leads old piece t new))
+        → OnErr fed (Written (Some before) (Some items) (λ t. IsFrontFrom old piece t)) → IsFrontFrom old piece text
+    whole (Ok done) (t, is, l) begun = subst (λ w. IsFrontFrom old piece w) (sym (held t is)) (Begins-led old new piece t l)
+    whole (Err refusal) led (t, is, b) = subst (λ w. IsFrontFrom old piece w) (sym (held t is)) b
 
 -- a byte that ends no line is kept
 pub Leads-kept : (old : Point) (byte : ℕ) → Leads old (byte ∷ []) [] (record { past = old.past; number = old.number; line = old.line ++ byte ∷ [] })

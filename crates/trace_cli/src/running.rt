@@ -1,5 +1,8 @@
-ghost use Rattle.std.specs.Prelude.{◌≡◌, ◌≤◌, ◌*◌, ◌++◌, ◌⊎◌, [], List, length, true, false, Some, None, OnOk, OnErr, IfOk, IfErr, IfSome, IsErrOf, IsOkUnless};
+ghost use Rattle.std.specs.Prelude.{◌≡◌, ◌≢◌, ◌≤◌, ◌<◌, ◌+◌, ◌*◌, ◌^◌, ◌++◌, ◌⊎◌, [], List, length, true, false, Some, None, OnOk, OnErr, IfOk, IfErr, IfSome, IsErrOf, IsOkUnless};
 ghost use Rattle.std.specs.Io.KnownBytes.{Appends, IsAtEnd};
+ghost use Rattle.trace_cli.specs.Ends.{LeavesWriter};
+ghost use Rattle.trace_cli.specs.Lines.{has_newline};
+ghost use Rattle.trace_cli.specs.TraceRun.{point_of, Leads, Stops, IsFrontFrom};
 ghost use Rattle.trace_words.specs.Fault.{is_fault, ends_run};
 ghost use Rattle.trace_cli.specs.Output.{Given, IsGiven, IsGivenFront};
 ghost use Rattle.trace_cli.specs.Turns.{IsAnswered, AreInTurn};
@@ -12,20 +15,20 @@ use dots::Refusal;
 use std::alloc::Allocator;
 use std::io::Write;
 use trace_words::is_fault;
-use watched_io::{Source, Watched};
+use watched_io::{Source, Watched, write_out};
 
 /// At most so many reads are made of one trace.
 pub(crate) const READ_CALLS: u64 = 1_000_000_000;
 
 /// Runs the trace that the reader gives, and writes its answers.
 ///
-/// Both streams are new. Reads at most 4,096 bytes a call, and at most 1,000,000,000 times. The answer of each line is
-/// written, and flushed, before the next line is carried out. The first failure of the reader (Input) or the writer
+/// Both streams are new. Reads at most 256 bytes a call, and at most 1,000,000,000 times. The answers to the lines that end
+/// in what a read gave are written together, and flushed, before more is read. The first failure of the reader (Input) or the writer
 /// (Output) ends the run, as does a fault (BadLine, UnknownReplica, UnknownMessage, NameTaken), whose line is written first, and
 /// want of memory (OutOfMemory). A trace that takes more reads than these is answered Input too.
 ///
-/// Takes time in the bytes of the trace, and what its commands take; and memory in a line, in what the replicas hold, and in all messages
-/// and accepted events, which are kept to the end.
+/// Takes time in the bytes of the trace, and what its commands take; and memory in a line, in the answers to what one read gave, in what
+/// the replicas hold, and in all messages and accepted events, which are kept to the end.
 pub fn run<R: Source<W>, W: Write, A: Allocator + Copy>(
     alloc: A,
     reader: &mut Watched<R>,
@@ -67,11 +70,11 @@ pub fn run<R: Source<W>, W: Write, A: Allocator + Copy>(
     ensures flushed { has_failed writer.new ≡ false → is_flushed writer.new ≡ true }
     ensures calls { calls_of reader.new ≤ READ_CALLS }
     ensures pieces { TakenBytes (R.left (inner_of reader.old)) (R.left (inner_of reader.new)) (λ read.
-        length read ≤ 4096 * calls_of reader.new) }
+        length read ≤ 256 * calls_of reader.new) }
 {
     let mut trace_run = TraceRun::new(alloc);
     'calls: for _ in 0..READ_CALLS {
-        let mut piece = [0; 4096];
+        let mut piece = [0; 256];
         let Ok(count) = reader.read_beside(writer, &mut piece) else {
             drop(trace_run);
             return Err(Refusal::Input);
@@ -81,13 +84,48 @@ pub fn run<R: Source<W>, W: Write, A: Allocator + Copy>(
             drop(trace_run);
             return ended;
         }
-        if let Err(refusal) = trace_run.feed(writer, &piece[..count]) {
+        if let Err(refusal) = answer(alloc, &mut trace_run, writer, &piece[..count]) {
             drop(trace_run);
             return Err(refusal);
         }
     }
     drop(trace_run);
     Err(Refusal::Input)
+}
+
+/// Feeds the piece to the run of a trace, and writes the answers to the lines that end in it together.
+fn answer<W: Write, A: Allocator + Copy>(
+    alloc: A,
+    trace_run: &mut TraceRun<A>,
+    writer: &mut Watched<W>,
+    piece: &[u8],
+) -> Result<(), Refusal>
+    requires sound { IsSettled writer.old }
+    requires room { trace_run.old.number + length piece.now < 2 ^ 64 }
+    requires one_line { has_newline trace_run.old.line.items ≡ false }
+    ensures ok { OnOk result (Written (W.contents (inner_of writer.old)) (W.contents (inner_of writer.new)) (λ text.
+        Leads (point_of trace_run.old) piece.now text (point_of trace_run.new))) }
+    ensures one_line { OnOk result (has_newline trace_run.new.line.items ≡ false) }
+    ensures number { OnOk result (trace_run.new.number ≤ trace_run.old.number + length piece.now) }
+    ensures fault { IfErr result (λ refusal. is_fault refusal ≡ true →
+        Written (W.contents (inner_of writer.old)) (W.contents (inner_of writer.new)) (λ text.
+        Stops (point_of trace_run.old) piece.now text refusal)) }
+    ensures front { OnErr result (Written (W.contents (inner_of writer.old)) (W.contents (inner_of writer.new)) (λ text.
+        IsFrontFrom (point_of trace_run.old) piece.now text)) }
+    ensures refusal { IfErr result (λ refusal. ends_run refusal ≡ true) }
+    ensures input { IfErr result (λ refusal. refusal ≢ Refusal.Input) }
+    ensures writer { LeavesWriter result writer.new }
+{
+    let mut answers = Watched::new(Vec::new(alloc));
+    let fed = trace_run.feed(&mut answers, piece);
+    let text = answers.into_inner();
+    write_out(writer, text.as_slice())?;
+    match fed {
+        Ok(()) => Ok(()),
+        // What is held in memory fails for want of memory alone.
+        Err(Refusal::Output) => Err(Refusal::OutOfMemory),
+        Err(refusal) => Err(refusal),
+    }
 }
 
 /// Feeds the whole input to a new run of a trace, and ends it.

@@ -38,12 +38,14 @@ impl<'a> Read for Pieces<'a> {
     }
 }
 
-/// Takes so many bytes a write, and fails at the call of this number, counted from 1: a flush is a call too.
+/// Takes so many bytes a write, and fails at the call of this number, counted from 1: a flush is a call too. A write that
+/// stalls takes no byte, in the place of an error.
 #[derive(Drop)]
 struct Taking {
     text: Vec<u8>,
     piece: usize,
     calls_left: u64,
+    stalls: bool,
 }
 
 impl Taking {
@@ -56,6 +58,9 @@ impl Taking {
 impl Write for Taking {
     fn write(&mut self, buf: &[u8]) -> io::Result<usize> {
         if self.fails() {
+            if self.stalls {
+                return Ok(0);
+            }
             return Err(io::Error::from(io::ErrorKind::Other));
         }
         let count = self.piece.min(buf.len());
@@ -71,13 +76,14 @@ impl Write for Taking {
     }
 }
 
-fn taker(alloc: Global, piece: usize, calls: u64) -> Watched<Taking>
+fn taker(alloc: Global, stalls: bool, calls: u64) -> Watched<Taking>
     ensures { IsNew result }
 {
     Watched::new(Taking {
         text: Vec::new(alloc),
-        piece,
+        piece: 1,
         calls_left: calls,
+        stalls,
     })
 }
 
@@ -95,9 +101,9 @@ const TRACES: [(&str, &str); 3] = [
 ];
 
 // Whether a run whose writer fails at this call has written a front of the text, and ends with Output; None where it does not fail.
-fn fails_at(alloc: Global, trace: &str, text: &str, piece: usize, call: u64) -> Option<bool> {
+fn fails_at(alloc: Global, trace: &str, text: &str, stalls: bool, call: u64) -> Option<bool> {
     let mut reader = Watched::new(trace.as_bytes());
-    let mut writer = taker(alloc, piece, call);
+    let mut writer = taker(alloc, stalls, call);
     let outcome = run(alloc, &mut reader, &mut writer);
     let failed = writer.failed();
     let written = writer.into_inner();
@@ -110,9 +116,9 @@ fn fails_at(alloc: Global, trace: &str, text: &str, piece: usize, call: u64) -> 
 }
 
 // How many writes and flushes fail in turn before the run comes through. None where one of them did not end it as it should.
-fn write_failures(alloc: Global, trace: &str, text: &str, piece: usize) -> Option<u64> {
+fn write_failures(alloc: Global, trace: &str, text: &str, stalls: bool) -> Option<u64> {
     for call in 1..10_000 {
-        match fails_at(alloc, trace, text, piece, call) {
+        match fails_at(alloc, trace, text, stalls, call) {
             None => return Some(call),
             Some(true) => {}
             Some(false) => return None,
@@ -122,22 +128,22 @@ fn write_failures(alloc: Global, trace: &str, text: &str, piece: usize) -> Optio
 }
 
 #[test]
-fn each_write_and_flush_may_fail_in_turn(rt: HostRuntime) {
+fn each_write_of_a_byte_and_each_flush_may_fail_or_stall_in_turn(rt: HostRuntime) {
     for (trace, text) in TRACES {
-        for piece in [1, 3] {
-            let count = write_failures(rt.alloc(), trace, text, piece);
-            assert!(rt; count > Some(40), "pieces of {piece}");
+        for stalls in [false, true] {
+            let count = write_failures(rt.alloc(), trace, text, stalls);
+            assert!(rt; count > Some(40), "stalls: {stalls}");
         }
     }
 }
 
 // Whether a run whose reader fails at this call has answered each whole line that was read, and ends with Input; None where it does
 // not fail.
-fn stops_at(alloc: Global, trace: &str, text: &str, call: u64) -> Option<bool> {
+fn stops_at(alloc: Global, trace: &str, text: &str, piece: usize, call: u64) -> Option<bool> {
     let bytes = trace.as_bytes();
     let mut reader = Watched::new(Pieces {
         rest: bytes,
-        piece: 2,
+        piece,
         calls_left: call,
     });
     let mut writer = Watched::new(Vec::new(alloc));
@@ -154,9 +160,9 @@ fn stops_at(alloc: Global, trace: &str, text: &str, call: u64) -> Option<bool> {
 }
 
 // How many reads fail in turn before the run comes through. None where one of them did not end it as it should.
-fn read_failures(alloc: Global, trace: &str, text: &str) -> Option<u64> {
+fn read_failures(alloc: Global, trace: &str, text: &str, piece: usize) -> Option<u64> {
     for call in 1..10_000 {
-        match stops_at(alloc, trace, text, call) {
+        match stops_at(alloc, trace, text, piece, call) {
             None => return Some(call),
             Some(true) => {}
             Some(false) => return None,
@@ -168,6 +174,8 @@ fn read_failures(alloc: Global, trace: &str, text: &str) -> Option<u64> {
 #[test]
 fn each_read_may_fail_in_turn_and_whole_lines_were_answered(rt: HostRuntime) {
     for (trace, text) in TRACES {
-        assert!(rt; read_failures(rt.alloc(), trace, text) > Some(40));
+        for piece in [1, 7] {
+            assert!(rt; read_failures(rt.alloc(), trace, text, piece) > Some(20));
+        }
     }
 }

@@ -49,18 +49,18 @@ returns-in-Err-clause-front g c =
 
 pub calls-preserved : goal.calls-preserved
 calls-preserved g c = record {
-  led = Ran-more _ _ _ _ _ _ _ _ _ c.calls.invariant.led c.in-Ok.ensures.bytes.0 c.in_default-feed.ensures.ok;
+  led = Ran-more _ _ _ _ _ _ _ _ _ c.calls.invariant.led c.in-Ok.ensures.bytes.0 c.in_default-answer.ensures.ok;
   turned =
       (let room : 0 < length c.read_beside.new.piece = omega arith in
       let i = c.calls.invariant in
       Turned-more g.R.Source.gives g.W.Write.contents _ _ _ _ _ _ _ _ (Ok c.in-Ok.count) c.read_beside.new.piece i.turned i.sound.flushed i.one_line room c.in-Ok.ensures.gives
-      c.in_default-feed.ensures.ok);
-  one_line = c.in_default-feed.ensures.one_line;
-  number = omega (arith, c.in_default-feed.ensures.number, length-take c.in-Ok.count c.read_beside.new.piece);
+      c.in_default-answer.ensures.ok);
+  one_line = c.in_default-answer.ensures.one_line;
+  number = omega (arith, c.in_default-answer.ensures.number, length-take c.in-Ok.count c.read_beside.new.piece);
   calls = omega (arith, c.in-Ok.ensures.calls);
   failed = rw (c.in-Ok.ensures.failed, c.calls.invariant.failed) refl;
   not_gone_on = rw (c.in-Ok.ensures.went_on, c.calls.invariant.not_gone_on, c.calls.invariant.failed) refl;
-  sound = c.in_default-feed.ensures.writer;
+  sound = c.in_default-answer.ensures.writer;
   pieces = Pieces-more _ _ _ _ _ _ c.calls.invariant.pieces c.in-Ok.ensures.bytes.0 (omega (arith, length-take c.in-Ok.count c.read_beside.new.piece));
 }
 

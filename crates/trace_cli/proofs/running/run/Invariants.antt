@@ -14,10 +14,10 @@ invariant-calls g l = record {
   turned : Turned g.R.Source.gives g.W.Write.contents (inner_of l.initial.reader) (inner_of l.reader) (g.W.Write.contents (inner_of l.initial.writer))
       (g.W.Write.contents (inner_of l.writer)) (point_of l.trace_run);
   one_line : has_newline l.trace_run.line.items ≡ false;
-  number : l.trace_run.number ≤ 4096 * l.counter + 1;
+  number : l.trace_run.number ≤ 256 * l.counter + 1;
   calls : calls_of l.reader ≡ l.counter;
   failed : has_failed l.reader ≡ false;
   not_gone_on : has_gone_on l.reader ≡ false;
   sound : IsSettled l.writer;
-  pieces : TakenBytes (g.R.Source.left (inner_of l.initial.reader)) (g.R.Source.left (inner_of l.reader)) (λ read. length read ≤ 4096 * l.counter);
+  pieces : TakenBytes (g.R.Source.left (inner_of l.initial.reader)) (g.R.Source.left (inner_of l.reader)) (λ read. length read ≤ 256 * l.counter);
 }
