@@ -1,5 +1,5 @@
 -- Events of a world that happen or are refused, by what was found of its replicas: over plain variables.
-use Rattle.std.proofs.Common.{◌≡◌, ℕ, ◌-◌, nat_lt, true, false, cond, List, [], Option, Some, None, is_some, inl, inr, refl, sym, ap, ◌∙◌, subst}
+use Rattle.std.proofs.Common.{◌≡◌, ◌⊎◌, ℕ, ◌-◌, nat_lt, Bool, true, false, cond, List, [], Option, Some, None, is_some, inl, inr, refl, sym, ap, ◌∙◌, subst}
 use Rattle.std.specs.List.{slice_get}
 use Rattle.std.specs.BTreeMap.{BTreeMap, get, is_at}
 use Rattle.std.specs.Map.{lookup}
@@ -18,7 +18,7 @@ use Rattle.replica_model.specs.World.{World, Message, Node, At, Deliver, is_node
 use Rattle.replica_core.specs.Meaning.{ReplicaValue, meaning}
 use Rattle.replica_core.specs.Stepping.{Foretells, RefusesNothing, Stays, IsRefused}
 use Rattle.replica_world.specs.Keeping.{Keeps, IsWorld, MakesCall, TakesMail, Makes, LeavesWorld, IsRefusedEvent, ForetellsEvent}
-use Rattle.replica_world.specs.Refused.{IsUnrefused}
+use Rattle.replica_world.specs.Refused.{IsUnrefused, IsRefusedIn}
 use Rattle.replica_world.specs.Replaces.{Replaces}
 use Rattle.replica_world.specs.Spelled.{IsSpelled}
 use Rattle.replica_world.proofs.Kept.{keeps_stayed, call_keeps, take_keeps}
@@ -26,6 +26,10 @@ use Rattle.replica_world.proofs.Happened.{found_message, no_message}
 
 apart : false ≡ true → ⊥
 apart e = absurd cc
+
+bool_is : (b : Bool) → (b ≡ true) ⊎ (b ≡ false)
+bool_is true = inl refl
+bool_is false = inr refl
 
 none_some : {X : Type 0} {x : X} → None ≡ Some x → ⊥
 none_some e = absurd cc
@@ -55,9 +59,12 @@ module _ {Hash : Type 0} (hash : Hash) (old new : BTreeMap ℕ (ReplicaValue Has
   pub no_replica : (name : ℕ) (c : Call) → false ≡ is_some (get nat_cmp old name) → IsRefusedEvent hash old messages (At name c) UnknownReplica
   no_replica name c missing w keeps = inr (inl (sym (keeps.there name) ∙ sym missing, refl))
 
-  pub no_peer : (name : ℕ) (c : Call) → true ≡ is_some (get nat_cmp old name) → ((w : World) → Keeps hash old messages w → false ≡ has_peer w c)
-      → IsRefusedEvent hash old messages (At name c) UnknownReplica
-  no_peer name c found missing w keeps = inr (inr (sym (keeps.there name) ∙ sym found, inl (sym (missing w keeps), refl)))
+  pub no_peer : (name : ℕ) (c : Call) → ((w : World) → Keeps hash old messages w → false ≡ has_peer w c) → IsRefusedEvent hash old messages (At name c) UnknownReplica
+  no_peer name c missing w keeps = by (bool_is (is_node w name))
+    where
+      by : (is_node w name ≡ true) ⊎ (is_node w name ≡ false) → IsRefusedIn w (At name c) UnknownReplica
+      by (inl there) = inr (inr (there, inl (sym (missing w keeps), refl)))
+      by (inr absent) = inr (inl (absent, refl))
 
   pub call_made : (hash_of : Hash → List ℕ → ℕ) (name : ℕ) (c : Call) (answer : Answer) → ((w : World) → Keeps hash old messages w → true ≡ has_peer w c)
       → (before after : ReplicaValue Hash) × Replaces old new name before after × MakesCall hash_of before after c answer messages more
@@ -71,8 +78,19 @@ module _ {Hash : Type 0} (hash : Hash) (old new : BTreeMap ℕ (ReplicaValue Has
   call_refused name c refusal peer (before, was, inr refuses) w keeps =
       inr (inr (sym (keeps.there name) ∙ ap is_some was, inr (sym (peer w keeps), subst (λ r. Refuses r c refusal) (keeps.means name before was) refuses)))
 
+  pub call_unmade : (name : ℕ) (c : Call) (refusal : Refusal) → ((w : World) → Keeps hash old messages w → true ≡ has_peer w c)
+      → ((get nat_cmp old name ≡ None) × (refusal ≡ UnknownReplica)) ⊎ ((before : ReplicaValue Hash) × (get nat_cmp old name ≡ Some before) × IsRefused before c refusal)
+      → IsRefusedEvent hash old messages (At name c) refusal
+  call_unmade name c refusal peer (inl (none, is)) w keeps = inr (inl (sym (keeps.there name) ∙ ap is_some none, is))
+  call_unmade name c refusal peer (inr refused) w keeps = call_refused name c refusal peer refused w keeps
+
   pub stayed : (name : ℕ) → (before after : ReplicaValue Hash) × Replaces old new name before after × Stays before after → more ≡ messages → LeavesWorld hash old messages new more
   stayed name (before, after, replaces, stays) same w keeps = keeps_stayed hash old new messages more w keeps name before after replaces stays same
+
+  pub left : (name : ℕ) → (new ≡ old) ⊎ ((before after : ReplicaValue Hash) × Replaces old new name before after × Stays before after) → more ≡ messages
+      → LeavesWorld hash old messages new more
+  left name (inl same) unposted w keeps = subst (λ r. Keeps hash r more w) (sym same) (subst (λ m. Keeps hash old m w) (sym unposted) keeps)
+  left name (inr stays) unposted w keeps = stayed name stays unposted w keeps
 
   -- a delivery
   pub not_delivered : (number name : ℕ) → false ≡ is_some (get nat_cmp old name) → IsRefusedEvent hash old messages (Deliver number name) UnknownReplica

@@ -1,5 +1,5 @@
 // What an event makes of the replicas and the messages of a world.
-ghost use Rattle.std.specs.Prelude.{◌≡◌, ℕ, List, Some, IfOk, IfErr, OnErr, IsSome, IsOkUnless};
+ghost use Rattle.std.specs.Prelude.{◌≡◌, ◌⊎◌, ℕ, List, Some, None, IfOk, IfErr, OnErr, IsSome, IsOkUnless};
 ghost use Rattle.std.specs.BTreeMap.{get};
 ghost use Rattle.std.specs.Ordering.{nat_cmp};
 ghost use Rattle.wire_form.specs.Message.{message_of};
@@ -81,9 +81,6 @@ fn call_at<H: PathHash, A: Allocator + Copy>(
     ensures refused { IfErr result (λ refusal. (hash : H) → IsRefusedEvent hash replicas.old posted.old (model.At name (call_value call.now)) refusal) }
     ensures unchanged { OnErr result ((hash : H) → LeavesWorld hash replicas.old posted.old replicas.new posted.new) }
 {
-    if !replicas.contains_key(&name) {
-        return Err(Refusal::UnknownReplica);
-    }
     if !has_peer(replicas, call) {
         return Err(Refusal::UnknownReplica);
     }
@@ -130,7 +127,7 @@ fn deliver_at<H: PathHash, A: Allocator + Copy>(
     told
 }
 
-// Makes a call of the replica of this name, which is there.
+// Makes a call of the replica of this name, if it is there.
 fn make_at<H: PathHash, A: Allocator + Copy>(
     alloc: A,
     replicas: &mut BTreeMap<Name, Replica<H, A>, A>,
@@ -138,16 +135,17 @@ fn make_at<H: PathHash, A: Allocator + Copy>(
     name: Name,
     call: &Call<A>,
 ) -> Result<Answer, Refusal>
-    requires { IsSome (get nat_cmp replicas.old name) }
     ensures ok { IfOk result (λ answer. (before after : ReplicaValue H) × Replaces replicas.old replicas.new name before after
         × MakesCall H.hash_of before after (call_value call.now) (answer_value answer) posted.old posted.new) }
-    ensures refused { IfErr result (λ refusal. (before : ReplicaValue H) × (get nat_cmp replicas.old name ≡ Some before) × IsRefused before (call_value call.now) refusal) }
-    ensures unchanged { OnErr result ((before after : ReplicaValue H) × Replaces replicas.old replicas.new name before after × Stays before after) }
+    ensures refused { IfErr result (λ refusal. ((get nat_cmp replicas.old name ≡ None) × (refusal ≡ Refusal.UnknownReplica))
+        ⊎ ((before : ReplicaValue H) × (get nat_cmp replicas.old name ≡ Some before) × IsRefused before (call_value call.now) refusal)) }
+    ensures unchanged { OnErr result ((replicas.new ≡ replicas.old)
+        ⊎ ((before after : ReplicaValue H) × Replaces replicas.old replicas.new name before after × Stays before after)) }
     ensures unposted { OnErr result (posted.new ≡ posted.old) }
 {
     match replicas.get_mut(&name) {
         Some(replica) => make(alloc, replica, posted, call),
-        None => unreachable!(),
+        None => Err(Refusal::UnknownReplica),
     }
 }
 
