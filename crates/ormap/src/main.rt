@@ -2,8 +2,7 @@
 #![tactic(auto)]
 
 use std::process::ExitCode;
-use trace_cli::run_to_status;
-use watched_io::Watched;
+use trace_cli::{Watched, run_to_status};
 
 fn main(rt: HostRuntime) -> ExitCode {
     let mut reader = Watched::new(rt.stdin());

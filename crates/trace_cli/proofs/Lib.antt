@@ -1,3 +1,4 @@
+pub mod StreamLemmas
 pub mod LineLemmas
 pub mod RunLemmas
 pub mod StatusLemmas

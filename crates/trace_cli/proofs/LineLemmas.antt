@@ -10,8 +10,8 @@ use Rattle.trace_cli.specs.Lines.{lines_of, has_newline, ends_line, ends_line_af
 use Rattle.trace_cli.specs.Output.{Given, nothing_given, prepend, Gives, GivesFirst, GivesFront, answer_text}
 use Rattle.trace_words.specs.Reply.{TraceGoesOn}
 use Rattle.trace_cli.specs.TraceRun.{Point, GivesAt, Leads, Stops, IsFrontFrom}
-use Rattle.watched_io.specs.Streams.{IsFront, Written}
-use Rattle.watched_io.proofs.StreamLemmas.{Appends-trans}
+use Rattle.trace_cli.specs.Streams.{IsFront, Written}
+use Rattle.trace_cli.proofs.StreamLemmas.{Appends-trans}
 
 -- a test is passed by a number other than this, or the alternative is
 or_false_left : (a b : Bool) → (a || b) ≡ false → a ≡ false

@@ -7,17 +7,17 @@ use Rattle.std.proofs.lemmas.Bool.{true≢false}
 use Rattle.dots.specs.Refusal.{number_of}
 use Rattle.dots.specs.declared.refusal.Refusal.{Refusal}
 use Rattle.dots.specs.declared.refusal.Refusal.TheVariants.{OutOfMemory, TooLong, ReadOnly, NumbersSpent, SessionsFull, NotAMessage, NoPlace, NameTaken, UnknownReplica, UnknownMessage, BadLine, Input, Output}
-use Rattle.watched_io.specs.declared.watched.Watched.{Watched}
-use Rattle.watched_io.specs.Watched.{has_failed, has_gone_on, is_flushed}
+use Rattle.trace_cli.specs.declared.watched.Watched.{Watched}
+use Rattle.trace_cli.specs.Watched.{has_failed, has_gone_on, is_flushed}
 use Rattle.trace_cli.specs.Ends.{LeavesWriter}
 use Rattle.trace_cli.specs.Lines.{has_newline, ends_line}
 use Rattle.trace_cli.specs.Turns.{IsAnswered}
 use Rattle.trace_cli.specs.Output.{Given, nothing_given, prepend, IsGiven, IsGivenFront, GivesFront}
 use Rattle.trace_cli.specs.declared.trace_run.TraceRun.{TraceRun}
 use Rattle.trace_cli.specs.TraceRun.{Point, start_point, point_of, GivesAt, Leads, Stops, IsFrontFrom}
-use Rattle.watched_io.specs.Streams.{TakenBytes, Written}
+use Rattle.trace_cli.specs.Streams.{TakenBytes, Written}
 use Rattle.trace_cli.proofs.LineLemmas.{ends_line-append, given_at-Leads, Leads-nothing, Leads-trans, Stops-after, Begins-after, front-prepend}
-use Rattle.watched_io.proofs.StreamLemmas.{Appends-nothing, Appends-trans, Consumes-nothing, Consumes-trans, Consumes-kept}
+use Rattle.trace_cli.proofs.StreamLemmas.{Appends-nothing, Appends-trans, Consumes-nothing, Consumes-trans, Consumes-kept}
 
 -- from the start of a run, what was read led to this point by writing what was written
 abbrev pub Ran : Option (List ℕ) → Option (List ℕ) → Option (List ℕ) → Option (List ℕ) → Point → Type 0

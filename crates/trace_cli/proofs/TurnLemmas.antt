@@ -2,11 +2,11 @@
 use Rattle.std.proofs.Common.{◌≡◌, ℕ, ◌<◌, length, true, false, List, [], ◌∷◌, ◌++◌, Option, Result, refl, sym, ◌∙◌, ap, subst, append_assoc}
 use Rattle.std.proofs.lemmas.List.{append-nil}
 use Rattle.std_io.specs.declared.io.error.Error.{Error}
-use Rattle.watched_io.specs.declared.watched.Watched.{Watched}
-use Rattle.watched_io.specs.Reads.{Reading, bytes_given, all_given, ReadsLead}
-use Rattle.watched_io.specs.Streams.{Written}
-use Rattle.watched_io.specs.Watched.{inner_of, is_flushed}
-use Rattle.watched_io.proofs.StreamLemmas.{Appends-nothing, Appends-trans}
+use Rattle.trace_cli.specs.declared.watched.Watched.{Watched}
+use Rattle.trace_cli.specs.Reads.{Reading, bytes_given, all_given, ReadsLead}
+use Rattle.trace_cli.specs.Streams.{Written}
+use Rattle.trace_cli.specs.Watched.{inner_of, is_flushed}
+use Rattle.trace_cli.proofs.StreamLemmas.{Appends-nothing, Appends-trans}
 use Rattle.trace_cli.specs.Lines.{has_newline}
 use Rattle.trace_cli.specs.TraceRun.{Point, start_point, point_of, Leads}
 use Rattle.trace_cli.specs.Turns.{AnswersAll, AreInTurn}

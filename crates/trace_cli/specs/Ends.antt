@@ -2,8 +2,8 @@
 use Rattle.std.specs.Prelude.{◌≡◌, ◌≢◌, Result, MatchResult}
 use Rattle.dots.specs.declared.refusal.Refusal.{Refusal}
 use Rattle.dots.specs.declared.refusal.Refusal.TheVariants.{Output}
-use Rattle.watched_io.specs.declared.watched.Watched.{Watched}
-use Rattle.watched_io.specs.Watched.{IsSettled, IsBroken}
+use Rattle.trace_cli.specs.declared.watched.Watched.{Watched}
+use Rattle.trace_cli.specs.Watched.{IsSettled, IsBroken}
 
 -- a refusal leaves the writer broken where it is Output, and else sound
 pub record LeftBy {W : Type 0} (refusal : Refusal) (writer : Watched W) : Type 0 where

@@ -1,3 +1,6 @@
+pub mod Watched
+pub mod Streams
+pub mod Reads
 pub mod Lines
 pub mod Output
 pub mod TraceRun

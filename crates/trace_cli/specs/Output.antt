@@ -7,7 +7,7 @@ use Rattle.dots.specs.Refusal.{word_of}
 use Rattle.dots.specs.declared.refusal.Refusal.{Refusal}
 use Rattle.trace_words.specs.Answer.{LineAnswer, Silent, Told, Faulted}
 use Rattle.trace_world.specs.Line.{Past, start, Answers}
-use Rattle.watched_io.specs.Streams.{IsFront}
+use Rattle.trace_cli.specs.Streams.{IsFront}
 use Rattle.trace_cli.specs.Lines.{lines_of, ends_line}
 
 -- what is written, and the fault that ended the trace, if one did

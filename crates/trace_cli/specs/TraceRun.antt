@@ -4,7 +4,7 @@ use Rattle.dots.specs.declared.refusal.Refusal.{Refusal}
 use Rattle.trace_cli.specs.Lines.{lines_of, ends_line}
 use Rattle.trace_world.specs.Line.{Past, start}
 use Rattle.trace_cli.specs.Output.{Given, Gives, prepend}
-use Rattle.watched_io.specs.Streams.{IsFront}
+use Rattle.trace_cli.specs.Streams.{IsFront}
 use Rattle.trace_cli.specs.declared.trace_run.TraceRun.{TraceRun}
 
 -- after these lines: the number of the next line, and what of it was read

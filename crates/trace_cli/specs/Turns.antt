@@ -1,9 +1,9 @@
 -- When the lines of a trace are answered: before more of it is read. Of this project.
 use Rattle.std.specs.Prelude.{◌≡◌, ◌<◌, ℕ, true, List, [], ◌∷◌, ◌++◌, length, Option, None, ⊤}
 use Rattle.std.specs.Io.KnownBytes.{Appends}
-use Rattle.watched_io.specs.declared.watched.Watched.{Watched}
-use Rattle.watched_io.specs.Reads.{Reading, bytes_given}
-use Rattle.watched_io.specs.Watched.{inner_of, is_flushed}
+use Rattle.trace_cli.specs.declared.watched.Watched.{Watched}
+use Rattle.trace_cli.specs.Reads.{Reading, bytes_given}
+use Rattle.trace_cli.specs.Watched.{inner_of, is_flushed}
 use Rattle.trace_cli.specs.Lines.{IsWholeLinesOf}
 use Rattle.trace_cli.specs.Output.{Given, IsGiven}
 

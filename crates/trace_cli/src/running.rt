@@ -6,16 +6,18 @@ ghost use Rattle.trace_cli.specs.TraceRun.{point_of, Leads, Stops, IsFrontFrom};
 ghost use Rattle.trace_words.specs.Fault.{is_fault, ends_run};
 ghost use Rattle.trace_cli.specs.Output.{Given, IsGiven, IsGivenFront};
 ghost use Rattle.trace_cli.specs.Turns.{IsAnswered, AreInTurn};
-ghost use Rattle.watched_io.specs.Reads.{Reading, ReadsLead};
-ghost use Rattle.watched_io.specs.Streams.{TakenBytes, Written};
-ghost use Rattle.watched_io.specs.Watched.{inner_of, calls_of, has_failed, has_gone_on, is_flushed, IsNew, IsSettled};
+ghost use Rattle.trace_cli.specs.Reads.{Reading, ReadsLead};
+ghost use Rattle.trace_cli.specs.Streams.{TakenBytes, Written};
+ghost use Rattle.trace_cli.specs.Watched.{inner_of, calls_of, has_failed, has_gone_on, is_flushed, IsNew, IsSettled};
 
+use crate::flushing::write_out;
+use crate::source::Source;
 use crate::trace_run::TraceRun;
+use crate::watched::Watched;
 use dots::Refusal;
 use std::alloc::Allocator;
 use std::io::Write;
 use trace_words::is_fault;
-use watched_io::{Source, Watched, write_out};
 
 /// At most so many reads are made of one trace.
 pub(crate) const READ_CALLS: u64 = 1_000_000_000;

@@ -3,15 +3,16 @@ ghost use Rattle.std.specs.Io.KnownBytes.{Appends, IsAtEnd};
 ghost use Rattle.trace_cli.specs.Output.{Given, IsGiven, IsGivenFront};
 ghost use Rattle.trace_cli.specs.Status.{status_of};
 ghost use Rattle.trace_cli.specs.Turns.{AreInTurn};
-ghost use Rattle.watched_io.specs.Reads.{Reading, ReadsLead};
-ghost use Rattle.watched_io.specs.Streams.{TakenBytes, Written};
-ghost use Rattle.watched_io.specs.Watched.{inner_of, calls_of, has_failed, IsNew};
+ghost use Rattle.trace_cli.specs.Reads.{Reading, ReadsLead};
+ghost use Rattle.trace_cli.specs.Streams.{TakenBytes, Written};
+ghost use Rattle.trace_cli.specs.Watched.{inner_of, calls_of, has_failed, IsNew};
 
 use crate::running::{READ_CALLS, run};
+use crate::source::Source;
+use crate::watched::Watched;
 use dots::Refusal;
 use std::alloc::Allocator;
 use std::io::Write;
-use watched_io::{Source, Watched};
 
 /// The status of an outcome: 0 where the whole trace ran, 1 at a fault in it, 2 where reading or writing failed, and 3
 /// where memory ran out.

@@ -2,14 +2,14 @@ ghost use Rattle.std.specs.Prelude.{◌≡◌, ◌≢◌, ◌+◌, ◌<◌, ◌�
 ghost use Rattle.trace_cli.specs.Lines.{has_newline};
 ghost use Rattle.trace_words.specs.Fault.{is_fault, ends_run};
 ghost use Rattle.trace_cli.specs.Output.{GivesFront};
-ghost use Rattle.watched_io.specs.Streams.{Written};
+ghost use Rattle.trace_cli.specs.Streams.{Written};
 
+use crate::watched::Watched;
 use crate::writing::write_reply;
 use dots::Refusal;
 use std::alloc::{Allocator, Global};
 use std::io::Write;
 use trace_world::Machine;
-use watched_io::Watched;
 
 /// A trace that is being read: the machine, what was read of the current line, and that line's number.
 #[derive(Drop)]
@@ -22,7 +22,7 @@ pub(crate) struct TraceRun<A: Allocator + Copy = Global> {
 
 impl<A: Allocator + Copy> TraceRun<A> {
     ghost use Rattle.trace_cli.specs.TraceRun.{point_of, start_point, GivesAt, Leads, Stops, IsFrontFrom};
-    ghost use Rattle.watched_io.specs.Watched.{inner_of, IsSettled};
+    ghost use Rattle.trace_cli.specs.Watched.{inner_of, IsSettled};
     ghost use Rattle.trace_cli.specs.Ends.{LeavesWriter};
 
     /// The start of a trace.

@@ -4,15 +4,16 @@ ghost use Rattle.trace_words.specs.Answer.{Faulted};
 ghost use Rattle.trace_words.specs.Fault.{is_fault, ends_run};
 ghost use Rattle.trace_cli.specs.Output.{fault_line, answer_text};
 ghost use Rattle.trace_words.specs.Reply.{answer_of, TellsFaults, TraceGoesOn};
-ghost use Rattle.watched_io.specs.Streams.{Written, IsFront};
-ghost use Rattle.watched_io.specs.Watched.{inner_of, IsSettled};
+ghost use Rattle.trace_cli.specs.Streams.{Written, IsFront};
+ghost use Rattle.trace_cli.specs.Watched.{inner_of, IsSettled};
 ghost use Rattle.trace_cli.specs.Ends.{LeavesWriter};
 
+use crate::flushing::write_out;
+use crate::watched::Watched;
 use dots::Refusal;
 use std::alloc::Allocator;
 use std::io::Write;
 use trace_words::Reply;
-use watched_io::{Watched, write_out};
 
 /// Writes the text and the end of its line.
 fn write_line<W: Write, A: Allocator + Copy>(

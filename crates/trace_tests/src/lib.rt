@@ -1,4 +1,4 @@
-// The tests of `trace_cli` and `watched_io`, apart from them, so that they are proved without proving those again.
+// The tests of `trace_cli`, apart from it, so that they are proved without proving it again.
 #![tactic(auto)]
 
 #[cfg(test)]

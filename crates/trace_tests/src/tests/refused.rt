@@ -7,8 +7,7 @@ use dots::Refusal;
 use linked_list_allocator::LocalHeap;
 use std::alloc::Global;
 use std::process::Abort;
-use trace_cli::run;
-use watched_io::Watched;
+use trace_cli::{Watched, run};
 
 // What a run in this heap ends with, and what it has written.
 fn ran_in(alloc: Global, heap: &LocalHeap, trace: &str) -> (Result<(), Refusal>, Vec<u8>) {

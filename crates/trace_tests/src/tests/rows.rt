@@ -3,8 +3,7 @@ use crate::tests::faults::{TEXT, TRACE};
 use dots::Refusal;
 use std::alloc::Global;
 use std::process::Abort;
-use trace_cli::{run, run_bytes};
-use watched_io::Watched;
+use trace_cli::{Watched, run, run_bytes};
 
 // A value travels from one replica to another.
 const ONE_VALUE: &str = "node 1

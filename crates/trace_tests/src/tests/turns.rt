@@ -6,8 +6,7 @@ use std::process::Abort;
 use std::sync::Arc;
 use std::sync::atomic::AtomicU64;
 use std::sync::atomic::Ordering::SeqCst;
-use trace_cli::run;
-use watched_io::Watched;
+use trace_cli::{Watched, run};
 
 /// Gives a line a call, and tells whether each time all lines that were given before had been answered, and the answers flushed.
 #[derive(Drop)]

@@ -1,5 +1,5 @@
 use std::io::Write;
-use watched_io::Watched;
+use trace_cli::Watched;
 
 #[test]
 fn calls_are_passed_on_and_counted(rt: HostRuntime) {

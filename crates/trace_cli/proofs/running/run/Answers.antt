@@ -2,7 +2,7 @@ use Rattle.std.proofs.Common.{Ok, Err, [], ap, arith, inr, length, ◌<◌, leng
 use Rattle.std.proofs.lemmas.Result.{on_ok_weaker, on_err_weaker, IfErr-weaker}
 use Rattle.trace_cli.proofs.RunLemmas.{Ran-start, Ran-kept, Ran-answered, Ran-more, Ran-stops, Ran-begins, Ran-finishes, Ran-ends, Pieces-more, at_end, writer_failed, never_gone_on, all_flushed, input_is_other}
 use Rattle.trace_cli.proofs.TurnLemmas.{Turned-start, Turned-read, Turned-more}
-use Rattle.watched_io.proofs.StreamLemmas.{Keeps-itself, Consumes-nothing, Consumes-kept}
+use Rattle.trace_cli.proofs.StreamLemmas.{Keeps-itself, Consumes-nothing, Consumes-kept}
 use Rattle.trace_cli.specs.Lines.{has_newline}
 use Rattle.trace_cli.specs.TraceRun.{Point}
 use Rattle.trace_cli.proofs.running.run.Goals as goal

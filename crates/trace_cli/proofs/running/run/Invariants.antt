@@ -1,8 +1,8 @@
 use Rattle.std.proofs.Common.{◌≡◌, ◌+◌, ◌*◌, ◌≤◌, length, false}
 use Rattle.trace_cli.specs.Lines.{has_newline}
 use Rattle.trace_cli.specs.TraceRun.{point_of, start_point, Leads}
-use Rattle.watched_io.specs.Streams.{TakenBytes, Written}
-use Rattle.watched_io.specs.Watched.{inner_of, calls_of, has_failed, has_gone_on, IsSettled}
+use Rattle.trace_cli.specs.Streams.{TakenBytes, Written}
+use Rattle.trace_cli.specs.Watched.{inner_of, calls_of, has_failed, has_gone_on, IsSettled}
 use Rattle.trace_cli.proofs.TurnLemmas.{Turned}
 use Rattle.trace_cli.proofs.running.run.Given as goal
 

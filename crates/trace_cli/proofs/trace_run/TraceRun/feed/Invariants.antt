@@ -1,8 +1,8 @@
 use Rattle.std.proofs.Common.{◌≡◌, ◌+◌, ◌≤◌, false, take}
 use Rattle.trace_cli.specs.TraceRun.{point_of, Leads}
 use Rattle.trace_cli.specs.Lines.{has_newline}
-use Rattle.watched_io.specs.Streams.{Written}
-use Rattle.watched_io.specs.Watched.{inner_of, IsSettled}
+use Rattle.trace_cli.specs.Streams.{Written}
+use Rattle.trace_cli.specs.Watched.{inner_of, IsSettled}
 use Rattle.trace_cli.proofs.trace_run.TraceRun.feed.Given as goal
 
 abbrev pub invariant-loop-byte : goal.invariant-loop-byte

@@ -1,6 +1,6 @@
 use Rattle.std.proofs.Common.{[], ◌∷◌}
 use Rattle.std.proofs.lemmas.Result.{err_from_is_err_and}
-use Rattle.watched_io.proofs.StreamLemmas.{Appends-nothing}
+use Rattle.trace_cli.proofs.StreamLemmas.{Appends-nothing}
 use Rattle.trace_cli.specs.TraceRun.{point_of}
 use Rattle.trace_cli.proofs.LineLemmas.{has_newline-append, not_newline, Begins-nothing}
 use Rattle.trace_cli.proofs.trace_run.TraceRun.take.Goals as goal

@@ -1,7 +1,7 @@
 use Rattle.std.proofs.Math.Nat.{le_refl}
 use Rattle.std.proofs.Common.{refl}
-use Rattle.watched_io.proofs.StreamLemmas.{Written-more, took_some}
-use Rattle.watched_io.proofs.writing.write_out.Goals as goal
+use Rattle.trace_cli.proofs.StreamLemmas.{Written-more, took_some}
+use Rattle.trace_cli.proofs.flushing.write_out.Goals as goal
 
 pub loop-rest-preserved : goal.loop-rest-preserved
 loop-rest-preserved g c =

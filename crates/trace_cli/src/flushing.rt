@@ -1,7 +1,7 @@
 ghost use Rattle.std.specs.Prelude.{◌≡◌, OnOk, OnErr, IfErr};
 ghost use Rattle.std.specs.Io.KnownBytes.{Appends};
-ghost use Rattle.watched_io.specs.Streams.{Written, IsFront};
-ghost use Rattle.watched_io.specs.Watched.{inner_of, IsSettled, IsBroken};
+ghost use Rattle.trace_cli.specs.Streams.{Written, IsFront};
+ghost use Rattle.trace_cli.specs.Watched.{inner_of, IsSettled, IsBroken};
 
 use crate::watched::Watched;
 use dots::Refusal;

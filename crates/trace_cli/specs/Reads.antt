@@ -1,7 +1,7 @@
 -- The reads that were made of a watched reader, each beside the writer as it was then. Of this project.
 use Rattle.std.specs.Prelude.{◌≡◌, ℕ, List, [], ◌∷◌, ◌++◌, take, Result, Ok, Err}
 use Rattle.std_io.specs.declared.io.error.Error.{Error}
-use Rattle.watched_io.specs.declared.watched.Watched.{Watched}
+use Rattle.trace_cli.specs.declared.watched.Watched.{Watched}
 
 -- one read: the writer that it was made beside, what came of it, and the piece
 pub record Reading (W : Type 0) : Type 0 where

@@ -1,6 +1,6 @@
 -- What a `Watched` reader or writer counts and remembers. Of this project.
 use Rattle.std.specs.Prelude.{◌≡◌, ℕ, Bool, true, false, ◌&&◌, ◌==◌, not, List, length, Result, Ok, Err}
-use Rattle.watched_io.specs.declared.watched.Watched.{Watched}
+use Rattle.trace_cli.specs.declared.watched.Watched.{Watched}
 
 -- what is watched
 abbrev pub inner_of : {T : Type 0} → Watched T → T

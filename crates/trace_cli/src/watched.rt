@@ -20,7 +20,7 @@ pub struct Watched<T> {
 }
 
 impl<T> Watched<T> {
-    ghost use Rattle.watched_io.specs.Watched.{inner_of, calls_of, has_failed, has_gone_on, is_flushed, IsNew};
+    ghost use Rattle.trace_cli.specs.Watched.{inner_of, calls_of, has_failed, has_gone_on, is_flushed, IsNew};
 
     /// Watches `inner`, of which nothing was asked yet.
     pub fn new(inner: T) -> Watched<T>
@@ -74,7 +74,7 @@ impl<T> Watched<T> {
 }
 
 impl<R> Watched<R> {
-    ghost use Rattle.watched_io.specs.Watched.{inner_of, calls_of, has_failed, has_gone_on, is_flushed};
+    ghost use Rattle.trace_cli.specs.Watched.{inner_of, calls_of, has_failed, has_gone_on, is_flushed};
 
     /// One read of at most the piece's length, beside a writer, which stays as it is.
     pub fn read_beside<W>(&mut self, writer: &Watched<W>, piece: &mut [u8]) -> io::Result<usize>
@@ -97,7 +97,7 @@ impl<R> Watched<R> {
 }
 
 impl<W: Sink> Write for Watched<W> {
-    ghost use Rattle.watched_io.specs.Watched.{inner_of, calls_of, has_failed, has_gone_on, is_flushed, took_nothing};
+    ghost use Rattle.trace_cli.specs.Watched.{inner_of, calls_of, has_failed, has_gone_on, is_flushed, took_nothing};
 
     ghost contents = { λ w. W.held (inner_of w) };
 

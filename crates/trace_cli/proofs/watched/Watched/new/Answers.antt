@@ -1,5 +1,5 @@
 use Rattle.std.specs.Prelude.{refl}
-use Rattle.watched_io.proofs.watched.Watched.new.Goals as goal
+use Rattle.trace_cli.proofs.watched.Watched.new.Goals as goal
 
 -- src/watched.rt
 pub returns : goal.returns

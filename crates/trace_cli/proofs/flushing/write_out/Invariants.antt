@@ -1,7 +1,7 @@
 use Rattle.std.proofs.Common.{◌≡◌, ◌++◌, length, false}
-use Rattle.watched_io.specs.Streams.{Written}
-use Rattle.watched_io.specs.Watched.{inner_of, has_failed, has_gone_on}
-use Rattle.watched_io.proofs.writing.write_out.Given as goal
+use Rattle.trace_cli.specs.Streams.{Written}
+use Rattle.trace_cli.specs.Watched.{inner_of, has_failed, has_gone_on}
+use Rattle.trace_cli.proofs.flushing.write_out.Given as goal
 
 abbrev pub invariant-loop-rest : goal.invariant-loop-rest
 invariant-loop-rest g l = record {

@@ -2,7 +2,7 @@ ghost use Rattle.std.specs.Prelude.{ℕ, List, Option, Result, ⊤};
 ghost use Rattle.std.specs.Io.{ReadsAtMost};
 ghost use Rattle.std.specs.Io.KnownBytes.{ReadConsumes};
 ghost use Rattle.std_io.specs.declared.io.error.Error.{Error};
-ghost use Rattle.watched_io.specs.declared.watched.Watched.{Watched};
+ghost use Rattle.trace_cli.specs.declared.watched.Watched.{Watched};
 
 use crate::watched::Watched;
 use std::io;

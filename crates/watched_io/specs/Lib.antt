@@ -1,3 +1,0 @@
-pub mod Watched
-pub mod Streams
-pub mod Reads
