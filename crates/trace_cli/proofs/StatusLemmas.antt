@@ -45,7 +45,8 @@ ok_at_0 {P = P} (Err refusal) ends p is = by (status_is refusal (kind_of refusal
     by (inr (inl two)) = absurd (omega (arith, is, two))
     by (inr (inr three)) = absurd (omega (arith, is, three))
 
-pub fault_at_1 : {P : Refusal → Type 0} (outcome : Outcome) → IfErr outcome (λ refusal. ends_run refusal ≡ true) → IfErr outcome (λ refusal. is_fault refusal ≡ true → P refusal)
+pub fault_at_1 : {P : Refusal → Type 0} (outcome : Outcome) → IfErr outcome (λ refusal. ends_run refusal ≡ true)
+    → IfErr outcome (λ refusal. is_fault refusal ≡ true → P refusal)
     → status_of outcome ≡ 1 → (refusal : Refusal) × P refusal
 fault_at_1 (Ok done) ends told is = absurd (omega (arith, is))
 fault_at_1 {P = P} (Err refusal) ends told is = by (kind_of refusal ends)

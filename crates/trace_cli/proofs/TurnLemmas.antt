@@ -23,7 +23,8 @@ ReadsLead-more gives first last next (q ∷ rs) r (mid, here, led) gave = (mid, 
 all_given-more : {W : Type 0} (rs : List (Reading W)) (r : Reading W) → all_given (rs ++ r ∷ []) ≡ all_given rs ++ bytes_given r.result r.piece
 all_given-more [] r = append-nil (bytes_given r.result r.piece)
 all_given-more (q ∷ rs) r =
-    ap (λ bytes. bytes_given q.result q.piece ++ bytes) (all_given-more rs r) ∙ sym (append_assoc (bytes_given q.result q.piece) (all_given rs) (bytes_given r.result r.piece))
+    ap (λ bytes. bytes_given q.result q.piece ++ bytes) (all_given-more rs r)
+    ∙ sym (append_assoc (bytes_given q.result q.piece) (all_given rs) (bytes_given r.result r.piece))
 
 AreInTurn-more : {W : Type 0} (contents : W → Option (List ℕ)) (old : Option (List ℕ)) (read : List ℕ) (rs : List (Reading W)) (r : Reading W)
     → AreInTurn contents old read rs → 0 < length r.piece → AnswersAll contents old r.beside (read ++ all_given rs) → AreInTurn contents old read (rs ++ r ∷ [])
@@ -40,10 +41,12 @@ module _ {R W : Type 0} (gives : R → R → Watched W → Result ℕ Error → 
   -- the reads so far, each in turn, led to this point by writing what was written
   abbrev pub Turned : R → R → Option (List ℕ) → Option (List ℕ) → Point → Type 0
   Turned first last wo wn point =
-      (reads : List (Reading W)) × ReadsLead gives first reads last × AreInTurn contents wo [] reads × Written wo wn (λ text. Leads start_point (all_given reads) text point)
+      (reads : List (Reading W)) × ReadsLead gives first reads last × AreInTurn contents wo [] reads
+      × Written wo wn (λ text. Leads start_point (all_given reads) text point)
 
   -- the writer has answered all lines whose ends were read
-  Turned-answered : (first last : R) (wo : Option (List ℕ)) (writer : Watched W) (point : Point) (turned : Turned first last wo (contents (inner_of writer)) point)
+  Turned-answered : (first last : R) (wo : Option (List ℕ)) (writer : Watched W) (point : Point)
+      (turned : Turned first last wo (contents (inner_of writer)) point)
       → is_flushed writer ≡ true → has_newline point.line ≡ false → AnswersAll contents wo writer (all_given turned.0)
   Turned-answered first last wo writer point turned flushed no_end =
       let written = turned.3 in
@@ -79,7 +82,8 @@ module _ {R W : Type 0} (gives : R → R → Watched W → Result ℕ Error → 
       )
 
   -- nothing was read or written yet
-  pub Turned-start : {A : Type 0} (first : R) (wo : Option (List ℕ)) (trace_run : TraceRun A) → point_of trace_run ≡ start_point → Turned first first wo wo (point_of trace_run)
+  pub Turned-start : {A : Type 0} (first : R) (wo : Option (List ℕ)) (trace_run : TraceRun A) → point_of trace_run ≡ start_point
+      → Turned first first wo wo (point_of trace_run)
   Turned-start first wo trace_run at_start =
       let P : Point → Type 0 = λ point. Turned first first wo wo point in
       subst P (sym at_start) ([], refl, tt, ([], Appends-nothing wo, Leads-nothing start_point))

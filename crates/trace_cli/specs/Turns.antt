@@ -9,7 +9,9 @@ use Rattle.trace_cli.specs.Output.{Given, IsGiven}
 
 -- the whole lines of what was read are given no fault, and their text was written, and nothing else
 abbrev pub IsAnswered : Option (List ℕ) → Option (List ℕ) → List ℕ → Type 0
-IsAnswered old new read = (whole : List ℕ) × IsWholeLinesOf whole read × ((given : Given) × IsGiven whole given × Appends old new given.text × (given.fault ≡ None))
+IsAnswered old new read =
+    (whole : List ℕ) × IsWholeLinesOf whole read
+    × ((given : Given) × IsGiven whole given × Appends old new given.text × (given.fault ≡ None))
 
 -- the same of a watched writer, and all that was written was flushed
 abbrev pub AnswersAll : {W : Type 0} → (W → Option (List ℕ)) → Option (List ℕ) → Watched W → List ℕ → Type 0

@@ -53,8 +53,8 @@ calls-preserved g c = record {
   turned =
       (let room : 0 < length c.read_beside.new.piece = omega arith in
       let i = c.calls.invariant in
-      Turned-more g.R.Source.gives g.W.Write.contents _ _ _ _ _ _ _ _ (Ok c.in-Ok.count) c.read_beside.new.piece i.turned i.sound.flushed i.one_line room c.in-Ok.ensures.gives
-      c.in_default-answer.ensures.ok);
+      Turned-more g.R.Source.gives g.W.Write.contents _ _ _ _ _ _ _ _ (Ok c.in-Ok.count) c.read_beside.new.piece i.turned i.sound.flushed i.one_line room
+      c.in-Ok.ensures.gives c.in_default-answer.ensures.ok);
   one_line = c.in_default-answer.ensures.one_line;
   number = omega (arith, c.in_default-answer.ensures.number, length-take c.in-Ok.count c.read_beside.new.piece);
   calls = omega (arith, c.in-Ok.ensures.calls);
@@ -142,13 +142,15 @@ pub returns-then-count-eq0-clause-in_turn : goal.returns-then-count-eq0-clause-i
 returns-then-count-eq0-clause-in_turn g c =
     let room : 0 < length c.read_beside.new.piece = omega arith in
     let i = c.calls.invariant in
-    Turned-read g.R.Source.gives g.W.Write.contents _ _ _ _ _ _ (Ok c.in-Ok.count) c.read_beside.new.piece i.turned i.sound.flushed i.one_line room c.in-Ok.ensures.gives
+    Turned-read g.R.Source.gives g.W.Write.contents _ _ _ _ _ _ (Ok c.in-Ok.count) c.read_beside.new.piece i.turned i.sound.flushed i.one_line room
+    c.in-Ok.ensures.gives
 
 pub returns-in-Err-clause-in_turn : goal.returns-in-Err-clause-in_turn
 returns-in-Err-clause-in_turn g c =
     let room : 0 < length c.read_beside.new.piece = omega arith in
     let i = c.calls.invariant in
-    Turned-read g.R.Source.gives g.W.Write.contents _ _ _ _ _ _ (Ok c.in-Ok.count) c.read_beside.new.piece i.turned i.sound.flushed i.one_line room c.in-Ok.ensures.gives
+    Turned-read g.R.Source.gives g.W.Write.contents _ _ _ _ _ _ (Ok c.in-Ok.count) c.read_beside.new.piece i.turned i.sound.flushed i.one_line room
+    c.in-Ok.ensures.gives
 
 pub returns-clause-in_turn : goal.returns-clause-in_turn
 returns-clause-in_turn g c = let turned = c.calls.invariant.turned in (turned.0, turned.1, turned.2)
