@@ -13,7 +13,7 @@ use Rattle.hash_path.specs.Fnv1a.{fnv1a}
 use Rattle.op_model.specs.Meaning.{MapState, Stands, StandsWithin}
 use Rattle.op_model.specs.Operation.{Operation, known}
 use Rattle.op_model.specs.Place.{place_of, plain}
-use Rattle.op_model.specs.Shown.{values, values_of_key, fields, keys, size}
+use Rattle.op_model.specs.Shown.{values, values_of_key, size}
 use Rattle.prefix_digest.specs.MapOf.{root_digest}
 use Rattle.replica_core.specs.Reading.{Lists}
 use Rattle.replica_core.specs.Showing.{ShowsOperations}

@@ -6,3 +6,4 @@ pub mod Seen
 pub mod Laws
 pub mod Does
 pub mod Pins
+pub mod Texts

@@ -12,7 +12,7 @@ ghost use Rattle.trace_world.specs.Outcome.{at_replica, with_bytes, is_at_world,
 
 use crate::reading::{read_context, read_digest, read_fields, read_keys, read_size, read_values};
 use crate::telling::tell;
-use crate::texts::{field_of, key_of, value_of};
+use crate::texts::{field_of, key_of, put_of};
 use delta_ops::LiveStore;
 use dots::{Name, Refusal};
 use hash_path::Fnv1a;
@@ -117,6 +117,17 @@ impl<A: Allocator + Copy> Teller<A> {
         }
     }
 
+    /// The refusal of a text of a command at this replica: that the replica is not there comes first.
+    fn or_unknown(&self, name: Name, refusal: Refusal) -> Refusal
+        ensures { ((result ≡ refusal) × IsThere self.now name) ⊎ ((result ≡ Refusal.UnknownReplica) × IsAbsent self.now name) }
+    {
+        if self.has_replica(name) {
+            refusal
+        } else {
+            Refusal::UnknownReplica
+        }
+    }
+
     fn node(&mut self, name: Name) -> Result<Vec<u8, A>, Refusal>
         ensures does { Does (In self.old (λ w. IsEvent fnv1a w (model.Node name))) self.old self.new result }
         ensures grows { Grows self.old self.new }
@@ -172,13 +183,10 @@ impl<A: Allocator + Copy> Teller<A> {
             (IsCall fnv1a w name (step.Put (place_of key.now field.now) value.now))))))) self.old self.new result }
         ensures grows { Grows self.old self.new }
     {
-        if !self.has_replica(name) {
-            return Err(Refusal::UnknownReplica);
+        match put_of(self.alloc, key, field, value) {
+            Ok(call) => self.call(name, call),
+            Err(refusal) => Err(self.or_unknown(name, refusal)),
         }
-        let key = key_of(self.alloc, key)?;
-        let field = field_of(self.alloc, field)?;
-        let value = value_of(self.alloc, value)?;
-        self.call(name, Call::PutField(key, field, value))
     }
 
     fn remove(&mut self, name: Name, key: &[u8]) -> Result<Vec<u8, A>, Refusal>

@@ -1,53 +1,20 @@
-use Rattle.std.proofs.Common.{ℕ, Err}
-use Rattle.std.proofs.lemmas.Result.{err_from_is_err_and}
+use Rattle.std.proofs.Common.{subst}
 use Rattle.hash_path.specs.Fnv1a.{fnv1a}
 use Rattle.op_model.specs.Place.{place_of}
 use Rattle.replica_model.specs.Step as step
-use Rattle.replica_model.specs.World.{World}
-use Rattle.trace_world.specs.Outcome.{CommandOutcome, IsCall, with_bytes}
-use Rattle.trace_world.proofs.Commands.{does_at, does_absent, does_with, does_long}
+use Rattle.trace_world.specs.Does.{Does, In}
+use Rattle.trace_world.specs.Outcome.{IsCall}
+use Rattle.trace_world.proofs.Commands.{does_call, does_no_call}
 use Rattle.trace_world.proofs.teller.Teller.put.Goals as goal
 
-pub returns-then-not-has_replica-clause-does : goal.returns-then-not-has_replica-clause-does
-returns-then-not-has_replica-clause-does g c =
-    let made : World → CommandOutcome → Type 0 = λ w. IsCall fnv1a w c.args.name (step.Put (place_of c.args.key.now c.args.field.now) c.args.value.now) in
-    let with_value : World → CommandOutcome → Type 0 = λ w. with_bytes c.args.value.now (made w) in
-    let with_field : World → CommandOutcome → Type 0 = λ w. with_bytes c.args.field.now (with_value w) in
-    let with_key : World → CommandOutcome → Type 0 = λ w. with_bytes c.args.key.now (with_field w) in
-    does_absent with_key c.args.name c.args.self.now (c.has_replica.ensures.absent c.if-not-has_replica.true)
+pub returns-in-Ok-clause-does : goal.returns-in-Ok-clause-does
+returns-in-Ok-clause-does g c =
+    let put = step.Put (place_of c.args.key.now c.args.field.now) c.args.value.now in
+    let of = c.in-Ok.ensures.ok in
+    let P : step.Call → Type 0 = λ call. Does (In c.args.self.now (λ w. IsCall fnv1a w c.args.name call)) c.args.self.now c.call.new.self c.call.result in
+    does_call c.args.name c.args.key.now c.args.field.now c.args.value.now put c.args.self.now c.call.new.self c.call.result of.1 of.2 of.3 (subst P of.0 c.call.ensures.does)
 
-pub returns-in_err-key-clause-does : goal.returns-in_err-key-clause-does
-returns-in_err-key-clause-does g c =
-    let p = err_from_is_err_and c.from_residual.result c.from_residual.ensures.1 in
-    let made : World → CommandOutcome → Type 0 = λ w. IsCall fnv1a w c.args.name (step.Put (place_of c.args.key.now c.args.field.now) c.args.value.now) in
-    let with_value : World → CommandOutcome → Type 0 = λ w. with_bytes c.args.value.now (made w) in
-    let with_field : World → CommandOutcome → Type 0 = λ w. with_bytes c.args.field.now (with_value w) in
-    let with_key : World → CommandOutcome → Type 0 = λ w. with_bytes c.args.key.now (with_field w) in
-    rw (p.1, p.2) (does_at {A = ℕ} with_key c.args.name c.args.self.now c.args.self.now (Err c.in_err-key.field-0.0) (c.has_replica.ensures.there c.if-not-has_replica.false) (does_long with_field c.args.key.now c.args.self.now c.in_err-key.field-0.0 c.in_err-key.ensures.err))
-
-pub returns-in_err-field-clause-does : goal.returns-in_err-field-clause-does
-returns-in_err-field-clause-does g c =
-    let p = err_from_is_err_and c.from_residual-in_err-field.result c.from_residual-in_err-field.ensures.1 in
-    let made : World → CommandOutcome → Type 0 = λ w. IsCall fnv1a w c.args.name (step.Put (place_of c.args.key.now c.args.field.now) c.args.value.now) in
-    let with_value : World → CommandOutcome → Type 0 = λ w. with_bytes c.args.value.now (made w) in
-    let with_field : World → CommandOutcome → Type 0 = λ w. with_bytes c.args.field.now (with_value w) in
-    let with_key : World → CommandOutcome → Type 0 = λ w. with_bytes c.args.key.now (with_field w) in
-    rw (p.1, p.2) (does_at {A = ℕ} with_key c.args.name c.args.self.now c.args.self.now (Err c.in_err-field.field-0.0) (c.has_replica.ensures.there c.if-not-has_replica.false) (does_with {A = ℕ} with_field c.args.key.now c.args.self.now c.args.self.now (Err c.in_err-field.field-0.0) c.in_ok-key.ensures.ok.1 (does_long with_value c.args.field.now c.args.self.now c.in_err-field.field-0.0 c.in_err-field.ensures.err)))
-
-pub returns-in_err-value-clause-does : goal.returns-in_err-value-clause-does
-returns-in_err-value-clause-does g c =
-    let p = err_from_is_err_and c.from_residual-in_err-value.result c.from_residual-in_err-value.ensures.1 in
-    let made : World → CommandOutcome → Type 0 = λ w. IsCall fnv1a w c.args.name (step.Put (place_of c.args.key.now c.args.field.now) c.args.value.now) in
-    let with_value : World → CommandOutcome → Type 0 = λ w. with_bytes c.args.value.now (made w) in
-    let with_field : World → CommandOutcome → Type 0 = λ w. with_bytes c.args.field.now (with_value w) in
-    let with_key : World → CommandOutcome → Type 0 = λ w. with_bytes c.args.key.now (with_field w) in
-    rw (p.1, p.2) (does_at {A = ℕ} with_key c.args.name c.args.self.now c.args.self.now (Err c.in_err-value.field-0.0) (c.has_replica.ensures.there c.if-not-has_replica.false) (does_with {A = ℕ} with_field c.args.key.now c.args.self.now c.args.self.now (Err c.in_err-value.field-0.0) c.in_ok-key.ensures.ok.1 (does_with {A = ℕ} with_value c.args.field.now c.args.self.now c.args.self.now (Err c.in_err-value.field-0.0) c.in_ok-field.ensures.ok.1 (does_long made c.args.value.now c.args.self.now c.in_err-value.field-0.0 c.in_err-value.ensures.err))))
-
-pub returns-clause-does : goal.returns-clause-does
-returns-clause-does g c =
-    let called = rw (c.in_ok-key.ensures.ok.0, c.in_ok-field.ensures.ok.0, c.in_ok-value.ensures.ok.0) at c.call.ensures.does in
-    let made : World → CommandOutcome → Type 0 = λ w. IsCall fnv1a w c.args.name (step.Put (place_of c.args.key.now c.args.field.now) c.args.value.now) in
-    let with_value : World → CommandOutcome → Type 0 = λ w. with_bytes c.args.value.now (made w) in
-    let with_field : World → CommandOutcome → Type 0 = λ w. with_bytes c.args.field.now (with_value w) in
-    let with_key : World → CommandOutcome → Type 0 = λ w. with_bytes c.args.key.now (with_field w) in
-    does_at with_key c.args.name c.args.self.now c.call.new.self c.call.result (c.has_replica.ensures.there c.if-not-has_replica.false) (does_with with_field c.args.key.now c.args.self.now c.call.new.self c.call.result c.in_ok-key.ensures.ok.1 (does_with with_value c.args.field.now c.args.self.now c.call.new.self c.call.result c.in_ok-field.ensures.ok.1 (does_with made c.args.value.now c.args.self.now c.call.new.self c.call.result c.in_ok-value.ensures.ok.1 (called))))
+pub returns-in-Err-clause-does : goal.returns-in-Err-clause-does
+returns-in-Err-clause-does g c =
+    let put = step.Put (place_of c.args.key.now c.args.field.now) c.args.value.now in
+    does_no_call c.args.name c.args.key.now c.args.field.now c.args.value.now put c.args.self.now c.in-Err.refusal c.or_unknown.result c.in-Err.ensures.err c.or_unknown.ensures
