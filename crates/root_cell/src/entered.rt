@@ -1,4 +1,5 @@
-ghost use Rattle.std.specs.Prelude.{◌≡◌, length};
+ghost use Rattle.std.specs.Prelude.{◌≡◌, length, IfOk, IfErr};
+ghost use Rattle.dots.specs.declared.refusal.Refusal.TheVariants.{OutOfMemory};
 ghost use Rattle.root_cell.specs.Rule.{StandsIn};
 
 use crate::brand::Brand;
@@ -6,13 +7,15 @@ use crate::front::Front;
 use crate::published::Published;
 use crate::rule::Ruled;
 use crate::view::View;
+use dots::Refusal;
 use left_right::reader::Reading;
 use std::alloc::{Allocator, Global};
 use std::collections::LinkedList;
 use std::marker::Model;
+use std::sync::Arc;
 
 /// A View that is inside. Contracts see the root that it entered, and the front that this root stands for. While it is inside the
-/// root stays, and the next publish but one waits. It is not `Drop`: it has to `leave`.
+/// root stays, and the next publish but one waits; whoever shares the root can leave first. It is not `Drop`: it has to `leave`.
 pub struct Entered<R: Drop, E, J: Brand<R, E>, A: Allocator = Global> {
     reading: Reading<Published<R, E, A>, LinkedList<E>, Ruled<J>, A>,
     front: Front<R, E, J>,
@@ -54,6 +57,16 @@ impl<R: Drop, E, J: Brand<R, E>, A: Allocator> Entered<R, E, J, A> {
         ensures stands { J.stands self.now.0 self.now.1 }
     {
         self.reading.get().root()
+    }
+
+    /// The root by a count of owners, so that it stays there once the View has left. Copies nothing. Its only refusal is OutOfMemory, where as
+    /// many own it as can be counted.
+    pub fn share(&self) -> Result<Arc<R, A>, Refusal>
+        ensures root { IfOk result (λ root. root.value ≡ self.now.0) }
+        ensures stands { IfOk result (λ root. J.stands root.value self.now.1) }
+        ensures err { IfErr result (λ e. e ≡ OutOfMemory) }
+    {
+        Ok(self.reading.get().share()?)
     }
 
     /// The number of events that the root stands for.

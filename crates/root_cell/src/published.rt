@@ -44,6 +44,13 @@ impl<R: Drop, E, A: Allocator> Published<R, E, A> {
         &self.root
     }
 
+    /// The root by a count of owners, which is refused only where that is full.
+    pub fn share(&self) -> Result<Arc<R, A>, AllocError>
+        ensures { IfOk result (λ root. root.value ≡ self.now.0) }
+    {
+        Arc::try_clone(&self.root)
+    }
+
     /// The root, for good.
     pub fn into_root(self) -> Arc<R, A>
         ensures { result.value ≡ self.0 }
@@ -75,7 +82,7 @@ impl<R: Drop, E, A: Allocator> Published<R, E, A> {
         ensures { IfOk result (λ p. p ≡ self.now) }
     {
         Ok(Published {
-            root: Arc::try_clone(&self.root)?,
+            root: self.share()?,
             events: self.events,
             seen: self.seen.again(),
         })

@@ -13,7 +13,7 @@ use crate::placed::Placed;
 use crate::shared::{Shared, take_turn};
 use crate::update::Update;
 use dots::Refusal;
-use root_cell::{Brand, Note, View};
+use root_cell::{Brand, Entered, Note, View};
 use std::alloc::{Allocator, Global};
 use std::marker::Model;
 use std::sync::{Arc, Wait};
@@ -85,8 +85,10 @@ impl<R: Drop, E: Placed, J: Brand<R, E>, S: Drop, A: Allocator> Client<R, E, J, 
         view.learn(receipt);
     }
 
-    /// Reads off the root that is published. It waits for nobody, and takes what the look takes. Its only refusal is NoPlace, where the cell
-    /// gives no root, as once the object was taken out; that it comes nowhere else stands in no clause.
+    /// Reads off the root that is published. It waits for nobody, and takes what the look takes. It has left before it looks, so however long
+    /// that takes nobody waits for it, and the look may itself call the object; only where as many own the root as can be counted is the client
+    /// inside while it looks. Its only refusal is NoPlace, where the cell gives no root, as once the object was taken out; that it comes nowhere
+    /// else stands in no clause.
     pub fn look<L: Look<R>>(&mut self, look: &L) -> Result<L::Found, Refusal>
         ensures found { IfOk result (λ found. (root : R) × J.stands root self.new.front × L.finds look.now root found) }
         ensures own { HasNotCalled E.place self.old self.new }
@@ -97,8 +99,8 @@ impl<R: Drop, E: Placed, J: Brand<R, E>, S: Drop, A: Allocator> Client<R, E, J, 
         };
         match view.enter() {
             Ok(entered) => {
-                let found = look.look(entered.root());
-                self.view = Some(entered.leave());
+                let (view, found) = look_at(entered, look);
+                self.view = Some(view);
                 Ok(found)
             }
             Err(view) => {
@@ -123,7 +125,7 @@ impl<
     /// it has seen then are those that it made. It is refused with NumbersSpent where the history has 2^64 - 1 events, with what the call
     /// itself refuses, else with OutOfMemory, and with NoPlace where the object was taken out; that NoPlace comes nowhere else stands in no
     /// clause. Takes what the update takes, and a publish, which takes time in the places; it waits for its turn, and for readers that are
-    /// inside.
+    /// inside, which are so for a few steps and not while they look.
     pub fn call<T: Wait, C: Update<D, R, E, J, A>>(
         &mut self,
         rt: &T,
@@ -161,5 +163,26 @@ impl<
         let (view, is_met) = guarded.meet(view, self.place, self.operations);
         self.view = Some(view);
         is_met
+    }
+}
+
+// Leaves, and then looks at the root that was entered. Where as many own that root as can be counted, it looks before it leaves.
+fn look_at<R: Drop, E, J: Brand<R, E>, L: Look<R>, A: Allocator>(
+    entered: Entered<R, E, J, A>,
+    look: &L,
+) -> (View<R, E, J, A>, L::Found)
+    ensures view { result.0 ≡ entered.1 }
+    ensures found { (root : R) × J.stands root entered.1 × L.finds look.now root result.1 }
+{
+    match entered.share() {
+        Ok(root) => {
+            let view = entered.leave();
+            let found = look.look(&root);
+            (view, found)
+        }
+        Err(_) => {
+            let found = look.look(entered.root());
+            (entered.leave(), found)
+        }
     }
 }

@@ -5,6 +5,12 @@ use Rattle.shared_object.specs.History.{seen_in}
 use Rattle.shared_object.proofs.Seats.{seen_more}
 use Rattle.shared_object.proofs.client.Client.look.Goals as goal
 
+-- the root that was entered stands for what the client has seen then
+pub returns-in-Ok-clause-found : goal.returns-in-Ok-clause-found
+returns-in-Ok-clause-found g c =
+    let found = c.look_at-view.ensures.found in
+    (found.0, rw c.look_at-view.ensures.view found.1, found.2)
+
 pub returns-in-Err-clause-own : goal.returns-in-Err-clause-own
 returns-in-Err-clause-own g c =
     let front = seen_in c.self.inside.view in
