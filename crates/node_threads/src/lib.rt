@@ -24,7 +24,7 @@ pub use channels::Channels;
 pub use deed::Deed;
 pub use laws::no_dot_and_no_number_comes_twice;
 pub use letter::Letter;
-pub use looks::{Containing, FieldListing, Getting, Sharing, Sizing};
+pub use looks::{Containing, Digesting, FieldListing, Getting, KeyListing, Sharing, Sizing};
 pub use named::{Named, Naming, Root};
 pub use node::{Client, Lock, Node, Receipt};
 pub use node_event::NodeEvent;

@@ -2,8 +2,10 @@
 ghost use Rattle.std.specs.Prelude.{◌≡◌, IfOk, IsOkUnless};
 
 use crate::named::Root;
-use delta_ops::{fields, size, values};
+use delta_ops::{fields, keys, size, values};
 use dots::{Field, Key, Refusal, Value};
+use hash_path::Prefix;
+use prefix_digest::digest;
 use shared_object::Look;
 use std::alloc::Allocator;
 
@@ -82,6 +84,30 @@ impl<'a, A: Allocator + Copy> Look<Root<A>> for Containing<'a, A> {
     }
 }
 
+/// The keys that hold a value at some field, ascending by bytes. Its only refusal is OutOfMemory. Goes through the whole map: takes memory in the keys, and
+/// time in them, times the logarithm of their number.
+#[derive(Drop)]
+pub struct KeyListing<A: Allocator + Copy> {
+    /// Where memory for the keys is taken.
+    pub alloc: A,
+}
+
+impl<A: Allocator + Copy> Look<Root<A>> for KeyListing<A> {
+    ghost use Rattle.std.specs.Prelude.{IfOk, IsOkUnless};
+    ghost use Rattle.dots.specs.declared.refusal.Refusal.TheVariants.{OutOfMemory};
+    ghost use Rattle.delta_ops.specs.LiveMap.{store_state};
+    ghost use Rattle.op_model.specs.Meaning.{HoldsKey};
+    ghost use Rattle.replica_core.specs.Reading.{Lists};
+
+    type Found = Result<Vec<Key<A>, A>, Refusal>;
+
+    ghost finds = { λ look root found. IfOk found (λ v. Lists (HoldsKey (store_state root)) v.items) × IsOkUnless found OutOfMemory };
+
+    fn look(&self, root: &Root<A>) -> Result<Vec<Key<A>, A>, Refusal> {
+        keys(self.alloc, root)
+    }
+}
+
 /// How many keys hold a value at some field. Takes constant time, and no memory.
 #[derive(Drop)]
 pub struct Sizing;
@@ -98,6 +124,28 @@ impl<A: Allocator + Copy> Look<Root<A>> for Sizing {
 
     fn look(&self, root: &Root<A>) -> u64 {
         size(root)
+    }
+}
+
+/// The root digest of the map, or None where it has no key: nodes that hold the same have the same. Takes no memory, and constant time where the map keeps
+/// its digests; time goes to what was written since a synchronisation was opened or a hello answered.
+#[derive(Drop)]
+pub struct Digesting;
+
+impl<A: Allocator + Copy> Look<Root<A>> for Digesting {
+    ghost use Rattle.std.specs.Prelude.{◌≡◌, []};
+    ghost use Rattle.delta_ops.specs.LiveMap.{store_state};
+    ghost use Rattle.hash_path.specs.Fnv1a.{fnv1a};
+    ghost use Rattle.prefix_digest.specs.MapOf.{IsMapOf};
+    ghost use Rattle.prefix_digest.specs.Page.{digest_at};
+    ghost use Rattle.sync_model.specs.Differ.{Held};
+
+    type Found = Option<[u8; 32]>;
+
+    ghost finds = { λ look root found. (map : Held) × IsMapOf map (store_state root) × (found ≡ digest_at fnv1a map []) };
+
+    fn look(&self, root: &Root<A>) -> Option<[u8; 32]> {
+        digest(root.frozen(), Prefix::root())
     }
 }
 
