@@ -1,10 +1,10 @@
 #!/usr/bin/env python3
 """Builds bench/speed and runs it on one processor, beside the crates that it compares with, and writes bench/results.md.
 
-    python3 bench/run.py [PART ..]
+    python3 bench/run.py [--built] [PART ..]
 
 The parts are calls, fields, worst, sync, seals, small, large, messages and tries; with none named, all are measured and the file is
-written, and else they are printed. It needs Debian's librust-crdts-dev, librust-im-rc-dev and librust-bincode-dev, and no network.
+written, and else they are printed. With --built the library is taken as it stands in crates/bench_calls/out. It needs Debian's librust-crdts-dev, librust-im-rc-dev and librust-bincode-dev, and no network.
 """
 import os
 import platform
@@ -24,11 +24,12 @@ def kit():
     return Path(page).resolve().parent
 
 
-def build():
-    """Builds the library and the program, and returns the program's path."""
+def build(is_built):
+    """Builds the library, unless it is, and the program, and returns the program's path."""
     if not Path("/usr/share/cargo/registry/crdts-7.2.0").is_dir():
         sys.exit("apt-get install " + " ".join(PACKAGES))
-    subprocess.run(["rt", "lib"], cwd=ROOT / "crates" / "bench_calls", check=True, stdout=subprocess.DEVNULL)
+    if not is_built:
+        subprocess.run(["rt", "lib"], cwd=ROOT / "crates" / "bench_calls", check=True, stdout=subprocess.DEVNULL)
     env = {**os.environ, "GINELM_ROOT": str(ROOT), "GINELM_KIT": str(kit())}
     command = ["cargo", "build", "--release", "--offline", "--quiet", "--target-dir", str(TARGET)]
     subprocess.run(command, cwd=ROOT / "bench" / "speed", env=env, check=True)
@@ -45,8 +46,8 @@ def processor():
 
 def main():
     """Measures, and writes what was measured."""
-    parts = sys.argv[1:]
-    program = build()
+    parts = [word for word in sys.argv[1:] if word != "--built"]
+    program = build("--built" in sys.argv[1:])
     last = max(os.sched_getaffinity(0))
     command = ["taskset", "-c", str(last), str(program), *parts]
     if parts:

@@ -36,9 +36,9 @@ fn once(run: &mut dyn FnMut()) -> f64 {
     now() - begin
 }
 
-/// Seconds of the fastest of three runs.
+/// Seconds of the fastest of five runs.
 fn seconds(mut run: impl FnMut()) -> f64 {
-    (0..3).map(|_| once(&mut run)).fold(f64::INFINITY, f64::min)
+    (0..5).map(|_| once(&mut run)).fold(f64::INFINITY, f64::min)
 }
 
 /// What the whole takes beyond the part that comes before it, in microseconds a call.
