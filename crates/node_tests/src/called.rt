@@ -1,6 +1,7 @@
 // A client of a node, as the tests call it.
 use crate::caller::{Caller, Calling};
 use crate::nodes::name;
+use crate::tests::slow::Slow;
 use dots::{Field, Key, Value};
 use node_threads::{
     Abandoning, Asking, Clearing, Client, Containing, Delivering, FieldListing, FieldRemoving,
@@ -13,6 +14,7 @@ use std::alloc::Global;
 use std::panic::Expect;
 use std::process::Abort;
 use std::sync::Wait;
+use std::sync::atomic::AtomicU64;
 use wire_form::Message;
 
 // What a call is answered, and its receipt.
@@ -130,6 +132,14 @@ impl<K: Naming, G: Gate + Drop, R: Wait + Drop> Caller for Client<K, Lock<K, G, 
 
     fn size<T: Abort>(&mut self, rt: &T) -> u64 {
         found(rt, self, &Sizing)
+    }
+
+    fn look_slowly<T: Abort>(&mut self, rt: &T, state: &AtomicU64) -> bool {
+        found(rt, self, &Slow { state })
+    }
+
+    fn events<T: Abort>(&mut self, rt: &T) -> u64 {
+        Client::events(self).expect(rt, "a root")
     }
 
     fn share<T: Abort>(&mut self, rt: &T) -> Root {

@@ -5,6 +5,7 @@ use replica_core::Delivered;
 use std::alloc::Global;
 use std::process::Abort;
 use std::sync::Wait;
+use std::sync::atomic::AtomicU64;
 use wire_form::Message;
 
 // A client, which calls and looks by bytes. Where a call is refused, the test ends.
@@ -46,6 +47,12 @@ pub(crate) trait Caller {
 
     // How many keys hold a value.
     fn size<T: Abort>(&mut self, rt: &T) -> u64;
+
+    // Looks until the number is 2, for a while, once it has made it 1. Whether it came to be 2.
+    fn look_slowly<T: Abort>(&mut self, rt: &T, state: &AtomicU64) -> bool;
+
+    // How many events it sees.
+    fn events<T: Abort>(&mut self, rt: &T) -> u64;
 
     // A snapshot of what it sees.
     fn share<T: Abort>(&mut self, rt: &T) -> Root;

@@ -96,7 +96,9 @@ fn publish_twice<J: Brand<u64, u64>, R: Wait + Abort>(
     requires book { opened.0 ≡ J.book }
     requires law { (root : ℕ) (events : List ℕ) → root ≡ sum events → J.stands root events }
 {
-    let (writer, views) = Cell::<u64, u64, J>::new(rt, alloc, opened, 2, 0).expect(rt, "memory");
+    let (writer, views, _title) = Cell::<u64, u64, J>::new(rt, alloc, opened, 2, 0).expect(
+        rt, "memory",
+    );
     let (first, mut second) = both(rt, views);
     let early = writer.tell();
     let (writer, one) = writer.publish::<(u64, u64), Amount, R>(rt, 5, &(9, 5));

@@ -2,10 +2,12 @@
 use std::process::Abort;
 
 pub(crate) mod beside;
+pub(crate) mod coming;
 pub(crate) mod kept;
 pub(crate) mod meanwhile;
 pub(crate) mod served;
 pub(crate) mod sessions;
+pub(crate) mod slow;
 
 // The one client.
 fn only<'a, C>(rt: &impl Abort, clients: &'a mut [C]) -> &'a mut C {

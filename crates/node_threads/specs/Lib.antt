@@ -1,3 +1,4 @@
 pub mod History
+pub mod Opening
 pub mod Serving
 pub mod Twice

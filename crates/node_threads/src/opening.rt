@@ -3,6 +3,8 @@ ghost use Rattle.std.specs.Vec.{vec_len};
 ghost use Rattle.dots.specs.declared.refusal.Refusal.TheVariants.{OutOfMemory};
 ghost use Rattle.delta_ops.specs.LiveMap.{store_state};
 ghost use Rattle.replica_model.specs.Replica.{fresh};
+ghost use Rattle.node_threads.specs.Opening.{HasNoHistory};
+ghost use Rattle.shared_object.specs.Finishing.{NothingHappened};
 
 use crate::named::{Named, Naming, Root};
 use crate::node::{Lock, Node};
@@ -10,20 +12,19 @@ use crate::node_event::NodeEvent;
 use dots::{Name, Refusal};
 use hash_path::Fnv1a;
 use replica_core::Replica;
-use root_cell::{Cell, OpenedBook, View, Writer};
+use root_cell::{Cell, OpenedBook, Parts, Title, View, Writer};
 use shared_object::{Gate, Object, Owner, Placed, Returned, Shared};
 use std::alloc::Allocator;
 use std::sync::Wait;
 
-// The two ends of the cell of a node.
-type NodeWriter<K, A> = Writer<Root<A>, NodeEvent<A>, Named<K>, A>;
-
-type NodeViews<K, A> = Vec<View<Root<A>, NodeEvent<A>, Named<K>, A>, A>;
+// What the cell of a node is made of.
+type NodeParts<K, A> = Parts<Root<A>, NodeEvent<A>, Named<K>, A>;
 
 /// A node of a replica of this name, which holds nothing yet, with so many places for clients. The caller picks `K` by the book that was
 /// opened and the name. The node keeps the handle, to end with; each of its calls that writes passes the gate.
 ///
-/// It may wait, as it lays the replica under a lock that it makes. Its only refusal is OutOfMemory. Takes time and memory in the places.
+/// It may wait, as it lays the replica under a lock that it makes: so a static library, which has no lock, can hold no node, and holds a `Replica`
+/// of one thread. Its only refusal is OutOfMemory. Takes time and memory in the places.
 // The replica is made last: it takes no memory, and a check grows with what is alive where a call may be refused.
 pub fn new_node<K: Naming, G: Gate + Drop, W: Wait + Drop, A: Allocator + Copy, T: Wait>(
     rt: &T,
@@ -37,13 +38,14 @@ pub fn new_node<K: Naming, G: Gate + Drop, W: Wait + Drop, A: Allocator + Copy, 
     requires places { (1 ≤ places) × (places ≤ 64) }
     requires book { opened.0 ≡ K.book }
     requires name { name ≡ K.name }
-    ensures ok { IfOk result (λ node. node ≡ record { taken = 0; free = places }) }
+    ensures ok { IfOk result (λ node. node ≡ record { taken = 0; free = places; back = [] }) }
+    ensures nothing { IfOk result (λ node. HasNoHistory A node.taken) }
     ensures err { IfErr result (λ e. e ≡ OutOfMemory) }
 {
     match new_cell::<K, A, T>(rt, alloc, opened, name, places) {
-        Ok((writer, views)) => {
+        Ok((writer, views, title)) => {
             let replica = Replica::new(alloc, name, Fnv1a);
-            own(rt, alloc, replica, writer, views, gate, handle)
+            own(rt, alloc, replica, writer, views, title, gate, handle)
         }
         Err(refusal) => Err(refusal),
     }
@@ -56,7 +58,7 @@ fn new_cell<K: Naming, A: Allocator + Copy, T: Wait>(
     opened: OpenedBook<NodeEvent<A>>,
     name: Name,
     places: usize,
-) -> Result<(NodeWriter<K, A>, NodeViews<K, A>), Refusal>
+) -> Result<NodeParts<K, A>, Refusal>
     requires places { (1 ≤ places) × (places ≤ 64) }
     requires book { opened.0 ≡ K.book }
     requires name { name ≡ K.name }
@@ -98,6 +100,7 @@ fn own<
     object: D,
     writer: Writer<R, E, J, A>,
     views: Vec<View<R, E, J, A>, A>,
+    title: Title<R, E, J>,
     gate: G,
     handle: W,
 ) -> Result<Owner<R, E, J, Shared<D, R, E, J, G, W, A>, A>, Refusal>
@@ -105,16 +108,18 @@ fn own<
     requires writer { writer ≡ [] }
     requires places { vec_len views ≤ 64 }
     requires views { views.items ≡ replicate (vec_len views) [] }
-    ensures ok { IfOk result (λ owner. owner ≡ record { taken = 0; free = vec_len views }) }
+    ensures ok { IfOk result (λ owner. owner ≡ record { taken = 0; free = vec_len views; back = [] }) }
+    ensures nothing { IfOk result (λ owner. NothingHappened E.place owner.taken) }
     ensures err { IfErr result (λ e. e ≡ OutOfMemory) }
 {
-    match Owner::new(rt, alloc, object, writer, views, gate, handle) {
+    match Owner::new(rt, alloc, object, writer, views, title, gate, handle) {
         Ok(owner) => Ok(owner),
         Err(back) => {
             let Returned {
                 object: _,
                 writer,
                 views: _,
+                title: _,
                 gate: _,
                 handle: _,
             } = back;

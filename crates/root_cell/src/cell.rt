@@ -8,6 +8,7 @@ use crate::front::Front;
 use crate::opened_book::OpenedBook;
 use crate::published::Published;
 use crate::rule::Ruled;
+use crate::title::Title;
 use crate::view::View;
 use crate::writer::Writer;
 use dots::Refusal;
@@ -18,14 +19,21 @@ use std::collections::LinkedList;
 use std::marker::PhantomData;
 use std::sync::{Arc, Wait};
 
-/// A cell, under its Brand. No value of it is made: what stands for a cell are its one Writer and its Views.
+/// What a cell is made of: its Writer, its Views and its Title.
+pub type Parts<R, E, J, A = Global> = (
+    Writer<R, E, J, A>,
+    Vec<View<R, E, J, A>, A>,
+    Title<R, E, J>,
+);
+
+/// A cell, under its Brand. No value of it is made: what stands for a cell are its one Writer, its Views and its one Title.
 pub struct Cell<R, E, J: Brand<R, E>, A: Allocator = Global> {
     of: PhantomData<(R, E, J, A)>,
 }
 
 impl<R: Drop, E, J: Brand<R, E>, A: Allocator + Copy> Cell<R, E, J, A> {
-    /// Makes a cell of an opened book: its Writer and one View for each place. All of them have the empty front, for which the root
-    /// has to stand. It may wait, for a Writer that it has to end where it is refused. Takes memory for the root, for each place,
+    /// Makes a cell of an opened book: its Writer, one View for each place, and its Title. Writer and Views have the empty front, for which the
+    /// root has to stand. It may wait, for a Writer that it has to end where it is refused. Takes memory for the root, for each place,
     /// and for a log of a few entries, which stays; and time in the places.
     /// Its only refusal is OutOfMemory.
     pub fn new<W: Wait>(
@@ -34,7 +42,7 @@ impl<R: Drop, E, J: Brand<R, E>, A: Allocator + Copy> Cell<R, E, J, A> {
         opened: OpenedBook<E>,
         places: usize,
         root: R,
-    ) -> Result<(Writer<R, E, J, A>, Vec<View<R, E, J, A>, A>), Refusal>
+    ) -> Result<Parts<R, E, J, A>, Refusal>
         requires places { (1 ≤ places) × (places ≤ 64) }
         requires book { opened.0 ≡ J.book }
         requires stands { J.stands root [] }
@@ -42,14 +50,18 @@ impl<R: Drop, E, J: Brand<R, E>, A: Allocator + Copy> Cell<R, E, J, A> {
         ensures views { IfOk result (λ r. r.1.items ≡ replicate places []) }
         ensures err { IfErr result (λ e. e ≡ OutOfMemory) }
     {
-        let OpenedBook { head, seen } = opened;
+        let OpenedBook { head, spare, seen } = opened;
         let front: Front<R, E, J> = Front::new(0, &seen);
         let first = Published::new(Arc::new(alloc, root)?, 0, seen);
         let laid = lay_out(rt, alloc, &first, &front, places);
         drop(first);
         match laid {
-            Ok((desk, views)) => Ok((Writer::new(alloc, desk, head, front), views)),
+            Ok((desk, views)) => {
+                let writer = Writer::new(alloc, desk, head, front);
+                Ok((writer, views, Title::new(spare)))
+            }
             Err(refusal) => {
+                drop(spare);
                 drop(head);
                 drop(front);
                 Err(refusal)

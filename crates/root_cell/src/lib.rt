@@ -14,14 +14,16 @@ mod note;
 mod opened_book;
 mod published;
 mod rule;
+mod title;
 mod view;
 mod writer;
 
 pub use about::{About, Itself};
 pub use brand::Brand;
-pub use cell::Cell;
+pub use cell::{Cell, Parts};
 pub use entered::Entered;
 pub use note::Note;
 pub use opened_book::OpenedBook;
+pub use title::Title;
 pub use view::View;
 pub use writer::Writer;

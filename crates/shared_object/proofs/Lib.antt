@@ -1,3 +1,4 @@
 pub mod Calls
 pub mod Seats
 pub mod Meeting
+pub mod Handed

@@ -15,11 +15,6 @@ written_back new items n same len =
     let none : drop (length new) items ≡ [] = drop_all (length new) items (omega (arith, same)) in
     ap (λ ys. take n (new ++ ys)) none ∙ (ap (take n) (append-nil new) ∙ take_all n new (omega (arith, same, len)))
 
-pub get_set_here : {X : Type 0} (xs : List X) (k : ℕ) (x y : X) → slice_get xs k ≡ Some x → slice_get (set xs k y) k ≡ Some y
-get_set_here [] k x y there = absurd cc
-get_set_here (z ∷ xs) zero x y there = refl
-get_set_here (z ∷ xs) (suc k) x y there = get_set_here xs k x y there
-
 pub get_set_other : {X : Type 0} (xs : List X) (k i : ℕ) (y : X) → i ≢ k → slice_get (set xs k y) i ≡ slice_get xs i
 get_set_other [] k i y isnt = refl
 get_set_other (z ∷ xs) zero zero y isnt = absurd (isnt refl)
@@ -38,23 +33,6 @@ module _ {X : Type 0} (old now : List X) (k : ℕ) (x : X) (here : slice_get now
       go : (b : Bool) → (i == k) ≡ b → P a
       go true t = let same : i ≡ k = grind (arith, nat_tests) in subst P (sym (was a (subst (λ j. slice_get old j ≡ Some a) same there))) it
       go false f = let isnt : i ≢ k = grind (arith, nat_tests) in before i a (omega arith) there
-
-  -- what ties each to the one that it was ties them still, where the next is changed
-  pub tied_more : (R : X → X → Type 0) (y : X) → R x y → ((i : ℕ) (a b : X) → slice_get old i ≡ Some a → slice_get now i ≡ Some b → R a b)
-      → (i : ℕ) (a b : X) → slice_get old i ≡ Some a → slice_get (set now k y) i ≡ Some b → R a b
-  tied_more R y it before i a b there then_ = go (i == k) refl
-    where
-      go : (t : Bool) → (i == k) ≡ t → R a b
-      go true t =
-          let same : i ≡ k = grind (arith, nat_tests) in
-          let first : a ≡ x = was a (subst (λ j. slice_get old j ≡ Some a) same there) in
-          let at_k : slice_get (set now k y) k ≡ Some b = subst (λ j. slice_get (set now k y) j ≡ Some b) same then_ in
-          let both : Some b ≡ Some y = sym at_k ∙ get_set_here now k x y here in
-          let second : b ≡ y = cc in
-          subst (λ u. R u b) (sym first) (subst (λ u. R x u) (sym second) it)
-      go false f =
-          let isnt : i ≢ k = grind (arith, nat_tests) in
-          before i a b there (sym (get_set_other now k i y isnt) ∙ then_)
 
   pub rest_more : (y : X) (i : ℕ) → k + 1 ≤ i → slice_get (set now k y) i ≡ slice_get old i
   rest_more y i le = get_set_other now k i y (omega arith) ∙ rest i (omega arith)

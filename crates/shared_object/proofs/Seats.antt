@@ -1,11 +1,12 @@
 -- What a client knows, before a call and after it.
-use Rattle.std.proofs.Common.{◌≡◌, ◌⊎◌, inl, inr, ℕ, ◌+◌, ◌-◌, ◌<◌, ◌≤◌, ◌^◌, List, [], ◌∷◌, ◌++◌, length, take, refl, sym, ap, arith, length-append}
+use Rattle.std.proofs.Common.{◌≡◌, ℕ, ◌+◌, ◌-◌, ◌<◌, ◌≤◌, ◌^◌, List, [], ◌∷◌, ◌++◌, length, take, refl, sym, ap, ◌∙◌, arith, length-append}
 use Rattle.std.proofs.lemmas.List.{take_all}
 use mathlib.Core.List.{IsPrefix}
-use Rattle.shared_object.specs.History.{calls_by}
+use Rattle.std.specs.List.{sum_by}
+use Rattle.shared_object.specs.History.{Seat, calls_by}
 use Rattle.shared_object.specs.Calling.{HasNotCalled, IsAccepted}
-use Rattle.shared_object.specs.Finishing.{IsOwn}
-use Rattle.shared_object.proofs.Calls.{calls_kept, calls_own, calls_more, calls_length}
+use Rattle.shared_object.specs.Finishing.{IsOwn, NothingHappened}
+use Rattle.shared_object.proofs.Calls.{calls_kept, calls_own, calls_more, calls_length, none_of}
 
 module _ {E : Type 0} (place : E → ℕ) where
   -- it has seen more
@@ -34,6 +35,9 @@ module _ {E : Type 0} (place : E → ℕ) where
   counted_room p n history own room = let most = calls_length place p history in omega (arith, most, own, room)
 
   -- where there are as many calls of its place as it made, these are all that it made
-  pub own_or : {P : Type 0} (p n : ℕ) (front : List E) → P ⊎ (length (calls_by place p front) ≡ n) → P ⊎ (calls_by place p front ≡ take n (calls_by place p front))
-  own_or p n front (inl is) = inl is
-  own_or p n front (inr own) = inr (sym (take_all n (calls_by place p front) (omega (arith, own))))
+  pub own_all : (p n : ℕ) (front : List E) → length (calls_by place p front) ≡ n → calls_by place p front ≡ take n (calls_by place p front)
+  own_all p n front own = sym (take_all n (calls_by place p front) (omega (arith, own)))
+
+  -- where no place was taken nothing has happened
+  pub nothing_at_first : NothingHappened place 0
+  nothing_at_first history clients all = none_of history (sym all.sum ∙ ap (sum_by (λ (s : Seat E). s.operations)) (none_of clients all.count))

@@ -1,4 +1,4 @@
-ghost use Rattle.std.specs.Prelude.{◌≡◌, ◌⊎◌, ◌<◌, ◌≤◌, ◌++◌, ◌∷◌, [], List, length, IfOk, IfErr, OnErr, IsTrue};
+ghost use Rattle.std.specs.Prelude.{◌≡◌, ◌⊎◌, ◌<◌, ◌≤◌, ◌++◌, ◌∷◌, [], List, length, IfOk, IfErr, IfSome, OnErr, IsTrue};
 ghost use mathlib.Core.List.{IsPrefix};
 ghost use Rattle.dots.specs.declared.refusal.Refusal.TheVariants.{NoPlace};
 ghost use Rattle.shared_object.specs.History.{calls_by, made};
@@ -85,6 +85,21 @@ impl<R: Drop, E: Placed, J: Brand<R, E>, S: Drop, A: Allocator> Client<R, E, J, 
         view.learn(receipt);
     }
 
+    /// How many events the history has that is published, which the client has then seen: so it can tell whether something happened. It waits for
+    /// nobody, and takes constant time and no memory. Its only refusal is NoPlace, as that of a look.
+    pub fn events(&mut self) -> Result<u64, Refusal>
+        ensures events { IfOk result (λ n. n ≡ length self.new.front) }
+        ensures own { HasNotCalled E.place self.old self.new }
+        ensures err { IfErr result (λ e. e ≡ NoPlace) }
+    {
+        let Some(view) = self.view.take() else {
+            unreachable!()
+        };
+        let (view, events) = events_at(view);
+        self.view = Some(view);
+        events.ok_or(Refusal::NoPlace)
+    }
+
     /// Reads off the root that is published. It waits for nobody, and takes what the look takes. It has left before it looks, so however long
     /// that takes nobody waits for it, and the look may itself call the object; only where as many own the root as can be counted is the client
     /// inside while it looks. Its only refusal is NoPlace, where the cell gives no root, as once the object was taken out; that it comes nowhere
@@ -121,10 +136,9 @@ impl<
     A: Allocator + Copy,
 > Client<R, E, J, Shared<D, R, E, J, G, W, A>, A> {
     /// Makes a call when its turn has come, and answers its reply and a receipt, which is of the history with the call at its end. A refused
-    /// call is not made, though the client may have seen more of the history; unless it is refused with NoPlace, the calls of its place that
-    /// it has seen then are those that it made. It is refused with NumbersSpent where the history has 2^64 - 1 events, with what the call
-    /// itself refuses, else with OutOfMemory, and with NoPlace where the object was taken out; that NoPlace comes nowhere else stands in no
-    /// clause. Takes what the update takes, and a publish, which takes time in the places; it waits for its turn, and for readers that are
+    /// call is not made, though the client may have seen more of the history, and the calls of its place that it has seen then are those that
+    /// it made. It is refused with NumbersSpent where the history has 2^64 - 1 events, with what the call itself refuses, else with
+    /// OutOfMemory. It leaves the object to those who come after it. Takes what the update takes, and a publish, which takes time in the places; it waits for its turn, and for readers that are
     /// inside, which are so for a few steps and not while they look.
     pub fn call<T: Wait, C: Update<D, R, E, J, A>>(
         &mut self,
@@ -133,9 +147,9 @@ impl<
     ) -> Result<(C::Reply, Note<R, E, J>), Refusal>
         ensures ok { IfOk result (λ r. (history : List E) × IsAccepted E.place self.old self.new history (C.event update.now self.old.place) × C.answers update.now history r.0) }
         ensures receipt { IfOk result (λ r. r.1 ≡ self.new.front) }
-        ensures refused { IfErr result (λ e. (e ≡ NoPlace) ⊎ IsRefused (C.refuses update.now) self.new.front e) }
+        ensures refused { IfErr result (λ e. IsRefused (C.refuses update.now) self.new.front e) }
         ensures not_made { OnErr result (HasNotCalled E.place self.old self.new) }
-        ensures no_others { IfErr result (λ e. (e ≡ NoPlace) ⊎ (calls_by E.place self.new.place self.new.front ≡ made E.place self.new)) }
+        ensures no_others { OnErr result (calls_by E.place self.new.place self.new.front ≡ made E.place self.new) }
     {
         let Some(view) = self.view.take() else {
             unreachable!()
@@ -163,6 +177,22 @@ impl<
         let (view, is_met) = guarded.meet(view, self.place, self.operations);
         self.view = Some(view);
         is_met
+    }
+}
+
+// Enters and leaves: how many events there are, where it could enter.
+fn events_at<R: Drop, E, J: Brand<R, E>, A: Allocator>(
+    view: View<R, E, J, A>,
+) -> (View<R, E, J, A>, Option<u64>)
+    ensures events { IfSome result.1 (λ n. n ≡ length result.0) }
+    ensures seen { IsPrefix view result.0 }
+{
+    match view.enter() {
+        Ok(entered) => {
+            let events = entered.events();
+            (entered.leave(), Some(events))
+        }
+        Err(view) => (view, None),
     }
 }
 

@@ -1,9 +1,11 @@
 // The end of a shared object: it is taken out from among its clients.
-ghost use Rattle.std.specs.Prelude.{◌≡◌, ◌<◌, ℕ, List, length, Some, IsTrue, IfSome, IfOk, IfErr};
+ghost use Rattle.std.specs.Prelude.{◌≡◌, ◌<◌, ◌≤◌, ◌+◌, ◌++◌, ℕ, List, length, Some, IsTrue, IfSome, IfOk, IfErr, OnErr, MatchBool};
 ghost use Rattle.std.specs.List.{slice_get, sum_by};
+ghost use Rattle.std.specs.Vec.{vec_len, vec_capacity};
 ghost use Rattle.shared_object.specs.History.{Seat};
-ghost use Rattle.shared_object.specs.Finishing.{AreAll, HaveNotCalled, IsOwn};
+ghost use Rattle.shared_object.specs.Finishing.{AreAll, AreOfAll, HasClient, IsOwn};
 
+use crate::awaiting::go_on_where;
 use crate::client::Client;
 use crate::gate::Gate;
 use crate::guarded::Guarded;
@@ -11,7 +13,7 @@ use crate::object::Object;
 use crate::owner::Owner;
 use crate::placed::Placed;
 use crate::shared::Shared;
-use root_cell::Brand;
+use root_cell::{Brand, Title};
 use std::alloc::{Allocator, Global};
 use std::sync::Wait;
 
@@ -42,35 +44,38 @@ impl<
     W: Wait + Drop,
     A: Allocator + Copy,
 > Owner<R, E, J, Shared<D, R, E, J, G, W, A>, A> {
-    /// Takes the object out, only where these are all clients of the places that were taken. Else all comes back, and nothing has changed,
-    /// though the clients may have seen more. That it is taken out wherever they are all stands in no clause. Takes time in the square of
-    /// the places, whatever the history, and no memory; it waits for its turn, and for readers that are inside.
+    /// Takes the object out, just where these and those that were given back are clients of all places that were taken. Else all comes back, and
+    /// nothing has changed. Takes time in the square of the places, whatever the history, and no memory; it waits for its turn, and for readers
+    /// that are inside.
+    // All clients are of this object, and none of them was made twice: so the history has their calls and no others. That it has stands in no
+    // clause before it was compared, and where it had not this would wait for good.
     pub fn finish<T: Wait>(
         self,
         rt: &T,
         clients: Vec<Client<R, E, J, Shared<D, R, E, J, G, W, A>, A>, A>,
     ) -> Result<Finished<D>, Unfinished<R, E, J, Shared<D, R, E, J, G, W, A>, A>>
-        ensures finished { IfOk result (λ f. (history : List E) × J.after f.object history × (f.operations ≡ length history) × AreAll E.place history self.taken clients.items) }
+        ensures finished { IfOk result (λ f. (history : List E) × J.after f.object history × (f.operations ≡ length history) × AreAll E.place history self.taken (self.back ++ clients.items)) }
+        ensures refused { OnErr result (¬ AreOfAll self.taken (self.back ++ clients.items)) }
         ensures owner { IfErr result (λ back. back.owner ≡ self) }
-        ensures clients { IfErr result (λ back. HaveNotCalled E.place clients.items back.clients.items) }
-        ensures count { IfErr result (λ back. length back.clients.items ≡ length clients.items) }
+        ensures clients { IfErr result (λ back. back.clients.items ≡ clients.items) }
     {
-        let mut clients = clients;
-        match take_out(self.shared(), rt, self.taken(), &mut clients) {
-            Some(guarded) => {
-                drop(clients);
-                drop(self);
-                Ok(guarded.close())
-            }
-            None => Err(Unfinished {
+        let taken = self.taken();
+        if !are_of_all(self.back(), &clients, taken) {
+            return Err(Unfinished {
                 owner: self,
                 clients,
-            }),
+            });
         }
+        let (shared, title, back) = self.into_parts();
+        let mut all = gathered(back, clients);
+        let guarded = take_out(&shared, rt, title, taken, &mut all);
+        drop(all);
+        drop(shared);
+        Ok(guarded.close())
     }
 }
 
-// Takes what is guarded out of the lock, where these are all clients.
+// Takes what is guarded out of the lock, against the title.
 fn take_out<
     D: Drop,
     R: Drop,
@@ -83,22 +88,19 @@ fn take_out<
 >(
     shared: &Shared<D, R, E, J, G, W, A>,
     rt: &T,
+    title: Title<R, E, J>,
     taken: usize,
     clients: &mut [Client<R, E, J, Shared<D, R, E, J, G, W, A>, A>],
-) -> Option<Guarded<D, R, E, J, W, A>>
-    ensures all { IfSome result (λ guarded. AreAll E.place guarded taken clients.old) }
-    ensures not_called { HaveNotCalled E.place clients.old clients.new }
+) -> Guarded<D, R, E, J, W, A>
+    requires { AreOfAll taken clients.old }
+    ensures { AreAll E.place result taken clients.old }
 {
-    let mut guard = shared.lock.lock(rt);
-    let guarded = guard.take()?;
-    if are_all(&guarded, taken, clients) {
-        return Some(guarded);
-    }
-    drop(guard.replace(guarded));
-    None
+    let guarded = shared.lock.lock(rt).take(rt, title);
+    go_on_where(rt, are_all(&guarded, taken, clients));
+    guarded
 }
 
-// Whether these are all clients of the places that were taken, and what is guarded has their calls and no others.
+// Whether what is guarded has the calls of these clients, who are of all places that were taken, and no others.
 fn are_all<
     D: Drop,
     R: Drop,
@@ -112,15 +114,9 @@ fn are_all<
     taken: usize,
     clients: &mut [Client<R, E, J, Shared<D, R, E, J, G, W, A>, A>],
 ) -> bool
-    ensures all { IsTrue result → AreAll E.place guarded.now taken clients.old }
-    ensures not_called { HaveNotCalled E.place clients.old clients.new }
+    requires { AreOfAll taken clients.old }
+    ensures { IsTrue result → AreAll E.place guarded.now taken clients.old }
 {
-    if clients.len() != taken {
-        return false;
-    }
-    if !has_each(clients, taken) {
-        return false;
-    }
     if !guarded.has_none_from(taken) {
         return false;
     }
@@ -146,8 +142,7 @@ fn meet_all<
     guarded: &Guarded<D, R, E, J, W, A>,
     clients: &mut [Client<R, E, J, Shared<D, R, E, J, G, W, A>, A>],
 ) -> bool
-    ensures own { IsTrue result → ((i : ℕ) (s : Seat E) → slice_get clients.old i ≡ Some s → IsOwn E.place guarded.now s) }
-    ensures not_called { HaveNotCalled E.place clients.old clients.new }
+    ensures { IsTrue result → ((i : ℕ) (s : Seat E) → slice_get clients.old i ≡ Some s → IsOwn E.place guarded.now s) }
 {
     for client in clients.iter_mut() {
         if !client.meet(guarded) {
@@ -157,19 +152,66 @@ fn meet_all<
     true
 }
 
-// Whether each place that was taken has a client.
-fn has_each<R: Drop, E: Placed, J: Brand<R, E>, S: Drop, A: Allocator>(
+// The items of two vectors, in the first of which there is room for all.
+fn gathered<X: Drop, A: Allocator>(first: Vec<X, A>, second: Vec<X, A>) -> Vec<X, A>
+    requires { vec_len first + vec_len second ≤ vec_capacity first }
+    ensures { result.items ≡ first.items ++ second.items }
+{
+    let mut all = first;
+    for item in second {
+        match all.push(item) {
+            Ok(()) => {}
+            Err(_) => unreachable!(),
+        }
+    }
+    all
+}
+
+// Whether these are clients of all places that were taken, and as many.
+fn are_of_all<R: Drop, E: Placed, J: Brand<R, E>, S: Drop, A: Allocator>(
+    back: &[Client<R, E, J, S, A>],
     clients: &[Client<R, E, J, S, A>],
     taken: usize,
 ) -> bool
-    ensures { IsTrue result → ((p : ℕ) → p < taken → (i : ℕ) × (s : Seat E) × (slice_get clients.now i ≡ Some s) × (s.place ≡ p)) }
+    ensures { MatchBool result (AreOfAll taken (back.now ++ clients.now)) (¬ AreOfAll taken (back.now ++ clients.now)) }
+{
+    if back.len() > taken {
+        return false;
+    }
+    if clients.len() != taken - back.len() {
+        return false;
+    }
+    has_each(back, clients, taken)
+}
+
+// Whether each place that was taken has a client.
+fn has_each<R: Drop, E: Placed, J: Brand<R, E>, S: Drop, A: Allocator>(
+    back: &[Client<R, E, J, S, A>],
+    clients: &[Client<R, E, J, S, A>],
+    taken: usize,
+) -> bool
+    ensures { MatchBool result ((p : ℕ) → p < taken → HasClient (back.now ++ clients.now) p) ((p : ℕ) × (p < taken) × (¬ HasClient (back.now ++ clients.now) p)) }
 {
     for place in 0..taken {
-        if !has(clients, place) {
+        if !is_among(back, clients, place) {
             return false;
         }
     }
     true
+}
+
+// Whether a place has a client among these.
+fn is_among<R: Drop, E: Placed, J: Brand<R, E>, S: Drop, A: Allocator>(
+    back: &[Client<R, E, J, S, A>],
+    clients: &[Client<R, E, J, S, A>],
+    place: usize,
+) -> bool
+    ensures { MatchBool result (HasClient (back.now ++ clients.now) place) (¬ HasClient (back.now ++ clients.now) place) }
+{
+    if has(back, place) {
+        return true;
+    }
+    has(clients, place)
 }
 
 // Whether a place has a client.
@@ -177,7 +219,7 @@ fn has<R: Drop, E: Placed, J: Brand<R, E>, S: Drop, A: Allocator>(
     clients: &[Client<R, E, J, S, A>],
     place: usize,
 ) -> bool
-    ensures { IsTrue result → (i : ℕ) × (s : Seat E) × (slice_get clients.now i ≡ Some s) × (s.place ≡ place) }
+    ensures { MatchBool result (HasClient clients.now place) (¬ HasClient clients.now place) }
 {
     for at in 0..clients.len() {
         if clients[at].place() == place {

@@ -1,9 +1,9 @@
-ghost use Rattle.std.specs.Prelude.{◌≡◌, ◌≢◌, ◌⊎◌, ◌<◌, ◌≤◌, ◌+◌, ◌-◌, ◌^◌, ◌++◌, ◌∷◌, [], ℕ, length, slice_index, IfOk, IfErr, IsTrue};
+ghost use Rattle.std.specs.Prelude.{◌≡◌, ◌≢◌, ◌<◌, ◌≤◌, ◌+◌, ◌-◌, ◌^◌, ◌++◌, ◌∷◌, [], ℕ, length, slice_index, IfOk, IfErr, IsTrue};
 ghost use mathlib.Core.List.{IsPrefix};
-ghost use Rattle.dots.specs.declared.refusal.Refusal.TheVariants.{NoPlace};
 ghost use Rattle.shared_object.specs.History.{AreCounts, calls_by};
 ghost use Rattle.shared_object.specs.Calling.{IsRefused};
 
+use crate::awaiting::go_on_where;
 use crate::finishing::Finished;
 use crate::object::Object;
 use crate::placed::Placed;
@@ -151,7 +151,8 @@ impl<D: Drop, R: Drop, E: Placed, J: Object<D, R, E>, W: Wait + Drop, A: Allocat
         (view, is_whole)
     }
 
-    /// Takes the turn of a client: makes its call, where the client's calls that are known here are just those that it made.
+    /// Takes the turn of a client: makes its call, where the client's calls that are known here are just those that it made. They always are, as
+    /// a place has one client; that they are stands in no clause, and where they were not it would wait for good.
     pub(crate) fn turn<T: Wait, C: Update<D, R, E, J, A>>(
         self,
         rt: &T,
@@ -172,15 +173,13 @@ impl<D: Drop, R: Drop, E: Placed, J: Object<D, R, E>, W: Wait + Drop, A: Allocat
         ensures receipt { IfOk result.2 (λ r. r.1 ≡ self ++ C.event update.now place ∷ []) }
         ensures front { IfOk result.2 (λ r. result.1 ≡ self ++ C.event update.now place ∷ []) }
         ensures guarded { IfOk result.2 (λ r. result.0 ≡ self ++ C.event update.now place ∷ []) }
-        ensures refused { IfErr result.2 (λ e. (e ≡ NoPlace) ⊎ IsRefused (C.refuses update.now) result.1 e) }
+        ensures refused { IfErr result.2 (λ e. IsRefused (C.refuses update.now) result.1 e) }
         ensures learnt { IfErr result.2 (λ _. IsPrefix view result.1) }
-        ensures whole { IfErr result.2 (λ e. (e ≡ NoPlace) ⊎ (length (calls_by E.place place result.1) ≡ operations)) }
+        ensures whole { IfErr result.2 (λ _. length (calls_by E.place place result.1) ≡ operations) }
         ensures unchanged { IfErr result.2 (λ _. result.0 ≡ self) }
     {
         let (view, is_met) = self.meet(view, place, operations);
-        if !is_met {
-            return (self, view, Err(Refusal::NoPlace));
-        }
+        go_on_where(rt, is_met);
         let (guarded, answer) = self.accept(rt, place, update);
         match answer {
             Ok(told) => {

@@ -4,11 +4,13 @@
 // a front of it, which begins with all that the client saw, learnt or wrote; and of a client's place it has just the calls that it made.
 #![tactic(auto)]
 
+mod awaiting;
 mod client;
 mod finishing;
 mod gate;
 mod guarded;
 mod look;
+mod lying;
 mod object;
 mod owner;
 mod placed;

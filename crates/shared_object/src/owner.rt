@@ -1,38 +1,47 @@
-ghost use Rattle.std.specs.Prelude.{◌≡◌, ◌⊎◌, ◌↔◌, ◌+◌, ◌-◌, ◌≤◌, [], replicate, IfOk, IfErr, IsErrOf, OnOk, OnErr};
-ghost use Rattle.std.specs.Vec.{vec_len};
+ghost use Rattle.std.specs.Prelude.{◌≡◌, ◌⊎◌, ◌↔◌, ◌+◌, ◌-◌, ◌≤◌, [], length, replicate, IfOk, IfErr, IsErrOf, OnOk, OnErr};
+ghost use Rattle.std.specs.Vec.{vec_len, vec_capacity};
 ghost use Rattle.dots.specs.declared.refusal.Refusal.TheVariants.{NoPlace, OutOfMemory};
+ghost use Rattle.shared_object.specs.History.{HandsOut, TakesBack, first_at};
+ghost use Rattle.shared_object.specs.Finishing.{NothingHappened};
 
 use crate::client::Client;
 use crate::gate::Gate;
 use crate::guarded::Guarded;
+use crate::lying::Lying;
 use crate::object::Object;
 use crate::placed::Placed;
 use crate::returned::Returned;
 use crate::shared::Shared;
 use dots::Refusal;
-use root_cell::{Brand, View, Writer};
+use root_cell::{Brand, Title, View, Writer};
 use std::alloc::{Allocator, Global};
 use std::marker::Model;
 use std::sync::{Arc, Mutex, Wait};
 
-/// Who hands out the clients of a shared object. Contracts see how many places were taken, and how many are free.
+/// Who hands out the clients of a shared object, and takes them back. Contracts see how many places were taken, how many are free, and the
+/// clients that were given back.
 #[derive(Drop)]
 pub struct Owner<R: Drop, E: Placed, J: Brand<R, E>, S: Drop, A: Allocator + Copy = Global> {
     shared: Arc<S, A>,
     views: Vec<View<R, E, J, A>, A>,
+    back: Vec<Client<R, E, J, S, A>, A>,
     taken: usize,
+    title: Title<R, E, J>,
 }
 
 impl<R: Drop, E: Placed, J: Brand<R, E>, S: Drop, A: Allocator + Copy> Model
     for Owner<R, E, J, S, A> {
     ghost use Rattle.std.specs.Prelude.{◌≡◌, ◌≤◌, ◌+◌, [], length, replicate};
+    ghost use Rattle.std.specs.Vec.{vec_capacity};
     ghost use Rattle.shared_object.specs.History.{Places};
 
-    ghost Value = { Places };
+    ghost Value = { Places E };
 
-    ghost view = { λ o. record { taken = o.taken; free = length o.views.items } };
+    ghost view = { λ o. record { taken = o.taken; free = length o.views.items; back = o.back.items } };
 
-    ghost invariant = { λ o. (o.taken + length o.views.items ≤ 64) × (o.views.items ≡ replicate (length o.views.items) []) };
+    // There is room for all clients that can come back.
+    ghost invariant = { λ o. (o.taken + length o.views.items ≤ 64) × (o.views.items ≡ replicate (length o.views.items) [])
+        × (o.taken + length o.views.items ≤ vec_capacity o.back) };
 }
 
 impl<
@@ -44,15 +53,16 @@ impl<
     W: Wait + Drop,
     A: Allocator + Copy,
 > Owner<R, E, J, Shared<D, R, E, J, G, W, A>, A> {
-    /// Shares an object to which nothing happened yet, with the writer and the views of its cell. It keeps the handle to end the writer
-    /// with. It may wait, as it lays the object under a lock that it makes. Takes memory for what the clients share, once. Where there
-    /// is none, all comes back, and that is its only refusal.
+    /// Shares an object to which nothing happened yet, with the writer, the views and the title of its cell. It keeps the handle to end the
+    /// writer with. It may wait, as it lays the object under a lock that it makes. Takes memory for what the clients share, and for all that can be
+    /// given back, once. Where there is none, all comes back, and that is its only refusal.
     pub fn new<T: Wait>(
         rt: &T,
         alloc: A,
         object: D,
         writer: Writer<R, E, J, A>,
         views: Vec<View<R, E, J, A>, A>,
+        title: Title<R, E, J>,
         gate: G,
         handle: W,
     ) -> Result<Owner<R, E, J, Shared<D, R, E, J, G, W, A>, A>, Returned<D, R, E, J, G, W, A>>
@@ -60,46 +70,75 @@ impl<
         requires writer { writer ≡ [] }
         requires places { vec_len views ≤ 64 }
         requires views { views.items ≡ replicate (vec_len views) [] }
-        ensures ok { IfOk result (λ owner. owner ≡ record { taken = 0; free = vec_len views }) }
+        ensures ok { IfOk result (λ owner. owner ≡ record { taken = 0; free = vec_len views; back = [] }) }
+        ensures nothing { IfOk result (λ owner. NothingHappened E.place owner.taken) }
         ensures back { IfErr result (λ back. (back.object ≡ object) × (back.writer ≡ writer) × (back.views ≡ views)
             × (back.gate ≡ gate) × (back.handle ≡ handle)) }
     {
+        let Ok(back) = Vec::with_capacity(alloc, views.len()) else {
+            return Err(Returned {
+                object,
+                writer,
+                views,
+                title,
+                gate,
+                handle,
+            });
+        };
         let shared = match Arc::new(
             alloc,
             Shared {
                 gate,
-                lock: Mutex::new(None),
+                lock: Mutex::new(Lying::new(title)),
             },
         ) {
             Ok(shared) => shared,
             Err(failed) => {
                 let Shared { gate, lock } = failed.value;
-                drop(lock);
+                let title = lock.into_inner().into_title(rt);
                 return Err(Returned {
                     object,
                     writer,
                     views,
+                    title,
                     gate,
                     handle,
                 });
             }
         };
         let guarded = Guarded::new(object, writer, handle);
-        drop(shared.lock.lock(rt).replace(guarded));
+        let title = shared.lock.lock(rt).lay(rt, guarded);
         Ok(Owner {
             shared,
             views,
+            back,
             taken: 0,
+            title,
         })
     }
 }
 
 impl<R: Drop, E: Placed, J: Brand<R, E>, S: Drop, A: Allocator + Copy> Owner<R, E, J, S, A> {
-    /// A client at the next place. NoPlace comes exactly where no place is free, else OutOfMemory or the client. Takes a reference
-    /// count, and no memory: OutOfMemory comes only where that is full.
+    /// A client: the one that was given back last, which goes on where it stopped, else the first one at the next place. NoPlace comes exactly
+    /// where none is back and no place is free, else OutOfMemory or the client. Takes a reference count, and no memory: OutOfMemory comes only
+    /// where that is full.
     pub fn client(&mut self) -> Result<Client<R, E, J, S, A>, Refusal>
-        ensures client { IfOk result (λ client. client ≡ record { place = self.old.taken; operations = 0; front = [] }) }
-        ensures taken { OnOk result ((self.new.taken ≡ self.old.taken + 1) × (self.new.free + 1 ≡ self.old.free)) }
+        ensures client { IfOk result (λ client. HandsOut self.old self.new client) }
+        ensures no_place { IsErrOf result Refusal.NoPlace ↔ ((self.old.free ≡ 0) × (self.old.back ≡ [])) }
+        ensures refused { IfErr result (λ e. (e ≡ NoPlace) ⊎ (e ≡ OutOfMemory)) }
+        ensures unchanged { OnErr result (self.new ≡ self.old) }
+    {
+        match self.back.pop() {
+            Some(client) => Ok(client),
+            None => self.first(),
+        }
+    }
+
+    // The first client at the next place, where none is back.
+    fn first(&mut self) -> Result<Client<R, E, J, S, A>, Refusal>
+        requires { self.old.back ≡ [] }
+        ensures client { IfOk result (λ client. client ≡ first_at self.old.taken) }
+        ensures taken { OnOk result ((self.new.taken ≡ self.old.taken + 1) × (self.new.free + 1 ≡ self.old.free) × (self.new.back ≡ [])) }
         ensures no_place { IsErrOf result Refusal.NoPlace ↔ (self.old.free ≡ 0) }
         ensures refused { IfErr result (λ e. (e ≡ NoPlace) ⊎ (e ≡ OutOfMemory)) }
         ensures unchanged { OnErr result (self.new ≡ self.old) }
@@ -118,9 +157,41 @@ impl<R: Drop, E: Placed, J: Brand<R, E>, S: Drop, A: Allocator + Copy> Owner<R, 
         }
     }
 
-    /// What its clients share.
-    pub(crate) fn shared(&self) -> &S {
-        &self.shared
+    /// Takes a client back, whose place is handed out again then: so any number of clients may come and go. A client that is let go and not
+    /// given back keeps its place for good. It comes back itself where as many clients are back as there are places. Takes constant time, and
+    /// no memory.
+    pub fn give_back(&mut self, client: Client<R, E, J, S, A>) -> Result<(), Client<R, E, J, S, A>>
+        ensures ok { OnOk result (TakesBack self.old self.new client) }
+        ensures refused { IfErr result (λ refused. (refused ≡ client) × (self.old.taken + self.old.free ≤ length self.old.back)) }
+        ensures unchanged { OnErr result (self.new ≡ self.old) }
+    {
+        match self.back.push(client) {
+            Ok(()) => Ok(()),
+            Err(failed) => Err(failed.value),
+        }
+    }
+
+    /// What its clients share, the title to the cell, and the clients that were given back, with room for all others: for good.
+    pub(crate) fn into_parts(self) -> (Arc<S, A>, Title<R, E, J>, Vec<Client<R, E, J, S, A>, A>)
+        ensures back { result.2.items ≡ self.back }
+        ensures room { self.taken ≤ vec_capacity result.2 }
+    {
+        let Owner {
+            shared,
+            views,
+            back,
+            taken: _,
+            title,
+        } = self;
+        drop(views);
+        (shared, title, back)
+    }
+
+    /// The clients that were given back.
+    pub(crate) fn back(&self) -> &[Client<R, E, J, S, A>]
+        ensures { result.now ≡ self.now.back }
+    {
+        &self.back
     }
 
     /// How many places were taken.

@@ -1,6 +1,6 @@
 use crate::object::Object;
 use crate::placed::Placed;
-use root_cell::{View, Writer};
+use root_cell::{Title, View, Writer};
 use std::alloc::{Allocator, Global};
 
 /// What comes back where there was no memory to share an object.
@@ -19,6 +19,8 @@ pub struct Returned<
     pub writer: Writer<R, E, J, A>,
     /// The views of its clients.
     pub views: Vec<View<R, E, J, A>, A>,
+    /// The title to its cell.
+    pub title: Title<R, E, J>,
     /// The gate.
     pub gate: G,
     /// The handle.

@@ -1,11 +1,10 @@
-ghost use Rattle.std.specs.Prelude.{◌≡◌, ◌⊎◌, ◌<◌, ◌-◌, ◌^◌, ◌++◌, ◌∷◌, [], List, length, IfOk, IfErr};
+ghost use Rattle.std.specs.Prelude.{◌≡◌, ◌<◌, ◌-◌, ◌^◌, ◌++◌, ◌∷◌, [], List, length, IfOk, IfErr};
 ghost use mathlib.Core.List.{IsPrefix};
-ghost use Rattle.dots.specs.declared.refusal.Refusal.TheVariants.{NoPlace};
 ghost use Rattle.shared_object.specs.History.{calls_by};
 ghost use Rattle.shared_object.specs.Calling.{IsRefused};
 
 use crate::gate::{Gate, Point};
-use crate::guarded::Guarded;
+use crate::lying::Lying;
 use crate::object::Object;
 use crate::placed::Placed;
 use crate::update::Update;
@@ -14,8 +13,7 @@ use root_cell::{Note, View};
 use std::alloc::{Allocator, Global};
 use std::sync::{Mutex, Wait};
 
-/// What the clients of an object share: the lock, under which the object lies, and the gate before it. The lock is empty before
-/// the object lies there, and once it was taken out.
+/// What the clients of an object share: the lock, under which the object lies, and the gate before it.
 #[derive(Drop)]
 pub struct Shared<
     D: Drop,
@@ -27,7 +25,7 @@ pub struct Shared<
     A: Allocator + Copy = Global,
 > {
     pub(crate) gate: G,
-    pub(crate) lock: Mutex<Option<Guarded<D, R, E, J, W, A>>>,
+    pub(crate) lock: Mutex<Lying<D, R, E, J, W, A>>,
 }
 
 /// Takes the turn of a client: makes its call, once the lock is free. The View has seen the history with the call afterwards, or where it
@@ -53,17 +51,12 @@ pub(crate) fn take_turn<
     requires { place < 64 }
     ensures ok { IfOk result.1 (λ r. (history : List E) × IsPrefix view history × (length (calls_by E.place place history) ≡ operations) × (length history < 2 ^ 64 - 1)
         × C.answers update.now history r.0 × (r.1 ≡ history ++ C.event update.now place ∷ []) × (result.0 ≡ history ++ C.event update.now place ∷ [])) }
-    ensures refused { IfErr result.1 (λ e. (e ≡ NoPlace) ⊎ IsRefused (C.refuses update.now) result.0 e) }
+    ensures refused { IfErr result.1 (λ e. IsRefused (C.refuses update.now) result.0 e) }
     ensures learnt { IfErr result.1 (λ _. IsPrefix view result.0) }
-    ensures whole { IfErr result.1 (λ e. (e ≡ NoPlace) ⊎ (length (calls_by E.place place result.0) ≡ operations)) }
+    ensures whole { IfErr result.1 (λ _. length (calls_by E.place place result.0) ≡ operations) }
 {
     shared.gate.pass(Point::Before);
     let mut guard = shared.lock.lock(rt);
-    let Some(guarded) = guard.take() else {
-        return (view, Err(Refusal::NoPlace));
-    };
     shared.gate.pass(Point::Locked);
-    let (guarded, view, answer) = guarded.turn(rt, view, place, operations, update);
-    drop(guard.replace(guarded));
-    (view, answer)
+    guard.turn(rt, view, place, operations, update)
 }

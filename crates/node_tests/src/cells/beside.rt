@@ -49,7 +49,9 @@ fn held<J: Brand<u64, u64> + Send + Sync, R: Threads + Wait + Abort + Sync>(
     requires book { opened.0 ≡ J.book }
     requires law { (root : ℕ) (events : List ℕ) → root ≡ sum events → J.stands root events }
 {
-    let (writer, views) = Cell::<u64, u64, J>::new(rt, alloc, opened, 1, 0).expect(rt, "memory");
+    let (writer, views, _title) = Cell::<u64, u64, J>::new(rt, alloc, opened, 1, 0).expect(
+        rt, "memory",
+    );
     let view = only(rt, views);
     let writer = Ending { writer, rt };
     let (entered, published) = (AtomicU64::new(0), AtomicU64::new(0));
@@ -129,7 +131,9 @@ fn race<J: Brand<u64, u64> + Send + Sync, R: Threads + Wait + Abort + Sync>(
     requires book { opened.0 ≡ J.book }
     requires law { (root : ℕ) (events : List ℕ) → root ≡ sum events → J.stands root events }
 {
-    let (writer, views) = Cell::<u64, u64, J>::new(rt, alloc, opened, 1, 0).expect(rt, "memory");
+    let (writer, views, _title) = Cell::<u64, u64, J>::new(rt, alloc, opened, 1, 0).expect(
+        rt, "memory",
+    );
     let view = only(rt, views);
     let writer = Ending { writer, rt };
     let told = Mutex::new(None);

@@ -56,7 +56,7 @@ fn publish_in<'a, J: Brand<u64, u64>, R: Wait + Abort>(
     requires law { (root : ℕ) (events : List ℕ) → root ≡ sum events → J.stands root events }
 {
     let made = Cell::<u64, u64, J, &'a LocalHeap>::new(rt, heap, opened, 1, 0);
-    let (writer, views) = made.expect(rt, "memory");
+    let (writer, views, _title) = made.expect(rt, "memory");
     let view = only(rt, views);
     let mut pieces = fill(alloc, heap);
     let (writer, answer) = writer.publish::<u64, Itself, R>(rt, 4, &4);
@@ -92,7 +92,7 @@ fn make_in<'a, J: Brand<u64, u64>, R: Wait + Abort>(
     requires law { (root : ℕ) (events : List ℕ) → root ≡ sum events → J.stands root events }
 {
     match Cell::<u64, u64, J, &'a LocalHeap>::new(rt, heap, opened, 1, 0) {
-        Ok((writer, _views)) => {
+        Ok((writer, _views, _title)) => {
             writer.end(rt);
             true
         }

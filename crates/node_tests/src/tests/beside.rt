@@ -55,7 +55,7 @@ fn a_reader_goes_on_while_a_writer_is_held(rt: HostRuntime) {
 }
 
 // The gate that this sets.
-fn gate_of(rt: &impl Abort, state: &Arc<AtomicU64, Global>) -> Holding {
+pub(crate) fn gate_of(rt: &impl Abort, state: &Arc<AtomicU64, Global>) -> Holding {
     Holding {
         state: Arc::try_clone(state).expect(rt, "a count"),
     }

@@ -16,3 +16,7 @@ gate_sync = search (crosses, sendable) depth 20
 pub both_put_often-requires-send-C : goal.both_put_often-requires-send-C
 both_put_often-requires-send-C g c κs within =
     param_send _ _ (arg_send _ no _ (client_send (param 0 g.row.K) g.K.Naming Holding.the_row (copied 1 g.row.R) gate_send gate_sync c.type_bounds.send-R))
+
+pub put_while_looked-requires-send-C : goal.put_while_looked-requires-send-C
+put_while_looked-requires-send-C g c κs within =
+    param_send _ _ (arg_send _ no _ (client_send (param 0 g.row.K) g.K.Naming Holding.the_row (copied 1 g.row.R) gate_send gate_sync c.type_bounds.send-R))

@@ -6,4 +6,4 @@ pub loop-place-init : goal.loop-place-init
 loop-place-init g c = below_none _
 
 pub loop-place-preserved : goal.loop-place-preserved
-loop-place-preserved g c = below_more _ _ c.loop-place.invariant (c.has.ensures c.if-not-has.false)
+loop-place-preserved g c = below_more _ _ c.loop-place.invariant (rw c.if-not-is_among.false at c.is_among.ensures)

@@ -1,7 +1,6 @@
-use Rattle.std.proofs.Common.{◌≡◌, ℕ, ◌<◌, Some}
-use Rattle.std.specs.List.{slice_get}
-use Rattle.shared_object.specs.History.{Seat}
+use Rattle.std.proofs.Common.{◌≡◌, ◌++◌, ℕ, ◌<◌}
+use Rattle.shared_object.specs.Finishing.{HasClient}
 use Rattle.shared_object.proofs.finishing.has_each.Given as goal
 
 abbrev pub invariant-loop-place : goal.invariant-loop-place
-invariant-loop-place g l = (p : ℕ) → p < l.place → (i : ℕ) × (s : Seat g.row.E.Denot) × (slice_get l.clients i ≡ Some s) × (s.place ≡ p)
+invariant-loop-place g l = (p : ℕ) → p < l.place → HasClient (l.back ++ l.clients) p

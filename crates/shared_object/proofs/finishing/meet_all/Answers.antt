@@ -1,17 +1,8 @@
 use Rattle.std.proofs.Common.{◌<◌, get_or, length, arith, rules}
 use Rattle.std.proofs.lemmas.Option.{slice_get_within}
-use Rattle.shared_object.specs.Calling.{HasNotCalled}
 use Rattle.shared_object.specs.Finishing.{IsOwn}
-use Rattle.shared_object.proofs.Meeting.{get_at, own_more, tied_more, rest_more}
+use Rattle.shared_object.proofs.Meeting.{get_at, own_more, rest_more}
 use Rattle.shared_object.proofs.finishing.meet_all.Goals as goal
-
-pub returns-then-not-meet-clause-not_called : goal.returns-then-not-meet-clause-not_called
-returns-then-not-meet-clause-not_called g c =
-    let within : c.loop-client.client-index < length c.loop-client.clients = search rules in
-    let it = get_or c.loop-client.clients c.loop-client.client-index c.client-item.result in
-    let here = get_at c.loop-client.clients c.loop-client.client-index c.client-item.result within in
-    tied_more c.args.clients.now c.loop-client.clients c.loop-client.client-index it here c.loop-client.invariant.rest
-    (HasNotCalled g.E.Placed.place) c.meet.new.self c.meet.ensures.not_called c.loop-client.invariant.not_called
 
 pub loop-client-preserved : goal.loop-client-preserved
 loop-client-preserved g c =
@@ -22,13 +13,10 @@ loop-client-preserved g c =
       own =
           own_more c.args.clients.now c.loop-client.clients c.loop-client.client-index it here c.loop-client.invariant.rest
           (IsOwn g.E.Placed.place c.args.guarded.now) (c.meet.ensures.own c.if-not-meet.false) c.loop-client.invariant.own;
-      not_called =
-          tied_more c.args.clients.now c.loop-client.clients c.loop-client.client-index it here c.loop-client.invariant.rest
-          (HasNotCalled g.E.Placed.place) c.meet.new.self c.meet.ensures.not_called c.loop-client.invariant.not_called;
       rest = rest_more c.args.clients.now c.loop-client.clients c.loop-client.client-index it here c.loop-client.invariant.rest c.meet.new.self;
     }
 
-pub returns-clause-own : goal.returns-clause-own
-returns-clause-own g c is i s there =
+pub returns : goal.returns
+returns g c is i s there =
     let within = slice_get_within c.args.clients.now i s there in
     c.loop-client.invariant.own i s (omega (arith, within)) there

@@ -2,7 +2,7 @@ use Rattle.std.proofs.Common.{◌≡◌, ◌≤◌, ◌+◌, List, length, refl,
 use mathlib.Core.List.{IsPrefix}
 use Rattle.shared_object.specs.History.{calls_by, seen_in}
 use Rattle.shared_object.specs.Calling.{IsAccepted}
-use Rattle.shared_object.proofs.Seats.{accepted, accepted_within, counted_room, own_or}
+use Rattle.shared_object.proofs.Seats.{accepted, accepted_within, counted_room, own_all}
 use Rattle.shared_object.proofs.client.Client+R+E+J+Shared+D+R+E+J+G+W+A+A.call.Goals as goal
 
 pub overflow_add-self : goal.overflow_add-self
@@ -43,4 +43,4 @@ returns-in-Err-clause-refused g c = rw c.in-Err.is at c.take_turn-view.ensures.r
 pub returns-in-Err-clause-no_others : goal.returns-in-Err-clause-no_others
 returns-in-Err-clause-no_others g c =
     let whole = rw c.in-Err.is at c.take_turn-view.ensures.whole in
-    own_or g.E.Placed.place c.self.inside.place c.self.inside.operations c.take_turn-view.result.0 whole
+    own_all g.E.Placed.place c.self.inside.place c.self.inside.operations c.take_turn-view.result.0 whole

@@ -1,0 +1,108 @@
+ghost use Rattle.std.specs.Prelude.{◌≡◌, ◌⊎◌, ◌<◌, ◌-◌, ◌^◌, ◌++◌, ◌∷◌, [], List, length, IfOk, IfErr};
+ghost use mathlib.Core.List.{IsPrefix};
+ghost use Rattle.shared_object.specs.History.{calls_by};
+ghost use Rattle.shared_object.specs.Calling.{IsRefused};
+
+use crate::awaiting::awaited;
+use crate::guarded::Guarded;
+use crate::object::Object;
+use crate::placed::Placed;
+use crate::update::Update;
+use dots::Refusal;
+use root_cell::{Note, Title, View};
+use std::alloc::{Allocator, Global};
+use std::marker::Model;
+use std::sync::Wait;
+
+/// What lies under the lock of a shared object: the object, or the title to its cell, which lies there before the object does and once that was
+/// taken out. So whoever has no title leaves the object there.
+#[derive(Drop)]
+pub(crate) struct Lying<
+    D: Drop,
+    R: Drop,
+    E: Placed,
+    J: Object<D, R, E>,
+    W: Wait + Drop,
+    A: Allocator + Copy = Global,
+> {
+    guarded: Option<Guarded<D, R, E, J, W, A>>,
+    title: Option<Title<R, E, J>>,
+}
+
+impl<D: Drop, R: Drop, E: Placed, J: Object<D, R, E>, W: Wait + Drop, A: Allocator + Copy> Model
+    for Lying<D, R, E, J, W, A> {
+    ghost use Rattle.std.specs.Prelude.{◌⊎◌, IsSome, List, Option};
+
+    ghost Value = { Option (List E) };
+
+    ghost view = { λ l. l.guarded };
+
+    ghost invariant = { λ l. IsSome l.guarded ⊎ IsSome l.title };
+}
+
+impl<D: Drop, R: Drop, E: Placed, J: Object<D, R, E>, W: Wait + Drop, A: Allocator + Copy> Lying<
+    D,
+    R,
+    E,
+    J,
+    W,
+    A,
+> {
+    /// The title, before the object lies there.
+    pub(crate) fn new(title: Title<R, E, J>) -> Lying<D, R, E, J, W, A> {
+        Lying {
+            guarded: None,
+            title: Some(title),
+        }
+    }
+
+    /// The title.
+    pub(crate) fn into_title<T: Wait>(self, rt: &T) -> Title<R, E, J> {
+        let Lying { guarded, title } = self;
+        drop(guarded);
+        awaited(rt, title)
+    }
+
+    /// Lays the object there, against the title.
+    pub(crate) fn lay<T: Wait>(
+        &mut self,
+        rt: &T,
+        guarded: Guarded<D, R, E, J, W, A>,
+    ) -> Title<R, E, J> {
+        let before = self.guarded.replace(guarded);
+        drop(before);
+        awaited(rt, self.title.take())
+    }
+
+    /// Takes the object out, against the title.
+    pub(crate) fn take<T: Wait>(
+        &mut self,
+        rt: &T,
+        title: Title<R, E, J>,
+    ) -> Guarded<D, R, E, J, W, A> {
+        drop(self.title.replace(title));
+        awaited(rt, self.guarded.take())
+    }
+
+    /// Takes the turn of a client, and leaves the object there.
+    pub(crate) fn turn<T: Wait, C: Update<D, R, E, J, A>>(
+        &mut self,
+        rt: &T,
+        view: View<R, E, J, A>,
+        place: usize,
+        operations: u64,
+        update: &C,
+    ) -> (View<R, E, J, A>, Result<(C::Reply, Note<R, E, J>), Refusal>)
+        requires { place < 64 }
+        ensures ok { IfOk result.1 (λ r. (history : List E) × IsPrefix view history × (length (calls_by E.place place history) ≡ operations) × (length history < 2 ^ 64 - 1)
+            × C.answers update.now history r.0 × (r.1 ≡ history ++ C.event update.now place ∷ []) × (result.0 ≡ history ++ C.event update.now place ∷ [])) }
+        ensures refused { IfErr result.1 (λ e. IsRefused (C.refuses update.now) result.0 e) }
+        ensures learnt { IfErr result.1 (λ _. IsPrefix view result.0) }
+        ensures whole { IfErr result.1 (λ _. length (calls_by E.place place result.0) ≡ operations) }
+    {
+        let guarded = awaited(rt, self.guarded.take());
+        let (guarded, view, answer) = guarded.turn(rt, view, place, operations, update);
+        drop(self.guarded.replace(guarded));
+        (view, answer)
+    }
+}
