@@ -189,7 +189,8 @@ def of_crate(crate):
         for item in items(text):
             found.setdefault(item[0] or item[2], []).append((path, item, lines))
     for name in offered(root):
-        for path, item, lines in found.get(name, []):
+        # The type itself comes before its calls, in whichever files they stand.
+        for path, item, lines in sorted(found.get(name, []), key=lambda it: it[1][0] is not None):
             owner, kind, own, comment, _ = item
             if owner is None:
                 out += [f"### `{own}`", "", f"`crates/{crate}/src/{path}`", ""]
