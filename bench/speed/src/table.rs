@@ -32,6 +32,16 @@ impl Row {
     }
 }
 
+impl Row {
+    /// How often it takes what the first peer does, where both are seen.
+    fn ratio(&self) -> Option<f64> {
+        match self.peers[0] {
+            Some(peer) if peer > 0.0 && self.ours > 0.0 => Some(self.ours / peer),
+            _ => None,
+        }
+    }
+}
+
 pub struct Table {
     title: String,
     peers: [&'static str; 3],
@@ -41,6 +51,8 @@ pub struct Table {
 fn shown(value: Option<f64>) -> String {
     match value {
         None => String::new(),
+        // A difference of two runs that other work on the machine hides.
+        Some(value) if value <= 0.0 => "below noise".to_string(),
         Some(value) if value >= 100.0 => format!("{value:.0}"),
         Some(value) if value >= 10.0 => format!("{value:.1}"),
         Some(value) => format!("{value:.2}"),
@@ -83,7 +95,7 @@ impl Table {
             let mut cells = vec![row.name.clone(), shown(Some(row.ours))];
             cells.extend(peers.iter().map(|at| shown(row.peers[*at])));
             if head.iter().any(|cell| cell.starts_with("ratio to")) {
-                cells.push(shown(row.peers[0].map(|peer| row.ours / peer)));
+                cells.push(shown(row.ratio()));
             }
             if has_aims {
                 cells.push(shown(row.aim));
