@@ -3,7 +3,6 @@ ghost use Rattle.std.specs.Prelude.{◌≡◌, ◌≤◌};
 
 use crate::caller::{Caller, Calling};
 use crate::tests::beside::{Holding, both_put_often, write_while_read};
-use crate::tests::coming::put_as_next;
 use crate::tests::kept::put_and_keep;
 use crate::tests::meanwhile::synchronise;
 use crate::tests::served::{Ends, Outside, exchange, serve_alone};
@@ -231,35 +230,6 @@ fn alone_at_this_node<K: Naming, P: Post + Copy + Drop, R: Wait + Abort + Copy +
     finished(&rt, node, clients)
 }
 
-// Hands the client of the one place of a new node, of the replica 1, out so often, and takes it back: what is there in the end, where none is handed in.
-fn coming_at_this_node<K: Naming, R: Wait + Abort + Copy + Drop>(
-    rt: R,
-    alloc: Global,
-    opened: OpenedBook<NodeEvent>,
-    times: u64,
-) -> Last
-    requires book { opened.0 ≡ K.book }
-    requires name { K.name ≡ 1 }
-{
-    let mut node: Shared<K, NoGate, R> = made(rt, alloc, opened, 1, 1, NoGate);
-    for before in 0..times {
-        come_and_go(&rt, alloc, &mut node, before);
-    }
-    ended(&rt, node, Vec::new(alloc))
-}
-
-// Hands a client out, which puts once, as the one whose place called so often before, and takes it back.
-fn come_and_go<K: Naming, G: Gate + Drop, R: Wait + Abort + Drop>(
-    rt: &R,
-    alloc: Global,
-    node: &mut Shared<K, G, R>,
-    before: u64,
-) {
-    let mut client = next(node).expect(rt, "a client");
-    put_as_next(rt, alloc, &mut client, before);
-    assert!(rt; node.give_back(client).is_ok());
-}
-
 // Has the two clients of a new node, of the replica 1, make these calls, which pass this gate: what is there in the end.
 fn beside_at_this_node<
     K: Naming + Send + Sync,
@@ -344,11 +314,6 @@ pub(crate) fn alone<R: Wait + Abort + Copy + Drop>(
     calls: &Calls<Channels>,
 ) -> Last {
     alone_at_this_node::<marker::Brand, _, _>(rt, alloc, OpenedBook::new(), calls)
-}
-
-// Has so many clients of a new node come and go: what is there in the end.
-pub(crate) fn coming<R: Wait + Abort + Copy + Drop>(rt: R, alloc: Global, times: u64) -> Last {
-    coming_at_this_node::<marker::Brand, _>(rt, alloc, OpenedBook::new(), times)
 }
 
 // The same of the two clients of a new node, which pass this gate.

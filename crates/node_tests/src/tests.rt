@@ -2,7 +2,6 @@
 use std::process::Abort;
 
 pub(crate) mod beside;
-pub(crate) mod coming;
 pub(crate) mod kept;
 pub(crate) mod meanwhile;
 pub(crate) mod served;
