@@ -117,6 +117,17 @@ impl<A: Allocator + Copy> Outgoing<A> {
         Ok(Some(whole))
     }
 
+    /// The whole group as a pair, which may know no dot: what is kept of it over a restart.
+    ///
+    /// Its only refusal is OutOfMemory. Takes what `whole` does.
+    pub fn pair(&self, alloc: A) -> Result<OrMap<A>, Refusal>
+        ensures ok { IfOk result (λ whole. Same (or_map_state whole) (group_state self.now)) }
+        ensures err { IsOkUnless result Refusal.OutOfMemory }
+    {
+        let whole = joined(alloc, &self.deltas)?;
+        Ok(whole)
+    }
+
     /// The same group. Shares the deltas: takes time and memory in their number, and none in what they hold.
     /// Its only refusal is OutOfMemory.
     pub fn copy(&self, alloc: A) -> Result<Outgoing<A>, Refusal>

@@ -12,7 +12,7 @@ use Rattle.sync_model.specs.Closing.{IsBelow}
 use Rattle.replica_model.specs.History.{Entry, Runs}
 use Rattle.replica_model.specs.Mail.{Mail}
 use Rattle.replica_model.specs.Replica.{Replica, Open, fresh, open_numbered}
-use Rattle.replica_model.specs.Step.{Act, Do, Take, Answer, Made, Numbered, Abandons, Put, Remove, RemoveField, Clear, Flush, Ask, Retry, Abandon, IsStep}
+use Rattle.replica_model.specs.Step.{Act, Do, Take, Answer, Made, Numbered, Abandons, Put, Remove, RemoveField, Clear, Flush, Ask, Retry, Abandon, Restart, IsStep}
 use Rattle.replica_model.proofs.Asks.{delivery_opens, call_opens}
 use Rattle.replica_model.proofs.Growing.{call_grows, delivery_grows}
 use Rattle.node_threads.specs.Twice.{ComesOnce, DotsDiffer, NumbersDiffer}
@@ -78,6 +78,7 @@ module _ (hash_of : List ℕ → ℕ) where
   dot_begins old new (Do (Ask peer)) out dot (own, is, few, left, n, a, o) = absurd cc
   dot_begins old new (Do (Retry number)) out dot (n, a, o) = absurd cc
   dot_begins old new (Do (Abandon number)) out dot (abandons, o) = absurd (no_dot_abandoned old new (open_numbered old.sessions number) dot abandons)
+  dot_begins old new (Do Restart) out dot (n, a, o) = absurd cc
   dot_begins old new (Take mail) out dot (outcome, a, is) = absurd cc
 
   -- ---- numbers: a number is used where it is not above that of the last own synchronisation
@@ -108,6 +109,7 @@ module _ (hash_of : List ℕ → ℕ) where
       ((λ was. absurd (omega (arith, same, was))), opened_is old new _ n e (omega (arith, same)))
   number_begins old new (Do (Retry number)) out n (e, a, o) = absurd cc
   number_begins old new (Do (Abandon number)) out n (abandons, o) = absurd (no_number_abandoned old new (open_numbered old.sessions number) n abandons)
+  number_begins old new (Do Restart) out n (e, a, o) = absurd cc
   number_begins old new (Take mail) out n (outcome, a, is) = absurd cc
 
 pub dots_differ : DotsDiffer

@@ -23,3 +23,4 @@ pub mod Goes
 pub mod Keeps
 pub mod Contained
 pub mod Shows
+pub mod Whole

@@ -5,6 +5,7 @@ pub mod Own
 pub mod Answered
 pub mod Stepping
 pub mod Reading
+pub mod Saving
 pub mod Turning
 pub mod Tied
 pub mod Showing

@@ -10,6 +10,8 @@ mod operations;
 mod outcome;
 mod reading;
 mod replica;
+mod saved;
+mod saving;
 mod sessions;
 mod turning;
 
@@ -20,3 +22,4 @@ pub use laws::{
 };
 pub use outcome::Outcome;
 pub use replica::Replica;
+pub use saved::Saved;

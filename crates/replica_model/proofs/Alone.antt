@@ -16,7 +16,7 @@ use Rattle.replica_model.specs.History as history
 use Rattle.replica_model.specs.History.{Entry}
 use Rattle.replica_model.specs.Mail.{Mail, Delta, Hello, Opening, Ask, Page, Gone}
 use Rattle.replica_model.specs.Replica.{Replica, open_at}
-use Rattle.replica_model.specs.Step.{Call, Put, Remove, RemoveField, Clear, Flush, Retry, Abandon, Answer, IsStep}
+use Rattle.replica_model.specs.Step.{Call, Put, Remove, RemoveField, Clear, Flush, Retry, Abandon, Restart, Answer, IsStep}
 use Rattle.replica_model.specs.Step as call
 use Rattle.replica_model.specs.World.{World, Snapshot, changed, nothing, learns, keeps, accepts, takes_page, taking_of, own_of, ends, calls, is_joined, is_sent, is_done, takes, goes, Unclashed}
 use Rattle.replica_model.proofs.Answers.{told_by}
@@ -74,6 +74,7 @@ module _ (name : ℕ) (whole : List Operation) where
   fits_call w (call.Ask peer) f all = f
   fits_call w (Retry number) f all = f
   fits_call w (Abandon number) f all = f
+  fits_call w Restart f all = f
 
   fits_learns : (w : World) (more : List Operation) → Fits w name whole → IsPartOf more whole → Fits (learns name more w) name whole
   fits_learns w more f part = record { seen = grown_within (name == name) (w.seen name) more f.seen part; outgoing = f.outgoing; accepted = f.accepted; told = f.told; once = f.once }

@@ -12,7 +12,7 @@ use Rattle.op_model.proofs.Making.{IsNext-one, put_there, remove_there, field_re
 use Rattle.replica_model.specs.Answers.{answer_by, flushed_by, IsToldBy, CallsAreTold}
 use Rattle.replica_model.specs.Mail.{Mail, Delta}
 use Rattle.replica_model.specs.Replica.{Replica}
-use Rattle.replica_model.specs.Step.{Call, Put, Remove, RemoveField, Clear, Flush, Retry, Abandon, Answer, Counted, Made, Removes, IsCall}
+use Rattle.replica_model.specs.Step.{Call, Put, Remove, RemoveField, Clear, Flush, Retry, Abandon, Restart, Answer, Counted, Made, Removes, IsCall}
 use Rattle.replica_model.specs.Step as call
 use Rattle.replica_model.proofs.Meant.{meant_all, nothing_outgoing, sound_fits}
 use Rattle.replica_model.proofs.Sound.{sound}
@@ -42,6 +42,7 @@ module _ (hash_of : List ℕ → ℕ) (r : Replica) (S T : List Operation) (live
   calls_told (call.Ask peer) new answer out step told e = none_told answer told e
   calls_told (Retry number) new answer out step told e = none_told answer told e
   calls_told (Abandon number) new answer out step told e = none_told answer told e
+  calls_told Restart new answer out step told e = none_told answer told e
 
   flushes_told : (new : Replica) (answer : Answer) (out : List Mail) → IsCall r Flush new answer out → out ≡ flushed_by T
   flushes_told new answer out (a, inl (none, n, o)) = o ∙ ap flushed_by (sym (nothing_outgoing T told_of r.group group none))

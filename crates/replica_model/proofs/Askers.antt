@@ -9,7 +9,7 @@ use Rattle.sync_model.specs.Differ.{Held}
 use Rattle.replica_model.specs.Mail.{Mail, Delta, Hello, Ask}
 use Rattle.replica_model.specs.Replica.{Replica, Open, Accepted, Kept, open_numbered, next_session}
 use Rattle.replica_model.specs.Delivery.{Turn, asks_for, delivered}
-use Rattle.replica_model.specs.Step.{Call, Put, Remove, RemoveField, Clear, Flush, Retry, Abandon, Answer, Abandons, IsCall, again, retried}
+use Rattle.replica_model.specs.Step.{Call, Put, Remove, RemoveField, Clear, Flush, Retry, Abandon, Restart, Answer, Abandons, IsCall, again, retried}
 use Rattle.replica_model.specs.Step as call
 use Rattle.replica_model.specs.World.{World, Event, Node, At, Deliver, Message, message_at, nothing, calls, takes, sent_as, goes, Happens, Runs}
 use Rattle.replica_model.specs.Sessions.{IsAskOf}
@@ -78,16 +78,26 @@ abandon_keeps : (old new : Replica) (o : Option Open) (answer : Answer) → Aban
 abandon_keeps old new None answer (n, a) = ap (λ (r : Replica). r.kept) n
 abandon_keeps old new (Some o) answer (n, a) = ap (λ (r : Replica). r.kept) n
 
-pub call_keeps : (old new : Replica) (c : Call) (answer : Answer) (out : List Mail) → IsCall old c new answer out → new.kept ≡ old.kept
-call_keeps old new (Put place value) answer out (w, put, lt, n, a, o) = ap (λ (r : Replica). r.kept) n
-call_keeps old new (Remove key) answer out (over, just, n, a, o) = ap (λ (r : Replica). r.kept) n
-call_keeps old new (RemoveField place) answer out (over, just, n, a, o) = ap (λ (r : Replica). r.kept) n
-call_keeps old new Clear answer out (over, just, n, a, o) = ap (λ (r : Replica). r.kept) n
-call_keeps old new Flush answer out (a, inl (none, n, o)) = ap (λ (r : Replica). r.kept) n
-call_keeps old new Flush answer out (a, inr (some, n, o)) = ap (λ (r : Replica). r.kept) n
-call_keeps old new (call.Ask peer) answer out (own, is, few, left, n, a, o) = ap (λ (r : Replica). r.kept) n
-call_keeps old new (Retry number) answer out (n, a, o) = ap (λ (r : Replica). r.kept) n
-call_keeps old new (Abandon number) answer out (step, o) = abandon_keeps old new (open_numbered old.sessions number) answer step
+-- each snapshot stays, or the replica restarts and keeps none
+pub call_keeps : (old new : Replica) (c : Call) (answer : Answer) (out : List Mail) → IsCall old c new answer out → (new.kept ≡ old.kept) ⊎ ((c ≡ Restart) × (new.kept ≡ []))
+call_keeps old new (Put place value) answer out (w, put, lt, n, a, o) = inl (ap (λ (r : Replica). r.kept) n)
+call_keeps old new (Remove key) answer out (over, just, n, a, o) = inl (ap (λ (r : Replica). r.kept) n)
+call_keeps old new (RemoveField place) answer out (over, just, n, a, o) = inl (ap (λ (r : Replica). r.kept) n)
+call_keeps old new Clear answer out (over, just, n, a, o) = inl (ap (λ (r : Replica). r.kept) n)
+call_keeps old new Flush answer out (a, inl (none, n, o)) = inl (ap (λ (r : Replica). r.kept) n)
+call_keeps old new Flush answer out (a, inr (some, n, o)) = inl (ap (λ (r : Replica). r.kept) n)
+call_keeps old new (call.Ask peer) answer out (own, is, few, left, n, a, o) = inl (ap (λ (r : Replica). r.kept) n)
+call_keeps old new (Retry number) answer out (n, a, o) = inl (ap (λ (r : Replica). r.kept) n)
+call_keeps old new (Abandon number) answer out (step, o) = inl (abandon_keeps old new (open_numbered old.sessions number) answer step)
+call_keeps old new Restart answer out (n, a, o) = inr (refl, ap (λ (r : Replica). r.kept) n)
+
+-- so a snapshot that is kept after a call was kept before it
+pub call_kept : (old new : Replica) (c : Call) (answer : Answer) (out : List Mail) → IsCall old c new answer out → (k : Kept) → Contains new.kept k → Contains old.kept k
+call_kept old new c answer out step k h = by (call_keeps old new c answer out step)
+  where
+    by : (new.kept ≡ old.kept) ⊎ ((c ≡ Restart) × (new.kept ≡ [])) → Contains old.kept k
+    by (inl same) = subst (λ ks. Contains ks k) same h
+    by (inr (is, none)) = nothing_in k (subst (λ ks. Contains ks k) none h)
 
 found_numbered : (os : List Open) (number : ℕ) (o : Open) → open_numbered os number ≡ Some o → Contains os o
 found_numbered [] number o e = absurd cc
@@ -137,6 +147,7 @@ module _ (hash_of : List ℕ → ℕ) where
       (λ p at. ask_more hash_of events (At name (Retry number)) p.session p.own p.seen ((told hash_of events w runs).sessions name p (found_numbered (w.replica name).sessions number p at)).asked.0)
       x (subst (λ ms. Contains ms x) o h) s seen e
   call_hellos events w name runs (Abandon number) new answer out (step, o) x h s seen e = nothing_told _ out o x h s seen e
+  call_hellos events w name runs Restart new answer out (n, a, o) x h s seen e = nothing_told _ out o x h s seen e
 
   -- ---- worlds
 
@@ -175,7 +186,7 @@ module _ (hash_of : List ℕ → ℕ) where
   heard_next events w v (At name c) answer runs heard (is, peer, (new, out, step, e)) =
       subst (Heard (events ++ At name c ∷ [])) (sym e)
       (heard_goes events (At name c) w (calls name c w) name new out (w.outgoing name) (same_calls w name c).0 (same_after_calls hash_of w name c) heard
-      (λ k h. heard.kept name k (subst (λ ks. Contains ks k) (call_keeps (w.replica name) new c answer out step) h))
+      (λ k h. heard.kept name k (call_kept (w.replica name) new c answer out step k h))
       (call_hellos events w name runs c new answer out step))
   heard_next events w v (Deliver number name) answer runs heard happens =
       let d = delivery hash_of w v number name answer happens in

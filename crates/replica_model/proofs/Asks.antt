@@ -8,7 +8,7 @@ use Rattle.sync_model.specs.Differ.{Held}
 use Rattle.replica_model.specs.Mail.{Mail}
 use Rattle.replica_model.specs.Replica.{Replica, Open, open_numbered}
 use Rattle.replica_model.specs.Delivery.{Turn, delivered}
-use Rattle.replica_model.specs.Step.{Call, Put, Remove, RemoveField, Clear, Flush, Ask, Retry, Abandon, Answer, Abandons, IsCall}
+use Rattle.replica_model.specs.Step.{Call, Put, Remove, RemoveField, Clear, Flush, Ask, Retry, Abandon, Restart, Answer, Abandons, IsCall}
 use Rattle.replica_model.specs.World.{World, Event, Node, At, Deliver, nothing, Happens, Runs}
 use Rattle.replica_model.specs.Laws.{AsksAreOne, SnapshotsKnowWhatWasAsked}
 use Rattle.replica_model.specs.Sessions.{IsAskOf}
@@ -39,6 +39,7 @@ call_opens old new Flush answer out (a, inr (some, n, o)) = as_many old new _ n 
 call_opens old new (Ask peer) answer out (own, is, few, left, n, a, o) = as_many old new _ n (omega arith)
 call_opens old new (Retry number) answer out (n, a, o) = as_many old new old n (omega arith)
 call_opens old new (Abandon number) answer out (abandons, o) = abandon_opens old new (open_numbered old.sessions number) answer abandons
+call_opens old new Restart answer out (n, a, o) = as_many old new _ n (omega arith)
 
 -- so no event takes a number back
 event_opens : (hash_of : List ℕ → ℕ) (w v : World) (e : Event) (answer : Answer) → Happens hash_of w e answer v → (n : ℕ) → (w.replica n).opened ≤ (v.replica n).opened

@@ -10,9 +10,9 @@ use Rattle.wire_form.specs.Session.{SessionValue}
 use Rattle.prefix_digest.specs.MapOf.{IsMapOf}
 use Rattle.sync_model.specs.Differ.{Held}
 use Rattle.replica_model.specs.Mail.{Mail, Delta, Hello, Opening, Ask, Page, Gone}
-use Rattle.replica_model.specs.Replica.{Replica, Open, Accepted, Kept, open_numbered, flushed, next_session, opens, closes}
+use Rattle.replica_model.specs.Replica.{Replica, Open, Accepted, Kept, open_numbered, flushed, next_session, opens, closes, restarts}
 use Rattle.replica_model.specs.Delivery.{asks_for}
-use Rattle.replica_model.specs.Step.{Call, Put, Remove, RemoveField, Clear, Flush, Retry, Abandon, Answer, Removes, Abandons, IsCall, again, retried}
+use Rattle.replica_model.specs.Step.{Call, Put, Remove, RemoveField, Clear, Flush, Retry, Abandon, Restart, Answer, Removes, Abandons, IsCall, again, retried}
 use Rattle.replica_model.specs.Step as call
 use Rattle.replica_model.specs.World.{World, Message, Snapshot, snapshot_with, sent_as, calls, goes}
 use Rattle.replica_model.proofs.Found.{in_one, in_without}
@@ -145,6 +145,9 @@ module _ (hash_of : List ℕ → ℕ) (Snap : SessionValue → List Operation �
         to w name t (w.outgoing name) new (w.replica name) out _ n o
         (record { name_stays = t.named name; kept_here = t.kept name; open_here = t.sessions name; sent = retried_sent w name t (w.outgoing name) (w.replica name).kept (open_numbered (w.replica name).sessions number) })
     call_goes (Abandon number) asks new answer out (step, o) = abandoned w name t (w.outgoing name) (open_numbered (w.replica name).sessions number) new answer out step o
+    call_goes Restart asks new answer out (n, a, o) =
+        to w name t (w.outgoing name) new (restarts (w.replica name)) out [] n o
+        (record { name_stays = t.named name; kept_here = λ k h. nothing_in k h; open_here = λ x h. nothing_in x h; sent = λ mail h. nothing_in mail h })
 
     pub called_ties : (c : Call) → ((peer : ℕ) (own : Held) → c ≡ call.Ask peer → IsMapOf own (w.replica name).live → Asked name (next_session (w.replica name) peer) own (w.replica name).live.has)
         → (new : Replica) (answer : Answer) (out : List Mail) → IsCall (w.replica name) c new answer out → Ties hash_of Snap Asked Sends (goes name new out (w.outgoing name) (calls name c w))
@@ -159,3 +162,4 @@ module _ (hash_of : List ℕ → ℕ) (Snap : SessionValue → List Operation �
         by (call.Ask peer) g = goes_on w name t (w.outgoing name) new out g _ _ _
         by (Retry number) g = goes_on w name t (w.outgoing name) new out g _ _ _
         by (Abandon number) g = goes_on w name t (w.outgoing name) new out g _ _ _
+        by Restart g = goes_on w name t (w.outgoing name) new out g _ _ _

@@ -152,6 +152,7 @@ module _ (hash_of : List ℕ → ℕ) where
   same_after_calls w name (Ask peer) = refl
   same_after_calls w name (Rattle.replica_model.specs.Step.Retry number) = refl
   same_after_calls w name (Rattle.replica_model.specs.Step.Abandon number) = refl
+  same_after_calls w name Rattle.replica_model.specs.Step.Restart = refl
 
   told_call : (events : List Event) (w : World) (name : ℕ) (c : Call) (new : Replica) (answer : Answer) (out : List Mail) → Runs hash_of nothing events w → Told events w
       → IsCall (w.replica name) c new answer out → Told (events ++ At name c ∷ []) (goes name new out (w.outgoing name) (calls name c w))

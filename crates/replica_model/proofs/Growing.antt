@@ -10,7 +10,7 @@ use Rattle.sync_model.specs.Differ.{Held}
 use Rattle.replica_model.specs.Mail.{Mail}
 use Rattle.replica_model.specs.Replica.{Replica, Open, open_numbered}
 use Rattle.replica_model.specs.Delivery.{delivered}
-use Rattle.replica_model.specs.Step.{Call, Put, Remove, RemoveField, Clear, Flush, Ask, Retry, Abandon, Answer, Abandons, IsCall}
+use Rattle.replica_model.specs.Step.{Call, Put, Remove, RemoveField, Clear, Flush, Ask, Retry, Abandon, Restart, Answer, Abandons, IsCall}
 use Rattle.replica_model.proofs.Rows.{each_row}
 use Rattle.replica_model.proofs.States.{same_is, is_same}
 
@@ -79,3 +79,4 @@ call_grows old new Flush answer out (a, inr (some, n, o)) = to_one old new _ n (
 call_grows old new (Ask peer) answer out (own, is, few, left, n, a, o) = to_one old new _ n (below_itself old.live)
 call_grows old new (Retry number) answer out (n, a, o) = to_one old new _ n (below_itself old.live)
 call_grows old new (Abandon number) answer out (abandons, o) = abandon_grows old new (open_numbered old.sessions number) answer abandons
+call_grows old new Restart answer out (n, a, o) = to_one old new _ n (below_itself old.live)

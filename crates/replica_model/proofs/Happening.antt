@@ -14,9 +14,9 @@ use Rattle.op_model.specs.Place.{Place}
 use Rattle.op_model.specs.State.{IsInside}
 use Rattle.op_model.proofs.Dots.{same_dot-self, same_dot-symm, same_dot-true}
 use Rattle.replica_model.specs.Mail.{Mail, Delta, Hello}
-use Rattle.replica_model.specs.Replica.{Replica, Open, LIMIT, open_numbered, makes, flushed, next_session, opens, closes}
+use Rattle.replica_model.specs.Replica.{Replica, Open, LIMIT, open_numbered, makes, flushed, next_session, opens, closes, restarts}
 use Rattle.replica_model.specs.Delivery.{delivered}
-use Rattle.replica_model.specs.Step.{Call, Put, Remove, RemoveField, Clear, Flush, Ask, Retry, Abandon, Answer, Nothing, Made, Counted, Numbered, Came, Closed, Removes, Abandons, IsCall, Refuses, retried}
+use Rattle.replica_model.specs.Step.{Call, Put, Remove, RemoveField, Clear, Flush, Ask, Retry, Abandon, Restart, Answer, Nothing, Made, Counted, Numbered, Came, Closed, Removes, Abandons, IsCall, Refuses, retried}
 use Rattle.replica_model.specs.World.{World, Event, Node, At, Deliver, Message, message_at, is_node, has_peer, calls, takes, goes, Happens, RefusesEvent}
 use Rattle.replica_model.specs.Laws.{HappenOrAreRefused}
 use Rattle.replica_model.proofs.Finite.{IsFinite, finite_map, map_stands, dots_at, dots_at_place, dots_within, dots_at_key, all_dots, dots_anywhere, put_there}
@@ -116,6 +116,7 @@ module _ (old : Replica) (live : IsFinite old.live) (inside : IsInside old.live)
   call_or (Ask peer) = ask_or peer (cases_lt (length old.sessions) LIMIT) (cases_lt (old.opened + 1) (2 ^ 64))
   call_or (Retry number) = inl (old, Came (retried old (open_numbered old.sessions number)).outcome, (retried old (open_numbered old.sessions number)).replies, (refl, refl, refl))
   call_or (Abandon number) = let a = abandon old (open_numbered old.sessions number) in inl (a.0, a.1, [], (a.2, refl))
+  call_or Restart = inl (restarts old, Nothing, [], (refl, refl, refl))
 
 -- ---- events
 

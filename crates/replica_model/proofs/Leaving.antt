@@ -3,7 +3,7 @@ use Rattle.std.proofs.Common.{◌≡◌, ◌≢◌, ℕ, ◌==◌, [], ◌∷◌
 use Rattle.std.proofs.lemmas.Bool.{ne_eqb}
 use Rattle.std.proofs.lemmas.List.{append-nil}
 use Rattle.replica_model.specs.Replica.{Replica}
-use Rattle.replica_model.specs.Step.{Call, Put, Remove, RemoveField, Clear, Flush, Retry, Abandon}
+use Rattle.replica_model.specs.Step.{Call, Put, Remove, RemoveField, Clear, Flush, Retry, Abandon, Restart}
 use Rattle.replica_model.specs.Step as call
 use Rattle.replica_model.specs.World.{World, Node, At, Deliver, calls, takes, sent_as}
 use Rattle.replica_model.specs.Laws.{EventsLeave}
@@ -23,6 +23,7 @@ same_calls w name Flush = (refl, refl)
 same_calls w name (call.Ask peer) = (refl, refl)
 same_calls w name (Retry number) = (refl, refl)
 same_calls w name (Abandon number) = (refl, refl)
+same_calls w name Restart = (refl, refl)
 
 pub leaves : EventsLeave
 leaves hash_of w v (Node name) answer (new, a, e) = record {

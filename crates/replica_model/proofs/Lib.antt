@@ -34,3 +34,4 @@ pub mod Alone
 pub mod SessionsAlone
 pub mod EndsAlone
 pub mod OpeningsAlone
+pub mod Crashing

@@ -8,7 +8,7 @@ use Rattle.replica_model.specs.Mail.{Mail}
 use Rattle.replica_model.specs.Replica.{Replica, Open, Kept, open_numbered, advanced, without_session, LIMIT, all_but_first, keeping}
 use Rattle.wire_form.specs.Session.{same_session}
 use Rattle.replica_model.specs.Delivery.{Turn, delivered}
-use Rattle.replica_model.specs.Step.{Call, Put, Remove, RemoveField, Clear, Flush, Ask, Retry, Abandon, Answer, Abandons, IsCall}
+use Rattle.replica_model.specs.Step.{Call, Put, Remove, RemoveField, Clear, Flush, Ask, Retry, Abandon, Restart, Answer, Abandons, IsCall}
 use Rattle.replica_model.specs.World.{World, Event, Node, At, Deliver, nothing, Happens, Runs}
 use Rattle.replica_model.specs.Laws.{AreNumbered, IsWithinLimits, StayWithinLimits}
 use Rattle.replica_model.proofs.Found.{same_is_one}
@@ -120,6 +120,7 @@ call_limits r new (Ask peer) answer out l (own, is, few, left, n, a, o) =
     })
 call_limits r new (Retry number) answer out l (n, a, o) = to new r n l
 call_limits r new (Abandon number) answer out l (step, o) = abandon_limits r new (open_numbered r.sessions number) answer l step
+call_limits r new Restart answer out l (n, a, o) = to new _ n (record { sessions = omega arith; kept = omega arith; numbered = omega arith; opened = l.opened })
 
 -- ---- worlds
 

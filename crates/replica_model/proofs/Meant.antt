@@ -28,7 +28,7 @@ use Rattle.sync_model.proofs.Ended.{done}
 use Rattle.replica_model.specs.Mail.{Mail, Delta, Hello, Opening, Ask, Page, Gone}
 use Rattle.replica_model.specs.Replica.{Replica, Open, open_numbered, makes, open_at}
 use Rattle.replica_model.specs.Delivery.{Outcome, Turn, turn, delivered}
-use Rattle.replica_model.specs.Step.{Call, Put, Remove, RemoveField, Clear, Flush, Retry, Abandon, Answer, Abandons, KnowsNone, IsCall}
+use Rattle.replica_model.specs.Step.{Call, Put, Remove, RemoveField, Clear, Flush, Retry, Abandon, Restart, Answer, Abandons, KnowsNone, IsCall}
 use Rattle.replica_model.specs.Step as call
 use Rattle.replica_model.specs.World.{World, Event, Node, At, Deliver, Snapshot, Met, nothing, learns, calls, own_of, ends, takes, taking_of, accepts, takes_page, is_joined, is_sent, is_done, goes, Happens, Runs, Unclashed}
 use Rattle.replica_model.specs.World as world
@@ -177,6 +177,7 @@ module _ (hash_of : List ℕ → ℕ) (w : World) (name : ℕ) (whole : List Ope
   follows (call.Ask peer) all new answer out (own, is, few, left, n, a, o) = still (call.Ask peer) new (ap (λ (x : Replica). x.live) n) (ap (λ (x : Replica). x.group) n) refl refl
   follows (Retry number) all new answer out (n, a, o) = still (Retry number) new (ap (λ (x : Replica). x.live) n) (ap (λ (x : Replica). x.group) n) refl refl
   follows (Abandon number) all new answer out (step, o) = abandoned (open_numbered (w.replica name).sessions number) number new answer step
+  follows Restart all new answer out (n, a, o) = still Restart new (ap (λ (x : Replica). x.live) n) (ap (λ (x : Replica). x.group) n) refl refl
 
 -- a call leaves what another replica has seen and is to send, and what it has seen itself only grows
 pub seen_elsewhere : (w : World) (name : ℕ) (c : Call) (n : ℕ) → n ≢ name → ((calls name c w).seen n ≡ w.seen n) × ((calls name c w).outgoing n ≡ w.outgoing n)
@@ -188,6 +189,7 @@ seen_elsewhere w name Flush n apart = (refl, emptied-there n name (w.outgoing n)
 seen_elsewhere w name (call.Ask peer) n apart = (refl, refl)
 seen_elsewhere w name (Retry number) n apart = (refl, refl)
 seen_elsewhere w name (Abandon number) n apart = (refl, refl)
+seen_elsewhere w name Restart n apart = (refl, refl)
 
 calls_grow : (w : World) (name : ℕ) (c : Call) (n : ℕ) → IsPartOf (w.seen n) ((calls name c w).seen n)
 calls_grow w name (Put place value) n = grown_part (n == name) (w.seen n) (put_at (w.seen name) name place value)
@@ -198,6 +200,7 @@ calls_grow w name Flush n = itself_part (w.seen n)
 calls_grow w name (call.Ask peer) n = itself_part (w.seen n)
 calls_grow w name (Retry number) n = itself_part (w.seen n)
 calls_grow w name (Abandon number) n = itself_part (w.seen n)
+calls_grow w name Restart n = itself_part (w.seen n)
 
 -- each replica's live state by name, where one changed
 live_by_name : (old : ℕ → Replica) (name : ℕ) (new : Replica) (seen before : ℕ → List Operation) → new.live ≡ state (seen name) → ((n : ℕ) → n ≢ name → seen n ≡ before n) → ((n : ℕ) → (old n).live ≡ state (before n))
@@ -274,6 +277,7 @@ closed_by_call w name Flush = refl
 closed_by_call w name (call.Ask peer) = refl
 closed_by_call w name (Retry number) = refl
 closed_by_call w name (Abandon number) = refl
+closed_by_call w name Restart = refl
 
 -- a session that ends, by the sets that its asker had seen when it asked and its peer when it opened
 session_joins : (hash_of : List ℕ → ℕ) (S T seen : List Operation) (own theirs : Held) (known_own context : DotValue → Bool) (ts : List Taking) (f : Fetch)

@@ -11,7 +11,7 @@ use Rattle.prefix_digest.proofs.MapsOf.{maps_one}
 use Rattle.replica_model.specs.Mail.{Mail}
 use Rattle.replica_model.specs.Replica.{Replica, Open, open_numbered, makes, opens}
 use Rattle.replica_model.specs.Delivery.{Turn, turn, delivered}
-use Rattle.replica_model.specs.Step.{Call, Put, Remove, RemoveField, Clear, Flush, Ask, Retry, Abandon, Do, Take, Answer, Made, Counted, Came, Removes, Abandons, IsCall}
+use Rattle.replica_model.specs.Step.{Call, Put, Remove, RemoveField, Clear, Flush, Ask, Retry, Abandon, Restart, Do, Take, Answer, Made, Counted, Came, Removes, Abandons, IsCall}
 use Rattle.replica_model.specs.Laws.{IsOneTurn, StepsAreOne, RefusedMakesNone}
 use Rattle.replica_model.proofs.States.{same_is, counts_one}
 
@@ -49,6 +49,7 @@ call_one old new new' (Ask peer) answer answer' out out' (own, is, few, left, n,
 call_one old new new' (Retry number) answer answer' out out' (n, a, o) (n', a', o') = record { replica = n ∙ sym n'; answers = a ∙ sym a'; sent = o ∙ sym o' }
 call_one old new new' (Abandon number) answer answer' out out' (abandons, o) (abandons', o') =
     abandons_one old (open_numbered old.sessions number) new new' answer answer' out out' abandons abandons' (o ∙ sym o')
+call_one old new new' Restart answer answer' out out' (n, a, o) (n', a', o') = record { replica = n ∙ sym n'; answers = a ∙ sym a'; sent = o ∙ sym o' }
 
 pub steps_one : StepsAreOne
 steps_one hash_of old new new' (Do c) answer answer' out out' first second = call_one old new new' c answer answer' out out' first second
@@ -73,3 +74,4 @@ refused_none hash_of old new Clear answer out refusal none step = absurd none
 refused_none hash_of old new Flush answer out refusal none step = absurd none
 refused_none hash_of old new (Retry number) answer out refusal none step = absurd none
 refused_none hash_of old new (Abandon number) answer out refusal none step = absurd none
+refused_none hash_of old new Restart answer out refusal none step = absurd none

@@ -27,7 +27,7 @@ use Rattle.replica_model.specs.Delivery.{Outcome, Turn, turn, ignored, asks_for,
 use Rattle.replica_model.specs.Mail.{Mail, Delta, Hello, Opening, Ask, Page, Gone, is_for}
 use Rattle.replica_model.specs.Replica.{Replica, Open, Accepted, Kept, open_numbered, open_at, kept_at, makes, next_session}
 use Rattle.replica_model.specs.Sessions.{taken_with}
-use Rattle.replica_model.specs.Step.{Call, Put, Remove, RemoveField, Clear, Flush, Retry, Abandon, Answer, Removes, Abandons, IsCall, again, retried}
+use Rattle.replica_model.specs.Step.{Call, Put, Remove, RemoveField, Clear, Flush, Retry, Abandon, Restart, Answer, Removes, Abandons, IsCall, again, retried}
 use Rattle.replica_model.specs.Step as call
 use Rattle.replica_model.specs.World.{World, Event, Node, At, Deliver, Message, Snapshot, nothing, message_at, sent_as, changed, calls, learns, keeps, accepts, takes_page, taking_of, own_of, ends, takes, is_joined, is_sent, is_done, goes, Happens, Runs}
 use Rattle.replica_model.proofs.Built.{EachEntry, fetched_made, whole_known}
@@ -133,6 +133,7 @@ module _ (puts : List Write) where
   call_told old new (call.Ask peer) answer out (own, is, few, left, n, a, o) = told_as out _ o (λ x h. one_told (Hello (next_session old peer) old.live.has) x tt h)
   call_told old new (Retry number) answer out (n, a, o) = told_as out _ o (retried_told old (open_numbered old.sessions number))
   call_told old new (Abandon number) answer out (abandons, o) = told_as out [] o none_told
+  call_told old new Restart answer out (n, a, o) = told_as out [] o none_told
 
   module _ (hash_of : List ℕ → ℕ) (own : Held) (r : Replica) (held : (k : Kept) → Contains r.kept k → IsHeldOf puts k.map k.context) where
     -- an ask is told a page of a kept snapshot
@@ -192,6 +193,7 @@ called_messages w name Flush = refl
 called_messages w name (call.Ask peer) = refl
 called_messages w name (Retry number) = refl
 called_messages w name (Abandon number) = refl
+called_messages w name Restart = refl
 
 called_taken : (w : World) (name : ℕ) (c : Call) → (calls name c w).taken ≡ w.taken
 called_taken w name (Put place value) = refl
@@ -202,6 +204,7 @@ called_taken w name Flush = refl
 called_taken w name (call.Ask peer) = refl
 called_taken w name (Retry number) = refl
 called_taken w name (Abandon number) = refl
+called_taken w name Restart = refl
 
 -- a message is one of those that were there, or was sent
 sent_tells : (puts : List Write) (before after : List Message) → after ≡ before → ((number : ℕ) (m : Message) → message_at before number ≡ Some m → TellsOf puts m.mail)
@@ -339,6 +342,7 @@ module _ (hash_of : List ℕ → ℕ) (w : World) (name : ℕ) (puts : List Writ
   follows (call.Ask peer) new answer out (own, is, few, left, n, a, o) = left_live new (ap (λ (x : Replica). x.live) n) (ap (λ (x : Replica). x.group) n)
   follows (Retry number) new answer out (n, a, o) = left_live new (ap (λ (x : Replica). x.live) n) (ap (λ (x : Replica). x.group) n)
   follows (Abandon number) new answer out (step, o) = abandoned (open_numbered (w.replica name).sessions number) new answer step
+  follows Restart new answer out (n, a, o) = left_live new (ap (λ (x : Replica). x.live) n) (ap (λ (x : Replica). x.group) n)
 
   put_call : (c : Call) (new : Replica) (answer : Answer) (out : List Mail) → IsCall (w.replica name) c new answer out → (more : List Write) × WasPut hash_of more (goes name new out (w.outgoing name) (calls name c w))
   put_call c new answer out step = by (follows c new answer out step)

@@ -22,7 +22,7 @@ use Rattle.replica_model.specs.Mail.{Mail, Delta, Hello, Opening, Page, Gone}
 use Rattle.replica_model.specs.Mail as mail
 use Rattle.replica_model.specs.Replica.{Replica, Open, Accepted, open_at, open_numbered, advanced, without_session}
 use Rattle.replica_model.specs.SessionsAlone.{IsAskAlone, TookOpening, SessionsAlone}
-use Rattle.replica_model.specs.Step.{Call, Put, Remove, RemoveField, Clear, Flush, Ask, Retry, Abandon, Answer, Came, Abandons, IsCall}
+use Rattle.replica_model.specs.Step.{Call, Put, Remove, RemoveField, Clear, Flush, Ask, Retry, Abandon, Restart, Answer, Came, Abandons, IsCall}
 use Rattle.replica_model.specs.World.{World, Snapshot, changed, nothing, calls, takes, taking_of, goes}
 use Rattle.replica_model.proofs.Calls.{asking}
 use Rattle.replica_model.proofs.Deciding.{came_one}
@@ -77,6 +77,7 @@ taken_stays name Flush w = refl
 taken_stays name (Ask peer) w = refl
 taken_stays name (Retry number) w = refl
 taken_stays name (Abandon number) w = refl
+taken_stays name Restart w = refl
 
 -- an ask was just made, of this session
 pub record IsAsking (old : Replica) (c : Call) (o : Open) : Type 0 where
@@ -113,6 +114,7 @@ call_leaves old new (Ask peer) answer out (own, is, few, left, n, a, o) =
     either o (inr h) = inr (record { peer = peer; own = own; call = refl; stands = is; session = in_one (asking old peer own) o h })
 call_leaves old new (Retry number) answer out (n, a, o) = leaves_as old new _ (Retry number) n (record { same_name = refl; sessions = λ o h. inl h })
 call_leaves old new (Abandon number) answer out (abandons, o) = abandon_leaves old new (Abandon number) (open_numbered old.sessions number) answer abandons
+call_leaves old new Restart answer out (n, a, o) = leaves_as old new _ Restart n (record { same_name = refl; sessions = λ o h. nothing_in o h })
 
 -- a delivery leaves the name
 module _ (hash_of : List ℕ → ℕ) (name : ℕ) where

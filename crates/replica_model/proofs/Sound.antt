@@ -11,7 +11,7 @@ use Rattle.wire_form.specs.Session.{SessionValue, same_session}
 use Rattle.replica_model.specs.Mail.{Mail, Delta, Hello, Opening, Ask, Page, Gone}
 use Rattle.replica_model.specs.Replica.{Replica, Kept, open_at, kept_at}
 use Rattle.replica_model.specs.Delivery.{Outcome}
-use Rattle.replica_model.specs.Step.{Call, Put, Remove, RemoveField, Clear, Flush, Retry, Abandon, Answer}
+use Rattle.replica_model.specs.Step.{Call, Put, Remove, RemoveField, Clear, Flush, Retry, Abandon, Restart, Answer}
 use Rattle.replica_model.specs.Step as call
 use Rattle.replica_model.specs.World.{World, Event, Node, At, Deliver, Message, Snapshot, sets_of, nothing, message_at, changed, makes, learns, calls, is_joined, is_sent, is_done, first_kept, keeps, accepts, takes_page, taking_of, own_of, ends, takes, sent_as, goes, Happens, Runs}
 use Rattle.replica_model.specs.World as world
@@ -107,6 +107,7 @@ sound_calls w name Flush s = sound_flushes w name s
 sound_calls w name (call.Ask peer) s = s
 sound_calls w name (Retry number) s = s
 sound_calls w name (Abandon number) s = s
+sound_calls w name Restart s = s
 
 -- what was made stays made
 pub made_stays : (w : World) (name : ℕ) (c : Call) (S : List Operation) → IsPartOf S w.made → IsPartOf S (calls name c w).made
@@ -118,6 +119,7 @@ made_stays w name Flush S part = part
 made_stays w name (call.Ask peer) S part = part
 made_stays w name (Retry number) S part = part
 made_stays w name (Abandon number) S part = part
+made_stays w name Restart S part = part
 
 changed_part : (f : SessionValue → List Operation) (s : SessionValue) (x made : List Operation) → ((t : SessionValue) → IsPartOf (f t) made) → IsPartOf x made → (t : SessionValue) → IsPartOf (changed f s x t) made
 changed_part f s x made all part t = step (same_session t s)

@@ -10,10 +10,10 @@ use Rattle.sync_model.specs.Differ.{Held}
 use Rattle.replica_model.specs.Mail.{Mail, Hello}
 use Rattle.replica_model.specs.Replica.{Replica, Open, Kept, open_numbered, kept_at, advanced, without_session, LIMIT, keeping, keeps}
 use Rattle.replica_model.specs.Delivery.{Turn, delivered}
-use Rattle.replica_model.specs.Step.{Call, Put, Remove, RemoveField, Clear, Flush, Retry, Abandon, Do, Take, Act, Answer, Abandons, IsCall}
+use Rattle.replica_model.specs.Step.{Call, Put, Remove, RemoveField, Clear, Flush, Retry, Abandon, Restart, Do, Take, Act, Answer, Abandons, IsCall}
 use Rattle.replica_model.specs.Step as step
 use Rattle.replica_model.specs.Laws.{IsOfOpen, IsNewFor, IsDropped, SessionsStay, SnapshotsStay, OldestAreDropped}
-use Rattle.replica_model.proofs.Askers.{call_keeps}
+use Rattle.replica_model.proofs.Askers.{call_keeps, call_kept}
 use Rattle.replica_model.proofs.Found.{same_is_one, found_open, in_keeping}
 use Rattle.replica_model.proofs.Rows.{snapshot, each_row}
 
@@ -80,6 +80,7 @@ module _ (hash_of : List ℕ → ℕ) (own : Held) (r : Replica) (o : Open) (the
   call_leaves new (step.Ask peer) answer out (mine, is, few, left, n, a, z) apart = same_sessions new _ n (Contains-append_left r.sessions _ o there)
   call_leaves new (Retry number) answer out (n, a, z) apart = same_sessions new r n there
   call_leaves new (Abandon number) answer out (abandons, z) apart = abandon_leaves new number (open_numbered r.sessions number) answer refl abandons apart
+  call_leaves new Restart answer out (n, a, z) apart = absurd (apart tt)
 
 pub sessions_stay : SessionsStay
 sessions_stay hash_of old new (Do c) answer out is o there apart = call_leaves hash_of finite.empty old o there new c answer out is apart
@@ -152,11 +153,19 @@ module _ (hash_of : List ℕ → ℕ) (own : Held) (r : Replica) (k : Kept) (the
       by s seen none (inr (full, (others, oldest, newest))) = inr (record { full = full; others = others; oldest = oldest; ninth = snapshot own r s seen; is_new = (refl, none); newest = newest })
 
 pub snapshots_stay : SnapshotsStay
-snapshots_stay hash_of old new (Do c) answer out is k h = inl (subst (λ ks. Contains ks k) (call_keeps old new c answer out is) h)
+snapshots_stay hash_of old new (Do c) answer out is k h = inl (call_kept old new c answer out is k h)
 snapshots_stay hash_of old new (Take mail) answer out (outcome, a, (own, is_own, steps)) k h =
     delivery_keeps hash_of own old k mail (subst (λ (t : Turn). Contains t.new.kept k) (sym steps) h)
 
 pub oldest_are_dropped : OldestAreDropped
-oldest_are_dropped hash_of old new (Do c) answer out is k h = inl (subst (λ ks. Contains ks k) (sym (call_keeps old new c answer out is)) h)
+oldest_are_dropped hash_of old new (Do c) answer out is k h = by (call_keeps old new c answer out is)
+  where
+    by : (new.kept ≡ old.kept) ⊎ ((c ≡ Restart) × (new.kept ≡ [])) → Contains new.kept k ⊎ (IsDropped old new (Do c) k ⊎ (Do c ≡ Do Restart))
+    by (inl same) = inl (subst (λ ks. Contains ks k) (sym same) h)
+    by (inr (is, none)) = inr (inr (ap Do is))
 oldest_are_dropped hash_of old new (Take mail) answer out (outcome, a, (own, is_own, steps)) k h =
-    subst (λ (t : Turn). Contains t.new.kept k ⊎ IsDropped old t.new (Take mail) k) steps (delivery_drops hash_of own old k h mail)
+    either (subst (λ (t : Turn). Contains t.new.kept k ⊎ IsDropped old t.new (Take mail) k) steps (delivery_drops hash_of own old k h mail))
+  where
+    either : Contains new.kept k ⊎ IsDropped old new (Take mail) k → Contains new.kept k ⊎ (IsDropped old new (Take mail) k ⊎ (Take mail ≡ Do Restart))
+    either (inl there) = inl there
+    either (inr dropped) = inr (inl dropped)

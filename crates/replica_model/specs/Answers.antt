@@ -5,7 +5,7 @@ use Rattle.op_model.specs.Meaning.{state}
 use Rattle.op_model.specs.Operation.{Operation}
 use Rattle.replica_model.specs.Mail.{Mail, Delta}
 use Rattle.replica_model.specs.Replica.{Replica}
-use Rattle.replica_model.specs.Step.{Call, Put, Remove, RemoveField, Clear, Flush, Ask, Retry, Abandon, Do, Answer, Made, Counted, IsStep}
+use Rattle.replica_model.specs.Step.{Call, Put, Remove, RemoveField, Clear, Flush, Ask, Retry, Abandon, Restart, Do, Answer, Made, Counted, IsStep}
 use Rattle.replica_model.specs.World.{World, Event, nothing, Runs, Unclashed}
 
 -- a put the next dot of its name, and a removal the number of the writes that it observes; what has been seen tells no more
@@ -18,6 +18,7 @@ answer_by S name Flush = None
 answer_by S name (Ask peer) = None
 answer_by S name (Retry number) = None
 answer_by S name (Abandon number) = None
+answer_by S name Restart = None
 
 -- a flush sends what was made since the last one, and nothing where nothing was
 abbrev pub flushed_by : List Operation → List Mail

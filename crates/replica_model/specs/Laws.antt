@@ -19,7 +19,7 @@ use Rattle.sync_model.specs.Differ.{Held, Differ, Waits}
 use Rattle.replica_model.specs.Mail.{Mail, Delta, Hello, Opening, Ask, Page, Gone}
 use Rattle.replica_model.specs.Replica.{Replica, Open, Accepted, Kept, LIMIT, open_at, kept_at}
 use Rattle.replica_model.specs.Delivery.{Outcome, Sent, Done, Ignored, Mismatch}
-use Rattle.replica_model.specs.Step.{Call, Put, Remove, RemoveField, Clear, Flush, Retry, Abandon, Do, Take, Act, Answer, Came, IsStep, Refuses}
+use Rattle.replica_model.specs.Step.{Call, Put, Remove, RemoveField, Clear, Flush, Retry, Abandon, Restart, Do, Take, Act, Answer, Came, IsStep, Refuses}
 use Rattle.replica_model.specs.Step as step
 use Rattle.replica_model.specs.World.{World, Event, Node, At, Deliver, Message, sets_of, message_at, no_snapshot, taking_of, nothing, Happens, RefusesEvent, Runs, Unclashed}
 use Rattle.replica_model.specs.Sessions.{IsTakenOf, IsAskOf, IsSession, IsEnd}
@@ -199,7 +199,7 @@ SnapshotsKnowWhatWasAsked = (hash_of : List ℕ → ℕ) (events : List Event) (
     → (asker answerer : ℕ) (o : Open) (k : Kept) → Contains (w.replica asker).sessions o → Contains (w.replica answerer).kept k
     → k.session ≡ o.session → o.seen ≡ k.seen
 
--- an act is of an open session: it takes in what is for the asker of that session, or gives the session up
+-- an act is of an open session: it takes in what is for the asker of that session, or gives the session up; a restart is of each
 abbrev pub IsOfOpen : Open → Act → Type 0
 IsOfOpen o (Take (Delta d)) = ⊥
 IsOfOpen o (Take (Hello s known)) = ⊥
@@ -215,6 +215,7 @@ IsOfOpen o (Do Flush) = ⊥
 IsOfOpen o (Do (step.Ask peer)) = ⊥
 IsOfOpen o (Do (Retry number)) = ⊥
 IsOfOpen o (Do (Abandon number)) = number ≡ o.session.number
+IsOfOpen o (Do Restart) = Unit {0}
 
 -- a step leaves each open session as it is, its own map, what it had seen, the opening that it accepted and what it fetched, but the one that it is of
 abbrev pub SessionsStay : Type 0
@@ -245,10 +246,10 @@ pub record IsDropped (old new : Replica) (act : Act) (k : Kept) : Type 0 where
   pub is_new : IsNewFor old act ninth
   pub newest : new.kept ≡ others ++ ninth ∷ []
 
--- all that a step can do to a kept snapshot is to drop it so
+-- all that a step can do to a kept snapshot is to drop it so, or with all others where the replica restarts
 abbrev pub OldestAreDropped : Type 0
 OldestAreDropped = (hash_of : List ℕ → ℕ) (old new : Replica) (act : Act) (answer : Answer) (out : List Mail) → IsStep hash_of old act new answer out
-    → (k : Kept) → Contains old.kept k → Contains new.kept k ⊎ IsDropped old new act k
+    → (k : Kept) → Contains old.kept k → Contains new.kept k ⊎ (IsDropped old new act k ⊎ (act ≡ Do Restart))
 
 -- a delivery was taken: it is answered Done where its session has all by that, and else Sent
 abbrev pub IsDoneElseSent : Answer → Type 0 → Type 0

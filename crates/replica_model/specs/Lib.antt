@@ -3,6 +3,7 @@ pub mod Replica
 pub mod Delivery
 pub mod Step
 pub mod World
+pub mod Crashing
 pub mod Sessions
 pub mod Laws
 pub mod History

@@ -102,6 +102,11 @@ advances r next = record r { sessions = advanced next r.sessions }
 abbrev pub closes : Replica → SessionValue → Replica
 closes r s = record r { sessions = without_session s r.sessions }
 
+-- What a restart leaves of it: what it holds, what it is to send and the number of its last own session. Its own sessions are closed, and no
+-- snapshot is kept any more.
+abbrev pub restarts : Replica → Replica
+restarts r = record r { sessions = []; kept = [] }
+
 -- it keeps a snapshot
 abbrev pub keeps : Replica → Kept → Replica
 keeps r k = record r { kept = keeping k r.kept }

@@ -12,7 +12,7 @@ use Rattle.op_model.specs.Place.{Place}
 use Rattle.prefix_digest.specs.MapOf.{IsMapOf}
 use Rattle.sync_model.specs.Differ.{Held}
 use Rattle.replica_model.specs.Mail.{Mail, Delta, Hello}
-use Rattle.replica_model.specs.Replica.{Replica, Open, Accepted, LIMIT, open_numbered, makes, flushed, next_session, opens, closes}
+use Rattle.replica_model.specs.Replica.{Replica, Open, Accepted, LIMIT, open_numbered, makes, flushed, next_session, opens, closes, restarts}
 use Rattle.replica_model.specs.Delivery.{Outcome, Sent, Ignored, Turn, turn, asks_of, delivered}
 
 -- the calls of a replica; a put that names no field is one at the empty field
@@ -25,6 +25,7 @@ pub data Call : Type 0 where
   Ask : ℕ → Call  -- of a peer: a session is opened
   Retry : ℕ → Call  -- of a session's number
   Abandon : ℕ → Call
+  Restart : Call  -- it comes back, from what was saved of it
 
 pub data Act : Type 0 where
   Do : Call → Act
@@ -78,6 +79,7 @@ IsCall old (Ask peer) new answer out =
 IsCall old (Retry number) new answer out =
     (new ≡ old) × (answer ≡ Came (retried old (open_numbered old.sessions number)).outcome) × (out ≡ (retried old (open_numbered old.sessions number)).replies)
 IsCall old (Abandon number) new answer out = Abandons old (open_numbered old.sessions number) new answer × (out ≡ [])
+IsCall old Restart new answer out = (new ≡ restarts old) × (answer ≡ Nothing) × (out ≡ [])
 
 -- The step of an act. A delivery is by the table, with the map that stands for the live state: there is one at most.
 module _ (hash_of : List ℕ → ℕ) where
@@ -101,3 +103,4 @@ Refuses old Clear refusal = ⊥
 Refuses old Flush refusal = ⊥
 Refuses old (Retry number) refusal = ⊥
 Refuses old (Abandon number) refusal = ⊥
+Refuses old Restart refusal = ⊥

@@ -20,7 +20,7 @@ use Rattle.sync_model.specs.Laws.{Taking, NoClash}
 use Rattle.replica_model.specs.Mail.{Mail, Delta, Hello, Opening, Ask, Page, Gone}
 use Rattle.replica_model.specs.Replica.{Replica, Open, Kept, fresh, open_at, kept_at}
 use Rattle.replica_model.specs.Delivery.{Outcome, Joined, Sent, Done}
-use Rattle.replica_model.specs.Step.{Call, Put, Remove, RemoveField, Clear, Flush, Retry, Abandon, Do, Take, Answer, Nothing, Came, IsStep, Refuses}
+use Rattle.replica_model.specs.Step.{Call, Put, Remove, RemoveField, Clear, Flush, Retry, Abandon, Restart, Do, Take, Answer, Nothing, Came, IsStep, Refuses}
 use Rattle.replica_model.specs.Step as call
 
 -- what a snapshot was taken of: the operations that the replica had seen, and its map
@@ -116,6 +116,7 @@ calls name Flush w = record w { outgoing = λ n. emptied (n == name) (w.outgoing
 calls name (call.Ask peer) w = w
 calls name (Retry number) w = w
 calls name (Abandon number) w = w
+calls name Restart w = w
 
 -- whether a delivery was answered so
 abbrev pub is_joined : Outcome → Bool

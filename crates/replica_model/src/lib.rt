@@ -28,6 +28,6 @@ pub use steps::{
     steps_leave_other_sessions,
 };
 pub use worlds::{
-    each_event_happens_or_is_refused, events_leave_all_else, replicas_stay_within_limits,
-    worlds_are_one, worlds_are_sound,
+    crashes_take_back, each_event_happens_or_is_refused, events_leave_all_else,
+    replicas_stay_within_limits, worlds_are_one, worlds_are_sound,
 };

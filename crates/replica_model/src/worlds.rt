@@ -1,5 +1,6 @@
 // The laws of worlds of replicas, over all lists of events.
 ghost use Rattle.replica_model.specs.Laws.{EventsAreOne, WorldsAreOne, RefusedDoesNotHappen, RunsGoOn, Sound};
+ghost use Rattle.replica_model.specs.Crashing.{CrashesTakeBack};
 ghost use Rattle.replica_model.specs.Laws.{EventsLeave, StayWithinLimits, HappenOrAreRefused};
 
 /// An event decides its answer and the world after it, and so does a list of events; an event that is refused does not happen; and a list
@@ -32,4 +33,10 @@ pub fn replicas_stay_within_limits()
 pub fn each_event_happens_or_is_refused()
     ensures either { HappenOrAreRefused }
     ensures not_both { RefusedDoesNotHappen }
+{}
+
+/// Replicas that crash, and come back from what was last saved of them: whatever occurs, and however often, what runs is the world after the
+/// events that are left. So all that holds after every list of events holds of it.
+pub fn crashes_take_back()
+    ensures { CrashesTakeBack }
 {}

@@ -104,6 +104,7 @@ refuses_one r (step.Ask peer) x y (inr (few, spent, is)) (inl (full, is')) = abs
 refuses_one r (step.Ask peer) x y (inr (few, spent, is)) (inr (few', spent', is')) = is ∙ sym is'
 refuses_one r (step.Retry number) x y first second = absurd first
 refuses_one r (step.Abandon number) x y first second = absurd first
+refuses_one r step.Restart x y first second = absurd first
 
 event_refused_one : (w : World) (e : Event) (x y : Refusal) → RefusesEvent w e x → RefusesEvent w e y → x ≡ y
 event_refused_one w (world.Node name) x y (there, is) (there', is') = is ∙ sym is'
