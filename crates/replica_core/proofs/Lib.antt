@@ -24,3 +24,4 @@ pub mod Keeps
 pub mod Contained
 pub mod Shows
 pub mod Whole
+pub mod Lacking

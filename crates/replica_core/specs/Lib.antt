@@ -6,6 +6,7 @@ pub mod Answered
 pub mod Stepping
 pub mod Reading
 pub mod Saving
+pub mod Guarding
 pub mod Turning
 pub mod Tied
 pub mod Showing

@@ -3,18 +3,20 @@
 #![tactic(auto)]
 
 mod asking;
+mod checkpoint;
 mod delivered;
 mod delivering;
+mod guarding;
 mod laws;
 mod operations;
 mod outcome;
 mod reading;
 mod replica;
-mod saved;
 mod saving;
 mod sessions;
 mod turning;
 
+pub use checkpoint::Checkpoint;
 pub use delivered::Delivered;
 pub use laws::{
     a_replica_alone_shows_what_it_has_seen, sessions_are_found_as_told, sessions_change_in_place,
@@ -22,4 +24,3 @@ pub use laws::{
 };
 pub use outcome::Outcome;
 pub use replica::Replica;
-pub use saved::Saved;

@@ -2,44 +2,53 @@
 ghost use Rattle.std.specs.Prelude.{◌≡◌, IfOk, OnOk, IsOkUnless};
 ghost use Rattle.causal_join.specs.OrMap.{or_map_state};
 ghost use Rattle.delta_ops.specs.LiveMap.{live_state};
-ghost use Rattle.op_model.specs.State.{Same};
-ghost use Rattle.replica_model.specs.Replica.{restarts};
+ghost use Rattle.replica_model.specs.Replica.{fresh, restarts};
 ghost use Rattle.replica_core.specs.Meaning.{hash_in, meaning};
-ghost use Rattle.replica_core.specs.Saving.{restored};
+ghost use Rattle.replica_core.specs.Saving.{checkpointed, restored};
 
+use crate::checkpoint::Checkpoint;
 use crate::replica::Replica;
-use crate::saved::Saved;
-use causal_join::{Causal, OrMap};
+use causal_join::OrMap;
 use delta_ops::{LiveOrMap, Outgoing};
-use dots::Refusal;
+use dots::{Name, Refusal};
 use hash_path::PathHash;
 use live_map::Live;
 use prefix_digest::ShaSummary;
+use saved_form::Saved;
 use std::alloc::Allocator;
 use sync_protocol::Answerer;
 
 impl<H: PathHash, A: Allocator + Copy> Replica<H, A> {
-    /// What a replica is to come back from: what it holds, what it is to send, its name and the number of its last own synchronisation.
-    /// Its open synchronisations and the snapshots that it keeps for those of others are not saved.
+    /// What the replica is to come back from, if it is lost: what it holds, what it is to send, its name and the number of its last own
+    /// synchronisation, as they are now. Its open synchronisations and the snapshots that it keeps for those of others are no part of it.
     ///
-    /// Its only refusal is OutOfMemory. Takes time and memory in all that it holds, times the logarithm of the map, and in what it made
-    /// since the last flush, times the square of its logarithm.
-    pub fn save(&self) -> Result<Saved<A>, Refusal>
-        ensures ok { IfOk result (λ saved. restored saved ≡ restarts (meaning self.now)) }
+    /// It is to be saved before anything is sent that is made, or asked for, later. Its only refusal is OutOfMemory. Copies no node of the map:
+    /// takes time and memory in the context, and in the number of deltas that were made since the last flush.
+    pub fn checkpoint(&self) -> Result<Checkpoint<H, A>, Refusal>
+        ensures ok { IfOk result (λ checkpoint. checkpointed checkpoint ≡ restarts (meaning self.now)) }
         ensures err { IsOkUnless result Refusal.OutOfMemory }
     {
-        let group = self.group.pair(self.alloc)?;
-        let live = match whole(self.alloc, &self.live) {
-            Ok(live) => live,
+        let group = self.group.copy(self.alloc)?;
+        let context = match self.live.context().copy(self.alloc) {
+            Ok(context) => context,
             Err(refusal) => {
                 drop(group);
                 return Err(refusal);
             }
         };
-        Ok(Saved {
+        let store = match self.live.store().share() {
+            Ok(store) => store,
+            Err(refusal) => {
+                drop(group);
+                drop(context);
+                return Err(refusal);
+            }
+        };
+        Ok(Checkpoint {
             name: self.name,
             opened: self.opened,
-            live,
+            store,
+            context,
             group,
         })
     }
@@ -61,46 +70,79 @@ impl<H: PathHash, A: Allocator + Copy> Replica<H, A> {
             live,
             group,
         } = saved;
-        let mut held = Live::new(alloc, hash);
-        if let Err(refusal) = held.join_delta(alloc, &live) {
-            drop(held);
-            drop(live);
-            drop(group);
-            return Err(refusal);
-        }
-        drop(live);
         let mut outgoing = Outgoing::new(alloc);
         if let Err(refusal) = outgoing.push(alloc, group) {
-            drop(held);
+            drop(live);
             return Err(refusal);
         }
+        match held(alloc, hash, live) {
+            Ok(held) => Ok(Replica {
+                alloc,
+                name,
+                live: held,
+                group: outgoing,
+                opened,
+                sessions: Vec::new(alloc),
+                answerer: Answerer::new(alloc),
+            }),
+            Err(refusal) => {
+                drop(outgoing);
+                Err(refusal)
+            }
+        }
+    }
+
+    /// The replica of a name that was never used, which has seen what the saved one had seen: for who cannot save before anything is sent. What
+    /// was made since the save is lost unless it was sent, and what was to be sent reaches others by synchronisations. Each name that wrote
+    /// stays in the contexts for good.
+    ///
+    /// Its only refusal is OutOfMemory. Takes time and memory in what was saved, times the logarithm of the map.
+    pub fn new_from(
+        alloc: A,
+        name: Name,
+        hash: H,
+        saved: Saved<A>,
+    ) -> Result<Replica<H, A>, Refusal>
+        ensures ok { IfOk result (λ replica. meaning replica ≡ record (fresh name) { live = or_map_state saved.live }) }
+        ensures hash { IfOk result (λ replica. hash_in replica ≡ hash) }
+        ensures err { IsOkUnless result Refusal.OutOfMemory }
+    {
+        let Saved {
+            name: _,
+            opened: _,
+            live,
+            group,
+        } = saved;
+        drop(group);
+        let held = held(alloc, hash, live)?;
         Ok(Replica {
             alloc,
             name,
             live: held,
-            group: outgoing,
-            opened,
+            group: Outgoing::new(alloc),
+            opened: 0,
             sessions: Vec::new(alloc),
             answerer: Answerer::new(alloc),
         })
     }
 }
 
-// All that a live pair holds and knows, as one delta.
-fn whole<H: PathHash, A: Allocator + Copy>(
+// The live pair that holds and knows what the delta does.
+fn held<H: PathHash, A: Allocator + Copy>(
     alloc: A,
-    live: &LiveOrMap<ShaSummary, H, A>,
-) -> Result<OrMap<A>, Refusal>
-    ensures ok { IfOk result (λ pair. Same (or_map_state pair) (live_state live.now.0)) }
+    hash: H,
+    delta: OrMap<A>,
+) -> Result<LiveOrMap<ShaSummary, H, A>, Refusal>
+    ensures ok { IfOk result (λ live. live_state live.0 ≡ or_map_state delta) }
+    ensures hash { IfOk result (λ live. live.0.0.0 ≡ hash) }
     ensures err { IsOkUnless result Refusal.OutOfMemory }
 {
-    let store = live.store().to_map(alloc)?;
-    let context = match live.context().copy(alloc) {
-        Ok(context) => context,
-        Err(refusal) => {
-            drop(store);
-            return Err(refusal);
-        }
-    };
-    Ok(Causal::from_parts(store, context).unwrap())
+    let mut live = Live::new(alloc, hash);
+    if let Err(refusal) = live.join_delta(alloc, &delta) {
+        drop(live);
+        drop(delta);
+        return Err(refusal);
+    }
+    drop(delta);
+    Ok(live)
 }

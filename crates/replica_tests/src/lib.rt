@@ -21,6 +21,8 @@ mod playing;
 #[cfg(test)]
 mod refusals;
 #[cfg(test)]
+mod restarts;
+#[cfg(test)]
 mod sealing;
 #[cfg(test)]
 mod session_bytes;

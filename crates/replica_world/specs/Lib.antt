@@ -5,3 +5,4 @@ pub mod Keeping
 pub mod Replaces
 pub mod Showing
 pub mod Accepting
+pub mod Reading

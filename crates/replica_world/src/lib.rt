@@ -11,6 +11,7 @@ mod foreseeing;
 mod happening;
 mod laws;
 mod posted;
+mod reading;
 mod told;
 mod world;
 

@@ -7,22 +7,18 @@ use Rattle.replica_model.proofs.States.{same_is}
 use Rattle.replica_core.specs.Meaning.{ReplicaValue, open_of, kept_of}
 use Rattle.replica_core.specs.Saving.{restored}
 use Rattle.replica_core.proofs.Meant.{fresh_is, meaning_by}
-use Rattle.replica_core.proofs.Pairs.{bottom_live, live_joined}
 use Rattle.replica_core.proofs.Whole.{join_nothing}
 use Rattle.replica_core.proofs.replica.Replica.resume.Goals as goal
 
 pub invariant_of-result : goal.invariant_of-result
 invariant_of-result g c =
-    fresh_is g.H.PathHash.hash_of (record { name = c.args.saved.name; live = c.join_delta.new.self; group = c.push.new.self; opened = c.args.saved.opened; sessions = c.new.result.items; kept = c.new-2.result }) c.new.ensures.items c.new-2.ensures
+    fresh_is g.H.PathHash.hash_of (record { name = c.args.saved.name; live = c.in-Ok.held; group = c.push.new.self; opened = c.args.saved.opened; sessions = c.new.result.items; kept = c.new-2.result }) c.new.ensures.items c.new-2.ensures
 
 pub returns-clause-ok : goal.returns-clause-ok
 returns-clause-ok g c =
-    let r : ReplicaValue _ = record { name = c.args.saved.name; live = c.join_delta.new.self; group = c.push.new.self; opened = c.args.saved.opened; sessions = c.new.result.items; kept = c.new-2.result } in
-    meaning_by r (restored c.args.saved) refl
-    (live_joined c.join_delta.new.self.0 c.new-held.result.0 c.args.saved.live c.in_default.ensures.ok
-    ∙ ap (λ p. join greater p (or_map_state c.args.saved.live)) (bottom_live c.new-held.result.0 c.new-held.ensures.store c.new-held.ensures.context)
-    ∙ join_nothing (or_map_state c.args.saved.live))
-    (same_is (group_state c.push.new.self) (join greater (group_state c.new-outgoing.result) (or_map_state c.args.saved.group)) c.in_default-push.ensures.ok
+    let r : ReplicaValue _ = record { name = c.args.saved.name; live = c.in-Ok.held; group = c.push.new.self; opened = c.args.saved.opened; sessions = c.new.result.items; kept = c.new-2.result } in
+    meaning_by r (restored c.args.saved) refl c.in-Ok.ensures.ok
+    (same_is (group_state c.push.new.self) (join greater (group_state c.new-outgoing.result) (or_map_state c.args.saved.group)) c.in_default.ensures.ok
     ∙ ap (λ gs. join greater (group_state gs) (or_map_state c.args.saved.group)) c.new-outgoing.ensures
     ∙ join_nothing (or_map_state c.args.saved.group))
     refl (ap (map open_of) c.new.ensures.items) (ap (map kept_of) c.new-2.ensures)

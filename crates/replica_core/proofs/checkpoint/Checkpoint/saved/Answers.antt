@@ -3,13 +3,13 @@ use Rattle.causal_join.specs.OrMap.{or_map_state}
 use Rattle.delta_ops.specs.Group.{group_state}
 use Rattle.delta_ops.specs.LiveMap.{live_state}
 use Rattle.replica_model.proofs.States.{same_is}
-use Rattle.replica_core.proofs.replica.Replica.save.Goals as goal
+use Rattle.replica_core.proofs.checkpoint.Checkpoint.saved.Goals as goal
 
 pub returns-clause-ok : goal.returns-clause-ok
 returns-clause-ok g c =
     rw (← c.self.view_is) (λ i. record {
       name = c.self.inside.name;
-      live = same_is (or_map_state c.in-Ok.live) (live_state c.self.inside.live.0) c.in-Ok.ensures.ok i;
+      live = same_is (or_map_state c.in-Ok.live) (live_state (c.self.inside.store, c.self.inside.context)) c.in-Ok.ensures.ok i;
       group = same_is (or_map_state c.in_ok-group.group) (group_state c.self.inside.group) c.in_ok-group.ensures.ok i;
       opened = c.self.inside.opened;
       sessions = [];

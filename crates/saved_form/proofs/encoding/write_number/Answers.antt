@@ -1,0 +1,6 @@
+use Rattle.std.proofs.Common.{◌++◌, ap, ◌∙◌}
+use Rattle.saved_form.proofs.encoding.write_number.Goals as goal
+
+pub returns-clause-ok : goal.returns-clause-ok
+unfolding number
+returns-clause-ok g c = c.in_ok-extend_from_slice.ensures.items ∙ ap (λ bytes. c.args.out.now.items ++ bytes) c.to_be_bytes.ensures
