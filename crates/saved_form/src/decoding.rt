@@ -4,7 +4,7 @@ ghost use Rattle.wire_form.specs.Message.{SpellsDelta};
 ghost use Rattle.wire_form.specs.Reading.{ReadsAll};
 ghost use Rattle.saved_form.specs.Saved.{SavedValue, saved_value, SpellsSaved, SpellsNothingSaved};
 
-use crate::parts::head_at;
+use crate::parts::{name_at, number_at, sized_at};
 use crate::saved::Saved;
 use causal_join::OrMap;
 use dots::Refusal;
@@ -41,8 +41,17 @@ fn read_whole<A: Allocator + Copy>(alloc: A, bytes: &[u8]) -> Result<Saved<A>, R
 fn read_body<A: Allocator + Copy>(alloc: A, bytes: &[u8]) -> Result<Saved<A>, Refusal>
     ensures { ReadsAll saved_value (SpellsSaved (3 ∷ 2 ∷ bytes.now)) result }
 {
-    let Some((name, opened, live, group)) = head_at(bytes) else {
-        return Err(Refusal::NotAMessage);
+    let (name, rest) = match name_at(bytes) {
+        Ok(front) => front,
+        Err(refusal) => return Err(refusal),
+    };
+    let (opened, rest) = match number_at(rest) {
+        Ok(front) => front,
+        Err(refusal) => return Err(refusal),
+    };
+    let (live, group) = match sized_at(rest) {
+        Ok(front) => front,
+        Err(refusal) => return Err(refusal),
     };
     let live = read_delta(alloc, live)?;
     match read_delta(alloc, group) {

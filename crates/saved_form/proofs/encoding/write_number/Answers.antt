@@ -1,4 +1,5 @@
 use Rattle.std.proofs.Common.{◌++◌, ap, ◌∙◌}
+use Rattle.wire_form.specs.Spelling.{number}
 use Rattle.saved_form.proofs.encoding.write_number.Goals as goal
 
 pub returns-clause-ok : goal.returns-clause-ok
