@@ -1,9 +1,7 @@
 use Rattle.std.proofs.Common.{◌≡◌, sym, subst}
-use Rattle.causal_join.specs.OrMap.{fields_at, or_map_at, or_map_state}
+use Rattle.causal_join.specs.OrMap.{or_map_state}
 use Rattle.delta_ops.specs.LiveMap.{live_state}
-use Rattle.dot_store.specs.Store.{HoldsSame}
 use Rattle.op_model.specs.State.{Same}
-use Rattle.trie_map.specs.Keyed.{at_keys}
 use Rattle.replica_core.proofs.Whole.{whole_same, whole_inside, is_there}
 use Rattle.replica_core.proofs.checkpoint.Checkpoint.pair.Goals as goal
 

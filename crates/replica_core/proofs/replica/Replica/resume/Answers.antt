@@ -12,13 +12,13 @@ use Rattle.replica_core.proofs.replica.Replica.resume.Goals as goal
 
 pub invariant_of-result : goal.invariant_of-result
 invariant_of-result g c =
-    fresh_is g.H.PathHash.hash_of (record { name = c.args.saved.name; live = c.in-Ok.held; group = c.push.new.self; opened = c.args.saved.opened; sessions = c.new.result.items; kept = c.new-2.result }) c.new.ensures.items c.new-2.ensures
+    fresh_is g.H.PathHash.hash_of (record { name = c.args.saved.name; live = c.in-Ok.held; group = c.push.new.self; opened = c.args.saved.opened; sessions = c.new.result.items; kept = c.new-in-Ok.result }) c.new.ensures.items c.new-in-Ok.ensures
 
-pub returns-clause-ok : goal.returns-clause-ok
-returns-clause-ok g c =
-    let r : ReplicaValue _ = record { name = c.args.saved.name; live = c.in-Ok.held; group = c.push.new.self; opened = c.args.saved.opened; sessions = c.new.result.items; kept = c.new-2.result } in
+pub returns-in-Ok-clause-ok : goal.returns-in-Ok-clause-ok
+returns-in-Ok-clause-ok g c =
+    let r : ReplicaValue _ = record { name = c.args.saved.name; live = c.in-Ok.held; group = c.push.new.self; opened = c.args.saved.opened; sessions = c.new.result.items; kept = c.new-in-Ok.result } in
     meaning_by r (restored c.args.saved) refl c.in-Ok.ensures.ok
     (same_is (group_state c.push.new.self) (join greater (group_state c.new-outgoing.result) (or_map_state c.args.saved.group)) c.in_default.ensures.ok
     ∙ ap (λ gs. join greater (group_state gs) (or_map_state c.args.saved.group)) c.new-outgoing.ensures
     ∙ join_nothing (or_map_state c.args.saved.group))
-    refl (ap (map open_of) c.new.ensures.items) (ap (map kept_of) c.new-2.ensures)
+    refl (ap (map open_of) c.new.ensures.items) (ap (map kept_of) c.new-in-Ok.ensures)
