@@ -3,7 +3,7 @@
 
     python3 bench/run.py [--built] [PART ..]
 
-The parts are calls, fields, worst, sync, seals, small, large, messages and tries; with none named, all are measured and the file is
+The parts are calls, fields, worst, sync, seals, saves, small, large, messages and tries; with none named, all are measured and the file is
 written, and else they are printed. With --built the library is taken as it stands in crates/bench_calls/out. It needs Debian's librust-crdts-dev, librust-im-rc-dev and librust-bincode-dev, and no network.
 """
 import os

@@ -326,6 +326,35 @@ fn synchronisations(count: usize) -> Table {
     table
 }
 
+/// What it takes to keep a replica over a restart, beside the whole map as a delta.
+fn saves(count: usize) -> Table {
+    let keys = keys::random(count);
+    let mut table = Table::new(
+        &format!("Saves of a replica of {count} keys: milliseconds, a checkpoint among them"),
+        ["the whole map as a delta", "", ""],
+    );
+    let run = |step: u32, times: u32| {
+        let each = beyond(
+            || ours::saves(&keys, step, times),
+            || ours::saves(&keys, step, 0),
+            times as usize,
+        );
+        each / 1e3
+    };
+    table.push(Row {
+        name: "take a checkpoint".into(),
+        ours: run(1, 10_000),
+        peers: [None, None, None],
+        aim: None,
+        mallocs: None,
+    });
+    let encoded = run(4, 10);
+    table.push(Row::beside("encode a checkpoint", run(2, 10), encoded, Some(1.5)));
+    let taken = run(5, 4);
+    table.push(Row::beside("come back from it", run(3, 4), taken, Some(1.0)));
+    table
+}
+
 /// The digests that nodes keep, beside SHA-256 of the same bytes.
 fn seals(count: usize) -> Table {
     let keys = keys::random(count);
@@ -461,6 +490,7 @@ fn main() {
     run("worst", &worst);
     run("sync", &|| synchronisations(100_000));
     run("seals", &|| seals(100_000));
+    run("saves", &|| saves(100_000));
     run("small", &|| calls(1_000));
     run("large", &|| calls(1_000_000));
     run("messages", &|| messages(10_000));

@@ -18,6 +18,7 @@ extern "C" {
         length_count: usize,
     ) -> u64;
     fn measure_operations(keys: *const u64, count: usize, step: u32, times: u32) -> u64;
+    fn measure_saves(keys: *const u64, count: usize, step: u32, times: u32) -> u64;
     fn measure_sessions(
         keys: *const u64,
         count: usize,
@@ -78,6 +79,10 @@ pub fn sessions(keys: &[u64], some: &[u64], times: u32, step: u32) -> u64 {
             step,
         )
     })
+}
+
+pub fn saves(keys: &[u64], step: u32, times: u32) {
+    told(unsafe { measure_saves(keys.as_ptr(), keys.len(), step, times) });
 }
 
 pub fn texts(bytes: &[u8], length: u32) {

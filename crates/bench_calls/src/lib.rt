@@ -5,6 +5,7 @@
 mod digests;
 mod operations;
 mod replicas;
+mod saves;
 mod sessions;
 mod stores;
 mod texts;
