@@ -25,3 +25,5 @@ pub mod Contained
 pub mod Shows
 pub mod Whole
 pub mod Lacking
+pub mod Written
+pub mod Crossing

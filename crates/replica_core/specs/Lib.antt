@@ -10,3 +10,4 @@ pub mod Guarding
 pub mod Turning
 pub mod Tied
 pub mod Showing
+pub mod Carrying

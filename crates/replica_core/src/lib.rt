@@ -3,17 +3,21 @@
 #![tactic(auto)]
 
 mod asking;
+mod carrying;
 mod checkpoint;
 mod delivered;
 mod delivering;
 mod guarding;
 mod laws;
+mod letter;
+mod letters;
 mod operations;
 mod outcome;
 mod reading;
 mod replica;
 mod saving;
 mod sessions;
+mod taken;
 mod turning;
 
 pub use checkpoint::Checkpoint;
@@ -22,5 +26,7 @@ pub use laws::{
     a_replica_alone_shows_what_it_has_seen, sessions_are_found_as_told, sessions_change_in_place,
     sessions_turn_as_told, snapshots_answer_as_told, what_is_built_is_known,
 };
+pub use letter::Letter;
 pub use outcome::Outcome;
 pub use replica::Replica;
+pub use taken::Taken;

@@ -1,5 +1,5 @@
 // The own sessions of a replica: where one is, and copies of them.
-ghost use Rattle.std.specs.Prelude.{◌≡◌, ◌==◌, IfSome, IsNone, IfOk, IsOkUnless};
+ghost use Rattle.std.specs.Prelude.{◌≡◌, ◌==◌, map, IfSome, IsNone, IfOk, IsOkUnless};
 ghost use Rattle.wire_form.specs.Session.{same_session};
 ghost use Rattle.sync_protocol.specs.Asking.{AskerValue};
 ghost use Rattle.replica_core.specs.Tied.{IsFirstAt, NoneIs};
@@ -55,4 +55,19 @@ pub(crate) fn copy_sessions<H: PathHash, A: Allocator + Copy>(
         copies.push(session.copy(alloc)?)?;
     }
     Ok(copies)
+}
+
+// The sessions by their names, in order.
+pub(crate) fn named_sessions<H: PathHash, A: Allocator + Copy>(
+    alloc: A,
+    sessions: &[Asker<H, A>],
+) -> Result<Vec<Session, A>, Refusal>
+    ensures ok { IfOk result (λ found. found.items ≡ map (λ a. a.session) sessions.now) }
+    ensures err { IsOkUnless result Refusal.OutOfMemory }
+{
+    let mut found = Vec::with_capacity(alloc, sessions.len())?;
+    for session in sessions {
+        found.push(session.session())?;
+    }
+    Ok(found)
 }
