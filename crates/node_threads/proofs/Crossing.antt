@@ -1,5 +1,4 @@
--- Which parts of a node may go to another thread, at the heap. Rattle states it of each type but of those that lead to a type that holds itself, as
--- the nodes of a trie do: so here it stands of these, lowest first, each in one step from its parts.
+-- Which parts of a node may go to another thread, at the heap, as those of a replica do.
 use mathlib.Core.List.{List, [], ◌∷◌}
 use mir.Syntax.{Sym, Ty}
 use Prim.Native.Nat.{ℕ}
@@ -13,6 +12,7 @@ use denote.Struct.Field.{row_field}
 use denote.Struct.Tuple
 use Rattle.std.below.core.specs.contracts.clone.Clone+copy.TheImpl as copy
 use Rattle.std.proofs.Crossing.{crosses}
+use Rattle.replica_core.proofs.Crossing.{copied, Fields, fields_send, fields_sync, map_send, map_sync, Object, object_send}
 use Rattle.std.proofs.hash.BuildHasherDefault.TheSendSync as Hasher
 use Rattle.std.specs.contracts.alloc.Global as Heap
 use Rattle.std.specs.contracts.impls.GlobalAllocator.TheImpl.{ghosts}
@@ -75,68 +75,6 @@ Field = Text.the_row FieldKind.the_row Heap.the_row ghosts
 abbrev Value : RattleType
 Value = Text.the_row ValueKind.the_row Heap.the_row ghosts
 
-abbrev copied : copying.Ghosts Global
-copied = copy.ghosts Heap.the_row
-
-abbrev Fields : RattleType
-Fields = KeyFields.the_row Heap.the_row ghosts copied
-
-fields_send : IsSend Fields
-fields_send = search (AllFields.the_send, crosses, sendable) depth 20
-
-fields_sync : IsSync Fields
-fields_sync = search (AllFields.the_sync, crosses, sendable) depth 20
-
--- ---- tries, and what holds them
-module _ (H : RattleType) (p : hashing.Ghosts H.Denot) (d : standard.Ghosts H.Denot) where
-  module _ (V M : RattleType) (m : summing.Ghosts M.Denot V.Denot) where
-    frozen_send : IsSend V → IsSync V → IsSend M → IsSync M → IsSend H → IsSend (Frozen.the_row V M H Heap.the_row m p d ghosts)
-    frozen_send v w n o h = search (Nodes.crosses, crosses, sendable) depth 60 fits 20000
-
-    frozen_sync : IsSend V → IsSync V → IsSend M → IsSync M → IsSync H → IsSync (Frozen.the_row V M H Heap.the_row m p d ghosts)
-    frozen_sync v w n o h = search (Nodes.crosses, crosses, sendable) depth 60 fits 20000
-
-    module _ (P L : RattleType) (s : storing.Ghosts V.Denot Global P.Denot L.Denot) where
-      map_send : IsSend V → IsSync V → IsSend M → IsSync M → IsSend H → IsSend (TrieMap.the_row V M H Heap.the_row P L s m p d ghosts)
-      map_send v w n o h = search (frozen_send, sendable) depth 20
-
-      map_sync : IsSend V → IsSync V → IsSend M → IsSync M → IsSync H → IsSync (TrieMap.the_row V M H Heap.the_row P L s m p d ghosts)
-      map_sync v w n o h = search (frozen_sync, sendable) depth 20
-
-      live_send : IsSend V → IsSync V → IsSend M → IsSync M → IsSend H → IsSend (Live.the_row V M H Heap.the_row P L s m p d ghosts)
-      live_send v w n o h = search (map_send, Context.the_send, Index.the_send, crosses, sendable) depth 20
-
-  module _ (c : copying.Ghosts Global) where
-    built_send : IsSend H → IsSend (Built.the_row H Heap.the_row p d ghosts c)
-    built_send h = search (frozen_send, fields_send, fields_sync, Digests.the_send, Digests.the_sync, NoSummary.the_send, NoSummary.the_sync, sendable) depth 20
-
-    fetching_send : IsSend H → IsSend (Fetching.the_row H Heap.the_row p d ghosts c)
-    fetching_send h = search (built_send, frozen_send, NoSummary.the_send, NoSummary.the_sync, sendable) depth 20
-
-    asker_send : IsSend H → IsSend (Asker.the_row H Heap.the_row p d ghosts c)
-    asker_send h = search (fetching_send, built_send, frozen_send, fields_send, fields_sync, Digests.the_send, Digests.the_sync, Session.the_send, Context.the_send, crosses, sendable) depth 20
-
-    snapshot_send : IsSend H → IsSend (Snapshot.the_row H Heap.the_row p d ghosts c)
-    snapshot_send h = search (map_send, fields_send, fields_sync, Digests.the_send, Digests.the_sync, Context.the_send, crosses, sendable) depth 20
-
-    answerer_send : IsSend H → IsSend (Answerer.the_row H Heap.the_row p d ghosts c)
-    answerer_send h = search (snapshot_send, IndexMap.the_send, Session.the_send, Hasher.the_send, crosses, sendable) depth 20
-
-    replica_send : IsSend H → IsSend (Replica.the_row H Heap.the_row p d ghosts c)
-    replica_send h = search (
-      live_send,
-      asker_send,
-      answerer_send,
-      fields_send,
-      fields_sync,
-      Digests.the_send,
-      Digests.the_sync,
-      Outgoing.the_send,
-      Name.the_send,
-      crosses,
-      sendable,
-    ) depth 20
-
 -- ---- what the clients of a shared object share, and a client
 module _ (R E J : RattleType) (e : placing.Ghosts E.Denot) (b : branding.Ghosts J.Denot R.Denot E.Denot) where
   any_client_send : (S : RattleType) → IsSend R → IsSync R → IsSend E → IsSync E → IsSend S → IsSync S → IsSend (Client.the_row R E J S Heap.the_row e b ghosts)
@@ -162,9 +100,6 @@ digesting = FieldSummary.ghosts Heap.the_row ghosts FieldSummary.no_dict copied 
 abbrev Root : RattleType
 Root = TrieMap.the_row Fields ShaSummary.the_row Fnv1a.the_row Heap.the_row Place Value fields_store digesting Fnv1aHash.ghosts Fnv1aDefault.ghosts ghosts
 
-abbrev Object : RattleType
-Object = Replica.the_row Fnv1a.the_row Heap.the_row Fnv1aHash.ghosts Fnv1aDefault.ghosts ghosts copied
-
 abbrev Event : RattleType
 Event = NodeEvent.the_row Heap.the_row ghosts copied
 
@@ -173,9 +108,6 @@ root_send = map_send Fnv1a.the_row Fnv1aHash.ghosts Fnv1aDefault.ghosts Fields S
 
 root_sync : IsSync Root
 root_sync = map_sync Fnv1a.the_row Fnv1aHash.ghosts Fnv1aDefault.ghosts Fields ShaSummary.the_row digesting Place Value fields_store fields_send fields_sync Digests.the_send Digests.the_sync Hashes.the_sync
-
-object_send : IsSend Object
-object_send = replica_send Fnv1a.the_row Fnv1aHash.ghosts Fnv1aDefault.ghosts copied Hashes.the_send
 
 event_send : IsSend Event
 event_send = search (Events.the_send, crosses, sendable) depth 20
