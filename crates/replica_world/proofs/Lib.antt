@@ -4,3 +4,4 @@ pub mod Kept
 pub mod Happened
 pub mod Shown
 pub mod Refusing
+pub mod Read

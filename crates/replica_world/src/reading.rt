@@ -103,8 +103,8 @@ impl<H: PathHash, A: Allocator + Copy> World<H, A> {
     // The replica of this name.
     fn at(&self, name: Name) -> Result<&Replica<H, A>, Refusal>
         ensures ok { IfOk result (λ replica. (w : model.World) → Runs (H.hash_of self.now.hash) nothing self.now.past w
-            → (model.is_node w name ≡ true) × (Unclashed (H.hash_of self.now.hash) w → ShowsOperations (H.hash_of self.now.hash) (meaning replica.now).live (w.seen name))) }
-        ensures hash { IfOk result (λ replica. hash_in replica.now ≡ self.now.hash) }
+            → (model.is_node w name ≡ true) × (hash_in replica.now ≡ self.now.hash)
+            × (Unclashed (H.hash_of self.now.hash) w → ShowsOperations (H.hash_of self.now.hash) (meaning replica.now).live (w.seen name))) }
         ensures refused { IfErr result (λ refusal. (refusal ≡ Refusal.UnknownReplica) × IsThere (H.hash_of self.now.hash) self.now.past name false) }
     {
         match self.replica(name) {
