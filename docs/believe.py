@@ -19,7 +19,10 @@ PAGE = os.path.join(ROOT, "docs", "BELIEVE.md")
 
 # For each table the calls whose clauses it begins with: a file, a function, and the clauses (all, where none is named).
 CONTRACTS = {
-    "headline": [("replica_world/src/world.rt", "replica", ["some", "none", "shown"])],
+    "headline": [
+        ("replica_world/src/reading.rt", name, [])
+        for name in ("get_at", "get_field_at", "values_of_key_at", "fields_at", "keys_at", "size_at", "context_at", "digest_at")
+    ],
     "events": [("replica_world/src/world.rt", "event", [])],
     "traces": [("trace_cli/src/running.rt", "run", [])],
     "threads": [("shared_object/src/client.rt", "look", []), ("shared_object/src/client.rt", "call", [])],

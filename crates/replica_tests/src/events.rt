@@ -1,2 +1,3 @@
-// Tests of worlds: what events come to.
+// Tests of worlds: what events come to, and what is read of them.
+mod reads;
 mod storm;

@@ -3,7 +3,7 @@
 use crate::made::{key_of, name, value_of};
 use dots::{Field, Key, Name, Refusal, Value};
 use hash_path::Fnv1a;
-use replica_core::{Outcome, Replica};
+use replica_core::Outcome;
 use replica_world::{Answer, Call, Event, Told, World};
 use std::alloc::Global;
 use std::panic::Expect;
@@ -179,14 +179,15 @@ impl Storm {
         self.add(self.messages);
     }
 
-    // What the replica shows: its keys, its root digest, and the values of one key.
-    fn look(&mut self, rt: &impl Abort, alloc: Global, replica: &Replica) {
-        self.add(replica.size());
-        for byte in replica.digest().unwrap_or([0; 32]) {
+    // What the replica of this name shows: its keys, its root digest, and the values of one key.
+    fn look(&mut self, rt: &impl Abort, alloc: Global, world: &World, name: Name) {
+        self.add(world.size_at(name).expect(rt, "a replica"));
+        let digest = world.digest_at(name).expect(rt, "a replica");
+        for byte in digest.unwrap_or([0; 32]) {
             self.add(u64::from(byte));
         }
         let key = self.key(rt, alloc);
-        self.values(&replica.values_of_key(&key).expect(rt, "memory"));
+        self.values(&world.values_of_key_at(name, &key).expect(rt, "memory"));
     }
 
     fn values(&mut self, values: &[Value]) {
@@ -205,8 +206,7 @@ fn addressee_of(rt: &impl Abort, world: &World, number: u64) -> Option<Name> {
 // The replicas, which are there.
 fn look_at_all(rt: &impl Abort, alloc: Global, world: &World, storm: &mut Storm) {
     for number in 1..5 {
-        let replica = world.replica(name(rt, number));
-        storm.look(rt, alloc, replica.expect(rt, "a replica"));
+        storm.look(rt, alloc, world, name(rt, number));
     }
 }
 
