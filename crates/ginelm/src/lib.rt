@@ -1,0 +1,35 @@
+// Ginelm: a map that many replicas hold, each of which writes when it likes. What they exchange may be lost, come twice and come in any
+// order: replicas that have seen the same operations hold the same, and each key then holds the values of the writes that no operation has
+// observed, which are several where replicas wrote without knowing of each other. It is the observed-remove map of multi-value registers
+// of Almeida, Shoker and Baquero, "Delta State Replicated Data Types" (2018).
+//
+// This crate is what a program imports. Each call's contract stands at the call, in the crate that has it.
+//
+// ```
+// let name = Name::new(1).context("a name is a number from 1 on")?;   // no other replica has it
+// let mut basket = Replica::new(rt.alloc(), name, Fnv1a);
+//
+// let milk = Key::new(rt.alloc(), b"milk")?;
+// basket.put(&milk, &Value::new(rt.alloc(), b"2")?)?;
+// let values = basket.get(&milk)?;                                     // all that stand there
+//
+// if let Some(letter) = basket.flush_bytes()? {                        // what was written since the last flush
+//     send(letter.to, &letter.bytes);                                  // to everyone, in whatever way
+// }
+//
+// let taken = basket.take_bytes(received)?;                            // of any replica, of any kind
+// for letter in &taken.letters {
+//     send(letter.to, &letter.bytes);                                  // to that replica
+// }
+//
+// let (number, letter) = basket.ask_bytes(peer)?;                      // all that a peer has seen, where messages were lost
+// ```
+//
+// What allocates takes the allocator first and answers a `Result`. A refused call changes nothing.
+#![tactic(auto)]
+
+pub use dots::{Dot, Field, Key, Name, Refusal, Value};
+pub use hash_path::{Fnv1a, PathHash};
+pub use replica_core::{Delivered, Letter, Outcome, Replica, Taken};
+pub use sync_protocol::FieldStore;
+pub use wire_form::{Message, Session, decode, encode};
