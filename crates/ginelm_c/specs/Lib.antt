@@ -1,0 +1,6 @@
+pub mod Owning
+pub mod Texts
+pub mod Handling
+pub mod Writing
+pub mod Sending
+pub mod Reading

@@ -1,0 +1,18 @@
+// The map for programs in other languages: a handle on a replica, and a function for each call of it. Each answers 0 where it was done, and
+// else why it was not: the number of a `Refusal`, or one of the numbers of `answer`. A refused call changes nothing.
+// One call at a time is made with a handle, which may go to another thread between two of them.
+#![tactic(auto)]
+
+mod answer;
+mod handle;
+mod held;
+mod loose;
+mod making;
+mod named;
+mod reading;
+mod reading_fields;
+mod sending;
+mod synchronising;
+mod telling;
+mod texts;
+mod writing;
