@@ -1,0 +1,183 @@
+/*
+ * Ginelm: a map that many replicas hold, each of which writes when it likes.
+ *
+ * What replicas exchange may be lost, come twice and come in any order. Replicas that have seen the
+ * same operations hold the same: each key then holds the values of the writes that no operation has
+ * observed, which are several where replicas wrote without knowing of each other.
+ *
+ *     ginelm basket = {0};
+ *     uint64_t number;
+ *     ginelm_new(&basket, 1);
+ *     ginelm_put(&basket, (const uint8_t *)"milk", 4, (const uint8_t *)"2", 1, &number);
+ *     ginelm_flush(&basket);              what was written becomes the text at place 0
+ *     ...                                 copy it out by ginelm_text, and send it to everyone
+ *     ginelm_free(&basket);
+ *
+ * Handles. A `ginelm` is set to zero before its first call, and is never copied while it holds a
+ * replica. One call at a time is made with a handle; between two calls it may go to another thread.
+ * A pointer to a handle or to a number that is told is never null.
+ *
+ * Texts. A key, a field and a value are 0 to 65,535 bytes of any kind, as a pointer and a length. The
+ * pointer may be null where the length is 0. Nothing that is passed is kept.
+ *
+ * Answers. Each call answers GINELM_DONE, or why it was not done; a refused call changes nothing, and
+ * sets none of the numbers that it tells, but for `needed`. OUT_OF_MEMORY can come of each call that
+ * allocates, which are all but those whose comment says that they do not.
+ *
+ * What a call gives more than a number of stands behind the handle as texts, until the next call that
+ * gives texts: ginelm_get, ginelm_get_field, ginelm_values_of_key, ginelm_keys, ginelm_fields,
+ * ginelm_flush, ginelm_take, ginelm_ask and ginelm_retry. They are read by ginelm_count and ginelm_text.
+ */
+#ifndef GINELM_H
+#define GINELM_H
+
+#include <stdbool.h>
+#include <stddef.h>
+#include <stdint.h>
+
+#ifdef __cplusplus
+extern "C" {
+#endif
+
+typedef struct {
+    void *at; /* null where it holds nothing */
+} ginelm;
+
+/* A synchronisation: its number, from 1, at the replica that asks. Three times 0 for none. */
+typedef struct {
+    uint64_t asker;    /* the name of the replica that asks */
+    uint64_t answerer; /* the name of the replica that answers */
+    uint64_t number;
+} ginelm_named;
+
+/* Why a call was not done. */
+enum {
+    GINELM_DONE = 0,
+    GINELM_OUT_OF_MEMORY = 1, /* no memory was found */
+    GINELM_TOO_LONG = 2,      /* a key, a field or a value has more than 65,535 bytes */
+    GINELM_NUMBERS_SPENT = 4, /* the replica made 2^64 - 1 writes or synchronisations */
+    GINELM_SESSIONS_FULL = 5, /* eight own synchronisations are open */
+    GINELM_NOT_A_MESSAGE = 6, /* the bytes spell no message */
+    GINELM_EMPTY = 14,        /* the handle holds no replica */
+    GINELM_FULL = 15,         /* the handle holds a replica already */
+    GINELM_NO_NAME = 16,      /* a name is 0 */
+    GINELM_SHORT = 17,        /* the room is too short for the text */
+    GINELM_NO_TEXT = 18       /* nothing stands at that place */
+};
+
+/* What came of a message. */
+enum {
+    GINELM_JOINED = 1,   /* it was a delta, and is joined in */
+    GINELM_SENT = 2,     /* it was taken; the texts are to be sent */
+    GINELM_ENDED = 3,    /* a synchronisation ended: all that its peer had seen is joined in */
+    GINELM_IGNORED = 4,  /* nothing was waiting for it */
+    GINELM_MISMATCH = 5, /* it does not fit what was promised */
+    GINELM_GONE = 6      /* a synchronisation ended with nothing, as its peer keeps it no longer: ask anew */
+};
+
+/* ---- a replica is made and let go ---- */
+
+/* Makes the replica of this name, from 1 on, which no other replica has or ever had. FULL, NO_NAME. */
+uint32_t ginelm_new(ginelm *here, uint64_t name);
+
+/* Lets the replica go, if there is one: the handle is empty then. */
+void ginelm_free(ginelm *here);
+
+/* Tells the replica's name. Allocates nothing. */
+uint32_t ginelm_name(ginelm *here, uint64_t *name);
+
+/* ---- it writes. Each is TOO_LONG where a text is ---- */
+
+/* Writes the value on the key, at its empty field, in the place of all values there that it has seen. Tells the
+ * number of the write. NUMBERS_SPENT. */
+uint32_t ginelm_put(ginelm *here, const uint8_t *key, size_t key_length, const uint8_t *value, size_t value_length,
+                    uint64_t *number);
+
+/* Writes the value on a field of the key, whose other fields stay. NUMBERS_SPENT. */
+uint32_t ginelm_put_field(ginelm *here, const uint8_t *key, size_t key_length, const uint8_t *field,
+                          size_t field_length, const uint8_t *value, size_t value_length, uint64_t *number);
+
+/* Takes away what it has seen at the key, with all its fields. Tells how many writes that were. */
+uint32_t ginelm_remove(ginelm *here, const uint8_t *key, size_t key_length, uint64_t *observed);
+
+/* Takes away what it has seen at the field of the key. */
+uint32_t ginelm_remove_field(ginelm *here, const uint8_t *key, size_t key_length, const uint8_t *field,
+                             size_t field_length, uint64_t *observed);
+
+/* Takes away all that it has seen. Goes through the whole map. */
+uint32_t ginelm_clear(ginelm *here, uint64_t *observed);
+
+/* ---- replicas exchange messages. However these travel, they may be lost, come twice and in any order ---- */
+
+/* What it wrote since the last flush becomes the one text, for everyone; no text where it wrote nothing. */
+uint32_t ginelm_flush(ginelm *here);
+
+/* Takes in any message of any replica. Tells what came of it (GINELM_JOINED to GINELM_GONE), and the synchronisation
+ * that it named. The texts are what is to be sent for it, each to the replica that ginelm_text tells. NOT_A_MESSAGE. */
+uint32_t ginelm_take(ginelm *here, const uint8_t *bytes, size_t length, uint32_t *outcome, ginelm_named *session);
+
+/* Opens a synchronisation, which brings all that the peer has seen. Tells its number; the one text is to be sent to
+ * the peer. NO_NAME, SESSIONS_FULL, NUMBERS_SPENT. */
+uint32_t ginelm_ask(ginelm *here, uint64_t peer, uint64_t *number);
+
+/* What is to be sent again for this own synchronisation, where messages may have been lost, becomes the texts. The outcome
+ * is GINELM_SENT, or GINELM_IGNORED where it is not open. */
+uint32_t ginelm_retry(ginelm *here, uint64_t number, uint32_t *outcome);
+
+/* Gives this own synchronisation up, and tells whether it was open. Allocates nothing. */
+uint32_t ginelm_abandon(ginelm *here, uint64_t number, bool *was_open);
+
+/* Tells how many own synchronisations are open, at most eight. */
+uint32_t ginelm_open(ginelm *here, size_t *open);
+
+/* Tells the own synchronisation at this place, from 0, among those that are open, by number. NO_TEXT. */
+uint32_t ginelm_session(ginelm *here, size_t at, ginelm_named *session);
+
+/* ---- what it shows. Each is TOO_LONG where a text is ---- */
+
+/* The values of the key at its empty field become the texts, ascending by bytes, each once. */
+uint32_t ginelm_get(ginelm *here, const uint8_t *key, size_t key_length);
+
+/* The values of the field of the key become the texts. */
+uint32_t ginelm_get_field(ginelm *here, const uint8_t *key, size_t key_length, const uint8_t *field,
+                          size_t field_length);
+
+/* The values of the key over all its fields become the texts. */
+uint32_t ginelm_values_of_key(ginelm *here, const uint8_t *key, size_t key_length);
+
+/* The fields of the key that hold a value become the texts. */
+uint32_t ginelm_fields(ginelm *here, const uint8_t *key, size_t key_length);
+
+/* The keys that hold a value at some field become the texts. Goes through the whole map. */
+uint32_t ginelm_keys(ginelm *here);
+
+/* Tells whether the key holds a value at some field. */
+uint32_t ginelm_contains(ginelm *here, const uint8_t *key, size_t key_length, bool *is_there);
+
+/* Tells how many keys hold a value at some field. Allocates nothing. */
+uint32_t ginelm_size(ginelm *here, uint64_t *size);
+
+/* Copies the root digest: 32 bytes, or none where there is no key. Replicas that hold the same have the same. SHORT.
+ * Allocates nothing. */
+uint32_t ginelm_digest(ginelm *here, uint8_t *out, size_t room, size_t *needed);
+
+/* Tells whether it has seen the write of this number of the replica of this name. Allocates nothing. */
+uint32_t ginelm_knows(ginelm *here, uint64_t name, uint64_t number, bool *is_known);
+
+/* ---- the texts. These allocate nothing ---- */
+
+/* Tells how many texts there are. */
+uint32_t ginelm_count(ginelm *here, size_t *count);
+
+/* Copies the text at this place, from 0, and tells how many bytes it has, and the name of the replica that it is for, or 0
+ * for everyone. SHORT where there is too little room: nothing is copied then, and `needed` tells how many bytes it has. NO_TEXT. */
+uint32_t ginelm_text(ginelm *here, size_t at, uint64_t *to, uint8_t *out, size_t room, size_t *needed);
+
+/* Copies the word of an answer, as `NotAMessage`: no bytes where no call gives this answer. SHORT. */
+uint32_t ginelm_word(uint32_t answer, uint8_t *out, size_t room, size_t *needed);
+
+#ifdef __cplusplus
+}
+#endif
+
+#endif

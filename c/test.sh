@@ -1,0 +1,21 @@
+#!/usr/bin/env bash
+# The library's calls from C: over the static library with AddressSanitizer, and over the shared one under valgrind.
+# Give a number to begin its random messages with; else the time gives one, and it is printed.
+set -euo pipefail
+cd "$(dirname "$0")/.."
+seed=${1:-$(date +%s%N)}
+c/build.sh build
+work=$(mktemp -d)
+trap 'rm -rf "$work"' EXIT
+cc=${CC:-cc}
+
+"$cc" -std=c11 -Wall -Wextra -Werror -g -O1 -fsanitize=address,undefined -Ibuild c/test.c build/libginelm.a -lpthread -o "$work/checked"
+"$work/checked" 20000 "$seed"
+
+"$cc" -std=c11 -Wall -Wextra -Werror -g -O1 -Ibuild c/test.c -Lbuild -lginelm -Wl,-rpath,"$PWD/build" -lpthread -o "$work/shared"
+valgrind --quiet --error-exitcode=9 --leak-check=full --show-leak-kinds=all "$work/shared" 20000 "$seed"
+
+# The names that are seen from outside are those of the header.
+diff <(nm -D --defined-only build/libginelm.so | awk '$2 == "T" { print $3 }' | sed 's/@.*//' | sort) \
+    <(grep -o '^\(uint32_t\|void\) ginelm_[a-z_]*(' c/ginelm.h | sed 's/.* \(.*\)(/\1/' | sort)
+echo "the names of libginelm.so are those of ginelm.h"
