@@ -1,0 +1,302 @@
+use crate::calls::{self, Handle, Named};
+use crate::error::Error;
+use crate::letter::{Letter, Outcome, Session, Taken};
+use crate::texts::Texts;
+use std::cell::UnsafeCell;
+use std::fmt;
+use std::num::NonZeroU64;
+use std::ptr::null_mut;
+
+/// One replica of the map, which may go to another thread, but is used by one at a time.
+pub struct Replica {
+    // Each call takes the replica out of the handle and puts it back, so reads write it too. As a replica is not `Sync`, one call at a time
+    // is made with it.
+    handle: UnsafeCell<Handle>,
+}
+
+// SAFETY: the library proves that a handle may go to another thread.
+unsafe impl Send for Replica {}
+
+impl Drop for Replica {
+    fn drop(&mut self) {
+        // SAFETY: the handle is one that `ginelm_new` made, and no call is being made with it.
+        unsafe { calls::ginelm_free(self.handle.get()) }
+    }
+}
+
+impl fmt::Debug for Replica {
+    fn fmt(&self, f: &mut fmt::Formatter<'_>) -> fmt::Result {
+        f.debug_struct("Replica")
+            .field("name", &self.name())
+            .finish_non_exhaustive()
+    }
+}
+
+impl Replica {
+    /// The replica of this name to which nothing happened yet. No other replica has this name, or ever had it.
+    pub fn new(name: NonZeroU64) -> Result<Replica, Error> {
+        let mut handle = Handle { at: null_mut() };
+        // SAFETY: the handle is zero.
+        Error::check(unsafe { calls::ginelm_new(&mut handle, name.get()) })?;
+        Ok(Replica {
+            handle: UnsafeCell::new(handle),
+        })
+    }
+
+    // A call with the handle.
+    fn call(&self, call: impl FnOnce(*mut Handle) -> u32) -> Result<(), Error> {
+        Error::check(call(self.handle.get()))
+    }
+
+    fn texts(&self) -> Result<Vec<Letter>, Error> {
+        let mut count = 0;
+        // SAFETY: what is told has room, here and below; a slice is a pointer and its length.
+        self.call(|here| unsafe { calls::ginelm_count(here, &mut count) })?;
+        (0..count).map(|at| self.text(at)).collect()
+    }
+
+    fn text(&self, at: usize) -> Result<Letter, Error> {
+        let (mut to, mut length, mut bytes) = (0, 0, vec![0; 64]);
+        let room = bytes.len();
+        let first = unsafe {
+            calls::ginelm_text(
+                self.handle.get(),
+                at,
+                &mut to,
+                bytes.as_mut_ptr(),
+                room,
+                &mut length,
+            )
+        };
+        bytes.resize(length, 0);
+        if length > room {
+            self.call(|here| unsafe {
+                calls::ginelm_text(here, at, &mut to, bytes.as_mut_ptr(), length, &mut length)
+            })?;
+        } else {
+            Error::check(first)?;
+        }
+        Ok(Letter {
+            to: NonZeroU64::new(to),
+            bytes,
+        })
+    }
+
+    fn read(&self, call: impl FnOnce(*mut Handle) -> u32) -> Result<Texts, Error> {
+        self.call(call)?;
+        let found: Vec<Vec<u8>> = self.texts()?.into_iter().map(|text| text.bytes).collect();
+        Ok(Texts(found.into_iter()))
+    }
+
+    /// Its name.
+    pub fn name(&self) -> NonZeroU64 {
+        let mut name = 0;
+        let told = self.call(|here| unsafe { calls::ginelm_name(here, &mut name) });
+        debug_assert_eq!(told, Ok(()));
+        NonZeroU64::new(name).expect("a name is from 1 on")
+    }
+
+    /// Writes the value on the key, at its empty field, in the place of all values there that it has seen. The number of the write.
+    pub fn put(&mut self, key: &[u8], value: &[u8]) -> Result<u64, Error> {
+        let mut number = 0;
+        self.call(|here| unsafe {
+            calls::ginelm_put(
+                here,
+                key.as_ptr(),
+                key.len(),
+                value.as_ptr(),
+                value.len(),
+                &mut number,
+            )
+        })?;
+        Ok(number)
+    }
+
+    /// Writes the value on the field of the key, whose other fields stay. The number of the write.
+    pub fn put_field(&mut self, key: &[u8], field: &[u8], value: &[u8]) -> Result<u64, Error> {
+        let mut number = 0;
+        self.call(|here| unsafe {
+            calls::ginelm_put_field(
+                here,
+                key.as_ptr(),
+                key.len(),
+                field.as_ptr(),
+                field.len(),
+                value.as_ptr(),
+                value.len(),
+                &mut number,
+            )
+        })?;
+        Ok(number)
+    }
+
+    /// Takes away what it has seen at the key, with all its fields. How many writes that were.
+    pub fn remove(&mut self, key: &[u8]) -> Result<u64, Error> {
+        let mut observed = 0;
+        self.call(|here| unsafe {
+            calls::ginelm_remove(here, key.as_ptr(), key.len(), &mut observed)
+        })?;
+        Ok(observed)
+    }
+
+    /// Takes away what it has seen at the field of the key. How many writes that were.
+    pub fn remove_field(&mut self, key: &[u8], field: &[u8]) -> Result<u64, Error> {
+        let mut observed = 0;
+        self.call(|here| unsafe {
+            calls::ginelm_remove_field(
+                here,
+                key.as_ptr(),
+                key.len(),
+                field.as_ptr(),
+                field.len(),
+                &mut observed,
+            )
+        })?;
+        Ok(observed)
+    }
+
+    /// Takes away all that it has seen. How many writes that were.
+    pub fn clear(&mut self) -> Result<u64, Error> {
+        let mut observed = 0;
+        self.call(|here| unsafe { calls::ginelm_clear(here, &mut observed) })?;
+        Ok(observed)
+    }
+
+    /// What it wrote since the last flush, as a letter to everyone, or None where it wrote nothing.
+    pub fn flush(&mut self) -> Result<Option<Letter>, Error> {
+        self.call(|here| unsafe { calls::ginelm_flush(here) })?;
+        Ok(self.texts()?.pop())
+    }
+
+    /// Takes in any message of any replica.
+    pub fn take(&mut self, bytes: &[u8]) -> Result<Taken, Error> {
+        let (mut outcome, mut named) = (0, Named::default());
+        self.call(|here| unsafe {
+            calls::ginelm_take(here, bytes.as_ptr(), bytes.len(), &mut outcome, &mut named)
+        })?;
+        let letters = self.texts()?;
+        Ok(Taken {
+            outcome: outcome_of(outcome)?,
+            session: session_of(&named),
+            letters,
+        })
+    }
+
+    /// Opens a synchronisation, which brings all that the peer has seen: its number, and the letter to the peer.
+    pub fn ask(&mut self, peer: NonZeroU64) -> Result<(u64, Letter), Error> {
+        let mut number = 0;
+        self.call(|here| unsafe { calls::ginelm_ask(here, peer.get(), &mut number) })?;
+        Ok((number, self.text(0)?))
+    }
+
+    /// What is to be sent again for this own synchronisation; nothing where it is not open.
+    pub fn retry(&self, number: u64) -> Result<Vec<Letter>, Error> {
+        let mut outcome = 0;
+        self.call(|here| unsafe { calls::ginelm_retry(here, number, &mut outcome) })?;
+        self.texts()
+    }
+
+    /// Gives this own synchronisation up. Whether it was open.
+    pub fn abandon(&mut self, number: u64) -> bool {
+        let mut was_open = false;
+        let told = self.call(|here| unsafe { calls::ginelm_abandon(here, number, &mut was_open) });
+        debug_assert_eq!(told, Ok(()));
+        was_open
+    }
+
+    /// The own synchronisations that are open, at most eight, by number.
+    pub fn sessions(&self) -> Result<Vec<Session>, Error> {
+        let mut open = 0;
+        self.call(|here| unsafe { calls::ginelm_open(here, &mut open) })?;
+        let mut found = Vec::with_capacity(open);
+        for at in 0..open {
+            let mut named = Named::default();
+            self.call(|here| unsafe { calls::ginelm_session(here, at, &mut named) })?;
+            found.extend(session_of(&named));
+        }
+        Ok(found)
+    }
+
+    /// The values of the key at its empty field, ascending by bytes, each once.
+    pub fn get(&self, key: &[u8]) -> Result<Texts, Error> {
+        self.read(|here| unsafe { calls::ginelm_get(here, key.as_ptr(), key.len()) })
+    }
+
+    /// The values of the field of the key, ascending by bytes, each once.
+    pub fn get_field(&self, key: &[u8], field: &[u8]) -> Result<Texts, Error> {
+        self.read(|here| unsafe {
+            calls::ginelm_get_field(here, key.as_ptr(), key.len(), field.as_ptr(), field.len())
+        })
+    }
+
+    /// The values of the key over all its fields, ascending by bytes, each once.
+    pub fn values_of_key(&self, key: &[u8]) -> Result<Texts, Error> {
+        self.read(|here| unsafe { calls::ginelm_values_of_key(here, key.as_ptr(), key.len()) })
+    }
+
+    /// The fields of the key that hold a value, ascending by bytes.
+    pub fn fields(&self, key: &[u8]) -> Result<Texts, Error> {
+        self.read(|here| unsafe { calls::ginelm_fields(here, key.as_ptr(), key.len()) })
+    }
+
+    /// The keys that hold a value at some field, ascending by bytes.
+    pub fn keys(&self) -> Result<Texts, Error> {
+        self.read(|here| unsafe { calls::ginelm_keys(here) })
+    }
+
+    /// Whether the key holds a value at some field.
+    pub fn contains(&self, key: &[u8]) -> Result<bool, Error> {
+        let mut is_there = false;
+        self.call(|here| unsafe {
+            calls::ginelm_contains(here, key.as_ptr(), key.len(), &mut is_there)
+        })?;
+        Ok(is_there)
+    }
+
+    /// How many keys hold a value at some field.
+    pub fn size(&self) -> u64 {
+        let mut size = 0;
+        let told = self.call(|here| unsafe { calls::ginelm_size(here, &mut size) });
+        debug_assert_eq!(told, Ok(()));
+        size
+    }
+
+    /// The root digest, or None where there is no key. Replicas that hold the same have the same.
+    pub fn digest(&self) -> Option<[u8; 32]> {
+        let (mut digest, mut length) = ([0; 32], 0);
+        let told = self.call(|here| unsafe {
+            calls::ginelm_digest(here, digest.as_mut_ptr(), 32, &mut length)
+        });
+        debug_assert_eq!(told, Ok(()));
+        (length == 32).then_some(digest)
+    }
+
+    /// Whether it has seen the write of this number, from 1 on, of the replica of this name.
+    pub fn knows(&self, name: NonZeroU64, number: u64) -> bool {
+        let mut is_known = false;
+        let told = self
+            .call(|here| unsafe { calls::ginelm_knows(here, name.get(), number, &mut is_known) });
+        debug_assert_eq!(told, Ok(()));
+        is_known
+    }
+}
+
+fn outcome_of(number: u32) -> Result<Outcome, Error> {
+    match number {
+        1 => Ok(Outcome::Joined),
+        2 => Ok(Outcome::Sent),
+        3 => Ok(Outcome::Done),
+        4 => Ok(Outcome::Ignored),
+        5 => Ok(Outcome::Mismatch),
+        6 => Ok(Outcome::Gone),
+        other => Err(Error::Unknown(other)),
+    }
+}
+
+fn session_of(named: &Named) -> Option<Session> {
+    Some(Session {
+        asker: NonZeroU64::new(named.asker)?,
+        answerer: NonZeroU64::new(named.answerer)?,
+        number: named.number,
+    })
+}
