@@ -6,7 +6,11 @@ into=$(mkdir -p "${1:-build}" && cd "${1:-build}" && pwd)
 kit=$(dirname "$(rt doc)")
 library=crates/ginelm_c/out/libginelm_c.a
 if [ ! -e "$library" ]; then
-    (cd crates/ginelm_c && rt lib)
+    if [ -d crates/replica_core/out/rlib ]; then
+        python3 c/library.py ginelm_c "$(nproc)"
+    else
+        (cd crates/ginelm_c && rt lib)
+    fi
 fi
 work=$(mktemp -d)
 trap 'rm -rf "$work"' EXIT

@@ -1,0 +1,57 @@
+#!/usr/bin/env python3
+"""Builds the static library of a crate over the libraries that `rt ci` left in crates/*/out/rlib.
+
+    python3 c/library.py CRATE [JOBS]
+
+The crate itself is proved again on the way, as only what is proved is compiled. It stands in crates/CRATE/out then. `rt lib` does the same, but
+proves all crates below again, as it cannot tell that `rt ci` did.
+"""
+
+import os
+import subprocess
+import sys
+
+ROOT = os.path.dirname(os.path.dirname(os.path.abspath(__file__)))
+
+
+def kit():
+    """The toolchain's folder."""
+    told = subprocess.run(["rt", "doc"], capture_output=True, text=True, check=True)
+    return os.path.dirname(told.stdout.strip())
+
+
+def crates():
+    """The crates with what each stands on, as crates.txt has them."""
+    with open(os.path.join(ROOT, "crates.txt"), encoding="utf-8") as lines:
+        rows = [it.split("#")[0].split(":") for it in lines]
+    return {it[0].split()[0]: it[1].split() for it in rows if len(it) == 2}
+
+
+def below(table, crate):
+    """All crates of the repository that a crate stands on."""
+    own = [it for it in table[crate] if it in table]
+    return set(own).union(*(below(table, it) for it in own))
+
+
+def command(at, table, crate, jobs):
+    """What builds the library."""
+    rlib = lambda it: os.path.join(ROOT, "crates", it, "out", "rlib") if it in table else f"{at}/rlibs"
+    words = [f"{at}/bin/rattle", "build", "--crate-name", crate, "src/lib.rt"]
+    for it in ["std", *table[crate]]:
+        words += ["--extern", f"{it}={rlib(it)}/{it}.rlib"]
+    for folder in [f"{at}/rlibs", *map(rlib, sorted(below(table, crate)))]:
+        words += ["-L", f"dependency={folder}"]
+    words += ["--antt-project", f"{at}/rattle/logic/antt-project.json", "--logic-built", f"{at}/logic_built"]
+    words += ["--links", f"{crate}=", "--jobs", jobs, "--crate-type", "staticlib", "--toolchain", f"{at}/toolchain"]
+    return [*words, "-o", f"out/lib{crate}.a"]
+
+
+def main():
+    """Builds the library that is named."""
+    crate, jobs = sys.argv[1], sys.argv[2] if len(sys.argv) > 2 else "1"
+    folder = os.path.join(ROOT, "crates", crate)
+    os.makedirs(os.path.join(folder, "out"), exist_ok=True)
+    sys.exit(subprocess.run(command(kit(), crates(), crate, jobs), cwd=folder, check=False).returncode)
+
+
+main()
