@@ -2,10 +2,12 @@
 // order: replicas that have seen the same operations hold the same, and each key then holds the values of the writes that no operation has
 // observed, which are several where replicas wrote without knowing of each other. It is the observed-remove map of multi-value registers
 // of Almeida, Shoker and Baquero, "Delta State Replicated Data Types" (2018).
+// This crate is what a program imports. Each call's contract stands at the call, in the crate that has it. What allocates takes the allocator
+// first and answers a `Result`. A refused call changes nothing.
+#![tactic(auto)]
+
+// How a program uses it:
 //
-// This crate is what a program imports. Each call's contract stands at the call, in the crate that has it.
-//
-// ```
 // let name = Name::new(1).context("a name is a number from 1 on")?;   // no other replica has it
 // let mut basket = Replica::new(rt.alloc(), name, Fnv1a);
 //
@@ -23,13 +25,13 @@
 // }
 //
 // let (number, letter) = basket.ask_bytes(peer)?;                      // all that a peer has seen, where messages were lost
-// ```
 //
-// What allocates takes the allocator first and answers a `Result`. A refused call changes nothing.
-#![tactic(auto)]
-
+// store.write(&encode_saved(rt.alloc(), basket.checkpoint()?.saved(rt.alloc())?)?);  // before what was written is sent
+// let basket = Replica::resume(rt.alloc(), Fnv1a, decode_saved(rt.alloc(), &store.read())?)?;
+pub use delta_ops::{fields, keys, size, values, values_of_key};
 pub use dots::{Dot, Field, Key, Name, Refusal, Value};
 pub use hash_path::{Fnv1a, PathHash};
+pub use prefix_digest::FrozenMap;
 pub use replica_core::{Checkpoint, Delivered, Letter, Outcome, Replica, Taken};
 pub use saved_form::{Saved, decode_saved, encode_saved};
 pub use sync_protocol::FieldStore;

@@ -4,3 +4,4 @@ pub mod Handling
 pub mod Writing
 pub mod Sending
 pub mod Reading
+pub mod Saving

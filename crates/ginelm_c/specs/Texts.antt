@@ -26,6 +26,7 @@ count_in (given.Keys ks) = length ks.items
 count_in (given.Fields fs) = length fs.items
 count_in (given.Sent l) = length (letter_or_none l)
 count_in (given.Letters ls) = length ls.items
+count_in (given.Saved s) = 1
 
 abbrev pub bytes_at : Texts → ℕ → Option (List ℕ)
 bytes_at given.Nothing at = None
@@ -34,13 +35,14 @@ bytes_at (given.Keys ks) at = slice_get ks.items at
 bytes_at (given.Fields fs) at = slice_get fs.items at
 bytes_at (given.Sent l) at = alone_at l at
 bytes_at (given.Letters ls) at = option_map (λ l. l.bytes.items) (slice_get ls.items at)
+bytes_at (given.Saved s) at = if at == 0 then Some s.items else None
 
 abbrev pub addressee_at : Texts → ℕ → ℕ
 addressee_at (given.Sent l) at = addressee_of l
 addressee_at (given.Letters ls) at = addressee_of (slice_get ls.items at)
 addressee_at other at = 0
 
--- what a read gave, and what a call sends
+-- what a read gave, what a call sends, and what was saved
 abbrev pub shown : Texts → List (List ℕ)
 shown (given.Values vs) = vs.items
 shown (given.Keys ks) = ks.items
@@ -51,3 +53,7 @@ abbrev pub letters_in : Texts → List (Option ℕ × List ℕ)
 letters_in (given.Sent l) = letter_or_none l
 letters_in (given.Letters ls) = letters_of ls.items
 letters_in other = []
+
+abbrev pub saved_in : Texts → List ℕ
+saved_in (given.Saved s) = s.items
+saved_in other = []

@@ -11,6 +11,7 @@ mod making;
 mod named;
 mod reading;
 mod reading_fields;
+mod saving;
 mod sending;
 mod synchronising;
 mod telling;

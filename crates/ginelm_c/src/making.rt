@@ -1,5 +1,5 @@
 // A replica is made and let go.
-ghost use Rattle.std.specs.Prelude.{◌≡◌, ◌≢◌, Some, None};
+ghost use Rattle.std.specs.Prelude.{◌≡◌, ◌≢◌, Some, None, IfOk};
 ghost use Rattle.replica_model.specs.Replica.{fresh};
 ghost use Rattle.replica_core.specs.Meaning.{meaning};
 ghost use Rattle.ginelm_c.specs.Handling.{StaysEmpty};
@@ -16,7 +16,7 @@ use std::alloc::Global;
 
 // A replica of this name to which nothing happened yet.
 fn fresh(alloc: Global, name: Name) -> Result<Box<Held>, Refusal>
-    ensures { Rattle.std.specs.Prelude.IfOk result (λ held. meaning held.value.replica ≡ fresh name) }
+    ensures { IfOk result (λ held. meaning held.value.replica ≡ fresh name) }
 {
     let replica = Replica::new(alloc, name, Fnv1a);
     let held = Box::new(

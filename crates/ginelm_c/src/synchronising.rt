@@ -1,5 +1,5 @@
 // The own synchronisations of a replica.
-ghost use Rattle.std.specs.Prelude.{◌≡◌, ◌≢◌, IfOk, OnOk, OnErr, Some, length, map};
+ghost use Rattle.std.specs.Prelude.{◌≡◌, ◌≢◌, IfOk, IsSome, OnOk, OnErr, Some, length, map};
 ghost use Rattle.std.specs.List.{slice_get};
 ghost use Rattle.replica_core.specs.Meaning.{meaning};
 ghost use Rattle.replica_model.specs.Step.{Do, Ask, Abandon, Closed, Numbered};
@@ -132,7 +132,7 @@ fn session_at(held: &Held, at: usize) -> Result<Option<Session>, Refusal>
 }
 
 fn session(held: &Held, at: usize, session: &mut Named) -> u32
-    ensures done { result ≡ 0 → Rattle.std.specs.Prelude.IsSome (slice_get (map (λ o. o.session) (meaning held.now.replica).sessions) at) }
+    ensures done { result ≡ 0 → IsSome (slice_get (map (λ o. o.session) (meaning held.now.replica).sessions) at) }
     ensures named { result ≡ 0 → session.new ≡ named (slice_get (map (λ o. o.session) (meaning held.now.replica).sessions) at) }
 {
     match session_at(held, at) {

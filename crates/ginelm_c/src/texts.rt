@@ -1,6 +1,6 @@
 ghost use Rattle.std.specs.Prelude.{◌≡◌};
 ghost use Rattle.std.specs.Option.{option_copied};
-ghost use Rattle.ginelm_c.specs.Texts.{addressee_at, bytes_at, count_in, number_or_zero};
+ghost use Rattle.ginelm_c.specs.Texts.{addressee_at, alone_at, bytes_at, count_in, number_or_zero};
 
 use dots::{Field, Key, Name, Value};
 use replica_core::Letter;
@@ -20,6 +20,8 @@ pub enum Texts {
     Sent(Option<Letter>),
     /// The letters that are to be sent for a message that came, or again.
     Letters(Vec<Letter>),
+    /// What a replica is to come back from.
+    Saved(Vec<u8>),
 }
 
 impl Texts {
@@ -35,6 +37,7 @@ impl Texts {
             Texts::Sent(None) => 0,
             Texts::Sent(Some(_)) => 1,
             Texts::Letters(letters) => letters.len(),
+            Texts::Saved(_) => 1,
         }
     }
 
@@ -49,6 +52,8 @@ impl Texts {
             Texts::Fields(fields) => Some(fields.get(at)?.bytes()),
             Texts::Sent(letter) => bytes_alone(letter, at),
             Texts::Letters(letters) => Some(letters.get(at)?.bytes.as_slice()),
+            Texts::Saved(bytes) if at == 0 => Some(bytes.as_slice()),
+            Texts::Saved(_) => None,
         }
     }
 
@@ -69,7 +74,7 @@ impl Texts {
 
 // The bytes of what is alone, where this is its place.
 fn bytes_alone(letter: &Option<Letter>, at: usize) -> Option<&[u8]>
-    ensures { option_copied result ≡ Rattle.ginelm_c.specs.Texts.alone_at letter.now at }
+    ensures { option_copied result ≡ alone_at letter.now at }
 {
     match letter {
         Some(letter) if at == 0 => Some(letter.bytes.as_slice()),
