@@ -26,7 +26,7 @@
  *
  * What a call gives more than a number of stands behind the handle as texts, until the next call that
  * gives texts: ginelm_get, ginelm_get_field, ginelm_values_of_key, ginelm_keys, ginelm_fields,
- * ginelm_flush, ginelm_take, ginelm_ask and ginelm_retry. They are read by ginelm_count and ginelm_text.
+ * ginelm_flush, ginelm_take, ginelm_ask, ginelm_retry and ginelm_save. They are read by ginelm_count and ginelm_text.
  */
 #ifndef GINELM_H
 #define GINELM_H
@@ -85,6 +85,20 @@ void ginelm_free(ginelm *here);
 
 /* Tells the replica's name. Allocates nothing. */
 uint32_t ginelm_name(ginelm *here, uint64_t *name);
+
+/* ---- it comes back after a restart ---- */
+
+/* What the replica is to come back from becomes the one text: all that it holds, what it is to send, its name and the number of its last own
+ * synchronisation. It is to be kept, as in a file, before anything is sent that was made, or asked for, later. */
+uint32_t ginelm_save(ginelm *here);
+
+/* Makes the replica that comes back from what was saved; no other one uses its name from then on. Its own synchronisations are
+ * not open any more. FULL, NOT_A_MESSAGE where the bytes are not what was saved. */
+uint32_t ginelm_resume(ginelm *here, const uint8_t *bytes, size_t length);
+
+/* Makes a replica of a name that was never used, which has seen what the saved one had seen: for who cannot save before anything is sent.
+ * FULL, NO_NAME, NOT_A_MESSAGE. */
+uint32_t ginelm_new_from(ginelm *here, uint64_t name, const uint8_t *bytes, size_t length);
 
 /* ---- it writes. Each is TOO_LONG where a text is ---- */
 

@@ -279,6 +279,48 @@ static void exchange(void) {
     ginelm_free(&two);
 }
 
+/* A replica comes back from what was saved: under its name, or as what another name has seen. What was cut or is a message is refused. */
+static void restarts(void) {
+    ginelm one = {0}, back = {0}, other = {0};
+    uint64_t number = 0;
+    bool is = true;
+    CHECK(ginelm_save(&one) == GINELM_EMPTY);
+    CHECK(ginelm_new(&one, 7) == GINELM_DONE);
+    put(&one, "k", "v");
+    CHECK(ginelm_flush(&one) == GINELM_DONE);
+    struct letter message = text_at(&one, 0);
+    put(&one, "k", "w");
+    CHECK(ginelm_ask(&one, 2, &number) == GINELM_DONE && number == 1);
+    CHECK(ginelm_save(&one) == GINELM_DONE && count_of(&one) == 1);
+    struct letter saved = text_at(&one, 0);
+    CHECK(saved.to == 0);
+    CHECK(ginelm_resume(&one, saved.bytes, saved.length) == GINELM_FULL);
+    CHECK(ginelm_resume(&back, message.bytes, message.length) == GINELM_NOT_A_MESSAGE);
+    for (size_t length = 0; length < saved.length; length++) {
+        CHECK(ginelm_resume(&back, saved.bytes, length) == GINELM_NOT_A_MESSAGE && back.at == NULL);
+    }
+    CHECK(ginelm_take(&one, saved.bytes, saved.length, &(uint32_t){0}, &(ginelm_named){0}) == GINELM_NOT_A_MESSAGE);
+    CHECK(ginelm_resume(&back, saved.bytes, saved.length) == GINELM_DONE);
+    CHECK(ginelm_name(&back, &number) == GINELM_DONE && number == 7);
+    same_digests(&one, &back);
+    CHECK(ginelm_abandon(&back, 1, &is) == GINELM_DONE && !is);
+    CHECK(ginelm_flush(&back) == GINELM_DONE && count_of(&back) == 1);
+    CHECK(ginelm_put(&back, T("k"), T("x"), &number) == GINELM_DONE && number == 3);
+    CHECK(ginelm_ask(&back, 2, &number) == GINELM_DONE && number == 2);
+    CHECK(ginelm_new_from(&other, 0, saved.bytes, saved.length) == GINELM_NO_NAME);
+    CHECK(ginelm_new_from(&other, 8, saved.bytes, 3) == GINELM_NOT_A_MESSAGE);
+    CHECK(ginelm_new_from(&other, 8, saved.bytes, saved.length) == GINELM_DONE);
+    CHECK(ginelm_new_from(&other, 8, saved.bytes, saved.length) == GINELM_FULL);
+    same_digests(&one, &other);
+    CHECK(ginelm_flush(&other) == GINELM_DONE && count_of(&other) == 0);
+    CHECK(ginelm_put(&other, T("k"), T("x"), &number) == GINELM_DONE && number == 1);
+    ginelm_free(&one);
+    ginelm_free(&back);
+    ginelm_free(&other);
+    free(message.bytes);
+    free(saved.bytes);
+}
+
 static uint64_t state;
 
 static uint64_t next(void) {
@@ -402,6 +444,7 @@ int main(int count, char **arguments) {
     words();
     texts();
     exchange();
+    restarts();
     random_messages(times);
     threads(times / 40);
     printf("all calls answered as they are to\n");
