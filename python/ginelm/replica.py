@@ -59,9 +59,35 @@ class Replica:
     """
 
     def __init__(self, name: int) -> None:
+        self._make("new", _unsigned(name))
+
+    def _make(self, call: str, *arguments: Any) -> None:
         self._lock = threading.RLock()
         self._handle = Handle()
-        self._call("new", _unsigned(name))
+        self._call(call, *arguments)
+
+    @classmethod
+    def resume(cls, data: bytes) -> Replica:
+        """The replica that comes back from what was saved: no other one uses its name from then on.
+
+        Its own synchronisations are not open any more. Raises NotAMessage where the bytes are not what was saved.
+        """
+        replica = cls.__new__(cls)
+        replica._make("resume", *_bytes(data))
+        return replica
+
+    @classmethod
+    def new_from(cls, name: int, data: bytes) -> Replica:
+        """The replica of a name that was never used, which has seen what the saved one had seen: for who cannot save before
+        anything is sent."""
+        replica = cls.__new__(cls)
+        replica._make("new_from", _unsigned(name), *_bytes(data))
+        return replica
+
+    def save(self) -> bytes:
+        """What it is to come back from: what it holds, what it is to send, its name and the number of its last own
+        synchronisation. It is to be kept before anything is sent that was made, or asked for, later."""
+        return self._texts("save")[0].data
 
     # ---- the handle
 

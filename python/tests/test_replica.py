@@ -115,6 +115,25 @@ def test_a_replica_has_one_owner() -> None:
             call()
 
 
+def test_a_replica_comes_back() -> None:
+    one = Replica(7)
+    one.put(b"k", b"v")
+    one.ask(2)
+    data = one.save()
+    back = Replica.resume(data)
+    assert back.name == 7 and back.digest() == one.digest() and back.sessions() == []
+    assert len(back.flush()) == 1 and back.put(b"k", b"w") == 2 and back.ask(2)[0] == 2
+    other = Replica.new_from(8, data)
+    assert other.name == 8 and other.get(b"k") == [b"v"] and other.flush() == [] and other.put(b"k", b"w") == 1
+    for wrong in (b"", data[:-1], data + b"x", back.flush()[0].data):
+        with pytest.raises(ginelm.NotAMessage):
+            Replica.resume(wrong)
+    with pytest.raises(ginelm.NotAMessage):
+        one.take(data)
+    with pytest.raises(ginelm.NoName):
+        Replica.new_from(0, data)
+
+
 def test_gone() -> None:
     """A ninth hello drops the oldest snapshot, and who asks for its pages is told."""
     answerer, asker = Replica(1), Replica(2)
