@@ -21,6 +21,9 @@ extern "C" {
     pub fn ginelm_new(here: *mut Handle, name: u64) -> u32;
     pub fn ginelm_free(here: *mut Handle);
     pub fn ginelm_name(here: *mut Handle, name: *mut u64) -> u32;
+    pub fn ginelm_save(here: *mut Handle) -> u32;
+    pub fn ginelm_resume(here: *mut Handle, bytes: *const u8, length: usize) -> u32;
+    pub fn ginelm_new_from(here: *mut Handle, name: u64, bytes: *const u8, length: usize) -> u32;
     pub fn ginelm_put(
         here: *mut Handle,
         key: *const u8,

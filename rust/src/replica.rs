@@ -43,6 +43,36 @@ impl Replica {
         })
     }
 
+    /// The replica that comes back from what was saved: no other one uses its name from then on. Its own synchronisations are not open any
+    /// more.
+    pub fn resume(bytes: &[u8]) -> Result<Replica, Error> {
+        let mut handle = Handle { at: null_mut() };
+        // SAFETY: the handle is zero.
+        Error::check(unsafe { calls::ginelm_resume(&mut handle, bytes.as_ptr(), bytes.len()) })?;
+        Ok(Replica {
+            handle: UnsafeCell::new(handle),
+        })
+    }
+
+    /// The replica of a name that was never used, which has seen what the saved one had seen: for who cannot save before anything is sent.
+    pub fn new_from(name: NonZeroU64, bytes: &[u8]) -> Result<Replica, Error> {
+        let mut handle = Handle { at: null_mut() };
+        // SAFETY: the handle is zero.
+        Error::check(unsafe {
+            calls::ginelm_new_from(&mut handle, name.get(), bytes.as_ptr(), bytes.len())
+        })?;
+        Ok(Replica {
+            handle: UnsafeCell::new(handle),
+        })
+    }
+
+    /// What it is to come back from: what it holds, what it is to send, its name and the number of its last own synchronisation. It is to be
+    /// kept before anything is sent that was made, or asked for, later.
+    pub fn save(&self) -> Result<Vec<u8>, Error> {
+        self.call(|here| unsafe { calls::ginelm_save(here) })?;
+        Ok(self.text(0)?.bytes)
+    }
+
     // A call with the handle.
     fn call(&self, call: impl FnOnce(*mut Handle) -> u32) -> Result<(), Error> {
         Error::check(call(self.handle.get()))

@@ -156,3 +156,22 @@ fn replicas_go_to_other_threads() {
     }
     assert_eq!(first[0].get(&7u32.to_be_bytes()).unwrap().len(), 4);
 }
+
+#[test]
+fn a_replica_comes_back() {
+    let mut one = replica(7);
+    one.put(b"k", b"v").unwrap();
+    one.ask(name(2)).unwrap();
+    let saved = one.save().unwrap();
+    let mut back = Replica::resume(&saved).unwrap();
+    assert_eq!((back.name(), back.digest()), (name(7), one.digest()));
+    assert_eq!(back.sessions(), Ok(Vec::new()));
+    assert!(back.flush().unwrap().is_some());
+    assert_eq!(back.put(b"k", b"w"), Ok(2));
+    assert_eq!(back.ask(name(2)).unwrap().0, 2);
+    let mut other = Replica::new_from(name(8), &saved).unwrap();
+    assert_eq!(other.flush(), Ok(None));
+    assert_eq!(other.put(b"k", b"w"), Ok(1));
+    assert_eq!(Replica::resume(&saved[1..]).err(), Some(Error::NotAMessage));
+    assert_eq!(one.take(&saved), Err(Error::NotAMessage));
+}
