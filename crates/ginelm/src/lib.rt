@@ -28,11 +28,6 @@
 //
 // store.write(&encode_saved(rt.alloc(), basket.checkpoint()?.saved(rt.alloc())?)?);  // before what was written is sent
 // let basket = Replica::resume(rt.alloc(), Fnv1a, decode_saved(rt.alloc(), &store.read())?)?;
-// ```
-//
-// What allocates takes the allocator first and answers a `Result`. A refused call changes nothing.
-#![tactic(auto)]
-
 pub use delta_ops::{fields, keys, size, values, values_of_key};
 pub use dots::{Dot, Field, Key, Name, Refusal, Value};
 pub use hash_path::{Fnv1a, PathHash};
