@@ -6,7 +6,6 @@ all as a delta. Each tells the others now and then which digest it holds; who ho
 
 from __future__ import annotations
 
-import argparse
 import os
 import queue
 import random
@@ -25,11 +24,15 @@ PATIENCE = 0.4  # the seconds after which a synchronisation is asked for again; 
 
 class Registry:
     """Which instances of a service there are: at the key of the service, a field for each with its address. A process has a name that
-    none has or ever had: one that comes back without its memory takes a new one."""
+    no other has or ever had, and keeps its replica in a file, from which it comes back under that name."""
 
-    def __init__(self, name: int, port: int, drop: float = 0.0) -> None:
-        self.name, self.drop, self.beaten = name, drop, 0.0
-        self.replica = Replica(name)
+    def __init__(self, name: int, file: str, port: int, drop: float = 0.0) -> None:
+        self.name, self.file, self.drop, self.beaten = name, file, drop, 0.0
+        if os.path.exists(file):
+            with open(file, "rb") as saved:
+                self.replica = Replica.resume(saved.read())
+        else:
+            self.replica = Replica(name)
         self.came: queue.SimpleQueue[tuple[str, bytes]] = queue.SimpleQueue()
         self.watched: dict[str, tuple[set[bytes], Callable[[set[bytes]], None]]] = {}
         self.opened: dict[int, list[float]] = {}  # of each own synchronisation: when it began, and when it was last asked for
@@ -44,11 +47,13 @@ class Registry:
     def register(self, service: str, address: str) -> None:
         """This process offers the service at this address."""
         Map(self.replica).fields(service)[str(self.name)] = address
+        self.save()
         self.changed(self.replica.flush())
 
     def unregister(self, service: str) -> None:
         """This process offers the service no more."""
         self.replica.remove_field(service.encode(), str(self.name).encode())
+        self.save()
         self.changed(self.replica.flush())
 
     def lookup(self, service: str) -> set[bytes]:
@@ -71,6 +76,14 @@ class Registry:
                 continue
             if random.random() >= self.drop:
                 self.take(topic, payload, now)
+
+    def save(self) -> None:
+        """Keeps the replica in its file, before anything is sent that it made or asked for."""
+        with open(f"{self.file}.new", "wb") as saved:
+            saved.write(self.replica.save())
+            saved.flush()
+            os.fsync(saved.fileno())
+        os.replace(f"{self.file}.new", self.file)
 
     def changed(self, letters: list[Letter]) -> None:
         """Sends these letters, and tells who watches a service of which the addresses changed."""
@@ -114,37 +127,5 @@ class Registry:
             except SessionsFull:
                 return
             self.opened[number] = [now, now]
+            self.save()
             self.changed([letter])
-
-
-def main() -> None:
-    parser = argparse.ArgumentParser(description=__doc__.splitlines()[0])
-    parser.add_argument("name", type=int, help="a name that no other process has or ever had")
-    parser.add_argument("--port", type=int, default=1883, help="the broker's port on this machine")
-    parser.add_argument("--drop", type=float, default=0.0, help="the share of messages that is lost on the way here")
-    parser.add_argument("--writes", type=int, default=30, help="how often it registers or unregisters a service")
-    parser.add_argument("--seconds", type=float, default=10.0, help="how long it then takes in what comes")
-    given = parser.parse_args()
-    registry = Registry(given.name, given.port, given.drop)
-
-    def log(*_: object) -> None:
-        digest = registry.replica.digest()
-        print(f"{time.time():.2f} {registry.replica.size()} {digest.hex() if digest else '-'}", flush=True)
-
-    registry.watch("api-1", log)
-    for turn in range(given.writes):
-        service = f"api-{random.randrange(12)}"
-        if random.random() < 0.8:
-            registry.register(service, f"10.0.0.{given.name % 256}:{8000 + turn}")
-        else:
-            registry.unregister(service)
-        registry.run(random.uniform(0.05, 0.3))
-        log()
-    end = time.time() + given.seconds
-    while time.time() < end:
-        registry.run(0.25)
-        log()
-
-
-if __name__ == "__main__":
-    main()

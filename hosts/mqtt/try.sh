@@ -1,6 +1,6 @@
 #!/usr/bin/env bash
-# Five processes and a broker on this machine. A third of all messages is lost; two processes are killed and come back, and so is the
-# broker. In the end all print one digest; who-knew-what.svg, in the folder build/ or in the one that is given, shows the way there.
+# Five processes and a broker on this machine. A third of all messages is lost; two processes are killed and come back from their files, and
+# so is the broker. In the end all print one digest; who-knew-what.svg, in the folder build/ or in the one that is given, shows the way there.
 # Wants Debian's mosquitto and python3-paho-mqtt. Takes half a minute.
 set -euo pipefail
 cd "$(dirname "$0")/../.."
@@ -26,7 +26,7 @@ start_broker() {
 }
 # A process of this name, which registers so often, and then takes in what comes for so many seconds.
 start() {
-    "$python" hosts/mqtt/registry.py "$1" --port "$port" --drop 0.33 --writes "$2" --seconds "$3" >"$work/$1.log" 2>"$work/$1.err" &
+    "$python" hosts/mqtt/member.py "$1" "$work/$1.replica" --port "$port" --drop 0.33 --writes "$2" --seconds "$3" >>"$work/$1.log" 2>>"$work/$1.err" &
     pid[$1]=$!
     running+=("$!")
 }
@@ -41,23 +41,23 @@ for name in 1 2 3 4 5; do start "$name" 40 18; done
 sleep 3
 stop "${pid[2]}"
 sleep 1
-start 102 20 16 # it lost its memory, and so its name
+start 2 20 16
 sleep 2
 stop "$broker"
 sleep 2
 start_broker
 stop "${pid[4]}"
 sleep 1
-start 104 10 14
+start 4 10 14
 
-for name in 1 3 5 102 104; do
+for name in 1 2 3 4 5; do
     wait "${pid[$name]}" || { cat "$work/$name.err"; exit 1; }
 done
 cat "$work"/*.err
-digests=$(for name in 1 3 5 102 104; do tail -n 1 "$work/$name.log" | cut -d' ' -f3; done)
-for name in 1 3 5 102 104; do echo "process $name: $(tail -n 1 "$work/$name.log" | cut -d' ' -f2,3)"; done
-"$python" hosts/mqtt/draw.py "$into/who-knew-what.svg" "process 1=$work/1.log" "process 2=$work/2.log" "then 102=$work/102.log" \
-    "process 3=$work/3.log" "process 4=$work/4.log" "then 104=$work/104.log" "process 5=$work/5.log"
+digests=$(for name in 1 2 3 4 5; do tail -n 1 "$work/$name.log" | cut -d' ' -f3; done)
+for name in 1 2 3 4 5; do echo "process $name: $(tail -n 1 "$work/$name.log" | cut -d' ' -f2,3)"; done
+"$python" hosts/mqtt/draw.py "$into/who-knew-what.svg" \
+    "process 1=$work/1.log" "process 2=$work/2.log" "process 3=$work/3.log" "process 4=$work/4.log" "process 5=$work/5.log"
 if [ "$(sort -u <<<"$digests" | wc -l)" != 1 ]; then
     echo "the digests differ"
     exit 1
