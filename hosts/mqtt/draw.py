@@ -42,7 +42,7 @@ def main() -> None:
         parts.append(f'<text x="8" y="{top + 17}">{escape(label)}</text>')
         for (when, size, digest), (until, _, _) in zip(log, log[1:] + [(last, 0, "")]):
             wide = max(x(until) - x(when), 0.5)
-            if until - when > 2:
+            if until - when > 0.7:
                 wide = min(wide, 4.0)
             title = f"{size} services, {digest[:8]}"
             parts.append(f'<rect x="{x(when):.1f}" y="{top}" width="{wide:.1f}" height="{ROW - 10}" fill="{colour(digest)}"><title>{title}</title></rect>')
