@@ -3,7 +3,7 @@ ghost use Rattle.sqlite.specs.State.{HasCleanDisk, Opens, Survives, IsUnchanged}
 ghost use Rattle.sqlite.specs.Held.{state};
 ghost use Rattle.sqlite_wal.specs.Files.{image_at};
 ghost use Rattle.sqlite.specs.Files.{over_files};
-ghost use Rattle.durable_log.specs.Log.{log_state, strings, Gains, IsKept, IsBegun, IsOpenLog};
+ghost use Rattle.durable_log.specs.Log.{log_state, strings, Gains, IsReady, IsKept, IsBegun, IsOpenLog};
 
 use crate::log_error::LogError;
 use crate::statements::{begin, failure, insert, select_strings};
@@ -62,6 +62,14 @@ impl<S: Alter + Drop> Log<S> {
 }
 
 impl<S: Alter> Log<S> {
+    /// Whether a call failed, so that no other is made. While none did, a crash at this moment leaves all strings and nothing else.
+    pub fn is_failed(&self) -> bool
+        ensures value { result ≡ self.now.is_failed }
+        ensures ready { result ≡ false → HasCleanDisk (log_state S.Store self.now) → IsReady (log_state S.Store self.now) }
+    {
+        self.is_failed
+    }
+
     /// Adds a string, and returns once it is on the disk.
     ///
     /// Takes a write to the disk and a wait for it, and time in the string; of those that are there, in the logarithm of their number.

@@ -1,0 +1,23 @@
+use dots::{Name, Refusal};
+use durable_log::LogError;
+use thiserror::Error;
+
+/// Why a call of a store was refused.
+#[derive(Clone, Copy, Debug, PartialEq, Eq, Error)]
+pub enum StoreError {
+    /// The replica refused it, and nothing changed.
+    #[error("{0}")]
+    Refused(Refusal),
+    /// The log failed, and the store with it.
+    #[error("{0}")]
+    Log(LogError),
+    /// An earlier call failed. What is kept is told by opening it again.
+    #[error("the store failed earlier")]
+    Failed,
+    /// The file keeps the replica of this name, and another was named.
+    #[error("the file keeps replica {0}")]
+    OtherName(Name),
+    /// The strings of the file keep no replica.
+    #[error("the file keeps no replica")]
+    NotAReplica,
+}
