@@ -76,6 +76,7 @@ impl<S: Alter> Log<S> {
     pub fn keep(&mut self, string: &[u8]) -> Result<(), LogError>
         ensures acknowledged { HasCleanDisk (log_state S.Store self.new) → OnOk result (IsKept (log_state S.Store self.old) (log_state S.Store self.new) string.now) }
         ensures any_moment { Survives (log_state S.Store self.old) (log_state S.Store self.new) (λ db. Gains (log_state S.Store self.old).now.trees db string.now) }
+        ensures ok { OnOk result (self.new.is_failed ≡ false) }
         ensures err { OnErr result (IsTrue self.new.is_failed) }
         ensures ended { IsTrue self.old.is_failed → (result ≡ Err LogError.Failed) × (self.new ≡ self.old) }
     {
@@ -96,6 +97,7 @@ impl<S: Alter> Log<S> {
         ensures strings { HasCleanDisk (log_state S.Store self.new) → IfOk result (λ found. IsPermutation (strings (log_state S.Store self.old).now.trees) (map (λ string. string.items) found.items)) }
         ensures same { HasCleanDisk (log_state S.Store self.new) → OnOk result (IsUnchanged (log_state S.Store self.old) (log_state S.Store self.new)) }
         ensures any_moment { Survives (log_state S.Store self.old) (log_state S.Store self.new) (λ db. ⊥) }
+        ensures ok { OnOk result (self.new.is_failed ≡ false) }
         ensures err { OnErr result (IsTrue self.new.is_failed) }
         ensures ended { IsTrue self.old.is_failed → (result ≡ Err LogError.Failed) × (self.new ≡ self.old) }
     {

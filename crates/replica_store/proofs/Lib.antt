@@ -1,3 +1,6 @@
 pub mod Entries
 pub mod Rebuilding
 pub mod Writing
+pub mod Taking
+pub mod Gaining
+pub mod Telling

@@ -23,11 +23,11 @@ one_order p q = same_is (join greater p q) (join greater q p) (join-comm greater
 grouped : (p q r : MapState) → join greater (join greater p q) r ≡ join greater p (join greater q r)
 grouped p q r = same_is (join greater (join greater p q) r) (join greater p (join greater q r)) (join-assoc greater greater-assoc p q r)
 
-below_other : (p d : MapState) → IsBelow d (join greater p d)
+pub below_other : (p d : MapState) → IsBelow d (join greater p d)
 below_other p d = subst (IsBelow d) (one_order d p) (below_join d p)
 
 -- the join is the least above both
-join_below : (p d q : MapState) → IsBelow p q → IsBelow d q → IsBelow (join greater p d) q
+pub join_below : (p d q : MapState) → IsBelow p q → IsBelow d q → IsBelow (join greater p d) q
 join_below p d q first second =
     is_same (join greater q (join greater p d)) q
     (sym (grouped q p d) ∙ ap (λ x. join greater x d) (same_is (join greater q p) q first) ∙ same_is (join greater q d) q second)
@@ -142,7 +142,7 @@ module _ (string : List ℕ) (strings : List (List ℕ)) where
   }
 
 -- the first string of all is the name
-nothing_below : (p : MapState) → IsBelow (state []) p
+pub nothing_below : (p : MapState) → IsBelow (state []) p
 nothing_below p = record { at = λ place dot. by (p.at place dot) (p.has dot); has = λ dot. or_false (p.has dot) }
   where
     by : (o : Option (List ℕ)) (b : Bool) → joined greater o b None false ≡ o

@@ -10,6 +10,7 @@ use Rattle.replica_model.specs.Mail.{Mail, Delta}
 use Rattle.replica_model.specs.Replica.{Replica, makes, flushed, restarts}
 use Rattle.replica_model.specs.Step.{Call, Put, Remove, RemoveField, Clear, Flush, Answer, Nothing, KnowsNone, Removes, IsCall}
 use Rattle.replica_model.proofs.States.{same_is}
+use Rattle.replica_store.specs.Behind.{IsBehind}
 
 -- it made this, and where that knows no dot it is nothing
 pub record Made (old new : Replica) : Type 0 where
@@ -54,12 +55,6 @@ none_join p = same_is (join greater (state []) p) p (record { at = λ place dot.
     by : (o : Option (List ℕ)) (b : Bool) → joined greater None false o b ≡ o
     by None b = refl
     by (Some y) b = refl
-
--- What is to be sent is what was made since the last flush, and what was kept before it is all else.
-pub record IsBehind (kept : Replica) (r : Replica) : Type 0 where
-  pub sent : kept.group ≡ state []
-  pub is : restarts r ≡ restarts (makes kept r.group)
-  pub nothing : KnowsNone r.group → r.group ≡ state []
 
 pub behind : (old mid : Replica) → old.group ≡ state [] → Made old mid → IsBehind old mid
 behind old mid sent made =

@@ -1,2 +1,6 @@
 pub mod Entry
 pub mod Rebuilt
+pub mod Kept
+pub mod Behind
+pub mod Took
+pub mod Reading

@@ -15,7 +15,7 @@ const CHANGED: u8 = b'D';
 /// What a string says.
 #[derive(Clone, Copy)]
 pub enum Entry<'a> {
-    Named(Name),
+    Named(u64),
     Opened(u64),
     Changed(&'a [u8]),
 }
@@ -65,13 +65,13 @@ fn number_in(bytes: &[u8]) -> Option<u64>
     ]))
 }
 
-/// What the string says, or None where its kind is none of the three or a number is none.
+/// What the string says, or None where its kind is none of the three or a number has not eight bytes.
 pub fn read_entry(string: &[u8]) -> Option<Entry<'_>>
     ensures { IfSome result (SaysRead string.now) }
 {
     let (kind, bytes) = string.split_first()?;
     match *kind {
-        NAMED => Some(Entry::Named(Name::new(number_in(bytes)?)?)),
+        NAMED => Some(Entry::Named(number_in(bytes)?)),
         OPENED => Some(Entry::Opened(number_in(bytes)?)),
         CHANGED => Some(Entry::Changed(bytes)),
         _ => None,

@@ -2,6 +2,8 @@
 #![tactic(auto)]
 
 mod entry;
+mod keeping;
+mod reading;
 mod store_error;
 
 pub use store_error::StoreError;

@@ -11,6 +11,9 @@ pub enum StoreError {
     /// The log failed, and the store with it.
     #[error("{0}")]
     Log(LogError),
+    /// No memory was left to keep what the replica had done, and the store failed.
+    #[error("out of memory")]
+    OutOfMemory,
     /// An earlier call failed. What is kept is told by opening it again.
     #[error("the store failed earlier")]
     Failed,

@@ -1,0 +1,32 @@
+-- What a delivery leaves to be kept, by the table of deliveries.
+use Rattle.std.proofs.Common.{◌≡◌, ℕ, List, refl, sym, subst}
+use Rattle.op_model.specs.Meaning.{MapState, greater}
+use Rattle.op_model.specs.State.{join}
+use Rattle.sync_model.specs.Closing.{IsBelow, held_state}
+use Rattle.sync_model.specs.Differ.{Held}
+use Rattle.replica_model.specs.Mail.{Mail, Delta}
+use Rattle.replica_model.specs.Replica.{Replica, restarts}
+use Rattle.replica_model.specs.Delivery.{Outcome, Joined, Done, Turn, delivered, turn}
+use Rattle.replica_model.specs.Step.{IsDelivery}
+use Rattle.replica_model.proofs.Growing.{below_join}
+use Rattle.replica_model.proofs.Rows.{each_row}
+use Rattle.replica_store.specs.Took.{TookAs}
+
+row : (hash_of : List ℕ → ℕ) (own : Held) (r : Replica) (mail : Mail) → TookAs r mail (delivered hash_of own r mail).outcome (delivered hash_of own r mail).new
+row hash_of own r = each_row hash_of own r (λ mail t. TookAs r mail t.outcome t.new) (record {
+  ignoring = λ mail. refl;
+  mismatch = λ mail. refl;
+  delta = λ d. (d, refl, refl);
+  told_again = λ s seen k e. refl;
+  kept = λ s seen here none. refl;
+  gone = λ s p. refl;
+  page = λ s p k page. refl;
+  opening_done = λ s c root o f there first took complete. (refl, below_join r.live (held_state f.built c));
+  opening_sent = λ s c root o f there first took. refl;
+  page_done = λ s sent o a f there accepted took complete. (refl, below_join r.live (held_state f.built a.context));
+  page_sent = λ s sent o a f there accepted took. refl;
+  ended = λ s o there. refl;
+})
+
+pub took : (hash_of : List ℕ → ℕ) (old : Replica) (mail : Mail) (new : Replica) (outcome : Outcome) (out : List Mail) → IsDelivery hash_of old mail new outcome out → TookAs old mail outcome new
+took hash_of old mail new outcome out h = subst (λ (t : Turn). TookAs old mail t.outcome t.new) h.2 (row hash_of h.0 old mail)
