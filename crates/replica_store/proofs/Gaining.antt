@@ -13,7 +13,10 @@ use Rattle.replica_model.specs.Replica.{Replica, restarts}
 use Rattle.replica_store.specs.Entry.{OPENED, CHANGED, SaysNumber, SaysDelta}
 use Rattle.replica_store.specs.Rebuilt.{IsRebuilt}
 use Rattle.replica_store.specs.Kept.{Keeps, GainsMessage, GainsNumber}
-use Rattle.replica_store.proofs.Rebuilding.{rebuilt_any, rebuilt_delta, rebuilt_number, join_above}
+use Rattle.replica_model.specs.Step.{Answer, Flush, IsCall}
+use Rattle.replica_store.specs.Behind.{IsBehind}
+use Rattle.replica_store.proofs.Behind.{flush_sends}
+use Rattle.replica_store.proofs.Rebuilt.{rebuilt_any, rebuilt_delta, rebuilt_number, join_above}
 
 -- a message that means a delta is one
 is_delta : Mail → Bool
@@ -49,3 +52,18 @@ module _ (old new : Trees) (r t : Replica) (kept : Keeps old r) where
   gains_number n gains after is =
       subst (IsRebuilt (strings new)) (sym is)
       (rebuilt_any (gains.0 ∷ strings old) (strings new) _ gains.2 (rebuilt_number gains.0 (strings old) (restarts r) n gains.1 after kept))
+
+-- ---- a flush
+
+module _ (kept mid new : Replica) (answer : Answer) (old : Trees) (behind : IsBehind kept mid) (is : Keeps old kept) where
+  pub flushed_none : IsCall mid Flush new answer [] → Keeps old new
+  flushed_none call = elim (flush_sends kept mid new answer [] behind call) [
+    | inl none ↦ subst (IsRebuilt (strings old)) (sym none.1) is
+    | inr some ↦ absurd (let e = some.0 in cc)
+  ]
+
+  pub flushed_some : (m : MessageValue) (db : Trees) → IsCall mid Flush new answer (mail_of m ∷ []) → GainsMessage old db m → Keeps db new
+  flushed_some m db call gains = elim (flush_sends kept mid new answer (mail_of m ∷ []) behind call) [
+    | inl none ↦ absurd (let e = none.0 in cc)
+    | inr some ↦ gains_delta old db kept new is m mid.group (let e = some.0 in cc) gains some.1
+  ]

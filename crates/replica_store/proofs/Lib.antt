@@ -1,6 +1,8 @@
 pub mod Entries
-pub mod Rebuilding
-pub mod Writing
-pub mod Taking
+pub mod Rebuilt
+pub mod Behind
+pub mod Took
 pub mod Gaining
 pub mod Telling
+pub mod Surviving
+pub mod Systems

@@ -13,7 +13,7 @@ use Rattle.replica_store.specs.Entry.{Entry, Named, Opened, Changed, NAMED, OPEN
 use Rattle.replica_store.specs.Rebuilt.{Says, AreBelow}
 use Rattle.replica_store.specs.Reading.{IsTold, HasJoined}
 use Rattle.replica_store.proofs.Entries.{one_number, one_state, one_kind}
-use Rattle.replica_store.proofs.Rebuilding.{below_other, join_below}
+use Rattle.replica_store.proofs.Rebuilt.{below_other, join_below}
 
 pub none_told : (name : ℕ) → IsTold name [] false 0
 none_told name = record {

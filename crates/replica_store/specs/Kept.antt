@@ -5,7 +5,7 @@ use Rattle.sqlite_trees.specs.Tree.{Trees}
 use Rattle.wire_form.specs.Message.{MessageValue, Spells}
 use Rattle.durable_log.specs.Log.{strings, Gains, IsReady}
 use Rattle.replica_model.specs.Replica.{Replica, restarts}
-use Rattle.replica_store.specs.Entry.{OPENED, CHANGED, SaysNumber}
+use Rattle.replica_store.specs.Entry.{NAMED, OPENED, CHANGED, SaysNumber}
 use Rattle.replica_store.specs.Rebuilt.{IsRebuilt}
 
 -- the strings of a database come to the replica as it comes back
@@ -27,3 +27,6 @@ GainsMessage old new message = (bytes : List ℕ) × Spells bytes message × Gai
 
 abbrev pub GainsNumber : Trees → Trees → ℕ → Type 0
 GainsNumber old new number = (string : List ℕ) × SaysNumber OPENED string number × Gains old new string
+
+abbrev pub GainsName : Trees → Trees → ℕ → Type 0
+GainsName old new name = (string : List ℕ) × SaysNumber NAMED string name × Gains old new string

@@ -1,6 +1,6 @@
 -- The replica that a set of strings comes to: it holds the least state above all their deltas, in whatever order and however often they stand.
 -- Of this project; states and their join are those of Almeida, Shoker and Baquero, "Delta State Replicated Data Types" (2018).
-use Rattle.std.specs.Prelude.{◌≡◌, ◌⊎◌, ℕ, ◌≤◌, List, [], Contains}
+use Rattle.std.specs.Prelude.{◌≡◌, ◌⊎◌, ◌↔◌, ℕ, ◌≤◌, List, [], Contains}
 use Rattle.op_model.specs.Meaning.{MapState, state}
 use Rattle.sync_model.specs.Closing.{IsBelow}
 use Rattle.replica_model.specs.Replica.{Replica, fresh}
@@ -28,3 +28,7 @@ pub record IsRebuilt (strings : List (List ℕ)) (r : Replica) : Type 0 where
 -- no string is there yet, and nothing happened to the replica
 abbrev pub IsKeptAs : List (List ℕ) → Replica → Type 0
 IsKeptAs strings r = IsRebuilt strings r ⊎ ((strings ≡ []) × (r ≡ fresh r.name))
+
+-- Strings with the same members come to one replica at most.
+abbrev pub OneReplica : Type 0
+OneReplica = (xs ys : List (List ℕ)) (r s : Replica) → ((string : List ℕ) → Contains xs string ↔ Contains ys string) → IsRebuilt xs r → IsRebuilt ys s → r ≡ s

@@ -20,6 +20,9 @@ pub enum StoreError {
     /// The file keeps the replica of this name, and another was named.
     #[error("the file keeps replica {0}")]
     OtherName(Name),
+    /// A message knows a write of the replica's name that the replica does not know: the file is not the newest of its name.
+    #[error("the memory of this name is lost")]
+    LostMemory,
     /// The strings of the file keep no replica.
     #[error("the file keeps no replica")]
     NotAReplica,

@@ -1,5 +1,8 @@
 -- What an own write and the flush of it come to.
 use Rattle.std.proofs.Common.{◌≡◌, ◌⊎◌, inl, inr, ℕ, ◌≤◌, Bool, true, false, ◌||◌, Option, Some, None, List, [], ◌∷◌, refl, sym, ap, subst, ◌∙◌, arith}
+use Rattle.causal_context.specs.Context.{HasNone}
+use Rattle.causal_join.specs.OrMap.{OrMapValue, or_map_at, or_map_state, path_of}
+use Rattle.dot_store.specs.Store.{HasNothing}
 use Rattle.dots.specs.declared.dot.Dot.{Dot}
 use Rattle.op_model.specs.Made.{erasure}
 use Rattle.op_model.specs.Meaning.{MapState, greater, state}
@@ -80,3 +83,7 @@ flush_sends kept mid new answer out behind h = elim h.1 [
     ap restarts some.1 ∙ (λ i. record (behind.is i) { group = state [] }) ∙ (λ i. record (restarts kept) { live = join greater kept.live mid.group; group = sym behind.sent i }),
   )
 ]
+
+-- a pair that holds nothing and knows no dot
+pub nothing_in : (pair : OrMapValue) → HasNothing (or_map_at pair.0) → HasNone pair.1 → or_map_state pair ≡ state []
+nothing_in pair nothing none = same_is (or_map_state pair) (state []) (record { at = λ place dot. nothing (path_of place) dot; has = λ dot. none dot })

@@ -1,5 +1,5 @@
 -- What a delivery leaves to be kept, by the table of deliveries.
-use Rattle.std.proofs.Common.{◌≡◌, ℕ, List, refl, sym, subst}
+use Rattle.std.proofs.Common.{◌≡◌, ℕ, ◌+◌, ◌≤◌, List, refl, sym, ap, subst, ◌∙◌, arith}
 use Rattle.op_model.specs.Meaning.{MapState, greater}
 use Rattle.op_model.specs.State.{join}
 use Rattle.sync_model.specs.Closing.{IsBelow, held_state}
@@ -7,7 +7,7 @@ use Rattle.sync_model.specs.Differ.{Held}
 use Rattle.replica_model.specs.Mail.{Mail, Delta}
 use Rattle.replica_model.specs.Replica.{Replica, restarts}
 use Rattle.replica_model.specs.Delivery.{Outcome, Joined, Done, Turn, delivered, turn}
-use Rattle.replica_model.specs.Step.{IsDelivery}
+use Rattle.replica_model.specs.Step.{Take, Ask, Came, Numbered, IsCall, IsDelivery, IsStep}
 use Rattle.replica_model.proofs.Growing.{below_join}
 use Rattle.replica_model.proofs.Rows.{each_row}
 use Rattle.replica_store.specs.Took.{TookAs}
@@ -30,3 +30,11 @@ row hash_of own r = each_row hash_of own r (λ mail t. TookAs r mail t.outcome t
 
 pub took : (hash_of : List ℕ → ℕ) (old : Replica) (mail : Mail) (new : Replica) (outcome : Outcome) (out : List Mail) → IsDelivery hash_of old mail new outcome out → TookAs old mail outcome new
 took hash_of old mail new outcome out h = subst (λ (t : Turn). TookAs old mail t.outcome t.new) h.2 (row hash_of h.0 old mail)
+
+pub took_step : (hash_of : List ℕ → ℕ) (old : Replica) (mail : Mail) (new : Replica) (outcome : Outcome) (out : List Mail) → IsStep hash_of old (Take mail) new (Came outcome) out → TookAs old mail outcome new
+took_step hash_of old mail new outcome out h = subst (λ o. TookAs old mail o new) (let e = sym h.1 in cc) (took hash_of old mail new h.0 out h.2)
+
+pub asked : (old new : Replica) (peer n : ℕ) (out : List Mail) → IsCall old (Ask peer) new (Numbered n) out → (old.opened ≤ n) × (restarts new ≡ record (restarts old) { opened = n })
+asked old new peer n out h =
+    let number : n ≡ old.opened + 1 = let e = h.5 in cc in
+    (omega (arith, number), ap restarts h.4 ∙ ap (λ m. record (restarts old) { opened = m }) (sym number))

@@ -12,7 +12,7 @@ use Rattle.replica_model.specs.Replica.{Replica, fresh, restarts}
 use Rattle.replica_model.proofs.Growing.{below_itself, below_join, below_below}
 use Rattle.replica_model.proofs.States.{same_is, is_same}
 use Rattle.replica_store.specs.Entry.{Entry, Named, Opened, Changed, NAMED, OPENED, CHANGED, SaysNumber, SaysDelta, IsEntry}
-use Rattle.replica_store.specs.Rebuilt.{Says, AreBelow, IsRebuilt, IsKeptAs}
+use Rattle.replica_store.specs.Rebuilt.{Says, AreBelow, IsRebuilt, OneReplica}
 use Rattle.replica_store.proofs.Entries.{one_number, one_state, one_kind}
 
 -- ---- states by order
@@ -41,23 +41,29 @@ join_above p q below = one_order p q ∙ same_is (join greater q p) q below
 
 -- ---- in whatever order
 
-says_any : (xs ys : List (List ℕ)) (e : Entry) → IsPermutation xs ys → Says xs e → Says ys e
-says_any xs ys e moved says = (says.0, Contains-permutation xs ys says.0 moved says.1, says.2)
+module _ (xs ys : List (List ℕ)) (there : (string : List ℕ) → Contains xs string → Contains ys string) (back : (string : List ℕ) → Contains ys string → Contains xs string) where
+  says_there : (e : Entry) → Says xs e → Says ys e
+  says_there e says = (says.0, there says.0 says.1, says.2)
+
+  says_back : (e : Entry) → Says ys e → Says xs e
+  says_back e says = (says.0, back says.0 says.1, says.2)
+
+  pub rebuilt_same : (r : Replica) → IsRebuilt xs r → IsRebuilt ys r
+  rebuilt_same r is = record {
+    named = says_there (Named r.name) is.named;
+    alone = λ name says. is.alone name (says_back (Named name) says);
+    above = λ d says. is.above d (says_back (Changed d) says);
+    least = λ p below. is.least p (λ d says. below d (says_there (Changed d) says));
+    numbers = λ n says. is.numbers n (says_back (Opened n) says);
+    newest = elim is.newest [ | inl none ↦ inl none | inr says ↦ inr (says_there (Opened r.opened) says) ];
+    group = is.group;
+    sessions = is.sessions;
+    kept = is.kept;
+  }
 
 pub rebuilt_any : (xs ys : List (List ℕ)) (r : Replica) → IsPermutation xs ys → IsRebuilt xs r → IsRebuilt ys r
 rebuilt_any xs ys r moved is =
-    let back = IsPermutation-sym xs ys moved in
-    record {
-      named = says_any xs ys (Named r.name) moved is.named;
-      alone = λ name says. is.alone name (says_any ys xs (Named name) back says);
-      above = λ d says. is.above d (says_any ys xs (Changed d) back says);
-      least = λ p below. is.least p (λ d says. below d (says_any xs ys (Changed d) moved says));
-      numbers = λ n says. is.numbers n (says_any ys xs (Opened n) back says);
-      newest = elim is.newest [ inl none ↦ inl none | inr says ↦ inr (says_any xs ys (Opened r.opened) moved says) ];
-      group = is.group;
-      sessions = is.sessions;
-      kept = is.kept;
-    }
+    rebuilt_same xs ys (λ s h. Contains-permutation xs ys s moved h) (λ s h. Contains-permutation ys xs s (IsPermutation-sym xs ys moved) h) r is
 
 -- and it is one replica
 pub one_rebuilt : (xs : List (List ℕ)) (r s : Replica) → IsRebuilt xs r → IsRebuilt xs s → r ≡ s
@@ -79,6 +85,9 @@ one_rebuilt xs r s p q =
 
     one_newest : IsRebuilt xs r → IsRebuilt xs s → r.opened ≡ s.opened
     one_newest p q = omega (arith, up r s p q, up s r q p)
+
+pub one_replica : OneReplica
+one_replica xs ys r s same p q = one_rebuilt ys r s (rebuilt_same xs ys (λ string. (same string).0) (λ string. (same string).1) r p) q
 
 -- ---- one string more
 

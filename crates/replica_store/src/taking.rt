@@ -1,0 +1,134 @@
+// What a store takes in.
+ghost use Rattle.std.specs.Prelude.{◌≡◌, false, Err, IfOk, OnOk};
+ghost use Rattle.sqlite.specs.State.{HasCleanDisk};
+ghost use Rattle.durable_log.specs.Log.{log_state};
+ghost use Rattle.wire_form.specs.Message.{message_of};
+ghost use Rattle.replica_model.specs.Mail.{Delta, mail_of};
+ghost use Rattle.replica_model.specs.Replica.{Replica as ReplicaModel, restarts};
+ghost use Rattle.replica_model.specs.Step.{Take, Came};
+ghost use Rattle.replica_core.specs.Answered.{outcome_of};
+ghost use Rattle.replica_core.specs.Guarding.{HasLost};
+ghost use Rattle.replica_core.specs.Meaning.{meaning};
+ghost use Rattle.replica_core.specs.Saving.{restored};
+ghost use Rattle.replica_core.specs.Stepping.{Steps, mails_of};
+ghost use Rattle.replica_store.specs.Kept.{Keeps, IsKept, KeepsEither, GainsMessage};
+ghost use Rattle.replica_store.specs.Took.{TookAs};
+
+use crate::keeping::keep_message;
+use crate::store::Store;
+use crate::store_error::StoreError;
+use durable_log::Log;
+use hash_path::PathHash;
+use replica_core::{Delivered, Outcome, Replica};
+use saved_form::Saved;
+use sqlite::Alter;
+use std::alloc::Global;
+use wire_form::Message;
+
+// What the replica comes back from.
+fn saved<H: PathHash>(alloc: Global, replica: &Replica<H>) -> Result<Saved, StoreError>
+    ensures { IfOk result (λ saved. restored saved ≡ restarts (meaning replica.now)) }
+{
+    let Ok(checkpoint) = replica.checkpoint() else {
+        return Err(StoreError::OutOfMemory);
+    };
+    let saved = checkpoint.saved(alloc);
+    drop(checkpoint);
+    match saved {
+        Ok(saved) => Ok(saved),
+        Err(_) => Err(StoreError::OutOfMemory),
+    }
+}
+
+// All that the replica holds, as a delta.
+fn whole<H: PathHash>(alloc: Global, replica: &Replica<H>) -> Result<Message, StoreError>
+    ensures { IfOk result (λ message. mail_of (message_of message) ≡ Delta (meaning replica.now).live) }
+{
+    let Saved {
+        name: _,
+        opened: _,
+        live,
+        group,
+    } = saved(alloc, replica)?;
+    drop(group);
+    Ok(Message::Delta(live))
+}
+
+// Keeps what the message brought: of a delta the message, of the end of a session all that the replica holds now, and else nothing.
+fn keep_taken<S: Alter, H: PathHash>(
+    alloc: Global,
+    log: &mut Log<S>,
+    replica: &Replica<H>,
+    message: &Message,
+    outcome: Outcome,
+) -> Result<(), StoreError>
+    requires { log.old.is_failed ≡ false }
+    ensures kept { (old : ReplicaModel) → TookAs old (mail_of (message_of message.now)) (outcome_of outcome) (meaning replica.now) → HasCleanDisk (log_state S.Store log.new)
+        → Keeps (log_state S.Store log.old).now.trees old → OnOk result (IsKept (log_state S.Store log.new) (meaning replica.now)) }
+    ensures any_moment { (old : ReplicaModel) → TookAs old (mail_of (message_of message.now)) (outcome_of outcome) (meaning replica.now) → HasCleanDisk (log_state S.Store log.new)
+        → Keeps (log_state S.Store log.old).now.trees old → KeepsEither (log_state S.Store log.new) old (meaning replica.now) }
+    ensures clean { HasCleanDisk (log_state S.Store log.new) → HasCleanDisk (log_state S.Store log.old) }
+    ensures stays { OnOk result (log.new.is_failed ≡ false) }
+{
+    // Asked for what it promises of a crash.
+    let _ = log.is_failed();
+    match outcome {
+        Outcome::Joined => {
+            keep_message(alloc, log, message)?;
+            Ok(())
+        }
+        Outcome::Done => {
+            let all = whole(alloc, replica)?;
+            let kept = keep_message(alloc, log, &all);
+            drop(all);
+            match kept {
+                Ok(bytes) => {
+                    drop(bytes);
+                    Ok(())
+                }
+                Err(error) => Err(error),
+            }
+        }
+        Outcome::Sent => Ok(()),
+        Outcome::Ignored => Ok(()),
+        Outcome::Mismatch => Ok(()),
+        Outcome::Gone => Ok(()),
+    }
+}
+
+impl<S: Alter, H: PathHash> Store<S, H> {
+    /// Takes a message in, as the replica's `deliver` does, and returns once what it brought is on the disk: what came of it, and what is to be
+    /// sent for it.
+    ///
+    /// A message that knows a write of this name that the replica does not know is refused as such: the file is not the newest of its name.
+    /// Then nothing changed, nor where the replica refuses the message for want of memory. Any other error leaves the store failed. Takes what the replica's
+    /// call takes; for a delta a write of it to the disk, and where a synchronisation ends a write of all that the replica holds then, with a
+    /// wait for it; and else no write.
+    pub fn deliver(&mut self, alloc: Global, message: &Message) -> Result<Delivered, StoreError>
+        ensures ok { IfOk result (λ told. Steps H.hash_of self.old.replica self.new.replica (Take (mail_of (message_of message.now))) (Came (outcome_of told.outcome)) (mails_of told.replies.items)) }
+        ensures lost { HasLost (meaning self.old.replica) (mail_of (message_of message.now)) → self.old.is_failed ≡ false → (result ≡ Err StoreError.LostMemory) × (self.new ≡ self.old) }
+        ensures kept { HasCleanDisk (log_state S.Store self.new.log) → OnOk result (IsKept (log_state S.Store self.new.log) (meaning self.new.replica)) }
+        ensures any_moment { self.old.is_failed ≡ false → HasCleanDisk (log_state S.Store self.new.log) → KeepsEither (log_state S.Store self.new.log) (meaning self.old.replica) (meaning self.new.replica) }
+    {
+        if self.is_failed {
+            return Err(StoreError::Failed);
+        }
+        // Asked for what it promises of a crash.
+        let _ = self.log.is_failed();
+        if self.replica.has_lost(message) {
+            return Err(StoreError::LostMemory);
+        }
+        let told = match self.replica.deliver(message) {
+            Ok(told) => told,
+            Err(refusal) => return Err(StoreError::Refused(refusal)),
+        };
+        match keep_taken(alloc, &mut self.log, &self.replica, message, told.outcome) {
+            Ok(()) => Ok(told),
+            Err(error) => {
+                drop(told);
+                self.is_failed = true;
+                Err(error)
+            }
+        }
+    }
+}
