@@ -55,7 +55,7 @@ module _ (xs ys : List (List ℕ)) (there : (string : List ℕ) → Contains xs 
     above = λ d says. is.above d (says_back (Changed d) says);
     least = λ p below. is.least p (λ d says. below d (says_there (Changed d) says));
     numbers = λ n says. is.numbers n (says_back (Opened n) says);
-    newest = elim is.newest [ | inl none ↦ inl none | inr says ↦ inr (says_there (Opened r.opened) says) ];
+    newest = elim is.newest [ inl none ↦ inl none | inr says ↦ inr (says_there (Opened r.opened) says) ];
     group = is.group;
     sessions = is.sessions;
     kept = is.kept;

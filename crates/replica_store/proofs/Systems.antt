@@ -44,12 +44,11 @@ module _ (hash_of : List ℕ → ℕ) (s : System) (name : ℕ) (there : is_amon
     saves = (new, Nothing, out, (there, refl, subst (λ r. IsStep hash_of r (Do Flush) new Nothing out) (sym (put_there s.replica name mid)) sent), refl)
 
     pub wrote : (t : System) × (Goes hash_of s (written name call) t × (t.replica name ≡ new) × (t.saved name ≡ new) × (t.messages ≡ s.messages ++ out)) × (t.nodes ≡ s.nodes)
-    wrote =
-        (
-          after,
-          ((goes hash_of s (At name call) mid [], passes call mid answer is made, (after, saves, refl)), put_there (put s.replica name mid) name new, put_there s.saved name new, ap (λ ms. ms ++ out) (append-nil s.messages)),
-          refl,
-        )
+    wrote = (
+      after,
+      ((goes hash_of s (At name call) mid [], passes call mid answer is made, (after, saves, refl)), put_there (put s.replica name mid) name new, put_there s.saved name new, ap (λ ms. ms ++ out) (append-nil s.messages)),
+      refl,
+    )
 
   -- a crash puts what was saved in place
   pub crashed : (t : System) × Occurs hash_of s (Crashes name) t × (t.replica name ≡ restarts (s.saved name))
@@ -70,14 +69,13 @@ goes_on hash_of (x ∷ xs) ys s t u first more = (first.0, first.1, goes_on hash
 pub crashes_come_back : CrashesComeBack
 crashes_come_back hash_of s name call mid new answer out strings back is there saved made sent kept rebuilt = elim kept [
   | inl old ↦ (
-    let c = crashed hash_of s name there in
-    (c.0, inl (c.0, c.1, refl), c.2 ∙ saved ∙ one_rebuilt strings (restarts (s.replica name)) back old rebuilt))
+      let c = crashed hash_of s name there in
+      (c.0, inl (c.0, c.1, refl), c.2 ∙ saved ∙ one_rebuilt strings (restarts (s.replica name)) back old rebuilt))
   | inr now ↦ (
-    let w = wrote hash_of s name there call mid new answer out is made sent in
-    let c = crashed hash_of w.0 name (ap (λ ns. is_among ns name) w.2 ∙ there) in
-    (
-      c.0,
-      inr (goes_on hash_of (written name call) (Crashes name ∷ []) s w.0 c.0 w.1.0 (c.0, c.1, refl)),
-      c.2 ∙ ap restarts w.1.2 ∙ one_rebuilt strings (restarts new) back now rebuilt,
-    ))
+      let w = wrote hash_of s name there call mid new answer out is made sent in
+      let c = crashed hash_of w.0 name (ap (λ ns. is_among ns name) w.2 ∙ there) in (
+        c.0,
+        inr (goes_on hash_of (written name call) (Crashes name ∷ []) s w.0 c.0 w.1.0 (c.0, c.1, refl)),
+        c.2 ∙ ap restarts w.1.2 ∙ one_rebuilt strings (restarts new) back now rebuilt,
+      ))
 ]

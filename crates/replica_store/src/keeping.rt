@@ -85,11 +85,7 @@ pub fn keep_number<S: Alter>(alloc: Global, log: &mut Log<S>, number: u64) -> Re
 }
 
 /// Keeps the name.
-pub fn keep_name<S: Alter>(
-    alloc: Global,
-    log: &mut Log<S>,
-    name: Name,
-) -> Result<(), StoreError>
+pub fn keep_name<S: Alter>(alloc: Global, log: &mut Log<S>, name: Name) -> Result<(), StoreError>
     ensures kept { HasCleanDisk (log_state S.Store log.new) → OnOk result (IsReady (log_state S.Store log.new) × GainsName (log_state S.Store log.old).now.trees (log_state S.Store log.new).now.trees name) }
     ensures any_moment { Survives (log_state S.Store log.old) (log_state S.Store log.new) (λ db. GainsName (log_state S.Store log.old).now.trees db name) }
     ensures stays { OnOk result (log.new.is_failed ≡ false) }

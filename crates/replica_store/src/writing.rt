@@ -58,7 +58,12 @@ fn keep_flushed<S: Alter, H: PathHash>(
 
 impl<S: Alter, H: PathHash> Store<S, H> {
     /// Writes a value to the empty field of a key, as `put_field` does.
-    pub fn put(&mut self, alloc: Global, key: &Key, value: &Value) -> Result<Written<Dot>, StoreError>
+    pub fn put(
+        &mut self,
+        alloc: Global,
+        key: &Key,
+        value: &Value,
+    ) -> Result<Written<Dot>, StoreError>
         ensures ok { IfOk result (λ written. (out : List Mail) × AreSent written.delta out
             × Writes H.hash_of self.old.replica self.new.replica (Put (plain key.now) value.now) (Made written.answer) out) }
         ensures kept { HasCleanDisk (log_state S.Store self.new.log) → OnOk result (IsKept (log_state S.Store self.new.log) (meaning self.new.replica)) }
@@ -133,7 +138,12 @@ impl<S: Alter, H: PathHash> Store<S, H> {
     }
 
     /// Removes a field of a key, as `remove` does a key.
-    pub fn remove_field(&mut self, alloc: Global, key: &Key, field: &Field) -> Result<Written<u64>, StoreError>
+    pub fn remove_field(
+        &mut self,
+        alloc: Global,
+        key: &Key,
+        field: &Field,
+    ) -> Result<Written<u64>, StoreError>
         ensures ok { IfOk result (λ written. (out : List Mail) × AreSent written.delta out
             × Writes H.hash_of self.old.replica self.new.replica (RemoveField (place_of key.now field.now)) (Counted written.answer) out) }
         ensures kept { HasCleanDisk (log_state S.Store self.new.log) → OnOk result (IsKept (log_state S.Store self.new.log) (meaning self.new.replica)) }

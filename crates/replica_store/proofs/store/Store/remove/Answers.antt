@@ -24,19 +24,24 @@ pub invariant_of-self-in-Ok-keep_flushed : goal.invariant_of-self-in-Ok-keep_flu
 invariant_of-self-in-Ok-keep_flushed g c fresh =
     let old = meaning c.self.inside.replica in
     let mid = meaning c.remove.new.self in
-    let holds = c.self.invariant c.if-self.false in
-    (c.in-Ok-keep_flushed.ensures.stays, λ clean.
-    let keeps = holds.1 (c.keep_flushed.ensures.clean clean) in
-    (c.in-Ok-keep_flushed.ensures.kept old (behind old mid keeps.group (remove_made old mid c.args.key.now _ c.in-Ok.ensures.ok.step)) clean keeps).now)
+    let holds = c.self.invariant c.if-self.false in (
+      c.in-Ok-keep_flushed.ensures.stays,
+      λ clean.
+          let keeps = holds.1 (c.keep_flushed.ensures.clean clean) in
+          (c.in-Ok-keep_flushed.ensures.kept old (behind old mid keeps.group (remove_made old mid c.args.key.now _ c.in-Ok.ensures.ok.step)) clean keeps).now,
+    )
 
 pub returns-in-Ok-keep_flushed-clause-ok : goal.returns-in-Ok-keep_flushed-clause-ok
 returns-in-Ok-keep_flushed-clause-ok g c =
-    let sent = c.in-Ok-keep_flushed.ensures.sent in
-    (sent.0, sent.1, record {
-      mid = c.remove.new.self;
-      made = subst (λ (v : StoreValue _ _). Steps g.H.PathHash.hash_of v.replica c.remove.new.self (Do (Remove c.args.key.now)) (Counted c.in-Ok.number) []) c.self.view_is c.in-Ok.ensures.ok;
-      sent = sent.2;
-    })
+    let sent = c.in-Ok-keep_flushed.ensures.sent in (
+      sent.0,
+      sent.1,
+      record {
+        mid = c.remove.new.self;
+        made = subst (λ (v : StoreValue _ _). Steps g.H.PathHash.hash_of v.replica c.remove.new.self (Do (Remove c.args.key.now)) (Counted c.in-Ok.number) []) c.self.view_is c.in-Ok.ensures.ok;
+        sent = sent.2;
+      },
+    )
 
 pub returns-in-Ok-keep_flushed-clause-kept : goal.returns-in-Ok-keep_flushed-clause-kept
 returns-in-Ok-keep_flushed-clause-kept g c clean =
