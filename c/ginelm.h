@@ -130,6 +130,10 @@ uint32_t ginelm_flush(ginelm *here);
  * that it named. The texts are what is to be sent for it, each to the replica that ginelm_text tells. NOT_A_MESSAGE. */
 uint32_t ginelm_take(ginelm *here, const uint8_t *bytes, size_t length, uint32_t *outcome, ginelm_named *session);
 
+/* Tells whether the message knows a write of this replica's name that the replica does not know: then two replicas use the
+ * name, or it was used before and what was known is lost, and the message is not to be taken. NOT_A_MESSAGE. */
+uint32_t ginelm_has_lost(ginelm *here, const uint8_t *bytes, size_t length, bool *lost);
+
 /* Opens a synchronisation, which brings all that the peer has seen. Tells its number; the one text is to be sent to
  * the peer. NO_NAME, SESSIONS_FULL, NUMBERS_SPENT. */
 uint32_t ginelm_ask(ginelm *here, uint64_t peer, uint64_t *number);

@@ -307,6 +307,12 @@ static void restarts(void) {
     CHECK(ginelm_flush(&back) == GINELM_DONE && count_of(&back) == 1);
     CHECK(ginelm_put(&back, T("k"), T("x"), &number) == GINELM_DONE && number == 3);
     CHECK(ginelm_ask(&back, 2, &number) == GINELM_DONE && number == 2);
+    CHECK(ginelm_has_lost(&back, message.bytes, message.length, &is) == GINELM_DONE && !is);
+    CHECK(ginelm_has_lost(&back, message.bytes, 1, &is) == GINELM_NOT_A_MESSAGE);
+    CHECK(ginelm_has_lost(&other, message.bytes, message.length, &is) == GINELM_EMPTY);
+    CHECK(ginelm_new(&other, 7) == GINELM_DONE);
+    CHECK(ginelm_has_lost(&other, message.bytes, message.length, &is) == GINELM_DONE && is);
+    ginelm_free(&other);
     CHECK(ginelm_new_from(&other, 0, saved.bytes, saved.length) == GINELM_NO_NAME);
     CHECK(ginelm_new_from(&other, 8, saved.bytes, 3) == GINELM_NOT_A_MESSAGE);
     CHECK(ginelm_new_from(&other, 8, saved.bytes, saved.length) == GINELM_DONE);

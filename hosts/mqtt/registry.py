@@ -115,6 +115,8 @@ class Registry:
                 self.ask(int(topic.rpartition("/")[2]), now)
             return
         try:
+            if self.replica.has_lost(payload):
+                raise SystemExit(f"the name {self.name} was used without its memory: start with the file of that time, or another name")
             self.changed(self.replica.take(payload).letters)
         except NotAMessage:
             pass

@@ -43,6 +43,7 @@ _CALLS: dict[str, tuple] = {
     "clear": (_HERE, _NUMBER),
     "flush": (_HERE,),
     "take": (_HERE, *_TEXT, _OUTCOME, _SESSION),
+    "has_lost": (_HERE, *_TEXT, _TEST),
     "ask": (_HERE, c_uint64, _NUMBER),
     "retry": (_HERE, c_uint64, _OUTCOME),
     "abandon": (_HERE, c_uint64, _TEST),

@@ -193,6 +193,11 @@ class Replica:
             letters = self._texts("take", *_bytes(data), byref(outcome), byref(named))
         return Taken(Outcome(outcome.value), _session(named), letters)
 
+    def has_lost(self, data: bytes) -> bool:
+        """Whether the message knows a write of this replica's name that it does not know: then two replicas use the name, or it
+        was used before and what was known is lost, and the message is not to be taken. Raises NotAMessage."""
+        return self._test("has_lost", *_bytes(data))
+
     def ask(self, peer: int) -> tuple[int, Letter]:
         """Opens a synchronisation, which brings all that the peer has seen: its number, and the letter to the peer.
 

@@ -148,6 +148,19 @@ def test_gone() -> None:
     assert asker.take(gone.data) == (Outcome.GONE, Session(2, 1, 1), [])
 
 
+def test_a_name_without_its_memory_is_told() -> None:
+    one, two = Replica(1), Replica(2)
+    one.put(b"k", b"v")
+    (letter,) = one.flush()
+    two.take(letter.data)
+    _, hello = two.ask(1)
+    assert not one.has_lost(hello.data) and not two.has_lost(letter.data)
+    forgetful = Replica(1)
+    assert forgetful.has_lost(hello.data) and forgetful.has_lost(letter.data)
+    with pytest.raises(ginelm.NotAMessage):
+        one.has_lost(b"no message")
+
+
 def test_threads_take_their_turns() -> None:
     replica = Replica(1)
     failed: list[BaseException] = []

@@ -65,6 +65,12 @@ extern "C" {
         outcome: *mut u32,
         session: *mut Named,
     ) -> u32;
+    pub fn ginelm_has_lost(
+        here: *mut Handle,
+        bytes: *const u8,
+        length: usize,
+        lost: *mut bool,
+    ) -> u32;
     pub fn ginelm_ask(here: *mut Handle, peer: u64, number: *mut u64) -> u32;
     pub fn ginelm_retry(here: *mut Handle, number: u64, outcome: *mut u32) -> u32;
     pub fn ginelm_abandon(here: *mut Handle, number: u64, was_open: *mut bool) -> u32;

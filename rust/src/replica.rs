@@ -212,6 +212,16 @@ impl Replica {
         })
     }
 
+    /// Whether the message knows a write of this replica's name that it does not know: then two replicas use the name, or it was used
+    /// before and what was known is lost, and the message is not to be taken.
+    pub fn has_lost(&self, bytes: &[u8]) -> Result<bool, Error> {
+        let mut lost = false;
+        self.call(|here| unsafe {
+            calls::ginelm_has_lost(here, bytes.as_ptr(), bytes.len(), &mut lost)
+        })?;
+        Ok(lost)
+    }
+
     /// Opens a synchronisation, which brings all that the peer has seen: its number, and the letter to the peer.
     pub fn ask(&mut self, peer: NonZeroU64) -> Result<(u64, Letter), Error> {
         let mut number = 0;

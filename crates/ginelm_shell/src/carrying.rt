@@ -2,7 +2,7 @@
 // replica that it is for or `*` for everyone, and its bytes.
 use crate::fault::Fault;
 use crate::word::{hex, name, number};
-use ginelm::{Letter, Outcome, Replica, Taken};
+use ginelm::{Letter, Outcome, Replica, Taken, decode};
 use std::alloc::Global;
 use std::io;
 
@@ -17,8 +17,7 @@ pub(crate) fn carry_out(
     match (verb, rest) {
         (b"flush", []) => flush(rt, alloc, replica)?,
         (b"take", [digits]) => {
-            let taken = replica.take_bytes(&hex(alloc, digits)?)?;
-            took(rt, alloc, &taken)?;
+            take(rt, alloc, replica, &hex(alloc, digits)?)?;
         }
         (b"ask", [peer]) => {
             let (opened, letter) = replica.ask_bytes(name(peer).ok_or(Fault::Words)?)?;
@@ -49,6 +48,20 @@ fn flush(rt: &impl Print, alloc: Global, replica: &mut Replica) -> Result<(), Fa
         None => println!(rt; "ok 0")?,
     }
     Ok(())
+}
+
+fn take(rt: &impl Print, alloc: Global, replica: &mut Replica, bytes: &[u8]) -> Result<(), Fault> {
+    if tells_of_loss(alloc, replica, bytes)? {
+        return Err(Fault::Lost);
+    }
+    let taken = replica.take_bytes(bytes)?;
+    took(rt, alloc, &taken)
+}
+
+// Whether the message knows a write of the replica's name that the replica does not know.
+fn tells_of_loss(alloc: Global, replica: &Replica, bytes: &[u8]) -> Result<bool, Fault> {
+    let message = decode(alloc, bytes)?;
+    Ok(replica.has_lost(&message))
 }
 
 fn took(rt: &impl Print, alloc: Global, taken: &Taken) -> Result<(), Fault> {

@@ -9,6 +9,8 @@ pub(crate) enum Fault {
     Words,
     /// The replica refused it.
     Refused(Refusal),
+    /// A message knows a write of the replica's name that the replica does not know.
+    Lost,
     /// The answer could not be written.
     Output(io::Error),
 }

@@ -43,6 +43,9 @@ fn answer(rt: &impl Print, alloc: Global, replica: &mut Replica, line: &[u8]) ->
         Ok(()) => Ok(()),
         Err(Fault::Words) => println!(rt; "error wanted {}", usage(verb)),
         Err(Fault::Refused(refusal)) => println!(rt; "error {refusal}"),
+        Err(Fault::Lost) => println!(rt;
+            "error the name of this replica was used without its memory: start anew with another name"
+        ),
         Err(Fault::Output(error)) => Err(error),
     }
 }
