@@ -1,6 +1,6 @@
 -- What a handle held and holds, by what was taken out of it and given back: over plain variables.
-use Rattle.std.proofs.Common.{◌≡◌, Some, ap, subst}
-use Rattle.std.specs.Prelude.{IsOk, OnOk, Option, Result, Ok, Err}
+use Rattle.std.proofs.Common.{◌≡◌, Some, subst}
+use Rattle.std.specs.Prelude.{IsOk, OnOk, Result, Ok, Err}
 use Rattle.std.proofs.lemmas.Option.{same_Some}
 use Rattle.ginelm_c.specs.declared.held.Held.{Held}
 

@@ -1,5 +1,5 @@
 -- What is read of the texts that a call gave. Of this project.
-use Rattle.std.specs.Prelude.{ℕ, List, [], length, Option, Some, None, option_map, ◌==◌, cond, if◌then◌else◌}
+use Rattle.std.specs.Prelude.{ℕ, List, [], length, Option, Some, None, option_map, ◌==◌, if◌then◌else◌}
 use Rattle.std.specs.List.{slice_get}
 use Rattle.replica_core.specs.Carrying.{letter_or_none, letters_of}
 use Rattle.replica_core.specs.declared.letter.Letter.{Letter}

@@ -98,6 +98,7 @@ pub extern "C" fn ginelm_keys(alloc: Global, here: &mut Handle) -> u32
 
 fn contains(alloc: Global, held: &Held, key: &[u8], is_there: &mut bool) -> Result<(), Refusal>
     ensures ok { OnOk result (IsTrue is_there.new ↔ HoldsKey (meaning held.now.replica).live key.now) }
+    ensures untold { OnErr result (is_there.new ≡ is_there.old) }
 {
     let key = Key::new(alloc, key)?;
     *is_there = held.replica.contains(&key);
@@ -115,6 +116,7 @@ pub extern "C" fn ginelm_contains(
     ensures none { StaysEmpty here.old.value here.new.value result }
     ensures same { here.new.value ≡ here.old.value }
     ensures done { result ≡ 0 → (x : Held) → here.old.value ≡ Some x → (IsTrue is_there.new ↔ HoldsKey (meaning x.replica).live key.now) }
+    ensures untold { result ≢ 0 → is_there.new ≡ is_there.old }
 {
     let Some(held) = here.take(alloc) else {
         return EMPTY;

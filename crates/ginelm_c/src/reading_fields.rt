@@ -5,7 +5,7 @@ ghost use Rattle.op_model.specs.Meaning.{Stands, HoldsField};
 ghost use Rattle.op_model.specs.Place.{place_of};
 ghost use Rattle.replica_core.specs.Meaning.{meaning};
 ghost use Rattle.ginelm_c.specs.Handling.{Between, StaysEmpty, StaysFull};
-ghost use Rattle.ginelm_c.specs.Reading.{Shows};
+ghost use Rattle.ginelm_c.specs.Reading.{IsRootDigest, Knows, Shows, ShowsDigest};
 ghost use Rattle.ginelm_c.specs.declared.held.Held.{Held};
 
 use crate::answer::{EMPTY, told};
@@ -74,8 +74,17 @@ pub extern "C" fn ginelm_fields(alloc: Global, here: &mut Handle, key: &[u8]) ->
     answer
 }
 
-fn digest(held: &Held, out: &mut [u8], needed: &mut usize) -> u32 {
-    match held.replica.digest() {
+// The root digest of its map, if it has a key.
+fn root_digest(held: &Held) -> Option<[u8; 32]>
+    ensures { IsRootDigest held.now result }
+{
+    held.replica.digest()
+}
+
+fn digest(held: &Held, out: &mut [u8], needed: &mut usize) -> u32
+    ensures told { result ≡ 0 → ShowsDigest held.now (take needed.new out.new) }
+{
+    match root_digest(held) {
         Some(digest) => copied(&digest, out, needed),
         None => copied(&[], out, needed),
     }
@@ -91,6 +100,7 @@ pub extern "C" fn ginelm_digest(
 ) -> u32
     ensures none { StaysEmpty here.old.value here.new.value result }
     ensures same { here.new.value ≡ here.old.value }
+    ensures told { result ≡ 0 → (x : Held) → here.old.value ≡ Some x → ShowsDigest x (take needed.new out.new) }
 {
     let Some(held) = here.take(alloc) else {
         return EMPTY;
@@ -101,7 +111,9 @@ pub extern "C" fn ginelm_digest(
 }
 
 // Whether it knows the write of this name and number; it knows none of the name 0 or the number 0.
-fn knows(held: &Held, name: u64, number: u64) -> bool {
+fn knows(held: &Held, name: u64, number: u64) -> bool
+    ensures { IsTrue result ↔ Knows held.now name number }
+{
     let Some(name) = Name::new(name) else {
         return false;
     };
@@ -122,6 +134,7 @@ pub extern "C" fn ginelm_knows(
 ) -> u32
     ensures none { StaysEmpty here.old.value here.new.value result }
     ensures same { here.new.value ≡ here.old.value }
+    ensures told { (x : Held) → here.old.value ≡ Some x → (result ≡ 0) × (IsTrue is_known.new ↔ Knows x name number) }
 {
     let Some(held) = here.take(alloc) else {
         return EMPTY;

@@ -60,6 +60,8 @@ fn take(
 ) -> Result<(), Refusal>
     ensures ok { OnOk result (Takes held.old held.new bytes.now outcome.new session.new) }
     ensures unchanged { OnErr result (IsSame held.old held.new) }
+    ensures untold_outcome { OnErr result (outcome.new ≡ outcome.old) }
+    ensures untold_session { OnErr result (session.new ≡ session.old) }
 {
     let Taken {
         outcome: came,
@@ -86,6 +88,8 @@ pub extern "C" fn ginelm_take(
     ensures kept { StaysFull here.old.value here.new.value }
     ensures done { result ≡ 0 → Between here.old.value here.new.value (λ x y. Takes x y bytes.now outcome.new session.new) }
     ensures refused { result ≢ 0 → Between here.old.value here.new.value IsSame }
+    ensures untold_outcome { result ≢ 0 → outcome.new ≡ outcome.old }
+    ensures untold_session { result ≢ 0 → session.new ≡ session.old }
 {
     let Some(mut held) = here.take(alloc) else {
         return EMPTY;

@@ -20,6 +20,7 @@ use wire_form::Session;
 fn ask(held: &mut Held, peer: Name, number: &mut u64) -> Result<(), Refusal>
     ensures ok { OnOk result (Sent held.old held.new (Do (Ask peer)) (Numbered number.new)) }
     ensures unchanged { OnErr result (IsSame held.old held.new) }
+    ensures untold { OnErr result (number.new ≡ number.old) }
 {
     let (opened, letter) = held.replica.ask_bytes(peer)?;
     held.texts = Texts::Sent(Some(letter));
@@ -34,6 +35,7 @@ pub extern "C" fn ginelm_ask(alloc: Global, here: &mut Handle, peer: u64, number
     ensures kept { StaysFull here.old.value here.new.value }
     ensures done { result ≡ 0 → Between here.old.value here.new.value (λ x y. Sent x y (Do (Ask peer)) (Numbered number.new)) }
     ensures refused { result ≢ 0 → Between here.old.value here.new.value IsSame }
+    ensures untold { result ≢ 0 → number.new ≡ number.old }
 {
     let Some(mut held) = here.take(alloc) else {
         return EMPTY;
@@ -49,6 +51,7 @@ pub extern "C" fn ginelm_ask(alloc: Global, here: &mut Handle, peer: u64, number
 fn retry(held: &mut Held, number: u64, outcome: &mut u32) -> Result<(), Refusal>
     ensures ok { OnOk result (Retries held.old held.new number outcome.new) }
     ensures unchanged { OnErr result (IsSame held.old held.new) }
+    ensures untold { OnErr result (outcome.new ≡ outcome.old) }
 {
     let (came, letters) = held.replica.retry_bytes(number)?;
     held.texts = Texts::Letters(letters);
@@ -68,6 +71,7 @@ pub extern "C" fn ginelm_retry(
     ensures kept { StaysFull here.old.value here.new.value }
     ensures done { result ≡ 0 → Between here.old.value here.new.value (λ x y. Retries x y number outcome.new) }
     ensures refused { result ≢ 0 → Between here.old.value here.new.value IsSame }
+    ensures untold { result ≢ 0 → outcome.new ≡ outcome.old }
 {
     let Some(mut held) = here.take(alloc) else {
         return EMPTY;
@@ -97,25 +101,27 @@ pub extern "C" fn ginelm_abandon(
     0
 }
 
-fn count(held: &Held, open: &mut usize) -> Result<(), Refusal>
-    ensures ok { OnOk result (open.new ≡ length (meaning held.now.replica).sessions) }
+fn count(held: &Held, opened: &mut usize) -> Result<(), Refusal>
+    ensures ok { OnOk result (opened.new ≡ length (meaning held.now.replica).sessions) }
+    ensures untold { OnErr result (opened.new ≡ opened.old) }
 {
     let sessions = held.replica.sessions()?;
-    *open = sessions.len();
+    *opened = sessions.len();
     Ok(())
 }
 
 /// Tells how many own synchronisations are open, at most eight.
 #[unsafe(no_mangle)]
-pub extern "C" fn ginelm_open(alloc: Global, here: &mut Handle, open: &mut usize) -> u32
+pub extern "C" fn ginelm_open(alloc: Global, here: &mut Handle, opened: &mut usize) -> u32
     ensures none { StaysEmpty here.old.value here.new.value result }
     ensures same { here.new.value ≡ here.old.value }
-    ensures done { result ≡ 0 → (x : Held) → here.old.value ≡ Some x → open.new ≡ length (meaning x.replica).sessions }
+    ensures done { result ≡ 0 → (x : Held) → here.old.value ≡ Some x → opened.new ≡ length (meaning x.replica).sessions }
+    ensures untold { result ≢ 0 → opened.new ≡ opened.old }
 {
     let Some(held) = here.take(alloc) else {
         return EMPTY;
     };
-    let answer = told(count(&held, open));
+    let answer = told(count(&held, opened));
     here.give(held);
     answer
 }

@@ -20,6 +20,7 @@ fn put(
 ) -> Result<(), Refusal>
     ensures ok { OnOk result (Puts held.old held.new (plain key.now) value.now number.new) }
     ensures unchanged { OnErr result (IsSame held.old held.new) }
+    ensures untold { OnErr result (number.new ≡ number.old) }
 {
     let key = Key::new(alloc, key)?;
     let value = Value::new(alloc, value)?;
@@ -41,6 +42,7 @@ pub extern "C" fn ginelm_put(
     ensures kept { StaysFull here.old.value here.new.value }
     ensures done { result ≡ 0 → Between here.old.value here.new.value (λ x y. Puts x y (plain key.now) value.now number.new) }
     ensures refused { result ≢ 0 → Between here.old.value here.new.value IsSame }
+    ensures untold { result ≢ 0 → number.new ≡ number.old }
 {
     let Some(mut held) = here.take(alloc) else {
         return EMPTY;
@@ -60,6 +62,7 @@ fn put_field(
 ) -> Result<(), Refusal>
     ensures ok { OnOk result (Puts held.old held.new (place_of key.now field.now) value.now number.new) }
     ensures unchanged { OnErr result (IsSame held.old held.new) }
+    ensures untold { OnErr result (number.new ≡ number.old) }
 {
     let key = Key::new(alloc, key)?;
     let field = Field::new(alloc, field)?;
@@ -83,6 +86,7 @@ pub extern "C" fn ginelm_put_field(
     ensures kept { StaysFull here.old.value here.new.value }
     ensures done { result ≡ 0 → Between here.old.value here.new.value (λ x y. Puts x y (place_of key.now field.now) value.now number.new) }
     ensures refused { result ≢ 0 → Between here.old.value here.new.value IsSame }
+    ensures untold { result ≢ 0 → number.new ≡ number.old }
 {
     let Some(mut held) = here.take(alloc) else {
         return EMPTY;
@@ -95,6 +99,7 @@ pub extern "C" fn ginelm_put_field(
 fn remove(alloc: Global, held: &mut Held, key: &[u8], observed: &mut u64) -> Result<(), Refusal>
     ensures ok { OnOk result (Makes held.old held.new (Do (Remove key.now)) (Counted observed.new)) }
     ensures unchanged { OnErr result (IsSame held.old held.new) }
+    ensures untold { OnErr result (observed.new ≡ observed.old) }
 {
     let key = Key::new(alloc, key)?;
     *observed = held.replica.remove(&key)?;
@@ -113,6 +118,7 @@ pub extern "C" fn ginelm_remove(
     ensures kept { StaysFull here.old.value here.new.value }
     ensures done { result ≡ 0 → Between here.old.value here.new.value (λ x y. Makes x y (Do (Remove key.now)) (Counted observed.new)) }
     ensures refused { result ≢ 0 → Between here.old.value here.new.value IsSame }
+    ensures untold { result ≢ 0 → observed.new ≡ observed.old }
 {
     let Some(mut held) = here.take(alloc) else {
         return EMPTY;
@@ -131,6 +137,7 @@ fn remove_field(
 ) -> Result<(), Refusal>
     ensures ok { OnOk result (Makes held.old held.new (Do (RemoveField (place_of key.now field.now))) (Counted observed.new)) }
     ensures unchanged { OnErr result (IsSame held.old held.new) }
+    ensures untold { OnErr result (observed.new ≡ observed.old) }
 {
     let key = Key::new(alloc, key)?;
     let field = Field::new(alloc, field)?;
@@ -151,6 +158,7 @@ pub extern "C" fn ginelm_remove_field(
     ensures kept { StaysFull here.old.value here.new.value }
     ensures done { result ≡ 0 → Between here.old.value here.new.value (λ x y. Makes x y (Do (RemoveField (place_of key.now field.now))) (Counted observed.new)) }
     ensures refused { result ≢ 0 → Between here.old.value here.new.value IsSame }
+    ensures untold { result ≢ 0 → observed.new ≡ observed.old }
 {
     let Some(mut held) = here.take(alloc) else {
         return EMPTY;
@@ -163,6 +171,7 @@ pub extern "C" fn ginelm_remove_field(
 fn clear(held: &mut Held, observed: &mut u64) -> Result<(), Refusal>
     ensures ok { OnOk result (Makes held.old held.new (Do Clear) (Counted observed.new)) }
     ensures unchanged { OnErr result (IsSame held.old held.new) }
+    ensures untold { OnErr result (observed.new ≡ observed.old) }
 {
     *observed = held.replica.clear()?;
     Ok(())
@@ -175,6 +184,7 @@ pub extern "C" fn ginelm_clear(alloc: Global, here: &mut Handle, observed: &mut 
     ensures kept { StaysFull here.old.value here.new.value }
     ensures done { result ≡ 0 → Between here.old.value here.new.value (λ x y. Makes x y (Do Clear) (Counted observed.new)) }
     ensures refused { result ≢ 0 → Between here.old.value here.new.value IsSame }
+    ensures untold { result ≢ 0 → observed.new ≡ observed.old }
 {
     let Some(mut held) = here.take(alloc) else {
         return EMPTY;

@@ -6,7 +6,6 @@ use denote.RawPtr.{Ptr}
 use denote.Param.Send.{IsSend, struct_send, owning_send, sendable}
 use denote.Param.SendFields.{declared_send}
 use denote.Builtin.{RawPtr}
-use denote.RattleType.{RattleType}
 use denote.Struct.Struct.{exits_of}
 use denote.Struct.Owning.{shape, fields, to}
 use Rattle.std_alloc.proofs.SendSync.{quiet, lies}
