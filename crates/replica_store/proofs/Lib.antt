@@ -6,3 +6,4 @@ pub mod Gaining
 pub mod Telling
 pub mod Surviving
 pub mod Systems
+pub mod Back
