@@ -1,5 +1,5 @@
 #!/usr/bin/env python3
-"""Kills replicas that are kept in files: python3 bench/kills/run.py [--kills N] [--images N] [--fails N] [--seed N] [PROGRAM]
+"""Kills replicas that are kept in files: python3 bench/kills/run.py [--kills N] [--images N] [--fails N] [--turns N] [--seed N] [--short] [PROGRAM]
 
 PROGRAM is the built crates/kept_replica. Four parts: a replica that is killed at random moments; images of power cuts, from a trace of what a
 replica wrote and synced; each call on the files failing in turn; and two replicas that exchange messages, of which a quarter is lost, while
@@ -396,7 +396,10 @@ def main():
     parser.add_argument("--fails", default=60, type=int)
     parser.add_argument("--turns", default=3000, type=int)
     parser.add_argument("--seed", default=1, type=int)
+    parser.add_argument("--short", action="store_true", help="a run of about a minute")
     asked = parser.parse_args()
+    if asked.short:
+        asked.kills, asked.images, asked.fails, asked.turns = 20, 40, 15, 300
     program, rng = asked.program.resolve(), random.Random(asked.seed)
     with tempfile.TemporaryDirectory() as place:
         folder = Path(place)
