@@ -3,11 +3,15 @@ use Rattle.std.specs.Prelude.{◌≡◌, ℕ, Bool, List, [], ◌∷◌, Option,
 use Rattle.std.specs.Coded.{Coded, code_by, coded×, coded_bool}
 use Rattle.std.specs.declared.vec.Vec.{Vec}
 use Rattle.wire_form.specs.Message.{MessageValue, Spells}
-use Rattle.durable_log.specs.Log.{LogValue, log_code}
+use Rattle.sqlite.specs.State.{State, HasCleanDisk}
+use Rattle.sqlite_trees.specs.declared.store.Store.{Ghosts}
+use Rattle.durable_log.specs.Log.{LogValue, log_code, log_state, strings}
+use Rattle.replica_model.specs.Replica.{Replica}
 use Rattle.replica_model.specs.Mail.{Mail, mail_of}
 use Rattle.replica_model.specs.Step.{Call, Answer, Nothing, Flush, Do}
 use Rattle.replica_core.specs.Meaning.{ReplicaValue, replica_code}
 use Rattle.replica_core.specs.Stepping.{Steps}
+use Rattle.replica_store.specs.Rebuilt.{IsKeptAs}
 
 -- its replica, its log, and whether a call failed
 pub record StoreValue (S Hash : Type 0) : Type 0 where
@@ -30,3 +34,7 @@ pub record Writes {Hash : Type 0} (hash_of : Hash → List ℕ → ℕ) (old new
   pub mid : ReplicaValue Hash
   pub made : Steps hash_of old mid (Do call) answer []
   pub sent : Steps hash_of mid new (Do Flush) Nothing out
+
+-- the replica comes back from a log that was opened so
+abbrev pub ComesBackFrom : {S : Type 0} → Ghosts S → (State → Type 0) → LogValue S → Replica → Type 0
+ComesBackFrom {S} g IsOpen now r = (log : LogValue S) × (HasCleanDisk (log_state g log) → IsOpen (log_state g log)) × IsKeptAs (strings (log_state g log).now.trees) r

@@ -7,6 +7,7 @@ ghost use Rattle.durable_log.specs.Log.{IsOpenLog, log_state, strings};
 ghost use Rattle.replica_core.specs.Meaning.{meaning};
 ghost use Rattle.replica_store.specs.Kept.{Keeps, IsKept};
 ghost use Rattle.replica_store.specs.Rebuilt.{IsKeptAs};
+ghost use Rattle.replica_store.specs.Store.{ComesBackFrom};
 
 use crate::keeping::keep_name;
 use crate::rebuilding::rebuild;
@@ -79,8 +80,7 @@ impl<S: Start, H: PathHash> Store<FileStore<FileFrom<S>>, H> {
         hash: H,
         name: Name,
     ) -> Result<Store<FileStore<FileFrom<S>>, H>, StoreError>
-        ensures back { IfOk result (λ store. HasCleanDisk (log_state over_files store.log) → (log : _) × (HasCleanDisk (log_state over_files log) → IsOpenLog (image_at S.Start) (log_state over_files log))
-            × IsKeptAs (strings (log_state over_files log).now.trees) (meaning store.replica)) }
+        ensures back { IfOk result (λ store. HasCleanDisk (log_state over_files store.log) → ComesBackFrom over_files (IsOpenLog (image_at S.Start)) store.log (meaning store.replica)) }
         ensures name { IfOk result (λ store. store.replica.name ≡ name) }
         ensures kept { IfOk result (λ store. HasCleanDisk (log_state over_files store.log) → IsKept (log_state over_files store.log) (meaning store.replica)) }
         ensures fresh { IfOk result (λ store. store.is_failed ≡ false) }
