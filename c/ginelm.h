@@ -21,7 +21,7 @@
  * pointer may be null where the length is 0. Nothing that is passed is kept.
  *
  * Answers. Each call answers GINELM_DONE, or why it was not done; a refused call changes nothing, and
- * sets none of the numbers that it tells, but for `needed`. OUT_OF_MEMORY can come of each call that
+ * sets none of the numbers that it tells, but for `needed` and `to` where a call is SHORT. OUT_OF_MEMORY can come of each call that
  * allocates, which are all but those whose comment says that they do not.
  *
  * What a call gives more than a number of stands behind the handle as texts, until the next call that
