@@ -62,6 +62,12 @@ fn give(rt: &impl Abort, here: &mut Replica, message: &Message) -> Delivered {
     here.deliver(message).expect(rt, "a delivery")
 }
 
+// Gives the first message that is to be sent.
+fn give_first(rt: &impl Abort, here: &mut Replica, told: &Delivered) -> Delivered {
+    let message = told.replies.first().expect(rt, "a message");
+    give(rt, here, message)
+}
+
 // Whether the bytes are refused as no save.
 fn is_refused(alloc: Global, bytes: &[u8]) -> bool {
     match decode_saved(alloc, bytes) {
@@ -136,7 +142,7 @@ fn what_was_saved_comes_back(rt: HostRuntime) {
     assert!(&rt; shows(&rt, alloc, &*again, b"late", &[]));
     let retried = again.retry(asked).expect(&rt, "memory");
     assert!(&rt; retried.outcome == Outcome::Ignored);
-    assert!(&rt; again.ask(name(&rt, 2)).expect(&rt, "an ask").0 == asked + 1);
+    assert!(&rt; again.ask(name(&rt, 2)).expect(&rt, "an ask").0 == asked.wrapping_add(1));
     let mut peer = replica(&rt, alloc, alloc, 2);
     take(&rt, &mut *peer, &sent(&rt, alloc, &mut *again));
     assert!(&rt; peer.digest() == again.digest());
@@ -151,10 +157,10 @@ fn a_snapshot_is_gone_after_a_restart(rt: HostRuntime) {
     let mut peer = replica(&rt, alloc, alloc, 2);
     let hello = peer.ask(name(&rt, 1)).expect(&rt, "an ask").1;
     let opening = give(&rt, &mut *here, &hello);
-    let ask = give(&rt, &mut *peer, &opening.replies[0]);
+    let ask = give_first(&rt, &mut *peer, &opening);
     let mut again = back(&rt, alloc, &saved(&rt, alloc, &*here));
-    let gone = give(&rt, &mut *again, &ask.replies[0]);
-    let end = give(&rt, &mut *peer, &gone.replies[0]);
+    let gone = give_first(&rt, &mut *again, &ask);
+    let end = give_first(&rt, &mut *peer, &gone);
     assert!(&rt; end.outcome == Outcome::Gone && peer.size() == 0);
 }
 
