@@ -26,11 +26,18 @@
 //
 // let (number, letter) = basket.ask_bytes(peer)?;                      // all that a peer has seen, where messages were lost
 //
+// basket.seal()?;                                                      // so that the next line costs what changed, and not the map
+// let now = basket.snapshot()?;
+// for key in &changes(rt.alloc(), &before, &now)? {                    // the keys at which two snapshots differ
+//     show(key);
+// }
+//
 // store.write(&encode_saved(rt.alloc(), basket.checkpoint()?.saved(rt.alloc())?)?);  // before what was written is sent
 // let basket = Replica::resume(rt.alloc(), Fnv1a, decode_saved(rt.alloc(), &store.read())?)?;
 pub use delta_ops::{fields, keys, size, values, values_of_key};
 pub use dots::{Dot, Field, Key, Name, Refusal, Value};
 pub use hash_path::{Fnv1a, PathHash};
+pub use map_changes::changes;
 pub use prefix_digest::FrozenMap;
 pub use replica_core::{Checkpoint, Delivered, Letter, Outcome, Replica, Taken};
 pub use saved_form::{Saved, decode_saved, encode_saved};

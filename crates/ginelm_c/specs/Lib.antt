@@ -5,3 +5,4 @@ pub mod Writing
 pub mod Sending
 pub mod Reading
 pub mod Saving
+pub mod Changing

@@ -4,6 +4,7 @@
 #![tactic(auto)]
 
 mod answer;
+mod changing;
 mod guarding;
 mod handle;
 mod held;

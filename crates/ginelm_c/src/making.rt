@@ -10,6 +10,7 @@ use crate::handle::Handle;
 use crate::held::Held;
 use crate::texts::Texts;
 use dots::{Name, Refusal};
+use gen_trie::Frozen;
 use hash_path::Fnv1a;
 use replica_core::Replica;
 use std::alloc::Global;
@@ -24,6 +25,7 @@ fn fresh(alloc: Global, name: Name) -> Result<Box<Held>, Refusal>
         Held {
             replica,
             texts: Texts::Nothing,
+            watched: Frozen::new(alloc, Fnv1a),
         },
     )?;
     Ok(held)

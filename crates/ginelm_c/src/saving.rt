@@ -11,6 +11,7 @@ use crate::handle::Handle;
 use crate::held::Held;
 use crate::texts::Texts;
 use dots::{Name, Refusal};
+use gen_trie::Frozen;
 use hash_path::Fnv1a;
 use replica_core::Replica;
 use saved_form::{decode_saved, encode_saved};
@@ -64,6 +65,7 @@ fn boxed(alloc: Global, replica: Replica) -> Result<Box<Held>, Refusal>
         Held {
             replica,
             texts: Texts::Nothing,
+            watched: Frozen::new(alloc, Fnv1a),
         },
     )?;
     Ok(held)

@@ -52,6 +52,7 @@ use Rattle.page_taking.specs.contracts.fetching.Fetching as Fetching
 use Rattle.sync_protocol.specs.contracts.answerer.Answerer as Answerer
 use Rattle.sync_protocol.specs.contracts.asker.Asker as Asker
 use Rattle.sync_protocol.specs.contracts.snapshot.Snapshot as Snapshot
+use Rattle.replica_core.specs.contracts.checkpoint.Checkpoint as Checkpoint
 use Rattle.replica_core.specs.contracts.replica.Replica as Replica
 
 -- ---- what stands at a key: the fields
@@ -76,10 +77,10 @@ fields_sync = search (AllFields.the_sync, crosses, sendable) depth 20
 -- ---- tries, and what holds them
 module _ (H : RattleType) (p : hashing.Ghosts H.Denot) (d : standard.Ghosts H.Denot) where
   module _ (V M : RattleType) (m : summing.Ghosts M.Denot V.Denot) where
-    frozen_send : IsSend V → IsSync V → IsSend M → IsSync M → IsSend H → IsSend (Frozen.the_row V M H Heap.the_row m p d ghosts)
+    pub frozen_send : IsSend V → IsSync V → IsSend M → IsSync M → IsSend H → IsSend (Frozen.the_row V M H Heap.the_row m p d ghosts)
     frozen_send v w n o h = search (Nodes.crosses, crosses, sendable) depth 60 fits 20000
 
-    frozen_sync : IsSend V → IsSync V → IsSend M → IsSync M → IsSync H → IsSync (Frozen.the_row V M H Heap.the_row m p d ghosts)
+    pub frozen_sync : IsSend V → IsSync V → IsSend M → IsSync M → IsSync H → IsSync (Frozen.the_row V M H Heap.the_row m p d ghosts)
     frozen_sync v w n o h = search (Nodes.crosses, crosses, sendable) depth 60 fits 20000
 
     module _ (P L : RattleType) (s : storing.Ghosts V.Denot Global P.Denot L.Denot) where
@@ -107,6 +108,9 @@ module _ (H : RattleType) (p : hashing.Ghosts H.Denot) (d : standard.Ghosts H.De
 
     answerer_send : IsSend H → IsSend (Answerer.the_row H Heap.the_row p d ghosts c)
     answerer_send h = search (snapshot_send, IndexMap.the_send, Session.the_send, Hasher.the_send, crosses, sendable) depth 20
+
+    pub checkpoint_send : IsSend H → IsSend (Checkpoint.the_row H Heap.the_row p d ghosts c)
+    checkpoint_send h = search (map_send, fields_send, fields_sync, Digests.the_send, Digests.the_sync, Context.the_send, Outgoing.the_send, Name.the_send, crosses, sendable) depth 20
 
     pub replica_send : IsSend H → IsSend (Replica.the_row H Heap.the_row p d ghosts c)
     replica_send h = search (

@@ -27,3 +27,4 @@ pub mod Whole
 pub mod Lacking
 pub mod Written
 pub mod Crossing
+pub mod Lost

@@ -1,5 +1,6 @@
 // The laws of a replica's sessions and kept snapshots: their turns, and the changes of their lists, are those of the model; what a
 // session builds is known to its opening; and what a replica by itself shows.
+ghost use Rattle.replica_core.specs.Guarding.{NoneHasLost};
 ghost use Rattle.replica_core.specs.Known.{KnownSteps};
 ghost use Rattle.replica_core.specs.Showing.{ShowsAlone};
 ghost use Rattle.replica_core.specs.Tied.{
@@ -64,4 +65,10 @@ pub fn what_is_built_is_known()
 /// of its sessions met have one SHA-256.
 pub fn a_replica_alone_shows_what_it_has_seen()
     ensures { ShowsAlone }
+{}
+
+/// In a world, where each replica keeps what it did, or comes back from what was saved before it sent, no message knows a write of a replica's
+/// name that the replica does not know. So a message that does tells that the name was used without its memory.
+pub fn no_message_of_a_world_tells_of_a_lost_memory()
+    ensures { NoneHasLost }
 {}

@@ -23,8 +23,9 @@ mod turning;
 pub use checkpoint::Checkpoint;
 pub use delivered::Delivered;
 pub use laws::{
-    a_replica_alone_shows_what_it_has_seen, sessions_are_found_as_told, sessions_change_in_place,
-    sessions_turn_as_told, snapshots_answer_as_told, what_is_built_is_known,
+    a_replica_alone_shows_what_it_has_seen, no_message_of_a_world_tells_of_a_lost_memory,
+    sessions_are_found_as_told, sessions_change_in_place, sessions_turn_as_told,
+    snapshots_answer_as_told, what_is_built_is_known,
 };
 pub use letter::Letter;
 pub use outcome::Outcome;

@@ -88,6 +88,18 @@ impl<H: PathHash, A: Allocator + Copy> Replica<H, A> {
         digest(self.live.store().frozen(), Prefix::root())
     }
 
+    /// Gives the nodes of the map that keep no digest theirs, as `ask` and a hello that is answered do, so that `digest` and what compares
+    /// snapshots take no time in what is below them. What is held, known and to be sent stays as it is, also where it is refused; a further call
+    /// goes on from there. Takes time in the nodes that were written since the last seal and in what stands right below them, copies those of
+    /// them that a snapshot shares, and takes no other memory.
+    /// Its only refusal is OutOfMemory.
+    pub fn seal(&mut self) -> Result<(), Refusal>
+        ensures same { self.new ≡ self.old }
+        ensures refused { IsOkUnless result Refusal.OutOfMemory }
+    {
+        self.live.seal()
+    }
+
     /// The map as it is, which stays so whatever is written. Copies nothing: it takes a reference count.
     /// Its only refusal is OutOfMemory.
     pub fn snapshot(&self) -> Result<FrozenMap<H, A>, Refusal>

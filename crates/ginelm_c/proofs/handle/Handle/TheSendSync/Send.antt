@@ -17,11 +17,13 @@ use Rattle.std.specs.declared.option.Option.TheVariants.{None, Some}
 use Rattle.ginelm_c.specs.Owning.{owns_held}
 use Rattle.ginelm_c.specs.contracts.held.Held as held
 use Rattle.ginelm_c.proofs.texts.Texts.TheSendSync as texts
-use Rattle.replica_core.proofs.Crossing.{object_send}
+use Rattle.hash_path.proofs.fnv1a.Fnv1a.TheSendSync as hashes
+use Rattle.prefix_digest.proofs.sha_summary.ShaSummary.TheSendSync as digests
+use Rattle.replica_core.proofs.Crossing.{object_send, frozen_send, fields_send, fields_sync}
 use Rattle.ginelm_c.specs.contracts.handle.Handle.{the_row, the_type}
 
 held_send : IsSend held.the_row
-held_send = declared_send held.the_type (object_send, (texts.the_send, tt))
+held_send = declared_send held.the_type (object_send, (texts.the_send, (search (frozen_send, fields_send, fields_sync, digests.the_send, digests.the_sync, hashes.the_send, sendable) depth 20, tt)))
 
 owned : (a : Global) (p : Ptr) (o : Option held.the_row.Denot) → Keyless (owns_held held.the_row a p o)
 owned a p None = tt
