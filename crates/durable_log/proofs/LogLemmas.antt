@@ -1,10 +1,10 @@
 -- What the one statement does.
-use Rattle.std.proofs.Common.{◌≡◌, ◌⊎◌, inl, inr, ℕ, ℤ, pos, negsuc, List, [], ◌∷◌, ◌++◌, map, fold, codes, slice_get, Bool, true, false, not, cond, Some, None, Ok, Err, Result, OnOk, IsTrue, refl, sym, ap, subst, ◌∙◌, append-nil, arith}
+use Rattle.std.proofs.Common.{◌≡◌, ◌≢◌, ◌⊎◌, inl, inr, ℕ, suc, ℤ, pos, negsuc, List, [], ◌∷◌, ◌++◌, map, fold, codes, slice_get, unwrap_or, Contains, Bool, true, false, not, cond, Some, None, Ok, Err, Result, OnOk, IsTrue, refl, sym, ap, subst, ◌∙◌, append-nil, arith}
 use Rattle.std.specs.Ordering.{is_eq, match_ordering}
 use Rattle.std.specs.declared.cmp.Ordering.{Ordering}
 use Rattle.std.specs.declared.cmp.Ordering.TheVariants.{Less, Equal, Greater}
 use Rattle.std.specs.List.Sorted.{IsPermutation}
-use Rattle.std.proofs.lemmas.List.Sorted.{IsPermutation-refl, IsPermutation-trans, IsPermutation-cons, IsPermutation-map, IsPermutation-append_left, IsPermutation-append_comm}
+use Rattle.std.proofs.lemmas.List.Sorted.{IsPermutation-refl, IsPermutation-trans, IsPermutation-cons, IsPermutation-map, IsPermutation-append_left, IsPermutation-append_comm, Contains-permutation}
 use Rattle.std.proofs.lemmas.Bool.{or_parts, and_parts}
 use Rattle.sqlite.specs.declared.types.Value.{Value}
 use Rattle.sqlite.specs.declared.types.Value.TheVariants.{Null, Int, Blob}
@@ -23,7 +23,7 @@ use Rattle.sqlite.specs.Change.{created, next_tree}
 use Rattle.sqlite.specs.Cast.{cast}
 use Rattle.sqlite.specs.Rowids.TheVariants.{Chosen}
 use Rattle.sqlite.specs.Does.{Tally, Does, lacks_sequence}
-use Rattle.sqlite.specs.Rows.{Written}
+use Rattle.sqlite.specs.Rows.{Written, last_id}
 use Rattle.sqlite_trees.specs.Tree.{Trees, rowid, put_row}
 use Rattle.sqlite_tied.specs.Compute.{everything}
 use Rattle.sqlite.specs.declared.error.Error.{Error}
@@ -32,10 +32,15 @@ use Rattle.sqlite.specs.Effect.{Database}
 use Rattle.sqlite.specs.State.{State, Opens, IsLive, IsUnchanged, mode_of, Writes, Executes, CommitsBy, MayCommit, MayWrite, text_of}
 use Rattle.sqlite_wal.specs.Recovery.{Image}
 use Rattle.sqlite.specs.Start.{FindsIn}
-use Rattle.sqlite.specs.Files.{AreFoundIn}
+use Rattle.sqlite.specs.Files.{AreFoundIn, image_of, file_state}
+use Rattle.sqlite.specs.Closing.{HoldsAlone, IsCopied}
+use Rattle.sqlite.specs.Held.{Held}
+use Rattle.sqlite_disk.specs.declared.Disk as disk
+use Rattle.sqlite_disk.specs.declared.Files.{Files}
+use Rattle.sqlite_store.specs.declared.store.FileStore.{FileStore}
 use Rattle.sqlite_catalog.specs.Listing.{IsSound}
 use Rattle.sqlite.proofs.Callers.{IsPlain, command_of, statement_of, runs_as, one_step}
-use Rattle.durable_log.specs.Log.{log_table, log_schema, no_schema, strings, Gains, IsReady, IsKept, IsEmptyLog, IsBegun, IsOpenLog}
+use Rattle.durable_log.specs.Log.{log_table, log_schema, no_schema, strings, Gains, IsReady, IsAt, KeepsPlaces, IsKept, IsEmptyLog, IsBegun, IsOpenLog, IsInFiles}
 
 -- ---- the rows
 
@@ -88,17 +93,18 @@ cast_null : cast Integer Null ≡ Null
 unfolding unary
 cast_null = either _ Null
 
-went : {B E R : Type 0} {b : B} {Stops : E → Type 0} → ((stop : E) × Stops stop × (Ok b ≡ Err stop)) ⊎ R → R
+pub went : {B E R : Type 0} {b : B} {Stops : E → Type 0} → ((stop : E) × Stops stop × (Ok b ≡ Err stop)) ⊎ R → R
 went (inl stopped) = absurd (let e = stopped.2 in cc)
 went (inr on) = on
 
-same_value : {B E : Type 0} {a b : B} → ◌≡◌ {A = Result B E} (Ok a) (Ok b) → a ≡ b
+pub same_value : {B E : Type 0} {a b : B} → ◌≡◌ {A = Result B E} (Ok a) (Ok b) → a ≡ b
 same_value e = cc
 
 -- the row is put in
 pub adds : (old : State) (string text : List ℕ) (tally : Tally) (after : Database) → old.now.schema ≡ log_schema
     → Does old.step_limit (mode_of old) (Blob string ∷ []) old.now text None insert (Ok (tally, after))
-    → (after.schema ≡ log_schema) × (is_taken (old.now.trees 0) (new_row (old.now.trees 0) string) ≡ false) × (after.trees 0 ≡ put_row (new_row (old.now.trees 0) string) (old.now.trees 0))
+    → (after.schema ≡ log_schema) × (is_taken (old.now.trees 0) (new_row (old.now.trees 0) string) ≡ false)
+    × (after.trees 0 ≡ put_row (new_row (old.now.trees 0) string) (old.now.trees 0)) × (tally.last ≡ Some (next_rowid (old.now.trees 0)))
 adds old string text tally after has h =
     let params = Blob string ∷ [] in
     let db = old.now.trees in
@@ -112,7 +118,9 @@ adds old string text tally after has h =
     let news : (edit_of db log_table [] Chosen 0 given.0).news ≡ new_row (db 0) string ∷ [] = ap (λ all. (edit_of db log_table [] Chosen 0 all).news) given.1.1 ∙ rw cast_null in
     let fresh : are_fresh (db 0) (new_row (db 0) string ∷ []) ≡ true = subst (λ n. are_fresh (db 0) n ≡ true) news applied.fresh in
     let edit : edited db (edit_of db log_table [] Chosen 0 given.0) ≡ put_row (new_row (db 0) string) (db 0) = ap (λ all. edited db (edit_of db log_table [] Chosen 0 all)) given.1.1 ∙ rw cast_null in
-    (ap (λ (d : Database). d.schema) now, false_from_not _ (and_parts _ _ fresh).0, ap (λ (d : Database). d.trees 0) now ∙ ap (λ (t : Trees). t 0) trees ∙ applied.rows ∙ edit)
+    let last : tally.last ≡ Some (next_rowid (db 0)) =
+    ap (λ (p : Tally × Database). p.0.last) (same_value (went (went done.2).2).2) ∙ ap (λ (it : Written). it.last) (same_value counted.2) ∙ ap last_id news in
+    (ap (λ (d : Database). d.schema) now, false_from_not _ (and_parts _ _ fresh).0, ap (λ (d : Database). d.trees 0) now ∙ ap (λ (t : Trees). t 0) trees ∙ applied.rows ∙ edit, last)
 
 -- ---- what `keep` promises
 
@@ -125,9 +133,27 @@ module _ (old new : State) (string : List ℕ) (has : old.now.schema ≡ log_sch
       let row = adds old string (statement_of insert_text (understood log_schema insert_text)) w.tally new.now has w.changed in
       let is : new.committed ≡ new.now = rw auto at w.shown.committed_is in
       record {
-        ready = record { schema = row.0; autocommit = w.shown.mode ∙ auto; crash = λ db may. settled db w.shown.is_open may ∙ ap (λ (d : Database). d.trees) is };
+        ready = record { schema = row.0; autocommit = w.shown.mode ∙ auto; committed = is; crash = λ db may. settled db w.shown.is_open may ∙ ap (λ (d : Database). d.trees) is };
         gains = gains_row old.now.trees new.now.trees string (row.1, row.2);
       }
+
+  -- the row's number is the one that the connection tells, and no row is lost
+  placed : (place : ℤ) → place ≢ pos 0 → place ≡ new.last_rowid → (count : ℕ) → Executes insert_text (Blob string ∷ []) old new (Ok count)
+      → IsAt new.now.trees place string × KeepsPlaces old.now.trees new.now.trees
+  placed place apart told count h =
+      let w : Writes old new None insert (statement_of insert_text (understood log_schema insert_text)) (Blob string ∷ []) count = runs_as insert_text (Blob string ∷ []) old new log_schema has insert insert_is insert_plain count h in
+      let made = adds old string (statement_of insert_text (understood log_schema insert_text)) w.tally new.now has w.changed in
+      let rows = old.now.trees 0 in
+      let row = new_row rows string in
+      let there : (r : Row) → Contains (row ∷ rows) r → Contains (new.now.trees 0) r =
+      λ r h. subst (λ rs. Contains rs r) (sym made.2) (Contains-permutation (row ∷ rows) (put_row row rows) r (put_free row rows made.1) h) in
+      let number : next_rowid rows ≡ place = sym (ap (λ o. unwrap_or o old.last_rowid) made.3) ∙ sym w.last_rowid ∙ sym told in
+      ((apart, (row, there row (0, omega arith, refl), ap Int number, refl)), λ p s at. (at.0, (at.1.0, there at.1.0 (suc at.1.1.0, omega (arith, at.1.1.1), at.1.1.2), at.1.2, at.1.3)))
+
+  pub placed_or : (r : Result ℕ Error) → Executes insert_text (Blob string ∷ []) old new r
+      → OnOk r ((place : ℤ) → place ≢ pos 0 → place ≡ new.last_rowid → IsAt new.now.trees place string × KeepsPlaces old.now.trees new.now.trees)
+  placed_or (Err e) h = tt
+  placed_or (Ok count) h = λ place apart told. placed place apart told count h
 
   pub commits : (db : Trees) → CommitsBy insert_text (Blob string ∷ []) old db → Gains old.now.trees db string
   unfolding CommitsBy
@@ -177,7 +203,7 @@ creates old new settled (Ok count) has auto h =
     let made = makes old w.tally new.now has w.changed in
     let is : new.committed ≡ new.now = rw auto at w.shown.committed_is in
     record {
-      ready = record { schema = made.0; autocommit = w.shown.mode ∙ auto; crash = λ db may. settled db w.shown.is_open may ∙ ap (λ (d : Database). d.trees) is };
+      ready = record { schema = made.0; autocommit = w.shown.mode ∙ auto; committed = is; crash = λ db may. settled db w.shown.is_open may ∙ ap (λ (d : Database). d.trees) is };
       empty = made.1;
     }
 
@@ -216,8 +242,15 @@ pub still_ready : (old new : State) → IsReady old → IsUnchanged old new → 
 still_ready old new ready same crash = record {
   schema = ap (λ (d : Database). d.schema) same.0.now_is ∙ ready.schema;
   autocommit = same.0.mode ∙ ready.autocommit;
+  committed = same.0.committed_is ∙ ready.committed ∙ sym same.0.now_is;
   crash = λ db may. elim (crash db may) [
     | inl was ↦ ready.crash db was ∙ sym (ap (λ (d : Database). d.trees) same.0.now_is)
     | inr none ↦ absurd none
   ];
 }
+
+-- what a close leaves, by what the connection showed
+pub in_files : {D : Type 0} {g : disk.Ghosts D} (c : Held (FileStore D g)) (files : Files D) → IsReady (file_state c) → IsCopied c files → IsInFiles g files (file_state c).now.trees
+in_files {g = g} c files ready copied =
+    let is = ap (λ (d : Database). d.trees) ready.committed in
+    record { seen = subst (HoldsAlone (image_of g files)) is copied.seen; left = λ image may. subst (HoldsAlone image) is (copied.left image may) }

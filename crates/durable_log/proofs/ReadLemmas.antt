@@ -89,3 +89,7 @@ ok_then (Err e) f h = tt
 pub ok_gives : {X E : Type 0} {P : X → Type 0} {Q : Type 0} (r : Result X E) → ((x : X) → P x → Q) → IfOk r P → OnOk r Q
 ok_gives (Ok x) f h = f x h
 ok_gives (Err e) f h = tt
+
+pub ok_both : {X E : Type 0} (R : Type 0) {P Q : Type 0} (r : Result X E) → (P → Q) → OnOk r (R × P) → OnOk r (R × Q)
+ok_both R (Ok x) f h = (h.0, f h.1)
+ok_both R (Err e) f h = tt

@@ -1,18 +1,22 @@
 -- A log of byte strings as a table of SQL.
-use Rattle.std.specs.Prelude.{◌≡◌, ◌⊎◌, ℕ, Bool, true, false, List, [], ◌∷◌, map, Some, codes, refl, IsPermutation}
+use Rattle.std.specs.Prelude.{◌≡◌, ◌≢◌, ◌⊎◌, ℕ, ℤ, pos, Bool, true, false, List, [], ◌∷◌, map, Some, codes, refl, IsPermutation, Contains, length}
 use Rattle.std.specs.Coded.{Coded, code_by, coded×, coded_bool}
 use Rattle.sqlite.specs.Collation.TheVariants.{Binary}
-use Rattle.sqlite.specs.declared.types.Value.TheVariants.{Null}
+use Rattle.sqlite.specs.declared.types.Value.TheVariants.{Null, Int}
 use Rattle.sqlite.specs.Order.{Row, column, bytes}
 use Rattle.sqlite.specs.Table.{Table}
 use Rattle.sqlite_schema.specs.declared.schema.Column.{Column}
 use Rattle.sqlite.specs.Schema.{Schema}
 use Rattle.sqlite.specs.Kind.TheVariants.{Integer, Blob}
-use Rattle.sqlite_trees.specs.Tree.{Trees}
+use Rattle.sqlite_trees.specs.Tree.{Trees, rowid}
 use Rattle.sqlite.specs.State.{State}
 use Rattle.sqlite_wal.specs.Recovery.{Image}
 use Rattle.sqlite.specs.Start.{FindsIn}
-use Rattle.sqlite.specs.Files.{AreFoundIn}
+use Rattle.sqlite.specs.Files.{AreFoundIn, image_of}
+use Rattle.sqlite.specs.Closing.{HoldsAlone}
+use Rattle.sqlite_wal.specs.Files.{outcomes}
+use Rattle.sqlite_disk.specs.declared.Disk as disk
+use Rattle.sqlite_disk.specs.declared.Files.{Files}
 use Rattle.sqlite_catalog.specs.Listing.{IsSound}
 use Rattle.sqlite.specs.Held.{Held, held_code, state}
 use Rattle.sqlite_trees.specs.declared.store.Store.{Ghosts}
@@ -65,10 +69,40 @@ strings db = map (λ (r : Row). bytes (column r 2)) (db 0)
 abbrev pub Gains : Trees → Trees → List ℕ → Type 0
 Gains old new string = IsPermutation (string ∷ strings old) (strings new)
 
+-- the string stands in the row of this number
+abbrev pub IsAt : Trees → ℤ → List ℕ → Type 0
+IsAt db place string = (place ≢ pos 0) × ((row : Row) × Contains (db 0) row × (rowid row ≡ Int place) × (bytes (column row 2) ≡ string))
+
+-- what stood in a row stands there
+abbrev pub KeepsPlaces : Trees → Trees → Type 0
+KeepsPlaces old new = (place : ℤ) (string : List ℕ) → IsAt old place string → IsAt new place string
+
+-- what stood in the rows of these numbers stays, no row of another number does, and no string came
+pub record LeavesOnly (old new : Trees) (places : List ℤ) : Type 0 where
+  pub left : (place : ℤ) (string : List ℕ) → Contains places place → IsAt old place string → IsAt new place string
+  pub gone : (row : Row) (place : ℤ) → Contains (new 0) row → rowid row ≡ Int place → Contains places place
+  pub known : (string : List ℕ) → Contains (strings new) string → Contains (strings old) string
+
+-- each string was there or is one of these
+abbrev pub IsOfEither : Trees → Trees → List (List ℕ) → Type 0
+IsOfEither old new news = (string : List ℕ) → Contains (strings new) string → Contains (strings old) string ⊎ Contains news string
+
+-- all that were there are, or all of these are
+pub record IsBetween (old new : Trees) (news : List (List ℕ)) : Type 0 where
+  pub known : IsOfEither old new news
+  pub whole : ((string : List ℕ) → Contains (strings old) string → Contains (strings new) string) ⊎ ((string : List ℕ) → Contains news string → Contains (strings new) string)
+
+-- all of these are there, in as many rows
+pub record IsReplaced (old new : Trees) (news : List (List ℕ)) : Type 0 where
+  pub known : IsOfEither old new news
+  pub whole : (string : List ℕ) → Contains news string → Contains (strings new) string
+  pub few : (places : List ℤ) × (length places ≡ length news) × ((row : Row) (place : ℤ) → Contains (new 0) row → rowid row ≡ Int place → Contains places place)
+
 -- the database is a log, outside a transaction, and a crash leaves the strings that are there now and nothing else
 pub record IsReady (s : State) : Type 0 where
   pub schema : s.now.schema ≡ log_schema
   pub autocommit : s.in_transaction ≡ false
+  pub committed : s.committed ≡ s.now
   pub crash : (db : Trees) → s.may_leave db → db ≡ s.now.trees
 
 -- the string is one more now, also after a crash
@@ -100,3 +134,8 @@ log_code {S} store = code_by (Held S × Bool) (coded× (held_code store) coded_b
 
 abbrev pub log_state : {S : Type 0} → Ghosts S → LogValue S → State
 log_state g l = state g l.conn
+
+-- the files hold this database, as they read now and after a crash, and so does the database file with nothing beside it
+pub record IsInFiles {D : Type 0} (g : disk.Ghosts D) (files : Files D) (db : Trees) : Type 0 where
+  pub seen : HoldsAlone (image_of g files) db
+  pub left : (image : Image) → outcomes g files.log files.db image → HoldsAlone image db

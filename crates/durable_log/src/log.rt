@@ -1,13 +1,15 @@
-ghost use Rattle.std.specs.Prelude.{◌≡◌, false, map, Err, IfOk, OnOk, OnErr, IsTrue, IsPermutation};
+ghost use Rattle.std.specs.Prelude.{◌≡◌, false, [], ◌∷◌, map, Err, IfOk, OnOk, OnErr, IsTrue, IsPermutation};
 ghost use Rattle.sqlite.specs.State.{HasCleanDisk, Opens, Survives, IsUnchanged};
 ghost use Rattle.sqlite.specs.Held.{state};
 ghost use Rattle.sqlite_wal.specs.Files.{image_at};
 ghost use Rattle.sqlite.specs.Files.{over_files};
-ghost use Rattle.durable_log.specs.Log.{log_state, strings, Gains, IsReady, IsKept, IsBegun, IsOpenLog};
+ghost use Rattle.durable_log.specs.Log.{log_state, strings, Gains, IsReady, IsBetween, IsReplaced, IsKept, IsBegun, IsOpenLog, IsInFiles};
+ghost use Rattle.sqlite_wal.specs.Reads.{AreClean};
 
 use crate::log_error::LogError;
-use crate::statements::{begin, failure, insert, select_strings};
-use sqlite::{Alter, Connection, FileFrom, FileStore, Start};
+use crate::statements::{begin, failure, insert, replace, select_strings};
+use sqlite::{Alter, Connection, FileFrom, FileStore, Files, Start};
+use sqlite_disk::Disk;
 use std::alloc::Global;
 use std::marker::Model;
 
@@ -84,6 +86,29 @@ impl<S: Alter> Log<S> {
             return Err(LogError::Failed);
         }
         match insert(&mut self.conn, string) {
+            Ok(_place) => Ok(()),
+            Err(error) => {
+                self.is_failed = true;
+                Err(failure(error))
+            }
+        }
+    }
+
+    /// Adds three strings and then takes out all others, and returns once that is on the disk. A crash in the middle of the call leaves all
+    /// that were there or the three, and none beside them.
+    ///
+    /// Takes time in all strings, and four writes to the disk with a wait for each.
+    pub fn replace(&mut self, first: &[u8], second: &[u8], third: &[u8]) -> Result<(), LogError>
+        ensures replaced { HasCleanDisk (log_state S.Store self.new) → OnOk result (IsReady (log_state S.Store self.new) × IsReplaced (log_state S.Store self.old).now.trees (log_state S.Store self.new).now.trees (first.now ∷ second.now ∷ third.now ∷ [])) }
+        ensures any_moment { Survives (log_state S.Store self.old) (log_state S.Store self.new) (λ db. IsBetween (log_state S.Store self.old).now.trees db (first.now ∷ second.now ∷ third.now ∷ [])) }
+        ensures ok { OnOk result (self.new.is_failed ≡ false) }
+        ensures err { OnErr result (IsTrue self.new.is_failed) }
+        ensures ended { IsTrue self.old.is_failed → (result ≡ Err LogError.Failed) × (self.new ≡ self.old) }
+    {
+        if self.is_failed {
+            return Err(LogError::Failed);
+        }
+        match replace(&mut self.conn, first, second, third) {
             Ok(_) => Ok(()),
             Err(error) => {
                 self.is_failed = true;
@@ -135,10 +160,26 @@ impl<S: Start> Log<FileStore<FileFrom<S>>> {
 
     /// Closes the file, and puts what is beside it into it.
     pub fn close(self) -> Result<(), LogError> {
+        match self.close_files() {
+            Ok(_) => Ok(()),
+            Err(error) => Err(error),
+        }
+    }
+}
+
+impl<D: Disk + Drop> Log<FileStore<D>> {
+    /// Puts what is beside the file into it, and gives the files back. What they hold then is the strings, as a reader finds them now and
+    /// after a crash.
+    pub fn close_files(self) -> Result<Files<D>, LogError>
+        ensures held { self.is_failed ≡ false → IfOk result (λ files. AreClean D.Disk files.log files.db → HasCleanDisk (log_state over_files self) × IsInFiles D.Disk files (log_state over_files self).now.trees) }
+    {
         let Log { conn, is_failed: _ } = self;
-        match conn.close() {
-            Ok(()) => Ok(()),
-            Err(error) => Err(failure(error)),
+        match conn.close_files() {
+            Ok(files) => Ok(files),
+            Err((error, store)) => {
+                drop(store);
+                Err(failure(error))
+            }
         }
     }
 }

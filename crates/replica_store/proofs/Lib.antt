@@ -7,3 +7,4 @@ pub mod Telling
 pub mod Surviving
 pub mod Systems
 pub mod Back
+pub mod Anew

@@ -3,14 +3,15 @@ use Rattle.std.proofs.Common.{◌≡◌, ◌≢◌, ◌⊎◌, inl, inr, ℕ, tr
 use Rattle.std.proofs.lemmas.List.{append-nil}
 use Rattle.dots.specs.declared.dot.Dot.{Dot}
 use Rattle.op_model.specs.World.{is_among}
-use Rattle.replica_model.specs.Crashing.{System, Occurrence, Saving, Passing, Crashes, Goes, Occurs, put, goes, nodes_after}
+use Rattle.replica_model.specs.Crashing.{System, Occurrence, Saving, Passing, Crashes, Does, Goes, Occurs, put, goes, nodes_after}
 use Rattle.replica_model.specs.Delivery.{Outcome, Sent}
 use Rattle.replica_model.specs.Mail.{Mail}
 use Rattle.replica_model.specs.Replica.{Replica, restarts}
 use Rattle.replica_model.specs.Step.{Call, Put, Remove, RemoveField, Clear, Flush, Ask, Retry, Abandon, Restart, Do, Answer, Nothing, Made, Counted, Came, IsStep}
-use Rattle.replica_model.specs.World.{At}
+use Rattle.replica_model.specs.World.{Event, Node, At, Deliver}
+use Rattle.replica_model.specs.Laws.{replica_of}
 use Rattle.replica_store.specs.Rebuilt.{IsRebuilt}
-use Rattle.replica_store.specs.Systems.{IsWrite, written, WritesAreSaved, CrashesComeBack}
+use Rattle.replica_store.specs.Systems.{IsWrite, written, WritesAreSaved, CrashesComeBack, EventsAreSaved, EventsComeBack, AllAreSaved, AllComeBack, AreMade, all_written}
 use Rattle.replica_store.proofs.Rebuilt.{one_rebuilt}
 
 put_there : {X : Type 0} (f : ℕ → X) (name : ℕ) (x : X) → put f name x name ≡ x
@@ -76,6 +77,77 @@ crashes_come_back hash_of s name call mid new answer out strings back is there s
       let c = crashed hash_of w.0 name (ap (λ ns. is_among ns name) w.2 ∙ there) in (
         c.0,
         inr (goes_on hash_of (written name call) (Crashes name ∷ []) s w.0 c.0 w.1.0 (c.0, c.1, refl)),
+        c.2 ∙ ap restarts w.1.2 ∙ one_rebuilt strings (restarts new) back now rebuilt,
+      ))
+]
+
+-- ---- any event
+
+module _ (hash_of : List ℕ → ℕ) (s : System) (event : Event) (new : Replica) (answer : Answer) (out : List Mail) (does : Does hash_of s event new answer out) where
+  abbrev saving : System
+  saving = record (goes hash_of s event new out) { saved = put s.saved (replica_of event) new }
+
+  occurred : Goes hash_of s (Saving event ∷ []) saving
+  occurred = (saving, (new, answer, out, does, refl), refl)
+
+still_there : (hash_of : List ℕ → ℕ) (s : System) (event : Event) (new : Replica) (answer : Answer) (out : List Mail) → Does hash_of s event new answer out
+    → is_among s.nodes (replica_of event) ≡ true → is_among (nodes_after s.nodes event) (replica_of event) ≡ true
+still_there hash_of s (Node name) new answer out does there = absurd (let e = sym does.0 ∙ there in cc)
+still_there hash_of s (At name call) new answer out does there = there
+still_there hash_of s (Deliver number name) new answer out does there = there
+
+pub events_are_saved : EventsAreSaved
+events_are_saved hash_of s event new answer out does =
+    (saving hash_of s event new answer out does, occurred hash_of s event new answer out does, put_there s.replica (replica_of event) new, put_there s.saved (replica_of event) new, refl)
+
+pub events_come_back : EventsComeBack
+events_come_back hash_of s event new answer out strings back there saved does kept rebuilt = elim kept [
+  | inl old ↦ (
+      let c = crashed hash_of s (replica_of event) there in
+      (c.0, inl (c.0, c.1, refl), c.2 ∙ saved ∙ one_rebuilt strings (restarts (s.replica (replica_of event))) back old rebuilt))
+  | inr now ↦ (
+      let t = saving hash_of s event new answer out does in
+      let c = crashed hash_of t (replica_of event) (still_there hash_of s event new answer out does there) in (
+        c.0,
+        inr (goes_on hash_of (Saving event ∷ []) (Crashes (replica_of event) ∷ []) s t c.0 (occurred hash_of s event new answer out does) (c.0, c.1, refl)),
+        c.2 ∙ ap restarts (put_there s.saved (replica_of event) new) ∙ one_rebuilt strings (restarts new) back now rebuilt,
+      ))
+]
+
+-- ---- several writes
+
+all_wrote : (hash_of : List ℕ → ℕ) (s : System) (name : ℕ) (calls : List Call) (answers : List Answer) (mid new : Replica) (out : List Mail)
+    → is_among s.nodes name ≡ true → AreMade hash_of (s.replica name) calls answers mid → IsStep hash_of mid (Do Flush) new Nothing out
+    → (t : System) × (Goes hash_of s (all_written name calls) t × (t.replica name ≡ new) × (t.saved name ≡ new) × (t.messages ≡ s.messages ++ out)) × (t.nodes ≡ s.nodes)
+all_wrote hash_of s name [] [] mid new out there made sent =
+    let does : Does hash_of s (At name Flush) new Nothing out = (there, refl, subst (λ r. IsStep hash_of r (Do Flush) new Nothing out) made sent) in (
+      saving hash_of s (At name Flush) new Nothing out does,
+      (occurred hash_of s (At name Flush) new Nothing out does, put_there s.replica name new, put_there s.saved name new, refl),
+      refl,
+    )
+all_wrote hash_of s name [] (a ∷ answers) mid new out there made sent = absurd made
+all_wrote hash_of s name (c ∷ calls) [] mid new out there made sent = absurd made
+all_wrote hash_of s name (c ∷ calls) (a ∷ answers) mid new out there made sent =
+    let next = goes hash_of s (At name c) made.1.0 [] in
+    let more = all_wrote hash_of next name calls answers mid new out there
+    (subst (λ r. AreMade hash_of r calls answers mid) (sym (put_there s.replica name made.1.0)) made.1.2) sent in
+    (more.0, ((next, passes hash_of s name there c made.1.0 a made.0 made.1.1, more.1.0), more.1.1, more.1.2, more.1.3 ∙ ap (λ ms. ms ++ out) (append-nil s.messages)), more.2)
+
+pub all_are_saved : AllAreSaved
+all_are_saved hash_of s name calls answers mid new out there made sent =
+    let it = all_wrote hash_of s name calls answers mid new out there made sent in
+    (it.0, it.1.0, it.1.1, it.1.2, it.1.3)
+
+pub all_come_back : AllComeBack
+all_come_back hash_of s name calls answers mid new out strings back there saved made sent kept rebuilt = elim kept [
+  | inl old ↦ (
+      let c = crashed hash_of s name there in
+      (c.0, inl (c.0, c.1, refl), c.2 ∙ saved ∙ one_rebuilt strings (restarts (s.replica name)) back old rebuilt))
+  | inr now ↦ (
+      let w = all_wrote hash_of s name calls answers mid new out there made sent in
+      let c = crashed hash_of w.0 name (ap (λ ns. is_among ns name) w.2 ∙ there) in (
+        c.0,
+        inr (goes_on hash_of (all_written name calls) (Crashes name ∷ []) s w.0 c.0 w.1.0 (c.0, c.1, refl)),
         c.2 ∙ ap restarts w.1.2 ∙ one_rebuilt strings (restarts new) back now rebuilt,
       ))
 ]

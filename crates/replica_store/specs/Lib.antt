@@ -6,3 +6,5 @@ pub mod Took
 pub mod Systems
 pub mod Reading
 pub mod Store
+pub mod Refusing
+pub mod Writes

@@ -1,10 +1,11 @@
 // What is kept in the log.
-ghost use Rattle.std.specs.Prelude.{◌≡◌, ◌≤◌, ◌∷◌, false, OnOk, IfOk};
+ghost use Rattle.std.specs.Prelude.{◌≡◌, ◌≤◌, ◌∷◌, false, OnOk, IfOk, IfErr};
 ghost use Rattle.sqlite.specs.State.{HasCleanDisk, Survives};
 ghost use Rattle.wire_form.specs.Message.{Spells, message_of};
 ghost use Rattle.durable_log.specs.Log.{log_state, Gains, IsReady};
 ghost use Rattle.replica_model.specs.Replica.{Replica, restarts};
 ghost use Rattle.replica_store.specs.Entry.{CHANGED};
+ghost use Rattle.replica_store.specs.Refusing.{IsUnkept};
 ghost use Rattle.replica_store.specs.Kept.{Keeps, IsKept, KeepsEither, GainsMessage, GainsName, GainsNumber};
 
 use crate::entry::{changed, named, opened};
@@ -20,6 +21,7 @@ fn keep<S: Alter>(log: &mut Log<S>, string: &[u8]) -> Result<(), StoreError>
     ensures kept { HasCleanDisk (log_state S.Store log.new) → OnOk result (IsReady (log_state S.Store log.new) × Gains (log_state S.Store log.old).now.trees (log_state S.Store log.new).now.trees string.now) }
     ensures any_moment { Survives (log_state S.Store log.old) (log_state S.Store log.new) (λ db. Gains (log_state S.Store log.old).now.trees db string.now) }
     ensures stays { OnOk result (log.new.is_failed ≡ false) }
+    ensures lost { IfErr result IsUnkept }
 {
     match log.keep(string) {
         Ok(()) => Ok(()),
@@ -32,6 +34,7 @@ fn keep_delta<S: Alter>(alloc: Global, log: &mut Log<S>, delta: &[u8]) -> Result
     ensures kept { HasCleanDisk (log_state S.Store log.new) → OnOk result (IsReady (log_state S.Store log.new) × Gains (log_state S.Store log.old).now.trees (log_state S.Store log.new).now.trees (CHANGED ∷ delta.now)) }
     ensures any_moment { Survives (log_state S.Store log.old) (log_state S.Store log.new) (λ db. Gains (log_state S.Store log.old).now.trees db (CHANGED ∷ delta.now)) }
     ensures stays { OnOk result (log.new.is_failed ≡ false) }
+    ensures lost { IfErr result IsUnkept }
 {
     let Ok(string) = changed(alloc, delta) else {
         return Err(StoreError::OutOfMemory);
@@ -49,6 +52,7 @@ pub fn keep_message<S: Alter>(
     ensures kept { HasCleanDisk (log_state S.Store log.new) → OnOk result (IsReady (log_state S.Store log.new) × GainsMessage (log_state S.Store log.old).now.trees (log_state S.Store log.new).now.trees (message_of message.now)) }
     ensures any_moment { Survives (log_state S.Store log.old) (log_state S.Store log.new) (λ db. GainsMessage (log_state S.Store log.old).now.trees db (message_of message.now)) }
     ensures stays { OnOk result (log.new.is_failed ≡ false) }
+    ensures lost { IfErr result IsUnkept }
 {
     let Ok(bytes) = encode(alloc, message) else {
         return Err(StoreError::OutOfMemory);
@@ -62,6 +66,7 @@ fn keep_opened<S: Alter>(alloc: Global, log: &mut Log<S>, number: u64) -> Result
     ensures kept { HasCleanDisk (log_state S.Store log.new) → OnOk result (IsReady (log_state S.Store log.new) × GainsNumber (log_state S.Store log.old).now.trees (log_state S.Store log.new).now.trees number) }
     ensures any_moment { Survives (log_state S.Store log.old) (log_state S.Store log.new) (λ db. GainsNumber (log_state S.Store log.old).now.trees db number) }
     ensures stays { OnOk result (log.new.is_failed ≡ false) }
+    ensures lost { IfErr result IsUnkept }
 {
     let Ok(string) = opened(alloc, number) else {
         return Err(StoreError::OutOfMemory);
@@ -78,6 +83,7 @@ pub fn keep_number<S: Alter>(alloc: Global, log: &mut Log<S>, number: u64) -> Re
         → HasCleanDisk (log_state S.Store log.new) → KeepsEither (log_state S.Store log.new) old new }
     ensures clean { HasCleanDisk (log_state S.Store log.new) → HasCleanDisk (log_state S.Store log.old) }
     ensures stays { OnOk result (log.new.is_failed ≡ false) }
+    ensures lost { IfErr result IsUnkept }
 {
     // Asked for what it promises of a crash.
     let _ = log.is_failed();
@@ -89,6 +95,7 @@ pub fn keep_name<S: Alter>(alloc: Global, log: &mut Log<S>, name: Name) -> Resul
     ensures kept { HasCleanDisk (log_state S.Store log.new) → OnOk result (IsReady (log_state S.Store log.new) × GainsName (log_state S.Store log.old).now.trees (log_state S.Store log.new).now.trees name) }
     ensures any_moment { Survives (log_state S.Store log.old) (log_state S.Store log.new) (λ db. GainsName (log_state S.Store log.old).now.trees db name) }
     ensures stays { OnOk result (log.new.is_failed ≡ false) }
+    ensures lost { IfErr result IsUnkept }
 {
     let Ok(string) = named(alloc, name) else {
         return Err(StoreError::OutOfMemory);

@@ -1,10 +1,14 @@
-ghost use Rattle.std.specs.Prelude.{◌≡◌};
+ghost use Rattle.std.specs.Prelude.{◌≡◌, false, IfOk};
+ghost use Rattle.sqlite_wal.specs.Reads.{AreClean};
+ghost use Rattle.replica_core.specs.Meaning.{meaning};
+ghost use Rattle.replica_store.specs.Kept.{IsKeptIn};
 
 use crate::store_error::StoreError;
 use durable_log::Log;
 use hash_path::{Fnv1a, PathHash};
 use replica_core::Replica;
-use sqlite::{Alter, FileFrom, FileStore, Start};
+use sqlite::{Alter, FileFrom, FileStore, Files, Start};
+use sqlite_disk::Disk;
 use std::marker::Model;
 
 /// A replica that is kept in a log: what a call of it did is on the disk before it is acknowledged, and before anything of it is sent.
@@ -63,14 +67,30 @@ impl<S: Alter, H: PathHash> Store<S, H> {
 impl<S: Start, H: PathHash> Store<FileStore<FileFrom<S>>, H> {
     /// Closes the file, and puts what is beside it into it.
     pub fn close(self) -> Result<(), StoreError> {
+        match self.close_files() {
+            Ok(files) => {
+                drop(files);
+                Ok(())
+            }
+            Err(error) => Err(error),
+        }
+    }
+}
+
+impl<D: Disk + Drop, H: PathHash> Store<FileStore<D>, H> {
+    /// Puts what is beside the file into it, and gives the files back. What they hold then keeps the replica, as a reader finds it now and
+    /// after a crash.
+    pub fn close_files(self) -> Result<Files<D>, StoreError>
+        ensures held { self.is_failed ≡ false → IfOk result (λ files. AreClean D.Disk files.log files.db → IsKeptIn D.Disk files (meaning self.replica)) }
+    {
         let Store {
             replica,
             log,
             is_failed: _,
         } = self;
         drop(replica);
-        match log.close() {
-            Ok(()) => Ok(()),
+        match log.close_files() {
+            Ok(files) => Ok(files),
             Err(error) => Err(StoreError::Log(error)),
         }
     }

@@ -8,6 +8,9 @@ pub enum StoreError {
     /// The replica refused it, and nothing changed.
     #[error("{0}")]
     Refused(Refusal),
+    /// The replica refused one of several writes, none of which was kept, and the store failed.
+    #[error("{0}")]
+    OfSeveral(Refusal),
     /// The log failed, and the store with it.
     #[error("{0}")]
     Log(LogError),

@@ -1,5 +1,5 @@
 // What a store takes in.
-ghost use Rattle.std.specs.Prelude.{◌≡◌, false, Err, IfOk, OnOk};
+ghost use Rattle.std.specs.Prelude.{◌≡◌, false, Err, IfOk, IfErr, OnOk, IsTrue};
 ghost use Rattle.sqlite.specs.State.{HasCleanDisk};
 ghost use Rattle.durable_log.specs.Log.{log_state};
 ghost use Rattle.wire_form.specs.Message.{message_of};
@@ -12,6 +12,7 @@ ghost use Rattle.replica_core.specs.Meaning.{meaning};
 ghost use Rattle.replica_core.specs.Saving.{restored};
 ghost use Rattle.replica_core.specs.Stepping.{Steps, mails_of};
 ghost use Rattle.replica_store.specs.Kept.{Keeps, IsKept, KeepsEither, GainsMessage};
+ghost use Rattle.replica_store.specs.Refusing.{IsUnkept, LeavesByTaking};
 ghost use Rattle.replica_store.specs.Took.{TookAs};
 
 use crate::keeping::keep_message;
@@ -25,9 +26,10 @@ use sqlite::Alter;
 use std::alloc::Global;
 use wire_form::Message;
 
-// What the replica comes back from.
-fn saved<H: PathHash>(alloc: Global, replica: &Replica<H>) -> Result<Saved, StoreError>
-    ensures { IfOk result (λ saved. restored saved ≡ restarts (meaning replica.now)) }
+/// What the replica comes back from.
+pub fn saved<H: PathHash>(alloc: Global, replica: &Replica<H>) -> Result<Saved, StoreError>
+    ensures saved { IfOk result (λ saved. restored saved ≡ restarts (meaning replica.now)) }
+    ensures lost { IfErr result IsUnkept }
 {
     let Ok(checkpoint) = replica.checkpoint() else {
         return Err(StoreError::OutOfMemory);
@@ -42,7 +44,8 @@ fn saved<H: PathHash>(alloc: Global, replica: &Replica<H>) -> Result<Saved, Stor
 
 // All that the replica holds, as a delta.
 fn whole<H: PathHash>(alloc: Global, replica: &Replica<H>) -> Result<Message, StoreError>
-    ensures { IfOk result (λ message. mail_of (message_of message) ≡ Delta (meaning replica.now).live) }
+    ensures all { IfOk result (λ message. mail_of (message_of message) ≡ Delta (meaning replica.now).live) }
+    ensures lost { IfErr result IsUnkept }
 {
     let Saved {
         name: _,
@@ -69,6 +72,7 @@ fn keep_taken<S: Alter, H: PathHash>(
         → Keeps (log_state S.Store log.old).now.trees old → KeepsEither (log_state S.Store log.new) old (meaning replica.now) }
     ensures clean { HasCleanDisk (log_state S.Store log.new) → HasCleanDisk (log_state S.Store log.old) }
     ensures stays { OnOk result (log.new.is_failed ≡ false) }
+    ensures lost { IfErr result IsUnkept }
 {
     // Asked for what it promises of a crash.
     let _ = log.is_failed();
@@ -106,6 +110,8 @@ impl<S: Alter, H: PathHash> Store<S, H> {
     /// wait for it; and else no write.
     pub fn deliver(&mut self, alloc: Global, message: &Message) -> Result<Delivered, StoreError>
         ensures ok { IfOk result (λ told. Steps H.hash_of self.old.replica self.new.replica (Take (mail_of (message_of message.now))) (Came (outcome_of told.outcome)) (mails_of told.replies.items)) }
+        ensures err { IfErr result (LeavesByTaking (mail_of (message_of message.now)) self.old self.new) }
+        ensures ended { IsTrue self.old.is_failed → (result ≡ Err StoreError.Failed) × (self.new ≡ self.old) }
         ensures lost { HasLost (meaning self.old.replica) (mail_of (message_of message.now)) → self.old.is_failed ≡ false → (result ≡ Err StoreError.LostMemory) × (self.new ≡ self.old) }
         ensures kept { HasCleanDisk (log_state S.Store self.new.log) → OnOk result (IsKept (log_state S.Store self.new.log) (meaning self.new.replica)) }
         ensures any_moment { self.old.is_failed ≡ false → HasCleanDisk (log_state S.Store self.new.log) → KeepsEither (log_state S.Store self.new.log) (meaning self.old.replica) (meaning self.new.replica) }

@@ -1,5 +1,5 @@
 // The own writes and sessions of a store.
-ghost use Rattle.std.specs.Prelude.{◌≡◌, ◌∷◌, List, [], false, IfOk, OnOk};
+ghost use Rattle.std.specs.Prelude.{◌≡◌, ◌∷◌, List, [], false, Err, IfOk, IfErr, OnOk, IsTrue};
 ghost use Rattle.sqlite.specs.State.{HasCleanDisk};
 ghost use Rattle.durable_log.specs.Log.{log_state};
 ghost use Rattle.op_model.specs.Place.{place_of, plain};
@@ -8,7 +8,8 @@ ghost use Rattle.wire_form.specs.Message.{message_of};
 ghost use Rattle.replica_model.specs.Replica.{Replica as ReplicaModel};
 ghost use Rattle.replica_model.specs.Step.{Do, Put, Remove, RemoveField, Clear, Flush, Ask, Made, Counted, Numbered, Nothing};
 ghost use Rattle.replica_core.specs.Meaning.{meaning};
-ghost use Rattle.replica_core.specs.Stepping.{Steps};
+ghost use Rattle.replica_core.specs.Stepping.{Steps, IsRefused};
+ghost use Rattle.replica_store.specs.Refusing.{IsUnkept, LeavesBy};
 ghost use Rattle.replica_store.specs.Kept.{Keeps, IsKept, KeepsEither};
 ghost use Rattle.replica_store.specs.Store.{AreSent, Writes};
 ghost use Rattle.replica_store.specs.Behind.{IsBehind};
@@ -16,6 +17,7 @@ ghost use Rattle.replica_store.specs.Behind.{IsBehind};
 use crate::keeping::{keep_message, keep_number};
 use crate::store::Store;
 use crate::store_error::StoreError;
+use crate::write::{ToClear, ToPut, ToRemove, ToRemoveField, Write};
 use crate::written::Written;
 use dots::{Dot, Field, Key, Name, Value};
 use durable_log::Log;
@@ -25,8 +27,8 @@ use sqlite::Alter;
 use std::alloc::Global;
 use wire_form::Message;
 
-// Flushes what the replica made, keeps it, and gives its bytes. What the log kept before is the replica without it.
-fn keep_flushed<S: Alter, H: PathHash>(
+/// Flushes what the replica made, keeps it, and gives its bytes. What the log kept before is the replica without it.
+pub fn keep_flushed<S: Alter, H: PathHash>(
     alloc: Global,
     replica: &mut Replica<H>,
     log: &mut Log<S>,
@@ -39,6 +41,7 @@ fn keep_flushed<S: Alter, H: PathHash>(
         → KeepsEither (log_state S.Store log.new) kept (meaning replica.new) }
     ensures clean { HasCleanDisk (log_state S.Store log.new) → HasCleanDisk (log_state S.Store log.old) }
     ensures stays { OnOk result (log.new.is_failed ≡ false) }
+    ensures lost { IfErr result IsUnkept }
 {
     // Asked for what it promises of a crash.
     let _ = log.is_failed();
@@ -57,6 +60,37 @@ fn keep_flushed<S: Alter, H: PathHash>(
 }
 
 impl<S: Alter, H: PathHash> Store<S, H> {
+    // Makes a write, and returns once it is on the disk.
+    fn write<W: Write>(
+        &mut self,
+        alloc: Global,
+        write: &W,
+    ) -> Result<Written<W::Answer>, StoreError>
+        ensures ok { IfOk result (λ written. (out : List Mail) × AreSent written.delta out
+            × Writes H.hash_of self.old.replica self.new.replica (W.call write.now) (W.answered written.answer) out) }
+        ensures err { IfErr result (LeavesBy (IsRefused self.old.replica (W.call write.now)) self.old self.new) }
+        ensures ended { IsTrue self.old.is_failed → (result ≡ Err StoreError.Failed) × (self.new ≡ self.old) }
+        ensures kept { HasCleanDisk (log_state S.Store self.new.log) → OnOk result (IsKept (log_state S.Store self.new.log) (meaning self.new.replica)) }
+        ensures any_moment { self.old.is_failed ≡ false → HasCleanDisk (log_state S.Store self.new.log) → KeepsEither (log_state S.Store self.new.log) (meaning self.old.replica) (meaning self.new.replica) }
+    {
+        if self.is_failed {
+            return Err(StoreError::Failed);
+        }
+        // Asked for what it promises of a crash.
+        let _ = self.log.is_failed();
+        let answer = match write.make(&mut self.replica) {
+            Ok(answer) => answer,
+            Err(refusal) => return Err(StoreError::Refused(refusal)),
+        };
+        match keep_flushed(alloc, &mut self.replica, &mut self.log) {
+            Ok(delta) => Ok(Written { answer, delta }),
+            Err(error) => {
+                self.is_failed = true;
+                Err(error)
+            }
+        }
+    }
+
     /// Writes a value to the empty field of a key, as `put_field` does.
     pub fn put(
         &mut self,
@@ -66,6 +100,8 @@ impl<S: Alter, H: PathHash> Store<S, H> {
     ) -> Result<Written<Dot>, StoreError>
         ensures ok { IfOk result (λ written. (out : List Mail) × AreSent written.delta out
             × Writes H.hash_of self.old.replica self.new.replica (Put (plain key.now) value.now) (Made written.answer) out) }
+        ensures err { IfErr result (LeavesBy (IsRefused self.old.replica (Put (plain key.now) value.now)) self.old self.new) }
+        ensures ended { IsTrue self.old.is_failed → (result ≡ Err StoreError.Failed) × (self.new ≡ self.old) }
         ensures kept { HasCleanDisk (log_state S.Store self.new.log) → OnOk result (IsKept (log_state S.Store self.new.log) (meaning self.new.replica)) }
         ensures any_moment { self.old.is_failed ≡ false → HasCleanDisk (log_state S.Store self.new.log) → KeepsEither (log_state S.Store self.new.log) (meaning self.old.replica) (meaning self.new.replica) }
     {
@@ -86,55 +122,24 @@ impl<S: Alter, H: PathHash> Store<S, H> {
     ) -> Result<Written<Dot>, StoreError>
         ensures ok { IfOk result (λ written. (out : List Mail) × AreSent written.delta out
             × Writes H.hash_of self.old.replica self.new.replica (Put (place_of key.now field.now) value.now) (Made written.answer) out) }
+        ensures err { IfErr result (LeavesBy (IsRefused self.old.replica (Put (place_of key.now field.now) value.now)) self.old self.new) }
+        ensures ended { IsTrue self.old.is_failed → (result ≡ Err StoreError.Failed) × (self.new ≡ self.old) }
         ensures kept { HasCleanDisk (log_state S.Store self.new.log) → OnOk result (IsKept (log_state S.Store self.new.log) (meaning self.new.replica)) }
         ensures any_moment { self.old.is_failed ≡ false → HasCleanDisk (log_state S.Store self.new.log) → KeepsEither (log_state S.Store self.new.log) (meaning self.old.replica) (meaning self.new.replica) }
     {
-        if self.is_failed {
-            return Err(StoreError::Failed);
-        }
-        // Asked for what it promises of a crash.
-        let _ = self.log.is_failed();
-        let dot = match self.replica.put_field(key, field, value) {
-            Ok(dot) => dot,
-            Err(refusal) => return Err(StoreError::Refused(refusal)),
-        };
-        match keep_flushed(alloc, &mut self.replica, &mut self.log) {
-            Ok(delta) => Ok(Written { answer: dot, delta }),
-            Err(error) => {
-                self.is_failed = true;
-                Err(error)
-            }
-        }
+        self.write(alloc, &ToPut { key, field, value })
     }
-}
 
-impl<S: Alter, H: PathHash> Store<S, H> {
     /// Removes a key with all its fields, as `put_field` writes one: how many dots it observed, and the delta that is to be sent.
     pub fn remove(&mut self, alloc: Global, key: &Key) -> Result<Written<u64>, StoreError>
         ensures ok { IfOk result (λ written. (out : List Mail) × AreSent written.delta out
             × Writes H.hash_of self.old.replica self.new.replica (Remove key.now) (Counted written.answer) out) }
+        ensures err { IfErr result (LeavesBy (IsRefused self.old.replica (Remove key.now)) self.old self.new) }
+        ensures ended { IsTrue self.old.is_failed → (result ≡ Err StoreError.Failed) × (self.new ≡ self.old) }
         ensures kept { HasCleanDisk (log_state S.Store self.new.log) → OnOk result (IsKept (log_state S.Store self.new.log) (meaning self.new.replica)) }
         ensures any_moment { self.old.is_failed ≡ false → HasCleanDisk (log_state S.Store self.new.log) → KeepsEither (log_state S.Store self.new.log) (meaning self.old.replica) (meaning self.new.replica) }
     {
-        if self.is_failed {
-            return Err(StoreError::Failed);
-        }
-        // Asked for what it promises of a crash.
-        let _ = self.log.is_failed();
-        let number = match self.replica.remove(key) {
-            Ok(number) => number,
-            Err(refusal) => return Err(StoreError::Refused(refusal)),
-        };
-        match keep_flushed(alloc, &mut self.replica, &mut self.log) {
-            Ok(delta) => Ok(Written {
-                answer: number,
-                delta,
-            }),
-            Err(error) => {
-                self.is_failed = true;
-                Err(error)
-            }
-        }
+        self.write(alloc, &ToRemove { key })
     }
 
     /// Removes a field of a key, as `remove` does a key.
@@ -146,56 +151,24 @@ impl<S: Alter, H: PathHash> Store<S, H> {
     ) -> Result<Written<u64>, StoreError>
         ensures ok { IfOk result (λ written. (out : List Mail) × AreSent written.delta out
             × Writes H.hash_of self.old.replica self.new.replica (RemoveField (place_of key.now field.now)) (Counted written.answer) out) }
+        ensures err { IfErr result (LeavesBy (IsRefused self.old.replica (RemoveField (place_of key.now field.now))) self.old self.new) }
+        ensures ended { IsTrue self.old.is_failed → (result ≡ Err StoreError.Failed) × (self.new ≡ self.old) }
         ensures kept { HasCleanDisk (log_state S.Store self.new.log) → OnOk result (IsKept (log_state S.Store self.new.log) (meaning self.new.replica)) }
         ensures any_moment { self.old.is_failed ≡ false → HasCleanDisk (log_state S.Store self.new.log) → KeepsEither (log_state S.Store self.new.log) (meaning self.old.replica) (meaning self.new.replica) }
     {
-        if self.is_failed {
-            return Err(StoreError::Failed);
-        }
-        // Asked for what it promises of a crash.
-        let _ = self.log.is_failed();
-        let number = match self.replica.remove_field(key, field) {
-            Ok(number) => number,
-            Err(refusal) => return Err(StoreError::Refused(refusal)),
-        };
-        match keep_flushed(alloc, &mut self.replica, &mut self.log) {
-            Ok(delta) => Ok(Written {
-                answer: number,
-                delta,
-            }),
-            Err(error) => {
-                self.is_failed = true;
-                Err(error)
-            }
-        }
+        self.write(alloc, &ToRemoveField { key, field })
     }
 
     /// Removes all keys, as `remove` does one.
     pub fn clear(&mut self, alloc: Global) -> Result<Written<u64>, StoreError>
         ensures ok { IfOk result (λ written. (out : List Mail) × AreSent written.delta out
             × Writes H.hash_of self.old.replica self.new.replica Clear (Counted written.answer) out) }
+        ensures err { IfErr result (LeavesBy (IsRefused self.old.replica Clear) self.old self.new) }
+        ensures ended { IsTrue self.old.is_failed → (result ≡ Err StoreError.Failed) × (self.new ≡ self.old) }
         ensures kept { HasCleanDisk (log_state S.Store self.new.log) → OnOk result (IsKept (log_state S.Store self.new.log) (meaning self.new.replica)) }
         ensures any_moment { self.old.is_failed ≡ false → HasCleanDisk (log_state S.Store self.new.log) → KeepsEither (log_state S.Store self.new.log) (meaning self.old.replica) (meaning self.new.replica) }
     {
-        if self.is_failed {
-            return Err(StoreError::Failed);
-        }
-        // Asked for what it promises of a crash.
-        let _ = self.log.is_failed();
-        let number = match self.replica.clear() {
-            Ok(number) => number,
-            Err(refusal) => return Err(StoreError::Refused(refusal)),
-        };
-        match keep_flushed(alloc, &mut self.replica, &mut self.log) {
-            Ok(delta) => Ok(Written {
-                answer: number,
-                delta,
-            }),
-            Err(error) => {
-                self.is_failed = true;
-                Err(error)
-            }
-        }
+        self.write(alloc, &ToClear)
     }
 
     /// Opens a synchronisation with a peer, and returns once its number is on the disk: the number, and the hello that is to be sent.
@@ -204,6 +177,8 @@ impl<S: Alter, H: PathHash> Store<S, H> {
     /// write to the disk with a wait for it.
     pub fn ask(&mut self, alloc: Global, peer: Name) -> Result<(u64, Message), StoreError>
         ensures ok { IfOk result (λ asked. Steps H.hash_of self.old.replica self.new.replica (Do (Ask peer)) (Numbered asked.0) (mail_of (message_of asked.1) ∷ [])) }
+        ensures err { IfErr result (LeavesBy (IsRefused self.old.replica (Ask peer)) self.old self.new) }
+        ensures ended { IsTrue self.old.is_failed → (result ≡ Err StoreError.Failed) × (self.new ≡ self.old) }
         ensures kept { HasCleanDisk (log_state S.Store self.new.log) → OnOk result (IsKept (log_state S.Store self.new.log) (meaning self.new.replica)) }
         ensures any_moment { self.old.is_failed ≡ false → HasCleanDisk (log_state S.Store self.new.log) → KeepsEither (log_state S.Store self.new.log) (meaning self.old.replica) (meaning self.new.replica) }
     {

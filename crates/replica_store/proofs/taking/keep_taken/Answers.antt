@@ -50,7 +50,7 @@ returns-in-Ok-clause-kept g c old h clean keeps =
     let after = log_state g.S.Store c.keep_message-kept.new.log in
     let took : TookAs old (mail_of (message_of c.args.message.now)) Done new = subst (λ o. TookAs old (mail_of (message_of c.args.message.now)) (outcome_of o) new) c.in-Done.is h in
     let both = c.in-Ok.ensures.kept clean in
-    kept_now after new both.0 (gains_whole before.now.trees after.now.trees old new keeps m c.in_ok-all-in-Done.ensures both.1 took.1 took.0)
+    kept_now after new both.0 (gains_whole before.now.trees after.now.trees old new keeps m c.in_ok-all-in-Done.ensures.all both.1 took.1 took.0)
 
 pub returns-in-Ok-clause-any_moment : goal.returns-in-Ok-clause-any_moment
 returns-in-Ok-clause-any_moment g c old h clean keeps =
@@ -61,7 +61,7 @@ returns-in-Ok-clause-any_moment g c old h clean keeps =
     let took : TookAs old (mail_of (message_of c.args.message.now)) Done new = subst (λ o. TookAs old (mail_of (message_of c.args.message.now)) (outcome_of o) new) c.in-Done.is h in
     let survives = c.keep_message-kept.ensures.any_moment in
     let ready : IsReady before = c.is_failed.ensures.ready (c.is_failed.ensures.value ∙ c.requires) (was_clean before after _ survives clean) in
-    gained before after old new _ ready keeps survives (λ db gains. gains_whole before.now.trees db old new keeps m c.in_ok-all-in-Done.ensures gains took.1 took.0) clean
+    gained before after old new _ ready keeps survives (λ db gains. gains_whole before.now.trees db old new keeps m c.in_ok-all-in-Done.ensures.all gains took.1 took.0) clean
 
 pub returns-in-Err-clause-any_moment : goal.returns-in-Err-clause-any_moment
 returns-in-Err-clause-any_moment g c old h clean keeps =
@@ -72,4 +72,4 @@ returns-in-Err-clause-any_moment g c old h clean keeps =
     let took : TookAs old (mail_of (message_of c.args.message.now)) Done new = subst (λ o. TookAs old (mail_of (message_of c.args.message.now)) (outcome_of o) new) c.in-Done.is h in
     let survives = c.keep_message-kept.ensures.any_moment in
     let ready : IsReady before = c.is_failed.ensures.ready (c.is_failed.ensures.value ∙ c.requires) (was_clean before after _ survives clean) in
-    gained before after old new _ ready keeps survives (λ db gains. gains_whole before.now.trees db old new keeps m c.in_ok-all-in-Done.ensures gains took.1 took.0) clean
+    gained before after old new _ ready keeps survives (λ db gains. gains_whole before.now.trees db old new keeps m c.in_ok-all-in-Done.ensures.all gains took.1 took.0) clean

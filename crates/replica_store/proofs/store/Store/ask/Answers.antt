@@ -1,4 +1,7 @@
-use Rattle.std.proofs.Common.{◌≡◌, ◌∙◌, subst}
+use Rattle.std.proofs.Common.{◌≡◌, ◌∙◌, subst, refl}
+use Rattle.replica_model.specs.Step.{Ask}
+use Rattle.replica_core.specs.Stepping.{IsRefused}
+use Rattle.replica_store.specs.Refusing.{IsSame}
 use Rattle.durable_log.specs.Log.{log_state}
 use Rattle.replica_core.specs.Meaning.{meaning}
 use Rattle.replica_store.specs.Kept.{IsKept, KeepsEither}
@@ -6,6 +9,12 @@ use Rattle.replica_store.specs.Store.{StoreValue}
 use Rattle.replica_store.proofs.Took.{asked}
 use Rattle.replica_store.proofs.Surviving.{unkept}
 use Rattle.replica_store.proofs.store.Store.ask.Goals as goal
+
+pub returns-in-Err-clause-err : goal.returns-in-Err-clause-err
+returns-in-Err-clause-err g c =
+    let new : StoreValue _ _ = record { replica = c.ask.new.self; log = c.self.inside.log; is_failed = c.self.inside.is_failed } in
+    subst (λ (v : StoreValue _ _). IsRefused v.replica (Ask c.args.peer) c.in-Err.refusal × IsSame v new) c.self.view_is
+    (c.in-Err.ensures.refused, record { replica = c.in-Err.ensures.unchanged; log = refl; usable = (c.if-self.false, c.if-self.false) })
 
 pub returns-in-Err-clause-any_moment : goal.returns-in-Err-clause-any_moment
 returns-in-Err-clause-any_moment g c fresh clean =

@@ -1,34 +1,33 @@
 use Rattle.std.proofs.Common.{◌≡◌, ◌∙◌, [], subst}
 use Rattle.sqlite.specs.State.{HasCleanDisk}
 use Rattle.durable_log.specs.Log.{log_state}
-use Rattle.op_model.specs.Place.{place_of}
 use Rattle.replica_model.specs.Mail.{Mail}
-use Rattle.replica_model.specs.Step.{Do, Put, Remove, RemoveField, Clear, Made, Counted}
+use Rattle.replica_model.specs.Step.{Do}
 use Rattle.replica_core.specs.Meaning.{meaning}
 use Rattle.replica_core.specs.Stepping.{Steps}
 use Rattle.replica_store.specs.Kept.{IsKept, KeepsEither}
 use Rattle.replica_store.specs.Behind.{IsBehind}
 use Rattle.replica_store.specs.Store.{StoreValue}
-use Rattle.replica_store.proofs.Behind.{behind, clear_made}
+use Rattle.replica_store.proofs.Behind.{behind, write_made}
 use Rattle.replica_store.proofs.Surviving.{unkept}
-use Rattle.replica_store.proofs.store.Store.clear.Goals as goal
+use Rattle.replica_store.proofs.store.Store.write.Goals as goal
 
 pub returns-in-Err-clause-any_moment : goal.returns-in-Err-clause-any_moment
 returns-in-Err-clause-any_moment g c fresh clean =
     let before = log_state g.S.Store c.self.inside.log in
     let holds = c.self.invariant c.if-self.false in
-    subst (λ (v : StoreValue _ _). KeepsEither before (meaning v.replica) (meaning c.clear.new.self)) c.self.view_is
-    (unkept before (meaning c.self.inside.replica) (meaning c.clear.new.self) (c.is_failed.ensures.ready (c.is_failed.ensures.value ∙ holds.0) clean) (holds.1 clean))
+    subst (λ (v : StoreValue _ _). KeepsEither before (meaning v.replica) (meaning c.make.new.replica)) c.self.view_is
+    (unkept before (meaning c.self.inside.replica) (meaning c.make.new.replica) (c.is_failed.ensures.ready (c.is_failed.ensures.value ∙ holds.0) clean) (holds.1 clean))
 
 pub invariant_of-self-in-Ok-keep_flushed : goal.invariant_of-self-in-Ok-keep_flushed
 invariant_of-self-in-Ok-keep_flushed g c fresh =
     let old = meaning c.self.inside.replica in
-    let mid = meaning c.clear.new.self in
+    let mid = meaning c.make.new.replica in
     let holds = c.self.invariant c.if-self.false in (
       c.in-Ok-keep_flushed.ensures.stays,
       λ clean.
           let keeps = holds.1 (c.keep_flushed.ensures.clean clean) in
-          (c.in-Ok-keep_flushed.ensures.kept old (behind old mid keeps.group (clear_made old mid _ c.in-Ok.ensures.ok.step)) clean keeps).now,
+          (c.in-Ok-keep_flushed.ensures.kept old (behind old mid keeps.group (write_made old mid _ _ (g.met.W.Write.is_write c.args.write.now) c.in-Ok.ensures.ok.step)) clean keeps).now,
     )
 
 pub returns-in-Ok-keep_flushed-clause-ok : goal.returns-in-Ok-keep_flushed-clause-ok
@@ -37,8 +36,8 @@ returns-in-Ok-keep_flushed-clause-ok g c =
       sent.0,
       sent.1,
       record {
-        mid = c.clear.new.self;
-        made = subst (λ (v : StoreValue _ _). Steps g.H.PathHash.hash_of v.replica c.clear.new.self (Do Clear) (Counted c.in-Ok.number) []) c.self.view_is c.in-Ok.ensures.ok;
+        mid = c.make.new.replica;
+        made = subst (λ (v : StoreValue _ _). Steps g.H.PathHash.hash_of v.replica c.make.new.replica (Do (g.W.Write.call c.args.write.now)) (g.W.Write.answered c.in-Ok.answer) []) c.self.view_is c.in-Ok.ensures.ok;
         sent = sent.2;
       },
     )
@@ -46,24 +45,24 @@ returns-in-Ok-keep_flushed-clause-ok g c =
 pub returns-in-Ok-keep_flushed-clause-kept : goal.returns-in-Ok-keep_flushed-clause-kept
 returns-in-Ok-keep_flushed-clause-kept g c clean =
     let old = meaning c.self.inside.replica in
-    let mid = meaning c.clear.new.self in
+    let mid = meaning c.make.new.replica in
     let keeps = (c.self.invariant c.if-self.false).1 (c.keep_flushed.ensures.clean clean) in
-    c.in-Ok-keep_flushed.ensures.kept old (behind old mid keeps.group (clear_made old mid _ c.in-Ok.ensures.ok.step)) clean keeps
+    c.in-Ok-keep_flushed.ensures.kept old (behind old mid keeps.group (write_made old mid _ _ (g.met.W.Write.is_write c.args.write.now) c.in-Ok.ensures.ok.step)) clean keeps
 
 pub returns-in-Ok-keep_flushed-clause-any_moment : goal.returns-in-Ok-keep_flushed-clause-any_moment
 returns-in-Ok-keep_flushed-clause-any_moment g c fresh clean =
     let old = meaning c.self.inside.replica in
-    let mid = meaning c.clear.new.self in
+    let mid = meaning c.make.new.replica in
     let after = log_state g.S.Store c.keep_flushed.new.log in
     let keeps = (c.self.invariant c.if-self.false).1 (c.keep_flushed.ensures.clean clean) in
     subst (λ (v : StoreValue _ _). KeepsEither after (meaning v.replica) (meaning c.keep_flushed.new.replica)) c.self.view_is
-    (c.keep_flushed.ensures.any_moment old (behind old mid keeps.group (clear_made old mid _ c.in-Ok.ensures.ok.step)) clean keeps)
+    (c.keep_flushed.ensures.any_moment old (behind old mid keeps.group (write_made old mid _ _ (g.met.W.Write.is_write c.args.write.now) c.in-Ok.ensures.ok.step)) clean keeps)
 
 pub returns-in-Err-keep_flushed-clause-any_moment : goal.returns-in-Err-keep_flushed-clause-any_moment
 returns-in-Err-keep_flushed-clause-any_moment g c fresh clean =
     let old = meaning c.self.inside.replica in
-    let mid = meaning c.clear.new.self in
+    let mid = meaning c.make.new.replica in
     let after = log_state g.S.Store c.keep_flushed.new.log in
     let keeps = (c.self.invariant c.if-self.false).1 (c.keep_flushed.ensures.clean clean) in
     subst (λ (v : StoreValue _ _). KeepsEither after (meaning v.replica) (meaning c.keep_flushed.new.replica)) c.self.view_is
-    (c.keep_flushed.ensures.any_moment old (behind old mid keeps.group (clear_made old mid _ c.in-Ok.ensures.ok.step)) clean keeps)
+    (c.keep_flushed.ensures.any_moment old (behind old mid keeps.group (write_made old mid _ _ (g.met.W.Write.is_write c.args.write.now) c.in-Ok.ensures.ok.step)) clean keeps)

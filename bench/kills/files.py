@@ -1,0 +1,212 @@
+#!/usr/bin/env python3
+"""What a replica in a file has again once it is opened anew, and which files it refuses: python3 bench/kills/files.py [PROGRAM]
+
+PROGRAM is the built crates/kept_replica. Its last line is 'N passed, M failed'.
+"""
+import random
+import shutil
+import sqlite3
+import subprocess
+import sys
+import tempfile
+import traceback
+from pathlib import Path
+
+BUILT = Path(__file__).resolve().parent.parent.parent / "crates" / "kept_replica" / "out" / "kept_replica"
+PROGRAM = Path(sys.argv[1] if len(sys.argv) > 1 else BUILT).resolve()
+
+
+def run(path, name, *lines):
+    """The lines that the program answers."""
+    ran = subprocess.run([PROGRAM, path, str(name)], input="".join(f"{line}\n" for line in lines), stdout=subprocess.PIPE, text=True, check=False)
+    return ran.stdout.splitlines()
+
+
+def put(key, value):
+    return f"put {key.hex()} {value.hex()}"
+
+
+def dump(path, name=1):
+    """The keys with their values."""
+    found = {}
+    for line in run(path, name, "dump")[1:-1]:
+        kind, text = line.split(" ")
+        if kind == "key":
+            values = found.setdefault(bytes.fromhex(text), set())
+        else:
+            values.add(bytes.fromhex(text))
+    return found
+
+
+def sent(lines):
+    return [line.removeprefix("send ") for line in lines if line.startswith("send ")]
+
+
+class Open:
+    """A program that stays open."""
+
+    def __init__(self, path, name):
+        self.process = subprocess.Popen([PROGRAM, path, str(name)], stdin=subprocess.PIPE, stdout=subprocess.PIPE, text=True)
+        self.first = self.process.stdout.readline()
+
+    def tell(self, line):
+        """The messages that it sends for a line."""
+        self.process.stdin.write(f"{line}\n")
+        self.process.stdin.flush()
+        lines = []
+        while not lines or lines[-1] != "end":
+            lines.append(self.process.stdout.readline().rstrip("\n"))
+            assert lines[-1] and not lines[-1].startswith("no ")
+        return sent(lines)
+
+    def __enter__(self):
+        return self
+
+    def __exit__(self, *_):
+        self.process.stdin.close()
+        self.process.wait()
+
+
+def bytes_of(path):
+    """What the file and those beside it hold."""
+    return {at.name: at.read_bytes() for at in path.parent.glob(path.name + "*")}
+
+
+def filled(path):
+    """A file with forty keys."""
+    lines = run(path, 1, *(put(b"%d" % number, b"v") for number in range(40)))
+    assert lines[0] == "open 0" and lines[-1] == "end" and lines.count("ok") == 40
+    return {b"%d" % number: {b"v"} for number in range(40)}
+
+
+def writes_are_there_again(folder):
+    path = folder / "kept.db"
+    wanted = filled(path)
+    assert dump(path) == wanted
+    lines = run(path, 1, f"putf {b'7'.hex()} {b'f'.hex()} {b'w'.hex()}", f"remove {b'8'.hex()}", f"exchange {b'new'.hex()} {b'x'.hex()} {b'9'.hex()}", "ask 2")
+    assert lines[0] == "open 40" and lines.count("ok") == 3 and "asked 1" in lines
+    wanted[b"7"].add(b"w")
+    wanted[b"new"] = {b"x"}
+    del wanted[b"8"], wanted[b"9"]
+    assert dump(path) == wanted
+    lines = run(path, 1, "compact", f"removef {b'7'.hex()} {b'f'.hex()}", "ask 2", put(b"last", b"y"))
+    assert "asked 2" in lines and "dot 1 43" in lines
+    wanted[b"7"].remove(b"w")
+    wanted[b"last"] = {b"y"}
+    assert dump(path) == wanted
+    assert run(path, 1, "clear")[-1] == "end" and dump(path) == {}
+    assert "dot 1 44" in run(path, 1, put(b"k", b"v"))
+
+
+def what_was_taken_in_is_there_again(folder):
+    one, two = folder / "one.db", folder / "two.db"
+    wanted = filled(one)
+    (delta,) = sent(run(one, 1, put(b"told", b"x")))
+    run(two, 2, f"take {delta}")
+    assert dump(two, 2) == {b"told": {b"x"}}
+    with Open(two, 2) as asker, Open(one, 1) as answerer:
+        waiting = asker.tell("ask 1")
+        while waiting:
+            waiting = [letter for message in waiting for answer in answerer.tell(f"take {message}") for letter in asker.tell(f"take {answer}")]
+    assert dump(two, 2) == {**wanted, b"told": {b"x"}}
+
+
+def another_name_is_refused(folder):
+    path = folder / "kept.db"
+    wanted = filled(path)
+    before = bytes_of(path)
+    assert run(path, 2, put(b"k", b"v")) == ["refused the file keeps replica 1"]
+    assert bytes_of(path) == before and dump(path) == wanted
+
+
+def a_second_opener_is_refused(folder):
+    path = folder / "kept.db"
+    wanted = filled(path)
+    with Open(path, 1) as first:
+        assert first.first == "open 40\n"
+        (line,) = run(path, 1, put(b"k", b"v"))
+        assert line.startswith("refused ")
+    assert dump(path) == wanted
+
+
+def other_files_are_refused_and_stay(folder):
+    table = folder / "table.db"
+    connection = sqlite3.connect(table)
+    connection.execute("CREATE TABLE log (seq INTEGER PRIMARY KEY, text TEXT)")
+    connection.execute("INSERT INTO log (text) VALUES ('a line')")
+    connection.commit()
+    connection.close()
+    text = folder / "text.db"
+    text.write_bytes(b"no database\n" * 100)
+    for path in (table, text):
+        before = path.read_bytes()
+        (line,) = run(path, 1, put(b"k", b"v"))
+        assert line.startswith("refused ") and path.read_bytes() == before
+
+
+def a_changed_byte_is_refused(folder):
+    path, other = folder / "kept.db", folder / "changed.db"
+    wanted = filled(path)
+    with sqlite3.connect(path) as connection:
+        connection.execute("PRAGMA wal_checkpoint(TRUNCATE)")
+    connection.close()
+    assert dump(path) == wanted
+    before = path.read_bytes()
+    refused = 0
+    for _ in range(30):
+        data = bytearray(before)
+        data[random.randrange(len(data))] ^= 1 << random.randrange(8)
+        for at in folder.glob("changed*"):
+            at.unlink()
+        other.write_bytes(data)
+        if run(other, 1)[0].startswith("refused "):
+            refused += 1
+        else:
+            assert dump(other) == wanted
+    assert refused > 0
+
+
+def an_older_copy_is_told_that_its_memory_is_lost(folder):
+    path, older, peer = folder / "kept.db", folder / "older.db", folder / "peer.db"
+    first = sent(run(path, 1, put(b"a", b"x")))
+    for name, data in bytes_of(path).items():
+        (folder / name.replace("kept", "older")).write_bytes(data)
+    second = sent(run(path, 1, put(b"b", b"y")))
+    hello = sent(run(peer, 2, *(f"take {letter}" for letter in first + second), "ask 1"))
+    before = bytes_of(older)
+    assert run(older, 1, f"take {hello[-1]}")[1:] == ["no the memory of this name is lost"]
+    assert dump(older) == {b"a": {b"x"}} and bytes_of(older).keys() == before.keys()
+    assert run(path, 1, f"take {hello[-1]}")[-1] == "end"
+
+
+TESTS = [
+    writes_are_there_again,
+    what_was_taken_in_is_there_again,
+    another_name_is_refused,
+    a_second_opener_is_refused,
+    other_files_are_refused_and_stay,
+    a_changed_byte_is_refused,
+    an_older_copy_is_told_that_its_memory_is_lost,
+]
+
+
+def main():
+    seed = random.randrange(1 << 32)
+    random.seed(seed)
+    print(f"seed {seed}")
+    failed = 0
+    for test in TESTS:
+        folder = Path(tempfile.mkdtemp())
+        try:
+            test(folder)
+        except Exception:
+            failed += 1
+            print(f"FAILED {test.__name__}")
+            traceback.print_exc()
+        finally:
+            shutil.rmtree(folder)
+    print(f"{len(TESTS) - failed} passed, {failed} failed")
+    sys.exit(1 if failed else 0)
+
+
+main()
