@@ -1,14 +1,15 @@
 // A client of a node, as the tests call it.
-use crate::caller::{Caller, Calling};
+use crate::caller::{Caller, Calling, Keeping};
 use crate::nodes::name;
 use crate::tests::slow::Slow;
 use dots::{Field, Key, Value};
 use node_threads::{
-    Abandoning, Asking, Clearing, Client, Containing, Delivering, FieldListing, FieldRemoving,
-    Flushing, Getting, Lock, Named, Naming, NodeEvent, Post, Putting, Receipt, Removing, Retrying,
-    Root, Served, Sharing, Sizing, serve,
+    Abandoning, Asking, Batching, Checkpointing, Clearing, Client, Containing, Delivering,
+    FieldListing, FieldRemoving, Flushing, Getting, Lock, Named, Naming, NodeEvent, Post, Putting,
+    Receipt, Removing, Retrying, Root, Served, Sharing, Sizing, Write, Written, serve,
 };
 use replica_core::{Delivered, Replica};
+use saved_form::Saved;
 use shared_object::{Gate, Look, Update};
 use std::alloc::Global;
 use std::panic::Expect;
@@ -196,6 +197,30 @@ impl<K: Naming, G: Gate + Drop, R: Wait + Drop> Calling for Client<K, Lock<K, G,
         let key = key_of(rt, alloc, key);
         let listed = found(rt, self, &FieldListing { alloc, key: &key });
         are_fields(&listed.expect(rt, "memory"), fields)
+    }
+}
+
+impl<K: Naming, G: Gate + Drop, R: Wait + Drop> Keeping for Client<K, Lock<K, G, R>> {
+    fn write_at_once<T: Wait + Abort>(&mut self, rt: &T, alloc: Global) -> Written {
+        let (key, other) = (key_of(rt, alloc, b"a"), key_of(rt, alloc, b"b"));
+        let (field, empty) = (field_of(rt, alloc, b"f"), Field::empty());
+        let (first, second) = (value_of(rt, alloc, b"x"), value_of(rt, alloc, b"y"));
+        let writes = [
+            Write::Put(&key, &field, &first),
+            Write::Put(&key, &empty, &second),
+            Write::RemoveField(&key, &field),
+            Write::Remove(&other),
+        ];
+        let batching = Batching {
+            alloc,
+            writes: &writes,
+        };
+        called(rt, self, &batching)
+    }
+
+    fn saved<T: Wait + Abort>(&mut self, rt: &T, alloc: Global) -> Saved {
+        let checkpoint = self.inspect(rt, &Checkpointing).expect(rt, "memory");
+        checkpoint.saved(alloc).expect(rt, "memory")
     }
 }
 

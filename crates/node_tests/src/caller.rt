@@ -1,7 +1,8 @@
 // What the tests ask of a client. They see it as no more than this, whatever stands behind it, as a check of what holds a client grows with
 // the depth of its type.
-use node_threads::{Post, Root, Served};
+use node_threads::{Post, Root, Served, Written};
 use replica_core::Delivered;
+use saved_form::Saved;
 use std::alloc::Global;
 use std::process::Abort;
 use std::sync::Wait;
@@ -86,4 +87,14 @@ pub(crate) trait Calling {
 
     // Whether these are the fields of the key, in this order.
     fn has_fields<T: Abort>(&mut self, rt: &T, alloc: Global, key: &[u8], fields: &[&[u8]]) -> bool;
+}
+
+// What a client does beside that.
+// There are several traits, as a check of a deep type compares all calls of a trait at once.
+pub(crate) trait Keeping {
+    // Makes these writes at once: puts x on the field f of a, y on its empty field, and takes the field f of a and b away.
+    fn write_at_once<T: Wait + Abort>(&mut self, rt: &T, alloc: Global) -> Written;
+
+    // What the replica is to come back from.
+    fn saved<T: Wait + Abort>(&mut self, rt: &T, alloc: Global) -> Saved;
 }

@@ -1,19 +1,24 @@
 // Nodes that are made, whose clients are all handed out and call, and that end.
 ghost use Rattle.std.specs.Prelude.{◌≡◌, ◌≤◌};
+ghost use Rattle.replica_model.specs.Replica.{fresh};
 
 use crate::caller::{Caller, Calling};
+use crate::tests::batch::write_at_once;
 use crate::tests::beside::{Holding, both_put_often, write_while_read};
 use crate::tests::kept::put_and_keep;
 use crate::tests::meanwhile::synchronise;
+use crate::tests::resumed::put_and_save;
 use crate::tests::served::{Ends, Outside, exchange, serve_alone};
 use crate::tests::sessions::{call_twelve_times, write_fields};
 use crate::tests::slow::put_while_looked;
 use dots::{Name, Refusal};
+use hash_path::Fnv1a;
 use node_threads::{
     Channels, Client, Lock, Named, Naming, Node, NodeEvent, Post, Root, Served, new_node,
 };
 use replica_core::Replica;
 use root_cell::OpenedBook;
+use saved_form::Saved;
 use shared_object::{Gate, NoGate, Unfinished};
 use std::alloc::Global;
 use std::marker;
@@ -51,7 +56,7 @@ fn made<K: Naming, G: Gate + Drop, R: Wait + Abort + Copy + Drop>(
 ) -> Shared<K, G, R>
     requires places { (1 ≤ places) × (places ≤ 64) }
     requires book { opened.0 ≡ K.book }
-    requires name { K.name ≡ number }
+    requires first { K.first ≡ fresh number }
 {
     let own = name(&rt, number);
     let made = new_node(&rt, alloc, opened, own, places, gate, rt);
@@ -144,8 +149,9 @@ fn finished<K: Naming, G: Gate + Drop, R: Wait + Abort + Drop>(
 #[derive(Drop)]
 pub(crate) enum Calls<P: Drop> {
     Twelve,
-    // And three of fields then.
     Snapshots,
+    // Three of fields.
+    Fields,
     // By which post, and what is counted.
     Serving(P, Served),
 }
@@ -177,10 +183,8 @@ fn call<C: Caller + Calling, P: Post + Copy + Drop, R: Wait + Abort>(
 ) {
     match calls {
         Calls::Twelve => call_twelve_times(rt, alloc, clients),
-        Calls::Snapshots => {
-            put_and_keep(rt, alloc, clients);
-            write_fields(rt, alloc, clients);
-        }
+        Calls::Snapshots => put_and_keep(rt, alloc, clients),
+        Calls::Fields => write_fields(rt, alloc, clients),
         Calls::Serving(post, all) => serve_alone(rt, alloc, clients, post, *all),
     }
 }
@@ -222,12 +226,44 @@ fn alone_at_this_node<K: Naming, P: Post + Copy + Drop, R: Wait + Abort + Copy +
     calls: &Calls<P>,
 ) -> Last
     requires book { opened.0 ≡ K.book }
-    requires name { K.name ≡ 1 }
+    requires first { K.first ≡ fresh 1 }
 {
     let mut node: Shared<K, NoGate, R> = made(rt, alloc, opened, 1, 1, NoGate);
     let mut clients = all_clients(&rt, alloc, &mut node, 1);
     call(&rt, alloc, &mut clients, calls);
     finished(&rt, node, clients)
+}
+
+// Has the one client of a new node, of the replica 1, write at once: what is there in the end.
+fn batched_at_this_node<K: Naming, R: Wait + Abort + Copy + Drop>(
+    rt: R,
+    alloc: Global,
+    opened: OpenedBook<NodeEvent>,
+) -> Last
+    requires book { opened.0 ≡ K.book }
+    requires first { K.first ≡ fresh 1 }
+{
+    let mut node: Shared<K, NoGate, R> = made(rt, alloc, opened, 1, 1, NoGate);
+    let mut clients = all_clients(&rt, alloc, &mut node, 1);
+    write_at_once(&rt, alloc, &mut clients);
+    ended(&rt, node, clients)
+}
+
+// Has the one client of a new node, of the replica 1, put twice, save the replica, and put again: what was saved.
+fn saved_at_this_node<K: Naming, R: Wait + Abort + Copy + Drop>(
+    rt: R,
+    alloc: Global,
+    opened: OpenedBook<NodeEvent>,
+) -> Saved
+    requires book { opened.0 ≡ K.book }
+    requires first { K.first ≡ fresh 1 }
+{
+    let mut node: Shared<K, NoGate, R> = made(rt, alloc, opened, 1, 1, NoGate);
+    let mut clients = all_clients(&rt, alloc, &mut node, 1);
+    let saved = put_and_save(&rt, alloc, &mut clients);
+    let last = ended(&rt, node, clients);
+    assert!(rt; last == (3, 2, 3, 0));
+    saved
 }
 
 // Has the two clients of a new node, of the replica 1, make these calls, which pass this gate: what is there in the end.
@@ -236,7 +272,7 @@ fn beside_at_this_node<
     R: Threads + Wait + Abort + Copy + Drop + Send + Sync,
 >(rt: R, alloc: Global, opened: OpenedBook<NodeEvent>, gate: Holding, calls: BesideCalls) -> Last
     requires book { opened.0 ≡ K.book }
-    requires name { K.name ≡ 1 }
+    requires first { K.first ≡ fresh 1 }
 {
     let mut node: Shared<K, Holding, R> = made(rt, alloc, opened, 1, 2, gate);
     let mut clients = all_clients(&rt, alloc, &mut node, 2);
@@ -262,7 +298,7 @@ fn with_this_node<
 ) -> Last
     requires places { (1 ≤ places) × (places ≤ 64) }
     requires book { opened.0 ≡ L.book }
-    requires name { L.name ≡ 2 }
+    requires first { L.first ≡ fresh 2 }
 {
     let mut node: Shared<L, NoGate, R> = made(rt, alloc, opened, 2, places, NoGate);
     let mut peers = all_clients(&rt, alloc, &mut node, places);
@@ -291,8 +327,8 @@ fn at_these_nodes<
     requires peer_places { (1 ≤ peer_places) × (peer_places ≤ 64) }
     requires first { first.0 ≡ K.book }
     requires second { second.0 ≡ L.book }
-    requires one { K.name ≡ 1 }
-    requires two { L.name ≡ 2 }
+    requires one { K.first ≡ fresh 1 }
+    requires two { L.first ≡ fresh 2 }
 {
     let mut node: Shared<K, NoGate, R> = made(rt, alloc, first, 1, places, NoGate);
     let mut clients = all_clients(&rt, alloc, &mut node, places);
@@ -314,6 +350,18 @@ pub(crate) fn alone<R: Wait + Abort + Copy + Drop>(
     calls: &Calls<Channels>,
 ) -> Last {
     alone_at_this_node::<marker::Brand, _, _>(rt, alloc, OpenedBook::new(), calls)
+}
+
+// Has the one client of a new node write at once: what is there in the end.
+pub(crate) fn batched<R: Wait + Abort + Copy + Drop>(rt: R, alloc: Global) -> Last {
+    batched_at_this_node::<marker::Brand, _>(rt, alloc, OpenedBook::new())
+}
+
+// Has the one client of a new node save its replica: what is there of the replica that comes back from it.
+pub(crate) fn resumed<R: Wait + Abort + Copy + Drop>(rt: R, alloc: Global) -> Last {
+    let saved = saved_at_this_node::<marker::Brand, _>(rt, alloc, OpenedBook::new());
+    let replica = Replica::resume(alloc, Fnv1a, saved).expect(&rt, "memory");
+    told(&rt, 0, &replica)
 }
 
 // The same of the two clients of a new node, which pass this gate.

@@ -1,9 +1,11 @@
 // What clients of a node are told, and how it ends.
 use std::process::Abort;
 
+pub(crate) mod batch;
 pub(crate) mod beside;
 pub(crate) mod kept;
 pub(crate) mod meanwhile;
+pub(crate) mod resumed;
 pub(crate) mod served;
 pub(crate) mod sessions;
 pub(crate) mod slow;

@@ -10,18 +10,11 @@ use denote.Param.SendFields.{FieldsHave, as_row_send, declared_send}
 use denote.RattleType.{RattleType}
 use denote.Struct.Field.{row_field}
 use denote.Struct.Tuple
-use Rattle.std.below.core.specs.contracts.clone.Clone+copy.TheImpl as copy
 use Rattle.std.proofs.Crossing.{crosses}
 use Rattle.replica_core.proofs.Crossing.{copied, Fields, fields_send, fields_sync, map_send, map_sync, Object, object_send}
-use Rattle.std.proofs.hash.BuildHasherDefault.TheSendSync as Hasher
 use Rattle.std.specs.contracts.alloc.Global as Heap
 use Rattle.std.specs.contracts.impls.GlobalAllocator.TheImpl.{ghosts}
 use Rattle.std.specs.declared.alloc.Global.{Global}
-use Rattle.std.specs.declared.clone.Clone as copying
-use Rattle.std.specs.declared.default.Default as standard
-use Rattle.indexmap.proofs.map.IndexMap.TheSendSync as IndexMap
-use Rattle.dots.proofs.name.Name.TheSendSync as Name
-use Rattle.dots.proofs.text.Text.TheSendSync as Texts
 use Rattle.dots.specs.contracts.kind.FieldKind as FieldKind
 use Rattle.dots.specs.contracts.kind.ValueKind as ValueKind
 use Rattle.dots.specs.contracts.text.Text as Text
@@ -29,30 +22,13 @@ use Rattle.hash_path.proofs.fnv1a.Fnv1a.TheSendSync as Hashes
 use Rattle.hash_path.specs.contracts.fnv1a.Fnv1a as Fnv1a
 use Rattle.hash_path.specs.contracts.fnv1a.Fnv1aDefault.TheImpl as Fnv1aDefault
 use Rattle.hash_path.specs.contracts.fnv1a.Fnv1aPathHash.TheImpl as Fnv1aHash
-use Rattle.hash_path.specs.declared.path_hash.PathHash as hashing
-use Rattle.causal_context.proofs.context.Context.TheSendSync as Context
-use Rattle.causal_join.proofs.fields.Fields.TheSendSync as AllFields
-use Rattle.causal_join.specs.contracts.fields.Fields as KeyFields
 use Rattle.causal_join.specs.contracts.fields.FieldsDotStore.TheImpl as FieldsStore
 use Rattle.dot_store.specs.declared.store.DotStore as storing
-use Rattle.gen_trie.proofs.no_summary.NoSummary.TheSendSync as NoSummary
-use Rattle.gen_trie.proofs.node.Node.TheLaws.TheKnot as Nodes
-use Rattle.gen_trie.specs.contracts.frozen.Frozen as Frozen
 use Rattle.gen_trie.specs.declared.summary.Summary as summing
 use Rattle.trie_map.specs.contracts.trie_map.TrieMap as TrieMap
-use Rattle.live_map.proofs.index.Index.TheSendSync as Index
-use Rattle.live_map.specs.contracts.live.Live as Live
-use Rattle.delta_ops.proofs.outgoing.Outgoing.TheSendSync as Outgoing
-use Rattle.wire_form.proofs.session.Session.TheSendSync as Session
 use Rattle.prefix_digest.proofs.sha_summary.ShaSummary.TheSendSync as Digests
 use Rattle.prefix_digest.specs.contracts.sha_summary.ShaSummary as ShaSummary
 use Rattle.prefix_digest.specs.contracts.sha_summary.ShaSummarySummaryFields.TheImpl as FieldSummary
-use Rattle.page_taking.specs.contracts.built.Built as Built
-use Rattle.page_taking.specs.contracts.fetching.Fetching as Fetching
-use Rattle.sync_protocol.specs.contracts.answerer.Answerer as Answerer
-use Rattle.sync_protocol.specs.contracts.asker.Asker as Asker
-use Rattle.sync_protocol.specs.contracts.snapshot.Snapshot as Snapshot
-use Rattle.replica_core.specs.contracts.replica.Replica as Replica
 use Rattle.root_cell.specs.declared.brand.Brand as branding
 use Rattle.shared_object.proofs.client.Client.TheSendSync as Clients
 use Rattle.shared_object.proofs.shared.Shared.TheSendSync as Locks

@@ -1,5 +1,8 @@
 pub mod Stepping
+pub mod Batches
 pub mod Inboxes
 pub mod Posts
+pub mod Again
+pub mod Streams
 pub mod Twice
 pub mod Crossing

@@ -2,6 +2,7 @@
 use Rattle.std.proofs.Common.{◌≡◌, ℕ, ◌+◌, ◌≤◌, min, List, [], ◌∷◌, ◌++◌, length, Option, Some, None, refl, sym, ap, subst, ◌∙◌, inl, inr, ⊎_elim, arith}
 use Rattle.node_threads.specs.declared.node_event.NodeEvent.{NodeEvent}
 use Rattle.node_threads.specs.Serving.{AreSent, IsLost, IsPassed, IsSent, IsTaken, Serves, lost_of, passed_of}
+use Rattle.replica_model.specs.Replica.{Replica}
 use Rattle.shared_object.specs.History.{Seat}
 use Rattle.wire_form.specs.Message.{message_of}
 use Rattle.wire_form.specs.declared.message.Message.{Message}
@@ -25,18 +26,18 @@ module _ {P A : Type 0} (Receives : P → P → List ℕ → Type 0) (Sends : P 
       let rest : h.1 ≤ length xs = few_lost h.0 q xs h.1 h.3 in
       ⊎_elim (λ s. omega (arith, rest, s.1)) (λ s. omega (arith, rest, s.1)) h.2
 
-  module _ (name : ℕ) (r : P) (new : Seat (NodeEvent A)) where
-    pub passed_more : (p q : P) (old seat : Seat (NodeEvent A)) (steps : List (Option ℕ)) → Serves Receives Sends Rests name p q old seat steps → IsPassed Receives Sends Rests q r seat new
-        → Serves Receives Sends Rests name p r old new (steps ++ None ∷ [])
+  module _ (first : Replica) (r : P) (new : Seat (NodeEvent A)) where
+    pub passed_more : (p q : P) (old seat : Seat (NodeEvent A)) (steps : List (Option ℕ)) → Serves Receives Sends Rests first p q old seat steps → IsPassed Receives Sends Rests q r seat new
+        → Serves Receives Sends Rests first p r old new (steps ++ None ∷ [])
     passed_more p q old seat [] h step =
         (r, new, subst (λ x. IsPassed Receives Sends Rests x r old new) h.0 (subst (λ s. IsPassed Receives Sends Rests q r s new) h.1 step), (refl, refl))
     passed_more p q old seat (None ∷ steps) h step = (h.0, h.1, h.2, passed_more h.0 q h.1 seat steps h.3 step)
     passed_more p q old seat (Some lost ∷ steps) h step = (h.0, h.1, h.2, passed_more h.0 q h.1 seat steps h.3 step)
 
-    pub taken_more : (p q : P) (old seat : Seat (NodeEvent A)) (steps : List (Option ℕ)) (count : ℕ) → Serves Receives Sends Rests name p q old seat steps → IsTaken Receives Sends Rests name q r seat new count
-        → Serves Receives Sends Rests name p r old new (steps ++ Some count ∷ [])
+    pub taken_more : (p q : P) (old seat : Seat (NodeEvent A)) (steps : List (Option ℕ)) (count : ℕ) → Serves Receives Sends Rests first p q old seat steps → IsTaken Receives Sends Rests first q r seat new count
+        → Serves Receives Sends Rests first p r old new (steps ++ Some count ∷ [])
     taken_more p q old seat [] count h step =
-        (r, new, subst (λ x. IsTaken Receives Sends Rests name x r old new count) h.0 (subst (λ s. IsTaken Receives Sends Rests name q r s new count) h.1 step), (refl, refl))
+        (r, new, subst (λ x. IsTaken Receives Sends Rests first x r old new count) h.0 (subst (λ s. IsTaken Receives Sends Rests first q r s new count) h.1 step), (refl, refl))
     taken_more p q old seat (None ∷ steps) count h step = (h.0, h.1, h.2, taken_more h.0 q h.1 seat steps count h.3 step)
     taken_more p q old seat (Some lost ∷ steps) count h step = (h.0, h.1, h.2, taken_more h.0 q h.1 seat steps count h.3 step)
 

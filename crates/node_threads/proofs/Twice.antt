@@ -1,7 +1,8 @@
 -- What comes but once in a history.
-use Rattle.std.proofs.Common.{◌≡◌, ℕ, zero, suc, ◌+◌, ◌≤◌, List, [], ◌∷◌, true, ◌||◌, inl, inr, Option, Some, None, refl, sym, ap, ◌∙◌, subst, arith}
+use Rattle.std.proofs.Common.{◌≡◌, ℕ, zero, suc, ◌+◌, ◌<◌, ◌≤◌, Bool, ltb, List, [], ◌∷◌, true, false, ◌||◌, Option, Some, None, refl, sym, ap, ◌∙◌, subst, arith}
 use Rattle.std.specs.List.{slice_get}
 use Rattle.std.proofs.Math.Bool.{or-true}
+use Rattle.std.proofs.lemmas.Bool.Decides.{nat_tests}
 use Rattle.dots.specs.declared.dot.Dot.{Dot}
 use Rattle.dots.specs.Dot.{same_dot}
 use Rattle.op_model.specs.Meaning.{MapState}
@@ -11,7 +12,7 @@ use Rattle.op_model.proofs.Making.{has-write}
 use Rattle.sync_model.specs.Closing.{IsBelow}
 use Rattle.replica_model.specs.History.{Entry, Runs}
 use Rattle.replica_model.specs.Mail.{Mail}
-use Rattle.replica_model.specs.Replica.{Replica, Open, fresh, open_numbered}
+use Rattle.replica_model.specs.Replica.{Replica, Open, open_numbered}
 use Rattle.replica_model.specs.Step.{Act, Do, Take, Answer, Made, Numbered, Abandons, Put, Remove, RemoveField, Clear, Flush, Ask, Retry, Abandon, Restart, IsStep}
 use Rattle.replica_model.proofs.Asks.{delivery_opens, call_opens}
 use Rattle.replica_model.proofs.Growing.{call_grows, delivery_grows}
@@ -27,7 +28,7 @@ module _ (hash_of : List ℕ → ℕ) {X : Type 0} (kind : X → Answer) (used :
   begun : (old new : Replica) (act : Act) (answer : Answer) (out : List Mail) (x : X) → IsStep hash_of old act new answer out → Some answer ≡ Some (kind x) → (used old x → ⊥) × used new x
   begun old new act answer out x step there = let same : answer ≡ kind x = cc in begins old new act out x (subst (λ a. IsStep hash_of old act new a out) same step)
 
-  not_again : (r s : Replica) (es : List Entry) (answers : List Answer) → Runs hash_of r es answers s → (i : ℕ) (x : X) → slice_get answers i ≡ Some (kind x) → used r x → ⊥
+  pub not_again : (r s : Replica) (es : List Entry) (answers : List Answer) → Runs hash_of r es answers s → (i : ℕ) (x : X) → slice_get answers i ≡ Some (kind x) → used r x → ⊥
   not_again r s [] answers (none, same) i x there was = empty_at i (kind x) (subst (λ l. slice_get l i ≡ Some (kind x)) none there)
   not_again r s (e ∷ es) answers (answer, more, a, (next, out, step, rest)) zero x there was =
       (begun r next e.act answer out x step (subst (λ l. slice_get l zero ≡ Some (kind x)) a there)).0 was
@@ -112,8 +113,29 @@ module _ (hash_of : List ℕ → ℕ) where
   number_begins old new (Do Restart) out n (e, a, o) = absurd cc
   number_begins old new (Take mail) out n (outcome, a, is) = absurd cc
 
+-- a dot that was known at first is not made, and a number that was used at first is not given
+unknown_at_first : (hash_of : List ℕ → ℕ) (first r : Replica) (es : List Entry) (answers : List Answer) → Runs hash_of first es answers r
+    → (i : ℕ) (dot : Dot) → slice_get answers i ≡ Some (Made dot) → first.live.has dot ≡ false
+unknown_at_first hash_of first r es answers runs i dot there = go (first.live.has dot) refl
+  where
+    go : (b : Bool) → first.live.has dot ≡ b → b ≡ false
+    go true known = absurd (not_again hash_of Made (knows hash_of) (dot_stays hash_of) (dot_begins hash_of) first r es answers runs i dot there known)
+    go false unknown = refl
+
+unused_at_first : (hash_of : List ℕ → ℕ) (first r : Replica) (es : List Entry) (answers : List Answer) → Runs hash_of first es answers r
+    → (i n : ℕ) → slice_get answers i ≡ Some (Numbered n) → first.opened < n
+unused_at_first hash_of first r es answers runs i n there = go (ltb first.opened n) refl
+  where
+    go : (b : Bool) → ltb first.opened n ≡ b → first.opened < n
+    go true less = grind (arith, nat_tests)
+    go false isnt =
+        let used : n ≤ first.opened = grind (arith, nat_tests) in
+        absurd (not_again hash_of Numbered (is_used hash_of) (number_stays hash_of) (number_begins hash_of) first r es answers runs i n there used)
+
 pub dots_differ : DotsDiffer
-dots_differ hash_of name history answers r runs = comes_once hash_of Made (knows hash_of) (dot_stays hash_of) (dot_begins hash_of) (fresh name) r history answers runs
+dots_differ hash_of first history answers r runs =
+    (comes_once hash_of Made (knows hash_of) (dot_stays hash_of) (dot_begins hash_of) first r history answers runs, unknown_at_first hash_of first r history answers runs)
 
 pub numbers_differ : NumbersDiffer
-numbers_differ hash_of name history answers r runs = comes_once hash_of Numbered (is_used hash_of) (number_stays hash_of) (number_begins hash_of) (fresh name) r history answers runs
+numbers_differ hash_of first history answers r runs =
+    (comes_once hash_of Numbered (is_used hash_of) (number_stays hash_of) (number_begins hash_of) first r history answers runs, unused_at_first hash_of first r history answers runs)

@@ -1,8 +1,10 @@
 // The calls of a client that write.
 mod asking;
+mod batching;
 mod delivering;
 mod writing;
 
 pub use asking::{Abandoning, Asking, Retrying};
+pub use batching::Batching;
 pub use delivering::Delivering;
 pub use writing::{Clearing, FieldRemoving, Flushing, Putting, Removing};

@@ -6,6 +6,9 @@
 mod acts;
 mod channels;
 mod deed;
+mod frames;
+mod frames_end;
+mod inspecting;
 mod laws;
 mod letter;
 mod looks;
@@ -14,20 +17,38 @@ mod node;
 mod node_event;
 mod opening;
 mod post;
+mod renewing;
+mod resent;
+mod running;
 mod serving;
 mod showing;
+mod work;
+mod write;
+mod written;
+mod wrote;
 
 pub use acts::{
-    Abandoning, Asking, Clearing, Delivering, FieldRemoving, Flushing, Putting, Removing, Retrying,
+    Abandoning, Asking, Batching, Clearing, Delivering, FieldRemoving, Flushing, Putting, Removing,
+    Retrying,
 };
 pub use channels::Channels;
 pub use deed::Deed;
+pub use frames::Frames;
+pub use frames_end::FramesEnd;
+pub use inspecting::{Checkpointing, Knowing, SessionListing};
 pub use laws::no_dot_and_no_number_comes_twice;
 pub use letter::Letter;
 pub use looks::{Containing, Digesting, FieldListing, Getting, KeyListing, Sharing, Sizing};
 pub use named::{Named, Naming, Root};
 pub use node::{Client, Lock, Node, Receipt};
 pub use node_event::NodeEvent;
-pub use opening::new_node;
+pub use opening::{new_node, node_of};
 pub use post::Post;
+pub use renewing::send_again;
+pub use resent::Resent;
+pub use running::each_client;
 pub use serving::{Served, serve};
+pub use work::Work;
+pub use write::Write;
+pub use written::Written;
+pub use wrote::Wrote;

@@ -12,24 +12,26 @@ use std::marker::PhantomData;
 /// What a node publishes: the store of what its replica holds.
 pub type Root<A = Global> = LiveStore<ShaSummary, Fnv1a, A>;
 
-/// Names a node: its cell's book, and the name of its replica. The caller picks it, once the book of its cell is opened, and it is a
+/// Names a node: its cell's book, and the replica that it begins with. The caller picks it, once the book of its cell is opened, and it is a
 /// parameter of all that belongs to the node: so a receipt of one node is not learnt at another.
 pub trait Naming {
-    ghost use Rattle.std.specs.Prelude.{ℕ};
     ghost use Rattle.logbook.specs.Pages.{Book};
+    ghost use Rattle.replica_model.specs.Replica.{Replica};
 
     // The book of the node's events.
     ghost book: { Book };
 
-    // The name of its replica.
-    ghost name: { ℕ };
+    // The replica that it begins with.
+    ghost first: { Replica };
 }
 
 /// What a call passes that picks the two itself.
 impl Naming for marker::Brand {
+    ghost use Rattle.replica_model.specs.Replica.{fresh};
+
     ghost book = { record { number = 0; log_name = 0; cells_name = 0 } };
 
-    ghost name = { 1 };
+    ghost first = { fresh 1 };
 }
 
 /// The Brand of the cell of a node.
@@ -42,12 +44,12 @@ impl<K: Naming, A: Allocator + Copy> Brand<Root<A>, NodeEvent<A>> for Named<K> {
 
     ghost book = { K.book };
 
-    ghost stands = { λ root history. StandsFor K.name root history };
+    ghost stands = { λ root history. StandsFor K.first root history };
 }
 
 impl<K: Naming, A: Allocator + Copy> Object<Replica<Fnv1a, A>, Root<A>, NodeEvent<A>> for Named<K> {
     ghost use Rattle.replica_core.specs.Meaning.{meaning};
     ghost use Rattle.node_threads.specs.History.{IsAfter};
 
-    ghost after = { λ replica history. IsAfter K.name history (meaning replica) };
+    ghost after = { λ replica history. IsAfter K.first history (meaning replica) };
 }

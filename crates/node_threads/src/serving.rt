@@ -41,7 +41,7 @@ pub fn serve<K: Naming, G: Gate + Drop, W: Wait + Drop, P: Post, T: Wait>(
 ) -> Served
     ensures took_in { TookIn (CanCome P.receives) client.old client.new }
     ensures delivered { client.new.operations ≡ client.old.operations + result.delivered }
-    ensures served { (steps : List (Option ℕ)) × (end : P) × Serves P.receives P.sends P.rests K.name post.old end client.old client.new steps
+    ensures served { (steps : List (Option ℕ)) × (end : P) × Serves P.receives P.sends P.rests K.first post.old end client.old client.new steps
         × P.rests end post.new × (result.refused ≡ min (passed_of steps) (2 ^ 64 - 1)) × (result.lost ≡ min (lost_of steps) (2 ^ 64 - 1)) }
 {
     let begun = client.operations();
@@ -70,7 +70,7 @@ fn answer<K: Naming, G: Gate + Drop, W: Wait + Drop, P: Post, T: Wait>(
     bytes: &[u8],
     post: &mut P,
 ) -> Option<u64>
-    ensures taken { IfSome result (IsAnswered P.receives P.sends P.rests K.name bytes.now post.old post.new client.old client.new) }
+    ensures taken { IfSome result (IsAnswered P.receives P.sends P.rests K.first bytes.now post.old post.new client.old client.new) }
     ensures passed { IsNone result → HasNotCalled (λ e. e.place) client.old client.new × (post.new ≡ post.old) }
 {
     match take_in(rt, alloc, client, bytes) {
@@ -90,7 +90,7 @@ fn take_in<K: Naming, G: Gate + Drop, W: Wait + Drop, T: Wait>(
     client: &mut Client<K, Lock<K, G, W>>,
     bytes: &[u8],
 ) -> Result<Delivered, Refusal>
-    ensures taken { IfOk result (λ told. IsTakenIn K.name bytes.now client.old client.new (Came (outcome_of told.outcome)) told.replies.items) }
+    ensures taken { IfOk result (λ told. IsTakenIn K.first bytes.now client.old client.new (Came (outcome_of told.outcome)) told.replies.items) }
     ensures not_made { OnErr result (HasNotCalled (λ e. e.place) client.old client.new) }
 {
     let message = decode(alloc, bytes)?;
@@ -106,7 +106,7 @@ fn deliver<K: Naming, G: Gate + Drop, W: Wait + Drop, T: Wait>(
     client: &mut Client<K, Lock<K, G, W>>,
     message: &Message,
 ) -> Result<Delivered, Refusal>
-    ensures taken { IfOk result (λ told. Takes K.name message.now client.old client.new (Came (outcome_of told.outcome)) told.replies.items) }
+    ensures taken { IfOk result (λ told. Takes K.first message.now client.old client.new (Came (outcome_of told.outcome)) told.replies.items) }
     ensures not_made { OnErr result (HasNotCalled (λ e. e.place) client.old client.new) }
 {
     let delivering = Delivering { alloc, message };
@@ -116,7 +116,12 @@ fn deliver<K: Naming, G: Gate + Drop, W: Wait + Drop, T: Wait>(
 }
 
 // Sends each reply, and counts those that are lost.
-fn send_all<P: Post, T: Wait>(rt: &T, alloc: Global, replies: &[Message], post: &mut P) -> u64
+pub(crate) fn send_all<P: Post, T: Wait>(
+    rt: &T,
+    alloc: Global,
+    replies: &[Message],
+    post: &mut P,
+) -> u64
     requires { length replies.now < 2 ^ 64 }
     ensures { AreSent P.receives P.sends P.rests post.old post.new replies.now result }
 {

@@ -10,7 +10,7 @@ use crate::guarded::Guarded;
 use crate::look::Look;
 use crate::object::Object;
 use crate::placed::Placed;
-use crate::shared::{Shared, take_turn};
+use crate::shared::{Shared, look_in_turn, take_turn};
 use crate::update::Update;
 use dots::Refusal;
 use root_cell::{Brand, Entered, Note, View};
@@ -145,7 +145,7 @@ impl<
         rt: &T,
         update: &C,
     ) -> Result<(C::Reply, Note<R, E, J>), Refusal>
-        ensures ok { IfOk result (λ r. (history : List E) × IsAccepted E.place self.old self.new history (C.event update.now self.old.place) × C.answers update.now history r.0) }
+        ensures ok { IfOk result (λ r. (history : List E) × IsAccepted E.place self.old self.new history (C.event update.now r.0 self.old.place) × C.answers update.now history r.0) }
         ensures receipt { IfOk result (λ r. r.1 ≡ self.new.front) }
         ensures refused { IfErr result (λ e. IsRefused (C.refuses update.now) self.new.front e) }
         ensures not_made { OnErr result (HasNotCalled E.place self.old self.new) }
@@ -164,6 +164,22 @@ impl<
             }
             Err(refusal) => Err(refusal),
         }
+    }
+
+    /// Looks at the object itself when its turn has come: at what a root leaves out. Nothing happens by it, and the client has then seen all that
+    /// happened. It takes what the look takes, with the lock held, so those that write wait for it; it waits for its turn, for no reader, and passes no
+    /// gate. It is not refused; where the object was taken out it waits for good.
+    pub fn inspect<T: Wait, L: Look<D>>(&mut self, rt: &T, look: &L) -> L::Found
+        ensures found { (object : D) × J.after object self.new.front × L.finds look.now object result }
+        ensures own { HasNotCalled E.place self.old self.new }
+    {
+        let Some(view) = self.view.take() else {
+            unreachable!()
+        };
+        let (place, operations) = (self.place, self.operations);
+        let (view, found) = look_in_turn(&self.shared, rt, view, place, operations, look);
+        self.view = Some(view);
+        found
     }
 
     /// Whether the calls of its place at what is guarded are just those that it made. It has learnt the history in any case.

@@ -5,6 +5,7 @@ ghost use Rattle.shared_object.specs.Calling.{IsRefused};
 
 use crate::awaiting::go_on_where;
 use crate::finishing::Finished;
+use crate::look::Look;
 use crate::object::Object;
 use crate::placed::Placed;
 use crate::update::{Made, Making, Update};
@@ -151,6 +152,25 @@ impl<D: Drop, R: Drop, E: Placed, J: Object<D, R, E>, W: Wait + Drop, A: Allocat
         (view, is_whole)
     }
 
+    /// Looks at the object for a client, who has then seen the history. That its calls are those that are known here stands in no clause, and where
+    /// they were not it would wait for good.
+    pub(crate) fn inspect<T: Wait, L: Look<D>>(
+        &self,
+        rt: &T,
+        view: View<R, E, J, A>,
+        place: usize,
+        operations: u64,
+        look: &L,
+    ) -> (View<R, E, J, A>, L::Found)
+        requires { place < 64 }
+        ensures seen { IsPrefix view result.0 }
+        ensures found { (object : D) × J.after object result.0 × L.finds look.now object result.1 }
+    {
+        let (seen, is_met) = self.meet(view, place, operations);
+        go_on_where(rt, is_met);
+        (seen, look.look(&self.object))
+    }
+
     /// Takes the turn of a client: makes its call, where the client's calls that are known here are just those that it made. They always are, as
     /// a place has one client; that they are stands in no clause, and where they were not it would wait for good.
     pub(crate) fn turn<T: Wait, C: Update<D, R, E, J, A>>(
@@ -170,9 +190,9 @@ impl<D: Drop, R: Drop, E: Placed, J: Object<D, R, E>, W: Wait + Drop, A: Allocat
         ensures own { IfOk result.2 (λ r. length (calls_by E.place place self) ≡ operations) }
         ensures room { IfOk result.2 (λ r. length self < 2 ^ 64 - 1) }
         ensures reply { IfOk result.2 (λ r. C.answers update.now self r.0) }
-        ensures receipt { IfOk result.2 (λ r. r.1 ≡ self ++ C.event update.now place ∷ []) }
-        ensures front { IfOk result.2 (λ r. result.1 ≡ self ++ C.event update.now place ∷ []) }
-        ensures guarded { IfOk result.2 (λ r. result.0 ≡ self ++ C.event update.now place ∷ []) }
+        ensures receipt { IfOk result.2 (λ r. r.1 ≡ self ++ C.event update.now r.0 place ∷ []) }
+        ensures front { IfOk result.2 (λ r. result.1 ≡ self ++ C.event update.now r.0 place ∷ []) }
+        ensures guarded { IfOk result.2 (λ r. result.0 ≡ self ++ C.event update.now r.0 place ∷ []) }
         ensures refused { IfErr result.2 (λ e. IsRefused (C.refuses update.now) result.1 e) }
         ensures learnt { IfErr result.2 (λ _. IsPrefix view result.1) }
         ensures whole { IfErr result.2 (λ _. length (calls_by E.place place result.1) ≡ operations) }
@@ -203,10 +223,10 @@ impl<D: Drop, R: Drop, E: Placed, J: Object<D, R, E>, W: Wait + Drop, A: Allocat
         Result<(C::Reply, Note<R, E, J>), Refusal>,
     )
         requires { place < 64 }
-        ensures ok { IfOk result.1 (λ r. result.0 ≡ self ++ C.event update.now place ∷ []) }
+        ensures ok { IfOk result.1 (λ r. result.0 ≡ self ++ C.event update.now r.0 place ∷ []) }
         ensures room { IfOk result.1 (λ r. length self < 2 ^ 64 - 1) }
         ensures reply { IfOk result.1 (λ r. C.answers update.now self r.0) }
-        ensures receipt { IfOk result.1 (λ r. r.1 ≡ self ++ C.event update.now place ∷ []) }
+        ensures receipt { IfOk result.1 (λ r. r.1 ≡ self ++ C.event update.now r.0 place ∷ []) }
         ensures refused { IfErr result.1 (IsRefused (C.refuses update.now) self) }
         ensures unchanged { IfErr result.1 (λ _. result.0 ≡ self) }
     {
@@ -223,8 +243,12 @@ impl<D: Drop, R: Drop, E: Placed, J: Object<D, R, E>, W: Wait + Drop, A: Allocat
         let mut object = object;
         match update.update(rt, &mut object) {
             Ok((reply, root)) => {
-                let made = Made { place, update };
-                let writer = writer.publish_placed::<Made<C>, Making<D, R, J, A>, T>(
+                let made = Made {
+                    place,
+                    update,
+                    reply: &reply,
+                };
+                let writer = writer.publish_placed::<Made<C, C::Reply>, Making<D, R, J, A>, T>(
                     rt, root, &made,
                 );
                 let receipt = writer.tell();

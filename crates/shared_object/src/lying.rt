@@ -5,6 +5,7 @@ ghost use Rattle.shared_object.specs.Calling.{IsRefused};
 
 use crate::awaiting::awaited;
 use crate::guarded::Guarded;
+use crate::look::Look;
 use crate::object::Object;
 use crate::placed::Placed;
 use crate::update::Update;
@@ -84,6 +85,25 @@ impl<D: Drop, R: Drop, E: Placed, J: Object<D, R, E>, W: Wait + Drop, A: Allocat
         awaited(rt, self.guarded.take())
     }
 
+    /// Looks at the object for a client, and leaves it there.
+    pub(crate) fn inspect<T: Wait, L: Look<D>>(
+        &mut self,
+        rt: &T,
+        view: View<R, E, J, A>,
+        place: usize,
+        operations: u64,
+        look: &L,
+    ) -> (View<R, E, J, A>, L::Found)
+        requires { place < 64 }
+        ensures seen { IsPrefix view result.0 }
+        ensures found { (object : D) × J.after object result.0 × L.finds look.now object result.1 }
+    {
+        let guarded = awaited(rt, self.guarded.take());
+        let told = guarded.inspect(rt, view, place, operations, look);
+        drop(self.guarded.replace(guarded));
+        told
+    }
+
     /// Takes the turn of a client, and leaves the object there.
     pub(crate) fn turn<T: Wait, C: Update<D, R, E, J, A>>(
         &mut self,
@@ -95,7 +115,7 @@ impl<D: Drop, R: Drop, E: Placed, J: Object<D, R, E>, W: Wait + Drop, A: Allocat
     ) -> (View<R, E, J, A>, Result<(C::Reply, Note<R, E, J>), Refusal>)
         requires { place < 64 }
         ensures ok { IfOk result.1 (λ r. (history : List E) × IsPrefix view history × (length (calls_by E.place place history) ≡ operations) × (length history < 2 ^ 64 - 1)
-            × C.answers update.now history r.0 × (r.1 ≡ history ++ C.event update.now place ∷ []) × (result.0 ≡ history ++ C.event update.now place ∷ [])) }
+            × C.answers update.now history r.0 × (r.1 ≡ history ++ C.event update.now r.0 place ∷ []) × (result.0 ≡ history ++ C.event update.now r.0 place ∷ [])) }
         ensures refused { IfErr result.1 (λ e. IsRefused (C.refuses update.now) result.0 e) }
         ensures learnt { IfErr result.1 (λ _. IsPrefix view result.0) }
         ensures whole { IfErr result.1 (λ _. length (calls_by E.place place result.0) ≡ operations) }

@@ -4,6 +4,7 @@ ghost use Rattle.shared_object.specs.History.{calls_by};
 ghost use Rattle.shared_object.specs.Calling.{IsRefused};
 
 use crate::gate::{Gate, Point};
+use crate::look::Look;
 use crate::lying::Lying;
 use crate::object::Object;
 use crate::placed::Placed;
@@ -50,7 +51,7 @@ pub(crate) fn take_turn<
 ) -> (View<R, E, J, A>, Result<(C::Reply, Note<R, E, J>), Refusal>)
     requires { place < 64 }
     ensures ok { IfOk result.1 (λ r. (history : List E) × IsPrefix view history × (length (calls_by E.place place history) ≡ operations) × (length history < 2 ^ 64 - 1)
-        × C.answers update.now history r.0 × (r.1 ≡ history ++ C.event update.now place ∷ []) × (result.0 ≡ history ++ C.event update.now place ∷ [])) }
+        × C.answers update.now history r.0 × (r.1 ≡ history ++ C.event update.now r.0 place ∷ []) × (result.0 ≡ history ++ C.event update.now r.0 place ∷ [])) }
     ensures refused { IfErr result.1 (λ e. IsRefused (C.refuses update.now) result.0 e) }
     ensures learnt { IfErr result.1 (λ _. IsPrefix view result.0) }
     ensures whole { IfErr result.1 (λ _. length (calls_by E.place place result.0) ≡ operations) }
@@ -59,4 +60,31 @@ pub(crate) fn take_turn<
     let mut guard = shared.lock.lock(rt);
     shared.gate.pass(Point::Locked);
     guard.turn(rt, view, place, operations, update)
+}
+
+/// Looks at the object for a client, once the lock is free. The View has seen the history then.
+pub(crate) fn look_in_turn<
+    D: Drop,
+    R: Drop,
+    E: Placed,
+    J: Object<D, R, E>,
+    G: Gate + Drop,
+    W: Wait + Drop,
+    A: Allocator + Copy,
+    T: Wait,
+    L: Look<D>,
+>(
+    shared: &Shared<D, R, E, J, G, W, A>,
+    rt: &T,
+    view: View<R, E, J, A>,
+    place: usize,
+    operations: u64,
+    look: &L,
+) -> (View<R, E, J, A>, L::Found)
+    requires { place < 64 }
+    ensures seen { IsPrefix view result.0 }
+    ensures found { (object : D) × J.after object result.0 × L.finds look.now object result.1 }
+{
+    let mut guard = shared.lock.lock(rt);
+    guard.inspect(rt, view, place, operations, look)
 }

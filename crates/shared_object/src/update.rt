@@ -17,8 +17,8 @@ pub trait Update<D, R, E: Placed, J: Object<D, R, E>, A: Allocator> {
     /// What it is answered.
     type Reply;
 
-    // The event that it is, of the client at a place.
-    ghost event: { Self → ℕ → E };
+    // The event that it is, once it was answered, of the client at a place.
+    ghost event: { Self → Self.Reply → ℕ → E };
 
     // It is answered so after this history.
     ghost answers: { Self → List E → Self.Reply → Type 0 };
@@ -29,21 +29,22 @@ pub trait Update<D, R, E: Placed, J: Object<D, R, E>, A: Allocator> {
     /// Makes the call, and a root of what the object then is, in its place. A refused call changes nothing; for want of memory it is refused
     /// only where the object does not refuse it. It is called with the lock held, so the others that write wait for it.
     fn update<W: Wait>(&self, rt: &W, object: &mut D) -> Result<(Self::Reply, Arc<R, A>), Refusal>
-        ensures after { IfOk result (λ r. (history : List E) → (place : ℕ) → J.after object.old history → J.after object.new (history ++ event self.now place ∷ [])) }
-        ensures root { IfOk result (λ r. (history : List E) → (place : ℕ) → J.after object.old history → J.stands r.1.value (history ++ event self.now place ∷ [])) }
+        ensures after { IfOk result (λ r. (history : List E) → (place : ℕ) → J.after object.old history → J.after object.new (history ++ event self.now r.0 place ∷ [])) }
+        ensures root { IfOk result (λ r. (history : List E) → (place : ℕ) → J.after object.old history → J.stands r.1.value (history ++ event self.now r.0 place ∷ [])) }
         ensures answers { IfOk result (λ r. (history : List E) → J.after object.old history → answers self.now history r.0) }
         ensures refused { IfErr result (λ e. (history : List E) → J.after object.old history → IsRefusedBy (refuses self.now) history e) }
         ensures unchanged { OnErr result ((history : List E) → J.after object.old history → J.after object.new history) };
 
     // The event is at the place of its client.
-    ghost placed: { (update : Self) (place : ℕ) → E.place (event update place) ≡ place };
+    ghost placed: { (update : Self) (reply : Self.Reply) (place : ℕ) → E.place (event update reply place) ≡ place };
 }
 
-/// A call that writes, with the place of its client.
+/// A call that writes, with its answer and the place of its client.
 #[derive(Drop)]
-pub(crate) struct Made<'a, C> {
+pub(crate) struct Made<'a, C, Y> {
     pub(crate) place: usize,
     pub(crate) update: &'a C,
+    pub(crate) reply: &'a Y,
 }
 
 /// What is published about it.
@@ -52,8 +53,8 @@ pub(crate) struct Making<D, R, J, A> {
 }
 
 impl<'a, D, R, E: Placed, J: Object<D, R, E>, A: Allocator, C: Update<D, R, E, J, A>> About<
-    Made<'a, C>,
+    Made<'a, C, C::Reply>,
     E,
 > for Making<D, R, J, A> {
-    ghost event = { λ made. C.event made.update.now made.place };
+    ghost event = { λ made. C.event made.update.now made.reply.now made.place };
 }

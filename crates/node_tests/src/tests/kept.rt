@@ -11,9 +11,8 @@ use std::sync::Wait;
 
 #[test]
 fn each_of_a_thousand_snapshots_stays(rt: HostRuntime) {
-    // Three calls of fields come after the puts.
     let last = alone(rt, rt.alloc(), &Calls::Snapshots);
-    assert!(rt; last == (1003, 2, 1002, 0));
+    assert!(rt; last == (1000, 1, 1000, 0));
 }
 
 // Puts a thousand values on one key, one after the other, and keeps a snapshot after each. Each shows its own value.

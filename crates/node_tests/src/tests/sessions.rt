@@ -21,6 +21,12 @@ fn twelve_calls_of_one_client_are_twelve_events(rt: HostRuntime) {
     assert!(rt; last == (12, 0, 2, 0));
 }
 
+#[test]
+fn three_calls_of_fields_are_three_events(rt: HostRuntime) {
+    let last = alone(rt, rt.alloc(), &Calls::Fields);
+    assert!(rt; last == (3, 1, 2, 0));
+}
+
 pub(crate) fn call_twelve_times<C: Caller + Calling>(
     rt: &(impl Wait + Abort),
     alloc: Global,
@@ -116,18 +122,18 @@ fn is_one_message(told: &Delivered) -> bool {
     told.outcome == Outcome::Sent && told.replies.len() == 1
 }
 
-// Puts two fields of a key that is not there, once a thousand values were put, and takes one away.
+// Puts two fields of a key, on a node that did nothing else, and takes one away.
 pub(crate) fn write_fields<C: Caller + Calling>(
     rt: &(impl Wait + Abort),
     alloc: Global,
     clients: &mut [C],
 ) {
     let client = only(rt, clients);
-    let first = client.put(rt, alloc, b"b", b"f", b"x");
-    let has_first = client.has(rt, alloc, b"b", b"f", Some(b"x"));
-    let second = client.put(rt, alloc, b"b", b"", b"y");
-    let both = client.has_fields(rt, alloc, b"b", &[b"", b"f"]);
-    let observed = client.remove_field(rt, alloc, b"b", b"f");
-    let one = client.has_fields(rt, alloc, b"b", &[b""]);
-    assert!(rt; has_first && both && one && (first, second, observed) == (1001, 1002, 1));
+    let first = client.put(rt, alloc, b"a", b"f", b"x");
+    let has_first = client.has(rt, alloc, b"a", b"f", Some(b"x"));
+    let second = client.put(rt, alloc, b"a", b"", b"y");
+    let both = client.has_fields(rt, alloc, b"a", &[b"", b"f"]);
+    let observed = client.remove_field(rt, alloc, b"a", b"f");
+    let one = client.has_fields(rt, alloc, b"a", &[b""]);
+    assert!(rt; has_first && both && one && (first, second, observed) == (1, 2, 1));
 }

@@ -36,11 +36,11 @@ impl<K: Naming, A: Allocator + Copy> Update<Replica<Fnv1a, A>, Root<A>, NodeEven
     for Asking<A> {
     type Reply = (u64, Message<A>);
 
-    ghost event = { λ c place. record { place = place; deed = Ask c.peer } };
+    ghost event = { λ c reply place. record { place = place; deeds = Ask c.peer ∷ [] } };
 
-    ghost answers = { λ c history asked. Replies K.name history (Ask c.peer) (Numbered asked.0) (mail_of (message_of asked.1) ∷ []) };
+    ghost answers = { λ c history asked. Replies K.first history (Ask c.peer) (Numbered asked.0) (mail_of (message_of asked.1) ∷ []) };
 
-    ghost refuses = { λ c history refusal. RefusesAfter K.name history (step.Ask c.peer) refusal };
+    ghost refuses = { λ c history refusal. RefusesAfter K.first history (step.Ask c.peer) refusal };
 
     fn update<W: Wait>(
         &self,
@@ -63,7 +63,7 @@ impl<K: Naming, A: Allocator + Copy> Update<Replica<Fnv1a, A>, Root<A>, NodeEven
         }
     }
 
-    ghost placed = { λ c place. refl };
+    ghost placed = { λ c reply place. refl };
 }
 
 /// Sends a synchronisation's messages again, as `Replica::retry`: its hello, or an ask for each page that it waits for. The reply is what came of it.
@@ -81,9 +81,9 @@ impl<K: Naming, A: Allocator + Copy> Update<Replica<Fnv1a, A>, Root<A>, NodeEven
     for Retrying<A> {
     type Reply = Delivered<A>;
 
-    ghost event = { λ c place. record { place = place; deed = Retry c.number } };
+    ghost event = { λ c reply place. record { place = place; deeds = Retry c.number ∷ [] } };
 
-    ghost answers = { λ c history told. Replies K.name history (Retry c.number) (Came (outcome_of told.outcome)) (mails_of told.replies.items) };
+    ghost answers = { λ c history told. Replies K.first history (Retry c.number) (Came (outcome_of told.outcome)) (mails_of told.replies.items) };
 
     ghost refuses = { λ c history refusal. NeverRefuses history refusal };
 
@@ -98,7 +98,7 @@ impl<K: Naming, A: Allocator + Copy> Update<Replica<Fnv1a, A>, Root<A>, NodeEven
         Ok((reply, root))
     }
 
-    ghost placed = { λ c place. refl };
+    ghost placed = { λ c reply place. refl };
 }
 
 /// Gives a synchronisation up, as `Replica::abandon`. The reply is whether one of this number was open.
@@ -116,9 +116,9 @@ impl<K: Naming, A: Allocator + Copy> Update<Replica<Fnv1a, A>, Root<A>, NodeEven
     for Abandoning<A> {
     type Reply = bool;
 
-    ghost event = { λ c place. record { place = place; deed = Abandon c.number } };
+    ghost event = { λ c reply place. record { place = place; deeds = Abandon c.number ∷ [] } };
 
-    ghost answers = { λ c history was_open. Replies K.name history (Abandon c.number) (Closed was_open) [] };
+    ghost answers = { λ c history was_open. Replies K.first history (Abandon c.number) (Closed was_open) [] };
 
     ghost refuses = { λ c history refusal. NeverRefuses history refusal };
 
@@ -133,5 +133,5 @@ impl<K: Naming, A: Allocator + Copy> Update<Replica<Fnv1a, A>, Root<A>, NodeEven
         Ok((reply, root))
     }
 
-    ghost placed = { λ c place. refl };
+    ghost placed = { λ c reply place. refl };
 }

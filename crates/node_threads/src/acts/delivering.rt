@@ -1,5 +1,5 @@
 // What a client takes in.
-ghost use Rattle.std.specs.Prelude.{refl};
+ghost use Rattle.std.specs.Prelude.{[], ◌∷◌, refl};
 ghost use Rattle.replica_core.specs.Answered.{outcome_of};
 ghost use Rattle.replica_core.specs.Stepping.{mails_of};
 ghost use Rattle.replica_model.specs.Step.{Came};
@@ -37,9 +37,9 @@ impl<'a, K: Naming, A: Allocator + Copy> Update<
 > for Delivering<'a, A> {
     type Reply = Delivered<A>;
 
-    ghost event = { λ c place. record { place = place; deed = Deliver c.message.now } };
+    ghost event = { λ c reply place. record { place = place; deeds = Deliver c.message.now ∷ [] } };
 
-    ghost answers = { λ c history told. Replies K.name history (Deliver c.message.now) (Came (outcome_of told.outcome)) (mails_of told.replies.items) };
+    ghost answers = { λ c history told. Replies K.first history (Deliver c.message.now) (Came (outcome_of told.outcome)) (mails_of told.replies.items) };
 
     ghost refuses = { λ c history refusal. NeverRefuses history refusal };
 
@@ -54,5 +54,5 @@ impl<'a, K: Naming, A: Allocator + Copy> Update<
         Ok((reply, root))
     }
 
-    ghost placed = { λ c place. refl };
+    ghost placed = { λ c reply place. refl };
 }

@@ -1,5 +1,5 @@
 // The own operations of a client.
-ghost use Rattle.std.specs.Prelude.{[], refl};
+ghost use Rattle.std.specs.Prelude.{[], ◌∷◌, refl};
 ghost use Rattle.op_model.specs.Place.{place_of};
 ghost use Rattle.replica_core.specs.Stepping.{mail_or_none};
 ghost use Rattle.replica_model.specs.Step.{Made, Counted, Nothing};
@@ -42,11 +42,11 @@ impl<'a, K: Naming, A: Allocator + Copy> Update<
 > for Putting<'a, A> {
     type Reply = Dot;
 
-    ghost event = { λ c place. record { place = place; deed = Put c.key.now c.field.now c.value.now } };
+    ghost event = { λ c reply place. record { place = place; deeds = Put c.key.now c.field.now c.value.now ∷ [] } };
 
-    ghost answers = { λ c history dot. Replies K.name history (Put c.key.now c.field.now c.value.now) (Made dot) [] };
+    ghost answers = { λ c history dot. Replies K.first history (Put c.key.now c.field.now c.value.now) (Made dot) [] };
 
-    ghost refuses = { λ c history refusal. RefusesAfter K.name history (step.Put (place_of c.key.now c.field.now) c.value.now) refusal };
+    ghost refuses = { λ c history refusal. RefusesAfter K.first history (step.Put (place_of c.key.now c.field.now) c.value.now) refusal };
 
     fn update<W: Wait>(
         &self,
@@ -69,7 +69,7 @@ impl<'a, K: Naming, A: Allocator + Copy> Update<
         }
     }
 
-    ghost placed = { λ c place. refl };
+    ghost placed = { λ c reply place. refl };
 }
 
 /// Takes a key away with all its fields, as `Replica::remove`. The reply is how many writes it observed there.
@@ -92,9 +92,9 @@ impl<'a, K: Naming, A: Allocator + Copy> Update<
 > for Removing<'a, A> {
     type Reply = u64;
 
-    ghost event = { λ c place. record { place = place; deed = Remove c.key.now } };
+    ghost event = { λ c reply place. record { place = place; deeds = Remove c.key.now ∷ [] } };
 
-    ghost answers = { λ c history number. Replies K.name history (Remove c.key.now) (Counted number) [] };
+    ghost answers = { λ c history number. Replies K.first history (Remove c.key.now) (Counted number) [] };
 
     ghost refuses = { λ c history refusal. NeverRefuses history refusal };
 
@@ -109,7 +109,7 @@ impl<'a, K: Naming, A: Allocator + Copy> Update<
         Ok((reply, root))
     }
 
-    ghost placed = { λ c place. refl };
+    ghost placed = { λ c reply place. refl };
 }
 
 /// Takes a field of a key away, as `Replica::remove_field`. The reply is how many writes it observed there.
@@ -134,9 +134,9 @@ impl<'a, K: Naming, A: Allocator + Copy> Update<
 > for FieldRemoving<'a, A> {
     type Reply = u64;
 
-    ghost event = { λ c place. record { place = place; deed = RemoveField c.key.now c.field.now } };
+    ghost event = { λ c reply place. record { place = place; deeds = RemoveField c.key.now c.field.now ∷ [] } };
 
-    ghost answers = { λ c history number. Replies K.name history (RemoveField c.key.now c.field.now) (Counted number) [] };
+    ghost answers = { λ c history number. Replies K.first history (RemoveField c.key.now c.field.now) (Counted number) [] };
 
     ghost refuses = { λ c history refusal. NeverRefuses history refusal };
 
@@ -151,7 +151,7 @@ impl<'a, K: Naming, A: Allocator + Copy> Update<
         Ok((reply, root))
     }
 
-    ghost placed = { λ c place. refl };
+    ghost placed = { λ c reply place. refl };
 }
 
 /// Takes all keys away, as `Replica::clear`. The reply is how many writes it observed.
@@ -167,9 +167,9 @@ impl<K: Naming, A: Allocator + Copy> Update<Replica<Fnv1a, A>, Root<A>, NodeEven
     for Clearing<A> {
     type Reply = u64;
 
-    ghost event = { λ c place. record { place = place; deed = Clear } };
+    ghost event = { λ c reply place. record { place = place; deeds = Clear ∷ [] } };
 
-    ghost answers = { λ c history number. Replies K.name history (Clear) (Counted number) [] };
+    ghost answers = { λ c history number. Replies K.first history (Clear) (Counted number) [] };
 
     ghost refuses = { λ c history refusal. NeverRefuses history refusal };
 
@@ -184,7 +184,7 @@ impl<K: Naming, A: Allocator + Copy> Update<Replica<Fnv1a, A>, Root<A>, NodeEven
         Ok((reply, root))
     }
 
-    ghost placed = { λ c place. refl };
+    ghost placed = { λ c reply place. refl };
 }
 
 /// Sends what was made since the last flush, as `Replica::flush`. The reply is its delta, or None where nothing was made.
@@ -200,9 +200,9 @@ impl<K: Naming, A: Allocator + Copy> Update<Replica<Fnv1a, A>, Root<A>, NodeEven
     for Flushing<A> {
     type Reply = Option<Message<A>>;
 
-    ghost event = { λ c place. record { place = place; deed = Flush } };
+    ghost event = { λ c reply place. record { place = place; deeds = Flush ∷ [] } };
 
-    ghost answers = { λ c history sent. Replies K.name history (Flush) (Nothing) (mail_or_none sent) };
+    ghost answers = { λ c history sent. Replies K.first history (Flush) (Nothing) (mail_or_none sent) };
 
     ghost refuses = { λ c history refusal. NeverRefuses history refusal };
 
@@ -217,5 +217,5 @@ impl<K: Naming, A: Allocator + Copy> Update<Replica<Fnv1a, A>, Root<A>, NodeEven
         Ok((reply, root))
     }
 
-    ghost placed = { λ c place. refl };
+    ghost placed = { λ c reply place. refl };
 }

@@ -14,7 +14,7 @@ loop-preserved g c =
     let receives = g.P.Post.receives in
     let sends = g.P.Post.sends in
     let rests = g.P.Post.rests in
-    let name = g.K.Naming.name in
+    let first = g.K.Naming.first in
     let Comes = CanCome receives in
     let bytes = c.in-Some-receive.bytes.items in
     let mid = c.receive.new.self in
@@ -26,8 +26,8 @@ loop-preserved g c =
     elim c.match-answer.branch [
       | in-Some-answer w ↦
           let count = w.in-Some-answer.count in
-          let answered : IsAnswered receives sends rests name bytes mid last old new count =
-          subst (λ b. IsAnswered receives sends rests name b mid last old new count) c.deref.ensures.value w.in-Some-answer.ensures.taken in
+          let answered : IsAnswered receives sends rests first bytes mid last old new count =
+          subst (λ b. IsAnswered receives sends rests first b mid last old new count) c.deref.ensures.value w.in-Some-answer.ensures.taken in
           let taken = answered.2 in
           let counts = taken_counts (2 ^ 64 - 1) steps c.loop.refused c.loop.lost count (c.loop.invariant.2.2, c.loop.invariant.2.3) in (
             took_then Comes c.args.client.now old new c.loop.invariant.0
@@ -35,7 +35,7 @@ loop-preserved g c =
             c.loop.invariant.1,
             (
               steps ++ Some count ∷ [],
-              taken_more receives sends rests name last new c.args.post.now c.loop.post c.args.client.now old steps count c.loop.invariant.2.1 (bytes, mid, came, answered),
+              taken_more receives sends rests first last new c.args.post.now c.loop.post c.args.client.now old steps count c.loop.invariant.2.1 (bytes, mid, came, answered),
               w.refused-is ∙ counts.0,
               w.lost-is ∙ w.saturating_add-lost.ensures ∙ counts.1,
             ),
@@ -47,7 +47,7 @@ loop-preserved g c =
             c.loop.invariant.1,
             (
               steps ++ None ∷ [],
-              passed_more receives sends rests name last new c.args.post.now c.loop.post c.args.client.now old steps c.loop.invariant.2.1
+              passed_more receives sends rests first last new c.args.post.now c.loop.post c.args.client.now old steps c.loop.invariant.2.1
                   (bytes, subst (λ r. receives c.loop.post r bytes) (sym passed.1) came, passed.0),
               w.refused-is ∙ w.saturating_add-refused.ensures ∙ counts.0,
               w.lost-is ∙ counts.1,

@@ -5,5 +5,5 @@ use Rattle.node_threads.proofs.serving.serve.Given as goal
 abbrev pub invariant-loop : goal.invariant-loop
 invariant-loop g l =
     TookIn (CanCome g.P.Post.receives) l.fn.client l.client × (l.begun ≡ l.fn.client.operations)
-    × ((steps : List (Option ℕ)) × Serves g.P.Post.receives g.P.Post.sends g.P.Post.rests g.K.Naming.name l.fn.post l.post l.fn.client l.client steps
+    × ((steps : List (Option ℕ)) × Serves g.P.Post.receives g.P.Post.sends g.P.Post.rests g.K.Naming.first l.fn.post l.post l.fn.client l.client steps
     × (l.refused ≡ min (passed_of steps) (2 ^ 64 - 1)) × (l.lost ≡ min (lost_of steps) (2 ^ 64 - 1)))

@@ -14,17 +14,17 @@ overflow_add-self g c =
 pub invariant_of-self : goal.invariant_of-self
 invariant_of-self g c =
     let ok = rw c.in-Ok.is at c.take_turn-view.ensures.ok in
-    let event = g.C.Update.event c.args.update.now c.self.inside.place in (
+    let event = g.C.Update.event c.args.update.now c.in-Ok.told.0 c.self.inside.place in (
       refl,
       c.self.invariant.1,
       subst (λ (f : List _). c.self.inside.operations + 1 ≤ length (calls_by g.E.Placed.place c.self.inside.place f)) (sym ok.6)
-          (accepted_within g.E.Placed.place c.self.inside.place c.self.inside.operations ok.0 event (g.met.C.Update.placed c.args.update.now c.self.inside.place) ok.2),
+          (accepted_within g.E.Placed.place c.self.inside.place c.self.inside.operations ok.0 event (g.met.C.Update.placed c.args.update.now c.in-Ok.told.0 c.self.inside.place) ok.2),
     )
 
 pub returns-in-Ok-clause-ok : goal.returns-in-Ok-clause-ok
 returns-in-Ok-clause-ok g c =
     let ok = rw c.in-Ok.is at c.take_turn-view.ensures.ok in
-    let event = g.C.Update.event c.args.update.now c.self.inside.place in
+    let event = g.C.Update.event c.args.update.now c.in-Ok.told.0 c.self.inside.place in
     let front = seen_in c.self.inside.view in
     let same : front ≡ c.in-Some.view = ap seen_in (sym c.take.ensures.value ∙ c.in-Some.is) in
     let pre : IsPrefix front ok.0 = subst (λ (f : List _). IsPrefix f ok.0) (sym same) ok.1 in

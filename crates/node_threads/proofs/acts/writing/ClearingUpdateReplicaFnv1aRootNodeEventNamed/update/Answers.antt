@@ -1,19 +1,19 @@
 use Rattle.std.proofs.Common.{[]}
 use Rattle.replica_core.specs.Meaning.{meaning}
 use Rattle.replica_model.specs.Step.{Counted}
+use Rattle.node_threads.specs.declared.deed.Deed.{Deed}
 use Rattle.node_threads.specs.declared.deed.Deed.TheVariants.{Clear}
-use Rattle.node_threads.specs.declared.node_event.NodeEvent.{NodeEvent}
 use Rattle.node_threads.proofs.Stepping.{after_step, stands_on}
 use Rattle.node_threads.proofs.acts.writing.ClearingUpdateReplicaFnv1aRootNodeEventNamed.update.Goals as goal
 
 pub returns-clause-after : goal.returns-clause-after
 returns-clause-after g c history place after =
     let it = c.args.self.now in
-    let e : NodeEvent g.row.A.Denot = record { place = place; deed = Clear } in
-    after_step g.K.Naming.name history (meaning c.args.replica.now) (meaning c.clear.new.self) after e (Counted c.in_ok-reply.reply) [] c.in_ok-reply.ensures.ok.step
+    let deed : Deed g.row.A.Denot = Clear in
+    after_step g.K.Naming.first history (meaning c.args.replica.now) (meaning c.clear.new.self) after place deed (Counted c.in_ok-reply.reply) [] c.in_ok-reply.ensures.ok.step
 
 pub returns-clause-root : goal.returns-clause-root
 returns-clause-root g c history place after =
     let it = c.args.self.now in
-    let e : NodeEvent g.row.A.Denot = record { place = place; deed = Clear } in
-    stands_on g.K.Naming.name history (meaning c.args.replica.now) (meaning c.clear.new.self) after e (Counted c.in_ok-reply.reply) [] c.in_ok-reply.ensures.ok.step c.show-root.result.value c.show-root.ensures
+    let deed : Deed g.row.A.Denot = Clear in
+    stands_on g.K.Naming.first history (meaning c.args.replica.now) (meaning c.clear.new.self) after place deed (Counted c.in_ok-reply.reply) [] c.in_ok-reply.ensures.ok.step c.show-root.result.value c.show-root.ensures
