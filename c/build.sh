@@ -7,7 +7,7 @@ kit=$(dirname "$(rt doc)")
 library=crates/ginelm_c/out/libginelm_c.a
 if [ ! -e "$library" ]; then
     if [ -d crates/replica_core/out/rlib ]; then
-        python3 c/library.py ginelm_c "$(nproc)"
+        python3 c/library.py crates/ginelm_c "$(nproc)"
     else
         (cd crates/ginelm_c && rt lib)
     fi
@@ -32,6 +32,6 @@ ranlib "$work/libginelm.a"
 } >"$work/ginelm.map"
 "${CC:-cc}" -shared -o "$work/libginelm.so" -Wl,-soname,libginelm.so.1 -Wl,--version-script="$work/ginelm.map" \
     -Wl,--gc-sections -Wl,-z,defs -Wl,--whole-archive "$library" -Wl,--no-whole-archive "$heap"
-cp "$work/libginelm.a" "$work/libginelm.so" c/ginelm.h "$into"
+install -m 644 "$work/libginelm.a" "$work/libginelm.so" c/ginelm.h "$into"
 ln -sf libginelm.so "$into/libginelm.so.1"
 echo "made $into/libginelm.a and $into/libginelm.so"

@@ -4,8 +4,9 @@
  * synchronise, and hold the same where no made up message was taken.
  *
  *     c/build.sh && clang -std=c11 -g -O1 -fsanitize=fuzzer,address -Ibuild c/fuzz.c build/libginelm.a -o build/fuzz
- *     mkdir -p build/corpus && build/fuzz -max_total_time=3600 build/corpus
+ *     tar -xzf c/corpus.tar.gz -C build && build/fuzz -max_total_time=3600 build/corpus
  *
+ * The corpus is kept small by `build/fuzz -merge=1 EMPTY build/corpus`; c/test.sh tries each of its files once.
  * The library itself is not instrumented: what came of each call is told to the fuzzer by counters.
  */
 #include "ginelm.h"
@@ -14,7 +15,7 @@
 #include <stdlib.h>
 #include <string.h>
 
-enum { REPLICAS = 3, LETTERS = 64, ROOM = 1 << 16, CALLS = 13 };
+enum { REPLICAS = 3, LETTERS = 64, ROOM = 1 << 16, CALLS = 14 };
 
 /* What libFuzzer takes for covered. */
 __attribute__((section("__libfuzzer_extra_counters"))) static uint8_t counters[4096];
@@ -229,6 +230,13 @@ static void call(world *w, input *in) {
         take(w, kind, here, in->at, length);
         in->at += length;
         in->left -= length;
+        break;
+    }
+    case 12: {
+        size_t count = 0;
+        WANT(ginelm_changes(here) == GINELM_DONE && ginelm_count(here, &count) == GINELM_DONE);
+        note(kind, (unsigned)(count % 16), 0);
+        WANT(ginelm_changes(here) == GINELM_DONE && ginelm_count(here, &count) == GINELM_DONE && count == 0);
         break;
     }
     default:

@@ -169,6 +169,11 @@ uint32_t ginelm_fields(ginelm *here, const uint8_t *key, size_t key_length);
 /* The keys that hold a value at some field become the texts. Goes through the whole map. */
 uint32_t ginelm_keys(ginelm *here);
 
+/* The keys at which the map changed since this was last asked become the texts, ascending by bytes: those that came or went,
+ * and those under which other values stand. At first these are all keys. It takes time in what changed, and not in the
+ * map; from the first call on a write copies what it shares with the map that was told. */
+uint32_t ginelm_changes(ginelm *here);
+
 /* Tells whether the key holds a value at some field. */
 uint32_t ginelm_contains(ginelm *here, const uint8_t *key, size_t key_length, bool *is_there);
 

@@ -130,6 +130,7 @@ static void handles(void) {
     CHECK(ginelm_values_of_key(&here, T("k")) == GINELM_EMPTY);
     CHECK(ginelm_fields(&here, T("k")) == GINELM_EMPTY);
     CHECK(ginelm_keys(&here) == GINELM_EMPTY);
+    CHECK(ginelm_changes(&here) == GINELM_EMPTY);
     CHECK(ginelm_contains(&here, T("k"), &is) == GINELM_EMPTY);
     CHECK(ginelm_size(&here, &number) == GINELM_EMPTY);
     CHECK(ginelm_digest(&here, out, sizeof(out), &count) == GINELM_EMPTY);
@@ -174,6 +175,8 @@ static void texts(void) {
     CHECK(ginelm_keys(&here) == GINELM_DONE && count_of(&here) == 2);
     shows(&here, 0, "a");
     shows(&here, 1, "b");
+    CHECK(ginelm_changes(&here) == GINELM_DONE && count_of(&here) == 2);
+    CHECK(ginelm_changes(&here) == GINELM_DONE && count_of(&here) == 0);
     CHECK(ginelm_fields(&here, T("a")) == GINELM_DONE && count_of(&here) == 2);
     shows(&here, 0, "");
     shows(&here, 1, "f");

@@ -1,5 +1,6 @@
 #!/usr/bin/env bash
-# The library's calls from C: over the static library with AddressSanitizer, and over the shared one under valgrind.
+# The library's calls from C: over the static library with AddressSanitizer, and over the shared one under valgrind;
+# and the kept inputs of the fuzzer.
 # Give a number to begin its random messages with; else the time gives one, and it is printed.
 set -euo pipefail
 cd "$(dirname "$0")/.."
@@ -14,6 +15,11 @@ cc=${CC:-cc}
 
 "$cc" -std=c11 -Wall -Wextra -Werror -g -O1 -Ibuild c/test.c -Lbuild -lginelm -Wl,-rpath,"$PWD/build" -lpthread -o "$work/shared"
 valgrind --quiet --error-exitcode=9 --leak-check=full --show-leak-kinds=all "$work/shared" 20000 "$seed"
+
+# What libFuzzer found worth keeping, once more.
+tar -xzf c/corpus.tar.gz -C "$work"
+"$cc" -std=c11 -Wall -Wextra -Werror -g -O1 -fsanitize=address,undefined -Ibuild c/fuzz.c c/replay.c build/libginelm.a -lpthread -o "$work/replay"
+"$work/replay" "$work"/corpus/*
 
 # The names that are seen from outside are those of the header.
 diff <(nm -D --defined-only build/libginelm.so | awk '$2 == "T" { print $3 }' | sed 's/@.*//' | sort) \

@@ -89,7 +89,9 @@ class Registry:
         """Sends these letters, and tells who watches a service of which the addresses changed."""
         for letter in letters:
             self.client.publish("ginelm/all" if letter.to is None else f"ginelm/to/{letter.to}", letter.data)
-        for service, (before, told) in list(self.watched.items()):
+        changed = {key.decode() for key in self.replica.changes()}
+        for service in changed & self.watched.keys():
+            before, told = self.watched[service]
             found = self.lookup(service)
             if found != before:
                 self.watched[service] = (found, told)

@@ -54,6 +54,7 @@ _CALLS: dict[str, tuple] = {
     "values_of_key": (_HERE, *_TEXT),
     "fields": (_HERE, *_TEXT),
     "keys": (_HERE,),
+    "changes": (_HERE,),
     "contains": (_HERE, *_TEXT, _TEST),
     "size": (_HERE, _NUMBER),
     "digest": (_HERE, *_ROOM),

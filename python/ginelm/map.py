@@ -62,6 +62,10 @@ class Map:
         """The keys, ascending, each with its values at its empty field."""
         return [(key, self.get(key)) for key in self.replica.keys()]
 
+    def changes(self) -> list[bytes]:
+        """The keys at which the map changed since this was last asked, ascending: at first, all keys."""
+        return self.replica.changes()
+
     def clear(self) -> None:
         """Takes away all that was seen."""
         self.replica.clear()

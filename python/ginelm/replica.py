@@ -250,6 +250,11 @@ class Replica:
         """The keys that hold a value at some field, ascending."""
         return [text.data for text in self._texts("keys")]
 
+    def changes(self) -> list[bytes]:
+        """The keys at which the map changed since this was last asked, ascending: those that came or went, and those under
+        which other values stand. At first these are all keys. It takes time in what changed, and not in the map."""
+        return [text.data for text in self._texts("changes")]
+
     def contains(self, key: bytes) -> bool:
         """Whether the key holds a value at some field."""
         return self._test("contains", *_bytes(key))

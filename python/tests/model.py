@@ -76,6 +76,14 @@ class Model:
     def values_of_key(self, key: bytes) -> list[bytes]:
         return sorted({value for field in self.fields(key) for value in self.values(key, field)})
 
+    def standing(self) -> dict[bytes, frozenset]:
+        """The writes that stand at each key, by their fields."""
+        found: dict[bytes, set] = defaultdict(set)
+        for key, field in list(self.world.writes):
+            for write in self.stands((key, field)):
+                found[key].add((field, write.dot))
+        return {key: frozenset(writes) for key, writes in found.items()}
+
     def knows(self, dot: Dot) -> bool:
         by = [self.world.writer[dot]] if dot in self.world.writer else []
         return any(it in self.seen for it in by + self.world.observers[dot])

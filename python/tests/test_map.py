@@ -21,6 +21,7 @@ def test_a_map_is_a_dictionary_of_sets() -> None:
     with pytest.raises(KeyError):
         basket["milk"]
     assert basket.get("milk") == set()
+    assert basket.changes() == [b"bread"] and basket.changes() == []
     basket.discard("milk")
     basket.clear()
     assert len(basket) == 0

@@ -35,6 +35,7 @@ class Run:
         self.models = {name: Model(self.world, name) for name in self.replicas}
         self.carried: list[Carried] = []
         self.outcomes: set[Outcome] = set()
+        self.shown: dict[int, dict[bytes, frozenset]] = {name: {} for name in self.replicas}
 
     # ---- messages
 
@@ -131,6 +132,9 @@ class Run:
         replica, model = self.replicas[name], self.models[name]
         assert replica.keys() == model.keys()
         assert replica.size() == len(model.keys())
+        standing, before = model.standing(), self.shown[name]
+        assert replica.changes() == sorted(key for key in standing.keys() | before.keys() if standing.get(key) != before.get(key))
+        self.shown[name] = standing
         for dot in self.random.sample(sorted(self.world.writer), min(50, len(self.world.writer))):
             assert replica.knows(*dot) == model.knows(dot)
         for key in KEYS:

@@ -134,6 +134,28 @@ def test_a_replica_comes_back() -> None:
         Replica.new_from(0, data)
 
 
+def test_what_changed_is_told_once() -> None:
+    here, there = Replica(1), Replica(2)
+    assert here.changes() == []
+    for number in range(40):
+        here.put(b"%02d" % number, b"v")
+    assert here.changes() == here.keys() and here.changes() == []
+    there.put(b"07", b"w")
+    here.put(b"08", b"v")
+    here.remove(b"09")
+    here.put_field(b"new", b"f", b"v")
+    here.take(there.flush()[0].data)
+    assert here.changes() == [b"07", b"08", b"09", b"new"]
+    here.put(b"passing", b"v")
+    here.remove(b"passing")
+    assert here.changes() == []
+    here.clear()
+    assert len(here.changes()) == 40
+    here.close()
+    with pytest.raises(ginelm.Empty):
+        here.changes()
+
+
 def test_gone() -> None:
     """A ninth hello drops the oldest snapshot, and who asks for its pages is told."""
     answerer, asker = Replica(1), Replica(2)

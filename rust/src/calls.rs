@@ -87,6 +87,7 @@ extern "C" {
     pub fn ginelm_values_of_key(here: *mut Handle, key: *const u8, key_length: usize) -> u32;
     pub fn ginelm_fields(here: *mut Handle, key: *const u8, key_length: usize) -> u32;
     pub fn ginelm_keys(here: *mut Handle) -> u32;
+    pub fn ginelm_changes(here: *mut Handle) -> u32;
     pub fn ginelm_contains(
         here: *mut Handle,
         key: *const u8,

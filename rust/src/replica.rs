@@ -284,6 +284,12 @@ impl Replica {
         self.read(|here| unsafe { calls::ginelm_keys(here) })
     }
 
+    /// The keys at which the map changed since this was last asked, ascending by bytes: those that came or went, and those
+    /// under which other values stand. At first these are all keys. It takes time in what changed, and not in the map.
+    pub fn changes(&self) -> Result<Texts, Error> {
+        self.read(|here| unsafe { calls::ginelm_changes(here) })
+    }
+
     /// Whether the key holds a value at some field.
     pub fn contains(&self, key: &[u8]) -> Result<bool, Error> {
         let mut is_there = false;

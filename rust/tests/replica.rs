@@ -55,8 +55,12 @@ fn what_is_written_is_read() {
     assert!(
         here.knows(name(u64::MAX), 3) && !here.knows(name(u64::MAX), 4) && !here.knows(name(1), 1)
     );
+    assert_eq!(here.changes().unwrap().as_slice(), [b"a", b"b"]);
+    assert_eq!(here.changes().unwrap().len(), 0);
     assert_eq!(here.remove_field(b"a", b"f"), Ok(1));
+    assert_eq!(here.changes().unwrap().as_slice(), [b"a"]);
     assert_eq!(here.remove(b"a"), Ok(1));
+    assert_eq!(here.changes().unwrap().as_slice(), [b"a"]);
     assert!(here.digest().is_some());
     assert_eq!(here.clear(), Ok(1));
     assert_eq!((here.digest(), here.keys().unwrap().len()), (None, 0));
