@@ -76,6 +76,29 @@ def theirs():
     return [lambda key: it.put(key, b"a value of 16 by"), it.get, it.get, lambda key: it.put(key, b"a value of 16 by")]
 
 
+def watched(keys):
+    """The time of a write and of being told what changed then: of a replica, and of a dictionary that is compared with a copy."""
+    here = Replica(1)
+    for key in keys:
+        here.put(key, b"a value of 16 by")
+    here.changes()
+
+    def write_and_look(key):
+        here.put(key, b"another value of")
+        assert here.changes() == [key]
+
+    values = dict.fromkeys(keys, b"a value of 16 by")
+    copies = [dict(values)]
+
+    def write_and_compare(key):
+        values[key] = b"another value of"
+        older = copies.pop()
+        copies.append(dict(values))
+        assert [it for it, value in values.items() if older.get(it) != value] == [key]
+
+    return each(write_and_look, keys[:1000]), each(write_and_compare, keys[:20])
+
+
 def main():
     """Prints the table."""
     count = int(sys.argv[1]) if len(sys.argv) > 1 else 100_000
@@ -84,6 +107,8 @@ def main():
     print("|---|---|---|---|")
     for name, mine, other in zip(("put and flush", "get", "contains", "take in a put"), runs(ours, keys), runs(theirs, keys)):
         print(f"| {name} | {mine:.2f} | {other:.2f} | {mine / other:.1f} |")
+    mine, other = watched(keys)
+    print(f"| put, and what changed then | {mine:.0f} | {other:.0f} | {mine / other:.3f} |")
 
 
 main()

@@ -1,7 +1,7 @@
 #!/usr/bin/env python3
 """Measures a node beside maps of std under a lock: python3 bench/nodes.py [--milliseconds N] [--runs N] [PROGRAM]
 
-PROGRAM is the built crates/bench_nodes. Each row is of so many runs: the median of each rate, and the longest read of all runs.
+PROGRAM is the crates/bench_nodes that a gate built. Each row is of so many runs: the median of each rate, and the longest read of all runs.
 """
 import argparse
 import re
@@ -45,7 +45,8 @@ def main():
         maps = compiled(Path(folder))
         node = asked.program.resolve()
         kinds = [
-            ("a node", [node], lambda readers: [readers, readers + 1]),
+            ("a node", [node], lambda readers: [readers, readers + 1, 1]),
+            ("a node, 100 at once", [node], lambda readers: [readers, readers + 1, 100]),
             ("`Mutex<HashMap>`", [maps, "Mutex"], lambda readers: [readers]),
             ("`RwLock<HashMap>`", [maps, "RwLock"], lambda readers: [readers]),
         ]
@@ -56,11 +57,11 @@ def main():
                 reads, writes, longest = rates(words, numbers(readers), asked.milliseconds, asked.runs)
                 print(f"| {readers} | {name} | {reads:,.0f} | {writes:,.0f} | {longest:,.0f} |", flush=True)
         print()
-        print("| places | writes a second of one writer, with no reader |")
-        print("|---|---|")
-        for places in (1, 4, 64):
-            _, writes, _ = rates([node], [0, places], asked.milliseconds, asked.runs)
-            print(f"| {places} | {writes:,.0f} |", flush=True)
+        print("| places | at once | writes a second of one writer, with no reader |")
+        print("|---|---|---|")
+        for places, batch in ((1, 1), (4, 1), (64, 1), (1, 100)):
+            _, writes, _ = rates([node], [0, places, batch], asked.milliseconds, asked.runs)
+            print(f"| {places} | {batch} | {writes:,.0f} |", flush=True)
 
 
 main()

@@ -3,8 +3,8 @@
 
     python3 bench/run.py [--built] [PART ..]
 
-The parts are calls, fields, worst, sync, seals, saves, small, large, messages and tries; with none named, all are measured and the file is
-written, and else they are printed. With --built the library is taken as it stands in crates/bench_calls/out. It needs Debian's librust-crdts-dev, librust-im-rc-dev and librust-bincode-dev, and no network.
+The parts are calls, fields, worst, sync, seals, changes, saves, small, large, messages and tries; with none named, all are measured and the file is
+written, and else they are printed. The library in bench/calls is built over what a gate proved; with --built it is taken as it stands. It needs Debian's librust-crdts-dev, librust-im-rc-dev and librust-bincode-dev, and no network.
 """
 import os
 import platform
@@ -29,7 +29,7 @@ def build(is_built):
     if not Path("/usr/share/cargo/registry/crdts-7.2.0").is_dir():
         sys.exit("apt-get install " + " ".join(PACKAGES))
     if not is_built:
-        subprocess.run(["rt", "lib"], cwd=ROOT / "crates" / "bench_calls", check=True, stdout=subprocess.DEVNULL)
+        subprocess.run([sys.executable, ROOT / "c" / "library.py", "bench/calls"], check=True, stdout=subprocess.DEVNULL)
     env = {**os.environ, "GINELM_ROOT": str(ROOT), "GINELM_KIT": str(kit())}
     command = ["cargo", "build", "--release", "--offline", "--quiet", "--target-dir", str(TARGET)]
     subprocess.run(command, cwd=ROOT / "bench" / "speed", env=env, check=True)

@@ -326,6 +326,36 @@ fn synchronisations(count: usize) -> Table {
     table
 }
 
+/// The keys at which two snapshots differ, beside a diff of im-rc's map in order, whose keys are not hashed.
+fn changes(count: usize) -> Table {
+    let keys = keys::random(count);
+    let mut table = Table::new(
+        &format!("What changed between two snapshots of {count} keys: milliseconds"),
+        ["im-rc's OrdMap", "", ""],
+    );
+    for differ in [0, 1, 100, 10_000] {
+        let again = &keys[..differ];
+        let times = if differ > 1_000 { 3 } else { 100 };
+        let each = beyond(
+            || {
+                assert_eq!(ours::changes(&keys, again, times), differ as u64);
+            },
+            || {
+                ours::changes(&keys, again, 0);
+            },
+            times as usize,
+        );
+        let theirs = peers::differences(&keys, again, times, &|run| once(run)) / f64::from(times);
+        table.push(Row::beside(
+            &format!("{differ} differ"),
+            each / 1e3,
+            1e3 * theirs,
+            None,
+        ));
+    }
+    table
+}
+
 /// What it takes to keep a replica over a restart, beside the whole map as a delta.
 fn saves(count: usize) -> Table {
     let keys = keys::random(count);
@@ -349,9 +379,19 @@ fn saves(count: usize) -> Table {
         mallocs: None,
     });
     let encoded = run(4, 10);
-    table.push(Row::beside("encode a checkpoint", run(2, 10), encoded, Some(1.5)));
+    table.push(Row::beside(
+        "encode a checkpoint",
+        run(2, 10),
+        encoded,
+        Some(1.5),
+    ));
     let taken = run(5, 4);
-    table.push(Row::beside("come back from it", run(3, 4), taken, Some(1.0)));
+    table.push(Row::beside(
+        "come back from it",
+        run(3, 4),
+        taken,
+        Some(1.0),
+    ));
     table
 }
 
@@ -490,6 +530,7 @@ fn main() {
     run("worst", &worst);
     run("sync", &|| synchronisations(100_000));
     run("seals", &|| seals(100_000));
+    run("changes", &|| changes(100_000));
     run("saves", &|| saves(100_000));
     run("small", &|| calls(1_000));
     run("large", &|| calls(1_000_000));

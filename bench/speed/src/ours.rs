@@ -1,4 +1,4 @@
-//! What the static library of `crates/bench_calls` offers.
+//! What the static library of `bench/calls` offers.
 extern "C" {
     fn measure_trie(keys: *const u64, count: usize, step: u32, times: u32) -> u64;
     fn measure_decode(bytes: *const u8, length: usize, times: u32) -> u64;
@@ -19,6 +19,13 @@ extern "C" {
     ) -> u64;
     fn measure_operations(keys: *const u64, count: usize, step: u32, times: u32) -> u64;
     fn measure_saves(keys: *const u64, count: usize, step: u32, times: u32) -> u64;
+    fn measure_changes(
+        keys: *const u64,
+        count: usize,
+        again: *const u64,
+        again_count: usize,
+        times: u32,
+    ) -> u64;
     fn measure_sessions(
         keys: *const u64,
         count: usize,
@@ -83,6 +90,18 @@ pub fn sessions(keys: &[u64], some: &[u64], times: u32, step: u32) -> u64 {
 
 pub fn saves(keys: &[u64], step: u32, times: u32) {
     told(unsafe { measure_saves(keys.as_ptr(), keys.len(), step, times) });
+}
+
+pub fn changes(keys: &[u64], again: &[u64], times: u32) -> u64 {
+    told(unsafe {
+        measure_changes(
+            keys.as_ptr(),
+            keys.len(),
+            again.as_ptr(),
+            again.len(),
+            times,
+        )
+    })
 }
 
 pub fn texts(bytes: &[u8], length: u32) {

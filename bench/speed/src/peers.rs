@@ -138,3 +138,23 @@ pub fn shared_map(keys: &[u64], step: u32) {
     }
     drop(black_box(map));
 }
+
+/// Finds the keys at which two shared maps of im-rc in order differ, so many times: seconds of all.
+pub fn differences(
+    keys: &[u64],
+    again: &[u64],
+    times: u32,
+    seconds: &dyn Fn(&mut dyn FnMut()) -> f64,
+) -> f64 {
+    let mut newer: im_rc::OrdMap<Bytes, Bytes> =
+        keys.iter().map(|key| (bytes(*key), value())).collect();
+    let older = newer.clone();
+    for key in again {
+        newer.insert(bytes(*key), vec![119; 16]);
+    }
+    seconds(&mut || {
+        for _ in 0..times {
+            assert_eq!(black_box(older.diff(&newer).count()), again.len());
+        }
+    })
+}

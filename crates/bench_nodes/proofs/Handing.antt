@@ -32,8 +32,10 @@ module _ (K W : RattleType) (n : naming.Ghosts K.Denot) where
   lock_sync = lock_shared K n NoGate.the_row W NoGates.the_send NoGates.the_sync
 
 pub writer_send : (K W : RattleType) (n : naming.Ghosts K.Denot) → IsSend W → IsSend (Writer.the_row K W n)
-writer_send K W n w = declared_send (Writer.the_type K W n)
-    (Box-send _ (client_send K n NoGate.the_row W NoGates.the_send NoGates.the_sync w), (search (Texts.the_send, crosses, sendable) depth 20, (search sendable depth 20, tt)))
+writer_send K W n w = declared_send (Writer.the_type K W n) (
+  Box-send _ (client_send K n NoGate.the_row W NoGates.the_send NoGates.the_sync w),
+  (search (Texts.the_send, crosses, sendable) depth 20, (search sendable depth 20, (search sendable depth 20, tt))),
+)
 
 pub reader_send : (K S : RattleType) (n : naming.Ghosts K.Denot) → IsSend S → IsSync S → IsSend (Reader.the_row K S n)
 reader_send K S n s y = declared_send (Reader.the_type K S n) (Box-send _ (looking_send K n S s y), (search (Texts.the_send, crosses, sendable) depth 20, (search sendable depth 20, tt)))

@@ -1,4 +1,5 @@
 ghost use Rattle.std.specs.Prelude.{◌≡◌};
+ghost use Rattle.replica_model.specs.Replica.{fresh};
 
 use crate::keys::Keys;
 use crate::plan::Plan;
@@ -23,7 +24,7 @@ pub(crate) fn measure<
     R: Threads + Wait + Clock + Copy + Drop + Send + Sync,
 >(rt: R, alloc: Global, opened: OpenedBook<NodeEvent>, plan: &Plan) -> Result<Told>
     requires book { opened.0 ≡ K.book }
-    requires name { K.name ≡ 1 }
+    requires first { K.first ≡ fresh 1 }
 {
     let name = Name::new(1).context("a name is a number from 1 on")?;
     let mut node: Node<K, Lock<K, NoGate, R>> = new_node(
@@ -48,7 +49,7 @@ fn race<K: Naming + Send + Sync, R: Threads + Wait + Clock + Copy + Drop + Send 
     plan: &Plan,
 ) -> Result<Told> {
     let keys = Keys::new(alloc)?;
-    let mut writer = writer_of(alloc, node)?;
+    let mut writer = writer_of(alloc, node, plan.batch)?;
     if let Err(refusal) = writer.fill(rt, alloc, &keys) {
         drop(writer);
         return Err(refusal.into());
@@ -100,8 +101,9 @@ fn end_after(clock: &impl Clock, time: Duration) -> Result<Instant> {
 fn writer_of<K: Naming, W: Wait + Drop>(
     alloc: Global,
     node: &mut Node<K, Lock<K, NoGate, W>>,
+    batch: usize,
 ) -> Result<Writer<K, W>, Refusal> {
-    Writer::new(alloc, node.client()?)
+    Writer::new(alloc, node.client()?, batch)
 }
 
 // A client of the node, with an order by the seed.

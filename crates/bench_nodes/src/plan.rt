@@ -16,6 +16,8 @@ pub(crate) struct Plan {
     pub(crate) readers: usize,
     /// How many places the node has, with those of the readers and of the writer.
     pub(crate) places: usize,
+    /// How many values the writer puts at once.
+    pub(crate) batch: usize,
     /// For how long they go on.
     pub(crate) time: Duration,
     ghost have_places: { readers < places },
@@ -28,28 +30,33 @@ impl Plan {
         Plan {
             readers: 1,
             places: 2,
+            batch: 2,
             time: Duration::from_millis(20),
         }
     }
 }
 
-/// The plan that the arguments tell: how many readers, how many places, and how many milliseconds. None where there are no arguments.
+/// The plan that the arguments tell: how many readers, how many places, how many values the writer puts at once, and how many milliseconds. None where there
+/// are no arguments.
 pub(crate) fn asked<R: Env + AllocGlobal>(rt: &R) -> Result<Option<Plan>> {
     let mut words = env::args(rt)?;
     let _program = words.next();
-    match (words.next(), words.next(), words.next()) {
-        (Some(readers), Some(places), Some(milliseconds)) => {
-            let plan = read(readers.as_str(), places.as_str(), milliseconds.as_str())?;
-            Ok(Some(plan))
+    match (words.next(), words.next(), words.next(), words.next()) {
+        (Some(readers), Some(places), Some(batch), Some(milliseconds)) => {
+            let (readers, places) = (number(readers.as_str())?, number(places.as_str())?);
+            let batch = number(batch.as_str())?;
+            Ok(Some(read(readers, places, batch, milliseconds.as_str())?))
         }
-        (None, _, _) => Ok(None),
-        _ => bail!("three numbers are wanted: of readers, of places, and of milliseconds"),
+        (None, _, _, _) => Ok(None),
+        _ => bail!("four numbers are wanted: of readers, places, values at once, and milliseconds"),
     }
 }
 
-fn read(readers: &str, places: &str, milliseconds: &str) -> Result<Plan> {
-    let readers = readers.parse::<usize>().context("no number of readers")?;
-    let places = places.parse::<usize>().context("no number of places")?;
+fn number(word: &str) -> Result<usize> {
+    word.parse::<usize>().context("no number")
+}
+
+fn read(readers: usize, places: usize, batch: usize, milliseconds: &str) -> Result<Plan> {
     let milliseconds = milliseconds
         .parse::<u64>()
         .context("no number of milliseconds")?;
@@ -61,6 +68,7 @@ fn read(readers: &str, places: &str, milliseconds: &str) -> Result<Plan> {
     Ok(Plan {
         readers,
         places,
+        batch,
         time: Duration::from_millis(milliseconds),
     })
 }
