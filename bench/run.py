@@ -1,10 +1,11 @@
 #!/usr/bin/env python3
 """Builds bench/speed and runs it on one processor, beside the crates that it compares with, and writes bench/results.md.
 
-    python3 bench/run.py [--built] [PART ..]
+    python3 bench/run.py [PART ..]
 
-The parts are calls, fields, worst, sync, seals, changes, saves, small, large, messages and tries; with none named, all are measured and the file is
-written, and else they are printed. The library in bench/calls is built over what a gate proved; with --built it is taken as it stands. It needs Debian's librust-crdts-dev, librust-im-rc-dev and librust-bincode-dev, and no network.
+The parts are calls, fields, worst, sync, digests, changes, saves, small and large; with none named, all are measured and the file is written, and else
+they are printed. It goes through the crate in rust/ over the library that c/build.sh made, as a program in Rust would. It needs Debian's
+librust-crdts-dev, librust-im-rc-dev, librust-bincode-dev and librust-sha2-dev, and no network.
 """
 import os
 import platform
@@ -15,24 +16,17 @@ from pathlib import Path
 
 ROOT = Path(__file__).resolve().parent.parent
 TARGET = Path(tempfile.gettempdir()) / "ginelm-speed"
-PACKAGES = ["librust-crdts-dev", "librust-im-rc-dev", "librust-bincode-dev"]
+PACKAGES = ["librust-crdts-dev", "librust-im-rc-dev", "librust-bincode-dev", "librust-sha2-dev"]
 
 
-def kit():
-    """The folder of the toolchain, from the page that it tells to read first."""
-    page = subprocess.run(["rt", "doc"], capture_output=True, text=True, check=True).stdout.strip()
-    return Path(page).resolve().parent
-
-
-def build(is_built):
-    """Builds the library, unless it is, and the program, and returns the program's path."""
+def build():
+    """Builds the library, unless it is there, and the program, and returns the program's path."""
     if not Path("/usr/share/cargo/registry/crdts-7.2.0").is_dir():
         sys.exit("apt-get install " + " ".join(PACKAGES))
-    if not is_built:
-        subprocess.run([sys.executable, ROOT / "c" / "library.py", "bench/calls"], check=True, stdout=subprocess.DEVNULL)
-    env = {**os.environ, "GINELM_ROOT": str(ROOT), "GINELM_KIT": str(kit())}
+    if not (ROOT / "build" / "libginelm.a").exists():
+        subprocess.run([ROOT / "c" / "build.sh"], check=True, stdout=subprocess.DEVNULL)
     command = ["cargo", "build", "--release", "--offline", "--quiet", "--target-dir", str(TARGET)]
-    subprocess.run(command, cwd=ROOT / "bench" / "speed", env=env, check=True)
+    subprocess.run(command, cwd=ROOT / "bench" / "speed", check=True)
     return TARGET / "release" / "speed"
 
 
@@ -46,8 +40,8 @@ def processor():
 
 def main():
     """Measures, and writes what was measured."""
-    parts = [word for word in sys.argv[1:] if word != "--built"]
-    program = build("--built" in sys.argv[1:])
+    parts = sys.argv[1:]
+    program = build()
     last = max(os.sched_getaffinity(0))
     command = ["taskset", "-c", str(last), str(program), *parts]
     if parts:

@@ -7,7 +7,7 @@ kit=$(dirname "$(rt doc)")
 library=crates/ginelm_c/out/libginelm_c.a
 if [ ! -e "$library" ]; then
     if [ -d crates/replica_core/out/rlib ]; then
-        python3 c/library.py crates/ginelm_c "$(nproc)"
+        python3 c/library.py ginelm_c "$(nproc)"
     else
         (cd crates/ginelm_c && rt lib)
     fi

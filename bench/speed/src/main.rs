@@ -7,6 +7,8 @@ mod pages;
 mod peers;
 mod table;
 
+use ginelm::Replica;
+use sha2::{Digest, Sha256};
 use std::hint::black_box;
 use table::{Row, Table};
 
@@ -63,7 +65,7 @@ struct Step {
     aim: Option<f64>,
 }
 
-const STEPS: [Step; 10] = [
+const STEPS: [Step; 9] = [
     Step {
         name: "put and flush",
         step: (0, 0),
@@ -111,14 +113,6 @@ const STEPS: [Step; 10] = [
         peer: Some(((3, 0), Some((0, 0)))),
         plain: Some(3),
         aim: Some(0.5),
-    },
-    Step {
-        name: "share",
-        step: (4, 0),
-        before: Some((0, 0)),
-        peer: None,
-        plain: None,
-        aim: None,
     },
     Step {
         name: "deliver of a put, its bytes",
@@ -227,11 +221,7 @@ fn fields() -> Table {
     for count in [1, 10, 100, 1_000, 10_000] {
         let more = count.max(100);
         let (all, first) = (keys::random(count + more), keys::random(count));
-        let each = beyond(
-            || ours::operations(&all, 9, 0),
-            || ours::operations(&first, 9, 0),
-            more,
-        );
+        let each = beyond(|| ours::fields(&all, 1), || ours::fields(&first, 1), more);
         let theirs = beyond(|| peers::fields(&all, 1), || peers::fields(&first, 1), more);
         let aim = if count == 1_000 { Some(10.0) } else { None };
         table.push(Row::beside(
@@ -242,7 +232,7 @@ fn fields() -> Table {
         ));
     }
     let all = keys::random(100_000);
-    let each = beyond(|| ours::operations(&all, 10, 10_000), || (), 100_000);
+    let each = beyond(|| ours::fields(&all, 10_000), || (), 100_000);
     let theirs = beyond(|| peers::fields(&all, 10_000), || (), 100_000);
     table.push(Row::beside(
         "10,000 keys of 10 each",
@@ -292,7 +282,11 @@ fn worst() -> Table {
 /// Two replicas of so many keys that differ at some of them, at both ends together.
 fn synchronisations(count: usize) -> Table {
     let keys = keys::random(count);
-    let mut table = Table::new(&format!("Two replicas of {count} keys: milliseconds at both ends, with the bytes of each message"), ["crdts' merge of the whole", "", ""]);
+    let mut pair = ours::equal_replicas(&keys);
+    let mut table = Table::new(
+        &format!("Two replicas of {count} keys: milliseconds at both ends, with the bytes of all messages"),
+        ["crdts' merge of the whole", "", ""],
+    );
     for differ in [0, 1, 100, 10_000] {
         let some: Vec<u64> = keys
             .iter()
@@ -301,24 +295,15 @@ fn synchronisations(count: usize) -> Table {
             .take(differ)
             .collect();
         let times = if differ > 1_000 { 3 } else { 20 };
-        let each = beyond(
-            || {
-                ours::sessions(&keys, &some, times, 1);
-            },
-            || {
-                ours::sessions(&keys, &some, times, 0);
-            },
-            times as usize,
-        );
+        let ours::Sent { bytes, pages } = ours::rounds(&mut pair, &some, 1, true);
+        assert_eq!(pair.0.digest(), pair.1.digest());
+        let with = seconds(|| drop(ours::rounds(&mut pair, &some, times, true)));
+        let without = seconds(|| drop(ours::rounds(&mut pair, &some, times, false)));
         let theirs = peers::merge(&keys, &some, &|run| once(run));
-        let (bytes, pages) = (
-            ours::sessions(&keys, &some, 1, 1),
-            ours::sessions(&keys, &some, 1, 2),
-        );
         let aim = if differ == 10_000 { Some(0.5) } else { None };
         table.push(Row::beside(
             &format!("{differ} differ: {pages} pages, {bytes} bytes"),
-            each / 1e3,
+            1e3 * (with - without) / f64::from(times),
             1e3 * theirs,
             aim,
         ));
@@ -326,29 +311,34 @@ fn synchronisations(count: usize) -> Table {
     table
 }
 
-/// The keys at which two snapshots differ, beside a diff of im-rc's map in order, whose keys are not hashed.
+/// The keys at which a map changed since it was last asked for them, beside a diff of im-rc's map in order, whose keys are not hashed.
 fn changes(count: usize) -> Table {
     let keys = keys::random(count);
     let mut table = Table::new(
-        &format!("What changed between two snapshots of {count} keys: milliseconds"),
+        &format!("What changed in a map of {count} keys: milliseconds"),
         ["im-rc's OrdMap", "", ""],
     );
+    let mut here = ours::replica(1);
+    ours::put_all(&mut here, &keys);
+    drop(here.changes().expect("memory"));
     for differ in [0, 1, 100, 10_000] {
         let again = &keys[..differ];
         let times = if differ > 1_000 { 3 } else { 100 };
-        let each = beyond(
-            || {
-                assert_eq!(ours::changes(&keys, again, times), differ as u64);
-            },
-            || {
-                ours::changes(&keys, again, 0);
-            },
-            times as usize,
-        );
-        let theirs = peers::differences(&keys, again, times, &|run| once(run)) / f64::from(times);
+        let mut run = |is_asked: bool| {
+            for _ in 0..times {
+                ours::put_all(&mut here, again);
+                if is_asked {
+                    assert_eq!(here.changes().expect("memory").len(), differ);
+                }
+            }
+        };
+        let each = (seconds(|| run(true)) - seconds(|| run(false))) / f64::from(times);
+        drop(here.changes().expect("memory"));
+        let theirs =
+            peers::differences(&keys, again, times, &|run| seconds(run)) / f64::from(times);
         table.push(Row::beside(
             &format!("{differ} differ"),
-            each / 1e3,
+            1e3 * each,
             1e3 * theirs,
             None,
         ));
@@ -360,159 +350,71 @@ fn changes(count: usize) -> Table {
 fn saves(count: usize) -> Table {
     let keys = keys::random(count);
     let mut table = Table::new(
-        &format!("Saves of a replica of {count} keys: milliseconds, a checkpoint among them"),
+        &format!("Saves of a replica of {count} keys: milliseconds"),
         ["the whole map as a delta", "", ""],
     );
-    let run = |step: u32, times: u32| {
-        let each = beyond(
-            || ours::saves(&keys, step, times),
-            || ours::saves(&keys, step, 0),
-            times as usize,
-        );
-        each / 1e3
+    let filled = || {
+        let mut here = ours::replica(1);
+        ours::put_all(&mut here, &keys);
+        here
     };
-    table.push(Row {
-        name: "take a checkpoint".into(),
-        ours: run(1, 10_000),
-        peers: [None, None, None],
-        aim: None,
-        mallocs: None,
-    });
-    let encoded = run(4, 10);
+    let flushed = beyond(|| drop(ours::flush(&mut filled())), || drop(filled()), 1) / 1e3;
+    let mut here = filled();
+    let whole = ours::flush(&mut here).expect("something was written").bytes;
+    let saved = here.save().expect("memory");
+    let save = 1e3 * seconds(|| drop(black_box(here.save().expect("memory"))));
+    let resume = 1e3 * seconds(|| drop(black_box(Replica::resume(&saved).expect("memory"))));
+    let take = 1e3 * seconds(|| drop(black_box(ours::replica(3).take(&whole).expect("memory"))));
     table.push(Row::beside(
-        "encode a checkpoint",
-        run(2, 10),
-        encoded,
+        "save, beside a flush",
+        save,
+        flushed,
         Some(1.5),
     ));
-    let taken = run(5, 4);
     table.push(Row::beside(
-        "come back from it",
-        run(3, 4),
-        taken,
+        "come back, beside taking it in",
+        resume,
+        take,
         Some(1.0),
     ));
     table
 }
 
-/// The digests that nodes keep, beside SHA-256 of the same bytes.
-fn seals(count: usize) -> Table {
+/// The root digest of a map, beside SHA-256 of the bytes of all its pages.
+fn digests(count: usize) -> Table {
     let keys = keys::random(count);
-    let some = &keys[..keys.len().min(10_000)];
     let mut table = Table::new(
         &format!("Digests of {count} keys, values of 16 at the empty field: milliseconds"),
         ["sha2 of the same bytes", "", ""],
     );
-    let lengths = pages::lengths(&keys);
     let bytes = vec![118; 4_096];
-    let hash = 1e3
-        * seconds(|| {
-            black_box(ours::hash(&bytes, &lengths));
-        });
-    let first = beyond(
-        || ours::digests(&keys, some, 1, 0),
-        || ours::digests(&keys, some, 0, 0),
-        1,
-    ) / 1e3;
-    table.push(Row::beside("the first seal", first, hash, Some(1.6)));
-    for every in [1, 100, 10_000] {
-        let each = beyond(
-            || ours::digests(&keys, some, 3, every),
-            || ours::digests(&keys, some, 2, 0),
-            some.len(),
-        ) * every as f64
-            / 1e3;
-        table.push(Row::alone(&format!("a seal after {every} puts"), each));
-    }
-    table
-}
-
-/// A delta of so many keys, each with one value of eight bytes, as docs/FORMATS.md spells it.
-fn delta(count: u64) -> Vec<u8> {
-    let mut bytes = vec![1, 1];
-    for number in [1, 1, count, 0, count] {
-        bytes.extend_from_slice(&u64::to_be_bytes(number));
-    }
-    for entry in 1..=count {
-        bytes.extend_from_slice(&[0, 8]);
-        bytes.extend_from_slice(&entry.to_be_bytes());
-        for number in [1, 1, entry] {
-            bytes.extend_from_slice(&u64::to_be_bytes(number));
+    let hash = || {
+        for length in pages::lengths(&keys) {
+            black_box(Sha256::digest(&bytes[..length as usize]));
         }
-        bytes.extend_from_slice(&[0, 8]);
-        bytes.extend_from_slice(&entry.to_be_bytes());
-    }
-    bytes
-}
-
-/// Messages, beside a copy of their bytes.
-fn messages(count: u64) -> Table {
-    let bytes = delta(count);
-    let mut table = Table::new(
-        &format!(
-            "A delta of {count} entries, {} bytes: microseconds",
-            bytes.len()
-        ),
-        ["a copy of the bytes", "", ""],
+    };
+    let (all, lengths) = (
+        seconds(hash),
+        seconds(|| drop(black_box(pages::lengths(&keys)))),
     );
-    let copy = beyond(
-        || (0..100).for_each(|_| drop(black_box(black_box(&bytes).clone()))),
-        || (),
-        100,
-    );
+    let mut here = ours::replica(1);
+    ours::put_all(&mut here, &keys);
+    let digest = |here: &Replica| {
+        1e3 * seconds(|| {
+            black_box(here.digest());
+        })
+    };
+    let first = digest(&here);
     table.push(Row::beside(
-        "decode",
-        beyond(|| ours::decode(&bytes, 20), || (), 20),
-        copy,
-        None,
+        "the first one",
+        first,
+        1e3 * (all - lengths),
+        Some(1.6),
     ));
-    table.push(Row::beside(
-        "encode",
-        beyond(|| ours::encode(&bytes, 20), || ours::decode(&bytes, 1), 20),
-        copy,
-        None,
-    ));
-    table
-}
-
-/// The trie by itself.
-fn tries(count: usize) -> Table {
-    let keys = keys::random(count);
-    let mut table = Table::new(
-        &format!("The trie of {count} keys by itself: microseconds a key"),
-        ["", "BTreeMap", "im-rc"],
-    );
-    for (name, step, plain) in [
-        ("insert", None, Some(0)),
-        ("look up", Some(0), Some(3)),
-        ("remove", Some(1), Some(2)),
-        ("share, write again", Some(4), None),
-    ] {
-        let fill = || ours::trie(&keys, 0, 0);
-        let each = match step {
-            None => beyond(fill, || (), count),
-            Some(step) => beyond(|| ours::trie(&keys, step, 1), fill, count),
-        };
-        let other = |run: fn(&[u64], u32)| {
-            plain.map(|plain| {
-                beyond(
-                    || run(&keys, plain),
-                    || {
-                        if plain > 0 {
-                            run(&keys, 0)
-                        }
-                    },
-                    count,
-                )
-            })
-        };
-        table.push(Row {
-            name: name.into(),
-            ours: each,
-            peers: [None, other(peers::std_map), other(peers::shared_map)],
-            aim: None,
-            mallocs: None,
-        });
+    for many in [1, 100, 10_000] {
+        drop(here.changes().expect("memory"));
+        ours::put_all(&mut here, &keys[..many]);
+        table.push(Row::alone(&format!("after {many} puts"), digest(&here)));
     }
     table
 }
@@ -529,11 +431,9 @@ fn main() {
     run("fields", &fields);
     run("worst", &worst);
     run("sync", &|| synchronisations(100_000));
-    run("seals", &|| seals(100_000));
+    run("digests", &|| digests(100_000));
     run("changes", &|| changes(100_000));
     run("saves", &|| saves(100_000));
     run("small", &|| calls(1_000));
     run("large", &|| calls(1_000_000));
-    run("messages", &|| messages(10_000));
-    run("tries", &|| tries(100_000));
 }

@@ -1,109 +1,184 @@
-//! What the static library of `bench/calls` offers.
-extern "C" {
-    fn measure_trie(keys: *const u64, count: usize, step: u32, times: u32) -> u64;
-    fn measure_decode(bytes: *const u8, length: usize, times: u32) -> u64;
-    fn measure_encode(bytes: *const u8, length: usize, times: u32) -> u64;
-    fn measure_digests(
-        keys: *const u64,
-        count: usize,
-        some: *const u64,
-        some_count: usize,
-        step: u32,
-        every: u64,
-    ) -> u64;
-    fn measure_hash(
-        bytes: *const u8,
-        count: usize,
-        lengths: *const u64,
-        length_count: usize,
-    ) -> u64;
-    fn measure_operations(keys: *const u64, count: usize, step: u32, times: u32) -> u64;
-    fn measure_saves(keys: *const u64, count: usize, step: u32, times: u32) -> u64;
-    fn measure_changes(
-        keys: *const u64,
-        count: usize,
-        again: *const u64,
-        again_count: usize,
-        times: u32,
-    ) -> u64;
-    fn measure_sessions(
-        keys: *const u64,
-        count: usize,
-        some: *const u64,
-        some_count: usize,
-        times: u32,
-        step: u32,
-    ) -> u64;
-    fn measure_texts(bytes: *const u8, count: usize, length: u32) -> u64;
+//! The calls of a replica, by the crate of `rust/` over the C library: what a program in Rust holds.
+use crate::keys::bytes;
+use ginelm::{Letter, Replica};
+use std::hint::black_box;
+use std::num::NonZeroU64;
+
+const VALUE: [u8; 16] = [118; 16];
+
+pub fn replica(name: u64) -> Replica {
+    Replica::new(NonZeroU64::new(name).expect("a name is from 1 on")).expect("memory")
 }
 
-fn told(number: u64) -> u64 {
-    assert_ne!(number, u64::MAX, "want of memory");
-    number
+fn put(here: &mut Replica, key: u64) {
+    here.put(&bytes(key), &VALUE).expect("memory");
 }
 
-pub fn trie(keys: &[u64], step: u32, times: u32) {
-    told(unsafe { measure_trie(keys.as_ptr(), keys.len(), step, times) });
+pub fn put_all(here: &mut Replica, keys: &[u64]) {
+    keys.iter().for_each(|key| put(here, *key));
 }
 
-pub fn decode(bytes: &[u8], times: u32) {
-    told(unsafe { measure_decode(bytes.as_ptr(), bytes.len(), times) });
+pub fn flush(here: &mut Replica) -> Option<Letter> {
+    here.flush().expect("memory")
 }
 
-pub fn encode(bytes: &[u8], times: u32) {
-    told(unsafe { measure_encode(bytes.as_ptr(), bytes.len(), times) });
+fn put_each(here: &mut Replica, keys: &[u64]) {
+    for key in keys {
+        put(here, *key);
+        drop(black_box(flush(here)));
+    }
 }
 
-pub fn digests(keys: &[u64], some: &[u64], step: u32, every: u64) {
-    told(unsafe {
-        measure_digests(
-            keys.as_ptr(),
-            keys.len(),
-            some.as_ptr(),
-            some.len(),
-            step,
-            every,
-        )
-    });
+fn remove_each(here: &mut Replica, keys: &[u64]) {
+    for key in keys {
+        here.remove(&bytes(*key)).expect("memory");
+        drop(black_box(flush(here)));
+    }
 }
 
-pub fn hash(bytes: &[u8], lengths: &[u64]) -> u64 {
-    told(unsafe { measure_hash(bytes.as_ptr(), bytes.len(), lengths.as_ptr(), lengths.len()) })
+fn get_each(here: &Replica, keys: &[u64]) {
+    for key in keys {
+        drop(black_box(here.get(&bytes(*key)).expect("memory")));
+    }
 }
 
+/// Sends what was made here there so many times.
+fn send(here: &mut Replica, there: &mut Replica, times: u32) {
+    let letter = flush(here).expect("something was written");
+    for _ in 0..times {
+        there.take(&letter.bytes).expect("memory");
+    }
+}
+
+fn put_and_send(here: &mut Replica, there: &mut Replica, keys: &[u64], times: u32) {
+    for key in keys {
+        put(here, *key);
+        send(here, there, times);
+    }
+}
+
+/// Sends each put there but the first, which is lost.
+fn put_and_lose_one(here: &mut Replica, there: &mut Replica, keys: &[u64]) {
+    put(here, keys[0]);
+    drop(flush(here));
+    put_and_send(here, there, &keys[1..], 1);
+}
+
+fn remove_and_send(here: &mut Replica, there: &mut Replica, keys: &[u64], times: u32) {
+    for key in keys {
+        here.remove(&bytes(*key)).expect("memory");
+        send(here, there, times);
+    }
+}
+
+/// Puts a value of 16 bytes on each of the keys, eight bytes each, at a replica, and flushes each put; then the step: 0 nothing, 1 puts
+/// each again, 2 removes each, 3 gets each. 5 puts each and sends each put to another replica so many times; 6 does that once, and then
+/// removes each and sends that so many times; 7 puts each with no flush, and 8 puts each again then; 11 does what 5 does once, but the
+/// message of the first put is lost; 12 puts each and sends them by so many at once; 13 does what 5 does once, or what 11 does where the
+/// times are not zero, and then puts each at the other replica.
 pub fn operations(keys: &[u64], step: u32, times: u32) {
-    told(unsafe { measure_operations(keys.as_ptr(), keys.len(), step, times) });
+    let (mut here, mut there) = (replica(1), replica(2));
+    match step {
+        5 => put_and_send(&mut here, &mut there, keys, times),
+        6 => {
+            put_and_send(&mut here, &mut there, keys, 1);
+            remove_and_send(&mut here, &mut there, keys, times);
+        }
+        7 => put_all(&mut here, keys),
+        8 => {
+            put_all(&mut here, keys);
+            put_all(&mut here, keys);
+        }
+        11 => put_and_lose_one(&mut here, &mut there, keys),
+        12 => keys.chunks(times as usize).for_each(|some| {
+            put_all(&mut here, some);
+            send(&mut here, &mut there, 1);
+        }),
+        13 => {
+            match times {
+                0 => put_and_send(&mut here, &mut there, keys, 1),
+                _ => put_and_lose_one(&mut here, &mut there, keys),
+            }
+            put_each(&mut there, keys);
+        }
+        _ => put_each(&mut here, keys),
+    }
+    match step {
+        1 => put_each(&mut here, keys),
+        2 => remove_each(&mut here, keys),
+        3 => get_each(&here, keys),
+        _ => {}
+    }
+    drop(black_box((here, there)));
 }
 
-pub fn sessions(keys: &[u64], some: &[u64], times: u32, step: u32) -> u64 {
-    told(unsafe {
-        measure_sessions(
-            keys.as_ptr(),
-            keys.len(),
-            some.as_ptr(),
-            some.len(),
-            times,
-            step,
-        )
-    })
+/// Writes each number as a field of so many keys, in turn, and flushes each write.
+pub fn fields(numbers: &[u64], keys: u64) {
+    let mut here = replica(1);
+    for number in numbers {
+        here.put_field(&bytes(number % keys), &bytes(*number), &VALUE)
+            .expect("memory");
+        drop(black_box(flush(&mut here)));
+    }
+    drop(black_box(here));
 }
 
-pub fn saves(keys: &[u64], step: u32, times: u32) {
-    told(unsafe { measure_saves(keys.as_ptr(), keys.len(), step, times) });
+/// Puts texts of so many bytes, one behind the other.
+pub fn texts(texts: &[u8], length: usize) {
+    let mut here = replica(1);
+    for key in texts.chunks(length) {
+        here.put(key, &VALUE).expect("memory");
+        drop(black_box(flush(&mut here)));
+    }
+    drop(black_box(here));
 }
 
-pub fn changes(keys: &[u64], again: &[u64], times: u32) -> u64 {
-    told(unsafe {
-        measure_changes(
-            keys.as_ptr(),
-            keys.len(),
-            again.as_ptr(),
-            again.len(),
-            times,
-        )
-    })
+/// What two replicas sent each other.
+#[derive(Default)]
+pub struct Sent {
+    pub bytes: usize,
+    pub pages: usize,
 }
 
-pub fn texts(bytes: &[u8], length: u32) {
-    told(unsafe { measure_texts(bytes.as_ptr(), bytes.len(), length) });
+/// The kind of a page, at the second byte of a message.
+const PAGE: u8 = 6;
+
+/// A synchronisation of two replicas, from its hello to its last page.
+fn synchronise(asker: &mut Replica, answerer: &mut Replica) -> Sent {
+    let mut sent = Sent::default();
+    let (_, hello) = asker.ask(answerer.name()).expect("a session is left");
+    let mut letters = vec![hello];
+    while let Some(Letter { to, bytes }) = letters.pop() {
+        sent.bytes += bytes.len();
+        sent.pages += usize::from(bytes[1] == PAGE);
+        let to = if to == Some(asker.name()) {
+            &mut *asker
+        } else {
+            &mut *answerer
+        };
+        letters.extend(to.take(&bytes).expect("memory").letters);
+    }
+    sent
+}
+
+/// Two replicas of these keys, which have synchronised once.
+pub fn equal_replicas(keys: &[u64]) -> (Replica, Replica) {
+    let (mut asker, mut answerer) = (replica(1), replica(2));
+    put_all(&mut answerer, keys);
+    send(&mut answerer, &mut asker, 1);
+    synchronise(&mut asker, &mut answerer);
+    (asker, answerer)
+}
+
+/// So many times puts some of the keys at the second replica, and synchronises the first with it, or not: what the last one sent.
+pub fn rounds(pair: &mut (Replica, Replica), some: &[u64], times: u32, is_sent: bool) -> Sent {
+    let (asker, answerer) = pair;
+    let mut sent = Sent::default();
+    for _ in 0..times {
+        put_all(answerer, some);
+        if is_sent {
+            sent = synchronise(asker, answerer);
+        }
+    }
+    sent
 }

@@ -2,6 +2,7 @@
 //! its operations by bincode, and a map of std and of im-rc without any replication.
 use crate::keys::bytes;
 use crdts::{CmRDT, CvRDT, MVReg, Map};
+use im_rc::ordmap::DiffItem;
 use std::collections::BTreeMap;
 use std::hint::black_box;
 
@@ -139,7 +140,7 @@ pub fn shared_map(keys: &[u64], step: u32) {
     drop(black_box(map));
 }
 
-/// Finds the keys at which two shared maps of im-rc in order differ, so many times: seconds of all.
+/// So many times writes some keys and finds where the map in order differs from what it was before: seconds of the finding.
 pub fn differences(
     keys: &[u64],
     again: &[u64],
@@ -148,13 +149,28 @@ pub fn differences(
 ) -> f64 {
     let mut newer: im_rc::OrdMap<Bytes, Bytes> =
         keys.iter().map(|key| (bytes(*key), value())).collect();
-    let older = newer.clone();
-    for key in again {
-        newer.insert(bytes(*key), vec![119; 16]);
-    }
-    seconds(&mut || {
+    let mut older = newer.clone();
+    let mut turn = 0_u64;
+    let mut run = |is_asked: bool| {
         for _ in 0..times {
-            assert_eq!(black_box(older.diff(&newer).count()), again.len());
+            turn += 1;
+            for key in again {
+                newer.insert(bytes(*key), [turn.to_be_bytes(), [0; 8]].concat());
+            }
+            if is_asked {
+                let found: Vec<Bytes> = older.diff(&newer).map(changed).collect();
+                assert_eq!(black_box(found).len(), again.len());
+                older = newer.clone();
+            }
         }
-    })
+    };
+    seconds(&mut || run(true)) - seconds(&mut || run(false))
+}
+
+/// The key of a difference.
+fn changed(item: DiffItem<'_, Bytes, Bytes>) -> Bytes {
+    match item {
+        DiffItem::Add(key, _) | DiffItem::Remove(key, _) => key.clone(),
+        DiffItem::Update { new, .. } => new.0.clone(),
+    }
 }
