@@ -39,70 +39,7 @@ use Rattle.sqlite.specs.State.{State, mode_of, Writes, Executes, CommitsBy, MayC
 use Rattle.sqlite.proofs.Callers.{IsPlain, command_of, statement_of, runs_as, one_step}
 use Rattle.durable_log.specs.Log.{log_table, log_schema, strings, IsReady, IsAt, LeavesOnly}
 use Rattle.durable_log.proofs.LogLemmas.{went, same_value}
-
--- ---- members of lists
-
-pub nothing_in : {X : Type 0} {G : Type 0} (x : X) → Contains [] x → G
-nothing_in x (k, l, e) = absurd (omega arith)
-
-pub at_head : {X : Type 0} (x : X) (xs : List X) → Contains (x ∷ xs) x
-at_head x xs = (0, omega arith, refl)
-
-pub in_tail : {X : Type 0} (x : X) (xs : List X) (y : X) → Contains xs y → Contains (x ∷ xs) y
-in_tail x xs y (k, l, e) = (suc k, omega arith, e)
-
-pub head_or_tail : {X : Type 0} (x : X) (xs : List X) (y : X) → Contains (x ∷ xs) y → (x ≡ y) ⊎ Contains xs y
-head_or_tail x xs y (zero, l, e) = inl e
-head_or_tail x xs y (suc k, l, e) = inr (k, omega arith, e)
-
-pub at_same : {X : Type 0} (xs : List X) (x y : X) → x ≡ y → Contains xs x → Contains xs y
-at_same {X} xs x y e h = let P : X → Type 0 = λ z. Contains xs z in subst P e h
-
-module _ {X Y : Type 0} (f : X → Y) where
-  pub in_map : (xs : List X) (x : X) → Contains xs x → Contains (map f xs) (f x)
-  in_map [] x h = nothing_in x h
-  in_map (y ∷ xs) x h =
-      elim (head_or_tail y xs x h) [
-        | inl e ↦ at_same (f y ∷ map f xs) (f y) (f x) (ap f e) (at_head (f y) (map f xs))
-        | inr t ↦ in_tail (f y) (map f xs) (f x) (in_map xs x t)
-      ]
-
-  pub from_map : (xs : List X) (y : Y) → Contains (map f xs) y → (x : X) × Contains xs x × (f x ≡ y)
-  from_map [] y h = nothing_in y h
-  from_map (x ∷ xs) y h =
-      elim (head_or_tail (f x) (map f xs) y h) [
-        | inl e ↦ (x, at_head x xs, e)
-        | inr t ↦ (let found = from_map xs y t in (found.0, in_tail x xs found.0 found.1, found.2))
-      ]
-
-kept_or_left : {X : Type 0} (b : Bool) (x : X) (xs : List X) (y : X) → Contains (cond b (x ∷ xs) xs) y → ((b ≡ true) × (x ≡ y)) ⊎ Contains xs y
-kept_or_left true x xs y h = elim (head_or_tail x xs y h) [ inl e ↦ inl (refl, e) | inr t ↦ inr t ]
-kept_or_left false x xs y h = inr h
-
-stays : {X : Type 0} (b : Bool) (x : X) (xs : List X) → b ≡ true → Contains (cond b (x ∷ xs) xs) x
-stays true x xs e = at_head x xs
-stays false x xs e = absurd (false≢true e)
-
-below : {X : Type 0} (b : Bool) (x : X) (xs : List X) (y : X) → Contains xs y → Contains (cond b (x ∷ xs) xs) y
-below true x xs y h = in_tail x xs y h
-below false x xs y h = h
-
-module _ {X : Type 0} (test : X → Bool) where
-  from_filter : (xs : List X) (y : X) → Contains (filter test xs) y → Contains xs y × (test y ≡ true)
-  from_filter [] y h = nothing_in y h
-  from_filter (x ∷ xs) y h =
-      elim (kept_or_left (test x) x (filter test xs) y h) [
-        | inl e ↦ (at_same (x ∷ xs) x y e.1 (at_head x xs), sym (ap test e.1) ∙ e.0)
-        | inr t ↦ (let found = from_filter xs y t in (in_tail x xs y found.0, found.1))
-      ]
-
-  into_filter : (xs : List X) (y : X) → Contains xs y → test y ≡ true → Contains (filter test xs) y
-  into_filter [] y h e = nothing_in y h
-  into_filter (x ∷ xs) y h e =
-      elim (head_or_tail x xs y h) [
-        | inl same ↦ at_same (cond (test x) (x ∷ filter test xs) (filter test xs)) x y same (stays (test x) x (filter test xs) (ap test same ∙ e))
-        | inr t ↦ below (test x) x (filter test xs) y (into_filter xs y t e)
-      ]
+use Rattle.op_model.proofs.Members.{nothing_in, at_head, in_tail, head_or_tail, at_same, in_map, from_map, from_filter, in_filter}
 
 -- ---- the rows without those of some numbers
 
@@ -131,7 +68,7 @@ not_among (i ∷ ids) rows r id h there =
 is_left : (ids : List ℤ) (rows : List Row) (r : Row) → Contains rows r → ((id : ℤ) → Contains ids id → has_rowid id r ≡ false) → Contains (without_all rows ids) r
 is_left [] rows r h none = h
 is_left (id ∷ ids) rows r h none =
-    is_left ids (without_rowid id rows) r (into_filter (λ r. not (has_rowid id r)) rows r h (not_false (has_rowid id r) (none id (at_head id ids)))) (λ i there. none i (in_tail id ids i there))
+    is_left ids (without_rowid id rows) r (in_filter (λ r. not (has_rowid id r)) rows r h (not_false (has_rowid id r) (none id (at_head id ids)))) (λ i there. none i (in_tail id ids i there))
 
 -- ---- the test of a row
 
@@ -283,7 +220,7 @@ module _ (first second third : ℤ) where
         (found.0, (from_filter passes (old 0) found.0 found.1).1, found.2)
 
     into_ids : (r : Row) → Contains (old 0) r → passes r ≡ true → Contains ids (id_of r)
-    into_ids r there e = Contains-permutation _ ids (id_of r) are (in_map id_of (filter passes (old 0)) r (into_filter passes (old 0) r there e))
+    into_ids r there e = Contains-permutation _ ids (id_of r) are (in_map id_of (filter passes (old 0)) r (in_filter passes (old 0) r there e))
 
     in_new : (r : Row) → Contains (without_all (old 0) ids) r → Contains (new 0) r
     in_new r h = subst (λ rs. Contains rs r) (sym rows) h

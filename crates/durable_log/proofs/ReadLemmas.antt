@@ -55,17 +55,17 @@ maps : (rows : List Row) → map shown_string (map (output query) (map env_of ro
 maps [] = refl
 maps (r ∷ rows) = ap (λ l. bytes (column r 2) ∷ l) (maps rows)
 
-of_rows : (os : List Output) → map (λ (row : Row). bytes (column row 0)) (map (λ (o : Output). o.1) os) ≡ map shown_string os
+of_rows : (os : List Output) → map (λ (r : Row). bytes (column r 0)) (map (λ (o : Output). o.1) os) ≡ map shown_string os
 of_rows [] = refl
 of_rows (o ∷ os) = ap (λ l. shown_string o ∷ l) (of_rows os)
 
 pub reads : (old new : State) (rows : List Row) → old.now.schema ≡ log_schema → Shown select_text [] old new rows
-    → IsPermutation (strings old.now.trees) (map (λ (row : Row). bytes (column row 0)) rows)
+    → IsPermutation (strings old.now.trees) (map (λ (r : Row). bytes (column r 0)) rows)
 reads old new rows has h =
     let a : IsAnswer query (overlay old.now.trees []) [] rows = (reads_as select_text [] old new log_schema has _ select_is.0 select_plain select_is.1 rows h).answer Null in
     let staged : a.staged ≡ map env_of (old.now.trees 0) = a.grouped ∙ envs (old.now.trees 0) in
     let kept : map shown_string a.kept ≡ strings old.now.trees = ap (map shown_string) (a.distinct ∙ ap (map (output query)) staged) ∙ maps (old.now.trees 0) in
-    let given : map (λ (row : Row). bytes (column row 0)) rows ≡ map shown_string a.ordered = ap (map (λ (row : Row). bytes (column row 0))) a.shown ∙ of_rows a.ordered in
+    let given : map (λ (r : Row). bytes (column r 0)) rows ≡ map shown_string a.ordered = ap (map (λ (r : Row). bytes (column r 0))) a.shown ∙ of_rows a.ordered in
     subst₂ IsPermutation kept (sym given) (IsPermutation-map shown_string _ _ a.same)
 
 pub stays : (old new : State) (rows : List Row) → old.now.schema ≡ log_schema → Shown select_text [] old new rows → IsUnchanged old new

@@ -7,7 +7,7 @@ use Rattle.sqlite_trees.specs.Tree.{Trees}
 use Rattle.sqlite.specs.State.{State, HasCleanDisk, Survives}
 use Rattle.sqlite.proofs.StateLemmas.{survives_then, survives_weaker}
 use Rattle.durable_log.specs.Log.{strings, Gains, IsAt, KeepsPlaces, LeavesOnly, IsOfEither, IsBetween, IsReplaced}
-use Rattle.durable_log.proofs.DropLemmas.{nothing_in, at_head, in_tail, head_or_tail, at_same, in_map}
+use Rattle.op_model.proofs.Members.{nothing_in, at_head, in_tail, head_or_tail, at_same, in_map}
 
 -- only strings of these came, and none went
 pub record IsGrown (old new : Trees) (news : List (List ℕ)) : Type 0 where
@@ -71,6 +71,38 @@ module _ (start : State) (news : List (List ℕ)) where
   next_of s t string is before grows survives =
       survives_then start s t Between (λ db. Gains s.now.trees db string) Between (λ clean db between. between)
       (λ clean db gains. grown_between start.now.trees db news (grown_more start.now.trees s.now.trees db news string (grows (omega (arith, survives.clean))) is gains)) before survives
+
+  -- the strings that came are some of these, now and at any moment
+  abbrev pub Came : State → Type 0
+  Came s = Survives start s Between × (HasCleanDisk s → Grows s)
+
+  pub came_first : (s : State) (string : List ℕ) → Contains news string → Survives start s (λ db. Gains start.now.trees db string)
+      → (HasCleanDisk s → Gains start.now.trees s.now.trees string) → Came s
+  came_first s string is survives gains = (
+    first_of s string is survives,
+    λ clean. grown_more start.now.trees start.now.trees s.now.trees news string (grown_none start.now.trees news) is (gains clean),
+  )
+
+  pub came_next : (s t : State) (string : List ℕ) → Contains news string → Came s → Survives s t (λ db. Gains s.now.trees db string)
+      → (HasCleanDisk t → Gains s.now.trees t.now.trees string) → Came t
+  came_next s t string is before survives gains = (
+    next_of s t string is before.0 before.1 survives,
+    λ clean. grown_more start.now.trees s.now.trees t.now.trees news string (before.1 (omega (arith, survives.clean))) is (gains clean),
+  )
+
+-- three strings that were added one after the other stand in their rows
+module _ (one two three : State) (x y z : List ℕ) (a b c i j k : ℤ) where
+  pub three_places : a ≡ i → b ≡ j → c ≡ k → (HasCleanDisk two → HasCleanDisk one) → (HasCleanDisk three → HasCleanDisk two)
+      → (HasCleanDisk one → IsAt one.now.trees a x) → (HasCleanDisk two → IsAt two.now.trees b y × KeepsPlaces one.now.trees two.now.trees)
+      → (HasCleanDisk three → IsAt three.now.trees c z × KeepsPlaces two.now.trees three.now.trees)
+      → HasCleanDisk three → IsAt three.now.trees i x × IsAt three.now.trees j y × IsAt three.now.trees k z
+  three_places is_i is_j is_k clean_one clean_two first second third clean =
+      let last = third clean in
+      let middle = second (clean_two clean) in (
+        subst (λ (p : ℤ). IsAt three.now.trees p x) is_i (last.1 a x (middle.1 a x (first (clean_one (clean_two clean))))),
+        subst (λ (p : ℤ). IsAt three.now.trees p y) is_j (last.1 b y middle.0),
+        subst (λ (p : ℤ). IsAt three.now.trees p z) is_k last.0,
+      )
 
 module _ (start s t : State) (a b c : List ℕ) (i j k : ℤ) where
   pub last_of : (HasCleanDisk s → IsGrown start.now.trees s.now.trees (a ∷ b ∷ c ∷ [])) → (HasCleanDisk s → IsAt s.now.trees i a × IsAt s.now.trees j b × IsAt s.now.trees k c) → Survives start s (Between start (a ∷ b ∷ c ∷ []))

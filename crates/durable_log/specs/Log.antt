@@ -71,7 +71,7 @@ Gains old new string = IsPermutation (string ∷ strings old) (strings new)
 
 -- the string stands in the row of this number
 abbrev pub IsAt : Trees → ℤ → List ℕ → Type 0
-IsAt db place string = (place ≢ pos 0) × ((row : Row) × Contains (db 0) row × (rowid row ≡ Int place) × (bytes (column row 2) ≡ string))
+IsAt db place string = (place ≢ pos 0) × ((r : Row) × Contains (db 0) r × (rowid r ≡ Int place) × (bytes (column r 2) ≡ string))
 
 -- what stood in a row stands there
 abbrev pub KeepsPlaces : Trees → Trees → Type 0

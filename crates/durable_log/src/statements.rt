@@ -39,7 +39,7 @@ pub fn insert<S: Alter>(conn: &mut Connection<S>, string: &[u8]) -> Result<i64, 
 // The rows of the strings, in some order.
 fn select<S: Alter>(conn: &mut Connection<S>) -> Result<Vec<Row>, Error>
     requires { HasCleanDisk (state S.Store conn.old) → IsReady (state S.Store conn.old) }
-    ensures strings { HasCleanDisk (state S.Store conn.new) → IfOk result (λ rows. IsPermutation (strings (state S.Store conn.old).now.trees) (map (λ row. bytes (column row 0)) rows.items)) }
+    ensures strings { HasCleanDisk (state S.Store conn.new) → IfOk result (λ rows. IsPermutation (strings (state S.Store conn.old).now.trees) (map (λ r. bytes (column r 0)) rows.items)) }
     ensures same { HasCleanDisk (state S.Store conn.new) → OnOk result (IsUnchanged (state S.Store conn.old) (state S.Store conn.new)) }
     ensures any_moment { Survives (state S.Store conn.old) (state S.Store conn.new) (λ db. ⊥) }
 {
@@ -53,7 +53,7 @@ fn string_in(row: &Row) -> Result<Vec<u8>, Error>
 }
 
 fn strings_in(alloc: Global, rows: &[Row]) -> Result<Vec<Vec<u8>>, Error>
-    ensures { IfOk result (λ found. map (λ string. string.items) found.items ≡ map (λ row. bytes (column row 0)) rows.now) }
+    ensures { IfOk result (λ found. map (λ string. string.items) found.items ≡ map (λ r. bytes (column r 0)) rows.now) }
 {
     let mut found = Vec::with_capacity(alloc, rows.len())?;
     for row in rows {
