@@ -37,7 +37,7 @@ fn a_frame_that_is_too_long_or_cut_ends_them(rt: HostRuntime) {
     let cut = [0, 0, 0, 5, 1, 2, 3, 4];
     assert!(rt; end_of(&rt, rt.alloc(), &cut) == Some(FramesEnd::Refused(Refusal::Input)));
     let no_number = [0, 0, 0];
-    assert!(rt; end_of(&rt, rt.alloc(), &no_number) == Some(FramesEnd::Over));
+    assert!(rt; end_of(&rt, rt.alloc(), &no_number) == Some(FramesEnd::Refused(Refusal::Input)));
 }
 
 #[test]

@@ -1,5 +1,5 @@
 // A post over two streams.
-ghost use Rattle.std.specs.Prelude.{◌≡◌, ◌⊎◌, ◌+◌, ◌<◌, ◌^◌, ◌++◌, length, IfSome, IfOk, OnOk};
+ghost use Rattle.std.specs.Prelude.{◌≡◌, ◌⊎◌, ◌+◌, ◌<◌, ◌^◌, ◌++◌, [], ◌∷◌, length, IfSome, IfOk, OnOk};
 ghost use Rattle.std.specs.Io.KnownBytes.{Appends, Consumes};
 ghost use Rattle.std.specs.Int.{to_be_bytes, w32};
 ghost use Rattle.node_threads.specs.Frames.{framed, addressed};
@@ -98,10 +98,30 @@ fn frame_of<I: Read>(alloc: Global, input: &mut I, longest: u32) -> Result<Vec<u
 fn count_of<I: Read>(input: &mut I) -> Result<u32, FramesEnd>
     ensures { IfOk result (λ count. Consumes (I.remaining input.old) (I.remaining input.new) (to_be_bytes w32 count)) }
 {
-    let mut head = [0u8; 4];
-    match input.read_exact(&mut head) {
-        Ok(()) => Ok(number_of(head)),
+    let first = first_of(input)?;
+    let [second, third, fourth] = rest_of(input)?;
+    Ok(number_of([first, second, third, fourth]))
+}
+
+// The byte that a frame begins with. The frames end well only where none comes.
+fn first_of<I: Read>(input: &mut I) -> Result<u8, FramesEnd>
+    ensures { IfOk result (λ byte. Consumes (I.remaining input.old) (I.remaining input.new) (byte ∷ [])) }
+{
+    let mut byte = [0u8; 1];
+    match input.read_exact(&mut byte) {
+        Ok(()) => Ok(byte[0]),
         Err(error) => Err(ended_by(&error)),
+    }
+}
+
+// The three bytes behind it.
+fn rest_of<I: Read>(input: &mut I) -> Result<[u8; 3], FramesEnd>
+    ensures { IfOk result (λ bytes. Consumes (I.remaining input.old) (I.remaining input.new) bytes) }
+{
+    let mut bytes = [0u8; 3];
+    match input.read_exact(&mut bytes) {
+        Ok(()) => Ok(bytes),
+        Err(_) => Err(FramesEnd::Refused(Refusal::Input)),
     }
 }
 
@@ -127,7 +147,7 @@ fn bytes_of<I: Read>(alloc: Global, input: &mut I, count: u32) -> Result<Vec<u8>
     }
 }
 
-// What a failure to read a frame's number of bytes ends the frames with.
+// What a failure to read a frame's first byte ends the frames with.
 fn ended_by(error: &io::Error) -> FramesEnd {
     if error.kind() == ErrorKind::UnexpectedEof {
         FramesEnd::Over

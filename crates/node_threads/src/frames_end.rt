@@ -3,9 +3,9 @@ use dots::Refusal;
 /// How frames end.
 #[derive(Clone, Copy, Debug, PartialEq, Eq, Drop)]
 pub enum FramesEnd {
-    /// Nothing comes any more, or less than the four bytes that a frame begins with.
+    /// Nothing comes any more.
     Over,
     /// TooLong where a frame came that is longer than is taken in, OutOfMemory where there was none for it, Input where the input failed or
-    /// ended within the bytes of a frame, and Output where the output failed.
+    /// ended within a frame, and Output where the output failed.
     Refused(Refusal),
 }
