@@ -1,6 +1,6 @@
 #!/usr/bin/env bash
-# The library's calls from C: over the static library with AddressSanitizer, and over the shared one under valgrind;
-# and the kept inputs of the fuzzer.
+# The library's calls from C: over the static library with AddressSanitizer, and over the shared one under valgrind; each
+# request for memory refused in turn; what dear messages take; and the kept inputs of the fuzzer.
 # Give a number to begin its random messages with; else the time gives one, and it is printed.
 set -euo pipefail
 cd "$(dirname "$0")/.."
@@ -15,6 +15,13 @@ cc=${CC:-cc}
 
 "$cc" -std=c11 -Wall -Wextra -Werror -g -O1 -Ibuild c/test.c -Lbuild -lginelm -Wl,-rpath,"$PWD/build" -lpthread -o "$work/shared"
 valgrind --quiet --error-exitcode=9 --leak-check=full --show-leak-kinds=all "$work/shared" 20000 "$seed"
+
+# By a heap that counts, and refuses.
+wrap=-Wl,--wrap=malloc,--wrap=realloc,--wrap=free
+"$cc" -std=c11 -Wall -Wextra -Werror -g -O1 -fsanitize=address,undefined -Ibuild c/refusals.c c/heap.c build/libginelm.a $wrap -o "$work/refusals"
+"$work/refusals"
+"$cc" -std=c11 -Wall -Wextra -Werror -g -O1 -Ibuild c/hostile.c c/heap.c build/libginelm.a $wrap -o "$work/hostile"
+"$work/hostile"
 
 # What libFuzzer found worth keeping, once more.
 tar -xzf c/corpus.tar.gz -C "$work"

@@ -1,6 +1,5 @@
 // The keys at which two snapshots differ: what is written, removed and taken in between, and nothing else.
-use crate::made::{key_of, put, remove, sent, value_of};
-use crate::refusals::made::replica;
+use crate::made::{key_of, put, remove, replica, sent, value_of};
 use dots::{Field, Key};
 use gen_trie::Frozen;
 use hash_path::{Fnv1a, SameHash};

@@ -1,6 +1,5 @@
 // A key of forty fields that are written one by one, beside a store that was shared before; and what is sent of it.
-use crate::made::{key_of, sent, value_of};
-use crate::refusals::made::replica;
+use crate::made::{key_of, replica, sent, value_of};
 use causal_join::Fields;
 use delta_ops::{LiveStore, values};
 use dots::{Field, Value};

@@ -1,7 +1,6 @@
 // Calls that join, list or send much, at two thousand keys, with ample memory: that none of them gives up above some size is refused by
 // no contract.
-use crate::made::{name, put, sent};
-use crate::refusals::made::replica;
+use crate::made::{name, put, replica, sent};
 use replica_core::Replica;
 use std::alloc::Global;
 use std::panic::Expect;

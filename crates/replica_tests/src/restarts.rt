@@ -1,6 +1,5 @@
 // Replicas that come back from what was saved of them, as bytes; and how it is told that a name was used without its memory.
-use crate::made::{key_of, name, put, remove, sent, shows, value_of};
-use crate::refusals::made::replica;
+use crate::made::{key_of, name, put, remove, replica, sent, shows, value_of};
 use dots::{Field, Refusal};
 use hash_path::Fnv1a;
 use replica_core::{Delivered, Outcome, Replica};

@@ -1,6 +1,6 @@
 // Digests that the nodes of a replica's map keep: from a synchronisation on, and until the next write.
-use crate::made::put;
-use crate::refusals::made::{opened, replica};
+use crate::made::{put, replica};
+use crate::refusals::made::opened;
 use replica_core::{Outcome, Replica};
 use std::alloc::Global;
 use std::panic::Expect;

@@ -1,26 +1,11 @@
 // Replicas in a heap, and what they show.
-use crate::made::name;
+use crate::made::{Here, name};
 use dots::{Key, Name, Refusal, Value};
-use hash_path::Fnv1a;
-use replica_core::{Delivered, Replica};
+use replica_core::Delivered;
 use std::alloc::{Allocator, Global};
 use std::panic::Expect;
 use std::process::Abort;
 use wire_form::Message;
-
-// Generic in the allocator, as the borrow checker's part of a proof does not cover these types at a heap that is lent.
-pub(crate) type Here<A> = Replica<Fnv1a, A>;
-
-// A replica of this name, which is not 0, to which nothing happened. It is in a box, as one that is a local is dear to prove.
-pub(crate) fn replica<A: Allocator + Copy>(
-    rt: &impl Abort,
-    alloc: Global,
-    heap: A,
-    number: u64,
-) -> Box<Here<A>> {
-    let one = Replica::new(heap, name(rt, number), Fnv1a);
-    Box::new(alloc, one).expect(rt, "memory")
-}
 
 // Puts the value on the key, and gives the number of its dot.
 pub(crate) fn put<A: Allocator + Copy>(

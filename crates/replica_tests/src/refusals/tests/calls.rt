@@ -1,5 +1,6 @@
 // The own calls of a replica.
-use crate::refusals::made::{Here, Shown, put, put_forty, replica, what_shows};
+use crate::made::{Here, replica};
+use crate::refusals::made::{Shown, put, put_forty, what_shows};
 use crate::refusals::trial::{Trial, refusals, wanted};
 use dots::{Field, Key, Refusal, Value};
 use linked_list_allocator::LocalHeap;

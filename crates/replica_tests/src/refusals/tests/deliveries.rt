@@ -1,7 +1,6 @@
 // Messages that a replica takes in, and their bytes.
-use crate::refusals::made::{
-    Here, Shown, asked, asks, first, opened, paged, put, put_forty, replica, what_shows,
-};
+use crate::made::{Here, replica};
+use crate::refusals::made::{Shown, asked, asks, first, opened, paged, put, put_forty, what_shows};
 use crate::refusals::tests::bytes;
 use crate::refusals::trial::{Trial, refusals, wanted};
 use dots::Refusal;

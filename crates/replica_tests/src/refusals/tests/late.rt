@@ -1,5 +1,6 @@
 // Messages that come late: what a replica keeps of them is memory, of which no clause speaks.
-use crate::refusals::made::{Here, put, replica};
+use crate::made::{Here, replica};
+use crate::refusals::made::put;
 use linked_list_allocator::LocalHeap;
 use std::alloc::{Allocator, Global};
 use std::panic::Expect;

@@ -1,5 +1,5 @@
 // A long key with many fields: what a replica keeps of it is memory, of which no clause speaks.
-use crate::refusals::made::{Here, replica};
+use crate::made::{Here, replica};
 use dots::{Field, Key, Value};
 use linked_list_allocator::LocalHeap;
 use std::alloc::{Allocator, Global};

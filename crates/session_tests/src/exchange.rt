@@ -1,9 +1,8 @@
 // What goes from one replica to another as deltas.
-use crate::made::{put, sent};
 use crate::playing::{Event, play};
-use crate::refusals::made::replica;
 use crate::session_bytes::{LAST_OF_1, NOTHING, X_ON_A, X_REMOVED, Z_ON_A};
 use replica_core::{Outcome, Replica};
+use replica_tests::made::{put, replica, sent};
 use std::alloc::Global;
 use std::panic::Expect;
 use std::process::Abort;

@@ -1,5 +1,5 @@
 use Rattle.std.proofs.Common.{◌≡◌, sum}
-use Rattle.node_tests.proofs.cells.beside.a_held_view_keeps_its_root_and_the_publish_ends_once_it_left.Given as goal
+use Rattle.cell_tests.proofs.cells.beside.a_held_view_keeps_its_root_and_the_publish_ends_once_it_left.Given as goal
 
 -- the book that was just opened, whose roots are sums
 abbrev pub ghosts-held : goal.ghosts-held

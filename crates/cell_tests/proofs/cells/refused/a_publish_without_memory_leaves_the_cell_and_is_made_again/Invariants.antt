@@ -1,5 +1,5 @@
 use Rattle.std.proofs.Common.{◌≡◌, sum}
-use Rattle.node_tests.proofs.cells.refused.a_publish_without_memory_leaves_the_cell_and_is_made_again.Given as goal
+use Rattle.cell_tests.proofs.cells.refused.a_publish_without_memory_leaves_the_cell_and_is_made_again.Given as goal
 
 -- the book that was just opened, whose roots are sums
 abbrev pub ghosts-publish_in : goal.ghosts-publish_in

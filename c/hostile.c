@@ -1,0 +1,246 @@
+/* What a message may cost: a message of n bytes takes at most 40 n bytes of memory, and a little for a message of few bytes, whatever it says;
+ * here it says what is dearest. The counts in front of lists are compared with the bytes that are left before memory is taken. */
+#include "ginelm.h"
+#include "heap.h"
+
+#include <stdio.h>
+#include <stdlib.h>
+#include <string.h>
+
+#define CHECK(x) \
+    do { \
+        if (!(x)) { \
+            fprintf(stderr, "%s:%d: not so: %s\n", __FILE__, __LINE__, #x); \
+            exit(1); \
+        } \
+    } while (0)
+
+/* A message that is being spelled. */
+struct message {
+    uint8_t *at;
+    size_t length, room;
+};
+
+static void byte(struct message *m, uint8_t one) {
+    if (m->length == m->room) {
+        m->room = 2 * m->room + 64;
+        m->at = realloc(m->at, m->room);
+        CHECK(m->at != NULL);
+    }
+    m->at[m->length++] = one;
+}
+
+static void number(struct message *m, uint64_t value) {
+    for (int shift = 56; shift >= 0; shift -= 8) {
+        byte(m, (uint8_t)(value >> shift));
+    }
+}
+
+static void text(struct message *m, const uint8_t *bytes, size_t length) {
+    byte(m, (uint8_t)(length >> 8));
+    byte(m, (uint8_t)length);
+    for (size_t at = 0; at < length; at++) {
+        byte(m, bytes[at]);
+    }
+}
+
+/* A text of three bytes, ascending with the number. */
+static void short_text(struct message *m, uint64_t value) {
+    const uint8_t bytes[3] = {(uint8_t)(value >> 16), (uint8_t)(value >> 8), (uint8_t)value};
+    text(m, bytes, sizeof(bytes));
+}
+
+/* A dot of name 2 with an empty value. */
+static void value(struct message *m, uint64_t dot) {
+    number(m, 2);
+    number(m, dot);
+    text(m, NULL, 0);
+}
+
+/* A delta of this version whose context has all dots of name 2 up to this number. */
+static struct message delta(uint8_t version, uint64_t known) {
+    struct message m = {NULL, 0, 0};
+    byte(&m, version);
+    byte(&m, 1);
+    number(&m, known > 0);
+    if (known > 0) {
+        number(&m, 2);
+        number(&m, known);
+    }
+    return m;
+}
+
+static struct message many_names(uint64_t count) {
+    struct message m = {NULL, 0, 0};
+    byte(&m, 1);
+    byte(&m, 1);
+    number(&m, count);
+    for (uint64_t name = 2; name < count + 2; name++) {
+        number(&m, name);
+        number(&m, 1);
+    }
+    number(&m, 0);
+    number(&m, 0);
+    return m;
+}
+
+/* Dots of one name, each with a gap before it. */
+static struct message many_gaps(uint64_t count) {
+    struct message m = delta(1, 0);
+    number(&m, count);
+    for (uint64_t dot = 1; dot <= count; dot++) {
+        number(&m, 2);
+        number(&m, 2 * dot);
+    }
+    number(&m, 0);
+    return m;
+}
+
+static struct message many_keys(uint64_t count) {
+    struct message m = delta(1, count);
+    number(&m, 0);
+    number(&m, count);
+    for (uint64_t key = 1; key <= count; key++) {
+        short_text(&m, key);
+        number(&m, 1);
+        value(&m, key);
+    }
+    return m;
+}
+
+static struct message many_fields(uint64_t count) {
+    struct message m = delta(3, count);
+    number(&m, 0);
+    number(&m, 1);
+    short_text(&m, 1);
+    number(&m, count);
+    for (uint64_t field = 1; field <= count; field++) {
+        short_text(&m, field);
+        number(&m, 1);
+        value(&m, field);
+    }
+    return m;
+}
+
+static struct message many_values(uint64_t count) {
+    struct message m = delta(1, count);
+    number(&m, 0);
+    number(&m, 1);
+    short_text(&m, 1);
+    number(&m, count);
+    for (uint64_t dot = 1; dot <= count; dot++) {
+        value(&m, dot);
+    }
+    return m;
+}
+
+/* FNV-1a of 32 bits, by which the paths of keys go. */
+static uint32_t hash(uint32_t state, const uint8_t *bytes, size_t length) {
+    for (size_t at = 0; at < length; at++) {
+        state = (state ^ bytes[at]) * 0x01000193u;
+    }
+    return state;
+}
+
+enum { PIECE = 5, PIECES = 11 };
+
+/* Two pieces that lead from a state of the hash to one, the lesser first. */
+static uint32_t pair(uint32_t state, uint8_t pieces[2][PIECE]) {
+    enum { ROOM = 1 << 20 };
+    uint64_t *seen = calloc(ROOM, sizeof(uint64_t));
+    CHECK(seen != NULL);
+    for (uint64_t seed = 1;; seed++) {
+        uint8_t piece[PIECE] = {1, (uint8_t)(seed >> 24), (uint8_t)(seed >> 16), (uint8_t)(seed >> 8), (uint8_t)seed};
+        uint32_t end = hash(state, piece, PIECE);
+        uint64_t other = seen[end % ROOM];
+        uint8_t before[PIECE] = {1, (uint8_t)(other >> 24), (uint8_t)(other >> 16), (uint8_t)(other >> 8), (uint8_t)other};
+        if (other != 0 && hash(state, before, PIECE) == end) {
+            memcpy(pieces[0], before, PIECE);
+            memcpy(pieces[1], piece, PIECE);
+            free(seen);
+            return end;
+        }
+        seen[end % ROOM] = seed;
+    }
+}
+
+/* 2,048 keys of 55 bytes of one hash: each is a choice of one piece of each pair. */
+static struct message one_hash(uint64_t count) {
+    struct message m = delta(1, count);
+    uint8_t pieces[PIECES][2][PIECE];
+    uint32_t state = 0x811c9dc5u;
+    CHECK(count == 1u << PIECES);
+    for (int at = 0; at < PIECES; at++) {
+        state = pair(state, pieces[at]);
+    }
+    number(&m, 0);
+    number(&m, count);
+    for (uint64_t choice = 0; choice < count; choice++) {
+        uint8_t key[PIECES * PIECE];
+        for (int at = 0; at < PIECES; at++) {
+            memcpy(key + at * PIECE, pieces[at][choice >> (PIECES - 1 - at) & 1], PIECE);
+        }
+        CHECK(hash(0x811c9dc5u, key, sizeof(key)) == state);
+        text(&m, key, sizeof(key));
+        number(&m, 1);
+        value(&m, choice + 1);
+    }
+    return m;
+}
+
+/* A hello of replica 2 with a context of many names. */
+static struct message hello(uint64_t count) {
+    struct message m = {NULL, 0, 0};
+    byte(&m, 3);
+    byte(&m, 3);
+    number(&m, 2);
+    number(&m, 1);
+    number(&m, 1);
+    number(&m, count);
+    for (uint64_t name = 2; name < count + 2; name++) {
+        number(&m, name);
+        number(&m, 1);
+    }
+    number(&m, 0);
+    return m;
+}
+
+/* A list that is said to be as long as can be, and is not. */
+static struct message false_count(uint64_t count) {
+    struct message m = delta(1, 0);
+    number(&m, count);
+    return m;
+}
+
+/* Takes the message in at a replica that holds so many keys, and compares the memory that this takes with its bytes. */
+static void costs(const char *what, struct message m, int held, uint32_t wanted) {
+    ginelm here = {0};
+    ginelm_named named;
+    uint32_t outcome = 0;
+    uint64_t told = 0;
+    CHECK(ginelm_new(&here, 1) == GINELM_DONE);
+    for (int key = 0; key < held; key++) {
+        CHECK(ginelm_put(&here, (const uint8_t *)&key, sizeof(key), (const uint8_t *)"v", 1, &told) == GINELM_DONE);
+    }
+    heap_measure();
+    CHECK(ginelm_take(&here, m.at, m.length, &outcome, &named) == wanted);
+    size_t most = heap_most();
+    printf("%s: %zu bytes take %.1f times as much\n", what, m.length, (double)most / (double)m.length);
+    CHECK(most <= 40 * m.length + 4096);
+    ginelm_free(&here);
+    free(m.at);
+}
+
+int main(void) {
+    for (int held = 0; held <= 1000; held += 1000) {
+        costs("10,000 names", many_names(10000), held, GINELM_DONE);
+        costs("10,000 gaps", many_gaps(10000), held, GINELM_DONE);
+        costs("10,000 keys", many_keys(10000), held, GINELM_DONE);
+        costs("10,000 fields", many_fields(10000), held, GINELM_DONE);
+        costs("10,000 values", many_values(10000), held, GINELM_DONE);
+        costs("2,048 keys of one hash", one_hash(2048), held, GINELM_DONE);
+        costs("a hello of 10,000 names", hello(10000), held, GINELM_DONE);
+        costs("a false count", false_count(UINT64_MAX), held, GINELM_NOT_A_MESSAGE);
+    }
+    return 0;
+}
