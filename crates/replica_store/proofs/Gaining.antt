@@ -1,22 +1,26 @@
 -- What the log keeps once it has a string more.
 use Rattle.std.proofs.Common.{◌≡◌, ◌⊎◌, inl, inr, ℕ, ◌≤◌, Bool, true, false, List, [], ◌∷◌, refl, sym, ap, subst, ◌∙◌, arith, cond}
 use Rattle.causal_join.specs.OrMap.{OrMapValue, or_map_state}
+use Rattle.sqlite.specs.State.{State, HasCleanDisk, Survives}
 use Rattle.sqlite_trees.specs.Tree.{Trees}
 use Rattle.op_model.specs.Meaning.{MapState, greater}
 use Rattle.op_model.specs.State.{join}
 use Rattle.sync_model.specs.Closing.{IsBelow}
 use Rattle.wire_form.specs.Message.{MessageValue, Delta, Hello, Opening, Ask, Page, Gone, Spells}
-use Rattle.durable_log.specs.Log.{strings, Gains}
+use Rattle.durable_log.specs.Log.{strings, Gains, IsReady}
 use Rattle.replica_model.specs.Mail.{Mail, mail_of}
 use Rattle.replica_model.specs.Mail as mail
 use Rattle.replica_model.specs.Replica.{Replica, restarts}
 use Rattle.replica_store.specs.Entry.{OPENED, CHANGED, SaysNumber, SaysDelta}
 use Rattle.replica_store.specs.Rebuilt.{IsRebuilt}
-use Rattle.replica_store.specs.Kept.{Keeps, GainsMessage, GainsNumber}
+use Rattle.replica_model.specs.Delivery.{Joined, Done}
+use Rattle.replica_store.specs.Kept.{Keeps, KeepsEither, GainsMessage, GainsNumber}
+use Rattle.replica_store.specs.Took.{TookAs}
 use Rattle.replica_model.specs.Step.{Answer, Flush, IsCall}
 use Rattle.replica_store.specs.Behind.{IsBehind}
 use Rattle.replica_store.proofs.Behind.{flush_sends}
 use Rattle.replica_store.proofs.Rebuilt.{rebuilt_any, rebuilt_delta, rebuilt_number, join_above}
+use Rattle.replica_store.proofs.Surviving.{was_clean, gained}
 
 -- a message that means a delta is one
 is_delta : Mail → Bool
@@ -67,3 +71,15 @@ module _ (kept mid new : Replica) (answer : Answer) (old : Trees) (behind : IsBe
     | inl none ↦ absurd (let e = none.0 in cc)
     | inr some ↦ gains_delta old db kept new is m mid.group (let e = some.0 in cc) gains some.1
   ]
+
+-- what was taken in as a delta is kept at any moment, or what was before is; and so is what a synchronisation brought, of which all is kept
+module _ (before after : State) (old new : Replica) (m : MessageValue) where
+  pub delta_or_not : (HasCleanDisk before → IsReady before) → TookAs old (mail_of m) Joined new → Survives before after (λ db. GainsMessage before.now.trees db m) → HasCleanDisk after → Keeps before.now.trees old
+      → KeepsEither after old new
+  delta_or_not ready took survives clean keeps =
+      gained before after old new _ (ready (was_clean before after _ survives clean)) keeps survives (λ db gains. gains_delta before.now.trees db old new keeps m took.0 took.1 gains took.2) clean
+
+  pub whole_or_not : (all : MessageValue) → (HasCleanDisk before → IsReady before) → TookAs old (mail_of m) Done new → mail_of all ≡ mail.Delta new.live → Survives before after (λ db. GainsMessage before.now.trees db all)
+      → HasCleanDisk after → Keeps before.now.trees old → KeepsEither after old new
+  whole_or_not all ready took means survives clean keeps =
+      gained before after old new _ (ready (was_clean before after _ survives clean)) keeps survives (λ db gains. gains_whole before.now.trees db old new keeps all means gains took.1 took.0) clean
