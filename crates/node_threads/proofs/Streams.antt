@@ -1,5 +1,6 @@
 -- Bytes that are read and written one part after the other.
-use Rattle.std.proofs.Common.{◌≡◌, ℕ, List, ◌++◌, length, Option, Some, None, Ok, Err, ◌+◌, OnOk, IfOk, sym, ap, ◌∙◌, subst, arith, append_assoc}
+use lib.ListN.{get_or}
+use Rattle.std.proofs.Common.{◌≡◌, ℕ, List, [], ◌∷◌, ◌++◌, length, refl, Option, Some, None, Ok, Err, ◌+◌, OnOk, IfOk, sym, ap, ◌∙◌, subst, arith, append_assoc}
 use Rattle.std.specs.Int.{to_be_bytes, w32, w64}
 use Rattle.std.specs.Io.KnownBytes.{Appends, Consumes, Keeps}
 use Rattle.std.specs.declared.result.Result.{Result}
@@ -22,6 +23,14 @@ appends_kept None b c xs p q = tt
 appends_kept (Some us) None c xs p q = absurd p
 appends_kept (Some us) (Some vs) None xs p q = absurd q
 appends_kept (Some us) (Some vs) (Some ws) xs p q = q ∙ p
+
+-- three bytes are the first, the second and the third
+pub of_three : (xs : List ℕ) → length xs ≡ 3 → xs ≡ get_or xs 0 0 ∷ get_or xs 1 0 ∷ get_or xs 2 0 ∷ []
+of_three [] e = absurd (omega (arith, e))
+of_three (a ∷ []) e = absurd (omega (arith, e))
+of_three (a ∷ b ∷ []) e = absurd (omega (arith, e))
+of_three (a ∷ b ∷ c ∷ []) e = refl
+of_three (a ∷ b ∷ c ∷ d ∷ xs) e = absurd (omega (arith, e))
 
 -- a frame that is read: the number of its bytes, and so many bytes
 pub frame_read : (a b c : Option (List ℕ)) (count : ℕ) (bytes : List ℕ) → Consumes a b (to_be_bytes w32 count) → Consumes b c bytes → length bytes ≡ count → Consumes a c (framed bytes)
