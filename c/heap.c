@@ -9,12 +9,12 @@ void *__wrap_malloc(size_t size);
 void *__wrap_realloc(void *old, size_t size);
 void __wrap_free(void *old);
 
-static size_t requests, refused_at, taken, most, begun;
+static size_t requests, refused_from, taken, most, begun;
 static bool has_refused;
 
 static bool is_refused(void) {
     requests++;
-    if (requests != refused_at) {
+    if (refused_from == 0 || requests < refused_from) {
         return false;
     }
     has_refused = true;
@@ -50,9 +50,9 @@ void __wrap_free(void *old) {
     __real_free(old);
 }
 
-void heap_refuse(size_t number) {
+void heap_refuse_from(size_t number) {
     requests = 0;
-    refused_at = number;
+    refused_from = number;
     has_refused = false;
 }
 

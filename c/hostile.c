@@ -142,26 +142,40 @@ static uint32_t hash(uint32_t state, const uint8_t *bytes, size_t length) {
     return state;
 }
 
-enum { PIECE = 5, PIECES = 11 };
+enum { PIECE = 5, PIECES = 11, ROOM = 1 << 20 };
 
-/* Two pieces that lead from a state of the hash to one, the lesser first. */
-static uint32_t pair(uint32_t state, uint8_t pieces[2][PIECE]) {
-    enum { ROOM = 1 << 20 };
-    uint64_t *seen = calloc(ROOM, sizeof(uint64_t));
-    CHECK(seen != NULL);
-    for (uint64_t seed = 1;; seed++) {
-        uint8_t piece[PIECE] = {1, (uint8_t)(seed >> 24), (uint8_t)(seed >> 16), (uint8_t)(seed >> 8), (uint8_t)seed};
-        uint32_t end = hash(state, piece, PIECE);
-        uint64_t other = seen[end % ROOM];
-        uint8_t before[PIECE] = {1, (uint8_t)(other >> 24), (uint8_t)(other >> 16), (uint8_t)(other >> 8), (uint8_t)other};
-        if (other != 0 && hash(state, before, PIECE) == end) {
-            memcpy(pieces[0], before, PIECE);
-            memcpy(pieces[1], piece, PIECE);
-            free(seen);
-            return end;
-        }
-        seen[end % ROOM] = seed;
+/* A piece that looks random, and is the same for the same seed. */
+static void piece_of(uint64_t seed, uint8_t piece[PIECE]) {
+    uint64_t number = (seed + 1) * 0x9e3779b97f4a7c15u;
+    number ^= number >> 29;
+    number *= 0xbf58476d1ce4e5b9u;
+    for (int at = 0; at < PIECE; at++) {
+        piece[at] = (uint8_t)(number >> (8 * at + 20));
     }
+}
+
+/* Two pieces that lead from a state of the hash to one, the lesser first. Some 80,000 are looked at. */
+static uint32_t pair(uint32_t state, uint8_t pieces[2][PIECE]) {
+    uint64_t *seeds = calloc(ROOM, sizeof(uint64_t));
+    CHECK(seeds != NULL);
+    for (uint64_t seed = 1; seed < ROOM; seed++) {
+        uint8_t piece[PIECE], other[PIECE];
+        piece_of(seed, piece);
+        uint32_t end = hash(state, piece, PIECE);
+        uint32_t at = end % ROOM;
+        for (; seeds[at] != 0; at = (at + 1) % ROOM) {
+            piece_of(seeds[at], other);
+            int order = memcmp(piece, other, PIECE);
+            if (hash(state, other, PIECE) == end && order != 0) {
+                memcpy(pieces[order > 0], piece, PIECE);
+                memcpy(pieces[order < 0], other, PIECE);
+                free(seeds);
+                return end;
+            }
+        }
+        seeds[at] = seed;
+    }
+    CHECK(false);
 }
 
 /* 2,048 keys of 55 bytes of one hash: each is a choice of one piece of each pair. */

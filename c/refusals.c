@@ -1,6 +1,6 @@
-/* Each request for memory of each call is refused in turn: the call answers OUT_OF_MEMORY then, and what can be seen of the replica is as
- * before; once none is refused it does what it does at a replica that was refused nothing. Calls that say that they allocate nothing make
- * no request. */
+/* Memory ends at the first request of a call, then at its second, and so on: the call answers OUT_OF_MEMORY each time, and what can be seen of the
+ * replica is as before; once memory does not end it does what it does at a replica that has ample memory. Calls that say that they allocate
+ * nothing make no request. (A vector that grows asks for less where it is refused, so all requests after the first that is refused are, too.) */
 #include "ginelm.h"
 #include "heap.h"
 
@@ -180,15 +180,15 @@ static void check_both(struct pair *pair) {
     free(ample.at);
 }
 
-/* Makes the call at the first replica with the request of this number refused. Whether it was: then all is as before. */
+/* Makes the call at the first replica, where memory ends at the request of this number. Whether it came to that: then all is as before. */
 static bool is_refused(struct pair *pair, size_t number, const struct call *call, struct call *made) {
     struct bytes texts = {NULL, 0}, left = {NULL, 0}, before = seen(&pair->tried);
     *made = *call;
     add_texts(&texts, &pair->tried);
-    heap_refuse(number);
+    heap_refuse_from(number);
     uint32_t answer = made->make(&pair->tried, made);
     bool has_refused = heap_has_refused();
-    heap_refuse(0);
+    heap_refuse_from(0);
     CHECK(answer == (has_refused ? GINELM_OUT_OF_MEMORY : GINELM_DONE));
     if (has_refused) {
         CHECK(memcmp(made, call, sizeof(*call)) == 0);
@@ -204,7 +204,7 @@ static bool is_refused(struct pair *pair, size_t number, const struct call *call
     return has_refused;
 }
 
-/* Makes the call at both replicas, at the first with each request refused in turn: the texts that it gives. */
+/* Makes the call at both replicas, at the first once memory has ended at each of its requests: the texts that it gives. */
 static struct letters both(struct pair *pair, struct call call) {
     struct call made, wanted = call;
     struct bytes tried = {NULL, 0}, ample = {NULL, 0};
@@ -391,10 +391,10 @@ static size_t makes(struct call call) {
     size_t refusals = 0;
     CHECK(call.make(&ample, &call) == GINELM_DONE);
     for (size_t number = 1;; number++) {
-        heap_refuse(number);
+        heap_refuse_from(number);
         uint32_t answer = call.make(&tried, &call);
         bool has_refused = heap_has_refused();
-        heap_refuse(0);
+        heap_refuse_from(0);
         CHECK(answer == (has_refused ? GINELM_OUT_OF_MEMORY : GINELM_DONE));
         if (!has_refused) {
             break;
@@ -430,7 +430,7 @@ static void take_no_memory(ginelm *here) {
     bool is = false;
     uint8_t out[64];
     CHECK(ginelm_ask(here, 2, &number) == GINELM_DONE);
-    heap_refuse(1);
+    heap_refuse_from(1);
     CHECK(ginelm_name(here, &number) == GINELM_DONE && number == 1);
     CHECK(ginelm_size(here, &number) == GINELM_DONE && number > 0);
     CHECK(ginelm_digest(here, out, sizeof(out), &count) == GINELM_DONE && count == 32);
@@ -440,7 +440,7 @@ static void take_no_memory(ginelm *here) {
     CHECK(ginelm_word(1, out, sizeof(out), &count) == GINELM_DONE);
     CHECK(ginelm_abandon(here, 2, &is) == GINELM_DONE && is);
     CHECK(heap_requests() == 0);
-    heap_refuse(0);
+    heap_refuse_from(0);
 }
 
 int main(void) {
@@ -463,6 +463,6 @@ int main(void) {
     ginelm_free(&pair.tried);
     ginelm_free(&second);
     ginelm_free(&third);
-    printf("%zu requests for memory were refused, one by one\n", pair.refusals + refusals);
+    printf("memory ended at %zu requests, one by one\n", pair.refusals + refusals);
     return 0;
 }
