@@ -9,4 +9,5 @@ trap 'rm -rf "$work"' EXIT
 "$work/basket" | diff - crates/basket/stdout
 cargo run --quiet --offline --manifest-path rust/Cargo.toml --example basket | diff - crates/basket/stdout
 PYTHONPATH=python /usr/bin/python3 examples/basket.py | diff - crates/basket/stdout
+[ "$(PYTHONPATH=python /usr/bin/python3 examples/two_maps.py)" = "[b'bread', b'milk']" ]
 echo "examples/basket.c, basket.rs and basket.py print what crates/basket prints"

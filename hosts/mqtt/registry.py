@@ -16,7 +16,7 @@ from typing import Callable
 import paho.mqtt.client as mqtt
 
 sys.path.insert(0, os.path.join(os.path.dirname(os.path.abspath(__file__)), "..", "..", "python"))
-from ginelm import Letter, Map, NotAMessage, Replica, SessionsFull  # noqa: E402
+from ginelm import Letter, LostMemory, Map, NotAMessage, Replica, SessionsFull  # noqa: E402
 
 BEAT = 0.2  # the seconds between two tellings of the digest
 PATIENCE = 0.4  # the seconds after which a synchronisation is asked for again; after forty times that it is given up
@@ -117,11 +117,11 @@ class Registry:
                 self.ask(int(topic.rpartition("/")[2]), now)
             return
         try:
-            if self.replica.has_lost(payload):
-                raise SystemExit(f"the name {self.name} was used without its memory: start with the file of that time, or another name")
             self.changed(self.replica.take(payload).letters)
         except NotAMessage:
             pass
+        except LostMemory:
+            raise SystemExit(f"the name {self.name} was used without its memory: start with the file of that time, or another name")
 
     def ask(self, peer: int, now: float) -> None:
         """Opens a synchronisation with the peer, if none is open with it."""

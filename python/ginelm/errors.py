@@ -39,6 +39,11 @@ class NotAMessage(GinelmError, ValueError):
     number = 6
 
 
+class LostMemory(GinelmError):
+    """The message knows a write of this replica's name that it does not know: two replicas use the name, or it was used
+    before and what was known is lost."""
+
+
 class Empty(GinelmError):
     """The replica was closed."""
 

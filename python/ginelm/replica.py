@@ -9,7 +9,7 @@ from types import TracebackType
 from typing import Any, NamedTuple, Optional
 
 from ._library import LIBRARY, Handle, Named
-from .errors import Short, check
+from .errors import LostMemory, Short, check
 
 
 class Outcome(enum.Enum):
@@ -186,16 +186,19 @@ class Replica:
         """What it wrote since the last flush, as one letter to everyone, or none where it wrote nothing."""
         return self._texts("flush")
 
-    def take(self, data: bytes) -> Taken:
-        """Takes in any message of any replica. Raises NotAMessage, and then nothing has changed."""
+    def take(self, data: bytes, *, guarded: bool = True) -> Taken:
+        """Takes in any message of any replica. Raises NotAMessage, and LostMemory where `has_lost` is true of it; then nothing
+        has changed. Where it is not guarded it takes in such a message too, as forged ones may be."""
         outcome, named = c_uint32(), Named()
         with self._lock:
+            if guarded and self.has_lost(data):
+                raise LostMemory("the name was used without its memory")
             letters = self._texts("take", *_bytes(data), byref(outcome), byref(named))
         return Taken(Outcome(outcome.value), _session(named), letters)
 
     def has_lost(self, data: bytes) -> bool:
         """Whether the message knows a write of this replica's name that it does not know: then two replicas use the name, or it
-        was used before and what was known is lost, and the message is not to be taken. Raises NotAMessage."""
+        was used before and what was known is lost. Raises NotAMessage."""
         return self._test("has_lost", *_bytes(data))
 
     def ask(self, peer: int) -> tuple[int, Letter]:

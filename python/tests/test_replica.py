@@ -179,6 +179,10 @@ def test_a_name_without_its_memory_is_told() -> None:
     assert not one.has_lost(hello.data) and not two.has_lost(letter.data)
     forgetful = Replica(1)
     assert forgetful.has_lost(hello.data) and forgetful.has_lost(letter.data)
+    for data in (hello.data, letter.data):
+        with pytest.raises(ginelm.LostMemory):
+            forgetful.take(data)
+    assert forgetful.keys() == [] and not forgetful.knows(1, 1)
     with pytest.raises(ginelm.NotAMessage):
         one.has_lost(b"no message")
 
