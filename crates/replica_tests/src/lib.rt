@@ -1,5 +1,5 @@
-// Tests of replicas and of worlds, through public calls alone: what they show, and calls that are refused memory. They stand in a crate of their
-// own, so that a check of them proves no other crate a second time.
+// Tests of replicas and of worlds, through public calls alone: what they show. They stand in a crate of their own, so that a check of them proves
+// no other crate a second time.
 #![tactic(auto)]
 
 #[cfg(test)]
@@ -11,8 +11,6 @@ mod fields;
 #[cfg(test)]
 mod large;
 pub mod made;
-#[cfg(test)]
-mod refusals;
 #[cfg(test)]
 mod restarts;
 #[cfg(test)]

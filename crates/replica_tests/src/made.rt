@@ -1,7 +1,7 @@
 // What the tests of replicas are made of.
 use dots::{Key, Name, Value};
 use hash_path::Fnv1a;
-use replica_core::Replica;
+use replica_core::{Delivered, Replica};
 use std::alloc::{Allocator, Global};
 use std::panic::Expect;
 use std::process::Abort;
@@ -25,6 +25,38 @@ pub fn replica<A: Allocator + Copy>(
 ) -> Box<Here<A>> {
     let one = Replica::new(heap, name(rt, number), Fnv1a);
     Box::new(alloc, one).expect(rt, "memory")
+}
+
+/// The hello by which the one asks the other, of this name.
+pub fn asked<A: Allocator + Copy>(
+    rt: &impl Abort,
+    alloc: Global,
+    asker: &mut Here<A>,
+    peer: u64,
+) -> Box<Message<A>> {
+    let hello = asker.ask(name(rt, peer)).expect(rt, "an ask").1;
+    Box::new(alloc, hello).expect(rt, "memory")
+}
+
+/// What a message comes to.
+pub fn answered<A: Allocator + Copy>(
+    rt: &impl Abort,
+    here: &mut Here<A>,
+    message: &Message<A>,
+) -> Delivered<A> {
+    here.deliver(message).expect(rt, "a delivery")
+}
+
+/// How the other opens for the hello.
+pub fn opened<A: Allocator + Copy>(
+    rt: &impl Abort,
+    alloc: Global,
+    here: &mut Here<A>,
+    peer: &mut Here<A>,
+    of: u64,
+) -> Delivered<A> {
+    let hello = asked(rt, alloc, here, of);
+    answered(rt, peer, &*hello)
 }
 
 /// The key of these bytes, of which there are not too many.

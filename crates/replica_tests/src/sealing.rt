@@ -1,6 +1,5 @@
 // Digests that the nodes of a replica's map keep: from a synchronisation on, and until the next write.
-use crate::made::{put, replica};
-use crate::refusals::made::opened;
+use crate::made::{opened, put, replica};
 use replica_core::{Outcome, Replica};
 use std::alloc::Global;
 use std::panic::Expect;

@@ -1,5 +1,5 @@
 // The bytes of messages.
-use crate::refusals::trial::{Trial, refusals, wanted};
+use crate::trial::{Trial, refusals, wanted};
 use dots::Refusal;
 use linked_list_allocator::LocalHeap;
 use std::alloc::{Allocator, Global};

@@ -1,5 +1,5 @@
 // The calls of tries and of their frozen maps, each of forty keys, and those of Workiva's package.
-use crate::refusals::trial::{Trial, refusals, wanted};
+use crate::trial::{Trial, refusals, wanted};
 use ctrie_api::Ctrie;
 use dots::{Key, Refusal};
 use gen_trie::{Frozen, GenTrie, NoSummary};

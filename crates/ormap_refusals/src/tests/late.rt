@@ -1,7 +1,7 @@
 // Messages that come late: what a replica keeps of them is memory, of which no clause speaks.
-use crate::made::{Here, replica};
-use crate::refusals::made::put;
+use crate::made::put;
 use linked_list_allocator::LocalHeap;
+use replica_tests::made::{Here, replica};
 use std::alloc::{Allocator, Global};
 use std::panic::Expect;
 use std::process::Abort;

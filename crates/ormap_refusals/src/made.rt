@@ -1,7 +1,7 @@
 // Replicas in a heap, and what they show.
-use crate::made::{Here, name};
 use dots::{Key, Name, Refusal, Value};
 use replica_core::Delivered;
+use replica_tests::made::{Here, answered, opened};
 use std::alloc::{Allocator, Global};
 use std::panic::Expect;
 use std::process::Abort;
@@ -27,44 +27,12 @@ pub(crate) fn put_forty<A: Allocator + Copy>(rt: &impl Abort, heap: A, here: &mu
     }
 }
 
-// The hello by which the one asks the other, of this name.
-pub(crate) fn asked<A: Allocator + Copy>(
-    rt: &impl Abort,
-    alloc: Global,
-    asker: &mut Here<A>,
-    peer: u64,
-) -> Box<Message<A>> {
-    let hello = asker.ask(name(rt, peer)).expect(rt, "an ask").1;
-    Box::new(alloc, hello).expect(rt, "memory")
-}
-
-// What a message comes to.
-pub(crate) fn answered<A: Allocator + Copy>(
-    rt: &impl Abort,
-    here: &mut Here<A>,
-    message: &Message<A>,
-) -> Delivered<A> {
-    here.deliver(message).expect(rt, "a delivery")
-}
-
 // The first reply.
 pub(crate) fn first<'t, A: Allocator + Copy>(
     rt: &impl Abort,
     told: &'t Delivered<A>,
 ) -> &'t Message<A> {
     told.replies.first().expect(rt, "a reply")
-}
-
-// How the other opens for the hello.
-pub(crate) fn opened<A: Allocator + Copy>(
-    rt: &impl Abort,
-    alloc: Global,
-    here: &mut Here<A>,
-    peer: &mut Here<A>,
-    of: u64,
-) -> Delivered<A> {
-    let hello = asked(rt, alloc, here, of);
-    answered(rt, peer, &*hello)
 }
 
 // The asks of the one for what the other, of this name, opened with.
