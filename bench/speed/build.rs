@@ -1,4 +1,4 @@
-//! Puts counters in the places of malloc, realloc and free.
+//! Puts counters in the places of malloc, calloc, realloc and free.
 fn main() {
-    println!("cargo:rustc-link-arg=-Wl,--wrap=malloc,--wrap=realloc,--wrap=free");
+    println!("cargo:rustc-link-arg=-Wl,--wrap=malloc,--wrap=calloc,--wrap=realloc,--wrap=free");
 }

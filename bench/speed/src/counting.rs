@@ -1,5 +1,5 @@
-//! What is taken of the heap: the linker puts these in the places of malloc, realloc and free (--wrap), for the library that is
-//! measured and for what it is compared with.
+//! What is taken of the heap: the linker puts these in the places of malloc, calloc, realloc and free (--wrap), for the library that
+//! is measured and for what it is compared with.
 use std::ffi::c_void;
 use std::sync::atomic::{AtomicUsize, Ordering::Relaxed};
 
@@ -9,6 +9,7 @@ static CALLS: AtomicUsize = AtomicUsize::new(0);
 
 extern "C" {
     fn __real_malloc(size: usize) -> *mut c_void;
+    fn __real_calloc(count: usize, size: usize) -> *mut c_void;
     fn __real_realloc(old: *mut c_void, size: usize) -> *mut c_void;
     fn __real_free(old: *mut c_void);
     fn malloc_usable_size(block: *mut c_void) -> usize;
@@ -37,6 +38,11 @@ fn take(block: *mut c_void) {
 #[no_mangle]
 unsafe extern "C" fn __wrap_malloc(size: usize) -> *mut c_void {
     add(unsafe { __real_malloc(size) })
+}
+
+#[no_mangle]
+unsafe extern "C" fn __wrap_calloc(count: usize, size: usize) -> *mut c_void {
+    add(unsafe { __real_calloc(count, size) })
 }
 
 #[no_mangle]
