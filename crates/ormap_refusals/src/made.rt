@@ -1,11 +1,30 @@
 // Replicas in a heap, and what they show.
 use dots::{Key, Name, Refusal, Value};
-use replica_core::Delivered;
-use replica_tests::made::{Here, answered, opened};
+use hash_path::Fnv1a;
+use replica_core::{Delivered, Replica};
 use std::alloc::{Allocator, Global};
 use std::panic::Expect;
 use std::process::Abort;
 use wire_form::Message;
+
+// Generic in the allocator, as the borrow checker's part of a proof does not cover these types at a heap that is lent.
+pub(crate) type Here<A> = Replica<Fnv1a, A>;
+
+// The name of this number, which is not 0.
+pub(crate) fn name(rt: &impl Abort, number: u64) -> Name {
+    Name::new(number).expect(rt, "a name")
+}
+
+// A replica of this name, to which nothing happened. It is in a box, as one that is a local is dear to prove.
+pub(crate) fn replica<A: Allocator + Copy>(
+    rt: &impl Abort,
+    alloc: Global,
+    heap: A,
+    number: u64,
+) -> Box<Here<A>> {
+    let one = Replica::new(heap, name(rt, number), Fnv1a);
+    Box::new(alloc, one).expect(rt, "memory")
+}
 
 // Puts the value on the key, and gives the number of its dot.
 pub(crate) fn put<A: Allocator + Copy>(
@@ -27,12 +46,44 @@ pub(crate) fn put_forty<A: Allocator + Copy>(rt: &impl Abort, heap: A, here: &mu
     }
 }
 
+// The hello by which the one asks the other, of this name.
+pub(crate) fn asked<A: Allocator + Copy>(
+    rt: &impl Abort,
+    alloc: Global,
+    asker: &mut Here<A>,
+    peer: u64,
+) -> Box<Message<A>> {
+    let hello = asker.ask(name(rt, peer)).expect(rt, "an ask").1;
+    Box::new(alloc, hello).expect(rt, "memory")
+}
+
+// What a message comes to.
+pub(crate) fn answered<A: Allocator + Copy>(
+    rt: &impl Abort,
+    here: &mut Here<A>,
+    message: &Message<A>,
+) -> Delivered<A> {
+    here.deliver(message).expect(rt, "a delivery")
+}
+
 // The first reply.
 pub(crate) fn first<'t, A: Allocator + Copy>(
     rt: &impl Abort,
     told: &'t Delivered<A>,
 ) -> &'t Message<A> {
     told.replies.first().expect(rt, "a reply")
+}
+
+// How the other opens for the hello.
+pub(crate) fn opened<A: Allocator + Copy>(
+    rt: &impl Abort,
+    alloc: Global,
+    here: &mut Here<A>,
+    peer: &mut Here<A>,
+    of: u64,
+) -> Delivered<A> {
+    let hello = asked(rt, alloc, here, of);
+    answered(rt, peer, &*hello)
 }
 
 // The asks of the one for what the other, of this name, opened with.

@@ -51,7 +51,7 @@ fn fill(rt: &impl Abort, alloc: Global, here: &mut Replica, keys: u16) {
 #[test]
 fn what_is_written_and_removed_changed(rt: HostRuntime) {
     let alloc = rt.alloc();
-    let mut here = replica(&rt, alloc, alloc, 1);
+    let mut here = replica(&rt, alloc, 1);
     let none = map_of(&rt, &mut *here);
     fill(&rt, alloc, &mut *here, 40);
     let before = map_of(&rt, &mut *here);
@@ -71,10 +71,10 @@ fn what_is_written_and_removed_changed(rt: HostRuntime) {
 #[test]
 fn what_a_delta_brings_changed(rt: HostRuntime) {
     let alloc = rt.alloc();
-    let mut here = replica(&rt, alloc, alloc, 1);
+    let mut here = replica(&rt, alloc, 1);
     fill(&rt, alloc, &mut *here, 2_000);
     let before = map_of(&rt, &mut *here);
-    let mut there = replica(&rt, alloc, alloc, 2);
+    let mut there = replica(&rt, alloc, 2);
     let key = key_of(&rt, alloc, &[4, 7]);
     let port = Field::new(alloc, b"port").expect(&rt, "a field");
     let value = value_of(&rt, alloc, b"80");

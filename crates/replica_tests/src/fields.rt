@@ -159,10 +159,10 @@ fn catches_up(
 
 #[test]
 fn fields_that_are_written_one_by_one_come_to_all(rt: HostRuntime) {
-    let mut from = replica(&rt, rt.alloc(), rt.alloc(), 1);
+    let mut from = replica(&rt, rt.alloc(), 1);
     let all = written_beside(&rt, rt.alloc(), &mut *from);
-    let mut to = replica(&rt, rt.alloc(), rt.alloc(), 2);
-    let mut late = replica(&rt, rt.alloc(), rt.alloc(), 3);
+    let mut to = replica(&rt, rt.alloc(), 2);
+    let mut late = replica(&rt, rt.alloc(), 3);
     let is_written = has_written(&rt, rt.alloc(), &*from);
     let follows = follows(&rt, rt.alloc(), &mut *to, &*from, &all);
     let catches_up = catches_up(&rt, rt.alloc(), &mut *late, &*from, &all);

@@ -81,10 +81,10 @@ fn are_same(here: &Replica, there: &Replica) -> bool {
 #[test]
 fn two_thousand_keys_are_sent_and_listed(rt: HostRuntime) {
     let alloc = rt.alloc();
-    let mut here = replica(&rt, alloc, alloc, 1);
+    let mut here = replica(&rt, alloc, 1);
     put_all(&rt, alloc, &mut *here);
     let whole = sent(&rt, alloc, &mut *here);
-    let mut there = replica(&rt, alloc, alloc, 2);
+    let mut there = replica(&rt, alloc, 2);
     take(&rt, &mut *there, &whole);
     assert!(&rt; has_all(&rt, &*there) && are_same(&*here, &*there));
 }
@@ -92,9 +92,9 @@ fn two_thousand_keys_are_sent_and_listed(rt: HostRuntime) {
 #[test]
 fn two_thousand_keys_are_synchronised_and_cleared(rt: HostRuntime) {
     let alloc = rt.alloc();
-    let mut here = replica(&rt, alloc, alloc, 1);
+    let mut here = replica(&rt, alloc, 1);
     put_all(&rt, alloc, &mut *here);
-    let mut there = replica(&rt, alloc, alloc, 2);
+    let mut there = replica(&rt, alloc, 2);
     synchronise(&rt, alloc, &mut *there, &mut *here, 1);
     assert!(&rt; has_all(&rt, &*there) && are_same(&*here, &*there));
     assert!(&rt; there.clear().expect(&rt, "a clear") == u64::from(KEYS));

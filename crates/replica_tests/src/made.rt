@@ -1,83 +1,46 @@
 // What the tests of replicas are made of.
 use dots::{Key, Name, Value};
 use hash_path::Fnv1a;
-use replica_core::{Delivered, Replica};
-use std::alloc::{Allocator, Global};
+use replica_core::Replica;
+use std::alloc::Global;
 use std::panic::Expect;
 use std::process::Abort;
 use wire_form::{Message, encode};
 
-/// The name of this number, which is not 0.
-pub fn name(rt: &impl Abort, number: u64) -> Name {
+// The name of this number, which is not 0.
+pub(crate) fn name(rt: &impl Abort, number: u64) -> Name {
     Name::new(number).expect(rt, "a name")
 }
 
-/// A replica in a heap. The tests are generic in the allocator, as the borrow checker's part of a proof does not cover these types at a heap that is
-/// lent.
-pub type Here<A> = Replica<Fnv1a, A>;
-
-/// A replica of this name, which is not 0, to which nothing happened. It is in a box, as one that is a local is dear to prove.
-pub fn replica<A: Allocator + Copy>(
-    rt: &impl Abort,
-    alloc: Global,
-    heap: A,
-    number: u64,
-) -> Box<Here<A>> {
-    let one = Replica::new(heap, name(rt, number), Fnv1a);
+// A replica of this name, which is not 0, to which nothing happened. It is in a box, as one that is a local is dear to prove.
+pub(crate) fn replica(rt: &impl Abort, alloc: Global, number: u64) -> Box<Replica> {
+    let one = Replica::new(alloc, name(rt, number), Fnv1a);
     Box::new(alloc, one).expect(rt, "memory")
 }
 
-/// The hello by which the one asks the other, of this name.
-pub fn asked<A: Allocator + Copy>(
-    rt: &impl Abort,
-    alloc: Global,
-    asker: &mut Here<A>,
-    peer: u64,
-) -> Box<Message<A>> {
-    let hello = asker.ask(name(rt, peer)).expect(rt, "an ask").1;
-    Box::new(alloc, hello).expect(rt, "memory")
-}
-
-/// What a message comes to.
-pub fn answered<A: Allocator + Copy>(
-    rt: &impl Abort,
-    here: &mut Here<A>,
-    message: &Message<A>,
-) -> Delivered<A> {
-    here.deliver(message).expect(rt, "a delivery")
-}
-
-/// How the other opens for the hello.
-pub fn opened<A: Allocator + Copy>(
-    rt: &impl Abort,
-    alloc: Global,
-    here: &mut Here<A>,
-    peer: &mut Here<A>,
-    of: u64,
-) -> Delivered<A> {
-    let hello = asked(rt, alloc, here, of);
-    answered(rt, peer, &*hello)
-}
-
-/// The key of these bytes, of which there are not too many.
-pub fn key_of(rt: &impl Abort, alloc: Global, bytes: &[u8]) -> Key {
+pub(crate) fn key_of(rt: &impl Abort, alloc: Global, bytes: &[u8]) -> Key {
     Key::new(alloc, bytes).expect(rt, "a key")
 }
 
-/// The value of these bytes, of which there are not too many.
-pub fn value_of(rt: &impl Abort, alloc: Global, bytes: &[u8]) -> Value {
+pub(crate) fn value_of(rt: &impl Abort, alloc: Global, bytes: &[u8]) -> Value {
     Value::new(alloc, bytes).expect(rt, "a value")
 }
 
-/// Puts the value on the key, and gives the number of its dot.
-pub fn put(rt: &impl Abort, alloc: Global, here: &mut Replica, key: &[u8], value: &[u8]) -> u64 {
+// Puts the value on the key, and gives the number of its dot.
+pub(crate) fn put(
+    rt: &impl Abort,
+    alloc: Global,
+    here: &mut Replica,
+    key: &[u8],
+    value: &[u8],
+) -> u64 {
     let key = key_of(rt, alloc, key);
     let value = value_of(rt, alloc, value);
     here.put(&key, &value).expect(rt, "a put").number()
 }
 
-/// Removes the key, and gives how many writes were observed.
-pub fn remove(rt: &impl Abort, alloc: Global, here: &mut Replica, key: &[u8]) -> u64 {
+// Removes the key, and gives how many writes were observed.
+pub(crate) fn remove(rt: &impl Abort, alloc: Global, here: &mut Replica, key: &[u8]) -> u64 {
     let key = key_of(rt, alloc, key);
     here.remove(&key).expect(rt, "a remove")
 }
@@ -95,14 +58,20 @@ fn are(found: &[Value], values: &[&[u8]]) -> bool {
     true
 }
 
-/// Whether the key has these values.
-pub fn shows(rt: &impl Abort, alloc: Global, here: &Replica, key: &[u8], values: &[&[u8]]) -> bool {
+// Whether the key has these values.
+pub(crate) fn shows(
+    rt: &impl Abort,
+    alloc: Global,
+    here: &Replica,
+    key: &[u8],
+    values: &[&[u8]],
+) -> bool {
     let key = key_of(rt, alloc, key);
     are(&here.get(&key).expect(rt, "memory"), values)
 }
 
-/// The bytes of what the replica made since it last sent; none where it made nothing.
-pub fn sent(rt: &impl Abort, alloc: Global, from: &mut Replica) -> Vec<u8> {
+// The bytes of what the replica made since it last sent; none where it made nothing.
+pub(crate) fn sent(rt: &impl Abort, alloc: Global, from: &mut Replica) -> Vec<u8> {
     spelled(rt, alloc, &from.flush().expect(rt, "a flush"))
 }
 
@@ -114,12 +83,12 @@ fn spelled(rt: &impl Abort, alloc: Global, message: &Option<Message>) -> Vec<u8>
     }
 }
 
-/// Whether what it made is sent with these bytes.
-pub fn sends(rt: &impl Abort, alloc: Global, from: &mut Replica, bytes: &[u8]) -> bool {
+// Whether what it made is sent with these bytes.
+pub(crate) fn sends(rt: &impl Abort, alloc: Global, from: &mut Replica, bytes: &[u8]) -> bool {
     sent(rt, alloc, from).as_slice() == bytes
 }
 
-/// Whether it knows the dots of a name up to this number.
-pub fn knows(rt: &impl Abort, here: &Replica, of: u64, number: u64) -> bool {
+// Whether it knows the dots of a name up to this number.
+pub(crate) fn knows(rt: &impl Abort, here: &Replica, of: u64, number: u64) -> bool {
     here.context().entry(name(rt, of)) == number
 }

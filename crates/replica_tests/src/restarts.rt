@@ -95,7 +95,7 @@ fn tells(rt: &impl Abort, alloc: Global, here: &Replica, bytes: &[u8]) -> bool {
 #[test]
 fn a_save_has_these_bytes(rt: HostRuntime) {
     let alloc = rt.alloc();
-    let mut here = replica(&rt, alloc, alloc, 1);
+    let mut here = replica(&rt, alloc, 1);
     put(&rt, alloc, &mut *here, b"a", b"x");
     assert!(&rt; saved(&rt, alloc, &*here).as_slice() == SAVED);
     let mut again = back(&rt, alloc, SAVED);
@@ -119,14 +119,14 @@ fn cut_and_changed_saves_are_refused(rt: HostRuntime) {
     bytes.push(0).expect(&rt, "memory");
     assert!(&rt; is_refused(alloc, &bytes));
     assert!(&rt; is_refused(alloc, &SAVED[26..98]));
-    let mut here = replica(&rt, alloc, alloc, 2);
+    let mut here = replica(&rt, alloc, 2);
     assert!(&rt; here.deliver_bytes(SAVED).err() == Some(Refusal::NotAMessage));
 }
 
 #[test]
 fn what_was_saved_comes_back(rt: HostRuntime) {
     let alloc = rt.alloc();
-    let mut here = replica(&rt, alloc, alloc, 1);
+    let mut here = replica(&rt, alloc, 1);
     write_all(&rt, alloc, &mut *here);
     let (asked, _) = here.ask(name(&rt, 2)).expect(&rt, "an ask");
     let checkpoint = here.checkpoint().expect(&rt, "memory");
@@ -142,7 +142,7 @@ fn what_was_saved_comes_back(rt: HostRuntime) {
     let retried = again.retry(asked).expect(&rt, "memory");
     assert!(&rt; retried.outcome == Outcome::Ignored);
     assert!(&rt; again.ask(name(&rt, 2)).expect(&rt, "an ask").0 == asked.wrapping_add(1));
-    let mut peer = replica(&rt, alloc, alloc, 2);
+    let mut peer = replica(&rt, alloc, 2);
     take(&rt, &mut *peer, &sent(&rt, alloc, &mut *again));
     assert!(&rt; peer.digest() == again.digest());
     assert!(&rt; put(&rt, alloc, &mut *again, b"late", b"2") == 42);
@@ -151,9 +151,9 @@ fn what_was_saved_comes_back(rt: HostRuntime) {
 #[test]
 fn a_snapshot_is_gone_after_a_restart(rt: HostRuntime) {
     let alloc = rt.alloc();
-    let mut here = replica(&rt, alloc, alloc, 1);
+    let mut here = replica(&rt, alloc, 1);
     write_all(&rt, alloc, &mut *here);
-    let mut peer = replica(&rt, alloc, alloc, 2);
+    let mut peer = replica(&rt, alloc, 2);
     let hello = peer.ask(name(&rt, 1)).expect(&rt, "an ask").1;
     let opening = give(&rt, &mut *here, &hello);
     let ask = give_first(&rt, &mut *peer, &opening);
@@ -166,11 +166,11 @@ fn a_snapshot_is_gone_after_a_restart(rt: HostRuntime) {
 #[test]
 fn a_name_without_its_memory_is_told(rt: HostRuntime) {
     let alloc = rt.alloc();
-    let mut here = replica(&rt, alloc, alloc, 1);
+    let mut here = replica(&rt, alloc, 1);
     let old = saved(&rt, alloc, &*here);
     put(&rt, alloc, &mut *here, b"a", b"x");
     let delta = sent(&rt, alloc, &mut *here);
-    let mut peer = replica(&rt, alloc, alloc, 2);
+    let mut peer = replica(&rt, alloc, 2);
     take(&rt, &mut *peer, &delta);
     put(&rt, alloc, &mut *peer, b"a", b"y");
     let hello = peer.ask(name(&rt, 1)).expect(&rt, "an ask").1;
@@ -185,7 +185,7 @@ fn a_name_without_its_memory_is_told(rt: HostRuntime) {
 #[test]
 fn a_fresh_name_takes_what_was_saved(rt: HostRuntime) {
     let alloc = rt.alloc();
-    let mut here = replica(&rt, alloc, alloc, 1);
+    let mut here = replica(&rt, alloc, 1);
     write_all(&rt, alloc, &mut *here);
     let saved = read(&rt, alloc, &saved(&rt, alloc, &*here));
     let mut fresh = Replica::new_from(alloc, name(&rt, 3), Fnv1a, saved).expect(&rt, "memory");

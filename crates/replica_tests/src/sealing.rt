@@ -1,5 +1,5 @@
 // Digests that the nodes of a replica's map keep: from a synchronisation on, and until the next write.
-use crate::made::{opened, put, replica};
+use crate::made::{name, put, replica};
 use replica_core::{Outcome, Replica};
 use std::alloc::Global;
 use std::panic::Expect;
@@ -17,6 +17,12 @@ fn is_written(rt: &impl Abort, alloc: Global, here: &mut Replica) -> bool {
     !is_sealed(rt, here)
 }
 
+// What comes of the hello by which the asker asks the answerer, of the name 2.
+fn hello(rt: &impl Abort, asker: &mut Replica, answerer: &mut Replica) -> Outcome {
+    let (_, hello) = asker.ask(name(rt, 2)).expect(rt, "an ask");
+    answerer.deliver(&hello).expect(rt, "a delivery").outcome
+}
+
 // Whether both lose their digests by writes, and keep them again once the answerer, of the name 2, answered the asker.
 fn keep_digests(
     rt: &impl Abort,
@@ -26,7 +32,7 @@ fn keep_digests(
 ) -> bool {
     let first = is_written(rt, alloc, asker);
     let second = is_written(rt, alloc, answerer);
-    let is_answered = opened(rt, alloc, asker, answerer, 2).outcome == Outcome::Sent;
+    let is_answered = hello(rt, asker, answerer) == Outcome::Sent;
     let asker_keeps = is_sealed(rt, asker);
     let answerer_keeps = is_sealed(rt, answerer);
     first && second && is_answered && asker_keeps && answerer_keeps
@@ -34,8 +40,8 @@ fn keep_digests(
 
 #[test]
 fn who_asks_and_who_answers_keep_their_digests(rt: HostRuntime) {
-    let mut asker = replica(&rt, rt.alloc(), rt.alloc(), 1);
-    let mut answerer = replica(&rt, rt.alloc(), rt.alloc(), 2);
+    let mut asker = replica(&rt, rt.alloc(), 1);
+    let mut answerer = replica(&rt, rt.alloc(), 2);
     let are_kept = keep_digests(&rt, rt.alloc(), &mut *asker, &mut *answerer);
     assert!(rt; are_kept);
 }

@@ -1,10 +1,9 @@
 // The own calls of a replica.
-use crate::made::{Shown, put, put_forty, what_shows};
+use crate::made::{Here, Shown, put, put_forty, replica, what_shows};
 use crate::trial::{Trial, refusals, wanted};
 use dots::{Field, Key, Refusal, Value};
 use linked_list_allocator::LocalHeap;
 use replica_core::Outcome;
-use replica_tests::made::{Here, replica};
 use std::alloc::{Allocator, Global};
 use std::panic::Expect;
 use std::process::Abort;

@@ -1,11 +1,12 @@
 // Messages that a replica takes in, and their bytes.
-use crate::made::{Shown, asks, first, paged, put, put_forty, what_shows};
+use crate::made::{
+    Here, Shown, asked, asks, first, opened, paged, put, put_forty, replica, what_shows,
+};
 use crate::tests::bytes;
 use crate::trial::{Trial, refusals, wanted};
 use dots::Refusal;
 use linked_list_allocator::LocalHeap;
 use replica_core::{Delivered, Outcome};
-use replica_tests::made::{Here, asked, opened, replica};
 use std::alloc::{Allocator, Global};
 use std::panic::Expect;
 use std::process::Abort;

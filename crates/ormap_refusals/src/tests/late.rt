@@ -1,7 +1,6 @@
 // Messages that come late: what a replica keeps of them is memory, of which no clause speaks.
-use crate::made::put;
+use crate::made::{Here, put, replica};
 use linked_list_allocator::LocalHeap;
-use replica_tests::made::{Here, replica};
 use std::alloc::{Allocator, Global};
 use std::panic::Expect;
 use std::process::Abort;

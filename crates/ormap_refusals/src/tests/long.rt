@@ -1,7 +1,7 @@
 // A long key with many fields: what a replica keeps of it is memory, of which no clause speaks.
+use crate::made::{Here, replica};
 use dots::{Field, Key, Value};
 use linked_list_allocator::LocalHeap;
-use replica_tests::made::{Here, replica};
 use std::alloc::{Allocator, Global};
 use std::panic::Expect;
 use std::process::Abort;

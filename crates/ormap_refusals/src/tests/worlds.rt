@@ -1,9 +1,9 @@
 // Events of a world.
+use crate::made::name;
 use crate::trial::{Trial, refusals, wanted};
 use dots::{Key, Refusal, Value};
 use hash_path::Fnv1a;
 use linked_list_allocator::LocalHeap;
-use replica_tests::made::name;
 use replica_world::{Call, Event, World};
 use std::alloc::{Allocator, Global};
 use std::panic::Expect;

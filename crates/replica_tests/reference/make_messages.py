@@ -9,7 +9,7 @@ HERE = pathlib.Path(__file__).parent
 sys.path.append(str(HERE.parent.parent / "trace_tests" / "reference"))
 from digest_of_map import number_of, page, path, text_of
 
-HEAD = "// Made by `python3 crates/session_tests/reference/make_messages.py`, that is from the definitions and not from our program.\n\n"
+HEAD = "// Made by `python3 crates/replica_tests/reference/make_messages.py`, that is from the definitions and not from our program.\n\n"
 TABLE = """
 const MESSAGES: &[&[u8]] = &[
 {}];

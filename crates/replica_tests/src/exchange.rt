@@ -1,8 +1,8 @@
 // What goes from one replica to another as deltas.
+use crate::made::{put, replica, sent};
 use crate::playing::{Event, play};
 use crate::session_bytes::{LAST_OF_1, NOTHING, X_ON_A, X_REMOVED, Z_ON_A};
 use replica_core::{Outcome, Replica};
-use replica_tests::made::{put, replica, sent};
 use std::alloc::Global;
 use std::panic::Expect;
 use std::process::Abort;
@@ -58,7 +58,7 @@ fn what_is_sent_as_deltas_comes_to_what_is_told(rt: HostRuntime) {
 
 // What a new replica of this name sends that put forty keys, each of the name and a number, with the number as the value.
 fn sent_by(rt: &impl Abort, alloc: Global, name: u8) -> Vec<u8> {
-    let mut from = replica(rt, alloc, alloc, u64::from(name));
+    let mut from = replica(rt, alloc, u64::from(name));
     put_forty(rt, alloc, &mut *from, name);
     sent(rt, alloc, &mut *from)
 }
@@ -93,7 +93,7 @@ fn taken(
     all: &[Vec<u8>],
     often: usize,
 ) -> (Option<[u8; 32]>, u64) {
-    let mut to = replica(rt, alloc, alloc, name);
+    let mut to = replica(rt, alloc, name);
     for _ in 0..often {
         take_all(rt, &mut *to, all);
     }

@@ -1,12 +1,12 @@
 // What happens to three replicas, row by row, and what comes of it.
 use crate::asking::{asks, asks_in_vain, asks_often, retries};
+use crate::made::{key_of, knows, name, put, remove, sends, shows, value_of};
 use crate::session_bytes::bytes_of;
 use crate::spoiled::{leaves_changed, refuses_spoiled};
 use crate::taking::{answers_of, answers_often, has_root, takes};
 use dots::Refusal;
 use hash_path::Fnv1a;
 use replica_core::{Outcome, Replica};
-use replica_tests::made::{key_of, knows, name, put, remove, sends, shows, value_of};
 use std::alloc::Global;
 use std::panic::Expect;
 use std::process::Abort;

@@ -1,4 +1,4 @@
-// Made by `python3 crates/session_tests/reference/make_messages.py`, that is from the definitions and not from our program.
+// Made by `python3 crates/replica_tests/reference/make_messages.py`, that is from the definitions and not from our program.
 
 // The delta of the write 1:1 of x on a.
 pub(crate) const X_ON_A: usize = 0;

@@ -1,8 +1,8 @@
 // Sessions that a replica opens with replica 2, and asks for again.
+use crate::made::name;
 use crate::taking::{are_spelled, is_spelled, of_session};
 use dots::Refusal;
 use replica_core::{Outcome, Replica};
-use replica_tests::made::name;
 use std::alloc::Global;
 use std::panic::Expect;
 use std::process::Abort;
