@@ -42,6 +42,7 @@ class Episode(Run):
         super().__init__(seed)
         self.replicas = {name: Replica(name) for name in range(1, REPLICAS + 1)}
         self.models = {name: Model(self.world, name) for name in self.replicas}
+        self.shown = {name: {} for name in self.replicas}
         self.saved = {}
         self.writer = 0
         self.messages = 0
@@ -71,6 +72,7 @@ class Episode(Run):
         model = Model(self.world, name)
         model.written, model.seen, model.made = written, seen, made
         self.models[name] = model
+        self.shown[name] = {}
         self.crashes += 1
 
     def step(self):
