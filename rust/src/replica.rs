@@ -85,27 +85,28 @@ impl Replica {
         (0..count).map(|at| self.text(at)).collect()
     }
 
+    // Most texts are short: they are copied at once.
     fn text(&self, at: usize) -> Result<Letter, Error> {
-        let (mut to, mut length, mut bytes) = (0, 0, vec![0; 64]);
-        let room = bytes.len();
-        let first = unsafe {
+        let (mut to, mut length, mut short) = (0, 0, [0; 256]);
+        let mut copy = |room: &mut [u8], length: &mut usize| unsafe {
             calls::ginelm_text(
                 self.handle.get(),
                 at,
                 &mut to,
-                bytes.as_mut_ptr(),
-                room,
-                &mut length,
+                room.as_mut_ptr(),
+                room.len(),
+                length,
             )
         };
-        bytes.resize(length, 0);
-        if length > room {
-            self.call(|here| unsafe {
-                calls::ginelm_text(here, at, &mut to, bytes.as_mut_ptr(), length, &mut length)
-            })?;
+        let first = copy(&mut short, &mut length);
+        let bytes = if length > short.len() {
+            let mut bytes = vec![0; length];
+            Error::check(copy(&mut bytes, &mut length))?;
+            bytes
         } else {
             Error::check(first)?;
-        }
+            short[..length].to_vec()
+        };
         Ok(Letter {
             to: NonZeroU64::new(to),
             bytes,
