@@ -1,5 +1,5 @@
-/* A heap that counts what is asked of it, and is at its end where it is to be. The linker puts it in the place of malloc, realloc and free:
- * -Wl,--wrap=malloc,--wrap=realloc,--wrap=free. It is for one thread. */
+/* A heap that counts what is asked of it, and is at its end where it is to be. The linker puts it in the place of malloc, calloc, realloc and free:
+ * -Wl,--wrap=malloc,--wrap=calloc,--wrap=realloc,--wrap=free. It is for one thread. */
 #ifndef HEAP_H
 #define HEAP_H
 

@@ -17,7 +17,7 @@ cc=${CC:-cc}
 valgrind --quiet --error-exitcode=9 --leak-check=full --show-leak-kinds=all "$work/shared" 20000 "$seed"
 
 # By a heap that counts, and refuses.
-wrap=-Wl,--wrap=malloc,--wrap=realloc,--wrap=free
+wrap=-Wl,--wrap=malloc,--wrap=calloc,--wrap=realloc,--wrap=free
 "$cc" -std=c11 -Wall -Wextra -Werror -g -O1 -fsanitize=address,undefined -Ibuild c/refusals.c c/heap.c build/libginelm.a $wrap -o "$work/refusals"
 "$work/refusals"
 "$cc" -std=c11 -Wall -Wextra -Werror -g -O1 -Ibuild c/hostile.c c/heap.c build/libginelm.a $wrap -o "$work/hostile"
