@@ -31,7 +31,7 @@ use Rattle.replica_world.specs.Spelled.{IsSpelled}
 use Rattle.replica_world.proofs.Shown.{worlds_show}
 use Rattle.replica_world.proofs.Spelt.{as_many, spelled_at, spelled_past, map_back, map_past}
 
-at_other : (name other : ℕ) → other ≢ name → is_at (nat_cmp name) other ≡ false
+pub at_other : (name other : ℕ) → other ≢ name → is_at (nat_cmp name) other ≡ false
 at_other name other apart = grind (arith, nat_tests)
 
 pub replaces_from : {R : Type 0} (old new : BTreeMap ℕ R) (name : ℕ) (before after : R) → Some before ≡ get nat_cmp old name → Updates nat_cmp old new name (Some after) → Replaces old new name before after

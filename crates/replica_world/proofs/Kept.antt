@@ -27,7 +27,7 @@ pub mails_sent : (group : List Operation) (kept : SessionValue → List Operatio
 mails_sent group kept ks [] = refl
 mails_sent group kept ks (m ∷ out) = ap (λ ms. m ∷ ms) (mails_sent group kept ks out)
 
-mails_more : (ms : List Message) (group : List Operation) (kept : SessionValue → List Operation) (ks : List Kept) (out : List Mail)
+pub mails_more : (ms : List Message) (group : List Operation) (kept : SessionValue → List Operation) (ks : List Kept) (out : List Mail)
     → map (λ (m : Message). m.mail) (ms ++ map (sent_as group kept ks) out) ≡ map (λ (m : Message). m.mail) ms ++ out
 mails_more ms group kept ks out = map-append (λ (m : Message). m.mail) ms (map (sent_as group kept ks) out) ∙ ap (λ o. map (λ (m : Message). m.mail) ms ++ o) (mails_sent group kept ks out)
 

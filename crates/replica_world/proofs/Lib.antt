@@ -5,3 +5,8 @@ pub mod Happened
 pub mod Shown
 pub mod Refusing
 pub mod Read
+pub mod Held
+pub mod Systems
+pub mod Crashed
+pub mod Recovered
+pub mod Living

@@ -3,6 +3,7 @@ use Rattle.op_model.specs.Place.{place_of, plain}
 use Rattle.replica_core.specs.Answered.{outcome_of}
 use Rattle.replica_model.specs.Step as step
 use Rattle.replica_model.specs.World as world
+use Rattle.replica_world.specs.declared.accepted.Accepted.{Accepted}
 use Rattle.replica_world.specs.declared.answer.Answer as declared
 use Rattle.replica_world.specs.declared.answer.Answer.TheVariants as answer
 use Rattle.replica_world.specs.declared.call.Call as calls
@@ -34,3 +35,7 @@ module _ {A : Type 0} where
   event_value (event.Node name) = world.Node name
   event_value (event.Call name c) = world.At name (call_value c)
   event_value (event.Deliver number name) = world.Deliver number name
+  event_value (event.Restart name) = world.At name step.Restart
+
+  abbrev pub accepted_event : Accepted A → world.Event
+  accepted_event a = event_value a.event

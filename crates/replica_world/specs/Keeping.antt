@@ -8,16 +8,22 @@ use Rattle.sync_protocol.specs.Posting.{IsPosted}
 use Rattle.replica_core.specs.Meaning.{ReplicaValue, hash_in, meaning}
 use Rattle.replica_core.specs.Stepping.{Steps}
 use Rattle.replica_model.specs.Mail.{Mail, mail_of}
-use Rattle.replica_model.specs.Replica.{fresh}
+use Rattle.replica_model.specs.Replica.{fresh, restarts}
 use Rattle.replica_model.specs.Step.{Answer, Call, Do, Take}
 use Rattle.replica_model.specs.World.{World, Event, is_node, nothing, Happens, Runs}
+use Rattle.replica_world.specs.Held.{Held, events_of}
 use Rattle.replica_world.specs.Refused.{ForetellsIn, IsRefusedIn}
+use Rattle.replica_world.specs.Replaces.{Replaces}
 use Rattle.replica_world.specs.Spelled.{AreSpelled, Gains}
 
--- a world, as it is seen: the hash of all keys' paths, and the events that it accepted
+-- a world, as it is seen: the hash of all keys' paths, and the events that it accepted and that no crash took away, with whether they are saved
 pub record WorldValue (Hash : Type 0) : Type 0 where
   pub hash : Hash
-  pub past : List Event
+  pub held : List Held
+
+-- these events by themselves
+abbrev pub past_of : {Hash : Type 0} → WorldValue Hash → List Event
+past_of w = events_of w.held
 
 module _ {Hash : Type 0} where
   -- the replicas and the messages are those of the model's world
@@ -61,3 +67,8 @@ MakesCall hash_of old new call answer messages more =
 abbrev pub TakesMail : {Hash : Type 0} → (Hash → List ℕ → ℕ) → ReplicaValue Hash → ReplicaValue Hash → Mail → Answer → List (List ℕ) → List (List ℕ) → Type 0
 TakesMail hash_of old new mail answer messages more =
     (out : List MessageValue) × Steps hash_of old new (Take mail) answer (map mail_of out) × IsPosted Gains messages more out
+
+-- the replica of this name came back from what it was
+abbrev pub Restarts : {Hash : Type 0} → Hash → BTreeMap ℕ (ReplicaValue Hash) → BTreeMap ℕ (ReplicaValue Hash) → ℕ → Type 0
+Restarts {Hash} hash old new name =
+    (before after : ReplicaValue Hash) × Replaces old new name before after × (meaning after ≡ restarts (meaning before)) × (hash_in after ≡ hash)

@@ -1,8 +1,10 @@
 pub mod Spelled
 pub mod Happening
 pub mod Refused
-pub mod Keeping
 pub mod Replaces
+pub mod Held
+pub mod Keeping
+pub mod Kept
 pub mod Showing
 pub mod Accepting
 pub mod Reading

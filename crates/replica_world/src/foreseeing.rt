@@ -1,5 +1,6 @@
 // The refusal that an event meets whatever memory there is.
 ghost use Rattle.std.specs.Prelude.{ℕ, List};
+ghost use Rattle.replica_model.specs.Step as step;
 ghost use Rattle.replica_model.specs.World as model;
 ghost use Rattle.replica_core.specs.Meaning.{meaning};
 ghost use Rattle.replica_core.specs.Stepping.{Foretells};
@@ -28,7 +29,21 @@ pub(crate) fn foresee<H: PathHash, A: Allocator + Copy>(
         Event::Node(name) => foresee_node(replicas, *name),
         Event::Call(name, call) => foresee_call(replicas, *name, call),
         Event::Deliver(number, name) => foresee_delivery(replicas, posted, *number, *name),
+        Event::Restart(name) => foresee_restart(replicas, *name),
     }
+}
+
+// That of a restart of the replica of this name.
+fn foresee_restart<H: PathHash, A: Allocator + Copy>(
+    replicas: &BTreeMap<Name, Replica<H, A>, A>,
+    name: Name,
+) -> Option<Refusal>
+    ensures { (hash : H) (messages : List (List ℕ)) → ForetellsEvent hash replicas.now messages (model.At name step.Restart) result }
+{
+    if replicas.contains_key(&name) {
+        return None;
+    }
+    Some(Refusal::UnknownReplica)
 }
 
 // That of a new replica of this name.

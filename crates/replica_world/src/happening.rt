@@ -17,6 +17,7 @@ use crate::calling::make;
 use crate::delivering::{read, take};
 use crate::event::Event;
 use crate::posted::Posted;
+use crate::saving::restart_at;
 use dots::{Name, Refusal};
 use hash_path::PathHash;
 use replica_core::Replica;
@@ -40,6 +41,7 @@ pub(crate) fn happen<H: PathHash, A: Allocator + Copy>(
         Event::Node(name) => add(alloc, hash, replicas, *name),
         Event::Call(name, call) => call_at(alloc, replicas, posted, *name, call),
         Event::Deliver(number, name) => deliver_at(alloc, replicas, posted, *number, *name),
+        Event::Restart(name) => restart_at(alloc, hash, replicas, *name),
     }
 }
 

@@ -1,4 +1,5 @@
-// What replicas of a world show, over all lists of events.
+// What replicas of a world show, over all lists of events; and what crashes leave of these.
+ghost use Rattle.replica_world.specs.Held.{HeldSurvives};
 ghost use Rattle.replica_world.specs.Showing.{WorldsShow};
 
 /// After every list of events, unless two pages or two values that one session met have one SHA-256, what is read off each replica is told
@@ -7,4 +8,9 @@ ghost use Rattle.replica_world.specs.Showing.{WorldsShow};
 /// these operations, and the digest is that of the map of these values.
 pub fn replicas_show_what_they_have_seen()
     ensures { WorldsShow }
+{}
+
+/// Whatever occurs, and whichever replicas crash, however often: the events that a world holds are those that crashes left.
+pub fn what_is_held_survives()
+    ensures { HeldSurvives }
 {}

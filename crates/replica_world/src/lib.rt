@@ -2,6 +2,7 @@
 // Offered to the crates above: each event makes of the world what the model of worlds says.
 #![tactic(auto)]
 
+mod accepted;
 mod answer;
 mod call;
 mod calling;
@@ -11,13 +12,17 @@ mod foreseeing;
 mod happening;
 mod laws;
 mod posted;
+mod preparing;
 mod reading;
+mod recovery;
+mod saving;
 mod told;
 mod world;
 
+pub use accepted::Accepted;
 pub use answer::Answer;
 pub use call::Call;
 pub use event::Event;
-pub use laws::replicas_show_what_they_have_seen;
+pub use laws::{replicas_show_what_they_have_seen, what_is_held_survives};
 pub use told::Told;
 pub use world::World;

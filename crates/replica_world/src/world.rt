@@ -1,4 +1,4 @@
-ghost use Rattle.std.specs.Prelude.{◌≡◌, ◌⊎◌, ◌+◌, ◌++◌, [], ◌∷◌, map, true, false, Some, None, IfOk, IfErr, OnOk, OnErr, IfSome, IsNone, IsOkUnless};
+ghost use Rattle.std.specs.Prelude.{◌≡◌, ◌⊎◌, ◌+◌, ◌++◌, ◌==◌, not, [], ◌∷◌, map, true, false, Some, None, IfOk, IfErr, OnOk, OnErr, IfSome, IsNone, IsOkUnless};
 ghost use Rattle.dots.specs.declared.refusal.Refusal.TheVariants.{OutOfMemory};
 ghost use Rattle.wire_form.specs.Message.{message_of};
 ghost use Rattle.op_model.specs.Meaning.{state};
@@ -12,11 +12,14 @@ ghost use Rattle.replica_world.specs.Refused.{IsRefusedIn};
 ghost use Rattle.replica_core.specs.Showing.{ShowsOperations};
 ghost use Rattle.replica_world.specs.Spelled.{IsSpelled};
 
+use crate::accepted::Accepted;
 use crate::delivering::read;
 use crate::event::Event;
-use crate::foreseeing::foresee;
 use crate::happening::happen;
+use crate::recovery::Recovery;
 use crate::posted::Posted;
+use crate::preparing::{ready, recovered, take_back};
+use crate::saving::{further, is_to_be_saved, make_place, put_back, save_once, settle};
 use crate::told::Told;
 use dots::{Name, Refusal};
 use hash_path::{Fnv1a, PathHash};
@@ -36,27 +39,33 @@ pub struct World<H: PathHash = Fnv1a, A: Allocator + Copy = Global> {
     hash: H,
     replicas: BTreeMap<Name, Replica<H, A>, A>,
     posted: Posted<A>,
-    past: Vec<Event<A>, A>,
+    past: Vec<Accepted<A>, A>,
+    kept: BTreeMap<Name, Recovery<H, A>, A>,
 }
 
 impl<H: PathHash, A: Allocator + Copy> Model for World<H, A> {
     ghost use Rattle.std.specs.Prelude.{map};
-    ghost use Rattle.replica_world.specs.Happening.{event_value};
     ghost use Rattle.replica_world.specs.Keeping.{WorldValue, IsWorld};
+    ghost use Rattle.replica_world.specs.Held.{IsKept, events_of, held_in};
+    ghost use Rattle.replica_world.specs.Kept.{accepted_value, back_in, saves_in};
 
     ghost Value = { WorldValue H };
 
-    ghost view = { λ w. record { hash = w.hash; past = map event_value w.past.items } };
+    ghost view = { λ w. record { hash = w.hash; held = held_in (saves_in w.kept) (map accepted_value w.past.items) } };
 
-    ghost invariant = { λ w. IsWorld H.hash_of w.hash w.replicas w.posted (map event_value w.past.items) };
+    ghost invariant = { λ w. IsWorld H.hash_of w.hash w.replicas w.posted (events_of (held_in (saves_in w.kept) (map accepted_value w.past.items))) × IsKept (H.hash_of w.hash) (saves_in w.kept) (back_in w.kept) (map accepted_value w.past.items) };
 }
 
 impl<H: PathHash, A: Allocator + Copy> World<H, A> {
-    ghost use Rattle.replica_world.specs.Happening.{answer_value, event_value};
+    ghost use Rattle.replica_world.specs.Happening.{accepted_event, answer_value, event_value};
+    ghost use Rattle.replica_world.specs.Held.{after, occurrence};
+    ghost use Rattle.replica_world.specs.Keeping.{past_of};
+    ghost use Rattle.replica_world.specs.Reading.{IsThere, IsUnread};
+    ghost use Rattle.replica_model.specs.Crashing.{Saves, Crashes};
 
     /// The world with no replica and no message, whose replicas' keys have their paths by this hash. Takes no memory.
     pub fn new(alloc: A, hash: H) -> World<H, A>
-        ensures { result ≡ record { hash = hash; past = [] } }
+        ensures { result ≡ record { hash = hash; held = [] } }
     {
         World {
             alloc,
@@ -64,32 +73,41 @@ impl<H: PathHash, A: Allocator + Copy> World<H, A> {
             replicas: BTreeMap::new(alloc),
             posted: Posted::new(alloc),
             past: Vec::new(alloc),
+            kept: BTreeMap::new(alloc),
         }
     }
 
     /// Makes the event happen, and tells what it was answered and which messages it made.
     ///
-    /// Its refusals are NameTaken, just where a new replica has the name of one that is there; UnknownReplica, just where a call, its peer, or
-    /// a delivery is for one that is not there; UnknownMessage, just where else no message has the number; those of the replica's call; and
-    /// OutOfMemory, only where none of these comes first. A refused event changes nothing and is not kept in the past. Takes what the call
-    /// takes, and the logarithm of the number of replicas; of a delivery also the decoding of its message; and of what is sent its bytes.
-    /// These and the event are kept as long as the world.
+    /// Its refusals are NameTaken, just where a new replica has the name of one that is there; UnknownReplica, just where a call, its peer, a
+    /// delivery or a restart is for one that is not there; UnknownMessage, just where else no message has the number; those of the replica's
+    /// call; and OutOfMemory, only where none of these comes first. A refused event changes nothing and is not kept in the past. Takes what the
+    /// call takes, and the logarithm of the number of replicas; of a delivery also the decoding of its message; of what is sent its bytes; and
+    /// of the first event of a replica since it was saved a checkpoint of it. These and the event are kept as long as the world.
+    ///
+    /// A new replica is saved, and one is with each event that sends something or takes a synchronisation further, before its messages go out.
     pub fn event(&mut self, event: Event<A>) -> Result<Told, Refusal>
-        ensures ok { OnOk result (self.new ≡ record { hash = self.old.hash; past = self.old.past ++ event_value event ∷ [] }) }
-        ensures happened { IfOk result (λ told. (w : model.World) → Runs (H.hash_of self.old.hash) nothing self.old.past w
-            → IsTold (H.hash_of self.old.hash) self.old.past w (event_value event) (answer_value told.answer) told.made.start told.made.end) }
-        ensures refused { IfErr result (λ refusal. (w : model.World) → Runs (H.hash_of self.old.hash) nothing self.old.past w
+        ensures ok { IfOk result (λ told. self.new ≡ record {
+          hash = self.old.hash;
+          held =
+              after self.old.held (occurrence (event_value event) (answer_value told.answer) (not (told.made.start == told.made.end)));
+        }) }
+        ensures happened { IfOk result (λ told. (w : model.World) → Runs (H.hash_of self.old.hash) nothing (past_of self.old) w
+            → IsTold (H.hash_of self.old.hash) (past_of self.old) w (event_value event) (answer_value told.answer) told.made.start told.made.end) }
+        ensures refused { IfErr result (λ refusal. (w : model.World) → Runs (H.hash_of self.old.hash) nothing (past_of self.old) w
             → IsRefusedIn w (event_value event) refusal) }
         ensures unchanged { OnErr result (self.new ≡ self.old) }
     {
         let first = self.posted.len() + 1;
-        match self.past.reserve(1) {
-            Ok(()) => {}
-            Err(_) => {
-                let foreseen = foresee(&self.replicas, &self.posted, &event);
-                drop(event);
-                return Err(foreseen.unwrap_or(Refusal::OutOfMemory));
-            }
+        if let Err(refusal) = ready(
+            &self.replicas,
+            &self.posted,
+            &mut self.kept,
+            &mut self.past,
+            &event,
+        ) {
+            drop(event);
+            return Err(refusal);
         }
         let answer = match happen(
             self.alloc,
@@ -104,9 +122,65 @@ impl<H: PathHash, A: Allocator + Copy> World<H, A> {
                 return Err(refusal);
             }
         };
-        let made = first..self.posted.len() + 1;
-        self.past.push(event).unwrap();
+        let end = self.posted.len() + 1;
+        let (answer, is_further) = further(answer);
+        let is_saved = is_to_be_saved(&event, is_further, first != end);
+        let saves = settle(&mut self.kept, event.name(), is_saved);
+        self.past.push(Accepted::new(event, saves)).unwrap();
+        let made = first..end;
         Ok(Told { answer, made })
+    }
+
+    /// Saves the replica of this name: nothing that it did is lost where it crashes. Takes the logarithm of the number of replicas.
+    ///
+    /// Its refusals are UnknownReplica, just where no replica has the name, and OutOfMemory; a refused call changes nothing.
+    pub fn save(&mut self, name: Name) -> Result<(), Refusal>
+        ensures ok { OnOk result (self.new ≡ record { hash = self.old.hash; held = after self.old.held (Saves name) }) }
+        ensures there { OnOk result (IsThere (H.hash_of self.old.hash) (past_of self.old) name true) }
+        ensures refused { IfErr result (IsUnread (H.hash_of self.old.hash) (past_of self.old) name) }
+        ensures unchanged { OnErr result (self.new ≡ self.old) }
+    {
+        if !self.replicas.contains_key(&name) {
+            return Err(Refusal::UnknownReplica);
+        }
+        if let Err(refusal) = make_place(&mut self.kept, name) {
+            return Err(refusal);
+        }
+        let _ = save_once(&mut self.kept, name);
+        Ok(())
+    }
+
+    /// The replica of this name crashes, and comes back from what was last saved of it, without its synchronisations and the snapshots that it
+    /// kept. What it did since is gone from the past, in which a restart stands for the crash. What it had sent stays.
+    ///
+    /// Its refusals are UnknownReplica, just where no replica has the name, and OutOfMemory; a refused call changes nothing. Takes time in the
+    /// past, and time and memory in all that the replica held, times the logarithm of the map.
+    pub fn crash(&mut self, name: Name) -> Result<(), Refusal>
+        ensures ok { OnOk result (self.new ≡ record { hash = self.old.hash; held = after self.old.held (Crashes name) }) }
+        ensures there { OnOk result (IsThere (H.hash_of self.old.hash) (past_of self.old) name true) }
+        ensures refused { IfErr result (IsUnread (H.hash_of self.old.hash) (past_of self.old) name) }
+        ensures unchanged { OnErr result (self.new ≡ self.old) }
+    {
+        if !self.replicas.contains_key(&name) {
+            return Err(Refusal::UnknownReplica);
+        }
+        let replica = match recovered(
+            self.alloc,
+            self.hash,
+            &self.replicas,
+            &mut self.kept,
+            &mut self.past,
+            name,
+        ) {
+            Ok(replica) => replica,
+            Err(refusal) => return Err(refusal),
+        };
+        put_back(&mut self.replicas, name, replica);
+        let saves = save_once(&mut self.kept, name);
+        take_back(&mut self.past, name, saves);
+        let restart = Accepted::new(Event::Restart(name), saves);
+        self.past.push(restart).unwrap();
+        Ok(())
     }
 
     /// The replica of this name, if it is there. Takes the logarithm of the number of replicas.
@@ -115,12 +189,12 @@ impl<H: PathHash, A: Allocator + Copy> World<H, A> {
     /// at each field of each key just the values of the writes that it has seen and that no operation that it has seen had observed. And what it is
     /// to send is what it made since it last sent.
     pub fn replica(&self, name: Name) -> Option<&Replica<H, A>>
-        ensures some { IfSome result (λ replica. (w : model.World) → Runs (H.hash_of self.now.hash) nothing self.now.past w
+        ensures some { IfSome result (λ replica. (w : model.World) → Runs (H.hash_of self.now.hash) nothing (past_of self.now) w
             → (is_node w name ≡ true) × (meaning replica.now ≡ w.replica name) × (hash_in replica.now ≡ self.now.hash)) }
-        ensures none { IsNone result → (w : model.World) → Runs (H.hash_of self.now.hash) nothing self.now.past w → is_node w name ≡ false }
-        ensures shown { IfSome result (λ replica. (w : model.World) → Runs (H.hash_of self.now.hash) nothing self.now.past w
+        ensures none { IsNone result → (w : model.World) → Runs (H.hash_of self.now.hash) nothing (past_of self.now) w → is_node w name ≡ false }
+        ensures shown { IfSome result (λ replica. (w : model.World) → Runs (H.hash_of self.now.hash) nothing (past_of self.now) w
             → Unclashed (H.hash_of self.now.hash) w → ShowsOperations (H.hash_of self.now.hash) (meaning replica.now).live (w.seen name)) }
-        ensures holds { IfSome result (λ replica. (w : model.World) → Runs (H.hash_of self.now.hash) nothing self.now.past w → Unclashed (H.hash_of self.now.hash) w
+        ensures holds { IfSome result (λ replica. (w : model.World) → Runs (H.hash_of self.now.hash) nothing (past_of self.now) w → Unclashed (H.hash_of self.now.hash) w
             → ((meaning replica.now).live ≡ state (w.seen name)) × ((meaning replica.now).group ≡ state (w.outgoing name))) }
     {
         self.replicas.get(&name)
@@ -131,11 +205,11 @@ impl<H: PathHash, A: Allocator + Copy> World<H, A> {
     /// Unless two pages or two values that one session met have one SHA-256, a delta carries just the operations that were to be sent when it
     /// was made, and an opening what its replica had seen when it kept the snapshot.
     pub fn message(&self, number: u64) -> Option<&[u8]>
-        ensures some { IfSome result (λ bytes. (w : model.World) → Runs (H.hash_of self.now.hash) nothing self.now.past w
+        ensures some { IfSome result (λ bytes. (w : model.World) → Runs (H.hash_of self.now.hash) nothing (past_of self.now) w
             → (m : model.Message) × (message_at w.messages number ≡ Some m) × IsSpelled bytes.now m.mail) }
-        ensures carries { IfSome result (λ bytes. (w : model.World) → Runs (H.hash_of self.now.hash) nothing self.now.past w → Unclashed (H.hash_of self.now.hash) w
+        ensures carries { IfSome result (λ bytes. (w : model.World) → Runs (H.hash_of self.now.hash) nothing (past_of self.now) w → Unclashed (H.hash_of self.now.hash) w
             → (m : model.Message) × (message_at w.messages number ≡ Some m) × MeansMail (H.hash_of self.now.hash) m.mail m.of.seen) }
-        ensures none { IsNone result → (w : model.World) → Runs (H.hash_of self.now.hash) nothing self.now.past w → message_at w.messages number ≡ None }
+        ensures none { IsNone result → (w : model.World) → Runs (H.hash_of self.now.hash) nothing (past_of self.now) w → message_at w.messages number ≡ None }
     {
         self.posted.get(number)
     }
@@ -143,11 +217,11 @@ impl<H: PathHash, A: Allocator + Copy> World<H, A> {
     /// The message of this number, from 1 on, if there is one, read from its bytes; it carries what these carry. Takes what decoding them takes.
     /// Its only refusal is OutOfMemory.
     pub fn read(&self, number: u64) -> Result<Option<Message<A>>, Refusal>
-        ensures some { IfOk result (λ found. IfSome found (λ message. (w : model.World) → Runs (H.hash_of self.now.hash) nothing self.now.past w
+        ensures some { IfOk result (λ found. IfSome found (λ message. (w : model.World) → Runs (H.hash_of self.now.hash) nothing (past_of self.now) w
             → (m : model.Message) × (message_at w.messages number ≡ Some m) × (mail_of (message_of message) ≡ m.mail))) }
-        ensures carries { IfOk result (λ found. IfSome found (λ message. (w : model.World) → Runs (H.hash_of self.now.hash) nothing self.now.past w → Unclashed (H.hash_of self.now.hash) w
+        ensures carries { IfOk result (λ found. IfSome found (λ message. (w : model.World) → Runs (H.hash_of self.now.hash) nothing (past_of self.now) w → Unclashed (H.hash_of self.now.hash) w
             → (m : model.Message) × (message_at w.messages number ≡ Some m) × MeansMail (H.hash_of self.now.hash) (mail_of (message_of message)) m.of.seen)) }
-        ensures none { IfOk result (λ found. IsNone found → (w : model.World) → Runs (H.hash_of self.now.hash) nothing self.now.past w
+        ensures none { IfOk result (λ found. IsNone found → (w : model.World) → Runs (H.hash_of self.now.hash) nothing (past_of self.now) w
             → message_at w.messages number ≡ None) }
         ensures refused { IsOkUnless result OutOfMemory }
     {
@@ -160,10 +234,11 @@ impl<H: PathHash, A: Allocator + Copy> World<H, A> {
         }
     }
 
-    /// The events that it accepted, in their order: those that its model's world is the world after. Takes constant time, and copies nothing.
-    pub fn past(&self) -> &[Event<A>]
-        ensures list { map event_value result.now ≡ self.now.past }
-        ensures runs { (w : model.World) × Runs (H.hash_of self.now.hash) nothing self.now.past w }
+    /// The events that it accepted and that no crash took away, in their order: those that its model's world is the world after. Takes constant
+    /// time, and copies nothing.
+    pub fn past(&self) -> &[Accepted<A>]
+        ensures list { map accepted_event result.now ≡ (past_of self.now) }
+        ensures runs { (w : model.World) × Runs (H.hash_of self.now.hash) nothing (past_of self.now) w }
     {
         self.past.as_slice()
     }

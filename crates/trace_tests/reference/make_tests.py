@@ -101,6 +101,33 @@ def generated():
     return "\n".join(maker.lines) + "\n"
 
 
+def crashed():
+    """Six replicas that write, send, take in, synchronise, are saved now and then, and crash; and pins of them, which stay."""
+    maker = Maker()
+    for turn in range(150):
+        name = maker.one_of(REPLICAS)
+        kinds = [maker.write] * 5 + [maker.erase, maker.read, maker.flush, maker.flush] + [maker.deliver] * (3 * (maker.messages > 0))
+        maker.one_of(kinds)(name)
+        if turn % 6 == 5:
+            maker.add("crash", maker.one_of(REPLICAS))
+        if turn % 13 == 0:
+            maker.add("save", maker.one_of(REPLICAS))
+        if turn in (40, 80, 120):
+            maker.add("pin", name)
+            maker.add("crash", name)
+            maker.add("show", name)
+        if turn == 100:
+            maker.lines = synchronised(maker.lines, 2, 5)
+            maker.add("sync", 2, 5)
+            maker.add("crash", 2)
+            maker.add("retry", 2, 2)
+    maker.looks([1, 2, 3])
+    for name in REPLICAS:
+        for words in [["context", name], ["show", name], ["digest", name]]:
+            maker.add(*words)
+    return "\n".join(maker.lines) + "\n"
+
+
 def synchronised(lines, asker, peer):
     """The lines of a synchronisation, of which each message is delivered once, in order, up to its end."""
     lines, mail = [*lines, f"sync {asker} {peer}"], []
@@ -148,7 +175,7 @@ def file_of(traces, kind):
 
 
 if __name__ == "__main__":
-    made = {"forty_keys": generated(), "keys_of_one_hash": one_hash()}
+    made = {"forty_keys": generated(), "crashes": crashed(), "keys_of_one_hash": one_hash()}
     (TESTS / "generated.rt").write_text(file_of(made, "generated_trace"))
     examples = {path.stem: path.read_text() for path in sorted(EXAMPLES.glob("*.trace"))}
     (TESTS / "examples.rt").write_text(file_of(examples, "example"))

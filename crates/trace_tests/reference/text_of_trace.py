@@ -18,7 +18,7 @@ Replica = namedtuple("Replica", "seen unsent sessions")
 FORMS = {
     "node": "n", "put": "ntt", "putf": "nttt", "get": "nt", "getf": "ntt", "fields": "nt", "remove": "nt", "removef": "ntt",
     "clear": "n", "show": "n", "size": "n", "context": "n", "digest": "n", "pin": "n", "look": "nt", "flush": "n", "deliver": "nn",
-    "sync": "nn", "retry": "nn", "abandon": "nn",
+    "sync": "nn", "retry": "nn", "abandon": "nn", "save": "n", "crash": "n",
 }
 ITSELF = rb"[!-\"$-~][!-~]*"  # a word that stands for its own bytes
 
@@ -99,10 +99,21 @@ def kind_of(message):
 class World:
     def __init__(self):
         self.replicas, self.messages, self.pins = {}, [], []
+        self.saved = {}  # by name: what it had seen and was to send, and the number of its last synchronisation
 
     def make(self, name, *operation):
         for group in self.replicas[name][:2]:
             group.add(Operation(*operation))
+
+    def save(self, name):
+        seen, unsent, sessions = self.replicas[name]
+        self.saved[name] = set(seen), set(unsent), sessions.opened
+
+    def crash(self, name):
+        """The replica as it was when it was last saved, with no synchronisation."""
+        seen, unsent, opened = self.saved[name]
+        self.replicas[name] = Replica(set(seen), set(unsent), Sessions(name))
+        self.replicas[name].sessions.opened = opened
 
     def put(self, name, key, field, value):
         seen = self.replicas[name].seen
@@ -179,12 +190,22 @@ class World:
             raise Fault("UnknownReplica")
         if command == "deliver" and words[0] > len(self.messages):
             raise Fault("UnknownMessage")
+        answer = self.done(command, name, words)
+        # what sends, or takes a synchronisation further, is saved before its messages go out
+        if command in ("node", "save") or command in ("flush", "deliver", "sync", "retry") and "sent" in answer.split(" "):
+            self.save(name)
+        return answer
+
+    def done(self, command, name, words):
+        if command == "node":
+            self.replicas[name] = Replica(set(), set(), Sessions(name))
+        if command == "crash":
+            self.crash(name)
+        if command in ("node", "save", "crash"):
+            return "ok"
         if command == "deliver":
             return self.deliver(self.messages[words[0] - 1], self.replicas[name])
-        if command != "node":
-            return self.answer(command, *words)
-        self.replicas[name] = Replica(set(), set(), Sessions(name))
-        return "ok"
+        return self.answer(command, *words)
 
 
 def text_of(trace):

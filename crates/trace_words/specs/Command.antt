@@ -23,6 +23,8 @@ pub data CommandValue : Type 0 where
   Context : ℕ → CommandValue
   Pin : ℕ → CommandValue
   Digest : ℕ → CommandValue
+  Save : ℕ → CommandValue
+  Crash : ℕ → CommandValue
   Look : ℕ → List ℕ → CommandValue
 
 -- the command that takes one number, where the word is one
@@ -51,6 +53,11 @@ with_three_texts command (Some number) (Some first) (Some second) (Some third) =
 with_three_texts command number first second third = None
 
 -- the commands by how many words follow the first
+abbrev pub crash_command : List ℕ → List ℕ → Option CommandValue
+crash_command verb first =
+    cond (bytes_eq verb (codes "save")) (with_number Save (numeral_value first))
+    (cond (bytes_eq verb (codes "crash")) (with_number Crash (numeral_value first)) None)
+
 abbrev pub one_word_command : List ℕ → List ℕ → Option CommandValue
 one_word_command verb first =
     cond (bytes_eq verb (codes "node")) (with_number Node (numeral_value first))
@@ -60,7 +67,7 @@ one_word_command verb first =
     (cond (bytes_eq verb (codes "size")) (with_number Size (numeral_value first))
     (cond (bytes_eq verb (codes "context")) (with_number Context (numeral_value first))
     (cond (bytes_eq verb (codes "pin")) (with_number Pin (numeral_value first))
-    (cond (bytes_eq verb (codes "digest")) (with_number Digest (numeral_value first)) None)))))))
+    (cond (bytes_eq verb (codes "digest")) (with_number Digest (numeral_value first)) (crash_command verb first))))))))
 
 abbrev pub session_command : List ℕ → List ℕ → List ℕ → Option CommandValue
 session_command verb first second =

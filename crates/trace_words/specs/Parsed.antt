@@ -1,5 +1,5 @@
 -- What a command that was parsed says.
-use Rattle.trace_words.specs.Command.{CommandValue, Node, Put, Get, Flush, Deliver, Sync, Retry, Abandon, Remove, RemoveField, Clear, Fields, Show, Size, Context, Pin, Digest, Look}
+use Rattle.trace_words.specs.Command.{CommandValue, Node, Put, Get, Flush, Deliver, Sync, Retry, Abandon, Remove, RemoveField, Clear, Fields, Show, Size, Context, Pin, Digest, Save, Crash, Look}
 use Rattle.trace_words.specs.declared.command.Command.{Command}
 use Rattle.trace_words.specs.declared.command.Command.TheVariants as command
 
@@ -21,4 +21,6 @@ command_value (command.Size name) = Size name
 command_value (command.Context name) = Context name
 command_value (command.Pin name) = Pin name
 command_value (command.Digest name) = Digest name
+command_value (command.Save name) = Save name
+command_value (command.Crash name) = Crash name
 command_value (command.Look pin key) = Look pin key.items

@@ -1,6 +1,6 @@
 ghost use Rattle.std.specs.Prelude.{◌≡◌, [], IfOk, IsOkUnless};
 ghost use Rattle.std.specs.Option.{option_map};
-ghost use Rattle.trace_words.specs.Command.{command_of, one_word_command, two_word_command, three_word_command, four_word_command, session_command};
+ghost use Rattle.trace_words.specs.Command.{command_of, one_word_command, two_word_command, three_word_command, four_word_command, session_command, crash_command};
 ghost use Rattle.trace_words.specs.Command.{with_text, with_texts, with_three_texts, with_numbers, Get, Put, Deliver, Sync, Retry, Abandon, Remove, RemoveField, Fields, Look};
 ghost use Rattle.trace_words.specs.Parsed.{command_value};
 
@@ -76,6 +76,10 @@ pub enum Command<A: Allocator = Global> {
     Pin(Name),
     /// The root digest of the map.
     Digest(Name),
+    /// The replica, saved.
+    Save(Name),
+    /// The replica lost, and back from what was last saved of it.
+    Crash(Name),
     /// The values of a key in a map that was kept.
     Look {
         pin: u64,
@@ -128,6 +132,19 @@ fn with_one_word<A: Allocator + Copy>(verb: &[u8], first: &[u8]) -> Option<Comma
     }
     if verb == b"digest".as_slice() {
         return Some(Command::Digest(replica));
+    }
+    of_a_crash(verb, first)
+}
+
+fn of_a_crash<A: Allocator>(verb: &[u8], first: &[u8]) -> Option<Command<A>>
+    ensures { option_map command_value result ≡ crash_command verb.now first.now }
+{
+    let replica = name(first)?;
+    if verb == b"save".as_slice() {
+        return Some(Command::Save(replica));
+    }
+    if verb == b"crash".as_slice() {
+        return Some(Command::Crash(replica));
     }
     None
 }

@@ -1,18 +1,22 @@
 -- Events that happened, and what is told of them: over plain variables.
-use Rattle.std.proofs.Common.{◌≡◌, ◌≢◌, ◌⊎◌, inl, inr, ℕ, ◌+◌, ◌-◌, ◌<◌, ◌≤◌, List, [], ◌∷◌, ◌++◌, length, drop, refl, sym, ap, subst, ◌∙◌, arith, append-nil, Result, Ok, Err, IfOk, IsOkUnless}
+use Rattle.std.proofs.Common.{◌≡◌, ◌≢◌, ◌⊎◌, inl, inr, ℕ, ◌+◌, ◌-◌, ◌<◌, ◌≤◌, List, [], ◌∷◌, ◌++◌, length, drop, true, ◌==◌, refl, sym, ap, subst, ◌∙◌, arith, Result, Ok, Err, IfOk, IsOkUnless}
 use Rattle.std.specs.declared.vec.Vec.{Vec}
 use Rattle.dots.specs.declared.refusal.Refusal.{Refusal}
 use Rattle.dots.specs.declared.refusal.Refusal.TheVariants.{OutOfMemory, TooLong, ReadOnly, NumbersSpent, SessionsFull, NotAMessage, NoPlace, NameTaken, UnknownReplica, UnknownMessage, BadLine, Input, Output}
 use Rattle.dots.specs.Refusal.{number_of}
 use Rattle.hash_path.specs.Fnv1a.{fnv1a}
+use Rattle.std.specs.Prelude.{not, codes}
+use Rattle.replica_model.specs.Crashing.{Occurrence}
 use Rattle.replica_model.specs.Step.{Answer}
-use Rattle.replica_model.specs.World.{World, Event, nothing, RefusesEvent, Runs}
+use Rattle.replica_model.specs.World.{World, Event, is_node, nothing, RefusesEvent, Runs}
 use Rattle.replica_model.proofs.Deciding.{goes_on}
 use Rattle.replica_world.specs.Refused.{IsRefusedIn}
 use Rattle.replica_world.specs.Accepting.{IsTold}
+use Rattle.replica_world.specs.Held.{Held, events_of, after, occurrence}
+use Rattle.replica_world.specs.Reading.{IsUnread}
+use Rattle.replica_world.proofs.Crashed.{events_after}
 use Rattle.trace_world.specs.Does.{Does, In}
-use Rattle.trace_world.specs.Outcome.{Done, IsEvent}
-use Rattle.trace_world.specs.Pins.{Grows}
+use Rattle.trace_world.specs.Outcome.{Done, Refused, IsEvent, at_replica}
 use Rattle.trace_world.specs.Told.{event_text, happened_text}
 
 -- a refusal is want of memory, or it is not
@@ -38,39 +42,48 @@ refuses_other : (refusal : Refusal) (w : World) (e : Event) → refusal ≢ OutO
 refuses_other refusal w e other (inl (memory, nothing)) = absurd (other memory)
 refuses_other refusal w e other (inr is) = is
 
-module _ (old new : List Event) (e : Event) where
-  -- more events came, or none
-  pub grows_same : new ≡ old → Grows old new
-  grows_same same = record { more = []; is = same ∙ sym (append-nil old) }
+module _ (old new : List Held) (e : Event) where
+  module _ (answer : Answer) (first end : ℕ) (told : (w : World) → Runs fnv1a nothing (events_of old) w → IsTold fnv1a (events_of old) w e answer first end) where
+    -- what occurs
+    abbrev x : Occurrence
+    x = occurrence e answer (not (first == end))
 
-  pub grows_by : new ≡ old ++ e ∷ [] → Grows old new
-  grows_by is = record { more = e ∷ []; is = is }
-
-  module _ (answer : Answer) (first end : ℕ) (told : (w : World) → Runs fnv1a nothing old w → IsTold fnv1a old w e answer first end) where
     -- the event is told as its answer and the messages that it made say
-    told_is : (text : List ℕ) → new ≡ old ++ e ∷ []
-        → ((v : World) → Runs fnv1a nothing new v → 1 ≤ first → end ≡ length v.messages + 1 → text ≡ event_text e answer first (drop (first - 1) v.messages))
-        → In old (λ w. IsEvent fnv1a w e) (Done text (e ∷ []))
+    told_is : (text : List ℕ) → new ≡ after old (occurrence e answer (not (first == end)))
+        → ((v : World) → Runs fnv1a nothing (events_of new) v → 1 ≤ first → end ≡ length v.messages + 1 → text ≡ event_text e answer first (drop (first - 1) v.messages))
+        → In old (λ w. IsEvent fnv1a w e) (Done text (occurrence e answer (not (first == end)) ∷ []))
     told_is text is says w runs =
         let t = told w runs in
-        let runs_new : Runs fnv1a nothing new t.after = subst (λ es. Runs fnv1a nothing es t.after) (sym is) (goes_on fnv1a old w t.after e answer runs t.happens) in
+        let grown : events_of new ≡ events_of old ++ e ∷ [] = ap events_of is ∙ events_after old e answer (not (first == end)) in
+        let runs_new : Runs fnv1a nothing (events_of new) t.after = subst (λ es. Runs fnv1a nothing es t.after) (sym grown) (goes_on fnv1a (events_of old) w t.after e answer runs t.happens) in
         let begins : first ≡ length w.messages + 1 = t.begins in
         let from : first - 1 ≡ length w.messages = omega (arith, begins) in
         let said : text ≡ event_text e answer first (drop (first - 1) t.after.messages) = says t.after runs_new (omega (arith, begins)) t.stops in
         let same : text ≡ happened_text e answer w t.after = said ∙ (λ i. event_text e answer (begins i) (drop (from i) t.after.messages)) in
-        inl (answer, t.after, t.happens, ap (λ text. Done text (e ∷ [])) same)
+        inl (answer, t.after, t.happens, (λ i. Done (same i) (occurrence e answer (not (begins i == t.stops i)) ∷ [])))
 
-    pub event_done : {A : Type 0} (r : Result (Vec ℕ A) Refusal) → new ≡ old ++ e ∷ []
-        → IfOk r (λ text. (v : World) → Runs fnv1a nothing new v → 1 ≤ first → end ≡ length v.messages + 1 → text.items ≡ event_text e answer first (drop (first - 1) v.messages))
+    pub event_done : {A : Type 0} (r : Result (Vec ℕ A) Refusal) → new ≡ after old (occurrence e answer (not (first == end)))
+        → IfOk r (λ text. (v : World) → Runs fnv1a nothing (events_of new) v → 1 ≤ first → end ≡ length v.messages + 1 → text.items ≡ event_text e answer first (drop (first - 1) v.messages))
         → IsOkUnless r OutOfMemory → Does (In old (λ w. IsEvent fnv1a w e)) old new r
-    event_done (Ok text) is says err = (e ∷ [], told_is text.items is says, is)
+    event_done (Ok text) is says err = (x ∷ [], told_is text.items is says, is)
     event_done (Err refusal) is says err = inl err
 
   -- a refused event
-  pub event_refused : (refusal : Refusal) → new ≡ old → ((w : World) → Runs fnv1a nothing old w → IsRefusedIn w e refusal)
+  pub event_refused : (refusal : Refusal) → new ≡ old → ((w : World) → Runs fnv1a nothing (events_of old) w → IsRefusedIn w e refusal)
       → Does {A = ℕ} (In old (λ w. IsEvent fnv1a w e)) old new (Err refusal)
   event_refused refusal same refuses = by (is_memory refusal)
     where
       by : (refusal ≡ OutOfMemory) ⊎ (refusal ≢ OutOfMemory) → Does {A = ℕ} (In old (λ w. IsEvent fnv1a w e)) old new (Err refusal)
       by (inl memory) = inl memory
       by (inr other) = inr ((λ w runs. inr (refusal, refuses_other refusal w e other (refuses w runs), refl)), same)
+
+-- a replica is saved, or crashes
+module _ (old new : List Held) (name : ℕ) (x : Occurrence) where
+  pub occurs_done : {A : Type 0} (text : Vec ℕ A) → new ≡ after old x → ((w : World) → Runs fnv1a nothing (events_of old) w → is_node w name ≡ true) → text.items ≡ codes "ok"
+      → Does (In old (λ w. at_replica w name (λ o. o ≡ Done (codes "ok") (x ∷ [])))) old new (Ok text)
+  occurs_done text is there said = (x ∷ [], (λ w runs. inr (there w runs, ap (λ t. Done t (x ∷ [])) said)), is)
+
+  pub occurs_refused : (refusal : Refusal) → new ≡ old → IsUnread fnv1a (events_of old) name refusal
+      → Does {A = ℕ} (In old (λ w. at_replica w name (λ o. o ≡ Done (codes "ok") (x ∷ [])))) old new (Err refusal)
+  occurs_refused refusal same (inl (unknown, absent)) = inr ((λ w runs. inl (absent w runs, ap Refused unknown)), same)
+  occurs_refused refusal same (inr (memory, there)) = inl memory

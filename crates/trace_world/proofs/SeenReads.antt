@@ -20,7 +20,7 @@ use Rattle.replica_core.specs.Showing.{ShowsOperations}
 use Rattle.replica_world.proofs.Shown.{worlds_show}
 use Rattle.replica_model.proofs.Deciding.{worlds_one}
 use Rattle.replica_model.specs.World.{World, is_node, nothing, Runs}
-use Rattle.trace_words.specs.Command.{CommandValue, Node, Put, Get, Flush, Deliver, Sync, Retry, Abandon, Remove, RemoveField, Clear, Fields, Show, Size, Context, Pin, Digest, Look}
+use Rattle.trace_words.specs.Command.{CommandValue, Node, Put, Get, Flush, Deliver, Sync, Retry, Abandon, Remove, RemoveField, Clear, Fields, Show, Size, Context, Pin, Digest, Save, Crash, Look}
 use Rattle.trace_words.specs.Text.{values_text, fields_text, map_text, size_text, context_text, digest_text}
 use Rattle.trace_world.specs.Laws.{ReadsAreSeen, LooksAreSeen}
 use Rattle.trace_world.specs.Outcome.{CommandOutcome, Refused, Done, ReadsValues, ReadsFields, ReadsKeys, ReadsSize, ReadsContext, ReadsDigest, at_replica, with_bytes, LooksAt, Comes}
@@ -110,6 +110,8 @@ reads_seen events w runs clean pins c outcome told = by c
     by (Remove name key) is comes = told_none outcome told is
     by (RemoveField name key field) is comes = told_none outcome told is
     by (Clear name) is comes = told_none outcome told is
+    by (Save name) is comes = told_none outcome told is
+    by (Crash name) is comes = told_none outcome told is
     by (Pin name) is comes = told_none outcome told is
     by (Look pin key) is comes = told_none outcome told is
 

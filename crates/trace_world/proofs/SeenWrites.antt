@@ -8,6 +8,7 @@ use Rattle.hash_path.specs.Fnv1a.{fnv1a}
 use Rattle.op_model.specs.Made.{dot_at, removed_at, field_removed_at, cleared_at}
 use Rattle.op_model.specs.Operation.{Operation}
 use Rattle.op_model.specs.Place.{place_of}
+use Rattle.replica_model.specs.Crashing.{Occurrence}
 use Rattle.replica_model.specs.Answers.{answer_by, flushed_by, IsToldBy}
 use Rattle.replica_model.specs.Replica.{Kept}
 use Rattle.replica_model.specs.Step.{Answer, Made, Counted}
@@ -16,7 +17,7 @@ use Rattle.replica_model.specs.World.{World, Event, Happens, goes, calls, sent_a
 use Rattle.replica_model.specs.World as world
 use Rattle.wire_form.specs.Session.{SessionValue}
 use Rattle.replica_model.proofs.Answers.{calls_are_told}
-use Rattle.trace_words.specs.Command.{CommandValue, Node, Put, Get, Flush, Deliver, Sync, Retry, Abandon, Remove, RemoveField, Clear, Fields, Show, Size, Context, Pin, Digest, Look}
+use Rattle.trace_words.specs.Command.{CommandValue, Node, Put, Get, Flush, Deliver, Sync, Retry, Abandon, Remove, RemoveField, Clear, Fields, Show, Size, Context, Pin, Digest, Save, Crash, Look}
 use Rattle.trace_words.specs.Text.{message_text}
 use Rattle.trace_words.specs.declared.kind.Kind.TheVariants.{Delta}
 use Rattle.trace_world.specs.Laws.{WritesAreSeen}
@@ -30,15 +31,15 @@ text_of (Done text events) = text
 text_of (Refused refusal) = []
 text_of (Pinned text name) = []
 
-at_done : (w : World) (name : ℕ) (P : CommandOutcome → Type 0) (text : List ℕ) (more : List Event) → at_replica w name P (Done text more) → P (Done text more)
+at_done : (w : World) (name : ℕ) (P : CommandOutcome → Type 0) (text : List ℕ) (more : List Occurrence) → at_replica w name P (Done text more) → P (Done text more)
 at_done w name P text more (inl (none, is)) = absurd cc
 at_done w name P text more (inr (there, comes)) = comes
 
-bytes_done : (bytes : List ℕ) (P : CommandOutcome → Type 0) (text : List ℕ) (more : List Event) → with_bytes bytes P (Done text more) → P (Done text more)
+bytes_done : (bytes : List ℕ) (P : CommandOutcome → Type 0) (text : List ℕ) (more : List Occurrence) → with_bytes bytes P (Done text more) → P (Done text more)
 bytes_done bytes P text more (inl (long, is)) = absurd cc
 bytes_done bytes P text more (inr (short, comes)) = comes
 
-event_done : (w : World) (e : Event) (text : List ℕ) (more : List Event) → IsEvent fnv1a w e (Done text more) → (answer : Answer) × (v : World) × Happens fnv1a w e answer v × (text ≡ happened_text e answer w v)
+event_done : (w : World) (e : Event) (text : List ℕ) (more : List Occurrence) → IsEvent fnv1a w e (Done text more) → (answer : Answer) × (v : World) × Happens fnv1a w e answer v × (text ≡ happened_text e answer w v)
 event_done w e text more (inl (answer, v, happens, is)) = (answer, v, happens, ap text_of is)
 event_done w e text more (inr (refusal, refuses, is)) = absurd cc
 
@@ -47,7 +48,7 @@ flush_is : (group : List Operation) (kept : SessionValue → List Operation) (ks
 flush_is group kept ks number [] = refl
 flush_is group kept ks number (o ∷ S) = ap (λ t. codes "sent" ++ t) (append-nil (message_text number Delta))
 
-module _ (w : World) (name : ℕ) (told : IsToldBy fnv1a (w.replica name) name (w.seen name) (w.outgoing name)) (text : List ℕ) (more : List Event) where
+module _ (w : World) (name : ℕ) (told : IsToldBy fnv1a (w.replica name) name (w.seen name) (w.outgoing name)) (text : List ℕ) (more : List Occurrence) where
   call_is : (call : step.Call) (answer : Answer) → answer_by (w.seen name) name call ≡ Some answer → IsCall fnv1a w name call (Done text more)
       → (v : World) × (text ≡ told_text answer (length w.messages + 1) (drop (length w.messages) v.messages))
   call_is call answer by comes =
@@ -110,6 +111,8 @@ writes_seen events w runs clean pins c text told more = by c
     by (Show name) is comes = told_none text told is
     by (Size name) is comes = told_none text told is
     by (Context name) is comes = told_none text told is
+    by (Save name) is comes = told_none text told is
+    by (Crash name) is comes = told_none text told is
     by (Pin name) is comes = told_none text told is
     by (Digest name) is comes = told_none text told is
     by (Look pin key) is comes = told_none text told is

@@ -15,17 +15,20 @@ use Rattle.op_model.proofs.Ascending.{one_ascending}
 use Rattle.prefix_digest.specs.Page.{digest_at}
 use Rattle.prefix_digest.proofs.MapsOf.{maps_one}
 use Rattle.replica_core.specs.Reading.{Lists}
+use Rattle.replica_model.specs.Crashing.{Saves, Crashes}
 use Rattle.replica_model.specs.Replica.{Replica}
 use Rattle.replica_model.specs.Step as step
 use Rattle.replica_model.specs.Step.{Refuses}
 use Rattle.replica_model.specs.World as world
 use Rattle.replica_model.specs.World.{World, Event, nothing, RefusesEvent, Runs}
 use Rattle.replica_model.proofs.Deciding.{events_one, worlds_one, refused_not}
+use Rattle.std.specs.Prelude.{codes}
+use Rattle.replica_world.specs.Held.{events_of}
 use Rattle.trace_words.specs.Command.{CommandValue, Node, Put, Get, Flush, Deliver, Sync, Retry, Abandon, Remove, RemoveField, Clear, Fields, Show, Size, Context, Pin, Digest, Look, command_of}
 use Rattle.trace_words.specs.Text.{values_text, fields_text, map_text, size_text, context_text, digest_text, pin_text}
 use Rattle.trace_world.specs.Laws.{AnswersAreOne}
 use Rattle.trace_world.specs.Line.{Past, LineComes, answer_by, past_by}
-use Rattle.trace_world.specs.Outcome.{CommandOutcome, Refused, Done, Pinned, PinValue, ReadsValues, ReadsFields, ReadsKeys, ReadsSize, ReadsContext, ReadsDigest, at_replica, with_bytes, pin_at, IsEvent, LooksAt, Comes}
+use Rattle.trace_world.specs.Outcome.{CommandOutcome, Refused, Done, occurs, Pinned, PinValue, ReadsValues, ReadsFields, ReadsKeys, ReadsSize, ReadsContext, ReadsDigest, at_replica, with_bytes, pin_at, IsEvent, LooksAt, Comes}
 use Rattle.trace_world.specs.Told.{happened_text}
 
 -- one outcome at most is as P says
@@ -123,7 +126,7 @@ event_refused_one w (world.Deliver number name) x y (inr (there, none, is)) (inr
 event_one : (w : World) (e : Event) → IsOne (IsEvent fnv1a w e)
 event_one w e o o' (inl (answer, v, happens, is)) (inl (answer', v', happens', is')) =
     let same = events_one fnv1a w v v' e answer answer' happens happens' in
-    is ∙ (λ i. Done (happened_text e (same.0 i) w (same.1 i)) (e ∷ [])) ∙ sym is'
+    is ∙ (λ i. Done (happened_text e (same.0 i) w (same.1 i)) (occurs e (same.0 i) w (same.1 i) ∷ [])) ∙ sym is'
 event_one w e o o' (inl (answer, v, happens, is)) (inr (refusal, refuses, is')) = absurd (refused_not fnv1a w v e answer refusal refuses happens)
 event_one w e o o' (inr (refusal, refuses, is)) (inl (answer, v, happens, is')) = absurd (refused_not fnv1a w v e answer refusal refuses happens)
 event_one w e o o' (inr (refusal, refuses, is)) (inr (refusal', refuses', is')) = is ∙ ap Refused (event_refused_one w e refusal refusal' refuses refuses') ∙ sym is'
@@ -157,6 +160,8 @@ comes_one w pins (Fields name key) o o' = at_one w name _ (with_one key _ (field
 comes_one w pins (Show name) o o' = at_one w name _ (keys_one (w.replica name).live) o o'
 comes_one w pins (Size name) o o' = at_one w name _ (size_one (w.replica name).live) o o'
 comes_one w pins (Context name) o o' = at_one w name _ (context_one (w.replica name).live) o o'
+comes_one w pins (Save name) o o' = at_one w name (λ p. p ≡ Done (codes "ok") (Saves name ∷ [])) (λ p p' is is'. is ∙ sym is') o o'
+comes_one w pins (Crash name) o o' = at_one w name (λ p. p ≡ Done (codes "ok") (Crashes name ∷ [])) (λ p p' is is'. is ∙ sym is') o o'
 comes_one w pins (Digest name) o o' = at_one w name _ (digest_one (w.replica name).live) o o'
 comes_one w pins (Pin name) o o' = at_one w name (λ p. p ≡ Pinned (pin_text (length pins + 1)) name) (λ p p' is is'. is ∙ sym is') o o'
 comes_one w pins (Look pin key) o o' = look_one (pin_at pins pin) key o o'
@@ -164,7 +169,7 @@ comes_one w pins (Look pin key) o o' = look_one (pin_at pins pin) key o o'
 line_one : (past : Past) (c : Option CommandValue) → IsOne (LineComes past c)
 line_one past None o o' is is' = is ∙ sym is'
 line_one past (Some c) o o' (w, runs, comes) (v, runs', comes') =
-    let same = worlds_one fnv1a past.events v w runs' runs in
+    let same = worlds_one fnv1a (events_of past.held) v w runs' runs in
     comes_one w past.pins c o o' comes (subst (λ u. Comes fnv1a u past.pins c o') same comes')
 
 pub answers_one : AnswersAreOne

@@ -1,12 +1,14 @@
 -- How a call of the machine keeps to what a command may come to.
 use Rattle.std.specs.Prelude.{◌≡◌, ◌⊎◌, ℕ, true, false, List, [], ◌++◌, Result, Ok, Err}
-use Rattle.std.specs.List.{All}
+use Rattle.std.specs.List.{All, fold}
 use Rattle.std.specs.Map.{keys_of}
 use Rattle.std.specs.declared.vec.Vec.{Vec}
 use Rattle.dots.specs.declared.refusal.Refusal.{Refusal}
 use Rattle.dots.specs.declared.refusal.Refusal.TheVariants.{OutOfMemory}
 use Rattle.hash_path.specs.Fnv1a.{fnv1a}
-use Rattle.replica_model.specs.World.{World, Event, is_node, nothing, Runs}
+use Rattle.replica_model.specs.Crashing.{Occurrence}
+use Rattle.replica_model.specs.World.{World, is_node, nothing, Runs}
+use Rattle.replica_world.specs.Held.{Held, events_of, after}
 use Rattle.trace_words.specs.Answer.{Told}
 use Rattle.trace_words.specs.Text.{entries_text}
 use Rattle.trace_world.specs.Line.{Past, answer_by, past_by}
@@ -17,20 +19,20 @@ abbrev pub TellsText : {A : Type 0} → (CommandOutcome → Type 0) → Result (
 TellsText Comes (Ok text) = Comes (Done text.items [])
 TellsText Comes (Err refusal) = (refusal ≡ OutOfMemory) ⊎ Comes (Refused refusal)
 
--- in the world of these events
-abbrev pub In : List Event → (World → CommandOutcome → Type 0) → CommandOutcome → Type 0
-In events Comes outcome = (w : World) → Runs fnv1a nothing events w → Comes w outcome
+-- in the world of what is held
+abbrev pub In : List Held → (World → CommandOutcome → Type 0) → CommandOutcome → Type 0
+In held Comes outcome = (w : World) → Runs fnv1a nothing (events_of held) w → Comes w outcome
 
 -- a replica of this name is there, or is not
-abbrev pub IsThere : List Event → ℕ → Type 0
-IsThere events name = (w : World) → Runs fnv1a nothing events w → is_node w name ≡ true
+abbrev pub IsThere : List Held → ℕ → Type 0
+IsThere held name = (w : World) → Runs fnv1a nothing (events_of held) w → is_node w name ≡ true
 
-abbrev pub IsAbsent : List Event → ℕ → Type 0
-IsAbsent events name = (w : World) → Runs fnv1a nothing events w → is_node w name ≡ false
+abbrev pub IsAbsent : List Held → ℕ → Type 0
+IsAbsent held name = (w : World) → Runs fnv1a nothing (events_of held) w → is_node w name ≡ false
 
--- it was done, told as this text, and these events were added; or it was refused, and nothing changed; or memory ran out
-abbrev pub Does : {A : Type 0} → (CommandOutcome → Type 0) → List Event → List Event → Result (Vec ℕ A) Refusal → Type 0
-Does Comes old new (Ok text) = (events : List Event) × Comes (Done text.items events) × (new ≡ old ++ events)
+-- it was done, told as this text, and this occurred; or it was refused, and nothing changed; or memory ran out
+abbrev pub Does : {A : Type 0} → (CommandOutcome → Type 0) → List Held → List Held → Result (Vec ℕ A) Refusal → Type 0
+Does Comes old new (Ok text) = (xs : List Occurrence) × Comes (Done text.items xs) × (new ≡ fold after old xs)
 Does Comes old new (Err refusal) = (refusal ≡ OutOfMemory) ⊎ (Comes (Refused refusal) × (new ≡ old))
 
 -- it was done as an outcome says, and there is what there is after it; or it was refused, and nothing changed; or memory ran out

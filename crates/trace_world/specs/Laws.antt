@@ -1,6 +1,7 @@
 -- The laws of what a line is answered. Of this project. A law is proved where a function of src/ names it.
 use Rattle.std.specs.Prelude.{◌≡◌, ℕ, List, [], Some}
 use Rattle.hash_path.specs.Fnv1a.{fnv1a}
+use Rattle.replica_model.specs.Crashing.{Occurrence}
 use Rattle.replica_model.specs.World.{World, Event, nothing, Runs, Unclashed}
 use Rattle.trace_words.specs.Answer.{LineAnswer}
 use Rattle.op_model.specs.Place.{plain}
@@ -31,4 +32,4 @@ LooksAreSeen = (w : World) (pins : List PinValue) (number : ℕ) (key : List ℕ
 -- one session met clash
 abbrev pub WritesAreSeen : Type 0
 WritesAreSeen = (events : List Event) (w : World) → Runs fnv1a nothing events w → Unclashed fnv1a w
-    → (pins : List PinValue) (c : CommandValue) (text told : List ℕ) (more : List Event) → written_of w c ≡ Some told → Comes fnv1a w pins c (Done text more) → text ≡ told
+    → (pins : List PinValue) (c : CommandValue) (text told : List ℕ) (more : List Occurrence) → written_of w c ≡ Some told → Comes fnv1a w pins c (Done text more) → text ≡ told

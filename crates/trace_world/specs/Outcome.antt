@@ -1,5 +1,5 @@
 -- What each command comes to in a world. Of this project.
-use Rattle.std.specs.Prelude.{◌≡◌, ◌⊎◌, ℕ, zero, suc, Bool, true, false, ◌+◌, nat_le, List, [], ◌∷◌, length, Option, Some, None, slice_get}
+use Rattle.std.specs.Prelude.{◌≡◌, ◌⊎◌, ◌==◌, not, codes, ℕ, zero, suc, Bool, true, false, ◌+◌, nat_le, List, [], ◌∷◌, length, Option, Some, None, slice_get}
 use Rattle.std.specs.List.{All}
 use Rattle.std.specs.Map.{keys_of}
 use Rattle.causal_context.specs.Context.{ContextValue, has}
@@ -13,19 +13,21 @@ use Rattle.prefix_digest.specs.MapOf.{IsMapOf}
 use Rattle.prefix_digest.specs.Page.{digest_at}
 use Rattle.sync_model.specs.Differ.{Held}
 use Rattle.replica_core.specs.Reading.{Lists}
+use Rattle.replica_model.specs.Crashing.{Occurrence, Saves, Crashes}
 use Rattle.replica_model.specs.Step.{Answer}
 use Rattle.replica_model.specs.Step as step
 use Rattle.replica_model.specs.World.{World, Event, is_node, nothing, Happens, RefusesEvent, Runs}
 use Rattle.replica_model.specs.World as world
-use Rattle.trace_words.specs.Command.{CommandValue, Node, Put, Get, Flush, Deliver, Sync, Retry, Abandon, Remove, RemoveField, Clear, Fields, Show, Size, Context, Pin, Digest, Look}
+use Rattle.replica_world.specs.Held.{occurrence}
+use Rattle.trace_words.specs.Command.{CommandValue, Node, Put, Get, Flush, Deliver, Sync, Retry, Abandon, Remove, RemoveField, Clear, Fields, Show, Size, Context, Pin, Digest, Save, Crash, Look}
 use Rattle.trace_words.specs.Text.{values_text, fields_text, map_text, size_text, context_text, digest_text, pin_text}
 use Rattle.trace_world.specs.Told.{happened_text}
 
--- a command is refused and changes nothing; or is done: its text, and the event that it was, if it was one; or pins what a replica holds:
--- its text, and whose it is
+-- a command is refused and changes nothing; or is done: its text, and what occurred, if something did; or pins what a replica holds: its text, and
+-- whose it is
 pub data CommandOutcome : Type 0 where
   Refused : Refusal → CommandOutcome
-  Done : List ℕ → List Event → CommandOutcome
+  Done : List ℕ → List Occurrence → CommandOutcome
   Pinned : List ℕ → ℕ → CommandOutcome
 
 -- a pin: whose it is, and the events before it
@@ -78,11 +80,15 @@ abbrev pub pin_at : List PinValue → ℕ → Option PinValue
 pin_at pins zero = None
 pin_at pins (suc n) = slice_get pins n
 
+-- an event occurs that led from the first world to the second: its replica is saved with it, before its messages go out, or it is not
+abbrev pub occurs : Event → Answer → World → World → Occurrence
+occurs e answer w v = occurrence e answer (not (length w.messages + 1 == length v.messages + 1))
+
 module _ (hash_of : List ℕ → ℕ) where
   -- an event happens, or is refused
   abbrev pub IsEvent : World → Event → CommandOutcome → Type 0
   IsEvent w e outcome =
-      ((answer : Answer) × (v : World) × Happens hash_of w e answer v × (outcome ≡ Done (happened_text e answer w v) (e ∷ [])))
+      ((answer : Answer) × (v : World) × Happens hash_of w e answer v × (outcome ≡ Done (happened_text e answer w v) (occurs e answer w v ∷ [])))
       ⊎ ((refusal : Refusal) × RefusesEvent w e refusal × (outcome ≡ Refused refusal))
 
   -- a call of a replica
@@ -115,6 +121,8 @@ module _ (hash_of : List ℕ → ℕ) where
   Comes w pins (Size name) outcome = at_replica w name (ReadsSize (w.replica name).live) outcome
   Comes w pins (Context name) outcome = at_replica w name (ReadsContext (w.replica name).live) outcome
   Comes w pins (Digest name) outcome = at_replica w name (ReadsDigest hash_of (w.replica name).live) outcome
+  Comes w pins (Save name) outcome = at_replica w name (λ o. o ≡ Done (codes "ok") (Saves name ∷ [])) outcome
+  Comes w pins (Crash name) outcome = at_replica w name (λ o. o ≡ Done (codes "ok") (Crashes name ∷ [])) outcome
   Comes w pins (Pin name) outcome = at_replica w name (λ o. o ≡ Pinned (pin_text (length pins + 1)) name) outcome
   Comes w pins (Look pin key) outcome = LooksAt (pin_at pins pin) key outcome
 

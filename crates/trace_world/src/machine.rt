@@ -15,7 +15,7 @@ use std::alloc::{Allocator, Global};
 use std::marker::Model;
 use trace_words::{Command, Reply, parse, pin_answer, reply_of};
 
-/// The machine behind the trace language: one line in, one reply out. It is seen as the events that it accepted and the
+/// The machine behind the trace language: one line in, one reply out. It is seen as the events that it holds and the
 /// pins that it made.
 #[derive(Drop)]
 pub struct Machine<A: Allocator + Copy = Global> {
@@ -30,9 +30,9 @@ impl<A: Allocator + Copy> Model for Machine<A> {
 
     ghost Value = { Past };
 
-    ghost view = { λ m. record { events = m.teller; pins = pins_of m.teller m.pins.items } };
+    ghost view = { λ m. record { held = m.teller; pins = pins_of m.pins.items } };
 
-    ghost invariant = { λ m. AllPinned m.teller m.pins.items };
+    ghost invariant = { λ m. AllPinned m.pins.items };
 }
 
 impl<A: Allocator + Copy> Machine<A> {
@@ -68,8 +68,8 @@ impl<A: Allocator + Copy> Machine<A> {
     fn attempt(&mut self, line: &[u8]) -> Result<Vec<u8, A>, Refusal>
         ensures { Brings (LineComes self.old (command_of line.now)) self.old self.new result }
     {
-        // That the events so far lead to a world, in constant time.
-        let _ = self.teller.age();
+        // proof: that the events so far lead to a world.
+        let _ = self.teller.moment();
         match parse(self.alloc, line)? {
             Some(command) => self.obey(command),
             None => Err(Refusal::BadLine),
@@ -78,7 +78,7 @@ impl<A: Allocator + Copy> Machine<A> {
 
     /// Does what the command asks: the text that it is answered, or the refusal that it meets.
     fn obey(&mut self, command: Command<A>) -> Result<Vec<u8, A>, Refusal>
-        ensures { Brings (In self.old.events (λ w. Comes fnv1a w self.old.pins (command_value command))) self.old self.new result }
+        ensures { Brings (In self.old.held (λ w. Comes fnv1a w self.old.pins (command_value command))) self.old self.new result }
     {
         match command {
             Command::Pin(name) => self.pin(name),
@@ -88,7 +88,7 @@ impl<A: Allocator + Copy> Machine<A> {
     }
 
     fn pin(&mut self, name: Name) -> Result<Vec<u8, A>, Refusal>
-        ensures { Brings (In self.old.events (λ w. at_replica w name (λ o. o ≡ Pinned (pin_text (length self.old.pins + 1)) name))) self.old self.new result }
+        ensures { Brings (In self.old.held (λ w. at_replica w name (λ o. o ≡ Pinned (pin_text (length self.old.pins + 1)) name))) self.old self.new result }
     {
         let store = self.teller.store(name)?;
         let text = match pin_answer(self.alloc, self.pins.len() as u64 + 1) {
@@ -98,13 +98,13 @@ impl<A: Allocator + Copy> Machine<A> {
                 return Err(refusal);
             }
         };
-        let age = self.teller.age();
-        self.pins.push(Pin { name, age, store })?;
+        let past = self.teller.moment();
+        self.pins.push(Pin { name, past, store })?;
         Ok(text.into_bytes())
     }
 
     fn look(&self, pin: u64, key: &[u8]) -> Result<Vec<u8, A>, Refusal>
-        ensures { Brings (In self.now.events (λ w. LooksAt fnv1a (pin_at self.now.pins pin) key.now)) self.now self.now result }
+        ensures { Brings (In self.now.held (λ w. LooksAt fnv1a (pin_at self.now.pins pin) key.now)) self.now self.now result }
     {
         match pin_of(&self.pins, pin) {
             Some(pin) => look_at(self.alloc, &pin.store, key),

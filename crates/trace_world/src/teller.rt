@@ -1,14 +1,16 @@
-ghost use Rattle.std.specs.Prelude.{◌≡◌, ◌⊎◌, [], length, false, true, IfOk, IfErr};
+ghost use Rattle.std.specs.Prelude.{◌≡◌, ◌⊎◌, [], ◌∷◌, codes, false, true, IfOk, IfErr};
 ghost use Rattle.delta_ops.specs.LiveMap.{store_state};
 ghost use Rattle.dots.specs.Dot.{DotValue};
 ghost use Rattle.hash_path.specs.Fnv1a.{fnv1a};
 ghost use Rattle.op_model.specs.Place.{Place, place_of};
+ghost use Rattle.replica_model.specs.Crashing.{Saves, Crashes};
 ghost use Rattle.replica_model.specs.Step as step;
 ghost use Rattle.replica_model.specs.World as model;
 ghost use Rattle.replica_model.specs.World.{is_node, nothing, Runs};
 ghost use Rattle.replica_world.specs.Happening.{call_value};
+ghost use Rattle.replica_world.specs.Held.{events_of};
 ghost use Rattle.trace_words.specs.Parsed.{command_value};
-ghost use Rattle.trace_world.specs.Outcome.{at_replica, with_bytes, is_at_world, Comes, IsEvent, IsCall, ReadsValues, ReadsFields, ReadsKeys, ReadsSize, ReadsContext, ReadsDigest};
+ghost use Rattle.trace_world.specs.Outcome.{Done, at_replica, with_bytes, is_at_world, Comes, IsEvent, IsCall, ReadsValues, ReadsFields, ReadsKeys, ReadsSize, ReadsContext, ReadsDigest};
 
 use crate::reading::{read_context, read_digest, read_fields, read_keys, read_size, read_values};
 use crate::telling::tell;
@@ -20,9 +22,10 @@ use prefix_digest::ShaSummary;
 use replica_world::{Call, Event, World};
 use std::alloc::{Allocator, Global};
 use std::marker::Model;
+use std::snapshot::Snapshot;
 use trace_words::Command;
 
-/// The replicas with the text of each command at them. It is seen as the events that it accepted.
+/// The replicas with the text of each command at them. It is seen as the events that it holds.
 #[derive(Drop)]
 pub(crate) struct Teller<A: Allocator + Copy = Global> {
     alloc: A,
@@ -31,16 +34,15 @@ pub(crate) struct Teller<A: Allocator + Copy = Global> {
 
 impl<A: Allocator + Copy> Model for Teller<A> {
     ghost use Rattle.std.specs.Prelude.{List};
-    ghost use Rattle.replica_model.specs.World.{Event};
+    ghost use Rattle.replica_world.specs.Held.{Held};
 
-    ghost Value = { List Event };
+    ghost Value = { List Held };
 
-    ghost view = { λ d. d.world.past };
+    ghost view = { λ d. d.world.held };
 }
 
 impl<A: Allocator + Copy> Teller<A> {
     ghost use Rattle.trace_world.specs.Does.{Does, In, IsThere, IsAbsent};
-    ghost use Rattle.trace_world.specs.Pins.{Grows};
 
     /// No replica yet. Takes no memory.
     pub fn new(alloc: A) -> Teller<A>
@@ -52,19 +54,20 @@ impl<A: Allocator + Copy> Teller<A> {
         }
     }
 
-    /// How many events were accepted, and that there is a world after them.
-    pub fn age(&self) -> usize
-        ensures count { result ≡ length self.now }
-        ensures runs { (w : model.World) × Runs fnv1a nothing self.now w }
+    /// What is held, for clauses alone, and that there is a world after it. Takes constant time.
+    pub fn moment(&self) -> Snapshot<Teller<A>>
+        ensures value { result.value ≡ self.now }
+        ensures runs { (w : model.World) × Runs fnv1a nothing (events_of self.now) w }
     {
-        self.world.past().len()
+        // proof: that there is a world stands in a clause of `past`.
+        let _ = self.world.past();
+        Snapshot::of(self)
     }
 
     /// Does what the command asks, which speaks of no pin: the text that it is answered, or the refusal that it meets.
     pub fn obey(&mut self, command: Command<A>) -> Result<Vec<u8, A>, Refusal>
         requires { is_at_world (command_value command) ≡ true }
         ensures does { Does (In self.old (λ w. Comes fnv1a w [] (command_value command))) self.old self.new result }
-        ensures grows { Grows self.old self.new }
     {
         match command {
             Command::Node(name) => self.node(name),
@@ -90,16 +93,18 @@ impl<A: Allocator + Copy> Teller<A> {
             Command::Size(name) => self.size(name),
             Command::Context(name) => self.context(name),
             Command::Digest(name) => self.digest(name),
+            Command::Save(name) => self.save(name),
+            Command::Crash(name) => self.crash(name),
             Command::Pin(_) | Command::Look { .. } => unreachable!(),
         }
     }
 
     /// What the replica of this name holds, which stays so. Its refusals are UnknownReplica, only where no replica has the name, and OutOfMemory.
     pub fn store(&self, name: Name) -> Result<LiveStore<ShaSummary, Fnv1a, A>, Refusal>
-        ensures ok { IfOk result (λ store. (w : model.World) → Runs fnv1a nothing self.now w → (is_node w name ≡ true)
+        ensures ok { IfOk result (λ store. (w : model.World) → Runs fnv1a nothing (events_of self.now) w → (is_node w name ≡ true)
             × ((place : Place) (dot : DotValue) → (store_state store).at place dot ≡ (w.replica name).live.at place dot)) }
         ensures refused { IfErr result (λ refusal. (refusal ≡ Refusal.OutOfMemory) ⊎
-            ((refusal ≡ Refusal.UnknownReplica) × ((w : model.World) → Runs fnv1a nothing self.now w → is_node w name ≡ false))) }
+            ((refusal ≡ Refusal.UnknownReplica) × ((w : model.World) → Runs fnv1a nothing (events_of self.now) w → is_node w name ≡ false))) }
     {
         match self.world.replica(name) {
             Some(replica) => replica.share(),
@@ -130,7 +135,6 @@ impl<A: Allocator + Copy> Teller<A> {
 
     fn node(&mut self, name: Name) -> Result<Vec<u8, A>, Refusal>
         ensures does { Does (In self.old (λ w. IsEvent fnv1a w (model.Node name))) self.old self.new result }
-        ensures grows { Grows self.old self.new }
     {
         if let Err(refusal) = self.world.event(Event::Node(name)) {
             return Err(refusal);
@@ -138,9 +142,26 @@ impl<A: Allocator + Copy> Teller<A> {
         Ok(Vec::from_slice(self.alloc, b"ok")?)
     }
 
+    fn save(&mut self, name: Name) -> Result<Vec<u8, A>, Refusal>
+        ensures { Does (In self.old (λ w. at_replica w name (λ o. o ≡ Done (codes "ok") (Saves name ∷ [])))) self.old self.new result }
+    {
+        if let Err(refusal) = self.world.save(name) {
+            return Err(refusal);
+        }
+        Ok(Vec::from_slice(self.alloc, b"ok")?)
+    }
+
+    fn crash(&mut self, name: Name) -> Result<Vec<u8, A>, Refusal>
+        ensures { Does (In self.old (λ w. at_replica w name (λ o. o ≡ Done (codes "ok") (Crashes name ∷ [])))) self.old self.new result }
+    {
+        if let Err(refusal) = self.world.crash(name) {
+            return Err(refusal);
+        }
+        Ok(Vec::from_slice(self.alloc, b"ok")?)
+    }
+
     fn call(&mut self, name: Name, call: Call<A>) -> Result<Vec<u8, A>, Refusal>
         ensures does { Does (In self.old (λ w. IsCall fnv1a w name (call_value call))) self.old self.new result }
-        ensures grows { Grows self.old self.new }
     {
         let told = match self.world.event(Event::Call(name, call)) {
             Ok(told) => told,
@@ -157,7 +178,6 @@ impl<A: Allocator + Copy> Teller<A> {
 
     fn deliver(&mut self, message: u64, name: Name) -> Result<Vec<u8, A>, Refusal>
         ensures does { Does (In self.old (λ w. IsEvent fnv1a w (model.Deliver message name))) self.old self.new result }
-        ensures grows { Grows self.old self.new }
     {
         let told = match self.world.event(Event::Deliver(message, name)) {
             Ok(told) => told,
@@ -181,7 +201,6 @@ impl<A: Allocator + Copy> Teller<A> {
     ) -> Result<Vec<u8, A>, Refusal>
         ensures does { Does (In self.old (λ w. at_replica w name (with_bytes key.now (with_bytes field.now (with_bytes value.now
             (IsCall fnv1a w name (step.Put (place_of key.now field.now) value.now))))))) self.old self.new result }
-        ensures grows { Grows self.old self.new }
     {
         match put_of(self.alloc, key, field, value) {
             Ok(call) => self.call(name, call),
@@ -191,7 +210,6 @@ impl<A: Allocator + Copy> Teller<A> {
 
     fn remove(&mut self, name: Name, key: &[u8]) -> Result<Vec<u8, A>, Refusal>
         ensures does { Does (In self.old (λ w. at_replica w name (with_bytes key.now (IsCall fnv1a w name (step.Remove key.now))))) self.old self.new result }
-        ensures grows { Grows self.old self.new }
     {
         if !self.has_replica(name) {
             return Err(Refusal::UnknownReplica);
@@ -203,7 +221,6 @@ impl<A: Allocator + Copy> Teller<A> {
     fn remove_field(&mut self, name: Name, key: &[u8], field: &[u8]) -> Result<Vec<u8, A>, Refusal>
         ensures does { Does (In self.old (λ w. at_replica w name (with_bytes key.now (with_bytes field.now
             (IsCall fnv1a w name (step.RemoveField (place_of key.now field.now))))))) self.old self.new result }
-        ensures grows { Grows self.old self.new }
     {
         if !self.has_replica(name) {
             return Err(Refusal::UnknownReplica);

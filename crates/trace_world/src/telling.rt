@@ -7,6 +7,7 @@ ghost use Rattle.replica_model.specs.World as model;
 ghost use Rattle.replica_model.specs.World.{message_at, nothing, Runs};
 ghost use Rattle.replica_core.specs.Answered as answered;
 ghost use Rattle.replica_world.specs.Happening.{answer_value};
+ghost use Rattle.replica_world.specs.Keeping.{past_of};
 ghost use Rattle.trace_world.specs.Told.{kind_of, told_text, closed_text, outcome_text, flush_text, sent_text, messages_text, found_text, kind_found};
 
 use dots::Refusal;
@@ -25,7 +26,7 @@ pub(crate) fn tell<A: Allocator + Copy>(
     first: u64,
     end: u64,
 ) -> Result<Vec<u8, A>, Refusal>
-    ensures ok { IfOk result (λ text. (v : model.World) → Runs fnv1a nothing world.now.past v → 1 ≤ first → end ≡ length v.messages + 1
+    ensures ok { IfOk result (λ text. (v : model.World) → Runs fnv1a nothing (past_of world.now) v → 1 ≤ first → end ≡ length v.messages + 1
         → text.items ≡ told_text (answer_value answer) first (drop (first - 1) v.messages)) }
     ensures err { IsOkUnless result Refusal.OutOfMemory }
 {
@@ -65,7 +66,7 @@ fn flushed<A: Allocator + Copy>(
     first: u64,
     end: u64,
 ) -> Result<Vec<u8, A>, Refusal>
-    ensures ok { IfOk result (λ text. (v : model.World) → Runs fnv1a nothing world.now.past v → 1 ≤ first → end ≡ length v.messages + 1
+    ensures ok { IfOk result (λ text. (v : model.World) → Runs fnv1a nothing (past_of world.now) v → 1 ≤ first → end ≡ length v.messages + 1
         → text.items ≡ flush_text first (drop (first - 1) v.messages)) }
     ensures err { IsOkUnless result Refusal.OutOfMemory }
 {
@@ -83,7 +84,7 @@ fn came<A: Allocator + Copy>(
     first: u64,
     end: u64,
 ) -> Result<Vec<u8, A>, Refusal>
-    ensures ok { IfOk result (λ text. (v : model.World) → Runs fnv1a nothing world.now.past v → 1 ≤ first → end ≡ length v.messages + 1
+    ensures ok { IfOk result (λ text. (v : model.World) → Runs fnv1a nothing (past_of world.now) v → 1 ≤ first → end ≡ length v.messages + 1
         → text.items ≡ outcome_text (answered.outcome_of outcome) first (drop (first - 1) v.messages)) }
     ensures err { IsOkUnless result Refusal.OutOfMemory }
 {
@@ -104,7 +105,7 @@ fn sent<A: Allocator + Copy>(
     first: u64,
     end: u64,
 ) -> Result<Vec<u8, A>, Refusal>
-    ensures ok { IfOk result (λ text. (v : model.World) → Runs fnv1a nothing world.now.past v → 1 ≤ first → end ≡ length v.messages + 1
+    ensures ok { IfOk result (λ text. (v : model.World) → Runs fnv1a nothing (past_of world.now) v → 1 ≤ first → end ≡ length v.messages + 1
         → text.items ≡ sent_text first (drop (first - 1) v.messages)) }
     ensures err { IsOkUnless result Refusal.OutOfMemory }
 {
@@ -120,7 +121,7 @@ fn with_messages<A: Allocator + Copy>(
     first: u64,
     end: u64,
 ) -> Result<Vec<u8, A>, Refusal>
-    ensures ok { IfOk result (λ whole. (v : model.World) → Runs fnv1a nothing world.now.past v → 1 ≤ first → end ≡ length v.messages + 1
+    ensures ok { IfOk result (λ whole. (v : model.World) → Runs fnv1a nothing (past_of world.now) v → 1 ≤ first → end ≡ length v.messages + 1
         → whole.items ≡ text.items ++ messages_text first (drop (first - 1) v.messages)) }
     ensures err { IsOkUnless result Refusal.OutOfMemory }
 {
@@ -137,7 +138,7 @@ fn push_sent<A: Allocator + Copy>(
     out: &mut Vec<u8, A>,
     number: u64,
 ) -> Result<(), Refusal>
-    ensures ok { OnOk result ((v : model.World) → Runs fnv1a nothing world.now.past v
+    ensures ok { OnOk result ((v : model.World) → Runs fnv1a nothing (past_of world.now) v
         → out.new.items ≡ out.old.items ++ found_text number (message_at v.messages number)) }
     ensures err { IsOkUnless result Refusal.OutOfMemory }
 {
@@ -152,7 +153,7 @@ fn kind_at<A: Allocator + Copy>(
     world: &World<Fnv1a, A>,
     number: u64,
 ) -> Result<Option<Kind>, Refusal>
-    ensures ok { IfOk result (λ found. (v : model.World) → Runs fnv1a nothing world.now.past v → found ≡ kind_found (message_at v.messages number)) }
+    ensures ok { IfOk result (λ found. (v : model.World) → Runs fnv1a nothing (past_of world.now) v → found ≡ kind_found (message_at v.messages number)) }
     ensures err { IsOkUnless result Refusal.OutOfMemory }
 {
     match world.read(number)? {

@@ -46,6 +46,54 @@ joined
 = 2
 ";
 
+const CRASH: &str = "node 1
+node 2
+put 1 a x
+flush 1
+put 1 b y
+crash 1
+show 1
+put 1 c z
+flush 1
+deliver 1 2
+deliver 2 2
+show 2
+context 2
+sync 1 2
+crash 1
+retry 1 1
+sync 1 2
+put 1 d v
+save 1
+put 1 e v
+crash 1
+show 1
+";
+
+const CRASH_TEXT: &str = "ok
+ok
+ok 1:1
+sent 1:delta
+ok 1:2
+ok
+map 1 a 1 x
+ok 1:2
+sent 2:delta
+joined
+joined
+map 2 a 1 x c 1 z
+context 1:2
+session 1 sent 3:hello
+ok
+ignored
+session 2 sent 4:hello
+ok 1:3
+ok
+ok 1:4
+ok
+map 3 a 1 x c 1 z d 1 v
+";
+
 const DEPOTS: &str = "node 1
 node 2
 digest 1
@@ -375,6 +423,7 @@ empty
 // The name of a trace, the trace, and its text.
 const TRACES: &[(&str, &str, &str)] = &[
     ("basket", BASKET, BASKET_TEXT),
+    ("crash", CRASH, CRASH_TEXT),
     ("depots", DEPOTS, DEPOTS_TEXT),
     ("outage", OUTAGE, OUTAGE_TEXT),
     ("registry", REGISTRY, REGISTRY_TEXT),

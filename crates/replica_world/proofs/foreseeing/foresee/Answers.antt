@@ -8,3 +8,6 @@ returns-in-Call g c hash = rw c.in-Call.is (c.foresee_call.ensures hash c.args.p
 
 pub returns-in-Deliver : goal.returns-in-Deliver
 returns-in-Deliver g c hash = rw c.in-Deliver.is (c.foresee_delivery.ensures hash)
+
+pub returns-in-Restart : goal.returns-in-Restart
+returns-in-Restart g c hash = rw c.in-Restart.is (c.foresee_restart.ensures hash c.args.posted.now)

@@ -1,4 +1,8 @@
 use Rattle.std.proofs.lemmas.Result.{on_err_weaker}
+use Rattle.std.proofs.Common.{refl}
+use Rattle.replica_world.specs.Happening.{answer_value}
+use Rattle.replica_world.proofs.Recovered.{restart_made, restart_refused}
+use Rattle.replica_world.proofs.Refusing.{left}
 use Rattle.replica_world.proofs.Results.{if_ok_weaker, if_err_weaker}
 use Rattle.replica_world.proofs.happening.happen.Goals as goal
 
@@ -22,3 +26,21 @@ returns-in-Deliver-clause-refused g c = rw c.in-Deliver.is (if_err_weaker c.deli
 
 pub returns-in-Deliver-clause-unchanged : goal.returns-in-Deliver-clause-unchanged
 returns-in-Deliver-clause-unchanged g c = on_err_weaker c.deliver_at.result (λ leaves. leaves c.args.hash) c.deliver_at.ensures.unchanged
+
+pub returns-in-Restart-clause-ok : goal.returns-in-Restart-clause-ok
+returns-in-Restart-clause-ok g c =
+    rw c.in-Restart.is
+    (if_ok_weaker c.restart_at.result
+    (λ answer told. rw told.0 (restart_made c.args.hash c.args.replicas.now c.restart_at.new.replicas c.args.posted.now c.in-Restart.name g.H.PathHash.hash_of told.1))
+    c.restart_at.ensures.ok)
+
+pub returns-in-Restart-clause-refused : goal.returns-in-Restart-clause-refused
+returns-in-Restart-clause-refused g c =
+    rw c.in-Restart.is
+    (if_err_weaker c.restart_at.result
+    (λ refusal told. restart_refused c.args.hash c.args.replicas.now c.restart_at.new.replicas c.args.posted.now c.in-Restart.name refusal told) c.restart_at.ensures.refused)
+
+pub returns-in-Restart-clause-unchanged : goal.returns-in-Restart-clause-unchanged
+returns-in-Restart-clause-unchanged g c =
+    on_err_weaker c.restart_at.result
+    (λ stays. left c.args.hash c.args.replicas.now c.restart_at.new.replicas c.args.posted.now c.args.posted.now c.in-Restart.name stays refl) c.restart_at.ensures.unchanged

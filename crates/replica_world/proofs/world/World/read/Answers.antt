@@ -9,7 +9,7 @@ returns-in-Ok-clause-some g c = λ w runs.
 pub returns-in-Err-clause-refused : goal.returns-in-Err-clause-refused
 returns-in-Err-clause-refused g c =
     let shown = rw (← c.self.view_is) at c.in-Some.ensures.some in
-    let m = shown c.self.invariant.world c.self.invariant.runs in
+    let m = shown c.self.invariant.0.world c.self.invariant.0.runs in
     c.in-Err.ensures m.0.mail m.2
 
 pub returns-in-Ok-clause-carries : goal.returns-in-Ok-clause-carries

@@ -1,0 +1,381 @@
+-- What is kept of replicas for when they crash, as more occurs.
+use Rattle.std.proofs.Common.{◌≡◌, ◌≢◌, ◌⊎◌, inl, inr, ◌≤◌, ℕ, ◌+◌, ◌==◌, ◌||◌, nat_lt, Bool, true, false, cond, List, [], ◌∷◌, ◌++◌, map, Option, Some, None, refl, sym, ap, ◌∙◌, subst, arith}
+use Rattle.std.proofs.lemmas.Bool.Decides.{nat_tests}
+use Rattle.std.proofs.lemmas.List.{map-append}
+use Rattle.std.proofs.lemmas.Option.{same_Some}
+use Rattle.std.specs.Prelude.{not, filter, ◌&&◌}
+use Rattle.std.specs.List.{fold}
+use Rattle.op_model.specs.World.{is_among}
+use Rattle.replica_model.specs.Crashing.{Occurrence, Saving, Passing, Saves, Crashes, System, Does, Occurs, Goes, Shows, put, started, survivors}
+use Rattle.replica_model.specs.Crashing as crashing
+use Rattle.replica_model.specs.Delivery.{Sent}
+use Rattle.replica_model.specs.Laws.{replica_of}
+use Rattle.replica_model.specs.Replica.{Replica, restarts}
+use Rattle.replica_model.specs.Step.{Restart, Answer, Came}
+use Rattle.replica_model.specs.World.{World, Message, Event, Node, At, Deliver, is_node, nothing, Runs}
+use Rattle.replica_model.proofs.Crashing.{take_back}
+use Rattle.replica_model.proofs.Deciding.{worlds_one}
+use Rattle.replica_world.specs.Held.{Held, events_of, is_act, save_at, is_left, after, held_after, goes_further, is_saved_with, occurrence, held_by, held_in, saves_at, AreBefore, IsKept}
+use Rattle.replica_world.proofs.Held.{held_survives}
+use Rattle.replica_world.proofs.Systems.{Did}
+
+clash : true ≡ false → ⊥
+clash e = absurd cc
+
+none_some : {X : Type 0} (x : X) → None ≡ Some x → ⊥
+none_some x e = absurd cc
+
+-- ---- one more occurs
+
+goes_more : (hash_of : List ℕ → ℕ) (s : System) (xs : List Occurrence) (u : System) (x : Occurrence) (t : System) → Goes hash_of s xs u → Occurs hash_of u x t → Goes hash_of s (xs ++ x ∷ []) t
+goes_more hash_of s [] u x t is occurs = (t, subst (λ r. Occurs hash_of r x t) is occurs, refl)
+goes_more hash_of s (y ∷ xs) u x t (r, first, rest) occurs = (r, first, goes_more hash_of r xs u x t rest occurs)
+
+held_more : (hs : List Held) (xs : List Occurrence) (x : Occurrence) → fold after hs (xs ++ x ∷ []) ≡ after (fold after hs xs) x
+held_more hs [] x = refl
+held_more hs (y ∷ xs) x = held_more (after hs y) xs x
+
+-- an event comes behind those that are held
+pub saving_keeps : (name : ℕ) (hs : List Held) → events_of (map (save_at name) hs) ≡ events_of hs
+saving_keeps name [] = refl
+saving_keeps name (h ∷ hs) = ap (λ es. h.event ∷ es) (saving_keeps name hs)
+
+pub events_after : (hs : List Held) (e : Event) (answer : Answer) (sends : Bool) → events_of (after hs (occurrence e answer sends)) ≡ events_of hs ++ e ∷ []
+events_after hs e answer sends = by (is_saved_with e answer sends)
+  where
+    by : (b : Bool) → events_of (after hs (cond b (Saving e) (Passing e))) ≡ events_of hs ++ e ∷ []
+    by true = map-append (λ (h : Held). h.event) (map (save_at (replica_of e)) hs) (record { event = e; is_saved = true } ∷ []) ∙ ap (λ es. es ++ e ∷ []) (saving_keeps (replica_of e) hs)
+    by false = map-append (λ (h : Held). h.event) hs (record { event = e; is_saved = false } ∷ [])
+
+-- ---- what is held, by how often replicas were saved
+
+pub events_held : (saves : ℕ → ℕ) (rows : List (Event × ℕ)) → events_of (held_in saves rows) ≡ map (λ a. a.0) rows
+events_held saves [] = refl
+events_held saves (a ∷ rest) = ap (λ es. a.0 ∷ es) (events_held saves rest)
+
+pub held_same : (saves now : ℕ → ℕ) → ((n : ℕ) → now n ≡ saves n) → (rows : List (Event × ℕ)) → held_in now rows ≡ held_in saves rows
+held_same saves now same [] = refl
+held_same saves now same (a ∷ rest) = λ i. record { event = a.0; is_saved = nat_lt a.1 (same (replica_of a.0) i) } ∷ held_same saves now same rest i
+
+before_same : (saves now : ℕ → ℕ) → ((n : ℕ) → saves n ≤ now n) → (rows : List (Event × ℕ)) → AreBefore saves rows → AreBefore now rows
+before_same saves now more [] before = tt
+before_same saves now more (a ∷ rest) (first, before) = (omega (arith, first, more (replica_of a.0)), before_same saves now more rest before)
+
+before_on : (saves : ℕ → ℕ) (rows : List (Event × ℕ)) (a : Event × ℕ) → AreBefore saves rows → saves_at a.0 a.1 ≤ saves (replica_of a.0) → AreBefore saves (rows ++ a ∷ [])
+before_on saves [] a before last = (last, tt)
+before_on saves (b ∷ rest) a (first, before) last = (first, before_on saves rest a before last)
+
+before_filter : (saves : ℕ → ℕ) (p : Event × ℕ → Bool) (rows : List (Event × ℕ)) → AreBefore saves rows → AreBefore saves (filter p rows)
+before_filter saves p [] before = tt
+before_filter saves p (a ∷ rest) (first, before) = by (p a) (before_filter saves p rest before)
+  where
+    by : (b : Bool) → AreBefore saves (filter p rest) → AreBefore saves (cond b (a ∷ filter p rest) (filter p rest))
+    by true all = (first, all)
+    by false all = all
+
+plain : (e : Event) (k : ℕ) → k ≤ saves_at e k
+plain (Node name) k = omega arith
+plain (At name c) k = omega arith
+plain (Deliver number name) k = omega arith
+
+next : (e : Event) (k : ℕ) → saves_at e k ≤ k + 1
+next (Node name) k = omega arith
+next (At name c) k = omega arith
+next (Deliver number name) k = omega arith
+
+or_true : (b : Bool) → (b || true) ≡ true
+or_true true = refl
+or_true false = refl
+
+or_false : (b : Bool) → (b || false) ≡ b
+or_false true = refl
+or_false false = refl
+
+less_next : (k n : ℕ) → k ≤ n → nat_lt k (n + 1) ≡ true
+less_next k n is = grind (arith, nat_tests)
+
+-- whether it stays where the replica of this name crashes, which was saved so often
+abbrev pub stays : (ℕ → ℕ) → ℕ → Event × ℕ → Bool
+stays saves name a = not (is_act name a.0 && not (nat_lt a.1 (saves name)))
+
+-- where a replica was saved once more
+module _ (saves now : ℕ → ℕ) (name : ℕ) (once : (n : ℕ) → now n ≡ cond (n == name) (saves n + 1) (saves n)) where
+  more : (n : ℕ) → saves n ≤ now n
+  more n = by (n == name) (once n)
+    where
+      by : (b : Bool) → now n ≡ cond b (saves n + 1) (saves n) → saves n ≤ now n
+      by true is = omega (arith, is)
+      by false is = omega (arith, is)
+
+  here : now name ≡ saves name + 1
+  here = let itself : (name == name) ≡ true = grind (arith, nat_tests) in once name ∙ ap (λ b. cond b (saves name + 1) (saves name)) itself
+
+  flag : (m k : ℕ) → k ≤ saves m → (b : Bool) → (m == name) ≡ b → nat_lt k (now m) ≡ (nat_lt k (saves m) || b)
+  flag m k less true is = ap (nat_lt k) (once m ∙ ap (λ b. cond b (saves m + 1) (saves m)) is) ∙ less_next k (saves m) less ∙ sym (or_true (nat_lt k (saves m)))
+  flag m k less false is = ap (nat_lt k) (once m ∙ ap (λ b. cond b (saves m + 1) (saves m)) is) ∙ sym (or_false (nat_lt k (saves m)))
+
+  pub held_saved : (rows : List (Event × ℕ)) → AreBefore saves rows → held_in now rows ≡ map (save_at name) (held_in saves rows)
+  held_saved [] before = refl
+  held_saved (a ∷ rest) (first, before) =
+      let least = plain a.0 a.1 in
+      let less : a.1 ≤ saves (replica_of a.0) = omega (arith, first, least) in
+      λ i. record { event = a.0; is_saved = flag (replica_of a.0) a.1 less (replica_of a.0 == name) refl i } ∷ held_saved rest before i
+
+  -- ---- and what it did before is lost
+  left_bool : (s b : Bool) → not (b && not s) ≡ (s || not b)
+  left_bool true true = refl
+  left_bool true false = refl
+  left_bool false true = refl
+  left_bool false false = refl
+
+  act_of : (e : Event) → is_act name e ≡ true → replica_of e ≡ name
+  act_of (Node n) is = absurd (clash (sym is))
+  act_of (At n c) is = grind (arith, nat_tests)
+  act_of (Deliver number n) is = grind (arith, nat_tests)
+
+  is_left_by : (a : Event × ℕ) (b : Bool) → is_act name a.0 ≡ b → stays saves name a ≡ is_left name (held_by saves a)
+  is_left_by a true is = left_bool (nat_lt a.1 (saves name)) (is_act name a.0) ∙ ap (λ m. nat_lt a.1 (saves m) || not (is_act name a.0)) (sym (act_of a.0 is))
+  is_left_by a false is =
+      ap (λ b. not (b && not (nat_lt a.1 (saves name)))) is ∙ sym (or_true (nat_lt a.1 (saves (replica_of a.0)))) ∙ ap (λ b. nat_lt a.1 (saves (replica_of a.0)) || not b) (sym is)
+
+  -- one that stays is told to be saved as before
+  one_stays : (e : Event) (k : ℕ) → saves_at e k ≤ saves (replica_of e) → stays saves name (e, k) ≡ true → (b : Bool) → (replica_of e == name) ≡ b → nat_lt k (now (replica_of e)) ≡ nat_lt k (saves (replica_of e))
+  one_stays e k before left false is = flag (replica_of e) k (let least = plain e k in omega (arith, before, least)) false is ∙ or_false (nat_lt k (saves (replica_of e)))
+  one_stays (Node n) k before left true is =
+      let less : nat_lt k (saves n) ≡ true = grind (arith, nat_tests) in
+      let least : k ≤ saves n = omega (arith, before) in
+      flag n k least true is ∙ or_true (nat_lt k (saves n)) ∙ sym less
+  one_stays (At n c) k before left true is =
+      let named : n ≡ name = grind (arith, nat_tests) in
+      let told : (not (true && not (nat_lt k (saves name)))) ≡ true = ap (λ b. not (b && not (nat_lt k (saves name)))) (sym is) ∙ left in
+      flag n k before true is ∙ or_true (nat_lt k (saves n)) ∙ sym (ap (λ m. nat_lt k (saves m)) named ∙ not_not (nat_lt k (saves name)) told)
+    where
+      not_not : (b : Bool) → not (true && not b) ≡ true → b ≡ true
+      not_not true e = refl
+      not_not false e = e
+  one_stays (Deliver number n) k before left true is =
+      let named : n ≡ name = grind (arith, nat_tests) in
+      let told : (not (true && not (nat_lt k (saves name)))) ≡ true = ap (λ b. not (b && not (nat_lt k (saves name)))) (sym is) ∙ left in
+      flag n k before true is ∙ or_true (nat_lt k (saves n)) ∙ sym (ap (λ m. nat_lt k (saves m)) named ∙ not_not (nat_lt k (saves name)) told)
+    where
+      not_not : (b : Bool) → not (true && not b) ≡ true → b ≡ true
+      not_not true e = refl
+      not_not false e = e
+
+  pub held_left : (rows : List (Event × ℕ)) → AreBefore saves rows → held_in now (filter (stays saves name) rows) ≡ filter (is_left name) (held_in saves rows)
+  held_left [] before = refl
+  held_left (a ∷ rest) (first, before) =
+      by (stays saves name a) refl (held_left rest before) ∙ ap (λ b. cond b (held_by saves a ∷ filter (is_left name) (held_in saves rest)) (filter (is_left name) (held_in saves rest))) (is_left_by a (is_act name a.0) refl)
+    where
+      by : (b : Bool) → stays saves name a ≡ b → held_in now (filter (stays saves name) rest) ≡ filter (is_left name) (held_in saves rest)
+          → held_in now (cond b (a ∷ filter (stays saves name) rest) (filter (stays saves name) rest)) ≡ cond b (held_by saves a ∷ filter (is_left name) (held_in saves rest)) (filter (is_left name) (held_in saves rest))
+      by true is same = λ i. record { event = a.0; is_saved = one_stays a.0 a.1 first is (replica_of a.0 == name) refl i } ∷ same i
+      by false is same = same
+
+-- ---- what is kept
+
+module _ (hash_of : List ℕ → ℕ) where
+  -- before anything happened
+  pub kept_begins : (back : ℕ → Option Replica) → ((n : ℕ) → back n ≡ None) → (saves : ℕ → ℕ) → IsKept hash_of saves back []
+  kept_begins back none saves = record {
+    occurred = [];
+    system = started;
+    goes = refl;
+    holds = refl;
+    saved = λ n r is. absurd (none_some r (sym (none n) ∙ is));
+    clean = λ n is. refl;
+    before = tt;
+  }
+
+  module _ (saves : ℕ → ℕ) (back : ℕ → Option Replica) (accepted : List (Event × ℕ)) (is : IsKept hash_of saves back accepted) where
+    s : System
+    s = is.system
+
+    -- the world shows the system
+    pub shown : (w : World) → Runs hash_of nothing (map (λ a. a.0) accepted) w → Shows w is.system
+    shown w runs =
+        let after_all = take_back hash_of is.occurred is.system is.goes in
+        let events : survivors is.occurred ≡ map (λ a. a.0) accepted = sym (held_survives is.occurred) ∙ ap events_of (sym is.holds) ∙ events_held saves accepted in
+        subst (λ u. Shows u is.system) (worlds_one hash_of (map (λ a. a.0) accepted) after_all.0 w (subst (λ es. Runs hash_of nothing es after_all.0) events after_all.1) runs) after_all.2
+
+    -- it is kept now what some are to come back from
+    pub noted : (now : ℕ → ℕ) (later : ℕ → Option Replica) (w : World) → Shows w is.system → ((n : ℕ) → now n ≡ saves n)
+        → ((n : ℕ) → (later n ≡ back n) ⊎ ((back n ≡ None) × (later n ≡ Some (restarts (w.replica n))))) → IsKept hash_of now later accepted
+    noted now later w shows same notes = record {
+      occurred = is.occurred;
+      system = is.system;
+      goes = is.goes;
+      holds = held_same saves now same accepted ∙ is.holds;
+      saved = λ n r found. saved_by n r found (notes n);
+      clean = λ n none. clean_by n none (notes n);
+      before = before_same saves now (λ n. let e = same n in omega (arith, e)) accepted is.before;
+    }
+      where
+        saved_by : (n : ℕ) (r : Replica) → later n ≡ Some r → (later n ≡ back n) ⊎ ((back n ≡ None) × (later n ≡ Some (restarts (w.replica n)))) → r ≡ restarts (is.system.saved n)
+        saved_by n r found (inl stayed) = is.saved n r (sym stayed ∙ found)
+        saved_by n r found (inr (none, some)) = same_Some _ _ (sym found ∙ some) ∙ ap restarts (shows.replica n ∙ sym (is.clean n none))
+
+        clean_by : (n : ℕ) → later n ≡ None → (later n ≡ back n) ⊎ ((back n ≡ None) × (later n ≡ Some (restarts (w.replica n)))) → is.system.saved n ≡ is.system.replica n
+        clean_by n none (inl stayed) = is.clean n (sym stayed ∙ none)
+        clean_by n none (inr (before, some)) = absurd (none_some _ (sym none ∙ some))
+
+    -- a replica is saved, or comes back; and its system is this
+    module _ (now : ℕ → ℕ) (later : ℕ → Option Replica) (name : ℕ) (once : (n : ℕ) → (now n ≡ cond (n == name) (saves n + 1) (saves n)) × (later n ≡ cond (n == name) None (back n))) where
+      by_saves : (n : ℕ) → now n ≡ cond (n == name) (saves n + 1) (saves n)
+      by_saves n = (once n).0
+
+      saved_now : (t : System) (new : Replica) → ((n : ℕ) → t.saved n ≡ cond (n == name) new (is.system.saved n)) → (n : ℕ) (r : Replica) → later n ≡ Some r → r ≡ restarts (t.saved n)
+      saved_now t new saved n r found = by (n == name) ((once n).1) (saved n)
+        where
+          by : (b : Bool) → later n ≡ cond b None (back n) → t.saved n ≡ cond b new (is.system.saved n) → r ≡ restarts (t.saved n)
+          by true none at = absurd (none_some r (sym none ∙ found))
+          by false stayed at = is.saved n r (sym stayed ∙ found) ∙ ap restarts (sym at)
+
+      clean_now : (t : System) (new : Replica) → ((n : ℕ) → t.saved n ≡ cond (n == name) new (is.system.saved n)) → ((n : ℕ) → t.replica n ≡ cond (n == name) new (is.system.replica n))
+          → (n : ℕ) → later n ≡ None → t.saved n ≡ t.replica n
+      clean_now t new saved replica n none = by (n == name) ((once n).1) (saved n) (replica n)
+        where
+          by : (b : Bool) → later n ≡ cond b None (back n) → t.saved n ≡ cond b new (is.system.saved n) → t.replica n ≡ cond b new (is.system.replica n) → t.saved n ≡ t.replica n
+          by true gone at there = at ∙ sym there
+          by false stayed at there = at ∙ is.clean n (sym stayed ∙ none) ∙ sym there
+
+      -- with an event
+      pub held_saving : (e : Event) → replica_of e ≡ name → held_in now (accepted ++ (e, saves name) ∷ []) ≡ after (held_in saves accepted) (Saving e)
+      held_saving e named =
+          map-append (held_by now) accepted ((e, saves name) ∷ [])
+          ∙ (λ i. held_saved saves now name by_saves accepted is.before i ++ record { event = e; is_saved = last_flag i } ∷ [])
+          ∙ ap (λ n. map (save_at n) (held_in saves accepted) ++ record { event = e; is_saved = true } ∷ []) (sym named)
+        where
+          last_flag : nat_lt (saves name) (now (replica_of e)) ≡ true
+          last_flag = ap (λ m. nat_lt (saves name) (now m)) named ∙ ap (nat_lt (saves name)) (here saves now name by_saves) ∙ less_next (saves name) (saves name) (omega arith)
+
+      pub kept_saving : (e : Event) (answer : Answer) (v : World) → replica_of e ≡ name → Did hash_of is.system e answer v → IsKept hash_of now later (accepted ++ (e, saves name) ∷ [])
+      kept_saving e answer v named did =
+          let t : System = record (crashing.goes hash_of is.system e did.new did.out) { saved = put is.system.saved (replica_of e) did.new } in
+          let last : saves_at e (saves name) ≤ now (replica_of e) = let bound = next e (saves name) in let least = here saves now name by_saves in let at = ap now named in omega (arith, bound, least, at) in
+          record {
+            occurred = is.occurred ++ Saving e ∷ [];
+            system = t;
+            goes = goes_more hash_of started is.occurred is.system (Saving e) t is.goes (did.new, answer, did.out, did.does, refl);
+            holds = held_saving e named ∙ ap (λ hs. after hs (Saving e)) is.holds ∙ sym (held_more [] is.occurred (Saving e));
+            saved = saved_now t did.new (λ n. ap (λ m. cond (n == m) did.new (is.system.saved n)) named);
+            clean = clean_now t did.new (λ n. ap (λ m. cond (n == m) did.new (is.system.saved n)) named) (λ n. ap (λ m. cond (n == m) did.new (is.system.replica n)) named);
+            before = before_on now accepted (e, saves name) (before_same saves now (more saves now name by_saves) accepted is.before) last;
+          }
+
+      -- by itself
+      pub kept_saved : IsKept hash_of now later accepted
+      kept_saved =
+          let t : System = record is.system { saved = put is.system.saved name (is.system.replica name) } in
+          record {
+            occurred = is.occurred ++ Saves name ∷ [];
+            system = t;
+            goes = goes_more hash_of started is.occurred is.system (Saves name) t is.goes refl;
+            holds = held_saved saves now name by_saves accepted is.before ∙ ap (map (save_at name)) is.holds ∙ sym (held_more [] is.occurred (Saves name));
+            saved = saved_now t (is.system.replica name) (λ n. refl);
+            clean = clean_now t (is.system.replica name) (λ n. refl) (λ n. itself n (n == name) refl);
+            before = before_same saves now (more saves now name by_saves) accepted is.before;
+          }
+        where
+          itself : (n : ℕ) (b : Bool) → (n == name) ≡ b → is.system.replica n ≡ cond b (is.system.replica name) (is.system.replica n)
+          itself n true eqn = let named : n ≡ name = grind (arith, nat_tests) in ap is.system.replica named
+          itself n false eqn = refl
+
+      pub held_saves : held_in now accepted ≡ after (held_in saves accepted) (Saves name)
+      held_saves = held_saved saves now name by_saves accepted is.before
+
+      -- ---- it crashes, and comes back
+      back_again : System
+      back_again = record is.system { replica = put is.system.replica name (restarts (is.system.saved name)); saved = put is.system.saved name (restarts (is.system.saved name)) }
+
+      pub held_crashes : held_in now (filter (stays saves name) accepted ++ (At name Restart, saves name) ∷ []) ≡ after (held_in saves accepted) (Crashes name)
+      held_crashes =
+          map-append (held_by now) (filter (stays saves name) accepted) ((At name Restart, saves name) ∷ [])
+          ∙ (λ i. held_left saves now name by_saves accepted is.before i ++ record { event = At name Restart; is_saved = last_flag i } ∷ [])
+        where
+          last_flag : nat_lt (saves name) (now name) ≡ true
+          last_flag = ap (nat_lt (saves name)) (here saves now name by_saves) ∙ less_next (saves name) (saves name) (omega arith)
+
+      module _ (there : is_among is.system.nodes name ≡ true) where
+        goes_back : Goes hash_of started (is.occurred ++ Crashes name ∷ []) back_again
+        unfolding back_again
+        goes_back = goes_more hash_of started is.occurred is.system (Crashes name) back_again is.goes (there, refl)
+
+        held_back : held_in now (filter (stays saves name) accepted ++ (At name Restart, saves name) ∷ []) ≡ held_after (is.occurred ++ Crashes name ∷ [])
+        held_back = held_crashes ∙ ap (λ hs. after hs (Crashes name)) is.holds ∙ sym (held_more [] is.occurred (Crashes name))
+
+        pub kept_crashed : IsKept hash_of now later (filter (stays saves name) accepted ++ (At name Restart, saves name) ∷ [])
+        unfolding back_again
+        kept_crashed = record {
+          occurred = is.occurred ++ Crashes name ∷ [];
+          system = back_again;
+          goes = goes_back;
+          holds = held_back;
+          saved = saved_now back_again (restarts (is.system.saved name)) (λ n. refl);
+          clean = clean_now back_again (restarts (is.system.saved name)) (λ n. refl) (λ n. refl);
+          before = before_on now (filter (stays saves name) accepted) (At name Restart, saves name)
+              (before_filter now (stays saves name) accepted (before_same saves now (more saves now name by_saves) accepted is.before)) (more saves now name by_saves name);
+        }
+
+        -- the world that it leads to is as before, but for this replica
+        pub world_crashed : (w : World) → Shows w is.system → (u : World)
+            × Runs hash_of nothing (map (λ a. a.0) (filter (stays saves name) accepted ++ (At name Restart, saves name) ∷ [])) u
+            × (u.nodes ≡ w.nodes) × ((n : ℕ) → u.replica n ≡ cond (n == name) (restarts (is.system.saved name)) (w.replica n))
+            × (map (λ (m : Message). m.mail) u.messages ≡ map (λ (m : Message). m.mail) w.messages)
+        unfolding back_again
+        world_crashed w shows =
+            let after_all = take_back hash_of (is.occurred ++ Crashes name ∷ []) back_again goes_back in
+            let rows = filter (stays saves name) accepted ++ (At name Restart, saves name) ∷ [] in
+            let events : survivors (is.occurred ++ Crashes name ∷ []) ≡ map (λ a. a.0) rows =
+            sym (held_survives (is.occurred ++ Crashes name ∷ [])) ∙ ap events_of (sym held_back) ∙ events_held now rows in
+            let told = after_all.2 in (
+              after_all.0,
+              subst (λ es. Runs hash_of nothing es after_all.0) events after_all.1,
+              told.nodes ∙ sym shows.nodes,
+              (λ n. told.replica n ∙ ap (cond (n == name) (restarts (is.system.saved name))) (sym (shows.replica n))),
+              told.messages ∙ sym shows.messages,
+            )
+
+    -- an event with which its replica is not saved
+    not_sent : (answer : Answer) → goes_further answer ≡ false → answer ≢ Came Sent
+    not_sent answer none sent = clash (sym (ap goes_further sent) ∙ none)
+
+    or_none : (a b : Bool) → (a || b) ≡ false → (a ≡ false) × (b ≡ false)
+    or_none true b none = absurd (clash none)
+    or_none false b none = (refl, none)
+
+    passes : (e : Event) (answer : Answer) (sends : Bool) → is_saved_with e answer sends ≡ false → (sends ≡ false) × (answer ≢ Came Sent)
+    passes (Node name) answer sends none = absurd (clash none)
+    passes (At name c) answer sends none = let both = or_none sends (goes_further answer) none in (both.0, not_sent answer both.1)
+    passes (Deliver number name) answer sends none = let both = or_none sends (goes_further answer) none in (both.0, not_sent answer both.1)
+
+    no_node : (e : Event) (answer : Answer) (sends : Bool) (k : ℕ) → is_saved_with e answer sends ≡ false → saves_at e k ≡ k
+    no_node (Node name) answer sends k none = absurd (clash none)
+    no_node (At name c) answer sends k none = refl
+    no_node (Deliver number name) answer sends k none = refl
+
+    pub held_passing : (e : Event) → held_in saves (accepted ++ (e, saves (replica_of e)) ∷ []) ≡ after (held_in saves accepted) (Passing e)
+    held_passing e = map-append (held_by saves) accepted ((e, saves (replica_of e)) ∷ []) ∙ (λ i. held_in saves accepted ++ record { event = e; is_saved = last_flag i } ∷ [])
+      where
+        last_flag : nat_lt (saves (replica_of e)) (saves (replica_of e)) ≡ false
+        last_flag = grind (arith, nat_tests)
+
+    pub kept_passing : (e : Event) (answer : Answer) (sends : Bool) (v : World) → is_saved_with e answer sends ≡ false → (did : Did hash_of is.system e answer v) → (sends ≡ false → did.out ≡ [])
+        → (r : Replica) → back (replica_of e) ≡ Some r → IsKept hash_of saves back (accepted ++ (e, saves (replica_of e)) ∷ [])
+    kept_passing e answer sends v none did quiet r kept =
+        let t : System = crashing.goes hash_of is.system e did.new [] in
+        let both = passes e answer sends none in
+        let does = subst (Does hash_of is.system e did.new answer) (quiet both.0) did.does in
+        record {
+          occurred = is.occurred ++ Passing e ∷ [];
+          system = t;
+          goes = goes_more hash_of started is.occurred is.system (Passing e) t is.goes (did.new, answer, does, both.1, refl);
+          holds = held_passing e ∙ ap (λ hs. after hs (Passing e)) is.holds ∙ sym (held_more [] is.occurred (Passing e));
+          saved = is.saved;
+          clean = λ n gone. clean_by n gone (n == replica_of e) refl;
+          before = before_on saves accepted (e, saves (replica_of e)) is.before (let same = no_node e answer sends (saves (replica_of e)) none in omega (arith, same));
+        }
+      where
+        clean_by : (n : ℕ) → back n ≡ None → (b : Bool) → (n == replica_of e) ≡ b → is.system.saved n ≡ cond b did.new (is.system.replica n)
+        clean_by n gone true eqn = let named : n ≡ replica_of e = grind (arith, nat_tests) in absurd (none_some r (sym gone ∙ ap back named ∙ kept))
+        clean_by n gone false eqn = is.clean n gone
