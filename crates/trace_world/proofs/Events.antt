@@ -39,7 +39,7 @@ is_memory Input = let above : 1 < 12 = omega arith in inr (apart Input above)
 is_memory Output = let above : 1 < 13 = omega arith in inr (apart Output above)
 
 refuses_other : (refusal : Refusal) (w : World) (e : Event) → refusal ≢ OutOfMemory → IsRefusedIn w e refusal → RefusesEvent w e refusal
-refuses_other refusal w e other (inl (memory, nothing)) = absurd (other memory)
+refuses_other refusal w e other (inl (memory, _)) = absurd (other memory)
 refuses_other refusal w e other (inr is) = is
 
 module _ (old new : List Held) (e : Event) where

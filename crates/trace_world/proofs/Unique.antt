@@ -24,7 +24,7 @@ use Rattle.replica_model.specs.World.{World, Event, nothing, RefusesEvent, Runs}
 use Rattle.replica_model.proofs.Deciding.{events_one, worlds_one, refused_not}
 use Rattle.std.specs.Prelude.{codes}
 use Rattle.replica_world.specs.Held.{events_of}
-use Rattle.trace_words.specs.Command.{CommandValue, Node, Put, Get, Flush, Deliver, Sync, Retry, Abandon, Remove, RemoveField, Clear, Fields, Show, Size, Context, Pin, Digest, Look, command_of}
+use Rattle.trace_words.specs.Command.{CommandValue, Node, Put, Get, Flush, Deliver, Sync, Retry, Abandon, Remove, RemoveField, Clear, Fields, Show, Size, Context, Pin, Digest, Save, Crash, Look, command_of}
 use Rattle.trace_words.specs.Text.{values_text, fields_text, map_text, size_text, context_text, digest_text, pin_text}
 use Rattle.trace_world.specs.Laws.{AnswersAreOne}
 use Rattle.trace_world.specs.Line.{Past, LineComes, answer_by, past_by}

@@ -67,7 +67,7 @@ impl<A: Allocator + Copy> Teller<A> {
     /// Does what the command asks, which speaks of no pin: the text that it is answered, or the refusal that it meets.
     pub fn obey(&mut self, command: Command<A>) -> Result<Vec<u8, A>, Refusal>
         requires { is_at_world (command_value command) ≡ true }
-        ensures does { Does (In self.old (λ w. Comes fnv1a w [] (command_value command))) self.old self.new result }
+        ensures { Does (In self.old (λ w. Comes fnv1a w [] (command_value command))) self.old self.new result }
     {
         match command {
             Command::Node(name) => self.node(name),
@@ -134,7 +134,7 @@ impl<A: Allocator + Copy> Teller<A> {
     }
 
     fn node(&mut self, name: Name) -> Result<Vec<u8, A>, Refusal>
-        ensures does { Does (In self.old (λ w. IsEvent fnv1a w (model.Node name))) self.old self.new result }
+        ensures { Does (In self.old (λ w. IsEvent fnv1a w (model.Node name))) self.old self.new result }
     {
         if let Err(refusal) = self.world.event(Event::Node(name)) {
             return Err(refusal);
@@ -161,7 +161,7 @@ impl<A: Allocator + Copy> Teller<A> {
     }
 
     fn call(&mut self, name: Name, call: Call<A>) -> Result<Vec<u8, A>, Refusal>
-        ensures does { Does (In self.old (λ w. IsCall fnv1a w name (call_value call))) self.old self.new result }
+        ensures { Does (In self.old (λ w. IsCall fnv1a w name (call_value call))) self.old self.new result }
     {
         let told = match self.world.event(Event::Call(name, call)) {
             Ok(told) => told,
@@ -177,7 +177,7 @@ impl<A: Allocator + Copy> Teller<A> {
     }
 
     fn deliver(&mut self, message: u64, name: Name) -> Result<Vec<u8, A>, Refusal>
-        ensures does { Does (In self.old (λ w. IsEvent fnv1a w (model.Deliver message name))) self.old self.new result }
+        ensures { Does (In self.old (λ w. IsEvent fnv1a w (model.Deliver message name))) self.old self.new result }
     {
         let told = match self.world.event(Event::Deliver(message, name)) {
             Ok(told) => told,
@@ -199,7 +199,7 @@ impl<A: Allocator + Copy> Teller<A> {
         field: &[u8],
         value: &[u8],
     ) -> Result<Vec<u8, A>, Refusal>
-        ensures does { Does (In self.old (λ w. at_replica w name (with_bytes key.now (with_bytes field.now (with_bytes value.now
+        ensures { Does (In self.old (λ w. at_replica w name (with_bytes key.now (with_bytes field.now (with_bytes value.now
             (IsCall fnv1a w name (step.Put (place_of key.now field.now) value.now))))))) self.old self.new result }
     {
         match put_of(self.alloc, key, field, value) {
@@ -209,7 +209,7 @@ impl<A: Allocator + Copy> Teller<A> {
     }
 
     fn remove(&mut self, name: Name, key: &[u8]) -> Result<Vec<u8, A>, Refusal>
-        ensures does { Does (In self.old (λ w. at_replica w name (with_bytes key.now (IsCall fnv1a w name (step.Remove key.now))))) self.old self.new result }
+        ensures { Does (In self.old (λ w. at_replica w name (with_bytes key.now (IsCall fnv1a w name (step.Remove key.now))))) self.old self.new result }
     {
         if !self.has_replica(name) {
             return Err(Refusal::UnknownReplica);
@@ -219,7 +219,7 @@ impl<A: Allocator + Copy> Teller<A> {
     }
 
     fn remove_field(&mut self, name: Name, key: &[u8], field: &[u8]) -> Result<Vec<u8, A>, Refusal>
-        ensures does { Does (In self.old (λ w. at_replica w name (with_bytes key.now (with_bytes field.now
+        ensures { Does (In self.old (λ w. at_replica w name (with_bytes key.now (with_bytes field.now
             (IsCall fnv1a w name (step.RemoveField (place_of key.now field.now))))))) self.old self.new result }
     {
         if !self.has_replica(name) {
