@@ -1,3 +1,4 @@
 pub mod Values
 pub mod HandleSteps
+pub mod SnapshotSteps
 pub mod Calls
