@@ -1,4 +1,5 @@
 pub mod Values
 pub mod HandleSteps
 pub mod SnapshotSteps
+pub mod Owned
 pub mod Calls

@@ -24,7 +24,8 @@ use Rattle.std.specs.declared.option.Option.{Option}
 use Rattle.std.specs.declared.option.Option.TheVariants.{None}
 use Rattle.std_alloc.proofs.ResultValues.{and_tt}
 use Rattle.ginelm_c.proofs.Values.{both}
-use Rattle.ginelm_c.proofs.SnapshotSteps.{R, Z, Ho, hold_in}
+use Rattle.ginelm_c.proofs.HandleSteps.{Z}
+use Rattle.ginelm_c.proofs.SnapshotSteps.{R, Ho, hold_in}
 use Rattle.ginelm_c.specs.contracts.snapshot_handle.SnapshotHandle.empty.{ended, clauses}
 use Rattle.ginelm_c.specs.contracts.snapshot_handle.SnapshotHandle.empty.Key.{name as #self}
 use Rattle.ginelm_c.proofs.snapshot_handle.SnapshotHandle.empty.Statement.{statement}

@@ -28,7 +28,8 @@ use Rattle.std.specs.contracts.impls.GlobalAllocator.TheImpl.{ghosts}
 use Rattle.std.proofs.raw_atomic.Walks.{proved_at, leaves}
 use Rattle.std_alloc.proofs.ResultValues.{and_tt}
 use Rattle.ginelm_c.proofs.Values.{Loose, both, loose_good, loose_in}
-use Rattle.ginelm_c.proofs.SnapshotSteps.{R, Z, Ho, hold_out, held_cases}
+use Rattle.ginelm_c.proofs.HandleSteps.{Z, held_cases}
+use Rattle.ginelm_c.proofs.SnapshotSteps.{R, Ho, hold_out}
 use Rattle.ginelm_c.specs.contracts.snapshot_handle.SnapshotHandle.into_loose.{ended, clauses}
 use Rattle.ginelm_c.specs.contracts.snapshot_handle.SnapshotHandle.into_loose.Key.{name as #self}
 use Rattle.ginelm_c.proofs.snapshot_handle.SnapshotHandle.into_loose.Statement.{statement}
@@ -42,7 +43,7 @@ into_loose_spec 𝓤 𝓛 𝓜 𝓡 wired =
     let κs = z.0.0 in let qs = z.0.1 in let Post : Val → SProp 𝓤 = (walk_of 𝓛 ended hs c).post z in let Run : List Val → SProp 𝓤 = λ ws. WpFn 𝓤 H 𝓣.C 𝓣.Λ fn ws Post in let Out : RattleType = type_at ended.signature.result κs in
     let Lr = Loose R Z LZ ghosts in let d = z.0.3.0 in let a = d.alloc in
     qed 𝓛 ((raw (alive 𝓛 ended.signature κs qs) ⊛ ‵ (owns (types_at ended.signature.params κs) z.0.3 z.0.4)) ∷ raw ((c κs z.0.3).requires z.1) ∷ []) ∵
-    split ! $ move ! (1 ∷ []) $ fsplit ! $ hold_out ! d z.0.4.0 (λ h ws gh. held_cases ! a d.at d.value
+    split ! $ move ! (1 ∷ []) $ fsplit ! $ hold_out ! d z.0.4.0 (λ h ws gh. held_cases R ! a d.at d.value
     (λ none is. let w : Val = both (ptr_val null_ptr) h in let v₀ : Val = live 0 vnil in
     let typed : Good (layout Ho) w = (and_tt _ gh.0, ((Ptr-Good null_ptr).1, (gh.1, tt))) in
     let told : z.0.4.0 ≡ w ∷ [] = ws ∙ ap (λ (p : Ptr). both (ptr_val p) h ∷ []) is in

@@ -21,7 +21,8 @@ use Rattle.std.specs.contracts.impls.GlobalAllocator.TheImpl.{ghosts}
 use Rattle.std.proofs.raw_atomic.Walks.{proved_at, leaves}
 use Rattle.std.specs.declared.option.Option.TheVariants.{Some}
 use Rattle.ginelm_c.proofs.Values.{Loose, both, loose_good, loose_out}
-use Rattle.ginelm_c.proofs.SnapshotSteps.{R, Z, Ho, hold_in}
+use Rattle.ginelm_c.proofs.HandleSteps.{Z}
+use Rattle.ginelm_c.proofs.SnapshotSteps.{R, Ho, hold_in}
 use Rattle.ginelm_c.specs.contracts.snapshot_handle.SnapshotHandle.of.{ended, clauses}
 use Rattle.ginelm_c.specs.contracts.snapshot_handle.SnapshotHandle.of.Key.{name as #self}
 use Rattle.ginelm_c.proofs.snapshot_handle.SnapshotHandle.of.Statement.{statement}
