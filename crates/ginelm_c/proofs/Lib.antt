@@ -3,3 +3,5 @@ pub mod HandleSteps
 pub mod SnapshotSteps
 pub mod Owned
 pub mod Calls
+pub mod Stored
+pub mod Since

@@ -15,14 +15,22 @@ use delta_ops::{keys, size, values_of_key};
 use dots::{Key, Refusal};
 use std::alloc::Global;
 
-fn show_values(alloc: Global, there: &mut Snapshot, key: &[u8]) -> Result<(), Refusal>
+// The values of the key become the texts.
+fn show_values(alloc: Global, there: &mut Snapshot, key: &Key) -> Result<(), Refusal>
+    ensures ok { OnOk result (ShowsThere there.old there.new (StandsWithin (state_in there.old) key.now)) }
+    ensures unchanged { OnErr result (there.new ≡ there.old) }
+{
+    let values = values_of_key(alloc, &there.store, key)?;
+    there.texts = Texts::Values(values);
+    Ok(())
+}
+
+fn show_values_of(alloc: Global, there: &mut Snapshot, key: &[u8]) -> Result<(), Refusal>
     ensures ok { OnOk result (ShowsThere there.old there.new (StandsWithin (state_in there.old) key.now)) }
     ensures unchanged { OnErr result (there.new ≡ there.old) }
 {
     let key = Key::new(alloc, key)?;
-    let values = values_of_key(alloc, &there.store, &key)?;
-    there.texts = Texts::Values(values);
-    Ok(())
+    show_values(alloc, there, &key)
 }
 
 /// The values of the key over all its fields become the texts, ascending by bytes.
@@ -40,7 +48,7 @@ pub extern "C" fn ginelm_snapshot_values_of_key(
     let Some(mut there) = here.take(alloc) else {
         return EMPTY;
     };
-    let answer = told(show_values(alloc, &mut there, key));
+    let answer = told(show_values_of(alloc, &mut there, key));
     here.give(there);
     answer
 }
@@ -74,7 +82,7 @@ pub extern "C" fn ginelm_snapshot_keys(alloc: Global, here: &mut SnapshotHandle)
 fn has_key(there: &Snapshot, key: &Key) -> bool
     ensures { IsTrue result ↔ HoldsKey (state_in there.now) key.now }
 {
-    there.store.get(key).is_some()
+    there.store.frozen().lookup(key).is_some()
 }
 
 fn contains(alloc: Global, there: &Snapshot, key: &[u8], is_there: &mut bool) -> Result<(), Refusal>

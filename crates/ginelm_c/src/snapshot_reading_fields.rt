@@ -81,14 +81,22 @@ pub extern "C" fn ginelm_snapshot_get_field(
     answer
 }
 
-fn show_fields(alloc: Global, there: &mut Snapshot, key: &[u8]) -> Result<(), Refusal>
+// The fields of the key become the texts.
+fn show_fields(alloc: Global, there: &mut Snapshot, key: &Key) -> Result<(), Refusal>
+    ensures ok { OnOk result (ShowsThere there.old there.new (HoldsField (state_in there.old) key.now)) }
+    ensures unchanged { OnErr result (there.new ≡ there.old) }
+{
+    let fields = fields(alloc, &there.store, key)?;
+    there.texts = Texts::Fields(fields);
+    Ok(())
+}
+
+fn show_fields_of(alloc: Global, there: &mut Snapshot, key: &[u8]) -> Result<(), Refusal>
     ensures ok { OnOk result (ShowsThere there.old there.new (HoldsField (state_in there.old) key.now)) }
     ensures unchanged { OnErr result (there.new ≡ there.old) }
 {
     let key = Key::new(alloc, key)?;
-    let fields = fields(alloc, &there.store, &key)?;
-    there.texts = Texts::Fields(fields);
-    Ok(())
+    show_fields(alloc, there, &key)
 }
 
 /// The fields of the key that hold a value become the texts, ascending by bytes.
@@ -106,7 +114,7 @@ pub extern "C" fn ginelm_snapshot_fields(
     let Some(mut there) = here.take(alloc) else {
         return EMPTY;
     };
-    let answer = told(show_fields(alloc, &mut there, key));
+    let answer = told(show_fields_of(alloc, &mut there, key));
     here.give(there);
     answer
 }

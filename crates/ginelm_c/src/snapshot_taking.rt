@@ -44,7 +44,8 @@ pub extern "C" fn ginelm_snapshot_take(
     ensures full { here.old.value ≢ None → result ≡ 15 }
     ensures none { here.old.value ≡ None → replica.old.value ≡ None → result ≡ 14 }
     ensures empty { result ≡ 0 → here.old.value ≡ None }
-    ensures there { result ≡ 0 → (x : Held) → replica.old.value ≡ Some x → (s : Snapshot) × (here.new.value ≡ Some s) × IsTakenOf x s }
+    ensures there { result ≡ 0 → (s : Snapshot) × (here.new.value ≡ Some s) }
+    ensures made { result ≡ 0 → (x : Held) → (s : Snapshot) → replica.old.value ≡ Some x → here.new.value ≡ Some s → IsTakenOf x s }
     ensures refused { result ≢ 0 → here.new.value ≡ here.old.value }
 {
     if let Some(old) = here.take(alloc) {
