@@ -1,11 +1,11 @@
 -- The machine values of the handle of a snapshot. Assumes `Logic`.
-use Rattle.std.proofs.Common.{◌≡◌, ℕ, List, [], ◌∷◌, ◌++◌, refl, subst}
+use Rattle.std.proofs.Common.{◌≡◌, List, [], ◌∷◌, ◌++◌, refl, subst}
 use seplogic.Ra.Ura.{Ura}
 use mir.Val.{Val, vstruct, of_list}
 use types.Logic.{Logic}
 use types.Kit.{Item, Goal, Seq, Step, step, ‵, ◌$◌, move, drop, fsplit, fjoin, fpick, fpack, feq_i, feq_l}
 use denote.RattleType.{RattleType, Valss}
-use denote.RawPtr.{Ptr, ptr_val}
+use denote.RawPtr.{ptr_val}
 use denote.Steps.{nothing}
 use denote.Param.{layout}
 use denote.Struct.Struct.{within}

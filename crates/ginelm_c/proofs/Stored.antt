@@ -1,5 +1,5 @@
 -- What stands in a snapshot is what the map that it is stored as stands for: over plain variables.
-use Rattle.std.proofs.Common.{◌≡◌, ℕ, List, [], Bool, Option, Some, None, Bor, IsTrue, is_some, refl, sym, ap, ◌∙◌, subst}
+use Rattle.std.proofs.Common.{◌≡◌, ℕ, List, [], Bool, Option, Some, None, Bor, IsTrue, is_some, refl, ap, ◌∙◌, subst}
 use Rattle.std.specs.Prelude.{◌↔◌}
 use Rattle.std.specs.FinMap as finite
 use Rattle.std.specs.Option.{option_map}

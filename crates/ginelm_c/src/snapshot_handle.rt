@@ -1,6 +1,6 @@
 // The handle of a snapshot that C holds: a pointer, null where it holds nothing. It is made as that of a replica is, and of a type of its own, as
 // none with a parameter may cross to C.
-ghost use Rattle.std.specs.Prelude.{◌≡◌, Option, IfSome, IsNone};
+ghost use Rattle.std.specs.Prelude.{◌≡◌, Option};
 ghost use Rattle.std.specs.declared.option.Option.TheVariants.{None, Some};
 ghost use Rattle.std.specs.Option.{MatchOption};
 ghost use Rattle.std.specs.Coded.{coded_option};

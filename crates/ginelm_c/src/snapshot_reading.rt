@@ -1,6 +1,5 @@
 // What a snapshot shows: the keys, and the values at each.
-ghost use Rattle.std.specs.Prelude.{◌≡◌, ◌≢◌, ◌↔◌, List, ℕ, Some, IfOk, OnOk, OnErr, IsTrue, length};
-ghost use Rattle.delta_ops.specs.LiveMap.{store_state};
+ghost use Rattle.std.specs.Prelude.{◌≡◌, ◌≢◌, ◌↔◌, List, ℕ, Some, OnOk, OnErr, IsTrue, length};
 ghost use Rattle.op_model.specs.Meaning.{StandsWithin, HoldsKey};
 ghost use Rattle.replica_core.specs.Reading.{Lists};
 ghost use Rattle.ginelm_c.specs.Handling.{Between, StaysEmpty, StaysFull};
