@@ -27,8 +27,10 @@ typedef struct {
 
 typedef struct {
     ginelm replicas[REPLICAS];
+    ginelm_snapshot snapshots[REPLICAS]; /* each replica's at its last call for changes, if it was not restarted since */
     letter letters[LETTERS];
     size_t count; /* of all letters that were sent; the last ones are kept */
+    bool is_forging; /* a message that no replica sent is being taken */
     bool is_forged; /* a message that no replica sent was taken: it may give one write two values, of which nothing is promised */
 } world;
 
@@ -82,6 +84,22 @@ static void look(ginelm *here, uint8_t digest[32], size_t *length, uint64_t *siz
     WANT(ginelm_size(here, size) == GINELM_DONE);
 }
 
+/* Takes the bytes in, though they tell of a lost memory: then the call that asks first says so, and changes nothing. */
+static uint32_t take_anyway(world *w, ginelm *here, const uint8_t *bytes, size_t length, uint32_t *outcome, ginelm_named *session) {
+    bool lost = false;
+    uint8_t before[32] = {0}, after[32] = {0};
+    size_t old = 0, new = 0;
+    uint64_t size = 0, now = 0;
+    uint32_t told = ginelm_has_lost(here, bytes, length, &lost);
+    WANT(!lost || w->is_forged || w->is_forging);
+    if (told != GINELM_DONE || !lost) return ginelm_take(here, bytes, length, outcome, session);
+    look(here, before, &old, &size);
+    WANT(ginelm_take(here, bytes, length, outcome, session) == GINELM_LOST_MEMORY && *outcome == 0);
+    look(here, after, &new, &now);
+    WANT(old == new && size == now && memcmp(before, after, old) == 0);
+    return ginelm_take_unguarded(here, bytes, length, outcome, session);
+}
+
 /* Takes the bytes in. A refused message changes nothing. */
 static void take(world *w, unsigned call, ginelm *here, const uint8_t *bytes, size_t length) {
     uint8_t before[32] = {0}, after[32] = {0};
@@ -90,7 +108,8 @@ static void take(world *w, unsigned call, ginelm *here, const uint8_t *bytes, si
     look(here, before, &old, &size);
     uint32_t outcome = 0;
     ginelm_named session;
-    uint32_t told = ginelm_take(here, bytes, length, &outcome, &session);
+    w->is_forging = call > 5;
+    uint32_t told = take_anyway(w, here, bytes, length, &outcome, &session);
     if (told != GINELM_DONE) {
         WANT(told == GINELM_NOT_A_MESSAGE);
         look(here, after, &new, &now);
@@ -173,6 +192,23 @@ static void restart(ginelm *here, input *in) {
     ginelm_free(&changed);
 }
 
+/* Takes a snapshot in the place of an older one: it has the replica's digest, and so many keys differ. */
+static void snapshot(ginelm *here, ginelm_snapshot *older, size_t differ) {
+    ginelm_snapshot newer = {0};
+    uint8_t wanted[32] = {0}, digest[32] = {0};
+    size_t length = 0, needed = 0, count = 0;
+    uint64_t size = 0, told = 0;
+    WANT(ginelm_snapshot_take(&newer, here) == GINELM_DONE);
+    look(here, wanted, &length, &size);
+    WANT(ginelm_snapshot_digest(&newer, digest, 32, &needed) == GINELM_DONE && needed == length && memcmp(wanted, digest, length) == 0);
+    WANT(ginelm_snapshot_size(&newer, &told) == GINELM_DONE && told == size);
+    if (older->at != NULL) {
+        WANT(ginelm_snapshot_changes(older, &newer) == GINELM_DONE && ginelm_snapshot_count(&newer, &count) == GINELM_DONE && count == differ);
+    }
+    ginelm_snapshot_free(older);
+    *older = newer;
+}
+
 static void call(world *w, input *in) {
     unsigned kind = next(in) % CALLS, name = next(in) % REPLICAS;
     ginelm *here = &w->replicas[name];
@@ -215,6 +251,7 @@ static void call(world *w, input *in) {
         break;
     case 8:
         restart(here, in);
+        ginelm_snapshot_free(&w->snapshots[name]);
         break;
     case 9:
         WANT(ginelm_retry(here, value % 12, &outcome) == GINELM_DONE);
@@ -236,6 +273,7 @@ static void call(world *w, input *in) {
         size_t count = 0;
         WANT(ginelm_changes(here) == GINELM_DONE && ginelm_count(here, &count) == GINELM_DONE);
         note(kind, (unsigned)(count % 16), 0);
+        snapshot(here, &w->snapshots[name], count);
         WANT(ginelm_changes(here) == GINELM_DONE && ginelm_count(here, &count) == GINELM_DONE && count == 0);
         break;
     }
@@ -269,7 +307,8 @@ static bool synchronise(world *w, ginelm *asker, ginelm *answerer) {
         bool is_for_answerer = bytes[1] == 3 || bytes[1] == 5;
         uint32_t outcome = 0;
         ginelm_named session;
-        WANT(ginelm_take(is_for_answerer ? answerer : asker, bytes, it.length, &outcome, &session) == GINELM_DONE);
+        w->is_forging = false;
+        WANT(take_anyway(w, is_for_answerer ? answerer : asker, bytes, it.length, &outcome, &session) == GINELM_DONE);
         free(bytes);
         if (outcome == GINELM_ENDED) return true;
         send_all(w, is_for_answerer ? answerer : asker);
@@ -298,7 +337,10 @@ int LLVMFuzzerTestOneInput(const uint8_t *data, size_t size) {
             WANT(lengths[name] == lengths[0] && sizes[name] == sizes[0] && memcmp(digests[name], digests[0], 32) == 0);
         note(2 * CALLS, sizes[0] % 10, 0);
     }
-    for (unsigned name = 0; name < REPLICAS; name++) ginelm_free(&w.replicas[name]);
+    for (unsigned name = 0; name < REPLICAS; name++) {
+        ginelm_free(&w.replicas[name]);
+        ginelm_snapshot_free(&w.snapshots[name]);
+    }
     for (unsigned at = 0; at < LETTERS; at++) free(w.letters[at].bytes);
     return 0;
 }

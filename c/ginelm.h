@@ -13,9 +13,11 @@
  *     ...                                 copy it out by ginelm_text, and send it to everyone
  *     ginelm_free(&basket);
  *
- * Handles. A `ginelm` is set to zero before its first call, and is never copied while it holds a
- * replica. One call at a time is made with a handle; between two calls it may go to another thread.
- * A pointer to a handle or to a number that is told is never null.
+ * Handles. A `ginelm` and a `ginelm_snapshot` are set to zero before their first call, and are never
+ * copied while they hold anything. One call at a time is made with a handle; between two calls it may
+ * go to another thread. Calls with two handles are made at once from as many threads, also where one
+ * holds a replica and the other a snapshot of it. A pointer to a handle or to a number that is told is
+ * never null.
  *
  * Texts. A key, a field and a value are 0 to 65,535 bytes of any kind, as a pointer and a length. The
  * pointer may be null where the length is 0. Nothing that is passed is kept.
@@ -26,7 +28,9 @@
  *
  * What a call gives more than a number of stands behind the handle as texts, until the next call that
  * gives texts: ginelm_get, ginelm_get_field, ginelm_values_of_key, ginelm_keys, ginelm_fields,
- * ginelm_flush, ginelm_take, ginelm_ask, ginelm_retry and ginelm_save. They are read by ginelm_count and ginelm_text.
+ * ginelm_changes, ginelm_flush, ginelm_take, ginelm_take_unguarded, ginelm_ask, ginelm_retry and
+ * ginelm_save. They are read by ginelm_count and ginelm_text. Those of a snapshot stand behind its own
+ * handle, and are read by ginelm_snapshot_count and ginelm_snapshot_text.
  */
 #ifndef GINELM_H
 #define GINELM_H
@@ -43,6 +47,11 @@ typedef struct {
     void *at; /* null where it holds nothing */
 } ginelm;
 
+/* What a replica held at one moment, which stays so whatever the replica does from then on. */
+typedef struct {
+    void *at; /* null where it holds nothing */
+} ginelm_snapshot;
+
 /* A synchronisation: its number, from 1, at the replica that asks. Three times 0 for none. */
 typedef struct {
     uint64_t asker;    /* the name of the replica that asks */
@@ -58,11 +67,12 @@ enum {
     GINELM_NUMBERS_SPENT = 4, /* the replica made 2^64 - 1 writes or synchronisations */
     GINELM_SESSIONS_FULL = 5, /* eight own synchronisations are open */
     GINELM_NOT_A_MESSAGE = 6, /* the bytes spell no message */
-    GINELM_EMPTY = 14,        /* the handle holds no replica */
-    GINELM_FULL = 15,         /* the handle holds a replica already */
+    GINELM_EMPTY = 14,        /* the handle holds nothing */
+    GINELM_FULL = 15,         /* the handle holds something already */
     GINELM_NO_NAME = 16,      /* a name is 0 */
     GINELM_SHORT = 17,        /* the room is too short for the text */
-    GINELM_NO_TEXT = 18       /* nothing stands at that place */
+    GINELM_NO_TEXT = 18,      /* nothing stands at that place */
+    GINELM_LOST_MEMORY = 19   /* the message knows a write of the replica's name that the replica does not know */
 };
 
 /* What came of a message. */
@@ -127,11 +137,17 @@ uint32_t ginelm_clear(ginelm *here, uint64_t *observed);
 uint32_t ginelm_flush(ginelm *here);
 
 /* Takes in any message of any replica. Tells what came of it (GINELM_JOINED to GINELM_GONE), and the synchronisation
- * that it named. The texts are what is to be sent for it, each to the replica that ginelm_text tells. NOT_A_MESSAGE. */
+ * that it named. The texts are what is to be sent for it, each to the replica that ginelm_text tells. NOT_A_MESSAGE.
+ *
+ * LOST_MEMORY just where ginelm_has_lost tells true of the message, whatever else would come of it: two replicas use the name, or it
+ * was used before and what was known is lost. This one is to write nothing more, and its host makes one of a new name. */
 uint32_t ginelm_take(ginelm *here, const uint8_t *bytes, size_t length, uint32_t *outcome, ginelm_named *session);
 
-/* Tells whether the message knows a write of this replica's name that the replica does not know: then two replicas use the
- * name, or it was used before and what was known is lost, and the message is not to be taken. NOT_A_MESSAGE. */
+/* The same for messages that may be forged: it is never LOST_MEMORY. By a forged one a replica learns of a write of its name that
+ * it never made, and its next write has the number behind that one. */
+uint32_t ginelm_take_unguarded(ginelm *here, const uint8_t *bytes, size_t length, uint32_t *outcome, ginelm_named *session);
+
+/* Tells whether the message knows a write of this replica's name that the replica does not know. NOT_A_MESSAGE. */
 uint32_t ginelm_has_lost(ginelm *here, const uint8_t *bytes, size_t length, bool *lost);
 
 /* Opens a synchronisation, which brings all that the peer has seen. Tells its number; the one text is to be sent to
@@ -186,6 +202,47 @@ uint32_t ginelm_digest(ginelm *here, uint8_t *out, size_t room, size_t *needed);
 
 /* Tells whether it has seen the write of this number of the replica of this name. Allocates nothing. */
 uint32_t ginelm_knows(ginelm *here, uint64_t name, uint64_t number, bool *is_known);
+
+/* ---- what it held at one moment, for readers on other threads while it goes on. Each is TOO_LONG where a text is ---- */
+
+/* Takes a snapshot of the replica into a handle that holds none. It takes constant time where nothing was written since the last
+ * snapshot or synchronisation, and else time in the nodes of the map that were written; it copies no key and no value. From then on a
+ * write copies what it shares with the snapshot. FULL where the snapshot's handle holds one, EMPTY where the replica's holds none. */
+uint32_t ginelm_snapshot_take(ginelm_snapshot *here, ginelm *replica);
+
+/* Lets the snapshot go, if there is one: the handle is empty then. The replica need not be there any more. */
+void ginelm_snapshot_free(ginelm_snapshot *here);
+
+/* The same reads as those of a replica, by what it held then. */
+uint32_t ginelm_snapshot_get(ginelm_snapshot *here, const uint8_t *key, size_t key_length);
+
+uint32_t ginelm_snapshot_get_field(ginelm_snapshot *here, const uint8_t *key, size_t key_length, const uint8_t *field,
+                                   size_t field_length);
+
+uint32_t ginelm_snapshot_values_of_key(ginelm_snapshot *here, const uint8_t *key, size_t key_length);
+
+uint32_t ginelm_snapshot_fields(ginelm_snapshot *here, const uint8_t *key, size_t key_length);
+
+uint32_t ginelm_snapshot_keys(ginelm_snapshot *here);
+
+uint32_t ginelm_snapshot_contains(ginelm_snapshot *here, const uint8_t *key, size_t key_length, bool *is_there);
+
+/* Allocates nothing. */
+uint32_t ginelm_snapshot_size(ginelm_snapshot *here, uint64_t *size);
+
+/* The root digest that the replica had then. SHORT. Allocates nothing. */
+uint32_t ginelm_snapshot_digest(ginelm_snapshot *here, uint8_t *out, size_t room, size_t *needed);
+
+/* The keys at which the two snapshots differ become the texts of the newer one, ascending by bytes: those that one of them alone has,
+ * and those under which other values stand. It takes time in what differs, and not in the map. The two are not one handle, and may be
+ * of two replicas. EMPTY where either handle is. */
+uint32_t ginelm_snapshot_changes(ginelm_snapshot *older, ginelm_snapshot *newer);
+
+/* Tells how many texts the snapshot's last call gave. Allocates nothing. */
+uint32_t ginelm_snapshot_count(ginelm_snapshot *here, size_t *count);
+
+/* Copies the text at this place, from 0, as ginelm_text does: SHORT, NO_TEXT. Allocates nothing. */
+uint32_t ginelm_snapshot_text(ginelm_snapshot *here, size_t at, uint8_t *out, size_t room, size_t *needed);
 
 /* ---- the texts. These allocate nothing ---- */
 

@@ -124,6 +124,10 @@ static uint32_t flush(ginelm *here, struct call *c) { return (void)c, ginelm_flu
 
 static uint32_t take(ginelm *here, struct call *c) { return ginelm_take(here, c->value, c->value_length, &c->outcome, &c->named); }
 
+static uint32_t take_unguarded(ginelm *here, struct call *c) {
+    return ginelm_take_unguarded(here, c->value, c->value_length, &c->outcome, &c->named);
+}
+
 static uint32_t has_lost(ginelm *here, struct call *c) { return ginelm_has_lost(here, c->value, c->value_length, &c->is); }
 
 static uint32_t ask(ginelm *here, struct call *c) { return ginelm_ask(here, 2, &c->number); }
@@ -296,7 +300,7 @@ static void delta(struct pair *pair, ginelm *peer, bool is_lost) {
     CHECK(sent.count == 1);
     for (int turn = 0; turn < 2 && !is_lost; turn++) {
         tries(pair, with_value(has_lost, sent.at[0].at, sent.at[0].length));
-        tries(pair, with_value(take, sent.at[0].at, sent.at[0].length));
+        tries(pair, with_value(turn == 0 ? take : take_unguarded, sent.at[0].at, sent.at[0].length));
     }
     let_go(&sent);
 }
@@ -423,6 +427,121 @@ static size_t made_again(struct pair *pair) {
     return refusals;
 }
 
+/* Snapshots of the first replica, by which the calls that read them are tried. */
+struct snapshots {
+    ginelm_snapshot older, here;
+    bool is_there;
+};
+
+static uint32_t snapshot_get(struct snapshots *of) { return ginelm_snapshot_get(&of->here, (const uint8_t *)"key 1", 5); }
+
+static uint32_t snapshot_get_field(struct snapshots *of) {
+    return ginelm_snapshot_get_field(&of->here, (const uint8_t *)"key 1", 5, (const uint8_t *)"a field", 7);
+}
+
+static uint32_t snapshot_values(struct snapshots *of) { return ginelm_snapshot_values_of_key(&of->here, (const uint8_t *)"key 1", 5); }
+
+static uint32_t snapshot_fields(struct snapshots *of) { return ginelm_snapshot_fields(&of->here, (const uint8_t *)"key 1", 5); }
+
+static uint32_t snapshot_keys(struct snapshots *of) { return ginelm_snapshot_keys(&of->here); }
+
+static uint32_t snapshot_contains(struct snapshots *of) {
+    return ginelm_snapshot_contains(&of->here, (const uint8_t *)"key 1", 5, &of->is_there);
+}
+
+static uint32_t snapshot_changes(struct snapshots *of) { return ginelm_snapshot_changes(&of->older, &of->here); }
+
+/* All that can be seen of a snapshot without a call that may be refused. */
+static struct bytes snapshot_seen(ginelm_snapshot *here) {
+    struct bytes all = {NULL, 0};
+    uint8_t digest[32];
+    size_t length = 0, count = 0;
+    uint64_t size = 0;
+    CHECK(ginelm_snapshot_digest(here, digest, sizeof(digest), &length) == GINELM_DONE);
+    add(&all, digest, length);
+    CHECK(ginelm_snapshot_size(here, &size) == GINELM_DONE);
+    add(&all, &size, sizeof(size));
+    CHECK(ginelm_snapshot_count(here, &count) == GINELM_DONE);
+    for (size_t at = 0; at < count; at++) {
+        uint8_t text[64];
+        CHECK(ginelm_snapshot_text(here, at, text, sizeof(text), &length) == GINELM_DONE);
+        add(&all, &length, sizeof(length));
+        add(&all, text, length);
+    }
+    return all;
+}
+
+/* Makes the read once memory has ended at each of its requests: how many these were. */
+static size_t reads_snapshot(struct snapshots *of, uint32_t (*make)(struct snapshots *of)) {
+    for (size_t number = 1;; number++) {
+        struct bytes before = snapshot_seen(&of->here);
+        of->is_there = false;
+        heap_refuse_from(number);
+        uint32_t answer = make(of);
+        bool has_refused = heap_has_refused();
+        heap_refuse_from(0);
+        CHECK(answer == (has_refused ? GINELM_OUT_OF_MEMORY : GINELM_DONE));
+        struct bytes after = snapshot_seen(&of->here);
+        CHECK(!has_refused || (same(&before, &after) && !of->is_there));
+        free(before.at);
+        free(after.at);
+        if (!has_refused) {
+            return number - 1;
+        }
+    }
+}
+
+/* Takes a snapshot once memory has ended at each of its requests: how many these were. */
+static size_t takes_snapshot(ginelm_snapshot *here, ginelm *replica) {
+    for (size_t number = 1;; number++) {
+        struct bytes before = seen(replica);
+        heap_refuse_from(number);
+        uint32_t answer = ginelm_snapshot_take(here, replica);
+        bool has_refused = heap_has_refused();
+        heap_refuse_from(0);
+        CHECK(answer == (has_refused ? GINELM_OUT_OF_MEMORY : GINELM_DONE));
+        CHECK((here->at == NULL) == has_refused);
+        struct bytes after = seen(replica);
+        CHECK(same(&before, &after));
+        free(before.at);
+        free(after.at);
+        if (!has_refused) {
+            return number - 1;
+        }
+    }
+}
+
+/* Two snapshots with writes between them, each read, and calls that say that they allocate nothing. A third one is of what was not written since:
+ * it takes the memory of its own handle alone. */
+static size_t snapshots(struct pair *pair) {
+    struct snapshots of = {{0}, {0}, false};
+    static uint32_t (*const READS[])(struct snapshots *) = {snapshot_get,  snapshot_get_field, snapshot_values, snapshot_fields,
+                                                            snapshot_keys, snapshot_contains,  snapshot_changes};
+    ginelm_snapshot third = {0};
+    uint8_t out[64];
+    size_t count = 0;
+    uint64_t size = 0;
+    size_t refusals = takes_snapshot(&of.older, &pair->tried);
+    tries_to_put(pair, 1, "between two snapshots");
+    tries_to_put(pair, 90, "between two snapshots");
+    refusals += takes_snapshot(&of.here, &pair->tried);
+    for (size_t at = 0; at < sizeof(READS) / sizeof(READS[0]); at++) {
+        refusals += reads_snapshot(&of, READS[at]);
+    }
+    heap_refuse_from(1);
+    CHECK(ginelm_snapshot_size(&of.here, &size) == GINELM_DONE && size > 0);
+    CHECK(ginelm_snapshot_digest(&of.here, out, sizeof(out), &count) == GINELM_DONE && count == 32);
+    CHECK(ginelm_snapshot_count(&of.here, &count) == GINELM_DONE && count == 2);
+    CHECK(ginelm_snapshot_text(&of.here, 0, out, sizeof(out), &count) == GINELM_DONE && count == 5);
+    CHECK(heap_requests() == 0);
+    heap_refuse_from(0);
+    CHECK(ginelm_snapshot_take(&third, &pair->tried) == GINELM_DONE && heap_requests() == 1);
+    ginelm_snapshot_free(&third);
+    ginelm_snapshot_free(&of.older);
+    ginelm_snapshot_free(&of.here);
+    return refusals;
+}
+
 /* Calls that say that they allocate nothing. */
 static void take_no_memory(ginelm *here) {
     uint64_t number = 0;
@@ -455,7 +574,7 @@ int main(void) {
     fill(&second, 30, 80, "newer");
     asks(&pair, &second);
     answers(&pair, &third);
-    size_t refusals = made_again(&pair);
+    size_t refusals = made_again(&pair) + snapshots(&pair);
     tries(&pair, with_texts(clear, "", "", ""));
     tries_to_put(&pair, 1, "after all");
     take_no_memory(&pair.ample);

@@ -1,4 +1,5 @@
-/* Each call of the library: what it answers, wrong lengths, null texts, random messages, a synchronisation, a handle a thread. */
+/* Each call of the library: what it answers, wrong lengths, null texts, random messages, a synchronisation, a handle a thread, and readers of
+ * snapshots on threads of their own. */
 #include "ginelm.h"
 
 #include <pthread.h>
@@ -120,6 +121,7 @@ static void handles(void) {
     CHECK(ginelm_clear(&here, &number) == GINELM_EMPTY);
     CHECK(ginelm_flush(&here) == GINELM_EMPTY);
     CHECK(ginelm_take(&here, T("x"), &outcome, &named) == GINELM_EMPTY);
+    CHECK(ginelm_take_unguarded(&here, T("x"), &outcome, &named) == GINELM_EMPTY);
     CHECK(ginelm_ask(&here, 2, &number) == GINELM_EMPTY);
     CHECK(ginelm_retry(&here, 2, &outcome) == GINELM_EMPTY);
     CHECK(ginelm_abandon(&here, 2, &is) == GINELM_EMPTY);
@@ -150,7 +152,7 @@ static void handles(void) {
 
 static void words(void) {
     static const char *const WORDS[] = {"", "OutOfMemory", "TooLong", "", "NumbersSpent", "SessionsFull", "NotAMessage", "", "", "", "", "", "", "",
-                                        "Empty", "Full", "NoName", "Short", "NoText", ""};
+                                        "Empty", "Full", "NoName", "Short", "NoText", "LostMemory", ""};
     for (uint32_t answer = 0; answer < sizeof(WORDS) / sizeof(WORDS[0]); answer++) {
         uint8_t word[32];
         size_t length = 99, wanted = strlen(WORDS[answer]);
@@ -282,6 +284,29 @@ static void exchange(void) {
     ginelm_free(&two);
 }
 
+/* A replica of name 7 without what it knew is told so by a message of its first life, and takes it in only where it is not to ask. */
+static void forgets(struct letter message) {
+    ginelm here = {0};
+    uint64_t number = 0;
+    uint32_t outcome = 77;
+    bool is = false;
+    ginelm_named named = {7, 7, 7};
+    uint8_t digest[32];
+    size_t needed = 9;
+    CHECK(ginelm_new(&here, 7) == GINELM_DONE);
+    CHECK(ginelm_get(&here, T("k")) == GINELM_DONE);
+    CHECK(ginelm_has_lost(&here, message.bytes, message.length, &is) == GINELM_DONE && is);
+    CHECK(ginelm_take(&here, message.bytes, message.length, &outcome, &named) == GINELM_LOST_MEMORY);
+    CHECK(outcome == 77 && named.asker == 7 && count_of(&here) == 0);
+    CHECK(ginelm_digest(&here, digest, sizeof(digest), &needed) == GINELM_DONE && needed == 0);
+    CHECK(ginelm_take(&here, message.bytes, message.length - 1, &outcome, &named) == GINELM_NOT_A_MESSAGE);
+    CHECK(ginelm_take_unguarded(&here, message.bytes, message.length - 1, &outcome, &named) == GINELM_NOT_A_MESSAGE);
+    CHECK(ginelm_take_unguarded(&here, message.bytes, message.length, &outcome, &named) == GINELM_DONE && outcome == GINELM_JOINED);
+    CHECK(ginelm_take(&here, message.bytes, message.length, &outcome, &named) == GINELM_DONE && outcome == GINELM_JOINED);
+    CHECK(ginelm_put(&here, T("k"), T("x"), &number) == GINELM_DONE && number == 2);
+    ginelm_free(&here);
+}
+
 /* A replica comes back from what was saved: under its name, or as what another name has seen. What was cut or is a message is refused. */
 static void restarts(void) {
     ginelm one = {0}, back = {0}, other = {0};
@@ -313,9 +338,7 @@ static void restarts(void) {
     CHECK(ginelm_has_lost(&back, message.bytes, message.length, &is) == GINELM_DONE && !is);
     CHECK(ginelm_has_lost(&back, message.bytes, 1, &is) == GINELM_NOT_A_MESSAGE);
     CHECK(ginelm_has_lost(&other, message.bytes, message.length, &is) == GINELM_EMPTY);
-    CHECK(ginelm_new(&other, 7) == GINELM_DONE);
-    CHECK(ginelm_has_lost(&other, message.bytes, message.length, &is) == GINELM_DONE && is);
-    ginelm_free(&other);
+    forgets(message);
     CHECK(ginelm_new_from(&other, 0, saved.bytes, saved.length) == GINELM_NO_NAME);
     CHECK(ginelm_new_from(&other, 8, saved.bytes, 3) == GINELM_NOT_A_MESSAGE);
     CHECK(ginelm_new_from(&other, 8, saved.bytes, saved.length) == GINELM_DONE);
@@ -379,7 +402,14 @@ static void random_messages(int times) {
             length = next() % 8 == 0 && length > 0 ? next() % length : length;
         }
         ginelm *to = next() % 2 == 0 ? &one : &two;
+        bool lost = false;
+        uint32_t told = ginelm_has_lost(to, bytes, length, &lost);
         uint32_t answer = ginelm_take(to, bytes, length, &outcome, &named);
+        CHECK(answer == (told == GINELM_DONE && lost ? (uint32_t)GINELM_LOST_MEMORY : told));
+        if (answer == GINELM_LOST_MEMORY) {
+            answer = ginelm_take_unguarded(to, bytes, length, &outcome, &named);
+            CHECK(answer == GINELM_DONE);
+        }
         CHECK(answer == GINELM_DONE || answer == GINELM_NOT_A_MESSAGE);
         CHECK(answer != GINELM_DONE || (outcome >= GINELM_JOINED && outcome <= GINELM_GONE));
         taken += answer == GINELM_DONE;
@@ -390,6 +420,168 @@ static void random_messages(int times) {
     ginelm_free(&two);
     CHECK(taken > 0);
     printf("%d random messages, of which %llu were taken\n", times, (unsigned long long)taken);
+}
+
+/* The texts of a snapshot are these. */
+static void snapshot_shows(ginelm_snapshot *here, size_t wanted, const char *const *texts) {
+    size_t count = 99, needed = 99;
+    CHECK(ginelm_snapshot_count(here, &count) == GINELM_DONE && count == wanted);
+    for (size_t at = 0; at < count; at++) {
+        uint8_t text[32];
+        size_t length = strlen(texts[at]);
+        CHECK(ginelm_snapshot_text(here, at, NULL, 0, &needed) == (length == 0 ? GINELM_DONE : GINELM_SHORT) && needed == length);
+        CHECK(ginelm_snapshot_text(here, at, text, sizeof(text), &needed) == GINELM_DONE && needed == length);
+        CHECK(memcmp(text, texts[at], length) == 0);
+    }
+    CHECK(ginelm_snapshot_text(here, count, NULL, 0, &needed) == GINELM_NO_TEXT);
+}
+#define SHOWS(here, ...) \
+    snapshot_shows(here, sizeof((const char *const[]){__VA_ARGS__}) / sizeof(const char *), (const char *const[]){__VA_ARGS__})
+
+/* The handle of a snapshot that holds none, and one that is taken twice. */
+static void snapshot_handles(void) {
+    ginelm replica = {0};
+    ginelm_snapshot here = {0}, other = {0};
+    uint64_t size = 7;
+    size_t count = 7;
+    bool is = true;
+    uint8_t out[32];
+    CHECK(ginelm_snapshot_take(&here, &replica) == GINELM_EMPTY);
+    CHECK(ginelm_snapshot_get(&here, T("k")) == GINELM_EMPTY);
+    CHECK(ginelm_snapshot_get_field(&here, T("k"), T("f")) == GINELM_EMPTY);
+    CHECK(ginelm_snapshot_values_of_key(&here, T("k")) == GINELM_EMPTY);
+    CHECK(ginelm_snapshot_fields(&here, T("k")) == GINELM_EMPTY);
+    CHECK(ginelm_snapshot_keys(&here) == GINELM_EMPTY);
+    CHECK(ginelm_snapshot_contains(&here, T("k"), &is) == GINELM_EMPTY);
+    CHECK(ginelm_snapshot_size(&here, &size) == GINELM_EMPTY);
+    CHECK(ginelm_snapshot_digest(&here, out, sizeof(out), &count) == GINELM_EMPTY);
+    CHECK(ginelm_snapshot_count(&here, &count) == GINELM_EMPTY);
+    CHECK(ginelm_snapshot_text(&here, 0, out, sizeof(out), &count) == GINELM_EMPTY);
+    CHECK(size == 7 && count == 7 && is && here.at == NULL && replica.at == NULL);
+    ginelm_snapshot_free(&here);
+    CHECK(ginelm_new(&replica, 1) == GINELM_DONE);
+    CHECK(ginelm_snapshot_take(&here, &replica) == GINELM_DONE);
+    CHECK(ginelm_snapshot_take(&here, &replica) == GINELM_FULL);
+    CHECK(ginelm_snapshot_changes(&here, &other) == GINELM_EMPTY && ginelm_snapshot_changes(&other, &here) == GINELM_EMPTY);
+    ginelm_free(&replica);
+    CHECK(ginelm_snapshot_take(&here, &replica) == GINELM_FULL);
+    CHECK(ginelm_snapshot_count(&here, &count) == GINELM_DONE && count == 0);
+    CHECK(ginelm_snapshot_size(&here, &size) == GINELM_DONE && size == 0);
+    CHECK(ginelm_snapshot_digest(&here, out, 0, &count) == GINELM_DONE && count == 0);
+    ginelm_snapshot_free(&here);
+    CHECK(here.at == NULL);
+    ginelm_snapshot_free(&here);
+}
+
+/* What a snapshot shows is what stood there, whatever is written, and once the replica is gone too. */
+static void snapshots(void) {
+    ginelm replica = {0};
+    ginelm_snapshot before = {0}, after = {0};
+    uint64_t number = 0, size = 0;
+    size_t needed = 0;
+    bool is = false;
+    uint8_t digest[32], other[32];
+    uint8_t *many = calloc(65536, 1);
+    CHECK(ginelm_new(&replica, 1) == GINELM_DONE);
+    put(&replica, "a", "1");
+    put(&replica, "b", "2");
+    CHECK(ginelm_put_field(&replica, T("a"), T("f"), T("3"), &number) == GINELM_DONE);
+    CHECK(ginelm_keys(&replica) == GINELM_DONE);
+    CHECK(ginelm_digest(&replica, digest, sizeof(digest), &needed) == GINELM_DONE && needed == 32);
+    CHECK(ginelm_snapshot_take(&before, &replica) == GINELM_DONE && count_of(&replica) == 2);
+    put(&replica, "a", "4");
+    put(&replica, "c", "5");
+    CHECK(ginelm_remove(&replica, T("b"), &number) == GINELM_DONE && number == 1);
+    CHECK(ginelm_snapshot_take(&after, &replica) == GINELM_DONE);
+    ginelm_free(&replica);
+
+    CHECK(ginelm_snapshot_get(&before, T("a")) == GINELM_DONE);
+    SHOWS(&before, "1");
+    CHECK(ginelm_snapshot_get(&after, T("a")) == GINELM_DONE);
+    SHOWS(&after, "4");
+    CHECK(ginelm_snapshot_get_field(&before, T("a"), T("f")) == GINELM_DONE);
+    SHOWS(&before, "3");
+    CHECK(ginelm_snapshot_values_of_key(&before, T("a")) == GINELM_DONE);
+    SHOWS(&before, "1", "3");
+    CHECK(ginelm_snapshot_fields(&before, T("a")) == GINELM_DONE);
+    SHOWS(&before, "", "f");
+    CHECK(ginelm_snapshot_keys(&before) == GINELM_DONE);
+    SHOWS(&before, "a", "b");
+    CHECK(ginelm_snapshot_contains(&before, T("b"), &is) == GINELM_DONE && is);
+    CHECK(ginelm_snapshot_contains(&after, T("b"), &is) == GINELM_DONE && !is);
+    CHECK(ginelm_snapshot_size(&before, &size) == GINELM_DONE && size == 2);
+    CHECK(ginelm_snapshot_digest(&before, other, 31, &needed) == GINELM_SHORT && needed == 32);
+    CHECK(ginelm_snapshot_digest(&before, other, 32, &needed) == GINELM_DONE && memcmp(digest, other, 32) == 0);
+    CHECK(ginelm_snapshot_digest(&after, other, 32, &needed) == GINELM_DONE && memcmp(digest, other, 32) != 0);
+    CHECK(ginelm_snapshot_changes(&before, &after) == GINELM_DONE);
+    SHOWS(&after, "a", "b", "c");
+    SHOWS(&before, "a", "b");
+
+    /* a refused call leaves the texts */
+    CHECK(ginelm_snapshot_get(&before, many, 65536) == GINELM_TOO_LONG);
+    CHECK(ginelm_snapshot_get_field(&before, T("a"), many, 65536) == GINELM_TOO_LONG);
+    CHECK(ginelm_snapshot_get_field(&before, many, 65536, T("f")) == GINELM_TOO_LONG);
+    CHECK(ginelm_snapshot_values_of_key(&before, many, 65536) == GINELM_TOO_LONG);
+    CHECK(ginelm_snapshot_fields(&before, many, 65536) == GINELM_TOO_LONG);
+    CHECK(ginelm_snapshot_contains(&before, many, 65536, &is) == GINELM_TOO_LONG);
+    SHOWS(&before, "a", "b");
+    CHECK(ginelm_snapshot_get(&before, NULL, 0) == GINELM_DONE);
+    CHECK(ginelm_snapshot_count(&before, &needed) == GINELM_DONE && needed == 0);
+    ginelm_snapshot_free(&before);
+    CHECK(ginelm_snapshot_changes(&before, &after) == GINELM_EMPTY);
+    SHOWS(&after, "a", "b", "c");
+    ginelm_snapshot_free(&after);
+    free(many);
+}
+
+/* A reader on a thread of its own: what it sees is the same each time. */
+static void *read_on(void *given) {
+    ginelm_snapshot *here = given;
+    uint8_t first[32], digest[32];
+    size_t needed = 0;
+    CHECK(ginelm_snapshot_digest(here, first, sizeof(first), &needed) == GINELM_DONE && needed == 32);
+    for (int round = 0; round < 20; round++) {
+        size_t count = 0;
+        CHECK(ginelm_snapshot_keys(here) == GINELM_DONE);
+        CHECK(ginelm_snapshot_count(here, &count) == GINELM_DONE && count == 200);
+        for (int at = 0; at < 200; at++) {
+            char key[16];
+            int length = snprintf(key, sizeof(key), "key %d", at);
+            CHECK(ginelm_snapshot_get(here, (const uint8_t *)key, (size_t)length) == GINELM_DONE);
+            SHOWS(here, "before");
+        }
+        CHECK(ginelm_snapshot_digest(here, digest, sizeof(digest), &needed) == GINELM_DONE && memcmp(first, digest, 32) == 0);
+    }
+    ginelm_snapshot_free(here);
+    return NULL;
+}
+
+/* Readers of snapshots, one on each of four threads, which are let go there, while the replica writes. */
+static void readers(void) {
+    ginelm replica = {0};
+    ginelm_snapshot held[4] = {{0}};
+    pthread_t at[4];
+    char key[16];
+    CHECK(ginelm_new(&replica, 1) == GINELM_DONE);
+    for (int it = 0; it < 200; it++) {
+        snprintf(key, sizeof(key), "key %d", it);
+        put(&replica, key, "before");
+    }
+    for (int it = 0; it < 4; it++) {
+        CHECK(ginelm_snapshot_take(&held[it], &replica) == GINELM_DONE);
+        CHECK(pthread_create(&at[it], NULL, read_on, &held[it]) == 0);
+    }
+    for (int round = 0; round < 5; round++) {
+        for (int it = 0; it < 300; it++) {
+            snprintf(key, sizeof(key), "key %d", it);
+            put(&replica, key, "after");
+        }
+        CHECK(ginelm_changes(&replica) == GINELM_DONE && count_of(&replica) == 300);
+    }
+    for (int it = 0; it < 4; it++) {
+        CHECK(pthread_join(at[it], NULL) == 0);
+    }
+    ginelm_free(&replica);
 }
 
 struct work {
@@ -454,6 +646,9 @@ int main(int count, char **arguments) {
     texts();
     exchange();
     restarts();
+    snapshot_handles();
+    snapshots();
+    readers();
     random_messages(times);
     threads(times / 40);
     printf("all calls answered as they are to\n");

@@ -32,6 +32,7 @@ from .errors import (
 )
 from .map import Fields, Map
 from .replica import Letter, Outcome, Replica, Session, Taken
+from .snapshot import Snapshot
 
 __all__ = [
     "Empty",
@@ -51,6 +52,7 @@ __all__ = [
     "Session",
     "SessionsFull",
     "Short",
+    "Snapshot",
     "Taken",
     "TooLong",
 ]

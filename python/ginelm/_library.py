@@ -14,6 +14,12 @@ class Handle(ctypes.Structure):
     _fields_ = [("at", c_void_p)]
 
 
+class SnapshotHandle(ctypes.Structure):
+    """A handle on a snapshot: null where it holds nothing."""
+
+    _fields_ = [("at", c_void_p)]
+
+
 class Named(ctypes.Structure):
     """A synchronisation; three times 0 for none."""
 
@@ -21,6 +27,7 @@ class Named(ctypes.Structure):
 
 
 _HERE = POINTER(Handle)
+_SNAPSHOT = POINTER(SnapshotHandle)
 _TEXT = (c_char_p, c_size_t)
 _NUMBER = POINTER(c_uint64)
 _COUNT = POINTER(c_size_t)
@@ -43,6 +50,7 @@ _CALLS: dict[str, tuple] = {
     "clear": (_HERE, _NUMBER),
     "flush": (_HERE,),
     "take": (_HERE, *_TEXT, _OUTCOME, _SESSION),
+    "take_unguarded": (_HERE, *_TEXT, _OUTCOME, _SESSION),
     "has_lost": (_HERE, *_TEXT, _TEST),
     "ask": (_HERE, c_uint64, _NUMBER),
     "retry": (_HERE, c_uint64, _OUTCOME),
@@ -62,6 +70,19 @@ _CALLS: dict[str, tuple] = {
     "count": (_HERE, _COUNT),
     "text": (_HERE, c_size_t, _NUMBER, *_ROOM),
     "word": (c_uint32, *_ROOM),
+    "snapshot_take": (_SNAPSHOT, _HERE),
+    "snapshot_free": (_SNAPSHOT,),
+    "snapshot_get": (_SNAPSHOT, *_TEXT),
+    "snapshot_get_field": (_SNAPSHOT, *_TEXT, *_TEXT),
+    "snapshot_values_of_key": (_SNAPSHOT, *_TEXT),
+    "snapshot_fields": (_SNAPSHOT, *_TEXT),
+    "snapshot_keys": (_SNAPSHOT,),
+    "snapshot_contains": (_SNAPSHOT, *_TEXT, _TEST),
+    "snapshot_size": (_SNAPSHOT, _NUMBER),
+    "snapshot_digest": (_SNAPSHOT, *_ROOM),
+    "snapshot_changes": (_SNAPSHOT, _SNAPSHOT),
+    "snapshot_count": (_SNAPSHOT, _COUNT),
+    "snapshot_text": (_SNAPSHOT, c_size_t, *_ROOM),
 }
 
 
@@ -84,7 +105,7 @@ def _loaded() -> ctypes.CDLL:
     for name, types in _CALLS.items():
         call = getattr(library, f"ginelm_{name}")
         call.argtypes = types
-        call.restype = None if name == "free" else c_uint32
+        call.restype = None if name in ("free", "snapshot_free") else c_uint32
     return library
 
 

@@ -39,19 +39,14 @@ class NotAMessage(GinelmError, ValueError):
     number = 6
 
 
-class LostMemory(GinelmError):
-    """The message knows a write of this replica's name that it does not know: two replicas use the name, or it was used
-    before and what was known is lost."""
-
-
 class Empty(GinelmError):
-    """The replica was closed."""
+    """The replica or the snapshot was closed."""
 
     number = 14
 
 
 class Full(GinelmError):
-    """The handle holds a replica already."""
+    """The handle holds something already."""
 
     number = 15
 
@@ -74,6 +69,13 @@ class NoText(GinelmError, LookupError):
     number = 18
 
 
+class LostMemory(GinelmError):
+    """The message knows a write of this replica's name that it does not know: two replicas use the name, or it was used
+    before and what was known is lost."""
+
+    number = 19
+
+
 REFUSALS = {
     refusal.number: refusal
     for refusal in (
@@ -87,6 +89,7 @@ REFUSALS = {
         NoName,
         Short,
         NoText,
+        LostMemory,
     )
 }
 

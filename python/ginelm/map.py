@@ -3,12 +3,9 @@
 from __future__ import annotations
 
 from collections.abc import Iterator
-from typing import Union
 
 from .replica import Replica
-
-#: Text is taken as its UTF-8 bytes.
-Text = Union[bytes, str]
+from .snapshot import Text, encoded
 
 
 class Map:
@@ -24,29 +21,29 @@ class Map:
 
     def __getitem__(self, key: Text) -> set[bytes]:
         """The values of the key at its empty field. Raises KeyError where the key holds none at any field."""
-        found = set(self.replica.get(_encoded(key)))
+        found = set(self.replica.get(encoded(key)))
         if not found and key not in self:
             raise KeyError(key)
         return found
 
     def get(self, key: Text) -> set[bytes]:
         """The values of the key at its empty field, which are none where it is not there."""
-        return set(self.replica.get(_encoded(key)))
+        return set(self.replica.get(encoded(key)))
 
     def __setitem__(self, key: Text, value: Text) -> None:
-        self.replica.put(_encoded(key), _encoded(value))
+        self.replica.put(encoded(key), encoded(value))
 
     def __delitem__(self, key: Text) -> None:
         """Takes away what was seen at the key, with all its fields. Raises KeyError where nothing was."""
-        if self.replica.remove(_encoded(key)) == 0:
+        if self.replica.remove(encoded(key)) == 0:
             raise KeyError(key)
 
     def discard(self, key: Text) -> None:
         """Takes away what was seen at the key, with all its fields, if anything was."""
-        self.replica.remove(_encoded(key))
+        self.replica.remove(encoded(key))
 
     def __contains__(self, key: object) -> bool:
-        return isinstance(key, (bytes, str)) and self.replica.contains(_encoded(key))
+        return isinstance(key, (bytes, str)) and self.replica.contains(encoded(key))
 
     def __len__(self) -> int:
         return self.replica.size()
@@ -72,7 +69,7 @@ class Map:
 
     def fields(self, key: Text) -> Fields:
         """The fields of the key, as a dictionary of their own."""
-        return Fields(self.replica, _encoded(key))
+        return Fields(self.replica, encoded(key))
 
     def __repr__(self) -> str:
         return f"Map({dict(self.items())!r})"
@@ -94,14 +91,14 @@ class Fields:
 
     def get(self, field: Text) -> set[bytes]:
         """The values of the field, which are none where it is not there."""
-        return set(self.replica.get_field(self.key, _encoded(field)))
+        return set(self.replica.get_field(self.key, encoded(field)))
 
     def __setitem__(self, field: Text, value: Text) -> None:
-        self.replica.put_field(self.key, _encoded(field), _encoded(value))
+        self.replica.put_field(self.key, encoded(field), encoded(value))
 
     def __delitem__(self, field: Text) -> None:
         """Takes away what was seen at the field. Raises KeyError where nothing was."""
-        if self.replica.remove_field(self.key, _encoded(field)) == 0:
+        if self.replica.remove_field(self.key, encoded(field)) == 0:
             raise KeyError(field)
 
     def __contains__(self, field: object) -> bool:
@@ -123,7 +120,3 @@ class Fields:
 
     def __repr__(self) -> str:
         return f"Fields({dict(self.items())!r})"
-
-
-def _encoded(text: Text) -> bytes:
-    return text.encode() if isinstance(text, str) else text

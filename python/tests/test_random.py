@@ -10,7 +10,7 @@ from typing import NamedTuple, Optional
 import pytest
 from model import Model, World
 
-from ginelm import Outcome, Replica, SessionsFull
+from ginelm import Outcome, Replica, SessionsFull, Snapshot
 
 REPLICAS = 6
 KEYS = [b"key %d" % number for number in range(40)]
@@ -36,6 +36,7 @@ class Run:
         self.carried: list[Carried] = []
         self.outcomes: set[Outcome] = set()
         self.shown: dict[int, dict[bytes, frozenset]] = {name: {} for name in self.replicas}
+        self.snapshots: dict[int, tuple[Snapshot, dict]] = {name: (it.snapshot(), {}) for name, it in self.replicas.items()}
 
     # ---- messages
 
@@ -133,12 +134,22 @@ class Run:
         assert replica.keys() == model.keys()
         assert replica.size() == len(model.keys())
         standing, before = model.standing(), self.shown[name]
-        assert replica.changes() == sorted(key for key in standing.keys() | before.keys() if standing.get(key) != before.get(key))
+        changed = sorted(key for key in standing.keys() | before.keys() if standing.get(key) != before.get(key))
+        assert replica.changes() == changed
         self.shown[name] = standing
+        self.look_back(name, changed)
         for dot in self.random.sample(sorted(self.world.writer), min(50, len(self.world.writer))):
             assert replica.knows(*dot) == model.knows(dot)
         for key in KEYS:
             self.look(name, key)
+
+    def look_back(self, name: int, changed: list[bytes]) -> None:
+        """The snapshot that was taken the last time shows what stood there then, and a new one differs from it at the keys that changed."""
+        model, (older, values) = self.models[name], self.snapshots[name]
+        assert {key: older.values_of_key(key) for key in older.keys()} == values
+        newer = self.replicas[name].snapshot()
+        assert newer.changes_since(older) == changed and newer.digest() == self.replicas[name].digest()
+        self.snapshots[name] = newer, {key: model.values_of_key(key) for key in model.keys()}
 
     def step(self) -> None:
         name = self.random.choice(list(self.replicas))

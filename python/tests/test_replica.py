@@ -183,6 +183,8 @@ def test_a_name_without_its_memory_is_told() -> None:
         with pytest.raises(ginelm.LostMemory):
             forgetful.take(data)
     assert forgetful.keys() == [] and not forgetful.knows(1, 1)
+    assert forgetful.take(letter.data, guarded=False) == (Outcome.JOINED, None, [])
+    assert forgetful.knows(1, 1) and forgetful.take(letter.data).outcome is Outcome.JOINED
     with pytest.raises(ginelm.NotAMessage):
         one.has_lost(b"no message")
 

@@ -8,6 +8,12 @@ pub struct Handle {
     pub at: *mut c_void,
 }
 
+/// A handle on a snapshot: null where it holds nothing.
+#[repr(C)]
+pub struct SnapshotHandle {
+    pub at: *mut c_void,
+}
+
 /// A synchronisation; three times 0 for none.
 #[repr(C)]
 #[derive(Default)]
@@ -65,6 +71,13 @@ extern "C" {
         outcome: *mut u32,
         session: *mut Named,
     ) -> u32;
+    pub fn ginelm_take_unguarded(
+        here: *mut Handle,
+        bytes: *const u8,
+        length: usize,
+        outcome: *mut u32,
+        session: *mut Named,
+    ) -> u32;
     pub fn ginelm_has_lost(
         here: *mut Handle,
         bytes: *const u8,
@@ -102,6 +115,50 @@ extern "C" {
         here: *mut Handle,
         at: usize,
         to: *mut u64,
+        out: *mut u8,
+        room: usize,
+        needed: *mut usize,
+    ) -> u32;
+    pub fn ginelm_snapshot_take(here: *mut SnapshotHandle, replica: *mut Handle) -> u32;
+    pub fn ginelm_snapshot_free(here: *mut SnapshotHandle);
+    pub fn ginelm_snapshot_get(here: *mut SnapshotHandle, key: *const u8, key_length: usize)
+        -> u32;
+    pub fn ginelm_snapshot_get_field(
+        here: *mut SnapshotHandle,
+        key: *const u8,
+        key_length: usize,
+        field: *const u8,
+        field_length: usize,
+    ) -> u32;
+    pub fn ginelm_snapshot_values_of_key(
+        here: *mut SnapshotHandle,
+        key: *const u8,
+        key_length: usize,
+    ) -> u32;
+    pub fn ginelm_snapshot_fields(
+        here: *mut SnapshotHandle,
+        key: *const u8,
+        key_length: usize,
+    ) -> u32;
+    pub fn ginelm_snapshot_keys(here: *mut SnapshotHandle) -> u32;
+    pub fn ginelm_snapshot_contains(
+        here: *mut SnapshotHandle,
+        key: *const u8,
+        key_length: usize,
+        is_there: *mut bool,
+    ) -> u32;
+    pub fn ginelm_snapshot_size(here: *mut SnapshotHandle, size: *mut u64) -> u32;
+    pub fn ginelm_snapshot_digest(
+        here: *mut SnapshotHandle,
+        out: *mut u8,
+        room: usize,
+        needed: *mut usize,
+    ) -> u32;
+    pub fn ginelm_snapshot_changes(older: *mut SnapshotHandle, newer: *mut SnapshotHandle) -> u32;
+    pub fn ginelm_snapshot_count(here: *mut SnapshotHandle, count: *mut usize) -> u32;
+    pub fn ginelm_snapshot_text(
+        here: *mut SnapshotHandle,
+        at: usize,
         out: *mut u8,
         room: usize,
         needed: *mut usize,

@@ -15,6 +15,9 @@ pub enum Error {
     SessionsFull,
     /// The bytes spell no message.
     NotAMessage,
+    /// The message knows a write of this replica's name that it does not know: two replicas use the name, or it was used before and what
+    /// was known is lost.
+    LostMemory,
     /// The library answered what this crate does not know.
     Unknown(u32),
 }
@@ -29,6 +32,7 @@ impl Error {
             4 => Err(Error::NumbersSpent),
             5 => Err(Error::SessionsFull),
             6 => Err(Error::NotAMessage),
+            19 => Err(Error::LostMemory),
             other => Err(Error::Unknown(other)),
         }
     }
@@ -42,6 +46,7 @@ impl fmt::Display for Error {
             Error::NumbersSpent => f.write_str("no number is left"),
             Error::SessionsFull => f.write_str("eight synchronisations are open"),
             Error::NotAMessage => f.write_str("the bytes spell no message"),
+            Error::LostMemory => f.write_str("the name was used without its memory"),
             Error::Unknown(answer) => write!(f, "the library answered {answer}"),
         }
     }

@@ -21,12 +21,15 @@
 //! ```
 
 mod calls;
+mod copying;
 mod error;
 mod letter;
 mod replica;
+mod snapshot;
 mod texts;
 
 pub use error::Error;
 pub use letter::{Letter, Outcome, Session, Taken};
 pub use replica::Replica;
+pub use snapshot::{Entries, Snapshot};
 pub use texts::Texts;

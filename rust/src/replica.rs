@@ -1,11 +1,16 @@
 use crate::calls::{self, Handle, Named};
+use crate::copying;
 use crate::error::Error;
 use crate::letter::{Letter, Outcome, Session, Taken};
+use crate::snapshot::Snapshot;
 use crate::texts::Texts;
 use std::cell::UnsafeCell;
 use std::fmt;
 use std::num::NonZeroU64;
 use std::ptr::null_mut;
+
+// A call that takes a message in.
+type Take = unsafe extern "C" fn(*mut Handle, *const u8, usize, *mut u32, *mut Named) -> u32;
 
 /// One replica of the map, which may go to another thread, but is used by one at a time.
 pub struct Replica {
@@ -73,6 +78,11 @@ impl Replica {
         Ok(self.text(0)?.bytes)
     }
 
+    // The handle, while no call is being made with it.
+    pub(crate) fn here(&self) -> *mut Handle {
+        self.handle.get()
+    }
+
     // A call with the handle.
     fn call(&self, call: impl FnOnce(*mut Handle) -> u32) -> Result<(), Error> {
         Error::check(call(self.handle.get()))
@@ -85,28 +95,12 @@ impl Replica {
         (0..count).map(|at| self.text(at)).collect()
     }
 
-    // Most texts are short: they are copied at once.
     fn text(&self, at: usize) -> Result<Letter, Error> {
-        let (mut to, mut length, mut short) = (0, 0, [0; 256]);
-        let mut copy = |room: &mut [u8], length: &mut usize| unsafe {
-            calls::ginelm_text(
-                self.handle.get(),
-                at,
-                &mut to,
-                room.as_mut_ptr(),
-                room.len(),
-                length,
-            )
-        };
-        let first = copy(&mut short, &mut length);
-        let bytes = if length > short.len() {
-            let mut bytes = vec![0; length];
-            Error::check(copy(&mut bytes, &mut length))?;
-            bytes
-        } else {
-            Error::check(first)?;
-            short[..length].to_vec()
-        };
+        let mut to = 0;
+        let bytes = copying::text(|room, length| unsafe {
+            let here = self.handle.get();
+            calls::ginelm_text(here, at, &mut to, room.as_mut_ptr(), room.len(), length)
+        })?;
         Ok(Letter {
             to: NonZeroU64::new(to),
             bytes,
@@ -199,11 +193,20 @@ impl Replica {
         Ok(self.texts()?.pop())
     }
 
-    /// Takes in any message of any replica.
+    /// Takes in any message of any replica. `Error::LostMemory` just where `has_lost` is true of it, and nothing has changed then.
     pub fn take(&mut self, bytes: &[u8]) -> Result<Taken, Error> {
+        self.take_by(bytes, calls::ginelm_take)
+    }
+
+    /// The same for messages that may be forged: by one, a replica learns of a write of its name that it never made.
+    pub fn take_unguarded(&mut self, bytes: &[u8]) -> Result<Taken, Error> {
+        self.take_by(bytes, calls::ginelm_take_unguarded)
+    }
+
+    fn take_by(&mut self, bytes: &[u8], take: Take) -> Result<Taken, Error> {
         let (mut outcome, mut named) = (0, Named::default());
         self.call(|here| unsafe {
-            calls::ginelm_take(here, bytes.as_ptr(), bytes.len(), &mut outcome, &mut named)
+            take(here, bytes.as_ptr(), bytes.len(), &mut outcome, &mut named)
         })?;
         let letters = self.texts()?;
         Ok(Taken {
@@ -214,7 +217,7 @@ impl Replica {
     }
 
     /// Whether the message knows a write of this replica's name that it does not know: then two replicas use the name, or it was used
-    /// before and what was known is lost, and the message is not to be taken.
+    /// before and what was known is lost.
     pub fn has_lost(&self, bytes: &[u8]) -> Result<bool, Error> {
         let mut lost = false;
         self.call(|here| unsafe {
@@ -310,12 +313,15 @@ impl Replica {
 
     /// The root digest, or None where there is no key. Replicas that hold the same have the same.
     pub fn digest(&self) -> Option<[u8; 32]> {
-        let (mut digest, mut length) = ([0; 32], 0);
-        let told = self.call(|here| unsafe {
-            calls::ginelm_digest(here, digest.as_mut_ptr(), 32, &mut length)
-        });
-        debug_assert_eq!(told, Ok(()));
-        (length == 32).then_some(digest)
+        copying::digest(|out, room, length| unsafe {
+            calls::ginelm_digest(self.handle.get(), out, room, length)
+        })
+    }
+
+    /// What it holds at this moment, for readers on other threads. It takes time in what was written since the last snapshot, and copies no
+    /// key and no value.
+    pub fn snapshot(&self) -> Result<Snapshot, Error> {
+        Snapshot::of(self)
     }
 
     /// Whether it has seen the write of this number, from 1 on, of the replica of this name.

@@ -179,3 +179,23 @@ fn a_replica_comes_back() {
     assert_eq!(Replica::resume(&saved[1..]).err(), Some(Error::NotAMessage));
     assert_eq!(one.take(&saved), Err(Error::NotAMessage));
 }
+
+#[test]
+fn a_name_without_its_memory_is_told() {
+    let mut one = replica(1);
+    one.put(b"k", b"v").unwrap();
+    let letter = one.flush().unwrap().unwrap();
+    let mut forgetful = replica(1);
+    assert_eq!(forgetful.has_lost(&letter.bytes), Ok(true));
+    assert_eq!(forgetful.take(&letter.bytes), Err(Error::LostMemory));
+    assert_eq!((forgetful.size(), forgetful.knows(name(1), 1)), (0, false));
+    assert_eq!(
+        Error::LostMemory.to_string(),
+        "the name was used without its memory"
+    );
+    let taken = forgetful.take_unguarded(&letter.bytes).unwrap();
+    assert_eq!(taken.outcome, Outcome::Joined);
+    assert_eq!(forgetful.has_lost(&letter.bytes), Ok(false));
+    assert!(forgetful.take(&letter.bytes).is_ok());
+    assert_eq!(one.take_unguarded(b"x"), Err(Error::NotAMessage));
+}

@@ -8,17 +8,19 @@ use Rattle.replica_core.specs.Stepping.{Steps, Stays}
 use Rattle.ginelm_c.specs.declared.held.Held.{Held}
 use Rattle.ginelm_c.specs.Texts.{letters_in}
 
--- a call with an empty handle is answered 14, and the handle stays empty
-abbrev pub StaysEmpty : Option Held → Option Held → ℕ → Type 0
-StaysEmpty old new answer = old ≡ None → (answer ≡ 14) × (new ≡ None)
+-- of a handle by what it held and what it holds: of a replica, or of a snapshot
+module _ {T : Type 0} where
+  -- a call with an empty handle is answered 14, and the handle stays empty
+  abbrev pub StaysEmpty : Option T → Option T → ℕ → Type 0
+  StaysEmpty old new answer = old ≡ None → (answer ≡ 14) × (new ≡ None)
 
--- a handle that holds a replica holds one still
-abbrev pub StaysFull : Option Held → Option Held → Type 0
-StaysFull old new = (x : Held) → old ≡ Some x → (y : Held) × (new ≡ Some y)
+  -- a handle that holds something holds something still
+  abbrev pub StaysFull : Option T → Option T → Type 0
+  StaysFull old new = (x : T) → old ≡ Some x → (y : T) × (new ≡ Some y)
 
--- so stand what it held and what it holds
-abbrev pub Between : Option Held → Option Held → (Held → Held → Type 0) → Type 0
-Between old new P = (x y : Held) → old ≡ Some x → new ≡ Some y → P x y
+  -- so stand what it held and what it holds
+  abbrev pub Between : Option T → Option T → (T → T → Type 0) → Type 0
+  Between old new P = (x y : T) → old ≡ Some x → new ≡ Some y → P x y
 
 -- the replica is as it was, and so are the texts
 pub record IsSame (x y : Held) : Type 0 where

@@ -6,3 +6,4 @@ pub mod Sending
 pub mod Reading
 pub mod Saving
 pub mod Changing
+pub mod Snapshots

@@ -5,6 +5,8 @@ use Rattle.wire_form.specs.Session.{SessionValue}
 use Rattle.replica_model.specs.Mail.{mail_of}
 use Rattle.replica_model.specs.Step.{Do, Take, Retry, Came}
 use Rattle.replica_core.specs.Answered.{outcome_of}
+use Rattle.replica_core.specs.Guarding.{HasLost}
+use Rattle.replica_core.specs.Meaning.{meaning}
 use Rattle.replica_core.specs.declared.outcome.Outcome.{Outcome}
 use Rattle.replica_core.specs.declared.outcome.Outcome.TheVariants.{Joined, Sent, Done, Ignored, Mismatch, Gone}
 use Rattle.ginelm_c.specs.declared.held.Held.{Held}
@@ -33,6 +35,10 @@ pub record Takes (x y : Held) (bytes : List ℕ) (outcome : ℕ) (session : Name
   pub told : Outcome
   pub numbered : outcome ≡ number_of told
   pub sent : handling.Sent x y (Take (mail_of message)) (Came (outcome_of told))
+
+-- the bytes spell a message that knows a write of the replica's name that the replica does not know
+abbrev pub TellsLoss : Held → List ℕ → Type 0
+TellsLoss x bytes = (message : MessageValue) × Spells bytes message × HasLost (meaning x.replica) (mail_of message)
 
 -- what is to be sent again for the synchronisation of this number
 pub record Retries (x y : Held) (number outcome : ℕ) : Type 0 where

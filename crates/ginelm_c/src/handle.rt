@@ -85,7 +85,7 @@ impl Handle {
 // C may give a handle to another thread.
 unsafe impl Send for Handle {}
 
-fn crosses<T: Send>(_value: &T) {}
+pub(crate) fn crosses<T: Send>(_value: &T) {}
 
 // Asks for the proof that it may: nothing else here does.
 pub(crate) fn handle_crosses(handle: &Handle) {

@@ -5,7 +5,7 @@ ghost use Rattle.op_model.specs.Meaning.{Stands, HoldsField};
 ghost use Rattle.op_model.specs.Place.{place_of};
 ghost use Rattle.replica_core.specs.Meaning.{meaning};
 ghost use Rattle.ginelm_c.specs.Handling.{Between, StaysEmpty, StaysFull};
-ghost use Rattle.ginelm_c.specs.Reading.{IsRootDigest, Knows, Shows, ShowsDigest};
+ghost use Rattle.ginelm_c.specs.Reading.{IsRootDigest, Knows, Shows, ShowsDigest, digest_bytes};
 ghost use Rattle.ginelm_c.specs.declared.held.Held.{Held};
 
 use crate::answer::{EMPTY, told};
@@ -76,18 +76,25 @@ pub extern "C" fn ginelm_fields(alloc: Global, here: &mut Handle, key: &[u8]) ->
 
 // The root digest of its map, if it has a key.
 fn root_digest(held: &Held) -> Option<[u8; 32]>
-    ensures { IsRootDigest held.now result }
+    ensures { IsRootDigest (meaning held.now.replica).live result }
 {
     held.replica.digest()
 }
 
-fn digest(held: &Held, out: &mut [u8], needed: &mut usize) -> u32
-    ensures told { result ≡ 0 → ShowsDigest held.now (take needed.new out.new) }
+// Copies a digest, or no bytes.
+pub(crate) fn copied_digest(digest: Option<[u8; 32]>, out: &mut [u8], needed: &mut usize) -> u32
+    ensures told { result ≡ 0 → take needed.new out.new ≡ digest_bytes digest }
 {
-    match root_digest(held) {
+    match digest {
         Some(digest) => copied(&digest, out, needed),
         None => copied(&[], out, needed),
     }
+}
+
+fn digest(held: &Held, out: &mut [u8], needed: &mut usize) -> u32
+    ensures told { result ≡ 0 → ShowsDigest (meaning held.now.replica).live (take needed.new out.new) }
+{
+    copied_digest(root_digest(held), out, needed)
 }
 
 /// Copies the root digest, as ginelm_text copies a text: 32 bytes, or none where there is no key. Replicas that hold the same have the same.
@@ -100,7 +107,7 @@ pub extern "C" fn ginelm_digest(
 ) -> u32
     ensures none { StaysEmpty here.old.value here.new.value result }
     ensures same { here.new.value ≡ here.old.value }
-    ensures told { result ≡ 0 → (x : Held) → here.old.value ≡ Some x → ShowsDigest x (take needed.new out.new) }
+    ensures told { result ≡ 0 → (x : Held) → here.old.value ≡ Some x → ShowsDigest (meaning x.replica).live (take needed.new out.new) }
 {
     let Some(held) = here.take(alloc) else {
         return EMPTY;

@@ -52,7 +52,7 @@ pub(crate) fn outcome_number(outcome: Outcome) -> u32
     }
 }
 
-fn take(
+pub(crate) fn take(
     held: &mut Held,
     bytes: &[u8],
     outcome: &mut u32,
@@ -74,10 +74,10 @@ fn take(
     Ok(())
 }
 
-/// Takes a message in by its bytes, and tells what came of it by number, and the synchronisation that it named. What is to be sent for it
-/// becomes the texts.
+/// Takes a message in by its bytes, whatever it says, and tells what came of it by number, and the synchronisation that it named. What is to
+/// be sent for it becomes the texts. It is for messages that may be forged: by one, a replica learns of a write that it never made.
 #[unsafe(no_mangle)]
-pub extern "C" fn ginelm_take(
+pub extern "C" fn ginelm_take_unguarded(
     alloc: Global,
     here: &mut Handle,
     bytes: &[u8],

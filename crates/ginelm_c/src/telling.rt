@@ -25,7 +25,13 @@ pub(crate) fn copied(bytes: &[u8], out: &mut [u8], needed: &mut usize) -> u32
 }
 
 // The text at this place, and whom it is for.
-fn text(texts: &Texts, at: usize, to: &mut u64, out: &mut [u8], needed: &mut usize) -> u32
+pub(crate) fn text(
+    texts: &Texts,
+    at: usize,
+    to: &mut u64,
+    out: &mut [u8],
+    needed: &mut usize,
+) -> u32
     ensures told { result ≡ 0 → (bytes_at texts.now at ≡ Some (take needed.new out.new)) × (to.new ≡ addressee_at texts.now at) }
     ensures short { result ≡ 17 → length out.old < needed.new }
 {
@@ -88,6 +94,7 @@ fn word_of(number: u32) -> &'static str {
         16 => "NoName",
         17 => "Short",
         18 => "NoText",
+        19 => "LostMemory",
         _ => "",
     }
 }

@@ -1,21 +1,13 @@
 -- A handle may be given to another thread, as the box behind it may.
-use mir.Raw.{raw}
-use base.Shift.{Keyless}
-use denote.Memory.{lone}
-use denote.RawPtr.{Ptr}
 use denote.Param.Send.{IsSend, struct_send, owning_send, sendable}
 use denote.Param.SendFields.{declared_send}
 use denote.Builtin.{RawPtr}
 use denote.Struct.Struct.{exits_of}
 use denote.Struct.Owning.{shape, fields, to}
-use Rattle.std_alloc.proofs.SendSync.{quiet, lies}
-use Rattle.std.proofs.Crossing.{frees}
+use Rattle.std_alloc.proofs.SendSync.{quiet}
 use Rattle.std.proofs.alloc.Global.TheSendSync as heap
-use Rattle.std.specs.declared.alloc.Global.{Global}
-use Rattle.std.specs.declared.option.Option.{Option}
-use Rattle.std.specs.declared.option.Option.TheVariants.{None, Some}
-use Rattle.ginelm_c.specs.Owning.{owns_held}
 use Rattle.ginelm_c.specs.contracts.held.Held as held
+use Rattle.ginelm_c.proofs.Owned.{owned_crosses}
 use Rattle.ginelm_c.proofs.texts.Texts.TheSendSync as texts
 use Rattle.hash_path.proofs.fnv1a.Fnv1a.TheSendSync as hashes
 use Rattle.prefix_digest.proofs.sha_summary.ShaSummary.TheSendSync as digests
@@ -25,11 +17,7 @@ use Rattle.ginelm_c.specs.contracts.handle.Handle.{the_row, the_type}
 held_send : IsSend held.the_row
 held_send = declared_send held.the_type (object_send, (texts.the_send, (search (frozen_send, fields_send, fields_sync, digests.the_send, digests.the_sync, hashes.the_send, sendable) depth 20, tt)))
 
-owned : (a : Global) (p : Ptr) (o : Option held.the_row.Denot) → Keyless (owns_held held.the_row a p o)
-owned a p None = tt
-owned a p (Some x) = (lies held.the_row held_send p x, frees.frees a (raw (lone held.the_row.mir)) p)
-
 pub send : IsSend the_row
 send = let ps : IsSend RawPtr = search sendable in
-    owning_send the_type (ps, (heap.the_field_send, tt)) (λ d. owned d.alloc d.at d.value)
+    owning_send the_type (ps, (heap.the_field_send, tt)) (λ d. owned_crosses held.the_row held_send d.alloc d.at d.value)
     (λ k. quiet (to the_type) (exits_of k (fields the_type)) ((struct_send (shape the_type) (ps, (heap.the_field_send, tt))).leaving k))
