@@ -1,13 +1,12 @@
 -- Pins: what a pin is, and that pins stay as more events come.
-use Rattle.std.specs.Prelude.{◌≡◌, ◌≢◌, ◌⊎◌, ◌≤◌, ◌+◌, ◌-◌, ℕ, zero, suc, true, cond, List, [], ◌∷◌, ◌++◌, map, take, drop, length, refl, Option, Some, None, Result, Ok, Err, slice_get, slice_index_or, nat_lt}
-use Rattle.std.specs.List.{All}
+use Rattle.std.specs.Prelude.{◌≡◌, ◌≢◌, ◌⊎◌, ◌+◌, ◌-◌, ℕ, zero, suc, true, cond, List, [], ◌∷◌, ◌++◌, map, length, refl, Option, Some, None, Result, Ok, Err, slice_get, nat_lt}
 use Rattle.std.specs.Option.{option_map}
 use Rattle.std.proofs.lemmas.Option.{none-some, slice_get_within, get_or_from_slice_get}
-use Rattle.std.proofs.Common.{arith, ap, sym, ◌∙◌, inl, inr, subst, length-append, append-nil}
+use Rattle.std.proofs.Common.{arith, ap, sym, ◌∙◌, inl, inr, subst}
 use Rattle.std.proofs.lemmas.Bool.{false≢true, cond-true}
 use Rattle.std.proofs.lemmas.Bool.Decides.{nat_tests}
-use Rattle.std.proofs.lemmas.List.{take_all, map-append, take-append-drop}
-use Rattle.std.proofs.lemmas.List.Elements.{All-tail, All-append}
+use Rattle.std.proofs.lemmas.List.{map-append}
+use Rattle.std.proofs.lemmas.List.Elements.{All-append}
 use Rattle.std.specs.declared.vec.Vec.{Vec}
 use Rattle.delta_ops.specs.LiveMap.{store_state}
 use Rattle.dots.specs.Dot.{DotValue}

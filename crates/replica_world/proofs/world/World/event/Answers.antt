@@ -34,9 +34,11 @@ pub invariant_of-self-in-Err-happen : goal.invariant_of-self-in-Err-happen
 invariant_of-self-in-Err-happen g c =
     let s = c.self.inside in
     let alive = alive_noted g.H.PathHash.hash_of s.hash s.replicas s.posted s.kept s.past.items c.self.invariant c.ready.new.kept c.in_default.ensures.notes in
-    rw c.in_default.ensures.past
-    (event_left g.H.PathHash.hash_of s.hash s.replicas s.posted (events_of (held_in (saves_in c.ready.new.kept) (map accepted_value s.past.items))) alive.0 c.happen.new.replicas c.happen.new.posted
-    (event_value c.args.event) c.in-Err-happen.ensures.unchanged, alive.1)
+    rw c.in_default.ensures.past (
+      event_left g.H.PathHash.hash_of s.hash s.replicas s.posted (events_of (held_in (saves_in c.ready.new.kept) (map accepted_value s.past.items))) alive.0 c.happen.new.replicas c.happen.new.posted
+          (event_value c.args.event) c.in-Err-happen.ensures.unchanged,
+      alive.1,
+    )
 
 pub returns-in-Err-happen-clause-refused : goal.returns-in-Err-happen-clause-refused
 returns-in-Err-happen-clause-refused g c =
@@ -60,7 +62,7 @@ settled g c =
     let e = event_value c.args.event in
     let answer = answer_value c.in-Ok.answer in
     let flag = c.is_to_be_saved-is_saved.ensures answer c.further-answer.ensures.further
-        ∙ (λ i. is_saved_with e answer (not (c.len-first.ensures.count i + 1 == c.len-end.ensures.count i + 1))) in
+    ∙ (λ i. is_saved_with e answer (not (c.len-first.ensures.count i + 1 == c.len-end.ensures.count i + 1))) in
     subst (λ b. Settles b c.ready.new.kept c.settle-saves.new.kept (replica_of e)) flag
     (subst (Settles c.is_to_be_saved-is_saved.result c.ready.new.kept c.settle-saves.new.kept) c.name.ensures c.settle-saves.ensures.settles)
 

@@ -33,7 +33,7 @@ pub invariant_of-self-2 : goal.invariant_of-self-2
 invariant_of-self-2 g c =
     let s = c.self.inside in
     let alive = alive_noted g.H.PathHash.hash_of s.hash s.replicas s.posted s.kept s.past.items c.self.invariant c.make_place.new.kept
-        (notes_same s.replicas s.kept c.make_place.new.kept c.in_default.ensures.saves c.in_default.ensures.checkpoints) in
+    (notes_same s.replicas s.kept c.make_place.new.kept c.in_default.ensures.saves c.in_default.ensures.checkpoints) in
     alive_saved g.H.PathHash.hash_of s.hash s.replicas s.posted c.make_place.new.kept s.past.items alive c.save_once.new.kept c.args.name c.save_once.ensures.once
 
 pub returns-clause-ok : goal.returns-clause-ok
