@@ -1,11 +1,14 @@
 /* What a message may cost: a message of n bytes takes at most 40 n bytes of memory, and a little for a message of few bytes, whatever it says;
- * here it says what is dearest. The counts in front of lists are compared with the bytes that are left before memory is taken. */
+ * here it says what is dearest. The counts in front of lists are compared with the bytes that are left before memory is taken.
+ * Under callgrind it also counts the instructions of each message, for steps.py, which compares those of a message with those of one of half
+ * as many parts. */
 #include "ginelm.h"
 #include "heap.h"
 
 #include <stdio.h>
 #include <stdlib.h>
 #include <string.h>
+#include <valgrind/callgrind.h>
 
 #define CHECK(x) \
     do { \
@@ -178,12 +181,13 @@ static uint32_t pair(uint32_t state, uint8_t pieces[2][PIECE]) {
     CHECK(false);
 }
 
-/* 2,048 keys of 55 bytes of one hash: each is a choice of one piece of each pair. */
+/* Up to 2,048 keys of 55 bytes of one hash, where the count divides that: each is a choice of one piece of each pair. */
 static struct message one_hash(uint64_t count) {
     struct message m = delta(1, count);
     uint8_t pieces[PIECES][2][PIECE];
     uint32_t state = 0x811c9dc5u;
-    CHECK(count == 1u << PIECES);
+    uint64_t apart = (1u << PIECES) / count;
+    CHECK(count * apart == 1u << PIECES);
     for (int at = 0; at < PIECES; at++) {
         state = pair(state, pieces[at]);
     }
@@ -192,7 +196,7 @@ static struct message one_hash(uint64_t count) {
     for (uint64_t choice = 0; choice < count; choice++) {
         uint8_t key[PIECES * PIECE];
         for (int at = 0; at < PIECES; at++) {
-            memcpy(key + at * PIECE, pieces[at][choice >> (PIECES - 1 - at) & 1], PIECE);
+            memcpy(key + at * PIECE, pieces[at][choice * apart >> (PIECES - 1 - at) & 1], PIECE);
         }
         CHECK(hash(0x811c9dc5u, key, sizeof(key)) == state);
         text(&m, key, sizeof(key));
@@ -230,14 +234,19 @@ static struct message false_count(uint64_t count) {
 static void costs(const char *what, struct message m, int held, uint32_t wanted) {
     ginelm here = {0};
     ginelm_named named;
+    char label[64];
     uint32_t outcome = 0;
     uint64_t told = 0;
     CHECK(ginelm_new(&here, 1) == GINELM_DONE);
     for (int key = 0; key < held; key++) {
         CHECK(ginelm_put(&here, (const uint8_t *)&key, sizeof(key), (const uint8_t *)"v", 1, &told) == GINELM_DONE);
     }
+    snprintf(label, sizeof(label), "%s, bytes %zu", what, m.length);
     heap_measure();
+    CALLGRIND_TOGGLE_COLLECT;
     CHECK(ginelm_take(&here, m.at, m.length, &outcome, &named) == wanted);
+    CALLGRIND_TOGGLE_COLLECT;
+    CALLGRIND_DUMP_STATS_AT(label);
     size_t most = heap_most();
     printf("%s: %zu bytes take %.1f times as much\n", what, m.length, (double)most / (double)m.length);
     CHECK(most <= 40 * m.length + 4096);
@@ -245,16 +254,25 @@ static void costs(const char *what, struct message m, int held, uint32_t wanted)
     free(m.at);
 }
 
-int main(void) {
-    for (int held = 0; held <= 1000; held += 1000) {
-        costs("10,000 names", many_names(10000), held, GINELM_DONE);
-        costs("10,000 gaps", many_gaps(10000), held, GINELM_DONE);
-        costs("10,000 keys", many_keys(10000), held, GINELM_DONE);
-        costs("10,000 fields", many_fields(10000), held, GINELM_DONE);
-        costs("10,000 values", many_values(10000), held, GINELM_DONE);
-        costs("2,048 keys of one hash", one_hash(2048), held, GINELM_DONE);
-        costs("a hello of 10,000 names", hello(10000), held, GINELM_DONE);
-        costs("a false count", false_count(UINT64_MAX), held, GINELM_NOT_A_MESSAGE);
+/* Each kind of message of so many parts. */
+static void all_cost(uint64_t count, uint64_t count_of_one_hash, int held) {
+    costs("names", many_names(count), held, GINELM_DONE);
+    costs("gaps", many_gaps(count), held, GINELM_DONE);
+    costs("keys", many_keys(count), held, GINELM_DONE);
+    costs("fields", many_fields(count), held, GINELM_DONE);
+    costs("values", many_values(count), held, GINELM_DONE);
+    costs("keys of one hash", one_hash(count_of_one_hash), held, GINELM_DONE);
+    costs("a hello of names", hello(count), held, GINELM_DONE);
+    costs("a false count", false_count(UINT64_MAX), held, GINELM_NOT_A_MESSAGE);
+}
+
+int main(int count, char **words) {
+    bool counts_steps = count == 2 && strcmp(words[1], "steps") == 0;
+    all_cost(10000, 2048, 1000);
+    if (counts_steps) {
+        all_cost(5000, 1024, 1000);
+    } else {
+        all_cost(10000, 2048, 0);
     }
     return 0;
 }

@@ -1,6 +1,6 @@
 #!/usr/bin/env bash
 # The library's calls from C: over the static library with AddressSanitizer, and over the shared one under valgrind; each
-# request for memory refused in turn; what dear messages take; and the kept inputs of the fuzzer.
+# request for memory refused in turn; what dear messages take of memory and of steps; and the kept inputs of the fuzzer.
 # Give a number to begin its random messages with; else the time gives one, and it is printed.
 set -euo pipefail
 cd "$(dirname "$0")/.."
@@ -22,6 +22,8 @@ wrap=-Wl,--wrap=malloc,--wrap=calloc,--wrap=realloc,--wrap=free
 "$work/refusals"
 "$cc" -std=c11 -Wall -Wextra -Werror -g -O1 -Ibuild c/hostile.c c/heap.c build/libginelm.a $wrap -o "$work/hostile"
 "$work/hostile"
+valgrind --quiet --tool=callgrind --collect-atstart=no --callgrind-out-file="$work/steps" "$work/hostile" steps >/dev/null
+python3 c/steps.py "$work"/steps*
 
 # What libFuzzer found worth keeping, once more.
 tar -xzf c/corpus.tar.gz -C "$work"
