@@ -1,7 +1,10 @@
 mod bytes;
 mod calls;
+mod clients;
 mod deliveries;
 mod late;
 mod long;
+mod new_nodes;
+mod reads;
 mod tries;
 mod worlds;

@@ -1,6 +1,6 @@
 // Messages that a replica takes in, and their bytes.
 use crate::made::{
-    Here, Shown, asked, asks, first, opened, paged, put, put_forty, replica, what_shows,
+    Here, Shown, asked, asks, first, flushed, opened, paged, put, put_forty, replica, what_shows,
 };
 use crate::tests::bytes;
 use crate::trial::{Trial, refusals, wanted};
@@ -89,16 +89,6 @@ enum Kind {
     Opening,
     Ask,
     Page,
-}
-
-// The delta of what was written.
-fn flushed<A: Allocator + Copy>(
-    rt: &impl Abort,
-    alloc: Global,
-    here: &mut Here<A>,
-) -> Box<Message<A>> {
-    let delta = here.flush().expect(rt, "a flush").expect(rt, "a delta");
-    Box::new(alloc, delta).expect(rt, "memory")
 }
 
 // A message that is no reply.

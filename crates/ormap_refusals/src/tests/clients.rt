@@ -1,0 +1,544 @@
+// The calls and looks of a client of a node.
+ghost use Rattle.std.specs.Prelude.{◌≡◌};
+ghost use Rattle.replica_core.specs.Meaning.{meaning};
+
+use crate::made::{Here, flushed, opened, paged, put, replica, what_shows};
+use crate::nodes::{One, Seen, Shared, called, ended, found, inspected, next, node, seen};
+use crate::trial::{Trial, refusals, wanted};
+use dots::{Field, Key, Name, Refusal, Value};
+use hash_path::Fnv1a;
+use linked_list_allocator::LocalHeap;
+use node_threads::{
+    Abandoning, Asking, Batching, Checkpointing, Clearing, Delivering, FieldListing, FieldRemoving,
+    Flushing, Getting, KeyListing, Knowing, Naming, NodeEvent, Putting, Removing, Retrying,
+    SessionListing, Sharing, Sizing, Write, Written,
+};
+use replica_core::{Delivered, Outcome, Replica};
+use root_cell::OpenedBook;
+use shared_object::Look;
+use std::alloc::{Allocator, Global};
+use std::panic::Expect;
+use std::process::Abort;
+use std::sync::Wait;
+use std::{marker, mem};
+use wire_form::Message;
+
+// What is called or looked at, at a node of the replica 1, which has put v on a and on b, and has opened the synchronisation 1 with 2.
+#[derive(Clone, Copy)]
+enum Act {
+    Put,
+    Remove,
+    RemoveField,
+    Clear,
+    Flush,
+    Ask,
+    Retry,
+    Abandon,
+    // What comes of the message.
+    Deliver(Outcome),
+    Batch,
+    Get,
+    Fields,
+    Keys,
+    Sessions,
+    Know,
+    Save,
+    // What takes no memory.
+    See,
+}
+
+// A message of the replica 2, which has put w on c.
+#[derive(Clone, Copy)]
+enum Kind {
+    Delta,
+    // What it opens with for the synchronisation.
+    Opening,
+    // What it answers who asks then.
+    Page,
+}
+
+// Such a call of the client, who saw this before.
+#[derive(Drop)]
+struct Calling<'r, K: Naming, R: Wait + Drop, A: Allocator + Copy> {
+    rt: &'r R,
+    heap: A,
+    client: &'r mut One<K, R, A>,
+    message: &'r Message<A>,
+    before: Seen,
+    act: Act,
+}
+
+impl<'r, K: Naming, R: Wait + Drop, A: Allocator + Copy> Trial for Calling<'r, K, R, A> {
+    fn attempt(&mut self) -> Result<(), Refusal> {
+        let (rt, heap) = (self.rt, self.heap);
+        match self.act {
+            Act::Put => put_more(rt, heap, self.client),
+            Act::Remove => remove(rt, heap, self.client),
+            Act::RemoveField => remove_field(rt, heap, self.client),
+            Act::Clear => wanted(called(rt, self.client, &Clearing { alloc: heap })? == 2),
+            Act::Flush => flush(rt, heap, self.client),
+            Act::Ask => ask(rt, heap, self.client),
+            Act::Retry => retry(rt, heap, self.client),
+            Act::Abandon => abandon(rt, heap, self.client),
+            Act::Deliver(outcome) => deliver(rt, heap, self.client, self.message, outcome),
+            Act::Batch => batch(rt, heap, self.client, &mut self.before),
+            Act::Get => get(heap, self.client),
+            Act::Fields => fields(heap, self.client),
+            Act::Keys => keys(heap, self.client),
+            Act::Sessions => sessions(rt, self.client),
+            Act::Know => know(rt, heap, self.client),
+            Act::Save => save(rt, heap, self.client, self.before),
+            Act::See => see(rt, self.client, self.before),
+        }
+    }
+
+    fn is_as_before(&mut self) -> bool {
+        seen(self.rt, self.client) == Ok(self.before)
+    }
+}
+
+// One of the two keys.
+fn a<A: Allocator + Copy>(heap: A) -> Result<Key<A>, Refusal> {
+    Key::new(heap, b"a")
+}
+
+// Puts a value on a field of it.
+fn put_more<K: Naming, R: Wait + Drop, A: Allocator + Copy>(
+    rt: &R,
+    heap: A,
+    client: &mut One<K, R, A>,
+) -> Result<(), Refusal> {
+    let (key, field) = (a(heap)?, Field::new(heap, b"f")?);
+    let putting = Putting {
+        alloc: heap,
+        key: &key,
+        field: &field,
+        value: &Value::empty(),
+    };
+    wanted(called(rt, client, &putting)?.number() == 3)
+}
+
+// Removes it.
+fn remove<K: Naming, R: Wait + Drop, A: Allocator + Copy>(
+    rt: &R,
+    heap: A,
+    client: &mut One<K, R, A>,
+) -> Result<(), Refusal> {
+    let key = a(heap)?;
+    let removing = Removing {
+        alloc: heap,
+        key: &key,
+    };
+    wanted(called(rt, client, &removing)? == 1)
+}
+
+// Removes its one field.
+fn remove_field<K: Naming, R: Wait + Drop, A: Allocator + Copy>(
+    rt: &R,
+    heap: A,
+    client: &mut One<K, R, A>,
+) -> Result<(), Refusal> {
+    let key = a(heap)?;
+    let removing = FieldRemoving {
+        alloc: heap,
+        key: &key,
+        field: &Field::empty(),
+    };
+    wanted(called(rt, client, &removing)? == 1)
+}
+
+fn flush<K: Naming, R: Wait + Drop, A: Allocator + Copy>(
+    rt: &R,
+    heap: A,
+    client: &mut One<K, R, A>,
+) -> Result<(), Refusal> {
+    let sent = called(rt, client, &Flushing { alloc: heap })?;
+    wanted(sent.is_some())
+}
+
+// The next one has the number 2, however often one was refused before.
+fn ask<K: Naming, R: Wait + Drop, A: Allocator + Copy>(
+    rt: &R,
+    heap: A,
+    client: &mut One<K, R, A>,
+) -> Result<(), Refusal> {
+    let asking = Asking {
+        alloc: heap,
+        peer: Name::new(2).ok_or(Refusal::BadLine)?,
+    };
+    let asked = called(rt, client, &asking)?;
+    wanted(asked.0 == 2)
+}
+
+fn retry<K: Naming, R: Wait + Drop, A: Allocator + Copy>(
+    rt: &R,
+    heap: A,
+    client: &mut One<K, R, A>,
+) -> Result<(), Refusal> {
+    let retrying = Retrying {
+        alloc: heap,
+        number: 1,
+    };
+    let told = called(rt, client, &retrying)?;
+    wanted(comes_to(&told, Outcome::Sent))
+}
+
+fn abandon<K: Naming, R: Wait + Drop, A: Allocator + Copy>(
+    rt: &R,
+    heap: A,
+    client: &mut One<K, R, A>,
+) -> Result<(), Refusal> {
+    let abandoning = Abandoning {
+        alloc: heap,
+        number: 1,
+    };
+    wanted(called(rt, client, &abandoning)?)
+}
+
+fn deliver<K: Naming, R: Wait + Drop, A: Allocator + Copy>(
+    rt: &R,
+    heap: A,
+    client: &mut One<K, R, A>,
+    message: &Message<A>,
+    outcome: Outcome,
+) -> Result<(), Refusal> {
+    let delivering = Delivering {
+        alloc: heap,
+        message,
+    };
+    let told = called(rt, client, &delivering)?;
+    wanted(comes_to(&told, outcome))
+}
+
+// Whether this is what comes of it, with a reply where something is sent.
+fn comes_to<A: Allocator + Copy>(told: &Delivered<A>, outcome: Outcome) -> bool {
+    let is_sent = outcome == Outcome::Sent;
+    told.outcome == outcome && (told.replies.len() == 1) == is_sent
+}
+
+// Puts a value on a field of a, and one on d. Where one is refused, those before it are made, and it is tried as refused.
+fn batch<K: Naming, R: Wait + Drop, A: Allocator + Copy>(
+    rt: &R,
+    heap: A,
+    client: &mut One<K, R, A>,
+    before: &mut Seen,
+) -> Result<(), Refusal> {
+    let (key, other) = (a(heap)?, Key::new(heap, b"d")?);
+    let (field, value) = (Field::new(heap, b"f")?, Value::empty());
+    let writes = [
+        Write::Put(&key, &field, &value),
+        Write::Put(&other, &field, &value),
+    ];
+    let batching = Batching {
+        alloc: heap,
+        writes: &writes,
+    };
+    let written = called(rt, client, &batching)?;
+    let after = seen(rt, client)?;
+    let was = mem::replace(before, after);
+    is_as_told(&written, was, after)
+}
+
+// Whether the replica is as the batch tells: each write that was made has a dot, and the second one a key.
+fn is_as_told<A: Allocator>(
+    written: &Written<A>,
+    before: Seen,
+    after: Seen,
+) -> Result<(), Refusal> {
+    let made = written.wrote.len() as u64;
+    let dots = before.shown.one.checked_add(made);
+    let keys = if made == 2 { 3 } else { 2 };
+    wanted(dots == Some(after.shown.one) && after.shown.size == keys)?;
+    wanted(before.events.checked_add(1) == Some(after.events))?;
+    match written.refusal {
+        Some(refusal) => Err(refusal),
+        None => wanted(made == 2),
+    }
+}
+
+// Reads its one value.
+fn get<K: Naming, R: Wait + Drop, A: Allocator + Copy>(
+    heap: A,
+    client: &mut One<K, R, A>,
+) -> Result<(), Refusal> {
+    let key = a(heap)?;
+    let getting = Getting {
+        alloc: heap,
+        key: &key,
+        field: &Field::empty(),
+    };
+    let values = found(client, &getting)??;
+    wanted(values.len() == 1)
+}
+
+// Reads its one field.
+fn fields<K: Naming, R: Wait + Drop, A: Allocator + Copy>(
+    heap: A,
+    client: &mut One<K, R, A>,
+) -> Result<(), Refusal> {
+    let key = a(heap)?;
+    let listing = FieldListing {
+        alloc: heap,
+        key: &key,
+    };
+    let fields = found(client, &listing)??;
+    wanted(fields.len() == 1)
+}
+
+// Lists the two keys.
+fn keys<K: Naming, R: Wait + Drop, A: Allocator + Copy>(
+    heap: A,
+    client: &mut One<K, R, A>,
+) -> Result<(), Refusal> {
+    let keys = found(client, &KeyListing { alloc: heap })??;
+    wanted(keys.len() == 2)
+}
+
+// Lists the one synchronisation that is open.
+fn sessions<K: Naming, R: Wait + Drop, A: Allocator + Copy>(
+    rt: &R,
+    client: &mut One<K, R, A>,
+) -> Result<(), Refusal> {
+    let sessions = inspected(rt, client, &SessionListing)?;
+    wanted(sessions.len() == 1)
+}
+
+// The dots of the two writes.
+fn know<K: Naming, R: Wait + Drop, A: Allocator + Copy>(
+    rt: &R,
+    heap: A,
+    client: &mut One<K, R, A>,
+) -> Result<(), Refusal> {
+    let known = inspected(rt, client, &Knowing { alloc: heap })?;
+    let own = Name::new(1).ok_or(Refusal::BadLine)?;
+    wanted(known.entry(own) == 2)
+}
+
+// What is saved of the replica comes back, and shows the same.
+fn save<K: Naming, R: Wait + Drop, A: Allocator + Copy>(
+    rt: &R,
+    heap: A,
+    client: &mut One<K, R, A>,
+    before: Seen,
+) -> Result<(), Refusal> {
+    let checkpoint = inspected(rt, client, &Checkpointing)?;
+    let saved = checkpoint.saved(heap)?;
+    drop(checkpoint);
+    let again = Replica::resume(heap, Fnv1a, saved)?;
+    wanted(what_shows(&again) == before.shown)
+}
+
+// Looks at what takes no memory, and at a snapshot.
+fn see<K: Naming, R: Wait + Drop, A: Allocator + Copy>(
+    rt: &R,
+    client: &mut One<K, R, A>,
+    before: Seen,
+) -> Result<(), Refusal> {
+    let snapshot = found(client, &Sharing)??;
+    let size = Sizing.look(&snapshot);
+    drop(snapshot);
+    let now = seen(rt, client)?;
+    wanted(now == before && size == 2)
+}
+
+// The message, for the replica 1.
+fn message<A: Allocator + Copy>(
+    rt: &impl Abort,
+    alloc: Global,
+    here: &mut Here<A>,
+    peer: &mut Here<A>,
+    kind: Kind,
+) -> Box<Message<A>> {
+    match kind {
+        Kind::Delta => flushed(rt, alloc, peer),
+        Kind::Opening => reply(rt, alloc, opened(rt, alloc, here, peer, 2)),
+        Kind::Page => reply(rt, alloc, paged(rt, alloc, here, peer)),
+    }
+}
+
+// The last reply.
+fn reply<A: Allocator + Copy>(
+    rt: &impl Abort,
+    alloc: Global,
+    told: Delivered<A>,
+) -> Box<Message<A>> {
+    let mut told = told;
+    let reply = told.replies.pop().expect(rt, "a reply");
+    Box::new(alloc, reply).expect(rt, "memory")
+}
+
+// How often the call is refused, and how many events the client has seen before it is made.
+fn tried_by<K: Naming, R: Wait + Abort + Drop, A: Allocator + Copy>(
+    rt: &R,
+    alloc: Global,
+    small: &LocalHeap,
+    heap: A,
+    client: &mut One<K, R, A>,
+    message: &Message<A>,
+    act: Act,
+) -> (usize, u64) {
+    let before = seen(rt, client).expect(rt, "a root");
+    let mut calling = Calling {
+        rt,
+        heap,
+        client,
+        message,
+        before,
+        act,
+    };
+    let count = refusals(rt, alloc, small, 8, &mut calling);
+    (count, calling.before.events)
+}
+
+// The same by the client of a node of this replica, which has so many events more in the end.
+fn tried_at_this_node<K: Naming, R: Wait + Abort + Copy + Drop, A: Allocator + Copy>(
+    rt: R,
+    alloc: Global,
+    small: &LocalHeap,
+    heap: A,
+    book: OpenedBook<NodeEvent<A>>,
+    here: Here<A>,
+    message: &Message<A>,
+    act: Act,
+    events: u64,
+) -> usize
+    requires book { book.0 ≡ K.book }
+    requires first { meaning here ≡ K.first }
+{
+    let made: Result<Shared<K, R, A>, Here<A>> = node(rt, heap, book, here);
+    let mut node = made.ok().expect(&rt, "memory");
+    let mut client = next(&mut node).expect(&rt, "a place");
+    let (count, before) = tried_by(&rt, alloc, small, heap, &mut client, message, act);
+    let told = ended(&rt, heap, node, client).expect(&rt, "all clients");
+    assert!(rt; before.checked_add(events) == Some(told));
+    count
+}
+
+// The same by the client of a new node.
+fn tried<R: Wait + Abort + Copy + Drop, A: Allocator + Copy>(
+    rt: R,
+    alloc: Global,
+    small: &LocalHeap,
+    heap: A,
+    kind: Kind,
+    act: Act,
+    events: u64,
+) -> usize {
+    let mut here = replica(&rt, alloc, heap, 1);
+    let mut peer = replica(&rt, alloc, heap, 2);
+    put(heap, &mut *here, b"a", b"v").expect(&rt, "a put");
+    put(heap, &mut *here, b"b", b"v").expect(&rt, "a put");
+    put(heap, &mut *peer, b"c", b"w").expect(&rt, "a put");
+    let message = message(&rt, alloc, &mut *here, &mut *peer, kind);
+    let copy = here.copy().expect(&rt, "memory");
+    tried_at_this_node::<marker::Brand, R, A>(
+        rt,
+        alloc,
+        small,
+        heap,
+        OpenedBook::new(),
+        copy,
+        &*message,
+        act,
+        events,
+    )
+}
+
+// The same in a heap of its own, which is empty in the end.
+fn tried_in_a_heap<R: Wait + Abort + Copy + Drop>(
+    rt: R,
+    alloc: Global,
+    kind: Kind,
+    act: Act,
+    events: u64,
+) -> usize {
+    let heap = LocalHeap::new(alloc, 40_000).expect(&rt, "memory");
+    let count = tried(rt, alloc, &heap, &heap, kind, act, events);
+    assert!(rt; heap.used() == 0);
+    count
+}
+
+// What is called, the call, the message, of how many events it is, and how often it is refused at least and at most.
+type Row = (&'static str, Act, Kind, u64, usize, usize);
+
+const ROWS: &[Row] = &[
+    ("a put", Act::Put, Kind::Opening, 1, 4, usize::MAX),
+    ("a remove", Act::Remove, Kind::Opening, 1, 4, usize::MAX),
+    (
+        "a remove of a field",
+        Act::RemoveField,
+        Kind::Opening,
+        1,
+        4,
+        usize::MAX,
+    ),
+    ("a clear", Act::Clear, Kind::Opening, 1, 4, usize::MAX),
+    ("a flush", Act::Flush, Kind::Opening, 1, 4, usize::MAX),
+    ("an ask", Act::Ask, Kind::Opening, 1, 4, usize::MAX),
+    ("a retry", Act::Retry, Kind::Opening, 1, 4, usize::MAX),
+    ("an abandon", Act::Abandon, Kind::Opening, 1, 4, usize::MAX),
+    (
+        "a delta is taken in",
+        Act::Deliver(Outcome::Joined),
+        Kind::Delta,
+        1,
+        4,
+        usize::MAX,
+    ),
+    (
+        "an opening is accepted",
+        Act::Deliver(Outcome::Sent),
+        Kind::Opening,
+        1,
+        4,
+        usize::MAX,
+    ),
+    (
+        "a page ends the synchronisation",
+        Act::Deliver(Outcome::Done),
+        Kind::Page,
+        1,
+        4,
+        usize::MAX,
+    ),
+    // The events of the batch are seen before it is whole.
+    ("a batch", Act::Batch, Kind::Opening, 0, 4, usize::MAX),
+    ("a get", Act::Get, Kind::Opening, 0, 2, usize::MAX),
+    (
+        "a list of fields",
+        Act::Fields,
+        Kind::Opening,
+        0,
+        2,
+        usize::MAX,
+    ),
+    ("a list of keys", Act::Keys, Kind::Opening, 0, 2, usize::MAX),
+    (
+        "a list of synchronisations",
+        Act::Sessions,
+        Kind::Opening,
+        0,
+        1,
+        usize::MAX,
+    ),
+    (
+        "the dots that are known",
+        Act::Know,
+        Kind::Opening,
+        0,
+        1,
+        usize::MAX,
+    ),
+    ("a save", Act::Save, Kind::Opening, 0, 4, usize::MAX),
+    ("other looks", Act::See, Kind::Opening, 0, 0, 0),
+];
+
+#[test]
+fn a_refused_call_of_a_client_changes_nothing_and_is_made_again(rt: HostRuntime) {
+    for (what, act, kind, events, least, most) in ROWS {
+        let count = tried_in_a_heap(rt, rt.alloc(), *kind, *act, *events);
+        let is_refused = count >= *least;
+        let is_made = count <= *most;
+        assert!(rt; is_refused && is_made, "{what}");
+    }
+}

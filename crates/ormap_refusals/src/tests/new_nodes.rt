@@ -1,0 +1,147 @@
+// Nodes that are made in a heap.
+ghost use Rattle.std.specs.Prelude.{◌≡◌};
+ghost use Rattle.replica_core.specs.Meaning.{meaning};
+ghost use Rattle.replica_model.specs.Replica.{fresh};
+
+use crate::made::{Here, Shown, put, replica, what_shows};
+use crate::nodes::{One, Shared, called, ended, next, node, seen};
+use crate::trial::{Trial, refusals, wanted};
+use dots::{Name, Refusal};
+use linked_list_allocator::LocalHeap;
+use node_threads::{Asking, Naming, NodeEvent, new_node};
+use root_cell::OpenedBook;
+use shared_object::NoGate;
+use std::alloc::{Allocator, Global};
+use std::marker;
+use std::panic::Expect;
+use std::process::Abort;
+use std::sync::Wait;
+
+// A node that is made, and ends once its client has called. It is new, or of a copy of this replica, of the name 1, which showed this before.
+#[derive(Drop)]
+struct Making<'r, R: Wait + Copy + Drop, A: Allocator + Copy> {
+    rt: R,
+    small: &'r LocalHeap,
+    heap: A,
+    here: &'r Here<A>,
+    shown: Shown,
+    used: usize,
+    is_new: bool,
+}
+
+impl<'r, R: Wait + Copy + Drop, A: Allocator + Copy> Trial for Making<'r, R, A> {
+    fn attempt(&mut self) -> Result<(), Refusal> {
+        let name = self.here.name();
+        if self.is_new {
+            return made_anew::<marker::Brand, R, A>(self.rt, self.heap, OpenedBook::new(), name);
+        }
+        let copy = self.here.copy()?;
+        made_of::<marker::Brand, R, A>(self.rt, self.heap, OpenedBook::new(), copy, self.shown)
+    }
+
+    // Nothing of a node is left behind.
+    fn is_as_before(&mut self) -> bool {
+        self.small.used() == self.used
+    }
+}
+
+// Makes a new node, which shows nothing, and ends it.
+fn made_anew<K: Naming, R: Wait + Copy + Drop, A: Allocator + Copy>(
+    rt: R,
+    heap: A,
+    book: OpenedBook<NodeEvent<A>>,
+    name: Name,
+) -> Result<(), Refusal>
+    requires book { book.0 ≡ K.book }
+    requires first { K.first ≡ fresh name }
+{
+    let node: Shared<K, R, A> = new_node(&rt, heap, book, name, 2, NoGate, rt)?;
+    is_whole(rt, heap, node, 0)
+}
+
+// Makes a node of this replica, which shows this, and ends it. Where there is no memory for it, the replica comes back.
+fn made_of<K: Naming, R: Wait + Copy + Drop, A: Allocator + Copy>(
+    rt: R,
+    heap: A,
+    book: OpenedBook<NodeEvent<A>>,
+    here: Here<A>,
+    shown: Shown,
+) -> Result<(), Refusal>
+    requires book { book.0 ≡ K.book }
+    requires first { meaning here ≡ K.first }
+{
+    let made: Result<Shared<K, R, A>, Here<A>> = node(rt, heap, book, here);
+    match made {
+        Ok(node) => is_whole(rt, heap, node, shown.size),
+        Err(back) => Err(refused_with(&back, shown)),
+    }
+}
+
+// The refusal of a node whose replica came back. It shows this.
+fn refused_with<A: Allocator + Copy>(back: &Here<A>, shown: Shown) -> Refusal {
+    if what_shows(back) == shown {
+        Refusal::OutOfMemory
+    } else {
+        Refusal::BadLine
+    }
+}
+
+// Has the client of a node look, where it sees so many keys, and call, and ends the node, which had the one call then.
+fn is_whole<K: Naming, R: Wait + Drop, A: Allocator + Copy>(
+    rt: R,
+    heap: A,
+    node: Shared<K, R, A>,
+    size: u64,
+) -> Result<(), Refusal> {
+    let mut node = node;
+    let mut client = next(&mut node)?;
+    sees_and_asks(&rt, heap, &mut client, size)?;
+    wanted(ended(&rt, heap, node, client)? == 1)
+}
+
+// Sees so many keys and no event, and asks.
+fn sees_and_asks<K: Naming, R: Wait + Drop, A: Allocator + Copy>(
+    rt: &R,
+    heap: A,
+    client: &mut One<K, R, A>,
+    size: u64,
+) -> Result<(), Refusal> {
+    let seen = seen(rt, client)?;
+    let asking = Asking {
+        alloc: heap,
+        peer: Name::new(2).ok_or(Refusal::BadLine)?,
+    };
+    let asked = called(rt, client, &asking)?;
+    wanted(seen.shown.size == size && seen.events == 0 && asked.0 == 1)
+}
+
+// How often the node is refused in this small heap, of which all has its memory.
+fn tried<R: Wait + Abort + Copy + Drop, A: Allocator + Copy>(
+    rt: R,
+    alloc: Global,
+    small: &LocalHeap,
+    heap: A,
+    is_new: bool,
+) -> usize {
+    let mut here = replica(&rt, alloc, heap, 1);
+    put(heap, &mut *here, b"a", b"v").expect(&rt, "a put");
+    let mut making = Making {
+        rt,
+        small,
+        heap,
+        here: &*here,
+        shown: what_shows(&*here),
+        used: small.used(),
+        is_new,
+    };
+    refusals(&rt, alloc, small, 64, &mut making)
+}
+
+#[test]
+fn a_refused_node_leaves_nothing_behind_and_is_made_later(rt: HostRuntime) {
+    for is_new in [true, false] {
+        let heap = LocalHeap::new(rt.alloc(), 40_000).expect(&rt, "memory");
+        let count = tried(rt, rt.alloc(), &heap, &heap, is_new);
+        assert!(rt; count > 8 && heap.used() == 0);
+    }
+}
