@@ -89,7 +89,7 @@ impl<A: Allocator + Copy> Look<Here<A>> for Showing {
 }
 
 // It takes no memory.
-pub(crate) fn seen<K: Naming, R: Wait + Drop, A: Allocator + Copy>(
+pub(crate) fn what_is_seen<K: Naming, R: Wait + Drop, A: Allocator + Copy>(
     rt: &R,
     client: &mut One<K, R, A>,
 ) -> Result<Seen, Refusal> {

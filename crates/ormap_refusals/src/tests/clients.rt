@@ -3,8 +3,8 @@ ghost use Rattle.std.specs.Prelude.{◌≡◌};
 ghost use Rattle.replica_core.specs.Meaning.{meaning};
 
 use crate::made::{Here, flushed, opened, paged, put, replica, what_shows};
-use crate::nodes::{One, Seen, Shared, called, ended, found, inspected, next, node, seen};
-use crate::trial::{Trial, refusals, wanted};
+use crate::nodes::{One, Seen, Shared, called, ended, found, inspected, next, node, what_is_seen};
+use crate::trial::{Trial, is_as_often, refusals, wanted};
 use dots::{Field, Key, Name, Refusal, Value};
 use hash_path::Fnv1a;
 use linked_list_allocator::LocalHeap;
@@ -34,8 +34,8 @@ enum Act {
     Ask,
     Retry,
     Abandon,
-    // What comes of the message.
-    Deliver(Outcome),
+    // The message comes to this.
+    Deliver(Kind, Outcome),
     Batch,
     Get,
     Fields,
@@ -80,7 +80,7 @@ impl<'r, K: Naming, R: Wait + Drop, A: Allocator + Copy> Trial for Calling<'r, K
             Act::Ask => ask(rt, heap, self.client),
             Act::Retry => retry(rt, heap, self.client),
             Act::Abandon => abandon(rt, heap, self.client),
-            Act::Deliver(outcome) => deliver(rt, heap, self.client, self.message, outcome),
+            Act::Deliver(_, outcome) => deliver(rt, heap, self.client, self.message, outcome),
             Act::Batch => batch(rt, heap, self.client, &mut self.before),
             Act::Get => get(heap, self.client),
             Act::Fields => fields(heap, self.client),
@@ -93,12 +93,12 @@ impl<'r, K: Naming, R: Wait + Drop, A: Allocator + Copy> Trial for Calling<'r, K
     }
 
     fn is_as_before(&mut self) -> bool {
-        seen(self.rt, self.client) == Ok(self.before)
+        what_is_seen(self.rt, self.client) == Ok(self.before)
     }
 }
 
 // One of the two keys.
-fn a<A: Allocator + Copy>(heap: A) -> Result<Key<A>, Refusal> {
+fn key_a<A: Allocator + Copy>(heap: A) -> Result<Key<A>, Refusal> {
     Key::new(heap, b"a")
 }
 
@@ -108,7 +108,7 @@ fn put_more<K: Naming, R: Wait + Drop, A: Allocator + Copy>(
     heap: A,
     client: &mut One<K, R, A>,
 ) -> Result<(), Refusal> {
-    let (key, field) = (a(heap)?, Field::new(heap, b"f")?);
+    let (key, field) = (key_a(heap)?, Field::new(heap, b"f")?);
     let putting = Putting {
         alloc: heap,
         key: &key,
@@ -124,7 +124,7 @@ fn remove<K: Naming, R: Wait + Drop, A: Allocator + Copy>(
     heap: A,
     client: &mut One<K, R, A>,
 ) -> Result<(), Refusal> {
-    let key = a(heap)?;
+    let key = key_a(heap)?;
     let removing = Removing {
         alloc: heap,
         key: &key,
@@ -138,7 +138,7 @@ fn remove_field<K: Naming, R: Wait + Drop, A: Allocator + Copy>(
     heap: A,
     client: &mut One<K, R, A>,
 ) -> Result<(), Refusal> {
-    let key = a(heap)?;
+    let key = key_a(heap)?;
     let removing = FieldRemoving {
         alloc: heap,
         key: &key,
@@ -223,7 +223,7 @@ fn batch<K: Naming, R: Wait + Drop, A: Allocator + Copy>(
     client: &mut One<K, R, A>,
     before: &mut Seen,
 ) -> Result<(), Refusal> {
-    let (key, other) = (a(heap)?, Key::new(heap, b"d")?);
+    let (key, other) = (key_a(heap)?, Key::new(heap, b"d")?);
     let (field, value) = (Field::new(heap, b"f")?, Value::empty());
     let writes = [
         Write::Put(&key, &field, &value),
@@ -234,7 +234,7 @@ fn batch<K: Naming, R: Wait + Drop, A: Allocator + Copy>(
         writes: &writes,
     };
     let written = called(rt, client, &batching)?;
-    let after = seen(rt, client)?;
+    let after = what_is_seen(rt, client)?;
     let was = mem::replace(before, after);
     is_as_told(&written, was, after)
 }
@@ -261,7 +261,7 @@ fn get<K: Naming, R: Wait + Drop, A: Allocator + Copy>(
     heap: A,
     client: &mut One<K, R, A>,
 ) -> Result<(), Refusal> {
-    let key = a(heap)?;
+    let key = key_a(heap)?;
     let getting = Getting {
         alloc: heap,
         key: &key,
@@ -276,7 +276,7 @@ fn fields<K: Naming, R: Wait + Drop, A: Allocator + Copy>(
     heap: A,
     client: &mut One<K, R, A>,
 ) -> Result<(), Refusal> {
-    let key = a(heap)?;
+    let key = key_a(heap)?;
     let listing = FieldListing {
         alloc: heap,
         key: &key,
@@ -337,8 +337,16 @@ fn see<K: Naming, R: Wait + Drop, A: Allocator + Copy>(
     let snapshot = found(client, &Sharing)??;
     let size = Sizing.look(&snapshot);
     drop(snapshot);
-    let now = seen(rt, client)?;
+    let now = what_is_seen(rt, client)?;
     wanted(now == before && size == 2)
+}
+
+// Where none is taken in, it is there what the synchronisation opens with.
+fn kind_of(act: Act) -> Kind {
+    match act {
+        Act::Deliver(kind, _) => kind,
+        _ => Kind::Opening,
+    }
 }
 
 // The message, for the replica 1.
@@ -377,7 +385,7 @@ fn tried_by<K: Naming, R: Wait + Abort + Drop, A: Allocator + Copy>(
     message: &Message<A>,
     act: Act,
 ) -> (usize, u64) {
-    let before = seen(rt, client).expect(rt, "a root");
+    let before = what_is_seen(rt, client).expect(rt, "a root");
     let mut calling = Calling {
         rt,
         heap,
@@ -420,7 +428,6 @@ fn tried<R: Wait + Abort + Copy + Drop, A: Allocator + Copy>(
     alloc: Global,
     small: &LocalHeap,
     heap: A,
-    kind: Kind,
     act: Act,
     events: u64,
 ) -> usize {
@@ -429,7 +436,7 @@ fn tried<R: Wait + Abort + Copy + Drop, A: Allocator + Copy>(
     put(heap, &mut *here, b"a", b"v").expect(&rt, "a put");
     put(heap, &mut *here, b"b", b"v").expect(&rt, "a put");
     put(heap, &mut *peer, b"c", b"w").expect(&rt, "a put");
-    let message = message(&rt, alloc, &mut *here, &mut *peer, kind);
+    let message = message(&rt, alloc, &mut *here, &mut *peer, kind_of(act));
     let copy = here.copy().expect(&rt, "memory");
     tried_at_this_node::<marker::Brand, R, A>(
         rt,
@@ -448,97 +455,60 @@ fn tried<R: Wait + Abort + Copy + Drop, A: Allocator + Copy>(
 fn tried_in_a_heap<R: Wait + Abort + Copy + Drop>(
     rt: R,
     alloc: Global,
-    kind: Kind,
     act: Act,
     events: u64,
 ) -> usize {
     let heap = LocalHeap::new(alloc, 40_000).expect(&rt, "memory");
-    let count = tried(rt, alloc, &heap, &heap, kind, act, events);
+    let count = tried(rt, alloc, &heap, &heap, act, events);
     assert!(rt; heap.used() == 0);
     count
 }
 
-// What is called, the call, the message, of how many events it is, and how often it is refused at least and at most.
-type Row = (&'static str, Act, Kind, u64, usize, usize);
+// What is called, the call, of how many events it is, and how often it is refused at least. None is what takes no memory.
+type Row = (&'static str, Act, u64, Option<usize>);
 
 const ROWS: &[Row] = &[
-    ("a put", Act::Put, Kind::Opening, 1, 4, usize::MAX),
-    ("a remove", Act::Remove, Kind::Opening, 1, 4, usize::MAX),
-    (
-        "a remove of a field",
-        Act::RemoveField,
-        Kind::Opening,
-        1,
-        4,
-        usize::MAX,
-    ),
-    ("a clear", Act::Clear, Kind::Opening, 1, 4, usize::MAX),
-    ("a flush", Act::Flush, Kind::Opening, 1, 4, usize::MAX),
-    ("an ask", Act::Ask, Kind::Opening, 1, 4, usize::MAX),
-    ("a retry", Act::Retry, Kind::Opening, 1, 4, usize::MAX),
-    ("an abandon", Act::Abandon, Kind::Opening, 1, 4, usize::MAX),
+    ("a put", Act::Put, 1, Some(4)),
+    ("a remove", Act::Remove, 1, Some(4)),
+    ("a remove of a field", Act::RemoveField, 1, Some(4)),
+    ("a clear", Act::Clear, 1, Some(4)),
+    ("a flush", Act::Flush, 1, Some(4)),
+    ("an ask", Act::Ask, 1, Some(4)),
+    ("a retry", Act::Retry, 1, Some(4)),
+    ("an abandon", Act::Abandon, 1, Some(4)),
     (
         "a delta is taken in",
-        Act::Deliver(Outcome::Joined),
-        Kind::Delta,
+        Act::Deliver(Kind::Delta, Outcome::Joined),
         1,
-        4,
-        usize::MAX,
+        Some(4),
     ),
     (
         "an opening is accepted",
-        Act::Deliver(Outcome::Sent),
-        Kind::Opening,
+        Act::Deliver(Kind::Opening, Outcome::Sent),
         1,
-        4,
-        usize::MAX,
+        Some(4),
     ),
     (
         "a page ends the synchronisation",
-        Act::Deliver(Outcome::Done),
-        Kind::Page,
+        Act::Deliver(Kind::Page, Outcome::Done),
         1,
-        4,
-        usize::MAX,
+        Some(4),
     ),
     // The events of the batch are seen before it is whole.
-    ("a batch", Act::Batch, Kind::Opening, 0, 4, usize::MAX),
-    ("a get", Act::Get, Kind::Opening, 0, 2, usize::MAX),
-    (
-        "a list of fields",
-        Act::Fields,
-        Kind::Opening,
-        0,
-        2,
-        usize::MAX,
-    ),
-    ("a list of keys", Act::Keys, Kind::Opening, 0, 2, usize::MAX),
-    (
-        "a list of synchronisations",
-        Act::Sessions,
-        Kind::Opening,
-        0,
-        1,
-        usize::MAX,
-    ),
-    (
-        "the dots that are known",
-        Act::Know,
-        Kind::Opening,
-        0,
-        1,
-        usize::MAX,
-    ),
-    ("a save", Act::Save, Kind::Opening, 0, 4, usize::MAX),
-    ("other looks", Act::See, Kind::Opening, 0, 0, 0),
+    ("a batch", Act::Batch, 0, Some(4)),
+    ("a get", Act::Get, 0, Some(2)),
+    ("a list of fields", Act::Fields, 0, Some(2)),
+    ("a list of keys", Act::Keys, 0, Some(2)),
+    ("a list of synchronisations", Act::Sessions, 0, Some(1)),
+    ("the dots that are known", Act::Know, 0, Some(1)),
+    ("a save", Act::Save, 0, Some(4)),
+    ("other looks", Act::See, 0, None),
 ];
 
 #[test]
 fn a_refused_call_of_a_client_changes_nothing_and_is_made_again(rt: HostRuntime) {
-    for (what, act, kind, events, least, most) in ROWS {
-        let count = tried_in_a_heap(rt, rt.alloc(), *kind, *act, *events);
-        let is_refused = count >= *least;
-        let is_made = count <= *most;
-        assert!(rt; is_refused && is_made, "{what}");
+    for (what, act, events, least) in ROWS {
+        let count = tried_in_a_heap(rt, rt.alloc(), *act, *events);
+        assert!(rt; is_as_often(count, *least), "{what}");
     }
 }

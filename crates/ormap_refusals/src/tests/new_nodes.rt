@@ -4,7 +4,7 @@ ghost use Rattle.replica_core.specs.Meaning.{meaning};
 ghost use Rattle.replica_model.specs.Replica.{fresh};
 
 use crate::made::{Here, Shown, put, replica, what_shows};
-use crate::nodes::{One, Shared, called, ended, next, node, seen};
+use crate::nodes::{One, Shared, called, ended, next, node, what_is_seen};
 use crate::trial::{Trial, refusals, wanted};
 use dots::{Name, Refusal};
 use linked_list_allocator::LocalHeap;
@@ -31,12 +31,10 @@ struct Making<'r, R: Wait + Copy + Drop, A: Allocator + Copy> {
 
 impl<'r, R: Wait + Copy + Drop, A: Allocator + Copy> Trial for Making<'r, R, A> {
     fn attempt(&mut self) -> Result<(), Refusal> {
-        let name = self.here.name();
         if self.is_new {
-            return made_anew::<marker::Brand, R, A>(self.rt, self.heap, OpenedBook::new(), name);
+            return make_anew(self.rt, self.heap, self.here.name());
         }
-        let copy = self.here.copy()?;
-        made_of::<marker::Brand, R, A>(self.rt, self.heap, OpenedBook::new(), copy, self.shown)
+        make_of(self.rt, self.heap, self.here, self.shown)
     }
 
     // Nothing of a node is left behind.
@@ -45,7 +43,26 @@ impl<'r, R: Wait + Copy + Drop, A: Allocator + Copy> Trial for Making<'r, R, A> 
     }
 }
 
-// Makes a new node, which shows nothing, and ends it.
+// Makes a new node of this name, which shows nothing, and ends it.
+fn make_anew<R: Wait + Copy + Drop, A: Allocator + Copy>(
+    rt: R,
+    heap: A,
+    name: Name,
+) -> Result<(), Refusal> {
+    made_anew::<marker::Brand, R, A>(rt, heap, OpenedBook::new(), name)
+}
+
+// Makes a node of a copy of this replica, which shows this, and ends it.
+fn make_of<R: Wait + Copy + Drop, A: Allocator + Copy>(
+    rt: R,
+    heap: A,
+    here: &Here<A>,
+    shown: Shown,
+) -> Result<(), Refusal> {
+    let copy = here.copy()?;
+    made_of::<marker::Brand, R, A>(rt, heap, OpenedBook::new(), copy, shown)
+}
+
 fn made_anew<K: Naming, R: Wait + Copy + Drop, A: Allocator + Copy>(
     rt: R,
     heap: A,
@@ -59,7 +76,7 @@ fn made_anew<K: Naming, R: Wait + Copy + Drop, A: Allocator + Copy>(
     is_whole(rt, heap, node, 0)
 }
 
-// Makes a node of this replica, which shows this, and ends it. Where there is no memory for it, the replica comes back.
+// Where there is no memory for the node, the replica comes back.
 fn made_of<K: Naming, R: Wait + Copy + Drop, A: Allocator + Copy>(
     rt: R,
     heap: A,
@@ -106,7 +123,7 @@ fn sees_and_asks<K: Naming, R: Wait + Drop, A: Allocator + Copy>(
     client: &mut One<K, R, A>,
     size: u64,
 ) -> Result<(), Refusal> {
-    let seen = seen(rt, client)?;
+    let seen = what_is_seen(rt, client)?;
     let asking = Asking {
         alloc: heap,
         peer: Name::new(2).ok_or(Refusal::BadLine)?,

@@ -12,7 +12,7 @@ pub(crate) enum What {
     Values,
     Fields,
     Keys,
-    // The first message.
+    // The second message, of forty keys.
     Message,
     // The number of keys, the context and the digest.
     Others,
@@ -30,7 +30,7 @@ pub(crate) fn read<A: Allocator + Copy>(
         What::Values => wanted(world.values_of_key_at(one, &seventh(heap)?)?.len() == 1),
         What::Fields => wanted(world.fields_at(one, &seventh(heap)?)?.len() == 1),
         What::Keys => wanted(world.keys_at(one)?.len() == 42),
-        What::Message => wanted(world.read(1)?.is_some()),
+        What::Message => wanted(world.read(2)?.is_some()),
         What::Others => others(world, one),
     }
 }

@@ -1,7 +1,7 @@
 // Events of a world, and what is read there.
 use crate::made::name;
 use crate::tests::reads::{What, read};
-use crate::trial::{Trial, refusals, wanted};
+use crate::trial::{Trial, is_as_often, refusals, wanted};
 use dots::{Field, Key, Refusal, Value};
 use hash_path::Fnv1a;
 use linked_list_allocator::LocalHeap;
@@ -123,16 +123,16 @@ fn happen<A: Allocator + Copy>(rt: &impl Abort, heap: A, world: &mut Worlds<A>, 
     let _ = world.event(event).expect(rt, "an event");
 }
 
-// What happens first: 1 and 2 become replicas, and 1 puts forty keys and sends them in message 1, puts one more and sends it in message 2,
-// then puts another, and asks 2 by message 3.
+// What happens first: 1 and 2 become replicas, and 1 asks 2 by message 1, puts forty keys and sends them in message 2, puts one more and sends it
+// in message 3, and then puts another.
 fn begun_by(number: u64) -> Act {
     match number {
         0 => Act::Node(1),
         1 => Act::Node(2),
-        42 | 44 => Act::Flush,
-        43 => Act::Put(b"one"),
-        45 => Act::Put(b"two"),
-        46 => Act::Ask,
+        2 => Act::Ask,
+        43 | 45 => Act::Flush,
+        44 => Act::Put(b"one"),
+        46 => Act::Put(b"two"),
         _ => Act::PutNumber(number),
     }
 }
@@ -185,47 +185,55 @@ fn tried_in_a_heap(rt: &impl Abort, alloc: Global, task: Task) -> usize {
     count
 }
 
-// What is tried, in words and as a task, and how often it is refused at least.
-type Row = (&'static str, Task, usize);
+// What is tried, in words and as a task, and how often it is refused at least. None is what takes no memory.
+type Row = (&'static str, Task, Option<usize>);
 
 const EVENTS: &[Row] = &[
-    ("a new replica", Task::Happen(Act::Node(3)), 0),
-    ("a put", Task::Happen(Act::Put(b"one")), 4),
-    ("a flush", Task::Happen(Act::Flush), 4),
-    ("an ask", Task::Happen(Act::Ask), 4),
+    ("a new replica", Task::Happen(Act::Node(3)), Some(0)),
+    ("a put", Task::Happen(Act::Put(b"one")), Some(4)),
+    ("a flush", Task::Happen(Act::Flush), Some(4)),
+    ("an ask", Task::Happen(Act::Ask), Some(4)),
     (
         "a delivery of forty keys",
-        Task::Happen(Act::Deliver(1)),
-        40,
+        Task::Happen(Act::Deliver(2)),
+        Some(40),
     ),
 ];
 
 // As each test has a minute, the other events have one of their own.
 const OTHERS: &[Row] = &[
-    ("a put of a field", Task::Happen(Act::PutField), 4),
-    ("a remove", Task::Happen(Act::Remove), 4),
-    ("a remove of a field", Task::Happen(Act::RemoveField), 4),
-    ("a retry", Task::Happen(Act::Retry), 1),
-    ("an abandon", Task::Happen(Act::Abandon), 0),
-    ("a hello that is answered", Task::Happen(Act::Deliver(3)), 4),
-    ("a clear", Task::Happen(Act::Clear), 40),
+    ("a put of a field", Task::Happen(Act::PutField), Some(4)),
+    ("a remove", Task::Happen(Act::Remove), Some(4)),
+    (
+        "a remove of a field",
+        Task::Happen(Act::RemoveField),
+        Some(4),
+    ),
+    ("a retry", Task::Happen(Act::Retry), Some(1)),
+    ("an abandon", Task::Happen(Act::Abandon), Some(0)),
+    (
+        "a hello that is answered",
+        Task::Happen(Act::Deliver(1)),
+        Some(4),
+    ),
+    ("a clear", Task::Happen(Act::Clear), Some(40)),
 ];
 
 const READS: &[Row] = &[
-    ("a get", Task::Read(What::Get), 1),
-    ("a get of a field", Task::Read(What::GetField), 1),
-    ("the values of a key", Task::Read(What::Values), 1),
-    ("a list of fields", Task::Read(What::Fields), 1),
-    ("a list of keys", Task::Read(What::Keys), 4),
-    ("a message", Task::Read(What::Message), 40),
-    ("what takes no memory", Task::Read(What::Others), 0),
+    ("a get", Task::Read(What::Get), Some(1)),
+    ("a get of a field", Task::Read(What::GetField), Some(1)),
+    ("the values of a key", Task::Read(What::Values), Some(1)),
+    ("a list of fields", Task::Read(What::Fields), Some(1)),
+    ("a list of keys", Task::Read(What::Keys), Some(4)),
+    ("a message", Task::Read(What::Message), Some(40)),
+    ("what takes no memory", Task::Read(What::Others), None),
 ];
 
 // Each of these is refused, changes nothing then, and is made later.
 fn are_tried(rt: &impl Abort, alloc: Global, rows: &[Row]) {
     for (what, task, least) in rows {
         let count = tried_in_a_heap(rt, alloc, *task);
-        assert!(rt; count >= *least, "{what}");
+        assert!(rt; is_as_often(count, *least), "{what}");
     }
 }
 
