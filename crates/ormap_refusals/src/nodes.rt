@@ -8,7 +8,7 @@ use node_threads::{
     Client, Digesting, Lock, Named, Naming, Node, NodeEvent, Root, Sizing, node_of,
 };
 use root_cell::OpenedBook;
-use shared_object::{Look, NoGate, Update};
+use shared_object::{Finished, Look, NoGate, Update};
 use std::alloc::Allocator;
 use std::sync::Wait;
 
@@ -105,17 +105,38 @@ pub(crate) fn what_is_seen<K: Naming, R: Wait + Drop, A: Allocator + Copy>(
     })
 }
 
-// How many calls the node had that is handed in with its one client. None where it does not end.
+// The one item in a list.
+fn only<X: Drop, A: Allocator + Copy>(heap: A, item: X) -> Result<Vec<X, A>, Refusal> {
+    let mut list = Vec::new(heap);
+    match list.push(item) {
+        Ok(()) => Ok(list),
+        Err(_) => Err(Refusal::OutOfMemory),
+    }
+}
+
+// How many calls an object had, or NoPlace where it was not taken out.
+fn operations<D: Drop, U: Drop>(told: Result<Finished<D>, U>) -> Result<u64, Refusal> {
+    match told {
+        Ok(finished) => Ok(finished.operations),
+        Err(_) => Err(Refusal::NoPlace),
+    }
+}
+
+// How many calls the node had that is handed in with its one client.
 pub(crate) fn ended<K: Naming, R: Wait + Drop, A: Allocator + Copy>(
     rt: &R,
     heap: A,
     node: Shared<K, R, A>,
     client: One<K, R, A>,
 ) -> Result<u64, Refusal> {
-    let mut clients = Vec::with_capacity(heap, 1)?;
-    clients.push(client)?;
-    match node.finish(rt, clients) {
-        Ok(finished) => Ok(finished.operations),
-        Err(_) => Err(Refusal::NoPlace),
+    match only(heap, client) {
+        Ok(clients) => {
+            let told = node.finish(rt, clients);
+            operations(told)
+        }
+        Err(refusal) => {
+            drop(node);
+            Err(refusal)
+        }
     }
 }

@@ -152,8 +152,8 @@ fn flush<K: Naming, R: Wait + Drop, A: Allocator + Copy>(
     heap: A,
     client: &mut One<K, R, A>,
 ) -> Result<(), Refusal> {
-    let sent = called(rt, client, &Flushing { alloc: heap })?;
-    wanted(sent.is_some())
+    let is_sent = called(rt, client, &Flushing { alloc: heap })?.is_some();
+    wanted(is_sent)
 }
 
 // The next one has the number 2, however often one was refused before.
@@ -166,8 +166,8 @@ fn ask<K: Naming, R: Wait + Drop, A: Allocator + Copy>(
         alloc: heap,
         peer: Name::new(2).ok_or(Refusal::BadLine)?,
     };
-    let asked = called(rt, client, &asking)?;
-    wanted(asked.0 == 2)
+    let number = called(rt, client, &asking)?.0;
+    wanted(number == 2)
 }
 
 fn retry<K: Naming, R: Wait + Drop, A: Allocator + Copy>(
@@ -180,7 +180,7 @@ fn retry<K: Naming, R: Wait + Drop, A: Allocator + Copy>(
         number: 1,
     };
     let told = called(rt, client, &retrying)?;
-    wanted(comes_to(&told, Outcome::Sent))
+    comes_to(told, Outcome::Sent)
 }
 
 fn abandon<K: Naming, R: Wait + Drop, A: Allocator + Copy>(
@@ -207,13 +207,14 @@ fn deliver<K: Naming, R: Wait + Drop, A: Allocator + Copy>(
         message,
     };
     let told = called(rt, client, &delivering)?;
-    wanted(comes_to(&told, outcome))
+    comes_to(told, outcome)
 }
 
 // Whether this is what comes of it, with a reply where something is sent.
-fn comes_to<A: Allocator + Copy>(told: &Delivered<A>, outcome: Outcome) -> bool {
-    let is_sent = outcome == Outcome::Sent;
-    told.outcome == outcome && (told.replies.len() == 1) == is_sent
+fn comes_to<A: Allocator + Copy>(told: Delivered<A>, outcome: Outcome) -> Result<(), Refusal> {
+    let (came, replies) = (told.outcome, told.replies.len());
+    drop(told);
+    wanted(came == outcome && (replies == 1) == (outcome == Outcome::Sent))
 }
 
 // Puts a value on a field of a, and one on d. Where one is refused, those before it are made, and it is tried as refused.
@@ -322,10 +323,12 @@ fn save<K: Naming, R: Wait + Drop, A: Allocator + Copy>(
     before: Seen,
 ) -> Result<(), Refusal> {
     let checkpoint = inspected(rt, client, &Checkpointing)?;
-    let saved = checkpoint.saved(heap)?;
+    let saved = checkpoint.saved(heap);
     drop(checkpoint);
-    let again = Replica::resume(heap, Fnv1a, saved)?;
-    wanted(what_shows(&again) == before.shown)
+    let again = Replica::resume(heap, Fnv1a, saved?)?;
+    let shown = what_shows(&again);
+    drop(again);
+    wanted(shown == before.shown)
 }
 
 // Looks at what takes no memory, and at a snapshot.

@@ -111,9 +111,28 @@ fn is_whole<K: Naming, R: Wait + Drop, A: Allocator + Copy>(
     size: u64,
 ) -> Result<(), Refusal> {
     let mut node = node;
-    let mut client = next(&mut node)?;
-    sees_and_asks(&rt, heap, &mut client, size)?;
-    wanted(ended(&rt, heap, node, client)? == 1)
+    match next(&mut node) {
+        Ok(client) => is_whole_with(rt, heap, node, client, size),
+        Err(refusal) => {
+            drop(node);
+            Err(refusal)
+        }
+    }
+}
+
+// The same with its client.
+fn is_whole_with<K: Naming, R: Wait + Drop, A: Allocator + Copy>(
+    rt: R,
+    heap: A,
+    node: Shared<K, R, A>,
+    client: One<K, R, A>,
+    size: u64,
+) -> Result<(), Refusal> {
+    let mut client = client;
+    let asked = sees_and_asks(&rt, heap, &mut client, size);
+    let told = ended(&rt, heap, node, client);
+    asked?;
+    wanted(told? == 1)
 }
 
 // Sees so many keys and no event, and asks.
@@ -128,8 +147,8 @@ fn sees_and_asks<K: Naming, R: Wait + Drop, A: Allocator + Copy>(
         alloc: heap,
         peer: Name::new(2).ok_or(Refusal::BadLine)?,
     };
-    let asked = called(rt, client, &asking)?;
-    wanted(seen.shown.size == size && seen.events == 0 && asked.0 == 1)
+    let number = called(rt, client, &asking)?.0;
+    wanted(seen.shown.size == size && seen.events == 0 && number == 1)
 }
 
 // How often the node is refused in this small heap, of which all has its memory.
