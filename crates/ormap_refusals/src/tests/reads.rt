@@ -1,7 +1,7 @@
 // What is read of a world.
 use crate::tests::worlds::{Worlds, seventh};
 use crate::trial::wanted;
-use dots::{Field, Name, Refusal};
+use dots::{Field, Key, Name, Refusal};
 use std::alloc::Allocator;
 
 // Of the replica 1, which has put v on 42 keys.
@@ -25,20 +25,42 @@ pub(crate) fn read<A: Allocator + Copy>(
 ) -> Result<(), Refusal> {
     let one = Name::new(1).ok_or(Refusal::BadLine)?;
     match what {
-        What::Get => wanted(world.get_at(one, &seventh(heap)?)?.len() == 1),
-        What::GetField => get_field(heap, world, one),
-        What::Values => wanted(world.values_of_key_at(one, &seventh(heap)?)?.len() == 1),
-        What::Fields => wanted(world.fields_at(one, &seventh(heap)?)?.len() == 1),
-        What::Keys => wanted(world.keys_at(one)?.len() == 42),
-        What::Message => wanted(world.read(2)?.is_some()),
         What::Others => others(world, one),
+        _ => read_at(world, one, &seventh(heap)?, what),
     }
 }
 
-fn get_field<A: Allocator + Copy>(heap: A, world: &Worlds<A>, one: Name) -> Result<(), Refusal> {
-    let key = seventh(heap)?;
-    let values = world.get_field_at(one, &key, &Field::empty())?;
-    wanted(values.len() == 1)
+// Reads something, with one of the keys at hand.
+fn read_at<A: Allocator + Copy>(
+    world: &Worlds<A>,
+    one: Name,
+    key: &Key<A>,
+    what: What,
+) -> Result<(), Refusal> {
+    match what {
+        What::Get => are(world.get_at(one, key), 1),
+        What::GetField => are(world.get_field_at(one, key, &Field::empty()), 1),
+        What::Values => are(world.values_of_key_at(one, key), 1),
+        What::Fields => are(world.fields_at(one, key), 1),
+        What::Keys => are(world.keys_at(one), 42),
+        What::Message => is_there(world.read(2)),
+        What::Others => Ok(()),
+    }
+}
+
+// Whether so many are found.
+fn are<X: Drop, A: Allocator>(
+    found: Result<Vec<X, A>, Refusal>,
+    count: usize,
+) -> Result<(), Refusal> {
+    let found = found?;
+    wanted(found.len() == count)
+}
+
+// Whether it is found.
+fn is_there<X: Drop>(found: Result<Option<X>, Refusal>) -> Result<(), Refusal> {
+    let found = found?;
+    wanted(found.is_some())
 }
 
 fn others<A: Allocator + Copy>(world: &Worlds<A>, one: Name) -> Result<(), Refusal> {
