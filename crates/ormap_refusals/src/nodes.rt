@@ -4,17 +4,18 @@ ghost use Rattle.replica_core.specs.Meaning.{meaning};
 
 use crate::made::{Here, Shown, what_shows};
 use dots::Refusal;
-use node_threads::{
-    Client, Digesting, Lock, Named, Naming, Node, NodeEvent, Root, Sizing, node_of,
-};
-use root_cell::OpenedBook;
-use shared_object::{Finished, Look, NoGate, Update};
+use node_threads::{Client, Digesting, Lock, Naming, Node, NodeEvent, Root, Sizing, node_of};
+use root_cell::{Brand, OpenedBook};
+use shared_object::{Finished, Look, NoGate, Object, Owner, Placed, Update};
 use std::alloc::Allocator;
 use std::sync::Wait;
 
 pub(crate) type Shared<K, R, A> = Node<K, Lock<K, NoGate, R, A>, A>;
 
 pub(crate) type One<K, R, A> = Client<K, Lock<K, NoGate, R, A>, A>;
+
+// What the clients of an object share that pass no gate.
+type Free<D, Q, E, J, R, A> = shared_object::Shared<D, Q, E, J, NoGate, R, A>;
 
 // A node of this replica with two places, or the replica again.
 pub(crate) fn node<K: Naming, R: Wait + Copy + Drop, A: Allocator + Copy>(
@@ -29,37 +30,53 @@ pub(crate) fn node<K: Naming, R: Wait + Copy + Drop, A: Allocator + Copy>(
     node_of(&rt, heap, opened, here, 2, NoGate, rt)
 }
 
-// What the node answers who asks for a client.
-pub(crate) fn next<K: Naming, R: Wait + Drop, A: Allocator + Copy>(
-    node: &mut Shared<K, R, A>,
-) -> Result<One<K, R, A>, Refusal> {
+// What the node answers who asks for a client. This and what follows is of any object, as a check of what holds a client grows with the depth of
+// its type.
+pub(crate) fn next<Q: Drop, E: Placed, J: Brand<Q, E>, S: Drop, A: Allocator + Copy>(
+    node: &mut Owner<Q, E, J, S, A>,
+) -> Result<shared_object::Client<Q, E, J, S, A>, Refusal> {
     node.client()
 }
 
 // What a call is answered. The receipt is let go.
 pub(crate) fn called<
-    K: Naming,
+    D: Drop,
+    Q: Drop,
+    E: Placed,
+    J: Object<D, Q, E>,
     R: Wait + Drop,
     A: Allocator + Copy,
-    U: Update<Here<A>, Root<A>, NodeEvent<A>, Named<K>, A>,
->(rt: &R, client: &mut One<K, R, A>, update: &U) -> Result<U::Reply, Refusal> {
+    U: Update<D, Q, E, J, A>,
+>(
+    rt: &R,
+    client: &mut shared_object::Client<Q, E, J, Free<D, Q, E, J, R, A>, A>,
+    update: &U,
+) -> Result<U::Reply, Refusal> {
     let (reply, receipt) = client.call(rt, update)?;
     drop(receipt);
     Ok(reply)
 }
 
 // What a look finds.
-pub(crate) fn found<K: Naming, R: Wait + Drop, A: Allocator + Copy, L: Look<Root<A>>>(
-    client: &mut One<K, R, A>,
+pub(crate) fn found<Q: Drop, E: Placed, J: Brand<Q, E>, S: Drop, A: Allocator, L: Look<Q>>(
+    client: &mut shared_object::Client<Q, E, J, S, A>,
     look: &L,
 ) -> Result<L::Found, Refusal> {
     client.look(look)
 }
 
-// What a look at the replica itself finds.
-pub(crate) fn inspected<K: Naming, R: Wait + Drop, A: Allocator + Copy, L: Look<Here<A>>>(
+// What a look at the object itself finds.
+pub(crate) fn inspected<
+    D: Drop,
+    Q: Drop,
+    E: Placed,
+    J: Object<D, Q, E>,
+    R: Wait + Drop,
+    A: Allocator + Copy,
+    L: Look<D>,
+>(
     rt: &R,
-    client: &mut One<K, R, A>,
+    client: &mut shared_object::Client<Q, E, J, Free<D, Q, E, J, R, A>, A>,
     look: &L,
 ) -> L::Found {
     client.inspect(rt, look)
@@ -76,7 +93,7 @@ pub(crate) struct Seen {
 
 // What the replica shows and knows.
 #[derive(Drop)]
-struct Showing;
+pub(crate) struct Showing;
 
 impl<A: Allocator + Copy> Look<Here<A>> for Showing {
     type Found = Shown;
@@ -88,20 +105,54 @@ impl<A: Allocator + Copy> Look<Here<A>> for Showing {
     }
 }
 
+// The digest and the number of keys that are published.
+#[derive(Drop)]
+pub(crate) struct Published;
+
+impl<A: Allocator + Copy> Look<Root<A>> for Published {
+    type Found = (Option<[u8; 32]>, u64);
+
+    ghost finds = { λ look root found. Unit {0} };
+
+    fn look(&self, root: &Root<A>) -> (Option<[u8; 32]>, u64) {
+        (Digesting.look(root), Sizing.look(root))
+    }
+}
+
+// What a look at the object finds, one at what is published, and how many events there are.
+fn looked<
+    D: Drop,
+    Q: Drop,
+    E: Placed,
+    J: Object<D, Q, E>,
+    R: Wait + Drop,
+    A: Allocator + Copy,
+    L: Look<D>,
+    M: Look<Q>,
+>(
+    rt: &R,
+    client: &mut shared_object::Client<Q, E, J, Free<D, Q, E, J, R, A>, A>,
+    inner: &L,
+    outer: &M,
+) -> (L::Found, Result<M::Found, Refusal>, Result<u64, Refusal>) {
+    let inside = client.inspect(rt, inner);
+    let outside = client.look(outer);
+    let events = client.events();
+    (inside, outside, events)
+}
+
 // It takes no memory.
 pub(crate) fn what_is_seen<K: Naming, R: Wait + Drop, A: Allocator + Copy>(
     rt: &R,
     client: &mut One<K, R, A>,
 ) -> Result<Seen, Refusal> {
-    let shown = inspected(rt, client, &Showing);
-    let digest = found(client, &Digesting)?;
-    let size = found(client, &Sizing)?;
-    let events = client.events()?;
+    let (shown, published, events) = looked(rt, client, &Showing, &Published);
+    let (digest, size) = published?;
     Ok(Seen {
         shown,
         digest,
         size,
-        events,
+        events: events?,
     })
 }
 
@@ -123,16 +174,55 @@ fn operations<D: Drop, U: Drop>(told: Result<Finished<D>, U>) -> Result<u64, Ref
 }
 
 // How many calls the node had that is handed in with its one client.
-pub(crate) fn ended<K: Naming, R: Wait + Drop, A: Allocator + Copy>(
+pub(crate) fn ended<
+    D: Drop,
+    Q: Drop,
+    E: Placed,
+    J: Object<D, Q, E>,
+    R: Wait + Drop,
+    A: Allocator + Copy,
+>(
     rt: &R,
     heap: A,
-    node: Shared<K, R, A>,
-    client: One<K, R, A>,
+    node: Owner<Q, E, J, Free<D, Q, E, J, R, A>, A>,
+    client: shared_object::Client<Q, E, J, Free<D, Q, E, J, R, A>, A>,
 ) -> Result<u64, Refusal> {
     match only(heap, client) {
         Ok(clients) => {
             let told = node.finish(rt, clients);
             operations(told)
+        }
+        Err(refusal) => {
+            drop(node);
+            Err(refusal)
+        }
+    }
+}
+
+// What the first client of an object finds, which ends then, and how many calls it had.
+pub(crate) fn used<
+    D: Drop,
+    Q: Drop,
+    E: Placed,
+    J: Object<D, Q, E>,
+    R: Wait + Drop,
+    A: Allocator + Copy,
+    L: Look<D, Found = Shown>,
+>(
+    rt: &R,
+    heap: A,
+    node: Owner<Q, E, J, Free<D, Q, E, J, R, A>, A>,
+    look: &L,
+) -> Result<(Shown, u64), Refusal> {
+    let mut node = node;
+    match node.client() {
+        Ok(client) => {
+            let mut client = client;
+            let found = client.inspect(rt, look);
+            match ended(rt, heap, node, client) {
+                Ok(calls) => Ok((found, calls)),
+                Err(refusal) => Err(refusal),
+            }
         }
         Err(refusal) => {
             drop(node);

@@ -4,11 +4,11 @@ ghost use Rattle.replica_core.specs.Meaning.{meaning};
 ghost use Rattle.replica_model.specs.Replica.{fresh};
 
 use crate::made::{Here, Shown, put, replica, what_shows};
-use crate::nodes::{One, Shared, called, ended, next, node, what_is_seen};
+use crate::nodes::{Shared, Showing, node, used};
 use crate::trial::{Trial, refusals, wanted};
 use dots::{Name, Refusal};
 use linked_list_allocator::LocalHeap;
-use node_threads::{Asking, Naming, NodeEvent, new_node};
+use node_threads::{Naming, NodeEvent, new_node};
 use root_cell::OpenedBook;
 use shared_object::NoGate;
 use std::alloc::{Allocator, Global};
@@ -17,7 +17,8 @@ use std::panic::Expect;
 use std::process::Abort;
 use std::sync::Wait;
 
-// A node that is made, and ends once its client has called. It is new, or of a copy of this replica, of the name 1, which showed this before.
+// A node that is made, and ends once its client has looked. It is of a copy of this replica, which shows this, or new, which shows what this
+// replica does to which nothing happened.
 #[derive(Drop)]
 struct Making<'r, R: Wait + Copy + Drop, A: Allocator + Copy> {
     rt: R,
@@ -32,7 +33,7 @@ struct Making<'r, R: Wait + Copy + Drop, A: Allocator + Copy> {
 impl<'r, R: Wait + Copy + Drop, A: Allocator + Copy> Trial for Making<'r, R, A> {
     fn attempt(&mut self) -> Result<(), Refusal> {
         if self.is_new {
-            return make_anew(self.rt, self.heap, self.here.name());
+            return make_anew(self.rt, self.heap, self.here.name(), self.shown);
         }
         make_of(self.rt, self.heap, self.here, self.shown)
     }
@@ -43,13 +44,14 @@ impl<'r, R: Wait + Copy + Drop, A: Allocator + Copy> Trial for Making<'r, R, A> 
     }
 }
 
-// Makes a new node of this name, which shows nothing, and ends it.
+// Makes a new node of this name, which shows this, and ends it.
 fn make_anew<R: Wait + Copy + Drop, A: Allocator + Copy>(
     rt: R,
     heap: A,
     name: Name,
+    shown: Shown,
 ) -> Result<(), Refusal> {
-    made_anew::<marker::Brand, R, A>(rt, heap, OpenedBook::new(), name)
+    made_anew::<marker::Brand, R, A>(rt, heap, OpenedBook::new(), name, shown)
 }
 
 // Makes a node of a copy of this replica, which shows this, and ends it.
@@ -68,12 +70,13 @@ fn made_anew<K: Naming, R: Wait + Copy + Drop, A: Allocator + Copy>(
     heap: A,
     book: OpenedBook<NodeEvent<A>>,
     name: Name,
+    shown: Shown,
 ) -> Result<(), Refusal>
     requires book { book.0 ≡ K.book }
     requires first { K.first ≡ fresh name }
 {
     let node: Shared<K, R, A> = new_node(&rt, heap, book, name, 2, NoGate, rt)?;
-    is_whole(rt, heap, node, 0)
+    is_whole(rt, heap, node, shown)
 }
 
 // Where there is no memory for the node, the replica comes back.
@@ -89,7 +92,7 @@ fn made_of<K: Naming, R: Wait + Copy + Drop, A: Allocator + Copy>(
 {
     let made: Result<Shared<K, R, A>, Here<A>> = node(rt, heap, book, here);
     match made {
-        Ok(node) => is_whole(rt, heap, node, shown.size),
+        Ok(node) => is_whole(rt, heap, node, shown),
         Err(back) => Err(refused_with(&back, shown)),
     }
 }
@@ -103,52 +106,15 @@ fn refused_with<A: Allocator + Copy>(back: &Here<A>, shown: Shown) -> Refusal {
     }
 }
 
-// Has the client of a node look, where it sees so many keys, and call, and ends the node, which had the one call then.
+// Has the first client of a node look, which sees this, and ends the node. It had no calls.
 fn is_whole<K: Naming, R: Wait + Drop, A: Allocator + Copy>(
     rt: R,
     heap: A,
     node: Shared<K, R, A>,
-    size: u64,
+    shown: Shown,
 ) -> Result<(), Refusal> {
-    let mut node = node;
-    match next(&mut node) {
-        Ok(client) => is_whole_with(rt, heap, node, client, size),
-        Err(refusal) => {
-            drop(node);
-            Err(refusal)
-        }
-    }
-}
-
-// The same with its client.
-fn is_whole_with<K: Naming, R: Wait + Drop, A: Allocator + Copy>(
-    rt: R,
-    heap: A,
-    node: Shared<K, R, A>,
-    client: One<K, R, A>,
-    size: u64,
-) -> Result<(), Refusal> {
-    let mut client = client;
-    let asked = sees_and_asks(&rt, heap, &mut client, size);
-    let told = ended(&rt, heap, node, client);
-    asked?;
-    wanted(told? == 1)
-}
-
-// Sees so many keys and no event, and asks.
-fn sees_and_asks<K: Naming, R: Wait + Drop, A: Allocator + Copy>(
-    rt: &R,
-    heap: A,
-    client: &mut One<K, R, A>,
-    size: u64,
-) -> Result<(), Refusal> {
-    let seen = what_is_seen(rt, client)?;
-    let asking = Asking {
-        alloc: heap,
-        peer: Name::new(2).ok_or(Refusal::BadLine)?,
-    };
-    let number = called(rt, client, &asking)?.0;
-    wanted(seen.shown.size == size && seen.events == 0 && number == 1)
+    let told = used(&rt, heap, node, &Showing)?;
+    wanted(told == (shown, 0))
 }
 
 // How often the node is refused in this small heap, of which all has its memory.
@@ -160,7 +126,9 @@ fn tried<R: Wait + Abort + Copy + Drop, A: Allocator + Copy>(
     is_new: bool,
 ) -> usize {
     let mut here = replica(&rt, alloc, heap, 1);
-    put(heap, &mut *here, b"a", b"v").expect(&rt, "a put");
+    if !is_new {
+        put(heap, &mut *here, b"a", b"v").expect(&rt, "a put");
+    }
     let mut making = Making {
         rt,
         small,
