@@ -4,7 +4,9 @@ ghost use Rattle.replica_core.specs.Meaning.{meaning};
 
 use crate::made::{Here, Shown, what_shows};
 use dots::Refusal;
-use node_threads::{Client, Digesting, Lock, Naming, Node, NodeEvent, Root, Sizing, node_of};
+use node_threads::{
+    Client, Digesting, Lock, Named, Naming, Node, NodeEvent, Root, Sizing, node_of,
+};
 use root_cell::{Brand, OpenedBook};
 use shared_object::{Finished, Look, NoGate, Object, Owner, Placed, Update};
 use std::alloc::Allocator;
@@ -46,9 +48,10 @@ pub(crate) fn called<
     J: Object<D, Q, E>,
     R: Wait + Drop,
     A: Allocator + Copy,
+    T: Wait,
     U: Update<D, Q, E, J, A>,
 >(
-    rt: &R,
+    rt: &T,
     client: &mut shared_object::Client<Q, E, J, Free<D, Q, E, J, R, A>, A>,
     update: &U,
 ) -> Result<U::Reply, Refusal> {
@@ -73,9 +76,10 @@ pub(crate) fn inspected<
     J: Object<D, Q, E>,
     R: Wait + Drop,
     A: Allocator + Copy,
+    T: Wait,
     L: Look<D>,
 >(
-    rt: &R,
+    rt: &T,
     client: &mut shared_object::Client<Q, E, J, Free<D, Q, E, J, R, A>, A>,
     look: &L,
 ) -> L::Found {
@@ -127,10 +131,11 @@ fn looked<
     J: Object<D, Q, E>,
     R: Wait + Drop,
     A: Allocator + Copy,
+    T: Wait,
     L: Look<D>,
     M: Look<Q>,
 >(
-    rt: &R,
+    rt: &T,
     client: &mut shared_object::Client<Q, E, J, Free<D, Q, E, J, R, A>, A>,
     inner: &L,
     outer: &M,
@@ -141,19 +146,65 @@ fn looked<
     (inside, outside, events)
 }
 
-// It takes no memory.
-pub(crate) fn what_is_seen<K: Naming, R: Wait + Drop, A: Allocator + Copy>(
-    rt: &R,
-    client: &mut One<K, R, A>,
-) -> Result<Seen, Refusal> {
-    let (shown, published, events) = looked(rt, client, &Showing, &Published);
-    let (digest, size) = published?;
-    Ok(Seen {
-        shown,
-        digest,
-        size,
-        events: events?,
-    })
+// What the trials ask of a client. They see it as no more than this, as a check of what holds a client grows with the depth of its type.
+pub(crate) trait Caller {
+    type Book: Naming;
+
+    type Heap: Allocator + Copy;
+
+    // What a call is answered.
+    fn call<
+        T: Wait,
+        U: Update<
+            Here<Self::Heap>,
+            Root<Self::Heap>,
+            NodeEvent<Self::Heap>,
+            Named<Self::Book>,
+            Self::Heap,
+        >,
+    >(&mut self, rt: &T, update: &U) -> Result<U::Reply, Refusal>;
+
+    // What a look at what is published finds.
+    fn find<L: Look<Root<Self::Heap>>>(&mut self, look: &L) -> Result<L::Found, Refusal>;
+
+    // What a look at the replica finds.
+    fn inspect<T: Wait, L: Look<Here<Self::Heap>>>(&mut self, rt: &T, look: &L) -> L::Found;
+
+    // It takes no memory.
+    fn see<T: Wait>(&mut self, rt: &T) -> Result<Seen, Refusal>;
+}
+
+impl<K: Naming, R: Wait + Drop, A: Allocator + Copy> Caller for One<K, R, A> {
+    type Book = K;
+
+    type Heap = A;
+
+    fn call<T: Wait, U: Update<Here<A>, Root<A>, NodeEvent<A>, Named<K>, A>>(
+        &mut self,
+        rt: &T,
+        update: &U,
+    ) -> Result<U::Reply, Refusal> {
+        called(rt, self, update)
+    }
+
+    fn find<L: Look<Root<A>>>(&mut self, look: &L) -> Result<L::Found, Refusal> {
+        found(self, look)
+    }
+
+    fn inspect<T: Wait, L: Look<Here<A>>>(&mut self, rt: &T, look: &L) -> L::Found {
+        inspected(rt, self, look)
+    }
+
+    fn see<T: Wait>(&mut self, rt: &T) -> Result<Seen, Refusal> {
+        let (shown, published, events) = looked(rt, self, &Showing, &Published);
+        let (digest, size) = published?;
+        Ok(Seen {
+            shown,
+            digest,
+            size,
+            events: events?,
+        })
+    }
 }
 
 // The one item in a list.

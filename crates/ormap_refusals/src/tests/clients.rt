@@ -3,14 +3,14 @@ ghost use Rattle.std.specs.Prelude.{◌≡◌};
 ghost use Rattle.replica_core.specs.Meaning.{meaning};
 
 use crate::made::{Here, flushed, opened, paged, put, replica, what_shows};
-use crate::nodes::{One, Seen, Shared, called, ended, found, inspected, next, node, what_is_seen};
+use crate::nodes::{Caller, Seen, Shared, ended, next, node};
 use crate::trial::{Trial, is_as_often, refusals, wanted};
 use dots::{Field, Key, Name, Refusal, Value};
 use hash_path::Fnv1a;
 use linked_list_allocator::LocalHeap;
 use node_threads::{
     Abandoning, Asking, Batching, Checkpointing, Clearing, Delivering, FieldListing, FieldRemoving,
-    Flushing, Getting, KeyListing, Knowing, Naming, NodeEvent, Putting, Removing, Retrying,
+    Flushing, Getting, KeyListing, Knowing, Naming, NodeEvent, Putting, Removing, Retrying, Root,
     SessionListing, Sharing, Sizing, Write, Written,
 };
 use replica_core::{Delivered, Outcome, Replica};
@@ -59,41 +59,38 @@ enum Kind {
 
 // Such a call of the client, who saw this before.
 #[derive(Drop)]
-struct Calling<'r, K: Naming, R: Wait + Drop, A: Allocator + Copy> {
+struct Calling<'r, C: Caller, R: Wait> {
     rt: &'r R,
-    heap: A,
-    client: &'r mut One<K, R, A>,
-    message: &'r Message<A>,
+    heap: C::Heap,
+    client: &'r mut C,
+    message: &'r Message<C::Heap>,
     before: Seen,
     act: Act,
 }
 
-impl<'r, K: Naming, R: Wait + Drop, A: Allocator + Copy> Trial for Calling<'r, K, R, A> {
+impl<'r, C: Caller, R: Wait> Trial for Calling<'r, C, R> {
     fn attempt(&mut self) -> Result<(), Refusal> {
         let (rt, heap) = (self.rt, self.heap);
         match self.act {
             Act::Put => put_more(rt, heap, self.client),
             Act::Remove => remove(rt, heap, self.client),
             Act::RemoveField => remove_field(rt, heap, self.client),
-            Act::Clear => wanted(called(rt, self.client, &Clearing { alloc: heap })? == 2),
+            Act::Clear => wanted(self.client.call(rt, &Clearing { alloc: heap })? == 2),
             Act::Flush => flush(rt, heap, self.client),
             Act::Ask => ask(rt, heap, self.client),
             Act::Retry => retry(rt, heap, self.client),
             Act::Abandon => abandon(rt, heap, self.client),
             Act::Deliver(_, outcome) => deliver(rt, heap, self.client, self.message, outcome),
             Act::Batch => batch(rt, heap, self.client, &mut self.before),
-            Act::Get => get(heap, self.client),
-            Act::Fields => fields(heap, self.client),
-            Act::Keys => keys(heap, self.client),
-            Act::Sessions => sessions(rt, self.client),
-            Act::Know => know(rt, heap, self.client),
-            Act::Save => save(rt, heap, self.client, self.before),
+            Act::Get | Act::Fields => read(heap, self.client, self.act, 1),
+            Act::Keys => read(heap, self.client, self.act, 2),
+            Act::Sessions | Act::Know | Act::Save => inspect(rt, heap, self.client, self.act),
             Act::See => see(rt, self.client, self.before),
         }
     }
 
     fn is_as_before(&mut self) -> bool {
-        what_is_seen(self.rt, self.client) == Ok(self.before)
+        self.client.see(self.rt) == Ok(self.before)
     }
 }
 
@@ -103,11 +100,7 @@ fn key_a<A: Allocator + Copy>(heap: A) -> Result<Key<A>, Refusal> {
 }
 
 // Puts a value on a field of it.
-fn put_more<K: Naming, R: Wait + Drop, A: Allocator + Copy>(
-    rt: &R,
-    heap: A,
-    client: &mut One<K, R, A>,
-) -> Result<(), Refusal> {
+fn put_more<C: Caller, R: Wait>(rt: &R, heap: C::Heap, client: &mut C) -> Result<(), Refusal> {
     let (key, field) = (key_a(heap)?, Field::new(heap, b"f")?);
     let putting = Putting {
         alloc: heap,
@@ -115,98 +108,74 @@ fn put_more<K: Naming, R: Wait + Drop, A: Allocator + Copy>(
         field: &field,
         value: &Value::empty(),
     };
-    wanted(called(rt, client, &putting)?.number() == 3)
+    wanted(client.call(rt, &putting)?.number() == 3)
 }
 
 // Removes it.
-fn remove<K: Naming, R: Wait + Drop, A: Allocator + Copy>(
-    rt: &R,
-    heap: A,
-    client: &mut One<K, R, A>,
-) -> Result<(), Refusal> {
+fn remove<C: Caller, R: Wait>(rt: &R, heap: C::Heap, client: &mut C) -> Result<(), Refusal> {
     let key = key_a(heap)?;
     let removing = Removing {
         alloc: heap,
         key: &key,
     };
-    wanted(called(rt, client, &removing)? == 1)
+    wanted(client.call(rt, &removing)? == 1)
 }
 
 // Removes its one field.
-fn remove_field<K: Naming, R: Wait + Drop, A: Allocator + Copy>(
-    rt: &R,
-    heap: A,
-    client: &mut One<K, R, A>,
-) -> Result<(), Refusal> {
+fn remove_field<C: Caller, R: Wait>(rt: &R, heap: C::Heap, client: &mut C) -> Result<(), Refusal> {
     let key = key_a(heap)?;
     let removing = FieldRemoving {
         alloc: heap,
         key: &key,
         field: &Field::empty(),
     };
-    wanted(called(rt, client, &removing)? == 1)
+    wanted(client.call(rt, &removing)? == 1)
 }
 
-fn flush<K: Naming, R: Wait + Drop, A: Allocator + Copy>(
-    rt: &R,
-    heap: A,
-    client: &mut One<K, R, A>,
-) -> Result<(), Refusal> {
-    let is_sent = called(rt, client, &Flushing { alloc: heap })?.is_some();
+fn flush<C: Caller, R: Wait>(rt: &R, heap: C::Heap, client: &mut C) -> Result<(), Refusal> {
+    let is_sent = client.call(rt, &Flushing { alloc: heap })?.is_some();
     wanted(is_sent)
 }
 
 // The next one has the number 2, however often one was refused before.
-fn ask<K: Naming, R: Wait + Drop, A: Allocator + Copy>(
-    rt: &R,
-    heap: A,
-    client: &mut One<K, R, A>,
-) -> Result<(), Refusal> {
+fn ask<C: Caller, R: Wait>(rt: &R, heap: C::Heap, client: &mut C) -> Result<(), Refusal> {
     let asking = Asking {
         alloc: heap,
         peer: Name::new(2).ok_or(Refusal::BadLine)?,
     };
-    let number = called(rt, client, &asking)?.0;
+    let number = client.call(rt, &asking)?.0;
     wanted(number == 2)
 }
 
-fn retry<K: Naming, R: Wait + Drop, A: Allocator + Copy>(
-    rt: &R,
-    heap: A,
-    client: &mut One<K, R, A>,
-) -> Result<(), Refusal> {
+fn retry<C: Caller, R: Wait>(rt: &R, heap: C::Heap, client: &mut C) -> Result<(), Refusal> {
     let retrying = Retrying {
         alloc: heap,
         number: 1,
     };
-    let told = called(rt, client, &retrying)?;
+    let told = client.call(rt, &retrying)?;
     comes_to(told, Outcome::Sent)
 }
 
-fn abandon<K: Naming, R: Wait + Drop, A: Allocator + Copy>(
-    rt: &R,
-    heap: A,
-    client: &mut One<K, R, A>,
-) -> Result<(), Refusal> {
+fn abandon<C: Caller, R: Wait>(rt: &R, heap: C::Heap, client: &mut C) -> Result<(), Refusal> {
     let abandoning = Abandoning {
         alloc: heap,
         number: 1,
     };
-    wanted(called(rt, client, &abandoning)?)
+    wanted(client.call(rt, &abandoning)?)
 }
 
-fn deliver<K: Naming, R: Wait + Drop, A: Allocator + Copy>(
+fn deliver<C: Caller, R: Wait>(
     rt: &R,
-    heap: A,
-    client: &mut One<K, R, A>,
-    message: &Message<A>,
+    heap: C::Heap,
+    client: &mut C,
+    message: &Message<C::Heap>,
     outcome: Outcome,
 ) -> Result<(), Refusal> {
     let delivering = Delivering {
         alloc: heap,
         message,
     };
-    let told = called(rt, client, &delivering)?;
+    let told = client.call(rt, &delivering)?;
     comes_to(told, outcome)
 }
 
@@ -218,10 +187,10 @@ fn comes_to<A: Allocator + Copy>(told: Delivered<A>, outcome: Outcome) -> Result
 }
 
 // Puts a value on a field of a, and one on d. Where one is refused, those before it are made, and it is tried as refused.
-fn batch<K: Naming, R: Wait + Drop, A: Allocator + Copy>(
+fn batch<C: Caller, R: Wait>(
     rt: &R,
-    heap: A,
-    client: &mut One<K, R, A>,
+    heap: C::Heap,
+    client: &mut C,
     before: &mut Seen,
 ) -> Result<(), Refusal> {
     let (key, other) = (key_a(heap)?, Key::new(heap, b"d")?);
@@ -234,8 +203,8 @@ fn batch<K: Naming, R: Wait + Drop, A: Allocator + Copy>(
         alloc: heap,
         writes: &writes,
     };
-    let written = called(rt, client, &batching)?;
-    let after = what_is_seen(rt, client)?;
+    let written = client.call(rt, &batching)?;
+    let after = client.see(rt)?;
     let was = mem::replace(before, after);
     is_as_told(&written, was, after)
 }
@@ -257,90 +226,112 @@ fn is_as_told<A: Allocator>(
     }
 }
 
-// Reads its one value.
-fn get<K: Naming, R: Wait + Drop, A: Allocator + Copy>(
+// What is read of what is published, and how much is found: the values and the fields of a, and the keys.
+#[derive(Drop)]
+struct Reading<A: Allocator + Copy> {
     heap: A,
-    client: &mut One<K, R, A>,
-) -> Result<(), Refusal> {
+    act: Act,
+}
+
+impl<A: Allocator + Copy> Look<Root<A>> for Reading<A> {
+    type Found = Result<usize, Refusal>;
+
+    ghost finds = { λ look root found. Unit {0} };
+
+    fn look(&self, root: &Root<A>) -> Result<usize, Refusal> {
+        let heap = self.heap;
+        match self.act {
+            Act::Get => values(heap, root),
+            Act::Fields => fields(heap, root),
+            _ => length(KeyListing { alloc: heap }.look(root)),
+        }
+    }
+}
+
+fn values<A: Allocator + Copy>(heap: A, root: &Root<A>) -> Result<usize, Refusal> {
     let key = key_a(heap)?;
     let getting = Getting {
         alloc: heap,
         key: &key,
         field: &Field::empty(),
     };
-    let values = found(client, &getting)??;
-    wanted(values.len() == 1)
+    length(getting.look(root))
 }
 
-// Reads its one field.
-fn fields<K: Naming, R: Wait + Drop, A: Allocator + Copy>(
-    heap: A,
-    client: &mut One<K, R, A>,
-) -> Result<(), Refusal> {
+fn fields<A: Allocator + Copy>(heap: A, root: &Root<A>) -> Result<usize, Refusal> {
     let key = key_a(heap)?;
     let listing = FieldListing {
         alloc: heap,
         key: &key,
     };
-    let fields = found(client, &listing)??;
-    wanted(fields.len() == 1)
+    length(listing.look(root))
 }
 
-// Lists the two keys.
-fn keys<K: Naming, R: Wait + Drop, A: Allocator + Copy>(
+fn length<X: Drop, A: Allocator>(found: Result<Vec<X, A>, Refusal>) -> Result<usize, Refusal> {
+    let found = found?;
+    Ok(found.len())
+}
+
+// Reads of what is published, where so much is to be found.
+fn read<C: Caller>(heap: C::Heap, client: &mut C, act: Act, count: usize) -> Result<(), Refusal> {
+    let told = client.find(&Reading { heap, act })?;
+    wanted(told? == count)
+}
+
+// What is looked at of the replica, which shows this: the synchronisation that is open, the dots of the two writes, or what is saved of it, which comes
+// back and shows the same.
+#[derive(Drop)]
+struct Inspecting<A: Allocator + Copy> {
     heap: A,
-    client: &mut One<K, R, A>,
-) -> Result<(), Refusal> {
-    let keys = found(client, &KeyListing { alloc: heap })??;
-    wanted(keys.len() == 2)
+    act: Act,
 }
 
-// Lists the one synchronisation that is open.
-fn sessions<K: Naming, R: Wait + Drop, A: Allocator + Copy>(
-    rt: &R,
-    client: &mut One<K, R, A>,
-) -> Result<(), Refusal> {
-    let sessions = inspected(rt, client, &SessionListing)?;
-    wanted(sessions.len() == 1)
+impl<A: Allocator + Copy> Look<Here<A>> for Inspecting<A> {
+    type Found = Result<(), Refusal>;
+
+    ghost finds = { λ look replica found. Unit {0} };
+
+    fn look(&self, replica: &Here<A>) -> Result<(), Refusal> {
+        match self.act {
+            Act::Sessions => wanted(length(SessionListing.look(replica))? == 1),
+            Act::Know => know(self.heap, replica),
+            _ => save(self.heap, replica),
+        }
+    }
 }
 
-// The dots of the two writes.
-fn know<K: Naming, R: Wait + Drop, A: Allocator + Copy>(
-    rt: &R,
-    heap: A,
-    client: &mut One<K, R, A>,
-) -> Result<(), Refusal> {
-    let known = inspected(rt, client, &Knowing { alloc: heap })?;
-    let own = Name::new(1).ok_or(Refusal::BadLine)?;
-    wanted(known.entry(own) == 2)
+fn know<A: Allocator + Copy>(heap: A, replica: &Here<A>) -> Result<(), Refusal> {
+    let known = Knowing { alloc: heap }.look(replica)?;
+    let dots = known.entry(replica.name());
+    wanted(dots == 2)
 }
 
-// What is saved of the replica comes back, and shows the same.
-fn save<K: Naming, R: Wait + Drop, A: Allocator + Copy>(
-    rt: &R,
-    heap: A,
-    client: &mut One<K, R, A>,
-    before: Seen,
-) -> Result<(), Refusal> {
-    let checkpoint = inspected(rt, client, &Checkpointing)?;
+fn save<A: Allocator + Copy>(heap: A, replica: &Here<A>) -> Result<(), Refusal> {
+    let checkpoint = Checkpointing.look(replica)?;
     let saved = checkpoint.saved(heap);
     drop(checkpoint);
     let again = Replica::resume(heap, Fnv1a, saved?)?;
     let shown = what_shows(&again);
     drop(again);
-    wanted(shown == before.shown)
+    wanted(shown == what_shows(replica))
+}
+
+// Looks at the replica itself.
+fn inspect<C: Caller, R: Wait>(
+    rt: &R,
+    heap: C::Heap,
+    client: &mut C,
+    act: Act,
+) -> Result<(), Refusal> {
+    client.inspect(rt, &Inspecting { heap, act })
 }
 
 // Looks at what takes no memory, and at a snapshot.
-fn see<K: Naming, R: Wait + Drop, A: Allocator + Copy>(
-    rt: &R,
-    client: &mut One<K, R, A>,
-    before: Seen,
-) -> Result<(), Refusal> {
-    let snapshot = found(client, &Sharing)??;
+fn see<C: Caller, R: Wait>(rt: &R, client: &mut C, before: Seen) -> Result<(), Refusal> {
+    let snapshot = client.find(&Sharing)??;
     let size = Sizing.look(&snapshot);
     drop(snapshot);
-    let now = what_is_seen(rt, client)?;
+    let now = client.see(rt)?;
     wanted(now == before && size == 2)
 }
 
@@ -379,16 +370,16 @@ fn reply<A: Allocator + Copy>(
 }
 
 // How often the call is refused, and how many events the client has seen before it is made.
-fn tried_by<K: Naming, R: Wait + Abort + Drop, A: Allocator + Copy>(
+fn tried_by<C: Caller, R: Wait + Abort>(
     rt: &R,
     alloc: Global,
     small: &LocalHeap,
-    heap: A,
-    client: &mut One<K, R, A>,
-    message: &Message<A>,
+    heap: C::Heap,
+    client: &mut C,
+    message: &Message<C::Heap>,
     act: Act,
 ) -> (usize, u64) {
-    let before = what_is_seen(rt, client).expect(rt, "a root");
+    let before = client.see(rt).expect(rt, "a root");
     let mut calling = Calling {
         rt,
         heap,
