@@ -104,3 +104,9 @@ pub(crate) fn is_as_often(count: usize, least: Option<usize>) -> bool {
         None => count == 0,
     }
 }
+
+// Whether it is found.
+pub(crate) fn is_there<X: Drop>(found: Result<Option<X>, Refusal>) -> Result<(), Refusal> {
+    let found = found?;
+    wanted(found.is_some())
+}

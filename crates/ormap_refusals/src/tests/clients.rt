@@ -3,8 +3,8 @@ ghost use Rattle.std.specs.Prelude.{◌≡◌};
 ghost use Rattle.replica_core.specs.Meaning.{meaning};
 
 use crate::made::{Here, flushed, opened, paged, put, replica, what_shows};
-use crate::nodes::{Caller, Seen, Shared, ended, next, node};
-use crate::trial::{Trial, is_as_often, refusals, wanted};
+use crate::nodes::{Caller, One, Seen, Shared, ended, next, node};
+use crate::trial::{Trial, is_as_often, is_there, refusals, wanted};
 use dots::{Field, Key, Name, Refusal, Value};
 use hash_path::Fnv1a;
 use linked_list_allocator::LocalHeap;
@@ -133,8 +133,8 @@ fn remove_field<C: Caller, R: Wait>(rt: &R, heap: C::Heap, client: &mut C) -> Re
 }
 
 fn flush<C: Caller, R: Wait>(rt: &R, heap: C::Heap, client: &mut C) -> Result<(), Refusal> {
-    let is_sent = client.call(rt, &Flushing { alloc: heap })?.is_some();
-    wanted(is_sent)
+    let sent = client.call(rt, &Flushing { alloc: heap });
+    is_there(sent)
 }
 
 // The next one has the number 2, however often one was refused before.
@@ -143,8 +143,15 @@ fn ask<C: Caller, R: Wait>(rt: &R, heap: C::Heap, client: &mut C) -> Result<(), 
         alloc: heap,
         peer: Name::new(2).ok_or(Refusal::BadLine)?,
     };
-    let number = client.call(rt, &asking)?.0;
-    wanted(number == 2)
+    let asked = client.call(rt, &asking);
+    has_number(asked, 2)
+}
+
+// Whether what was opened has this number.
+fn has_number<X: Drop>(asked: Result<(u64, X), Refusal>, number: u64) -> Result<(), Refusal> {
+    let (found, hello) = asked?;
+    drop(hello);
+    wanted(found == number)
 }
 
 fn retry<C: Caller, R: Wait>(rt: &R, heap: C::Heap, client: &mut C) -> Result<(), Refusal> {
@@ -199,9 +206,19 @@ fn batch<C: Caller, R: Wait>(
         Write::Put(&key, &field, &value),
         Write::Put(&other, &field, &value),
     ];
+    batch_of(rt, heap, client, &writes, before)
+}
+
+fn batch_of<C: Caller, R: Wait>(
+    rt: &R,
+    heap: C::Heap,
+    client: &mut C,
+    writes: &[Write<C::Heap>],
+    before: &mut Seen,
+) -> Result<(), Refusal> {
     let batching = Batching {
         alloc: heap,
-        writes: &writes,
+        writes,
     };
     let written = client.call(rt, &batching)?;
     let after = client.see(rt)?;
@@ -392,6 +409,19 @@ fn tried_by<C: Caller, R: Wait + Abort>(
     (count, calling.before.events)
 }
 
+// The same of the client of a node, in a function of its own as that is dear to prove.
+fn tried_by_one<K: Naming, R: Wait + Abort + Drop, A: Allocator + Copy>(
+    rt: &R,
+    alloc: Global,
+    small: &LocalHeap,
+    heap: A,
+    client: &mut One<K, R, A>,
+    message: &Message<A>,
+    act: Act,
+) -> (usize, u64) {
+    tried_by(rt, alloc, small, heap, client, message, act)
+}
+
 // The same by the client of a node of this replica, which has so many events more in the end.
 fn tried_at_this_node<K: Naming, R: Wait + Abort + Copy + Drop, A: Allocator + Copy>(
     rt: R,
@@ -410,7 +440,7 @@ fn tried_at_this_node<K: Naming, R: Wait + Abort + Copy + Drop, A: Allocator + C
     let made: Result<Shared<K, R, A>, Here<A>> = node(rt, heap, book, here);
     let mut node = made.ok().expect(&rt, "memory");
     let mut client = next(&mut node).expect(&rt, "a place");
-    let (count, before) = tried_by(&rt, alloc, small, heap, &mut client, message, act);
+    let (count, before) = tried_by_one(&rt, alloc, small, heap, &mut client, message, act);
     let told = ended(&rt, heap, node, client).expect(&rt, "all clients");
     assert!(rt; before.checked_add(events) == Some(told));
     count

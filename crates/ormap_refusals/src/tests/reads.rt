@@ -1,6 +1,6 @@
 // What is read of a world.
 use crate::tests::worlds::{Worlds, seventh};
-use crate::trial::wanted;
+use crate::trial::{is_there, wanted};
 use dots::{Field, Key, Name, Refusal};
 use std::alloc::Allocator;
 
@@ -55,12 +55,6 @@ fn are<X: Drop, A: Allocator>(
 ) -> Result<(), Refusal> {
     let found = found?;
     wanted(found.len() == count)
-}
-
-// Whether it is found.
-fn is_there<X: Drop>(found: Result<Option<X>, Refusal>) -> Result<(), Refusal> {
-    let found = found?;
-    wanted(found.is_some())
 }
 
 fn others<A: Allocator + Copy>(world: &Worlds<A>, one: Name) -> Result<(), Refusal> {
