@@ -6,6 +6,8 @@
 #[cfg(test)]
 mod made;
 #[cfg(test)]
+mod nodes;
+#[cfg(test)]
 mod tests;
 #[cfg(test)]
 mod trial;

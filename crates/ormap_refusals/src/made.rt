@@ -57,6 +57,16 @@ pub(crate) fn asked<A: Allocator + Copy>(
     Box::new(alloc, hello).expect(rt, "memory")
 }
 
+// The delta of what was written.
+pub(crate) fn flushed<A: Allocator + Copy>(
+    rt: &impl Abort,
+    alloc: Global,
+    here: &mut Here<A>,
+) -> Box<Message<A>> {
+    let delta = here.flush().expect(rt, "a flush").expect(rt, "a delta");
+    Box::new(alloc, delta).expect(rt, "memory")
+}
+
 // What a message comes to.
 pub(crate) fn answered<A: Allocator + Copy>(
     rt: &impl Abort,
@@ -113,8 +123,8 @@ pub(crate) fn paged<A: Allocator + Copy>(
 #[derive(Clone, Copy, PartialEq, Eq)]
 pub(crate) struct Shown {
     digest: Option<[u8; 32]>,
-    size: u64,
-    one: u64,
+    pub(crate) size: u64,
+    pub(crate) one: u64,
     two: u64,
 }
 

@@ -1,7 +1,8 @@
-mod bytes;
-mod calls;
-mod deliveries;
+mod clients;
+mod copies;
 mod late;
 mod long;
+mod new_nodes;
+mod reads;
 mod tries;
 mod worlds;

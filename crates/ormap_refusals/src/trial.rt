@@ -96,3 +96,17 @@ pub(crate) fn refusals<T: Trial>(
     }
     panic!(rt; "it is never made")
 }
+
+// Whether something was refused as often as it should: at least so often, or with None not at all.
+pub(crate) fn is_as_often(count: usize, least: Option<usize>) -> bool {
+    match least {
+        Some(least) => count >= least,
+        None => count == 0,
+    }
+}
+
+// Whether it is found.
+pub(crate) fn is_there<X: Drop>(found: Result<Option<X>, Refusal>) -> Result<(), Refusal> {
+    let found = found?;
+    wanted(found.is_some())
+}
