@@ -19,7 +19,7 @@
 //     send(letter.to, &letter.bytes);                                  // to everyone, in whatever way
 // }
 //
-// let taken = basket.take_bytes(received)?;                            // of any replica, of any kind
+// let taken = take(rt.alloc(), &mut basket, received)?;                // of any replica, of any kind
 // for letter in &taken.letters {
 //     send(letter.to, &letter.bytes);                                  // to that replica
 // }
@@ -34,6 +34,11 @@
 //
 // store.write(&encode_saved(rt.alloc(), basket.checkpoint()?.saved(rt.alloc())?)?);  // before what was written is sent
 // let basket = Replica::resume(rt.alloc(), Fnv1a, decode_saved(rt.alloc(), &store.read())?)?;
+mod guarded;
+mod take_error;
+
+pub use crate::guarded::take;
+pub use crate::take_error::TakeError;
 pub use delta_ops::{fields, keys, size, values, values_of_key};
 pub use dots::{Dot, Field, Key, Name, Refusal, Value};
 pub use hash_path::{Fnv1a, PathHash};
