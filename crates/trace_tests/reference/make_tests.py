@@ -1,4 +1,4 @@
-"""Writes src/tests/generated.rt and src/tests/examples.rt, the same each time."""
+"""Writes generated.rt, crashes.rt and examples.rt of src/tests, the same each time."""
 import pathlib
 import sys
 from random import Random
@@ -175,7 +175,8 @@ def file_of(traces, kind):
 
 
 if __name__ == "__main__":
-    made = {"forty_keys": generated(), "crashes": crashed(), "keys_of_one_hash": one_hash()}
+    made = {"forty_keys": generated(), "keys_of_one_hash": one_hash()}
     (TESTS / "generated.rt").write_text(file_of(made, "generated_trace"))
+    (TESTS / "crashes.rt").write_text(file_of({"crashes": crashed()}, "trace_of_crashes"))
     examples = {path.stem: path.read_text() for path in sorted(EXAMPLES.glob("*.trace"))}
     (TESTS / "examples.rt").write_text(file_of(examples, "example"))

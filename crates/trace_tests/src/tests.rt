@@ -1,5 +1,6 @@
 //! What no clause says: the worked traces with their exact text, the order of reads and writes, and failures in mid-stream.
 
+mod crashes;
 mod examples;
 mod faults;
 mod generated;
