@@ -39,10 +39,7 @@ class Episode(Run):
     """Replicas beside their models, with what was last saved of each."""
 
     def __init__(self, seed):
-        super().__init__(seed)
-        self.replicas = {name: Replica(name) for name in range(1, REPLICAS + 1)}
-        self.models = {name: Model(self.world, name) for name in self.replicas}
-        self.shown = {name: {} for name in self.replicas}
+        super().__init__(seed, REPLICAS)
         self.saved = {}
         self.writer = 0
         self.messages = 0
@@ -68,11 +65,9 @@ class Episode(Run):
         """The replica is what was last saved of it; its sessions and its snapshots are gone."""
         data, written, seen, made = copy.deepcopy(self.saved[name])
         self.replicas[name].close()
-        self.replicas[name] = Replica.resume(data)
         model = Model(self.world, name)
         model.written, model.seen, model.made = written, seen, made
-        self.models[name] = model
-        self.shown[name] = {}
+        self.begin(name, Replica.resume(data), model)
         self.crashes += 1
 
     def step(self):

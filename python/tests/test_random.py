@@ -28,15 +28,22 @@ class Carried(NamedTuple):
 
 
 class Run:
-    def __init__(self, seed: int) -> None:
+    def __init__(self, seed: int, replicas: int = REPLICAS) -> None:
         self.random = random.Random(seed)
         self.world = World()
-        self.replicas = {name: Replica(name) for name in range(1, REPLICAS + 1)}
-        self.models = {name: Model(self.world, name) for name in self.replicas}
+        self.replicas: dict[int, Replica] = {}
+        self.models: dict[int, Model] = {}
         self.carried: list[Carried] = []
         self.outcomes: set[Outcome] = set()
-        self.shown: dict[int, dict[bytes, frozenset]] = {name: {} for name in self.replicas}
-        self.snapshots: dict[int, tuple[Snapshot, dict]] = {name: (it.snapshot(), {}) for name, it in self.replicas.items()}
+        self.shown: dict[int, dict[bytes, frozenset]] = {}
+        self.snapshots: dict[int, tuple[Snapshot, dict]] = {}
+        for name in range(1, replicas + 1):
+            self.begin(name, Replica(name), Model(self.world, name))
+
+    def begin(self, name: int, replica: Replica, model: Model) -> None:
+        """The replica and its model, of which nothing has been shown yet."""
+        self.replicas[name], self.models[name] = replica, model
+        self.shown[name], self.snapshots[name] = {}, (Replica(name).snapshot(), {})
 
     # ---- messages
 
