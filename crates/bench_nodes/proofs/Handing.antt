@@ -38,7 +38,10 @@ writer_send K W n w = declared_send (Writer.the_type K W n) (
 )
 
 pub reader_send : (K S : RattleType) (n : naming.Ghosts K.Denot) → IsSend S → IsSync S → IsSend (Reader.the_row K S n)
-reader_send K S n s y = declared_send (Reader.the_type K S n) (Box-send _ (looking_send K n S s y), (search (Texts.the_send, crosses, sendable) depth 20, (search sendable depth 20, tt)))
+reader_send K S n s y = declared_send (Reader.the_type K S n) (
+  Box-send _ (looking_send K n S s y),
+  (search (Texts.the_send, crosses, sendable) depth 20, (search sendable depth 20, tt)),
+)
 
 pub keys_sync : IsSync Keys.the_row
 keys_sync = search (Texts.the_sync, crosses, sendable) depth 20

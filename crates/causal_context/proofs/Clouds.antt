@@ -1,5 +1,6 @@
 -- Clouds, read by the test of their dots.
-use Rattle.std.proofs.Common.{◌≡◌, ℕ, ◌≤◌, ◌<◌, Bool, true, false, ◌||◌, ◌&&◌, not, cond, List, [], ◌∷◌, ◌++◌, length, get_or, refl, sym, ap, subst, ◌∙◌, arith, eqb, ltb, leb, ◌+◌}
+use Rattle.std.proofs.Common.{◌≡◌, ℕ, ◌≤◌, ◌<◌, Bool, true, false, ◌||◌, ◌&&◌, not, cond, List, [], ◌∷◌, ◌++◌, length, get_or, refl, sym, ap, subst, ◌∙◌, arith}
+use Rattle.std.proofs.Common.{eqb, ltb, leb, ◌+◌}
 use Rattle.std.specs.Prelude.{IsTrue}
 use Rattle.std.specs.declared.cmp.Ordering.{Ordering}
 use Rattle.std.specs.declared.cmp.Ordering.TheVariants.{Less, Equal, Greater}
@@ -22,7 +23,8 @@ use Rattle.causal_context.specs.Run.{is_in_run}
 use Rattle.causal_context.proofs.Dots.{dot_cmp_total, dot_exact, is_eq-dot_cmp, list_any-dot_cmp, same_dot-refl, same_from_test}
 
 -- clouds that answer the same are one
-pub cloud_from_test : (a b : List DotValue) → IsStrictlySortedBy dot_cmp a → IsStrictlySortedBy dot_cmp b → ((d : DotValue) → in_cloud a d ≡ in_cloud b d) → a ≡ b
+pub cloud_from_test : (a b : List DotValue) → IsStrictlySortedBy dot_cmp a → IsStrictlySortedBy dot_cmp b
+    → ((d : DotValue) → in_cloud a d ≡ in_cloud b d) → a ≡ b
 cloud_from_test a b s t h =
     let set : List DotValue → BTreeSet DotValue = λ ds. record { keys = ds } in
     btree_set_from_contains dot_cmp_total (set a) (set b) s t (λ d. list_any-dot_cmp d a ∙ h d ∙ sym (list_any-dot_cmp d b)) dot_exact
@@ -48,7 +50,8 @@ in_cloud_at ds i d l is = list_any_at (same_dot d) ds i d l (ap (same_dot d) (sy
 pub in_cloud-filter : (p : DotValue → Bool) (ds : List DotValue) (d : DotValue) → in_cloud (filter p ds) d ≡ (p d && in_cloud ds d)
 in_cloud-filter p ds d = any-filter_same (same_dot d) p (p d) (λ k t. ap p (sym (same_from_test d k t))) ds
 
-between_by : (a b m n e : ℕ) → (not (is_lt (ordering_then (nat_cmp b a) (nat_cmp m (n + 1)))) && not (is_gt (ordering_then (nat_cmp b a) (nat_cmp m e)))) ≡ (eqb a b && (ltb n m && leb m e))
+between_by : (a b m n e : ℕ) → (not (is_lt (ordering_then (nat_cmp b a) (nat_cmp m (n + 1)))) && not (is_gt (ordering_then (nat_cmp b a) (nat_cmp m e))))
+    ≡ (eqb a b && (ltb n m && leb m e))
 between_by a b m n e = grind (arith, nat_tests)
 
 pub and_turned : (a b : Bool) → (not a && b) ≡ (b && not a)
@@ -58,11 +61,13 @@ and_turned false true = refl
 and_turned false false = refl
 
 -- a run that is taken out of a cloud
-pub run_taken : (dot low high : DotValue) (end : ℕ) (old new : List DotValue) → low ≡ record { name = dot.name; number = dot.number + 1 } → high ≡ record { name = dot.name; number = end }
+pub run_taken : (dot low high : DotValue) (end : ℕ) (old new : List DotValue) → low ≡ record { name = dot.name; number = dot.number + 1 }
+    → high ≡ record { name = dot.name; number = end }
     → new ≡ filter (λ x. not (is_between dot_cmp low high x)) old → (d : DotValue) → in_cloud new d ≡ (in_cloud old d && not (is_in_run dot end d))
 run_taken dot low high end old new low_is high_is is d =
     let inside : is_between dot_cmp low high d ≡ is_in_run dot end d =
-    ap (λ l. is_between dot_cmp l high d) low_is ∙ ap (λ h. is_between dot_cmp (record { name = dot.name; number = dot.number + 1 }) h d) high_is ∙ between_by dot.name d.name d.number dot.number end in
+    ap (λ l. is_between dot_cmp l high d) low_is ∙ ap (λ h. is_between dot_cmp (record { name = dot.name; number = dot.number + 1 }) h d) high_is
+    ∙ between_by dot.name d.name d.number dot.number end in
     ap (λ ds. in_cloud ds d) is ∙ in_cloud-filter (λ x. not (is_between dot_cmp low high x)) old d ∙ and_turned (is_between dot_cmp low high d) (in_cloud old d)
     ∙ ap (λ b. in_cloud old d && not b) inside
 
@@ -78,7 +83,8 @@ within a m n l = grind (arith, nat_tests)
 at_most : (a m n : ℕ) → is_gt (ordering_then (nat_cmp a a) (nat_cmp m n)) ≡ false → m ≤ n
 at_most a m n l = grind (arith, nat_tests)
 
-module _ (ds : List DotValue) (name top : ℕ) (high : DotValue) (high_is : high ≡ record { name = name; number = top }) (bounded : (d : DotValue) → IsTrue (in_cloud ds d) → d.number ≤ top) where
+module _ (ds : List DotValue) (name top : ℕ) (high : DotValue) (high_is : high ≡ record { name = name; number = top })
+    (bounded : (d : DotValue) → IsTrue (in_cloud ds d) → d.number ≤ top) where
   not_above : (m : ℕ) → IsTrue (in_cloud ds (record { name = name; number = m })) → is_gt (dot_cmp (record { name = name; number = m }) high) ≡ false
   not_above m h = rw high_is (within name m top (bounded (record { name = name; number = m }) h))
 
@@ -92,7 +98,8 @@ module _ (ds : List DotValue) (name top : ℕ) (high : DotValue) (high_is : high
         known = λ _. subst (λ n. IsTrue (in_cloud ds (at n))) named (sym (list_any-dot_cmp k ds) ∙ last.there);
         bound = λ m h.
             let q : DotValue = record { name = name; number = m } in
-            at_most name m k.number (subst (λ n. is_gt (ordering_then (nat_cmp name n) (nat_cmp m k.number)) ≡ false) named (last.greatest q (among q h) (not_above m h)));
+            at_most name m k.number (subst (λ n. is_gt (ordering_then (nat_cmp name n) (nat_cmp m k.number)) ≡ false) named
+            (last.greatest q (among q h) (not_above m h)));
       }
 
   pub greatest_from_other : (k : DotValue) → IsLastUpTo dot_cmp ds high k → (k.name ≡ name → ⊥) → IsGreatest name (in_cloud ds) 0
@@ -119,15 +126,18 @@ cond_or true b = refl
 cond_or false b = refl
 
 -- a dot that is put into an ordered set
-pub added : (dot d : DotValue) (old new : List DotValue) → list_any (is_at (dot_cmp d)) new ≡ cond (is_eq (dot_cmp dot d)) true (list_any (is_at (dot_cmp d)) old)
+pub added : (dot d : DotValue) (old new : List DotValue) → list_any (is_at (dot_cmp d)) new
+    ≡ cond (is_eq (dot_cmp dot d)) true (list_any (is_at (dot_cmp d)) old)
     → in_cloud new d ≡ (same_dot dot d || in_cloud old d)
 added dot d old new h =
-    sym (list_any-dot_cmp d new) ∙ h ∙ ap (λ b. cond (is_eq (dot_cmp dot d)) true b) (list_any-dot_cmp d old) ∙ ap (λ b. cond b true (in_cloud old d)) (is_eq-dot_cmp dot d)
+    sym (list_any-dot_cmp d new) ∙ h ∙ ap (λ b. cond (is_eq (dot_cmp dot d)) true b) (list_any-dot_cmp d old)
+    ∙ ap (λ b. cond b true (in_cloud old d)) (is_eq-dot_cmp dot d)
     ∙ cond_or (same_dot dot d) (in_cloud old d)
 
 -- one dot is the other exactly where the other is the one
 pub same_dot-comm : (d e : DotValue) → same_dot d e ≡ same_dot e d
-same_dot-comm d e = ap (λ b. b && eqb d.number e.number) (nat_eq_equiv.symm d.name e.name) ∙ ap (λ b. eqb e.name d.name && b) (nat_eq_equiv.symm d.number e.number)
+same_dot-comm d e = ap (λ b. b && eqb d.number e.number) (nat_eq_equiv.symm d.name e.name)
+    ∙ ap (λ b. eqb e.name d.name && b) (nat_eq_equiv.symm d.number e.number)
 
 more_by : (base seen here : Bool) → (here || (base || seen)) ≡ (base || (seen || here))
 more_by true true true = refl

@@ -34,7 +34,8 @@ same_form-decides a b =
           let v = vectors.0 parts.0 in
           let c = clouds.0 parts.1 in
           λ i. record { vector = v i; cloud = c i },
-      λ e. and_from _ (pointwise same_dot a.cloud b.cloud) (vectors.1 (ap (λ (x : ContextValue). x.vector) e)) (clouds.1 (ap (λ (x : ContextValue). x.cloud) e)),
+      λ e. and_from _ (pointwise same_dot a.cloud b.cloud) (vectors.1 (ap (λ (x : ContextValue). x.vector) e))
+          (clouds.1 (ap (λ (x : ContextValue). x.cloud) e)),
     )
 
 pub same_form-equal : (a b : ContextValue) (r : Bool) → r ≡ same_form a b → IsTrue r ↔ (a ≡ b)

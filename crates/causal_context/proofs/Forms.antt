@@ -29,14 +29,16 @@ none_from_empty [] [] v c d = grind (arith, nat_tests)
 none_from_empty [] (x ∷ xs) v c d = absurd (omega arith)
 none_from_empty (x ∷ xs) cloud v c d = absurd (omega arith)
 
-pub vector_empty_from_none : (vector : List (ℕ × ℕ)) (cloud : List DotValue) → HasNoZero vector → ((d : DotValue) → is_known vector cloud d ≡ false) → length vector ≡ 0
+pub vector_empty_from_none : (vector : List (ℕ × ℕ)) (cloud : List DotValue) → HasNoZero vector → ((d : DotValue) → is_known vector cloud d ≡ false)
+    → length vector ≡ 0
 vector_empty_from_none [] cloud z h = refl
 vector_empty_from_none (x ∷ xs) cloud z h =
     let d : DotValue = record { name = x.0; number = 1 } in
     let there : IsTrue (is_known (x ∷ xs) cloud d) = known_below (known_up_to (x ∷ xs)) (in_cloud cloud) d (omega arith) (first_known x xs z) in
     absurd (cc (there, h d))
 
-pub cloud_empty_from_none : (vector : List (ℕ × ℕ)) (cloud : List DotValue) → IsApart vector cloud → ((d : DotValue) → is_known vector cloud d ≡ false) → length cloud ≡ 0
+pub cloud_empty_from_none : (vector : List (ℕ × ℕ)) (cloud : List DotValue) → IsApart vector cloud → ((d : DotValue) → is_known vector cloud d ≡ false)
+    → length cloud ≡ 0
 cloud_empty_from_none vector [] apart h = refl
 cloud_empty_from_none vector (x ∷ xs) apart h =
     let above = apart x (first_in_cloud x xs) in
@@ -44,7 +46,9 @@ cloud_empty_from_none vector (x ∷ xs) apart h =
     absurd (cc (there, h x))
 
 -- a vector that is as high as either of two, with no cloud
-pub known-covering : (both mine yours : List (ℕ × ℕ)) (cloud : List DotValue) → ((name : ℕ) → known_up_to both name ≡ max (known_up_to mine name) (known_up_to yours name)) → cloud ≡ []
+pub known-covering : (both mine yours : List (ℕ × ℕ)) (cloud : List DotValue)
+    → ((name : ℕ) → known_up_to both name ≡ max (known_up_to mine name) (known_up_to yours name)) → cloud ≡ []
     → (d : DotValue) → is_known both cloud d ≡ (is_known mine [] d || is_known yours [] d)
 known-covering both mine yours cloud merged empty d =
-    ap (λ ds. is_known both ds d) empty ∙ ap (λ n. leb 1 d.number && (leb d.number n || false)) (merged d.name) ∙ known_max d.number (known_up_to mine d.name) (known_up_to yours d.name)
+    ap (λ ds. is_known both ds d) empty ∙ ap (λ n. leb 1 d.number && (leb d.number n || false)) (merged d.name)
+    ∙ known_max d.number (known_up_to mine d.name) (known_up_to yours d.name)

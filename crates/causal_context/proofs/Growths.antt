@@ -1,5 +1,6 @@
 -- Which dots are lacking, by the entry of each name and the test of the cloud.
-use Rattle.std.proofs.Common.{◌≡◌, ℕ, ◌+◌, ◌≤◌, ◌<◌, Bool, true, false, ◌||◌, ◌&&◌, cond, List, [], ◌∷◌, ◌++◌, refl, sym, ap, subst, ◌∙◌, arith, eqb, leb, max, eqb-true, eq-eqb}
+use Rattle.std.proofs.Common.{◌≡◌, ℕ, ◌+◌, ◌≤◌, ◌<◌, Bool, true, false, ◌||◌, ◌&&◌, cond, List, [], ◌∷◌, ◌++◌, refl, sym, ap, subst, ◌∙◌, arith, eqb, leb, max}
+use Rattle.std.proofs.Common.{eqb-true, eq-eqb}
 use Rattle.std.specs.Prelude.{IsTrue}
 use Rattle.std.proofs.lemmas.Bool.{and_parts, leb-true}
 use Rattle.std.proofs.lemmas.Bool.Decides.{nat_tests}
@@ -19,7 +20,8 @@ or_right true b h = refl
 or_right false b h = h
 
 -- what is lacking of two parts
-pub growth-both : (here there seen seen' all : DotValue → Bool) (a b : Growth) → ((d : DotValue) → IsTrue (all d) → IsTrue (seen d || seen' d)) → IsGrowthAmong here there seen a → IsGrowthAmong here there seen' b
+pub growth-both : (here there seen seen' all : DotValue → Bool) (a b : Growth) → ((d : DotValue) → IsTrue (all d) → IsTrue (seen d || seen' d))
+    → IsGrowthAmong here there seen a → IsGrowthAmong here there seen' b
     → IsGrowthAmong here there all (both a b)
 growth-both here there seen seen' all Nothing Nothing split h k = λ d l. or_cases (IsTrue (here d)) (seen d) (seen' d) (split d l) (h d) (k d)
 growth-both here there seen seen' all Nothing (One dot) split h k = record {
@@ -36,7 +38,8 @@ growth-both here there seen seen' all (One dot) More split h k = (dot, h.is_new)
 growth-both here there seen seen' all More b split h k = h
 
 -- where a part of what is there was looked at
-pub growth-within : (here there there' seen : DotValue → Bool) (a : Growth) → ((d : DotValue) → IsTrue (there d) → IsTrue (there' d)) → IsGrowthAmong here there seen a → IsGrowthAmong here there' seen a
+pub growth-within : (here there there' seen : DotValue → Bool) (a : Growth) → ((d : DotValue) → IsTrue (there d) → IsTrue (there' d))
+    → IsGrowthAmong here there seen a → IsGrowthAmong here there' seen a
 growth-within here there there' seen Nothing sub h = h
 growth-within here there there' seen (One dot) sub h = record {
   is_new = record { unknown = h.is_new.unknown; present = sub dot h.is_new.present };
@@ -45,7 +48,8 @@ growth-within here there there' seen (One dot) sub h = record {
 growth-within here there there' seen More sub h = (h.0, record { unknown = h.1.unknown; present = sub h.0 h.1.present })
 
 -- one more entry at the end
-split_max : (m k a n : ℕ) (b : Bool) → k ≤ max a (cond b n 0) → IsTrue (leb 1 m && (leb m k || false)) → IsTrue ((leb 1 m && (leb m a || false)) || (b && (leb 1 m && leb m n)))
+split_max : (m k a n : ℕ) (b : Bool) → k ≤ max a (cond b n 0) → IsTrue (leb 1 m && (leb m k || false))
+    → IsTrue ((leb 1 m && (leb m a || false)) || (b && (leb 1 m && leb m n)))
 split_max m k a n true l h = grind (arith, nat_tests)
 split_max m k a n false l h = grind (arith, nat_tests)
 
@@ -66,16 +70,19 @@ named P name number d h there =
     let bounds = and_parts (leb 1 d.number) (leb d.number number) parts.1 in
     subst P (eqb-true name d.name parts.0) (there (leb-true 1 d.number bounds.0) (leb-true d.number number bounds.1))
 
-pub none-up_to : (entry : ℕ → ℕ) (test : DotValue → Bool) (name number : ℕ) → number ≤ entry name → (d : DotValue) → IsTrue (is_up_to name number d) → IsTrue (known entry test d)
+pub none-up_to : (entry : ℕ → ℕ) (test : DotValue → Bool) (name number : ℕ) → number ≤ entry name → (d : DotValue) → IsTrue (is_up_to name number d)
+    → IsTrue (known entry test d)
 none-up_to entry test name number l d h =
-    let below : (1 ≤ d.number) × (d.number ≤ entry d.name) = named (λ n. (1 ≤ d.number) × (d.number ≤ entry n)) name number d h (λ one le. (one, omega arith)) in
+    let below : (1 ≤ d.number) × (d.number ≤ entry d.name) = named (λ n. (1 ≤ d.number) × (d.number ≤ entry n)) name number d h
+    (λ one le. (one, omega arith)) in
     known_below entry test d below.0 below.1
 
 unknown_by : (e : ℕ) (t : Bool) → (t ≡ true → e + 1 < e + 1) → (leb 1 (e + 1) && (leb (e + 1) e || t)) ≡ false
 unknown_by e true l = absurd (let past = l refl in omega arith)
 unknown_by e false l = grind (arith, nat_tests)
 
-pub next_is_new : (entry : ℕ → ℕ) (test : DotValue → Bool) (name number : ℕ) → Apart entry test → entry name < number → IsNew (known entry test) (is_up_to name number) (record { name = name; number = entry name + 1 })
+pub next_is_new : (entry : ℕ → ℕ) (test : DotValue → Bool) (name number : ℕ) → Apart entry test → entry name < number
+    → IsNew (known entry test) (is_up_to name number) (record { name = name; number = entry name + 1 })
 next_is_new entry test name number apart l = record {
   unknown = unknown_by (entry name) (test (record { name = name; number = entry name + 1 })) (apart (record { name = name; number = entry name + 1 }));
   present = grind (arith, nat_tests);
@@ -84,7 +91,8 @@ next_is_new entry test name number apart l = record {
 only_by : (m n : ℕ) (e : ℕ) (t : Bool) → n ≡ e + 1 → 1 ≤ m → m ≤ n → IsTrue ((true && eqb n m) || (leb 1 m && (leb m e || t)))
 only_by m n e t is one le = grind (arith, nat_tests)
 
-pub only-up_to : (entry : ℕ → ℕ) (test : DotValue → Bool) (name number : ℕ) (dot : DotValue) → Apart entry test → number ≡ entry name + 1 → dot ≡ record { name = name; number = number }
+pub only-up_to : (entry : ℕ → ℕ) (test : DotValue → Bool) (name number : ℕ) (dot : DotValue) → Apart entry test → number ≡ entry name + 1
+    → dot ≡ record { name = name; number = number }
     → IsOnlyNew (known entry test) (is_up_to name number) (is_up_to name number) dot
 only-up_to entry test name number dot apart is at =
     let next : DotValue = record { name = name; number = entry name + 1 } in
@@ -116,11 +124,13 @@ pub in_cloud-split : (seen : List DotValue) (x d : DotValue) → IsTrue (in_clou
 in_cloud-split seen x d h = ap (λ b. in_cloud seen d || b) (same_dot-comm x d) ∙ sym (in_cloud-push seen x d) ∙ h
 
 -- the dots of an entry are there, and so is a dot of the cloud
-pub entry_present : (value : ContextValue) (name number : ℕ) → known_up_to value.vector name ≡ number → (d : DotValue) → IsTrue (is_up_to name number d) → IsTrue (has value d)
+pub entry_present : (value : ContextValue) (name number : ℕ) → known_up_to value.vector name ≡ number → (d : DotValue) → IsTrue (is_up_to name number d)
+    → IsTrue (has value d)
 unfolding has
 entry_present value name number is d h = none-up_to (known_up_to value.vector) (in_cloud value.cloud) name number (omega arith) d h
 
-pub item_present : (value : ContextValue) (dot : DotValue) → IsApart value.vector value.cloud → IsTrue (in_cloud value.cloud dot) → (d : DotValue) → IsTrue (same_dot dot d) → IsTrue (has value d)
+pub item_present : (value : ContextValue) (dot : DotValue) → IsApart value.vector value.cloud → IsTrue (in_cloud value.cloud dot) → (d : DotValue)
+    → IsTrue (same_dot dot d) → IsTrue (has value d)
 unfolding has
 item_present value dot apart h d same =
     let l = apart dot h in

@@ -1,5 +1,6 @@
 -- Whether a dot is known, by the entry of its name and the test of the cloud.
-use Rattle.std.proofs.Common.{◌≡◌, ◌≢◌, ℕ, ◌+◌, ◌≤◌, ◌<◌, Bool, true, false, ◌||◌, ◌&&◌, not, cond, refl, sym, ap, subst, ◌∙◌, arith, eqb, leb, ltb, max, ⊎_elim}
+use Rattle.std.proofs.Common.{◌≡◌, ◌≢◌, ℕ, ◌+◌, ◌≤◌, ◌<◌, Bool, true, false, ◌||◌, ◌&&◌, not, cond, refl, sym, ap, subst, ◌∙◌, arith, eqb, leb, ltb, max}
+use Rattle.std.proofs.Common.{⊎_elim}
 use Rattle.std.specs.Prelude.{IsTrue}
 use Rattle.std.specs.Cmp.{both_ways}
 use Rattle.std.proofs.lemmas.Bool.{eqb-true, leb-true, le-leb, cases_lt}
@@ -52,7 +53,8 @@ known-raised entry entry' old new dot end is run raised kept d = by_name (eqb do
     by_name : (b : Bool) → (b ≡ true → dot.name ≡ d.name) → eqb dot.name d.name ≡ b → known entry' new d ≡ (same_dot dot d || known entry old d)
     by_name true names at =
         let entry_is : entry' d.name ≡ end = raised d.name ∙ ap (λ b. cond b end (entry d.name)) at in
-        let new_is : new d ≡ (old d && not (true && (ltb dot.number d.number && leb d.number end))) = kept d ∙ ap (λ b. old d && not (b && (ltb dot.number d.number && leb d.number end))) at in
+        let new_is : new d ≡ (old d && not (true && (ltb dot.number d.number && leb d.number end))) = kept d
+        ∙ ap (λ b. old d && not (b && (ltb dot.number d.number && leb d.number end))) at in
         let with_name : ℕ → DotValue = λ n. record { name = n; number = d.number } in
         let before : dot.number ≡ entry d.name + 1 = is ∙ ap (λ n. entry n + 1) (names refl) in
         let within : dot.number < d.number → d.number ≤ end → old d ≡ true = λ h k. ap (λ n. old (with_name n)) (sym (names refl)) ∙ run.run d.number h k in
@@ -82,9 +84,11 @@ cloud_from_known entry test d l h = grind (arith, nat_tests)
 -- a known dot has a number from 1, and is at or below the entry or in the cloud
 pub known_cases : (P : Type 0) (entry : ℕ → ℕ) (test : DotValue → Bool) (d : DotValue) → IsTrue (known entry test d)
     → (1 ≤ d.number → d.number ≤ entry d.name → P) → (1 ≤ d.number → IsTrue (test d) → P) → P
-known_cases P entry test d h below above = by_parts (leb 1 d.number) (leb d.number (entry d.name)) (test d) h (leb-true 1 d.number) (leb-true d.number (entry d.name)) below above
+known_cases P entry test d h below above = by_parts (leb 1 d.number) (leb d.number (entry d.name)) (test d) h (leb-true 1 d.number)
+    (leb-true d.number (entry d.name)) below above
   where
-    by_parts : (a b t : Bool) → IsTrue (a && (b || t)) → (a ≡ true → 1 ≤ d.number) → (b ≡ true → d.number ≤ entry d.name) → (1 ≤ d.number → d.number ≤ entry d.name → P) → (1 ≤ d.number → IsTrue t → P) → P
+    by_parts : (a b t : Bool) → IsTrue (a && (b || t)) → (a ≡ true → 1 ≤ d.number) → (b ≡ true → d.number ≤ entry d.name)
+        → (1 ≤ d.number → d.number ≤ entry d.name → P) → (1 ≤ d.number → IsTrue t → P) → P
     by_parts true true t h one le below above = below (one refl) (le refl)
     by_parts true false t h one le below above = above (one refl) h
     by_parts false b t h one le below above = absurd (cc h)
@@ -94,7 +98,8 @@ abbrev pub Apart : (ℕ → ℕ) → (DotValue → Bool) → Type 0
 Apart entry test = (d : DotValue) → IsTrue (test d) → entry d.name + 1 < d.number
 
 -- what includes another set of dots is at or above it in each entry
-pub covers_from_includes : (entry entry' : ℕ → ℕ) (test test' : DotValue → Bool) → Apart entry test → ((d : DotValue) → IsTrue (known entry' test' d) → IsTrue (known entry test d))
+pub covers_from_includes : (entry entry' : ℕ → ℕ) (test test' : DotValue → Bool) → Apart entry test
+    → ((d : DotValue) → IsTrue (known entry' test' d) → IsTrue (known entry test d))
     → (name : ℕ) → entry' name ≤ entry name
 covers_from_includes entry entry' test test' apart h name = ⊎_elim
     (λ (l : entry name < entry' name).
@@ -104,35 +109,40 @@ covers_from_includes entry entry' test test' apart h name = ⊎_elim
     absurd (omega arith))
     (λ l. l) (cases_lt (entry name) (entry' name))
 
-pub includes_from_parts : (entry entry' : ℕ → ℕ) (test test' : DotValue → Bool) → ((name : ℕ) → entry' name ≤ entry name) → ((d : DotValue) → IsTrue (test' d) → IsTrue (known entry test d))
+pub includes_from_parts : (entry entry' : ℕ → ℕ) (test test' : DotValue → Bool) → ((name : ℕ) → entry' name ≤ entry name)
+    → ((d : DotValue) → IsTrue (test' d) → IsTrue (known entry test d))
     → (d : DotValue) → IsTrue (known entry' test' d) → IsTrue (known entry test d)
 includes_from_parts entry entry' test test' le h d k =
     known_cases (IsTrue (known entry test d)) entry' test' d k
     (λ one below. let up = le d.name in known_below entry test d one (omega arith)) (λ _ there. h d there)
 
 -- sets of dots with the same dots have the same entries and the same cloud
-pub same_entries : (entry entry' : ℕ → ℕ) (test test' : DotValue → Bool) → Apart entry test → Apart entry' test' → ((d : DotValue) → known entry test d ≡ known entry' test' d)
+pub same_entries : (entry entry' : ℕ → ℕ) (test test' : DotValue → Bool) → Apart entry test → Apart entry' test'
+    → ((d : DotValue) → known entry test d ≡ known entry' test' d)
     → (name : ℕ) → entry name ≡ entry' name
 same_entries entry entry' test test' apart apart' h name =
     let up = covers_from_includes entry entry' test test' apart (λ d k. h d ∙ k) name in
     let down = covers_from_includes entry' entry test' test apart' (λ d k. sym (h d) ∙ k) name in
     omega arith
 
-cloud_one : (entry entry' : ℕ → ℕ) (test test' : DotValue → Bool) → Apart entry test → ((name : ℕ) → entry name ≡ entry' name) → ((d : DotValue) → known entry test d ≡ known entry' test' d)
+cloud_one : (entry entry' : ℕ → ℕ) (test test' : DotValue → Bool) → Apart entry test → ((name : ℕ) → entry name ≡ entry' name)
+    → ((d : DotValue) → known entry test d ≡ known entry' test' d)
     → (d : DotValue) → IsTrue (test d) → IsTrue (test' d)
 cloud_one entry entry' test test' apart e h d k =
     let above = apart d k in
     let at = e d.name in
     cloud_from_known entry' test' d (omega arith) (sym (h d) ∙ known_in_cloud entry test d (omega arith) k)
 
-pub same_clouds : (entry entry' : ℕ → ℕ) (test test' : DotValue → Bool) → Apart entry test → Apart entry' test' → ((d : DotValue) → known entry test d ≡ known entry' test' d)
+pub same_clouds : (entry entry' : ℕ → ℕ) (test test' : DotValue → Bool) → Apart entry test → Apart entry' test'
+    → ((d : DotValue) → known entry test d ≡ known entry' test' d)
     → (d : DotValue) → test d ≡ test' d
 same_clouds entry entry' test test' apart apart' h d = both_ways (test d) (test' d)
     (λ k. cloud_one entry entry' test test' apart (same_entries entry entry' test test' apart apart' h) h d k)
     (λ k. cloud_one entry' entry test' test apart' (λ n. sym (same_entries entry entry' test test' apart apart' h n)) (λ x. sym (h x)) d k)
 
 -- the form stays canonical when a dot is added to the cloud
-pub apart-cloud : (entry : ℕ → ℕ) (old new : DotValue → Bool) (dot : DotValue) → entry dot.name + 1 < dot.number → Apart entry old → ((d : DotValue) → new d ≡ (same_dot dot d || old d)) → Apart entry new
+pub apart-cloud : (entry : ℕ → ℕ) (old new : DotValue → Bool) (dot : DotValue) → entry dot.name + 1 < dot.number → Apart entry old
+    → ((d : DotValue) → new d ≡ (same_dot dot d || old d)) → Apart entry new
 apart-cloud entry old new dot l apart h d k = by_dot (same_dot dot d) refl
   where
     by_dot : (b : Bool) → same_dot dot d ≡ b → entry d.name + 1 < d.number
@@ -148,7 +158,8 @@ old_from_new true b new h k = refl
 old_from_new false b new h k = absurd (cc (h, k))
 
 -- and when an entry is raised over a run to its end
-pub apart-raised : (entry entry' : ℕ → ℕ) (old new : DotValue → Bool) (dot : DotValue) (end : ℕ) → dot.number ≡ entry dot.name + 1 → Apart entry old → IsRunEnd old dot end
+pub apart-raised : (entry entry' : ℕ → ℕ) (old new : DotValue → Bool) (dot : DotValue) (end : ℕ) → dot.number ≡ entry dot.name + 1 → Apart entry old
+    → IsRunEnd old dot end
     → ((q : ℕ) → entry' q ≡ cond (eqb dot.name q) end (entry q)) → ((d : DotValue) → new d ≡ (old d && not (is_in_run dot end d))) → Apart entry' new
 apart-raised entry entry' old new dot end is apart run raised kept d k = by_name (eqb dot.name d.name) (eqb-true dot.name d.name) refl
   where
@@ -158,7 +169,8 @@ apart-raised entry entry' old new dot end is apart run raised kept d k = by_name
     by_name : (b : Bool) → (b ≡ true → dot.name ≡ d.name) → eqb dot.name d.name ≡ b → entry' d.name + 1 < d.number
     by_name true names at =
         let entry_is : entry' d.name ≡ end = raised d.name ∙ ap (λ b. cond b end (entry d.name)) at in
-        let new_is : new d ≡ (old d && not (true && (ltb dot.number d.number && leb d.number end))) = kept d ∙ ap (λ b. old d && not (b && (ltb dot.number d.number && leb d.number end))) at in
+        let new_is : new d ≡ (old d && not (true && (ltb dot.number d.number && leb d.number end))) = kept d
+        ∙ ap (λ b. old d && not (b && (ltb dot.number d.number && leb d.number end))) at in
         let before : dot.number ≡ entry d.name + 1 = is ∙ ap (λ n. entry n + 1) (names refl) in
         let far = apart d was in
         let past = out_of_run dot.number end d.number (old d) (new d) new_is k (omega arith) in
@@ -185,7 +197,8 @@ bounded-cloud old new dot {top} l bounded h d k = by_dot (same_dot dot d) refl
     by_dot false e = bounded d (ap (λ b. b || old d) (sym e) ∙ sym (h d) ∙ k)
 
 -- the greatest number of a name is that of the cloud, or the entry
-pub greatest-known : (entry : ℕ → ℕ) (test : DotValue → Bool) (name above : ℕ) → Apart entry test → IsGreatest name test above → IsGreatest name (known entry test) (max above (entry name))
+pub greatest-known : (entry : ℕ → ℕ) (test : DotValue → Bool) (name above : ℕ) → Apart entry test → IsGreatest name test above
+    → IsGreatest name (known entry test) (max above (entry name))
 greatest-known entry test name above apart h = record {
   known = λ l. ⊎_elim
       (λ (k : entry name < above).
@@ -194,7 +207,8 @@ greatest-known entry test name above apart h = record {
       (known_in_cloud entry test (record { name = name; number = above }) (omega arith) (h.known (omega arith))))
       (λ (k : above ≤ entry name). known_below entry test (record { name = name; number = max above (entry name) }) l (omega arith))
       (cases_lt (entry name) above);
-  bound = λ m k. known_cases (m ≤ max above (entry name)) entry test (record { name = name; number = m }) k (λ _ below. omega arith) (λ _ there. let b = h.bound m there in omega arith);
+  bound = λ m k. known_cases (m ≤ max above (entry name)) entry test (record { name = name; number = m }) k (λ _ below. omega arith)
+      (λ _ there. let b = h.bound m there in omega arith);
 }
 
 union_by : (p x y s t : Bool) → (s ≡ true → p ≡ true) → (t ≡ true → p ≡ true)

@@ -10,7 +10,8 @@ known_in : (n : ℕ) (a : Bool) → (leb 1 (n + 1) && (a || true)) ≡ true
 known_in n a = grind (arith, nat_tests)
 
 -- where the dot above is not known, the run above the dot ends at it
-pub run_alone : (entry : ℕ → ℕ) (test : DotValue → Bool) (dot : DotValue) → known entry test (record { name = dot.name; number = dot.number + 1 }) ≡ false → IsRunEnd test dot dot.number
+pub run_alone : (entry : ℕ → ℕ) (test : DotValue → Bool) (dot : DotValue) → known entry test (record { name = dot.name; number = dot.number + 1 }) ≡ false
+    → IsRunEnd test dot dot.number
 run_alone entry test dot last = record {
   from = omega arith;
   run = λ m above up. absurd (omega (arith, above, up));
@@ -19,7 +20,9 @@ run_alone entry test dot last = record {
   where
     stop : (b : Bool) → test (record { name = dot.name; number = dot.number + 1 }) ≡ b → b ≡ false
     stop false e = refl
-    stop true e = absurd (cc (sym (ap (λ t. leb 1 (dot.number + 1) && (leb (dot.number + 1) (entry dot.name) || t)) e ∙ known_in dot.number (leb (dot.number + 1) (entry dot.name))) ∙ last))
+    stop true e =
+        absurd (cc (sym (ap (λ t. leb 1 (dot.number + 1) && (leb (dot.number + 1) (entry dot.name) || t)) e
+        ∙ known_in dot.number (leb (dot.number + 1) (entry dot.name))) ∙ last))
 
 none_between : (a t : Bool) (n m : ℕ) → t ≡ (t && not (a && (ltb n m && leb m n)))
 none_between a true n m = grind (arith, nat_tests)

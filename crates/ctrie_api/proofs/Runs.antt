@@ -1,5 +1,6 @@
 -- What whole runs keep: the tries that are not written to, and those that are read-only.
-use Rattle.std.specs.Prelude.{◌≡◌, ◌<◌, ◌≤◌, ◌+◌, ◌↔◌, ℕ, zero, suc, Bool, true, false, IsTrue, List, [], ◌∷◌, ◌++◌, length, refl, take, drop, fold, Option, Some, None, Result, Err, IfSome, cond, slice_get, ◌==◌}
+use Rattle.std.specs.Prelude.{◌≡◌, ◌<◌, ◌≤◌, ◌+◌, ◌↔◌, ℕ, zero, suc, Bool, true, false, IsTrue, List, [], ◌∷◌, ◌++◌, length, refl, take, drop, fold, Option}
+use Rattle.std.specs.Prelude.{Some, None, Result, Err, IfSome, cond, slice_get, ◌==◌}
 use Rattle.std.specs.List.{All}
 use Rattle.std.specs.Option.{option_map}
 use Rattle.std.proofs.Common.{arith, ap, sym, ◌∙◌, subst, length-append, append_assoc}
@@ -54,7 +55,8 @@ module _ {X : Type 0} where
   get_changed : (i j : ℕ) (f : X → X) (xs : List X) → slice_get (changed_at j f xs) i ≡ option_map (λ x. cond (j == i) (f x) x) (slice_get xs i)
   get_changed i j f [] = refl
   get_changed zero zero f (x ∷ xs) = refl
-  get_changed (suc i) zero f (x ∷ xs) = sym (option_map_id (slice_get xs i)) ∙ ap (λ b. option_map (λ x. cond b (f x) x) (slice_get xs i)) (sym (eqb-zero-suc i))
+  get_changed (suc i) zero f (x ∷ xs) = sym (option_map_id (slice_get xs i))
+      ∙ ap (λ b. option_map (λ x. cond b (f x) x) (slice_get xs i)) (sym (eqb-zero-suc i))
   get_changed zero (suc j) f (x ∷ xs) = ap (λ b. Some (cond b (f x) x)) (sym (eqb-suc-zero j))
   get_changed (suc i) (suc j) f (x ∷ xs) = get_changed i j f xs ∙ ap (λ b. option_map (λ y. cond b (f y) y) (slice_get xs i)) (sym (eqb-suc-suc j i))
 
@@ -78,16 +80,20 @@ module _ {H V : Type 0} where
   written_marked : (change : finite.FinMap bytes_cmp V → finite.FinMap bytes_cmp V) (trie : Trie H V) → IsTrue trie.read_only → written change trie ≡ trie
   written_marked change trie marked = cond_on trie.read_only trie (record trie { map = change trie.map }) marked
 
-  stays_refused : (change : finite.FinMap bytes_cmp V → finite.FinMap bytes_cmp V) (found : Option (Trie H V)) → IsTrue (takes_no_write found) → IfSome found (λ trie. written change trie ≡ trie)
+  stays_refused : (change : finite.FinMap bytes_cmp V → finite.FinMap bytes_cmp V) (found : Option (Trie H V)) → IsTrue (takes_no_write found)
+      → IfSome found (λ trie. written change trie ≡ trie)
   stays_refused change None marked = tt
   stays_refused change (Some trie) marked = written_marked change trie marked
 
 module _ {H V A : Type 0} where
   -- a refused act changes nothing
   acted_refused : (tries : List (Trie H V)) (act : Act V A) → IsTrue (is_refused tries act) → acted tries act ≡ tries
-  acted_refused tries (Insert i key value) refused = changed_fixed i (written (λ map. finite.insert map key value)) tries (stays_refused (λ map. finite.insert map key value) (slice_get tries i) refused)
-  acted_refused tries (Remove i key) refused = changed_fixed i (written (λ map. finite.remove map key)) tries (stays_refused (λ map. finite.remove map key) (slice_get tries i) refused)
-  acted_refused tries (Clear i) refused = changed_fixed i (written (λ map. finite.empty)) tries (stays_refused (λ map. finite.empty) (slice_get tries i) refused)
+  acted_refused tries (Insert i key value) refused = changed_fixed i (written (λ map. finite.insert map key value)) tries
+      (stays_refused (λ map. finite.insert map key value) (slice_get tries i) refused)
+  acted_refused tries (Remove i key) refused = changed_fixed i (written (λ map. finite.remove map key)) tries
+      (stays_refused (λ map. finite.remove map key) (slice_get tries i) refused)
+  acted_refused tries (Clear i) refused = changed_fixed i (written (λ map. finite.empty)) tries
+      (stays_refused (λ map. finite.empty) (slice_get tries i) refused)
   acted_refused tries (Snapshot i) refused = absurd (false≢true refused)
   acted_refused tries (ReadOnlySnapshot i) refused = absurd (false≢true refused)
 
@@ -110,28 +116,37 @@ module _ {H V A : Type 0} where
   act_other tries (Snapshot j) i within other = get_append tries (as_list (slice_get tries j)) i within
   act_other tries (ReadOnlySnapshot j) i within other = get_append tries (as_list (option_map read_only (slice_get tries j))) i within
 
-  act_each : (tries : List (Trie H V)) (act : Act V A) (i : ℕ) → i < length tries → slice_get (acted tries act) i ≡ option_map (λ trie. after_act i trie act) (slice_get tries i)
+  act_each : (tries : List (Trie H V)) (act : Act V A) (i : ℕ) → i < length tries
+      → slice_get (acted tries act) i ≡ option_map (λ trie. after_act i trie act) (slice_get tries i)
   act_each tries (Insert j key value) i within = get_changed i j (written (λ map. finite.insert map key value)) tries
   act_each tries (Remove j key) i within = get_changed i j (written (λ map. finite.remove map key)) tries
   act_each tries (Clear j) i within = get_changed i j (written (λ map. finite.empty)) tries
   act_each tries (Snapshot j) i within = get_append tries (as_list (slice_get tries j)) i within ∙ sym (option_map_id (slice_get tries i))
-  act_each tries (ReadOnlySnapshot j) i within = get_append tries (as_list (option_map read_only (slice_get tries j))) i within ∙ sym (option_map_id (slice_get tries i))
+  act_each tries (ReadOnlySnapshot j) i within = get_append tries (as_list (option_map read_only (slice_get tries j))) i within
+      ∙ sym (option_map_id (slice_get tries i))
 
-  act_marked : (tries : List (Trie H V)) (act : Act V A) (i : ℕ) (trie : Trie H V) → slice_get tries i ≡ Some trie → IsTrue trie.read_only → slice_get (acted tries act) i ≡ Some trie
-  act_marked tries (Insert j key value) i trie there marked = get_fixed i j (written (λ map. finite.insert map key value)) tries trie there (written_marked (λ map. finite.insert map key value) trie marked)
-  act_marked tries (Remove j key) i trie there marked = get_fixed i j (written (λ map. finite.remove map key)) tries trie there (written_marked (λ map. finite.remove map key) trie marked)
-  act_marked tries (Clear j) i trie there marked = get_fixed i j (written (λ map. finite.empty)) tries trie there (written_marked (λ map. finite.empty) trie marked)
+  act_marked : (tries : List (Trie H V)) (act : Act V A) (i : ℕ) (trie : Trie H V) → slice_get tries i ≡ Some trie → IsTrue trie.read_only
+      → slice_get (acted tries act) i ≡ Some trie
+  act_marked tries (Insert j key value) i trie there marked = get_fixed i j (written (λ map. finite.insert map key value)) tries trie there
+      (written_marked (λ map. finite.insert map key value) trie marked)
+  act_marked tries (Remove j key) i trie there marked = get_fixed i j (written (λ map. finite.remove map key)) tries trie there
+      (written_marked (λ map. finite.remove map key) trie marked)
+  act_marked tries (Clear j) i trie there marked = get_fixed i j (written (λ map. finite.empty)) tries trie there
+      (written_marked (λ map. finite.empty) trie marked)
   act_marked tries (Snapshot j) i trie there marked = get_append tries (as_list (slice_get tries j)) i (slice_get_within tries i trie there) ∙ there
-  act_marked tries (ReadOnlySnapshot j) i trie there marked = get_append tries (as_list (option_map read_only (slice_get tries j))) i (slice_get_within tries i trie there) ∙ there
+  act_marked tries (ReadOnlySnapshot j) i trie there marked = get_append tries (as_list (option_map read_only (slice_get tries j))) i
+      (slice_get_within tries i trie there) ∙ there
 
-  all_other : (acts : List (Act V A)) (tries : List (Trie H V)) (i : ℕ) → i < length tries → All (λ act. ¬ (IsWriteAt i act)) acts → slice_get (acted_all tries acts) i ≡ slice_get tries i
+  all_other : (acts : List (Act V A)) (tries : List (Trie H V)) (i : ℕ) → i < length tries → All (λ act. ¬ (IsWriteAt i act)) acts
+      → slice_get (acted_all tries acts) i ≡ slice_get tries i
   all_other [] tries i within others = refl
   all_other (act ∷ acts) tries i within others =
       let grows = act_grows tries act in
       all_other acts (acted tries act) i (omega (arith, grows, within)) (All-tail (λ act. ¬ (IsWriteAt i act)) act acts others)
       ∙ act_other tries act i within (others 0 act (omega arith))
 
-  all_each : (acts : List (Act V A)) (tries : List (Trie H V)) (i : ℕ) → i < length tries → slice_get (acted_all tries acts) i ≡ option_map (λ trie. fold (after_act i) trie acts) (slice_get tries i)
+  all_each : (acts : List (Act V A)) (tries : List (Trie H V)) (i : ℕ) → i < length tries
+      → slice_get (acted_all tries acts) i ≡ option_map (λ trie. fold (after_act i) trie acts) (slice_get tries i)
   all_each [] tries i within = sym (option_map_id (slice_get tries i))
   all_each (act ∷ acts) tries i within =
       let grows = act_grows tries act in
@@ -145,7 +160,8 @@ module _ {H V A : Type 0} where
       ap (λ ts. slice_get ts i) (is ∙ ap (acted_all old) (sym (take-append-drop first acts)) ∙ fold-append acted old (take first acts) (drop first acts))
       ∙ all_each (drop first acts) (acted_all old (take first acts)) i within
 
-  all_marked : (acts : List (Act V A)) (tries : List (Trie H V)) (i : ℕ) (trie : Trie H V) → slice_get tries i ≡ Some trie → IsTrue trie.read_only → slice_get (acted_all tries acts) i ≡ Some trie
+  all_marked : (acts : List (Act V A)) (tries : List (Trie H V)) (i : ℕ) (trie : Trie H V) → slice_get tries i ≡ Some trie → IsTrue trie.read_only
+      → slice_get (acted_all tries acts) i ≡ Some trie
   all_marked [] tries i trie there marked = there
   all_marked (act ∷ acts) tries i trie there marked = all_marked acts (acted tries act) i trie (act_marked tries act i trie there marked) marked
 
@@ -165,7 +181,8 @@ module _ {H V A : Type 0} where
       → (i : ℕ) → IfSome (slice_get tries i) (λ trie. IsTrue trie.read_only → slice_get new i ≡ Some trie)
   marked_stay acts tries new is i = if_marked acts tries new i (slice_get tries i) refl is
 
-  pub one_more : (acts : List (Act V A)) (act : Act V A) (tries now new : List (Trie H V)) → now ≡ acted_all tries acts → new ≡ acted now act → new ≡ acted_all tries (acts ++ act ∷ [])
+  pub one_more : (acts : List (Act V A)) (act : Act V A) (tries now new : List (Trie H V)) → now ≡ acted_all tries acts → new ≡ acted now act
+      → new ≡ acted_all tries (acts ++ act ∷ [])
   one_more acts act tries now new is step = step ∙ ap (λ ts. acted ts act) is ∙ sym (fold_push acted tries acts act)
 
   -- the acts before one for which memory was refused
@@ -187,7 +204,8 @@ module _ {H V A : Type 0} where
       each_written (take done all) tries new (stopped acts act rest more all tries now new done parts next is count same).1
 
   -- and after all of them
-  pub ended_each : (acts more all : List (Act V A)) (tries new : List (Trie H V)) → acts ++ more ≡ all → more ≡ [] → new ≡ acted_all tries acts → EachIsWritten tries new all
+  pub ended_each : (acts more all : List (Act V A)) (tries new : List (Trie H V)) → acts ++ more ≡ all → more ≡ [] → new ≡ acted_all tries acts
+      → EachIsWritten tries new all
   ended_each acts more all tries new parts none is =
       each_written all tries new (is ∙ ap (acted_all tries) (sym (append-nil acts) ∙ ap (λ m. acts ++ m) (sym none) ∙ parts))
 
@@ -195,5 +213,8 @@ module _ {H V A : Type 0} where
   pub goes_on : (acts : List (Act V A)) (act : Act V A) (rest more all : List (Act V A)) (tries now new : List (Trie H V)) (done : ℕ)
       → acts ++ more ≡ all → more ≡ act ∷ rest → now ≡ acted_all tries acts → done ≡ length acts → new ≡ acted now act
       → (acts ++ act ∷ [] ++ rest ≡ all) × (new ≡ acted_all tries (acts ++ act ∷ [])) × (done + 1 ≡ length (acts ++ act ∷ []))
-  goes_on acts act rest more all tries now new done parts next is count step =
-      (append_assoc acts (act ∷ []) rest ∙ ap (λ ys. acts ++ ys) (sym next) ∙ parts, one_more acts act tries now new is step, omega (arith, count, length-append acts (act ∷ [])))
+  goes_on acts act rest more all tries now new done parts next is count step = (
+    append_assoc acts (act ∷ []) rest ∙ ap (λ ys. acts ++ ys) (sym next) ∙ parts,
+    one_more acts act tries now new is step,
+    omega (arith, count, length-append acts (act ∷ [])),
+  )

@@ -49,7 +49,8 @@ ok_not_err x refusal same = false≢true (sym (ap is_ok same))
 pub writable_there : {T : Type 0} (b : Bool) (x : T) → (◌≡◌ {A = Result T Refusal} (Ok x) (Err ReadOnly)) ↔ IsTrue b → ¬ (IsTrue b)
 writable_there b x exact so = ok_not_err x ReadOnly (exact.1 so)
 
-module _ {H V T : Type 0} (S : Type 0) (tries : List (Trie H V)) (i : ℕ) (trie : Trie H V) (there : trie ≡ get_or tries i trie) (within : i < length tries) where
+module _ {H V T : Type 0} (S : Type 0) (tries : List (Trie H V)) (i : ℕ) (trie : Trie H V) (there : trie ≡ get_or tries i trie)
+    (within : i < length tries) where
   pub ok_clause : (x : T) (y : S) → (◌≡◌ {A = Result T Refusal} (Ok x) (Err ReadOnly)) ↔ IsTrue trie.read_only
       → (◌≡◌ {A = Result S Refusal} (Ok y) (Err ReadOnly)) ↔ IsTrue (takes_no_write (slice_get tries i))
   ok_clause x y exact =
@@ -58,5 +59,7 @@ module _ {H V T : Type 0} (S : Type 0) (tries : List (Trie H V)) (i : ℕ) (trie
   -- and one that was refused is refused alike
   pub err_clause : (refusal : Refusal) → (◌≡◌ {A = Result T Refusal} (Err refusal) (Err ReadOnly)) ↔ IsTrue trie.read_only
       → (◌≡◌ {A = Result S Refusal} (Err refusal) (Err ReadOnly)) ↔ IsTrue (takes_no_write (slice_get tries i))
-  err_clause refusal exact =
-      (λ same. marked tries i trie there within ∙ exact.0 (ap Err (ap refusal_in same)), λ t. ap Err (ap refusal_in (exact.1 (sym (marked tries i trie there within) ∙ t))))
+  err_clause refusal exact = (
+    λ same. marked tries i trie there within ∙ exact.0 (ap Err (ap refusal_in same)),
+    λ t. ap Err (ap refusal_in (exact.1 (sym (marked tries i trie there within) ∙ t))),
+  )

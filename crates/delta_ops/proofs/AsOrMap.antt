@@ -25,7 +25,8 @@ pub lookup_is : {V : Type 0} (m : finite.FinMap bytes_cmp V) (q : List ℕ) → 
 lookup_is m q = lookup-find q (finite.entries m) ∙ sym (get-entries m q)
 
 module _ {Hash : Type 0} where
-  pub as_entries : (map : TrieMapValue Hash FieldsValue) (path : List ℕ × (List ℕ × Unit {0})) (d : DotValue) → or_map_at (finite.entries map.1) path d ≡ at_keys fields_at map path d
+  pub as_entries : (map : TrieMapValue Hash FieldsValue) (path : List ℕ × (List ℕ × Unit {0})) (d : DotValue)
+      → or_map_at (finite.entries map.1) path d ≡ at_keys fields_at map path d
   unfolding at_stores at_keys
   as_entries map path d = ap (λ o. held_by fields_at o path.1 d) (lookup_is map.1 path.0)
 

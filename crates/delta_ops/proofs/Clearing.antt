@@ -15,12 +15,15 @@ use Rattle.delta_ops.proofs.AsOrMap.{as_entries}
 
 module _ {Hash : Type 0} (pair : PairValue Hash FieldsValue) where
   -- what stands at the fields of a key stands somewhere
-  pub anywhere_of : (key : List ℕ) (fields : FieldsValue) → finite.get pair.0.1 key ≡ Some fields → (d : DotValue) → HoldsDot (fields_at fields) d → IsAnywhere (live_state pair) d
-  anywhere_of key fields is d held = (place_of key held.0.0, ap is_some (as_entries pair.0 (key, held.0) d ∙ held_of fields_at pair.0 key fields is held.0 d) ∙ held.1)
+  pub anywhere_of : (key : List ℕ) (fields : FieldsValue) → finite.get pair.0.1 key ≡ Some fields → (d : DotValue) → HoldsDot (fields_at fields) d
+      → IsAnywhere (live_state pair) d
+  anywhere_of key fields is d held =
+      (place_of key held.0.0, ap is_some (as_entries pair.0 (key, held.0) d ∙ held_of fields_at pair.0 key fields is held.0 d) ∙ held.1)
 
   -- once all keys were gone through, just the dots that stand were gathered
   pub cleared : (dots : List DotValue) → ((d : DotValue) → IsTrue (has dots d) → IsAnywhere (live_state pair) d)
-      → ((key : List ℕ) (fields : FieldsValue) → finite.get pair.0.1 key ≡ Some fields → (d : DotValue) → HoldsDot (fields_at fields) d → IsTrue (has dots d)) → IsClearAt (live_state pair) dots
+      → ((key : List ℕ) (fields : FieldsValue) → finite.get pair.0.1 key ≡ Some fields → (d : DotValue) → HoldsDot (fields_at fields) d → IsTrue (has dots d))
+      → IsClearAt (live_state pair) dots
   cleared dots only all d = (
     only d,
     λ (place, some).

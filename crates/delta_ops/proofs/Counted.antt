@@ -27,7 +27,8 @@ some_of (Some v) h = (v, refl)
 module _ {Hash : Type 0} (pair : PairValue Hash FieldsValue) where
   -- the keys of the entries are those that hold something, ascending
   pub counted_keys : NoStoreIsEmpty fields_at pair.0.1
-      → (listed : List (List ℕ)) × IsAscending listed × ((key : List ℕ) → Contains listed key ↔ HoldsKey (live_state pair) key) × (finite.len pair.0.1 ≡ length listed)
+      → (listed : List (List ℕ)) × IsAscending listed × ((key : List ℕ) → Contains listed key ↔ HoldsKey (live_state pair) key)
+      × (finite.len pair.0.1 ≡ length listed)
   counted_keys filled = (
     keys_of entries,
     ascends-from_sorted (keys_of entries) (sorted_keys entries (entries_sorted pair.0.1)),
@@ -42,7 +43,8 @@ module _ {Hash : Type 0} (pair : PairValue Hash FieldsValue) where
       entries = finite.entries pair.0.1
 
       entry_of : (key : List ℕ) → Contains (keys_of entries) key → (fields : FieldsValue) × (finite.get pair.0.1 key ≡ Some fields)
-      entry_of key h = some_of (finite.get pair.0.1 key) (sym (ap is_some (lookup_is pair.0.1 key)) ∙ IsSome-lookup_from_Contains {eq = eq_by_cmp bytes_cmp} (eq_by_cmp_equiv nat_list_cmp_total) key entries h)
+      entry_of key h = some_of (finite.get pair.0.1 key) (sym (ap is_some (lookup_is pair.0.1 key))
+          ∙ IsSome-lookup_from_Contains {eq = eq_by_cmp bytes_cmp} (eq_by_cmp_equiv nat_list_cmp_total) key entries h)
 
       in_entries : (key : List ℕ) (fields : FieldsValue) → finite.get pair.0.1 key ≡ Some fields → Contains (keys_of entries) key
       in_entries key fields is = Contains-keys_from_lookup {eq = eq_by_cmp bytes_cmp} same_bytes-true key entries (ap is_some (lookup_is pair.0.1 key ∙ is))

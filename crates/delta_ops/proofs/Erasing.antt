@@ -1,5 +1,6 @@
 -- Dots gathered into an ordered set, and the pair that knows just these: over plain variables.
-use Rattle.std.proofs.Common.{◌≡◌, ℕ, ◌+◌, ◌<◌, ◌||◌, Bool, true, false, List, [], ◌∷◌, ◌++◌, map, take, length, get_or, None, is_some, IsSome, IsTrue, Contains, refl, sym, ◌∙◌, ap, subst, ◌⊎◌, ◌↔◌, inl, inr}
+use Rattle.std.proofs.Common.{◌≡◌, ℕ, ◌+◌, ◌<◌, ◌||◌, Bool, true, false, List, [], ◌∷◌, ◌++◌, map, take, length, get_or, None, is_some, IsSome, IsTrue}
+use Rattle.std.proofs.Common.{Contains, refl, sym, ◌∙◌, ap, subst, ◌⊎◌, ◌↔◌, inl, inr}
 use Rattle.std.specs.declared.cmp.Ordering.{Ordering}
 use Rattle.std.specs.declared.cmp.Ordering.TheVariants.{Less, Equal, Greater}
 use Rattle.std.specs.BTreeSet.{insert_key}
@@ -75,12 +76,14 @@ gathered_more old found new dots dot gathered is d =
 abbrev pub dots_before : {X : Type 0} → ℕ → List (DotValue × X) → List DotValue
 dots_before i entries = map (λ entry. entry.0) (take i entries)
 
-pub gathered_more_at : {X : Type 0} (old found new : List DotValue) (entries : List (DotValue × X)) (i : ℕ) (entry : DotValue × X) → i < length entries → entry ≡ get_or entries i entry
+pub gathered_more_at : {X : Type 0} (old found new : List DotValue) (entries : List (DotValue × X)) (i : ℕ) (entry : DotValue × X) → i < length entries
+    → entry ≡ get_or entries i entry
     → ((d : DotValue) → has found d ≡ (has old d || has (dots_before i entries) d)) → new ≡ insert_key dot_cmp found entry.0
     → (d : DotValue) → has new d ≡ (has old d || has (dots_before (i + 1) entries) d)
 gathered_more_at old found new entries i entry within at gathered is d =
     gathered_more old found new (dots_before i entries) entry.0 gathered is d
-    ∙ ap (λ dots. has old d || has dots d) (sym (map-append (λ entry. entry.0) (take i entries) (entry ∷ [])) ∙ ap (map (λ entry. entry.0)) (sym (more_taken entries i entry within at)))
+    ∙ ap (λ dots. has old d || has dots d) (sym (map-append (λ entry. entry.0) (take i entries) (entry ∷ []))
+    ∙ ap (map (λ entry. entry.0)) (sym (more_taken entries i entry within at)))
 
 -- one dot more is known
 pub known_more : (test new : DotValue → Bool) (dots : List DotValue) (dot : DotValue) → ((d : DotValue) → test d ≡ has dots d)
@@ -106,7 +109,8 @@ in_any (standing ∷ stores) d = is_some (at_values standing tt d) || in_any sto
 in_any-append : (stores more : List ValuesValue) (d : DotValue) → in_any (stores ++ more) d ≡ (in_any stores d || in_any more d)
 in_any-append [] more d = refl
 in_any-append (standing ∷ stores) more d =
-    ap (λ b. is_some (at_values standing tt d) || b) (in_any-append stores more d) ∙ sym (or_assoc (is_some (at_values standing tt d)) (in_any stores d) (in_any more d))
+    ap (λ b. is_some (at_values standing tt d) || b) (in_any-append stores more d)
+    ∙ sym (or_assoc (is_some (at_values standing tt d)) (in_any stores d) (in_any more d))
 
 or_false : (b : Bool) → b ≡ (b || false)
 or_false true = refl
@@ -126,11 +130,14 @@ adds_store old found new stores standing added is d =
 abbrev pub stores_before : {K X : Type 0} → ℕ → List (K × X) → List X
 stores_before i entries = map (λ entry. entry.1) (take i entries)
 
-pub adds_store_at : (old found new : List DotValue) (entries : FieldsValue) (i : ℕ) (entry : List ℕ × ValuesValue) → i < length entries → entry ≡ get_or entries i entry
-    → Adds old found (stores_before i entries) → ((d : DotValue) → has new d ≡ (has found d || is_some (at_values entry.1 tt d))) → Adds old new (stores_before (i + 1) entries)
+pub adds_store_at : (old found new : List DotValue) (entries : FieldsValue) (i : ℕ) (entry : List ℕ × ValuesValue) → i < length entries
+    → entry ≡ get_or entries i entry
+    → Adds old found (stores_before i entries) → ((d : DotValue) → has new d ≡ (has found d || is_some (at_values entry.1 tt d)))
+    → Adds old new (stores_before (i + 1) entries)
 adds_store_at old found new entries i entry within at added is d =
     adds_store old found new (stores_before i entries) entry.1 added is d
-    ∙ ap (λ stores. has old d || in_any stores d) (sym (map-append (λ entry. entry.1) (take i entries) (entry ∷ [])) ∙ ap (map (λ entry. entry.1)) (sym (more_taken entries i entry within at)))
+    ∙ ap (λ stores. has old d || in_any stores d) (sym (map-append (λ entry. entry.1) (take i entries) (entry ∷ []))
+    ∙ ap (map (λ entry. entry.1)) (sym (more_taken entries i entry within at)))
 
 -- the dot stands in one of the stores of these entries
 abbrev pub StandsAmong : FieldsValue → DotValue → Type 0
@@ -150,7 +157,8 @@ from_any ((field, standing) ∷ entries) d found = among_step field standing ent
 any_step : (standing wanted : ValuesValue) (d : DotValue) (b rest : Bool) → IsSome (at_values wanted tt d) → is_some (at_values standing tt d) ≡ b
     → (standing ≡ wanted) ⊎ IsTrue rest → IsTrue (b || rest)
 any_step standing wanted d true rest there is one = refl
-any_step standing wanted d false rest there is (inl same) = absurd (let turned : false ≡ true = sym is ∙ (ap (λ w. is_some (at_values w tt d)) same ∙ there) in cc)
+any_step standing wanted d false rest there is (inl same) =
+    absurd (let turned : false ≡ true = sym is ∙ (ap (λ w. is_some (at_values w tt d)) same ∙ there) in cc)
 any_step standing wanted d false rest there is (inr later) = later
 
 to_any : (entries : FieldsValue) (field : List ℕ) (wanted : ValuesValue) (d : DotValue) → Contains entries (field, wanted)
@@ -173,8 +181,10 @@ either true b h = inl refl
 either false b h = inr h
 
 pub adds_fields : (old found : List DotValue) (fields entries : FieldsValue) → entries ≡ fields
-    → ((field : List ℕ) (standing : ValuesValue) → Contains entries (field, standing) → (place : Unit {0}) (d : DotValue) → fields_at fields (field, place) d ≡ at_values standing place d)
-    → ((field : List ℕ) (place : Unit {0}) (d : DotValue) → IsSome (fields_at fields (field, place) d) → (standing : ValuesValue) × Contains entries (field, standing))
+    → ((field : List ℕ) (standing : ValuesValue) → Contains entries (field, standing) → (place : Unit {0}) (d : DotValue)
+    → fields_at fields (field, place) d ≡ at_values standing place d)
+    → ((field : List ℕ) (place : Unit {0}) (d : DotValue) → IsSome (fields_at fields (field, place) d) → (standing : ValuesValue)
+    × Contains entries (field, standing))
     → Adds old found (map (λ entry. entry.1) entries) → AddsFields old found fields
 adds_fields old found fields entries is held only added d = (
   λ h. elim (either (has old d) (in_any (map (λ entry. entry.1) entries) d) (sym (added d) ∙ h)) [
@@ -201,7 +211,8 @@ GathersKeys dots entries = (d : DotValue) → IsTrue (has dots d) ↔ HoldsAmong
 pub gathers_none : (dots : List DotValue) → dots ≡ [] → GathersKeys dots []
 gathers_none dots none d = (λ h. absurd (let turned : false ≡ true = sym (ap (λ ds. has ds d) none) ∙ h in cc), λ (entry, in_it, there). nothing_in entry in_it)
 
-pub gathers_key_at : (found new : List DotValue) (entries : OrMapStoreValue) (i : ℕ) (entry : List ℕ × FieldsValue) → i < length entries → entry ≡ get_or entries i entry
+pub gathers_key_at : (found new : List DotValue) (entries : OrMapStoreValue) (i : ℕ) (entry : List ℕ × FieldsValue) → i < length entries
+    → entry ≡ get_or entries i entry
     → GathersKeys found (take i entries) → AddsFields found new entry.1 → GathersKeys new (take (i + 1) entries)
 gathers_key_at found new entries i entry within at gathered added d =
     let P : OrMapStoreValue → Type 0 = λ es. IsTrue (has new d) ↔ HoldsAmong es d in
@@ -221,8 +232,10 @@ gathers_key_at found new entries i entry within at gathered added d =
 
 -- just the dots that stand anywhere were gathered
 pub gathers_clear : (live : OrMapValue) (entries : OrMapStoreValue) (dots : List DotValue)
-    → ((key : List ℕ) (fields : FieldsValue) → Contains entries (key, fields) → (place : List ℕ × Unit {0}) (d : DotValue) → or_map_at live.0 (key, place) d ≡ fields_at fields place d)
-    → ((key : List ℕ) (place : List ℕ × Unit {0}) (d : DotValue) → IsSome (or_map_at live.0 (key, place) d) → (fields : FieldsValue) × Contains entries (key, fields))
+    → ((key : List ℕ) (fields : FieldsValue) → Contains entries (key, fields) → (place : List ℕ × Unit {0}) (d : DotValue)
+    → or_map_at live.0 (key, place) d ≡ fields_at fields place d)
+    → ((key : List ℕ) (place : List ℕ × Unit {0}) (d : DotValue) → IsSome (or_map_at live.0 (key, place) d) → (fields : FieldsValue)
+    × Contains entries (key, fields))
     → GathersKeys dots entries → IsClearAt (or_map_state live) dots
 gathers_clear live entries dots held only gathered d = (
   λ h. let there = (gathered d).0 h in
@@ -232,7 +245,8 @@ gathers_clear live entries dots held only gathered d = (
 )
 
 -- just the dots that stand at a key were gathered, from its fields, if they are there
-pub gathers_key : (live : OrMapValue) (key : List ℕ) (fields : FieldsValue) (old dots : List DotValue) → ((place : List ℕ × Unit {0}) (d : DotValue) → or_map_at live.0 (key, place) d ≡ fields_at fields place d)
+pub gathers_key : (live : OrMapValue) (key : List ℕ) (fields : FieldsValue) (old dots : List DotValue)
+    → ((place : List ℕ × Unit {0}) (d : DotValue) → or_map_at live.0 (key, place) d ≡ fields_at fields place d)
     → ((d : DotValue) → has old d ≡ false) → AddsFields old dots fields → IsRemoveAt (or_map_state live) key dots
 gathers_key live key fields old dots held empty added d = (
   λ h. elim ((added d).0 h) [
@@ -242,7 +256,8 @@ gathers_key live key fields old dots held empty added d = (
   λ (field, there). (added d).1 (inr ((field, tt), sym (ap is_some (held (field, tt) d)) ∙ there)),
 )
 
-pub gathers_no_key : (live : OrMapValue) (key : List ℕ) (dots : List DotValue) → ((place : List ℕ × Unit {0}) (d : DotValue) → or_map_at live.0 (key, place) d ≡ None)
+pub gathers_no_key : (live : OrMapValue) (key : List ℕ) (dots : List DotValue)
+    → ((place : List ℕ × Unit {0}) (d : DotValue) → or_map_at live.0 (key, place) d ≡ None)
     → ((d : DotValue) → has dots d ≡ false) → IsRemoveAt (or_map_state live) key dots
 gathers_no_key live key dots nothing empty d = (
   λ h. absurd (let turned : false ≡ true = sym (empty d) ∙ h in cc),
@@ -250,7 +265,8 @@ gathers_no_key live key dots nothing empty d = (
 )
 
 -- the pair that holds nothing and knows these dots
-pub erasure_state : (store : OrMapStoreValue) (knows : ContextValue) (dots : List DotValue) → HasNothing (or_map_at store) → ((d : DotValue) → context.has knows d ≡ has dots d)
+pub erasure_state : (store : OrMapStoreValue) (knows : ContextValue) (dots : List DotValue) → HasNothing (or_map_at store)
+    → ((d : DotValue) → context.has knows d ≡ has dots d)
     → Same (or_map_state (store, knows)) (state (erasure dots))
 erasure_state store knows dots empty known = record {
   at = λ place d. empty (path_of place) d ∙ sym (at-erasure dots place d);

@@ -22,14 +22,17 @@ pub copy-states : (copy p : OrMapValue) → Same (state_of or_map_at copy) (stat
 copy-states copy p same = record { at = λ place dot. same.at (path_of place) dot; has = same.has }
 
 -- the same of what a call answers
-pub both-joined : {E : Type 0} (r : Result OrMapValue E) (p q : OrMapValue) → IfOk r (λ both. Same (state_of or_map_at both) (join greater (state_of or_map_at p) (state_of or_map_at q)))
+pub both-joined : {E : Type 0} (r : Result OrMapValue E) (p q : OrMapValue)
+    → IfOk r (λ both. Same (state_of or_map_at both) (join greater (state_of or_map_at p) (state_of or_map_at q)))
     → IfOk r (λ whole. Same (or_map_state whole) (join greater (or_map_state p) (or_map_state q)))
 both-joined (Ok both) p q same = join-states both p q same
 both-joined (Err e) p q same = tt
 
 pub both-joined_after : {E : Type 0} (r : Result OrMapValue E) (first q : OrMapValue) (start : MapState) → Same (or_map_state first) start
-    → IfOk r (λ both. Same (state_of or_map_at both) (join greater (state_of or_map_at first) (state_of or_map_at q))) → IfOk r (λ whole. Same (or_map_state whole) (join greater start (or_map_state q)))
-both-joined_after (Ok both) first q start is same = same-chain _ _ _ (join-states both first q same) (join-same greater (or_map_state first) (or_map_state q) start (or_map_state q) is (same-itself (or_map_state q)))
+    → IfOk r (λ both. Same (state_of or_map_at both) (join greater (state_of or_map_at first) (state_of or_map_at q)))
+    → IfOk r (λ whole. Same (or_map_state whole) (join greater start (or_map_state q)))
+both-joined_after (Ok both) first q start is same = same-chain _ _ _ (join-states both first q same)
+    (join-same greater (or_map_state first) (or_map_state q) start (or_map_state q) is (same-itself (or_map_state q)))
 both-joined_after (Err e) first q start is same = tt
 
 -- the state of no operation changes nothing
@@ -51,7 +54,8 @@ pub group-push : (pairs : List OrMapValue) (pair : OrMapValue) → group_state (
 group-push pairs pair = fold-append (λ group pair. join greater group (or_map_state pair)) (state []) pairs (pair ∷ [])
 
 -- the pairs joined on to a state: the join with their group
-group-from : (start : MapState) (pairs : List OrMapValue) → Same (fold (λ group pair. join greater group (or_map_state pair)) start pairs) (join greater start (group_state pairs))
+group-from : (start : MapState) (pairs : List OrMapValue) → Same (fold (λ group pair. join greater group (or_map_state pair)) start pairs)
+    (join greater start (group_state pairs))
 group-from start [] = same-back _ _ (join-none start)
 group-from start (pair ∷ pairs) =
     let first = or_map_state pair in
@@ -59,7 +63,8 @@ group-from start (pair ∷ pairs) =
     same-chain _ _ _ (group-from (join greater start first) pairs)
     (same-chain _ _ _ (join-assoc greater greater-assoc start first rest)
     (join-same greater start (join greater first rest) start (group_state (pair ∷ pairs)) (same-itself start)
-    (same-back _ _ (same-chain _ _ _ (group-from (join greater (state []) first) pairs) (join-same greater (join greater (state []) first) rest first rest (none-join first) (same-itself rest))))))
+    (same-back _ _ (same-chain _ _ _ (group-from (join greater (state []) first) pairs)
+    (join-same greater (join greater (state []) first) rest first rest (none-join first) (same-itself rest))))))
 
 pub group-append : (older newer : List OrMapValue) → Same (group_state (older ++ newer)) (join greater (group_state older) (group_state newer))
 group-append older newer = rw (fold-append (λ group pair. join greater group (or_map_state pair)) (state []) older newer) (group-from (group_state older) newer)
@@ -68,16 +73,21 @@ group-append older newer = rw (fold-append (λ group pair. join greater group (o
 pub group-of_one : (whole pair : OrMapValue) → Same (or_map_state whole) (or_map_state pair) → Same (or_map_state whole) (group_state (pair ∷ []))
 group-of_one whole pair is = same-chain _ _ _ is (same-back _ _ (none-join (or_map_state pair)))
 
-pub group-of_two : (whole older newer : OrMapValue) → Same (or_map_state whole) (join greater (or_map_state older) (or_map_state newer)) → Same (or_map_state whole) (group_state (older ∷ newer ∷ []))
+pub group-of_two : (whole older newer : OrMapValue) → Same (or_map_state whole) (join greater (or_map_state older) (or_map_state newer))
+    → Same (or_map_state whole) (group_state (older ∷ newer ∷ []))
 group-of_two whole older newer is =
-    same-chain _ _ _ is (join-same greater (or_map_state older) (or_map_state newer) (group_state (older ∷ [])) (or_map_state newer) (same-back _ _ (none-join (or_map_state older))) (same-itself (or_map_state newer)))
+    same-chain _ _ _ is (join-same greater (or_map_state older) (or_map_state newer) (group_state (older ∷ [])) (or_map_state newer)
+    (same-back _ _ (none-join (or_map_state older))) (same-itself (or_map_state newer)))
 
-pub group-of_three : (whole oldest older newer : OrMapValue) → Same (or_map_state whole) (join greater (join greater (or_map_state oldest) (or_map_state older)) (or_map_state newer))
+pub group-of_three : (whole oldest older newer : OrMapValue) → Same (or_map_state whole)
+    (join greater (join greater (or_map_state oldest) (or_map_state older)) (or_map_state newer))
     → Same (or_map_state whole) (group_state (oldest ∷ older ∷ newer ∷ []))
 group-of_three whole oldest older newer is =
     let first = same-back _ _ (none-join (or_map_state oldest)) in
-    let both = join-same greater (or_map_state oldest) (or_map_state older) (group_state (oldest ∷ [])) (or_map_state older) first (same-itself (or_map_state older)) in
-    same-chain _ _ _ is (join-same greater (join greater (or_map_state oldest) (or_map_state older)) (or_map_state newer) (group_state (oldest ∷ older ∷ [])) (or_map_state newer) both (same-itself (or_map_state newer)))
+    let both = join-same greater (or_map_state oldest) (or_map_state older) (group_state (oldest ∷ [])) (or_map_state older) first
+    (same-itself (or_map_state older)) in
+    same-chain _ _ _ is (join-same greater (join greater (or_map_state oldest) (or_map_state older)) (or_map_state newer) (group_state (oldest ∷ older ∷ []))
+    (or_map_state newer) both (same-itself (or_map_state newer)))
 
 -- a log with one delta more
 pub pushed_log : (old new : List OrMapValue) (pair : OrMapValue) → new ≡ old ++ pair ∷ [] → IsPushed old new pair
@@ -126,53 +136,69 @@ module _ {A : Type 0} where
   deltas_of-append older newer = map-append (λ delta. delta.value) older newer
 
   -- ---- the join of a log, part by part
-  pub joined-one : {E : Type 0} (r : Result OrMapValue E) (log : List (Arc OrMapValue A)) (only : Arc OrMapValue A) → log ≡ only ∷ [] → IfOk r (λ copy. Same (state_of or_map_at copy) (state_of or_map_at only.value))
+  pub joined-one : {E : Type 0} (r : Result OrMapValue E) (log : List (Arc OrMapValue A)) (only : Arc OrMapValue A) → log ≡ only ∷ []
+      → IfOk r (λ copy. Same (state_of or_map_at copy) (state_of or_map_at only.value))
       → IfOk r (λ whole. Same (or_map_state whole) (group_state (deltas_of log)))
   joined-one (Ok copy) log only is same =
-      subst (λ (l : List (Arc OrMapValue A)). Same (or_map_state copy) (group_state (deltas_of l))) (sym is) (group-of_one copy only.value (copy-states copy only.value same))
+      subst (λ (l : List (Arc OrMapValue A)). Same (or_map_state copy) (group_state (deltas_of l))) (sym is)
+      (group-of_one copy only.value (copy-states copy only.value same))
   joined-one (Err e) log only is same = tt
 
   pub joined-two : {E : Type 0} (r : Result OrMapValue E) (log : List (Arc OrMapValue A)) (older newer : Arc OrMapValue A) → log ≡ older ∷ newer ∷ []
-      → IfOk r (λ both. Same (state_of or_map_at both) (join greater (state_of or_map_at older.value) (state_of or_map_at newer.value))) → IfOk r (λ whole. Same (or_map_state whole) (group_state (deltas_of log)))
+      → IfOk r (λ both. Same (state_of or_map_at both) (join greater (state_of or_map_at older.value) (state_of or_map_at newer.value)))
+      → IfOk r (λ whole. Same (or_map_state whole) (group_state (deltas_of log)))
   joined-two (Ok both) log older newer is same =
-      subst (λ (l : List (Arc OrMapValue A)). Same (or_map_state both) (group_state (deltas_of l))) (sym is) (group-of_two both older.value newer.value (join-states both older.value newer.value same))
+      subst (λ (l : List (Arc OrMapValue A)). Same (or_map_state both) (group_state (deltas_of l))) (sym is)
+      (group-of_two both older.value newer.value (join-states both older.value newer.value same))
   joined-two (Err e) log older newer is same = tt
 
-  pub joined-three : {E : Type 0} (r : Result OrMapValue E) (log : List (Arc OrMapValue A)) (oldest older newer : Arc OrMapValue A) → log ≡ oldest ∷ older ∷ newer ∷ []
-      → IfOk r (λ whole. Same (or_map_state whole) (join greater (join greater (or_map_state oldest.value) (or_map_state older.value)) (or_map_state newer.value)))
+  pub joined-three : {E : Type 0} (r : Result OrMapValue E) (log : List (Arc OrMapValue A)) (oldest older newer : Arc OrMapValue A)
+      → log ≡ oldest ∷ older ∷ newer ∷ []
+      → IfOk r (λ whole. Same (or_map_state whole) (join greater (join greater (or_map_state oldest.value) (or_map_state older.value))
+      (or_map_state newer.value)))
       → IfOk r (λ whole. Same (or_map_state whole) (group_state (deltas_of log)))
   joined-three (Ok whole) log oldest older newer is same =
-      subst (λ (l : List (Arc OrMapValue A)). Same (or_map_state whole) (group_state (deltas_of l))) (sym is) (group-of_three whole oldest.value older.value newer.value same)
+      subst (λ (l : List (Arc OrMapValue A)). Same (or_map_state whole) (group_state (deltas_of l))) (sym is)
+      (group-of_three whole oldest.value older.value newer.value same)
   joined-three (Err e) log oldest older newer is same = tt
 
-  pub joined-halves : {E : Type 0} (r : Result OrMapValue E) (log first second : List (Arc OrMapValue A)) (older newer : OrMapValue) → log ≡ first ++ second → Same (or_map_state older) (group_state (deltas_of first))
-      → Same (or_map_state newer) (group_state (deltas_of second)) → IfOk r (λ whole. Same (or_map_state whole) (join greater (or_map_state older) (or_map_state newer)))
+  pub joined-halves : {E : Type 0} (r : Result OrMapValue E) (log first second : List (Arc OrMapValue A)) (older newer : OrMapValue) → log ≡ first ++ second
+      → Same (or_map_state older) (group_state (deltas_of first))
+      → Same (or_map_state newer) (group_state (deltas_of second))
+      → IfOk r (λ whole. Same (or_map_state whole) (join greater (or_map_state older) (or_map_state newer)))
       → IfOk r (λ whole. Same (or_map_state whole) (group_state (deltas_of log)))
   joined-halves (Ok whole) log first second older newer parts left right is =
       subst (λ (pairs : List OrMapValue). Same (or_map_state whole) (group_state pairs)) (sym (ap deltas_of parts ∙ deltas_of-append first second))
-      (same-chain _ _ _ is (same-chain _ _ _ (join-same greater (or_map_state older) (or_map_state newer) (group_state (deltas_of first)) (group_state (deltas_of second)) left right)
+      (same-chain _ _ _ is
+      (same-chain _ _ _ (join-same greater (or_map_state older) (or_map_state newer) (group_state (deltas_of first)) (group_state (deltas_of second))
+      left right)
       (same-back _ _ (group-append (deltas_of first) (deltas_of second)))))
   joined-halves (Err e) log first second older newer parts left right is = tt
 
   -- a log that became one delta
-  pub log-settled : (log emptied new : List (Arc OrMapValue A)) (group : Arc OrMapValue A) (whole : OrMapValue) (old : List OrMapValue) → deltas_of log ≡ old → Same (or_map_state whole) (group_state (deltas_of log)) → group.value ≡ whole
+  pub log-settled : (log emptied new : List (Arc OrMapValue A)) (group : Arc OrMapValue A) (whole : OrMapValue) (old : List OrMapValue) → deltas_of log ≡ old
+      → Same (or_map_state whole) (group_state (deltas_of log)) → group.value ≡ whole
       → emptied ≡ [] → new ≡ emptied ++ group ∷ [] → Same (group_state (deltas_of new)) (group_state old)
   log-settled log emptied new group whole old was is value none becomes =
       let only : deltas_of new ≡ whole ∷ [] = ap deltas_of (becomes ∙ ap (λ l. l ++ group ∷ []) none) ∙ ap (λ pair. pair ∷ []) value in
       let before : Same (or_map_state whole) (group_state old) = subst (λ (pairs : List OrMapValue). Same (or_map_state whole) (group_state pairs)) was is in
-      subst (λ (pairs : List OrMapValue). Same (group_state pairs) (group_state old)) (sym only) (same-chain _ _ _ (same-back _ _ (group-of_one whole whole (same-itself (or_map_state whole)))) before)
+      subst (λ (pairs : List OrMapValue). Same (group_state pairs) (group_state old)) (sym only)
+      (same-chain _ _ _ (same-back _ _ (group-of_one whole whole (same-itself (or_map_state whole)))) before)
 
   -- what a push leaves
   pub log-pushed : (old new : List (Arc OrMapValue A)) (delta : Arc OrMapValue A) → new ≡ old ++ delta ∷ [] → deltas_of new ≡ deltas_of old ++ delta.value ∷ []
   log-pushed old new delta is = ap deltas_of is ∙ deltas_of-push old delta
 
   -- the delta that stands last is the newest, and goes where it is taken back
-  pub taken_back : (old new : List (Arc OrMapValue A)) (r : Option (Arc OrMapValue A)) → old ≡ new ++ option_to_list r → (IsSome r ↔ (0 < length old)) → (rest : List OrMapValue) (pair : OrMapValue) → deltas_of old ≡ rest ++ pair ∷ [] → deltas_of new ≡ rest
-  taken_back old new (Some delta) items some rest pair is = snoc_same (deltas_of new) rest delta.value pair (sym (deltas_of-push new delta) ∙ sym (ap deltas_of items) ∙ is)
+  pub taken_back : (old new : List (Arc OrMapValue A)) (r : Option (Arc OrMapValue A)) → old ≡ new ++ option_to_list r → (IsSome r ↔ (0 < length old))
+      → (rest : List OrMapValue) (pair : OrMapValue) → deltas_of old ≡ rest ++ pair ∷ [] → deltas_of new ≡ rest
+  taken_back old new (Some delta) items some rest pair is = snoc_same (deltas_of new) rest delta.value pair
+      (sym (deltas_of-push new delta) ∙ sym (ap deltas_of items) ∙ is)
   taken_back [] new None items some rest pair is = absurd (no_snoc rest pair is)
   taken_back (x ∷ old) new None items some rest pair is = absurd (cc (some.1 (omega arith)))
 
-  pub last_delta : (log : List (Arc OrMapValue A)) (rest : List OrMapValue) (pair : OrMapValue) (delta : Arc OrMapValue A) → deltas_of log ≡ rest ++ pair ∷ [] → slice_get log (length log - 1) ≡ Some delta → delta.value ≡ pair
+  pub last_delta : (log : List (Arc OrMapValue A)) (rest : List OrMapValue) (pair : OrMapValue) (delta : Arc OrMapValue A) → deltas_of log ≡ rest ++ pair ∷ []
+      → slice_get log (length log - 1) ≡ Some delta → delta.value ≡ pair
   last_delta [] rest pair delta is found = absurd (no_snoc rest pair is)
   last_delta (x ∷ []) [] pair delta is found =
       let same : x ≡ delta = cc in
@@ -185,7 +211,8 @@ module _ {A : Type 0} where
       let n : length (x ∷ y ∷ log) - 1 ≡ suc (length (y ∷ log) - 1) = omega arith in
       last_delta (y ∷ log) rest pair delta tail (ap (slice_get (x ∷ y ∷ log)) (sym n) ∙ found)
 
-  pub last_there : (log : List (Arc OrMapValue A)) (rest : List OrMapValue) (pair : OrMapValue) → deltas_of log ≡ rest ++ pair ∷ [] → slice_get log (length log - 1) ≡ None → ⊥
+  pub last_there : (log : List (Arc OrMapValue A)) (rest : List OrMapValue) (pair : OrMapValue) → deltas_of log ≡ rest ++ pair ∷ []
+      → slice_get log (length log - 1) ≡ None → ⊥
   last_there [] rest pair is none = no_snoc rest pair is
   last_there (x ∷ []) rest pair is none = absurd (cc none)
   last_there (x ∷ y ∷ log) [] pair is none = absurd (cc is)

@@ -35,10 +35,17 @@ module _ (found new : List (List ℕ)) (key : List ℕ) (is : new ≡ insert_key
 
 module _ {Hash : Type 0} (pair : PairValue Hash FieldsValue) where
   -- a key with fields holds something
-  pub key_holds : (key : List ℕ) (fields : FieldsValue) → finite.get pair.0.1 key ≡ Some fields → ¬ HasNothing (fields_at fields) → HoldsKey (live_state pair) key
+  pub key_holds : (key : List ℕ) (fields : FieldsValue) → finite.get pair.0.1 key ≡ Some fields → ¬ HasNothing (fields_at fields)
+      → HoldsKey (live_state pair) key
   key_holds key fields is filled =
-      let there = somewhere fields filled in
-      (there.0, (there.1.0, ap is_some (as_entries pair.0 (key, (there.0, tt)) there.1.0 ∙ held_of fields_at pair.0 key fields is (there.0, tt) there.1.0) ∙ there.1.1))
+      let there = somewhere fields filled in (
+        there.0,
+        (
+          there.1.0,
+          ap is_some (as_entries pair.0 (key, (there.0, tt)) there.1.0 ∙ held_of fields_at pair.0 key fields is (there.0, tt) there.1.0)
+              ∙ there.1.1,
+        ),
+      )
 
   -- and one that holds something has fields
   pub holds_fields : (key : List ℕ) → HoldsKey (live_state pair) key → (fields : FieldsValue) × (finite.get pair.0.1 key ≡ Some fields)

@@ -14,7 +14,8 @@ same_test false (Some v) only all = absurd (no_truth (all refl))
 same_test false None only all = refl
 
 pub knows_standing : {X E V : Type 0} (knows : X → DotValue → Bool) (at : Unit {0} → DotValue → Option V) (r : Result X E)
-    → IfOk r (λ x. (d : DotValue) → IsTrue (knows x d) → HoldsDot at d) → IfOk r (λ x. (place : Unit {0}) (d : DotValue) → IsSome (at place d) → IsTrue (knows x d))
+    → IfOk r (λ x. (d : DotValue) → IsTrue (knows x d) → HoldsDot at d)
+    → IfOk r (λ x. (place : Unit {0}) (d : DotValue) → IsSome (at place d) → IsTrue (knows x d))
     → (held : DotValue → Option V) → ((d : DotValue) → held d ≡ at tt d) → IfOk r (λ x. (d : DotValue) → knows x d ≡ is_some (held d))
 knows_standing knows at (Ok x) only all held same = λ d. same_test (knows x d) (at tt d) (λ t. (only d t).1) (all tt d) ∙ ap is_some (sym (same d))
 knows_standing knows at (Err e) only all held same = tt

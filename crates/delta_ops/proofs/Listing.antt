@@ -1,5 +1,6 @@
 -- Keys and fields of ordered entries: over plain variables.
-use Rattle.std.proofs.Common.{◌≡◌, ℕ, ◌+◌, ◌<◌, cond, List, [], ◌∷◌, ◌++◌, take, length, get_or, Contains, Option, None, Some, is_some, IsSome, refl, sym, ◌∙◌, ap, subst, ◌↔◌, ◌⊎◌, inl, inr}
+use Rattle.std.proofs.Common.{◌≡◌, ℕ, ◌+◌, ◌<◌, cond, List, [], ◌∷◌, ◌++◌, take, length, get_or, Contains, Option, None, Some, is_some, IsSome, refl, sym, ◌∙◌}
+use Rattle.std.proofs.Common.{ap, subst, ◌↔◌, ◌⊎◌, inl, inr}
 use Rattle.std.specs.declared.cmp.Ordering.TheVariants.{Less}
 use Rattle.std.specs.List.{AllByRecursion}
 use Rattle.std.specs.List.Sorted.{IsStrictlySortedBy}
@@ -25,7 +26,8 @@ use Rattle.delta_ops.proofs.Erasing.{more_taken}
 -- texts in strict order ascend
 all_below : (x : List ℕ) (xs : List (List ℕ)) → AllByRecursion (λ y. bytes_cmp x y ≡ Less) xs → (y : List ℕ) → Contains xs y → bytes_cmp x y ≡ Less
 all_below x [] all y h = nothing_in y h
-all_below x (z ∷ xs) all y h = elim (head_or_tail z xs y h) [ inl same ↦ subst (λ w. bytes_cmp x w ≡ Less) same all.0 | inr later ↦ all_below x xs all.1 y later ]
+all_below x (z ∷ xs) all y h = elim (head_or_tail z xs y h)
+    [ inl same ↦ subst (λ w. bytes_cmp x w ≡ Less) same all.0 | inr later ↦ all_below x xs all.1 y later ]
 
 pub ascends-from_sorted : (xs : List (List ℕ)) → IsStrictlySortedBy bytes_cmp xs → IsAscending xs
 unfolding IsStrictlySortedBy
@@ -36,10 +38,12 @@ ascends-from_sorted (x ∷ xs) sorted = ascends x xs (record { below = all_below
 pub keys_more_at : {K X : Type 0} (copied new : List K) (entries : List (K × X)) (i : ℕ) (entry : K × X) → i < length entries → entry ≡ get_or entries i entry
     → copied ≡ keys_of (take i entries) → new ≡ copied ++ entry.0 ∷ [] → new ≡ keys_of (take (i + 1) entries)
 keys_more_at copied new entries i entry within at before is =
-    is ∙ ap (λ ks. ks ++ entry.0 ∷ []) before ∙ sym (map-append (λ e. e.0) (take i entries) (entry ∷ [])) ∙ ap keys_of (sym (more_taken entries i entry within at))
+    is ∙ ap (λ ks. ks ++ entry.0 ∷ []) before ∙ sym (map-append (λ e. e.0) (take i entries) (entry ∷ []))
+    ∙ ap keys_of (sym (more_taken entries i entry within at))
 
 -- the keys of entries are those that have an entry
-pub keys_of-has : {K X : Type 0} (entries : List (K × X)) (P : K → Type 0) → ((key : K) (x : X) → Contains entries (key, x) → P key) → ((key : K) → P key → (x : X) × Contains entries (key, x))
+pub keys_of-has : {K X : Type 0} (entries : List (K × X)) (P : K → Type 0) → ((key : K) (x : X) → Contains entries (key, x) → P key)
+    → ((key : K) → P key → (x : X) × Contains entries (key, x))
     → (key : K) → Contains (keys_of entries) key ↔ P key
 keys_of-has entries P to back key = (
   λ h. let entry = from_map (λ e. e.0) entries key h in to key entry.0.1 (at_same entries entry.0 (key, entry.0.1) (ap (λ k. (k, entry.0.1)) entry.2) entry.1),
@@ -67,13 +71,18 @@ at_field fields field = go (lookup (is_at (bytes_cmp field)) fields) refl
     go None is = inr (λ d. ap (λ o. held_by at_values o tt d) is)
     go (Some []) is = inr (λ d. ap (λ o. held_by at_values o tt d) is)
     go (Some ((dot, value) ∷ standing)) is =
-        inl (dot, ap (λ o. is_some (held_by at_values o tt dot)) is ∙ ap (λ b. is_some (cond b (Some value) (lookup (same_dot dot) standing))) (same_dot-self dot))
+        inl (
+          dot,
+          ap (λ o. is_some (held_by at_values o tt dot)) is
+              ∙ ap (λ b. is_some (cond b (Some value) (lookup (same_dot dot) standing))) (same_dot-self dot),
+        )
 
 at_any : (fields rest : FieldsValue) → ((field : List ℕ) × StandsAt fields field) ⊎ ((field : List ℕ) → Contains (keys_of rest) field → NothingAt fields field)
 at_any fields [] = inr (λ field h. nothing_in field h)
 at_any fields (entry ∷ rest) = by (at_field fields entry.0) (at_any fields rest)
   where
-    by : StandsAt fields entry.0 ⊎ NothingAt fields entry.0 → ((field : List ℕ) × StandsAt fields field) ⊎ ((field : List ℕ) → Contains (keys_of rest) field → NothingAt fields field)
+    by : StandsAt fields entry.0 ⊎ NothingAt fields entry.0 → ((field : List ℕ) × StandsAt fields field)
+        ⊎ ((field : List ℕ) → Contains (keys_of rest) field → NothingAt fields field)
         → ((field : List ℕ) × StandsAt fields field) ⊎ ((field : List ℕ) → Contains (keys_of (entry ∷ rest)) field → NothingAt fields field)
     by (inl here) later = inl (entry.0, here)
     by (inr none) (inl there) = inl there
@@ -83,7 +92,8 @@ at_any fields (entry ∷ rest) = by (at_field fields entry.0) (at_any fields res
     ])
 
 -- nothing stands at a place of which no entry holds anything
-missing : (fields : FieldsValue) (field : List ℕ) (d : DotValue) → (Contains (keys_of fields) field → NothingAt fields field) → fields_at fields (field, tt) d ≡ None
+missing : (fields : FieldsValue) (field : List ℕ) (d : DotValue) → (Contains (keys_of fields) field → NothingAt fields field)
+    → fields_at fields (field, tt) d ≡ None
 unfolding at_stores
 missing fields field d nowhere = go (lookup (is_at (bytes_cmp field)) fields) refl
   where
@@ -95,15 +105,19 @@ missing fields field d nowhere = go (lookup (is_at (bytes_cmp field)) fields) re
 pub somewhere : (fields : FieldsValue) → ¬ HasNothing (fields_at fields) → (field : List ℕ) × StandsAt fields field
 somewhere fields filled = by (at_any fields fields)
   where
-    by : ((field : List ℕ) × StandsAt fields field) ⊎ ((field : List ℕ) → Contains (keys_of fields) field → NothingAt fields field) → (field : List ℕ) × StandsAt fields field
+    by : ((field : List ℕ) × StandsAt fields field) ⊎ ((field : List ℕ) → Contains (keys_of fields) field → NothingAt fields field) → (field : List ℕ)
+        × StandsAt fields field
     by (inl there) = there
     by (inr nowhere) = absurd (filled (λ place d. missing fields place.0 d (nowhere place.0)))
 
 -- the fields of a key that hold something are those of its entries
-pub fields_hold : (live : OrMapValue) (key : List ℕ) (fields entries : FieldsValue) → ((place : List ℕ × Unit {0}) (d : DotValue) → or_map_at live.0 (key, place) d ≡ fields_at fields place d)
+pub fields_hold : (live : OrMapValue) (key : List ℕ) (fields entries : FieldsValue)
+    → ((place : List ℕ × Unit {0}) (d : DotValue) → or_map_at live.0 (key, place) d ≡ fields_at fields place d)
     → NoKeyIsEmpty at_values entries
-    → ((field : List ℕ) (standing : ValuesValue) → Contains entries (field, standing) → (place : Unit {0}) (d : DotValue) → fields_at fields (field, place) d ≡ at_values standing place d)
-    → ((field : List ℕ) (place : Unit {0}) (d : DotValue) → IsSome (fields_at fields (field, place) d) → (standing : ValuesValue) × Contains entries (field, standing))
+    → ((field : List ℕ) (standing : ValuesValue) → Contains entries (field, standing) → (place : Unit {0}) (d : DotValue)
+    → fields_at fields (field, place) d ≡ at_values standing place d)
+    → ((field : List ℕ) (place : Unit {0}) (d : DotValue) → IsSome (fields_at fields (field, place) d) → (standing : ValuesValue)
+    × Contains entries (field, standing))
     → (field : List ℕ) → Contains (keys_of entries) field ↔ HoldsField (or_map_state live) key field
 fields_hold live key fields entries at filled held only =
     keys_of-has entries (HoldsField (or_map_state live) key)
@@ -114,7 +128,8 @@ fields_hold live key fields entries at filled held only =
     (λ field (d, there). only field tt d (sym (ap is_some (at (field, tt) d)) ∙ there))
 
 -- no field of a key holds anything that is not there
-pub no_fields_hold : (live : OrMapValue) (key : List ℕ) (found : List (List ℕ)) → ((place : List ℕ × Unit {0}) (d : DotValue) → or_map_at live.0 (key, place) d ≡ None) → found ≡ []
+pub no_fields_hold : (live : OrMapValue) (key : List ℕ) (found : List (List ℕ))
+    → ((place : List ℕ × Unit {0}) (d : DotValue) → or_map_at live.0 (key, place) d ≡ None) → found ≡ []
     → (field : List ℕ) → Contains found field ↔ HoldsField (or_map_state live) key field
 no_fields_hold live key found nothing none field =
     let P : List (List ℕ) → Type 0 = λ fs. Contains fs field ↔ HoldsField (or_map_state live) key field in
@@ -122,8 +137,10 @@ no_fields_hold live key found nothing none field =
 
 -- the keys that hold something are those of the entries
 pub keys_hold : (live : OrMapValue) (entries : OrMapStoreValue) → NoKeyIsEmpty fields_at entries
-    → ((key : List ℕ) (fields : FieldsValue) → Contains entries (key, fields) → (place : List ℕ × Unit {0}) (d : DotValue) → or_map_at live.0 (key, place) d ≡ fields_at fields place d)
-    → ((key : List ℕ) (place : List ℕ × Unit {0}) (d : DotValue) → IsSome (or_map_at live.0 (key, place) d) → (fields : FieldsValue) × Contains entries (key, fields))
+    → ((key : List ℕ) (fields : FieldsValue) → Contains entries (key, fields) → (place : List ℕ × Unit {0}) (d : DotValue)
+    → or_map_at live.0 (key, place) d ≡ fields_at fields place d)
+    → ((key : List ℕ) (place : List ℕ × Unit {0}) (d : DotValue) → IsSome (or_map_at live.0 (key, place) d) → (fields : FieldsValue)
+    × Contains entries (key, fields))
     → (key : List ℕ) → Contains (keys_of entries) key ↔ HoldsKey (or_map_state live) key
 keys_hold live entries filled held only =
     keys_of-has entries (HoldsKey (or_map_state live))

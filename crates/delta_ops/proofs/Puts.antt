@@ -1,5 +1,6 @@
 -- The delta of a put, from what its store and its context hold: over plain variables.
-use Rattle.std.proofs.Common.{◌≡◌, ℕ, ◌+◌, ◌-◌, ◌≤◌, Bool, true, false, cond, ◌&&◌, ◌||◌, List, [], ◌∷◌, map, Option, Some, None, is_some, IsSome, IsTrue, ◌⊎◌, inl, inr, zero, suc, refl, sym, ◌∙◌, ap, arith}
+use Rattle.std.proofs.Common.{◌≡◌, ℕ, ◌+◌, ◌-◌, ◌≤◌, Bool, true, false, cond, ◌&&◌, ◌||◌, List, [], ◌∷◌, map, Option, Some, None, is_some, IsSome, IsTrue, ◌⊎◌}
+use Rattle.std.proofs.Common.{inl, inr, zero, suc, refl, sym, ◌∙◌, ap, arith}
 use Rattle.std.specs.Map.{lookup}
 use Rattle.std.specs.BTreeMap.{is_at}
 use Rattle.causal_context.specs.Context.{ContextValue, IsGreatest}
@@ -88,7 +89,8 @@ put_at_pair live name place value dot next = record {
 }
 
 -- what the new dot did not observe: itself
-not_itself : (live : OrMapValue) (place : Place) (dot : DotValue) → IsInside (state_of or_map_at live) → context.has live.1 dot ≡ false → has (dots_at live.0 place) dot ≡ false
+not_itself : (live : OrMapValue) (place : Place) (dot : DotValue) → IsInside (state_of or_map_at live) → context.has live.1 dot ≡ false
+    → has (dots_at live.0 place) dot ≡ false
 not_itself live place dot inside unknown = has-dots_at live.0 place dot ∙ go (or_map_at live.0 (path_of place) dot) (inside (path_of place) dot)
   where
     go : (held : Option (List ℕ)) → (IsSome held → IsTrue (context.has live.1 dot)) → is_some held ≡ false
@@ -100,18 +102,22 @@ pub record IsDelta (live : OrMapValue) (place : Place) (value : List ℕ) (dot :
   pub held : (p : Place) (d : DotValue) → or_map_at store (path_of p) d ≡ cond (same_place place p && same_dot dot d) (Some value) None
   pub known : (d : DotValue) → context.has knows d ≡ (same_dot dot d || is_some (or_map_at live.0 (path_of place) d))
 
-pub delta_inside : (live : OrMapValue) (place : Place) (value : List ℕ) (dot : DotValue) (store : OrMapStoreValue) (knows : ContextValue) → IsDelta live place value dot store knows
+pub delta_inside : (live : OrMapValue) (place : Place) (value : List ℕ) (dot : DotValue) (store : OrMapStoreValue) (knows : ContextValue)
+    → IsDelta live place value dot store knows
     → IsInside (state_of or_map_at (store, knows))
 delta_inside live place value dot store knows delta path d some =
-    go (same_place place (place_of path.0 path.1.0)) (same_dot dot d) (or_map_at store path d) (context.has knows d) _ (delta.held (place_of path.0 path.1.0) d) (delta.known d) some
+    go (same_place place (place_of path.0 path.1.0)) (same_dot dot d) (or_map_at store path d) (context.has knows d) _ (delta.held (place_of path.0 path.1.0) d)
+    (delta.known d) some
   where
     go : (a b : Bool) (held : Option (List ℕ)) (test rest : Bool) → held ≡ cond (a && b) (Some value) None → test ≡ (b || rest) → IsSome held → IsTrue test
     go a true held test rest is known some = known
     go true false held test rest is known some = absurd (let none : IsSome {T = List ℕ} None = rw is at some in cc)
     go false false held test rest is known some = absurd (let none : IsSome {T = List ℕ} None = rw is at some in cc)
 
-pub delta_state : (live : OrMapValue) (place : Place) (value : List ℕ) (dot : DotValue) (store : OrMapStoreValue) (knows : ContextValue) → IsDelta live place value dot store knows
-    → IsInside (state_of or_map_at live) → context.has live.1 dot ≡ false → Same (or_map_state (store, knows)) (state (Wrote (write_of live dot place value) ∷ []))
+pub delta_state : (live : OrMapValue) (place : Place) (value : List ℕ) (dot : DotValue) (store : OrMapStoreValue) (knows : ContextValue)
+    → IsDelta live place value dot store knows
+    → IsInside (state_of or_map_at live) → context.has live.1 dot ≡ false
+    → Same (or_map_state (store, knows)) (state (Wrote (write_of live dot place value) ∷ []))
 delta_state live place value dot store knows delta inside unknown = record {
   at = λ p d. delta.held p d ∙ sym (at-write-own (write_of live dot place value) (not_itself live place dot inside unknown) p d);
   has = λ d. delta.known d ∙ (ap (λ b. same_dot dot d || b) (sym (has-dots_at live.0 place d)) ∙ sym (has-write (write_of live dot place value) d));

@@ -11,7 +11,8 @@ held_alone false b new at below elsewhere v stored held nothing empty = stored �
 -- the same, two keys deep
 pub held_alone_deep : {X : Type 0} (a b c : Bool) (new at held below within elsewhere : Option X) (v : X) → new ≡ cond a at elsewhere → at ≡ cond b held within
     → held ≡ cond c (Some v) below → below ≡ None → within ≡ None → elsewhere ≡ None → new ≡ cond ((a && b) && c) (Some v) None
-held_alone_deep true b c new at held below within elsewhere v outer inner least nothing empty clear = outer ∙ held_alone b c at held below within v inner least nothing empty
+held_alone_deep true b c new at held below within elsewhere v outer inner least nothing empty clear = outer
+    ∙ held_alone b c at held below within v inner least nothing empty
 held_alone_deep false b c new at held below within elsewhere v outer inner least nothing empty clear = outer ∙ clear
 
 -- a test that passes just where something is held

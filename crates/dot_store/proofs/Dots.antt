@@ -14,5 +14,6 @@ unfolding at_dots at_values
 at_keys [] place d = refl
 at_keys (e ∷ es) place d = alike_by (same_dot d e.0) (list_any (same_dot d) (keys_of es)) e.1 (lookup (same_dot d) es) (at_keys es place d)
 
-pub at_dots-at_values : (es : List (DotValue × Unit {0})) (dots : List DotValue) → keys_of es ≡ dots → (place : Unit {0}) (d : DotValue) → at_dots dots place d ≡ at_values es place d
+pub at_dots-at_values : (es : List (DotValue × Unit {0})) (dots : List DotValue) → keys_of es ≡ dots → (place : Unit {0}) (d : DotValue)
+    → at_dots dots place d ≡ at_values es place d
 at_dots-at_values es dots is place d = rw (← is) (at_keys es place d)

@@ -7,14 +7,17 @@ use Rattle.ordered_list.proofs.Places.{items_more}
 
 -- The context has what it had and the dots of the first items, and of other dots none but those that are held.
 -- `Dots` says which are the dots of an item.
-pub record Gathered {X : Type 0} (Held : DotValue → Type 0) (Dots : X → DotValue → Type 0) (old new : DotValue → Bool) (items : List X) (count : ℕ) : Type 0 where
+pub record Gathered {X : Type 0} (Held : DotValue → Type 0) (Dots : X → DotValue → Type 0) (old new : DotValue → Bool) (items : List X)
+    (count : ℕ) : Type 0 where
   pub kept : (d : DotValue) → IsTrue (old d) → IsTrue (new d)
   pub only : (d : DotValue) → IsTrue (new d) → IsTrue (old d) ⊎ Held d
   pub added : (k : ℕ) (x : X) → k < count → (d : DotValue) → Dots (get_or items k x) d → IsTrue (new d)
 
 -- the dots of one more item, which are held
-pub gathered_more : {X : Type 0} (Held : DotValue → Type 0) (Dots : X → DotValue → Type 0) (old mid new : DotValue → Bool) (items : List X) (i : ℕ) (x : X) → Gathered Held Dots old mid items i
-    → i < length items → x ≡ get_or items i x → ((d : DotValue) → IsTrue (mid d) → IsTrue (new d)) → ((d : DotValue) → IsTrue (new d) → IsTrue (mid d) ⊎ Dots x d) → ((d : DotValue) → Dots x d → IsTrue (new d))
+pub gathered_more : {X : Type 0} (Held : DotValue → Type 0) (Dots : X → DotValue → Type 0) (old mid new : DotValue → Bool) (items : List X) (i : ℕ) (x : X)
+    → Gathered Held Dots old mid items i
+    → i < length items → x ≡ get_or items i x → ((d : DotValue) → IsTrue (mid d) → IsTrue (new d))
+    → ((d : DotValue) → IsTrue (new d) → IsTrue (mid d) ⊎ Dots x d) → ((d : DotValue) → Dots x d → IsTrue (new d))
     → ((d : DotValue) → Dots x d → Held d) → Gathered Held Dots old new items (i + 1)
 gathered_more Held Dots old mid new items i x before h is keeps only adds held = record {
   kept = λ d e. keeps d (before.kept d e);
@@ -23,7 +26,8 @@ gathered_more Held Dots old mid new items i x before h is keeps only adds held =
 }
 
 -- where nothing was there before, it has only dots that are held
-pub gathered_only : {X : Type 0} (Held : DotValue → Type 0) (Dots : X → DotValue → Type 0) (old new : DotValue → Bool) (items : List X) (count : ℕ) → ((d : DotValue) → old d ≡ false)
+pub gathered_only : {X : Type 0} (Held : DotValue → Type 0) (Dots : X → DotValue → Type 0) (old new : DotValue → Bool) (items : List X) (count : ℕ)
+    → ((d : DotValue) → old d ≡ false)
     → Gathered Held Dots old new items count → (d : DotValue) → IsTrue (new d) → Held d
 gathered_only Held Dots old new items count none all d h = ⊎_elim (λ was. absurd (cc (none d, was))) (λ held. held) (all.only d h)
 

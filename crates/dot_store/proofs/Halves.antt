@@ -21,12 +21,27 @@ module _ {K S P H : Type 0} (at : S → P → DotValue → Option H) where
   abbrev pub AllOf : List (K × S) → (DotValue → Bool) → Type 0
   AllOf stores dots = All (λ store. (place : P) (d : DotValue) → IsSome (at store.1 place d) → IsTrue (dots d)) stores
 
-  module _ (front back stores : List (K × S)) (is : stores ≡ front ++ back) (mid more new : DotValue → Bool) (both : (d : DotValue) → new d ≡ (mid d || more d)) where
+  module _ (front back stores : List (K × S)) (is : stores ≡ front ++ back) (mid more new : DotValue → Bool)
+      (both : (d : DotValue) → new d ≡ (mid d || more d)) where
     pub only_both : OnlyOf front mid → OnlyOf back more → OnlyOf stores new
     only_both first second d h =
         ⊎_elim
-        (λ was. let there = first d was in (there.0, there.1, there.2, subst (λ l. Contains l (there.0, there.1)) (sym is) (Contains-append_left front back (there.0, there.1) there.3), there.4))
-        (λ came. let there = second d came in (there.0, there.1, there.2, subst (λ l. Contains l (there.0, there.1)) (sym is) (Contains-append_right front back (there.0, there.1) there.3), there.4))
+        (λ was. let there = first d was in (
+          there.0,
+          there.1,
+          there.2,
+          subst (λ l. Contains l (there.0, there.1)) (sym is)
+              (Contains-append_left front back (there.0, there.1) there.3),
+          there.4,
+        ))
+        (λ came. let there = second d came in (
+          there.0,
+          there.1,
+          there.2,
+          subst (λ l. Contains l (there.0, there.1)) (sym is)
+              (Contains-append_right front back (there.0, there.1) there.3),
+          there.4,
+        ))
         (union_only mid more new both {Held = λ x. IsTrue (more x)} (λ x e. e) d h)
 
     pub all_both : AllOf front mid → AllOf back more → AllOf stores new

@@ -19,7 +19,8 @@ use Rattle.dot_store.specs.Store.{HasEachKnown, HoldsSame}
 use Rattle.dot_store.specs.Stores.{at_stores, held_by, joined_store, IsOnlyKey}
 
 -- what the other side does not know and does not hold stays
-kept_as_it_is : {H : Type 0} (greater : H → H → H) (x : Option H) (own theirs : Bool) → (IsSome x → IsTrue theirs → x ≡ None) → x ≡ joined greater x own None theirs
+kept_as_it_is : {H : Type 0} (greater : H → H → H) (x : Option H) (own theirs : Bool) → (IsSome x → IsTrue theirs → x ≡ None)
+    → x ≡ joined greater x own None theirs
 kept_as_it_is greater None own theirs gone = refl
 kept_as_it_is greater (Some v) own true gone = absurd (cc (gone refl refl))
 kept_as_it_is greater (Some v) own false gone = refl
@@ -37,22 +38,26 @@ module _ {K S P H : Type 0} (at : S → P → DotValue → Option H) (cmp : K �
   }
 
   -- what is joined at that key is joined at each
-  pub joined_by_key : (greater : H → H → H) (mine yours new : List (K × S)) (own theirs : DotValue → Bool) (dots : List DotValue) (key : K) → HasEachKnown (at_stores at cmp mine) theirs dots → IsOnlyKey at cmp mine yours dots key
+  pub joined_by_key : (greater : H → H → H) (mine yours new : List (K × S)) (own theirs : DotValue → Bool) (dots : List DotValue) (key : K)
+      → HasEachKnown (at_stores at cmp mine) theirs dots → IsOnlyKey at cmp mine yours dots key
       → HoldsSame (held_by at (value_at cmp new key)) (joined_store at greater (value_at cmp mine key) own (value_at cmp yours key) theirs)
       → ((q : K) → is_eq (cmp key q) ≡ false → value_at cmp new q ≡ value_at cmp mine q)
       → (q : K) → HoldsSame (held_by at (value_at cmp new q)) (joined_store at greater (value_at cmp mine q) own (value_at cmp yours q) theirs)
   unfolding at_stores
   joined_by_key greater mine yours new own theirs dots key each only here apart q = by (is_eq (cmp key q)) refl
     where
-      kept : is_eq (cmp key q) ≡ false → (o : Option S) → value_at cmp mine q ≡ o → (place : P) (d : DotValue) → held_by at o place d ≡ joined greater (held_by at o place d) (own d) None (theirs d)
+      kept : is_eq (cmp key q) ≡ false → (o : Option S) → value_at cmp mine q ≡ o → (place : P) (d : DotValue)
+          → held_by at o place d ≡ joined greater (held_by at o place d) (own d) None (theirs d)
       kept apart_here None is place d = refl
       kept apart_here (Some s) is place d =
           kept_as_it_is greater (at s place d) (own d) (theirs d)
           (λ some known. only.mine_apart q s apart_here is place d (each (q, place) d (subst (λ o. IsSome (held_by at o place d)) (sym is) some) known))
 
-      by : (b : Bool) → is_eq (cmp key q) ≡ b → HoldsSame (held_by at (value_at cmp new q)) (joined_store at greater (value_at cmp mine q) own (value_at cmp yours q) theirs)
+      by : (b : Bool) → is_eq (cmp key q) ≡ b → HoldsSame (held_by at (value_at cmp new q))
+          (joined_store at greater (value_at cmp mine q) own (value_at cmp yours q) theirs)
       by true tied =
-          subst (λ k. HoldsSame (held_by at (value_at cmp new k)) (joined_store at greater (value_at cmp mine k) own (value_at cmp yours k) theirs)) (same_key cmp exact key q tied) here
+          subst (λ k. HoldsSame (held_by at (value_at cmp new k)) (joined_store at greater (value_at cmp mine k) own (value_at cmp yours k) theirs))
+          (same_key cmp exact key q tied) here
       by false differs = λ place d.
           ap (λ o. held_by at o place d) (apart q differs) ∙ kept differs (value_at cmp mine q) refl place d
           ∙ sym (ap (λ o. joined greater (held_by at (value_at cmp mine q) place d) (own d) (held_by at o place d) (theirs d)) (only.yours_none q differs))

@@ -21,7 +21,8 @@ use Rattle.ordered_list.proofs.Places.{Ascends, item_found, entry_found}
 
 -- ---- a fact of each store of a map
 module _ {S : Type 0} (Q : S → Type 0) where
-  each_insert : {K : Type 0} (cmp : K → K → Ordering) (es : List (K × S)) (key : K) (store : S) → All Q (values_of es) → Q store → All Q (values_of (insert_entry cmp es key store))
+  each_insert : {K : Type 0} (cmp : K → K → Ordering) (es : List (K × S)) (key : K) (store : S) → All Q (values_of es) → Q store
+      → All Q (values_of (insert_entry cmp es key store))
   each_insert cmp es key store all here = All-values-insert_entry cmp key store Q es all here
 
   pub each_put_some : {K : Type 0} (cmp : K → K → Ordering) (es fs : List (K × S)) (key : K) (store : Option S) → All Q (values_of es) → IfSome store Q
@@ -29,10 +30,12 @@ module _ {S : Type 0} (Q : S → Type 0) where
   each_put_some cmp es fs key None all here is = rw is all
   each_put_some cmp es fs key (Some store) all here is = rw is (each_insert cmp es key store all here)
 
-  pub each_put : {K : Type 0} (cmp : K → K → Ordering) (es fs : List (K × S)) (key : K) (store : S) → All Q (values_of es) → Q store → fs ≡ insert_entry cmp es key store → All Q (values_of fs)
+  pub each_put : {K : Type 0} (cmp : K → K → Ordering) (es fs : List (K × S)) (key : K) (store : S) → All Q (values_of es) → Q store
+      → fs ≡ insert_entry cmp es key store → All Q (values_of fs)
   each_put cmp es fs key store all here is = rw is (each_insert cmp es key store all here)
 
-  pub each_after_put : {K E : Type 0} (cmp : K → K → Ordering) (r : Result (Unit {0}) E) (es fs : List (K × S)) (key : K) (store : S) → All Q (values_of es) → Q store
+  pub each_after_put : {K E : Type 0} (cmp : K → K → Ordering) (r : Result (Unit {0}) E) (es fs : List (K × S)) (key : K) (store : S)
+      → All Q (values_of es) → Q store
       → OnOk r (fs ≡ insert_entry cmp es key store) → OnErr r (fs ≡ es) → All Q (values_of fs)
   each_after_put cmp (Ok u) es fs key store all here ok err = rw ok (each_insert cmp es key store all here)
   each_after_put cmp (Err e) es fs key store all here ok err = rw err all
@@ -63,7 +66,8 @@ module _ {S P H : Type 0} (at : S → P → DotValue → Option H) where
   pub filled_at : {K : Type 0} (test : K → Bool) (es : List (K × S)) (s : S) → NoKeyIsEmpty at es → lookup test es ≡ Some s → HasNothing (at s) → ⊥
   filled_at test es s filled e = filled_by (lookup test es) s (IfSome-lookup_from_All (λ t. HasNothing (at t) → ⊥) test es filled) e
 
-  pub filled_found : {K : Type 0} (test : K → Bool) (es : List (K × S)) (r : Option (Bor S)) → NoKeyIsEmpty at es → option_copied r ≡ lookup test es → IfSome r (λ s. HasNothing (at s.now) → ⊥)
+  pub filled_found : {K : Type 0} (test : K → Bool) (es : List (K × S)) (r : Option (Bor S)) → NoKeyIsEmpty at es → option_copied r ≡ lookup test es
+      → IfSome r (λ s. HasNothing (at s.now) → ⊥)
   filled_found test es None filled is = tt
   filled_found test es (Some s) filled is = filled_at test es s.now filled (sym is)
 
@@ -83,20 +87,24 @@ module _ {S P H : Type 0} (at : S → P → DotValue → Option H) where
   filled_all es all = each_all (λ s. HasNothing (at s) → ⊥) es all
 
   -- the join at stores that are what was found
-  pub joined_store_along : (greater : H → H → H) (o o' p p' : Option S) (own theirs : DotValue → Bool) → o ≡ o' → p ≡ p' → HoldsSame (joined_store at greater o own p theirs) (joined_store at greater o' own p' theirs)
+  pub joined_store_along : (greater : H → H → H) (o o' p p' : Option S) (own theirs : DotValue → Bool) → o ≡ o' → p ≡ p'
+      → HoldsSame (joined_store at greater o own p theirs) (joined_store at greater o' own p' theirs)
   joined_store_along greater o o' p p' own theirs e f place d = rw (e, f) refl
 
   pub held_along : (o o' p p' : Option S) → o ≡ o' → p ≡ p' → HoldsSame (held_by at o) (held_by at p) → HoldsSame (held_by at o') (held_by at p')
   held_along o o' p p' e f h = rw (← e, ← f) h
 
   -- copies that hold the same
-  pub copied_by : (b : Bool) (s t : S) (o p : Option S) → HoldsSame (at t) (at s) → HoldsSame (held_by at o) (held_by at p) → HoldsSame (held_by at (cond b (Some t) o)) (held_by at (cond b (Some s) p))
+  pub copied_by : (b : Bool) (s t : S) (o p : Option S) → HoldsSame (at t) (at s) → HoldsSame (held_by at o) (held_by at p)
+      → HoldsSame (held_by at (cond b (Some t) o)) (held_by at (cond b (Some s) p))
   copied_by true s t o p here before = here
   copied_by false s t o p here before = before
 
   -- a copy of a store that is kept is not empty
-  pub no_empty_copy : {K : Type 0} (es : List (K × S)) (i : ℕ) (e : K × S) (copy : S) → NoKeyIsEmpty at es → i < length es → e ≡ get_or es i e → HoldsSame (at copy) (at e.1) → HasNothing (at copy) → ⊥
-  no_empty_copy es i e copy filled h is same nothing = each_item (λ s. HasNothing (at s) → ⊥) es i e filled h is (λ place d. sym (same place d) ∙ nothing place d)
+  pub no_empty_copy : {K : Type 0} (es : List (K × S)) (i : ℕ) (e : K × S) (copy : S) → NoKeyIsEmpty at es → i < length es → e ≡ get_or es i e
+      → HoldsSame (at copy) (at e.1) → HasNothing (at copy) → ⊥
+  no_empty_copy es i e copy filled h is same nothing = each_item (λ s. HasNothing (at s) → ⊥) es i e filled h is
+      (λ place d. sym (same place d) ∙ nothing place d)
 
   module _ {K : Type 0} (cmp : K → K → Ordering) (total : IsTotalOrder cmp) where
     pub nothing_from_no_key : (es : List (K × S)) → length es ≡ 0 → HasNothing (at_stores at cmp es)
@@ -115,7 +123,8 @@ module _ {S P H : Type 0} (at : S → P → DotValue → Option H) where
         (λ place d. sym (held_at_some (lookup (is_at (cmp x.0)) (x ∷ es)) x.1 place d (first_is_found x es)) ∙ h (x.0, place) d))
 
     -- what holds of each store holds of the one in which something is held
-    pub item_from_held : (Q : K × S → Type 0) (es : List (K × S)) → All Q es → (place : K × P) (d : DotValue) → IsSome (at_stores at cmp es place d) → (e : K × S) × Q e × IsSome (at e.1 place.1 d)
+    pub item_from_held : (Q : K × S → Type 0) (es : List (K × S)) → All Q es → (place : K × P) (d : DotValue) → IsSome (at_stores at cmp es place d)
+        → (e : K × S) × Q e × IsSome (at e.1 place.1 d)
     unfolding at_stores
     item_from_held Q es all place d h =
         let there = held_some (lookup (is_at (cmp place.0)) es) place.1 d h in
@@ -123,11 +132,13 @@ module _ {S P H : Type 0} (at : S → P → DotValue → Option H) where
         ((found.0, there.0), found.2, there.2)
 
     -- and what an entry's store holds is held
-    pub held_from_item : (es : List (K × S)) (i : ℕ) (e : K × S) → Ascends cmp es → i < length es → e ≡ get_or es i e → (place : P) (d : DotValue) → at_stores at cmp es (e.0, place) d ≡ at e.1 place d
+    pub held_from_item : (es : List (K × S)) (i : ℕ) (e : K × S) → Ascends cmp es → i < length es → e ≡ get_or es i e → (place : P) (d : DotValue)
+        → at_stores at cmp es (e.0, place) d ≡ at e.1 place d
     unfolding at_stores
     held_from_item es i e s h is place d = held_at_some (lookup (is_at (cmp e.0)) es) e.1 place d (item_found cmp total es i e s h is)
 
-    pub holds_from_item : (es : List (K × S)) (i : ℕ) (e : K × S) → Ascends cmp es → i < length es → e ≡ get_or es i e → (d : DotValue) → HoldsDot (at e.1) d → HoldsDot (at_stores at cmp es) d
+    pub holds_from_item : (es : List (K × S)) (i : ℕ) (e : K × S) → Ascends cmp es → i < length es → e ≡ get_or es i e → (d : DotValue) → HoldsDot (at e.1) d
+        → HoldsDot (at_stores at cmp es) d
     unfolding at_stores
     holds_from_item es i e s h is d held = ((e.0, held.0), ap is_some (held_from_item es i e s h is held.0 d) ∙ held.1)
 
@@ -136,7 +147,9 @@ module _ {S P H : Type 0} (at : S → P → DotValue → Option H) where
     absent_by (Some s) place d h = h s refl
 
     -- what no store holds is not held
-    pub absent_from_items : (es : List (K × S)) (d : DotValue) → All (λ e. (place : P) → at e.1 place d ≡ None) es → (place : K × P) → at_stores at cmp es place d ≡ None
+    pub absent_from_items : (es : List (K × S)) (d : DotValue) → All (λ e. (place : P) → at e.1 place d ≡ None) es → (place : K × P)
+        → at_stores at cmp es place d ≡ None
     unfolding at_stores
     absent_from_items es d all place =
-        absent_by (lookup (is_at (cmp place.0)) es) place.1 d (λ s e. (entry_found (λ x. (p : P) → at x.1 p d ≡ None) (is_at (cmp place.0)) es s all e).2 place.1)
+        absent_by (lookup (is_at (cmp place.0)) es) place.1 d
+        (λ s e. (entry_found (λ x. (p : P) → at x.1 p d ≡ None) (is_at (cmp place.0)) es s all e).2 place.1)

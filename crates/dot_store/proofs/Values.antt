@@ -35,14 +35,17 @@ module _ {V : Type 0} where
       let here : at_values (x ∷ es) tt x.0 ≡ Some x.1 = rw (same_dot-refl x.0) refl in
       absurd (cc (here, h tt x.0))
 
-  pub nothing_from_test : (es : List (DotValue × V)) (r : Bool) → r ≡ eqb (length es) 0 → IsTrue r → (place : Unit {0}) (d : DotValue) → at_values es place d ≡ None
+  pub nothing_from_test : (es : List (DotValue × V)) (r : Bool) → r ≡ eqb (length es) 0 → IsTrue r → (place : Unit {0}) (d : DotValue)
+      → at_values es place d ≡ None
   nothing_from_test es r is t = nothing_from_no_entry es (eqb-true (length es) 0 (sym is ∙ t))
 
-  pub test_from_nothing : (es : List (DotValue × V)) (r : Bool) → r ≡ eqb (length es) 0 → ((place : Unit {0}) (d : DotValue) → at_values es place d ≡ None) → IsTrue r
+  pub test_from_nothing : (es : List (DotValue × V)) (r : Bool) → r ≡ eqb (length es) 0
+      → ((place : Unit {0}) (d : DotValue) → at_values es place d ≡ None) → IsTrue r
   test_from_nothing es r is h = is ∙ eq-eqb (length es) 0 (no_entry_from_nothing es h)
 
   -- a map after an insert
-  pub at_values-insert : (old new : List (DotValue × V)) (dot d : DotValue) (v : V) (place : Unit {0}) → lookup (is_at (dot_cmp d)) new ≡ cond (is_eq (dot_cmp dot d)) (Some v) (lookup (is_at (dot_cmp d)) old)
+  pub at_values-insert : (old new : List (DotValue × V)) (dot d : DotValue) (v : V) (place : Unit {0})
+      → lookup (is_at (dot_cmp d)) new ≡ cond (is_eq (dot_cmp dot d)) (Some v) (lookup (is_at (dot_cmp d)) old)
       → at_values new place d ≡ cond (same_dot dot d) (Some v) (at_values old place d)
   unfolding at_values
   at_values-insert old new dot d v place h =
@@ -50,15 +53,19 @@ module _ {V : Type 0} where
       ∙ ap (λ o. cond (same_dot dot d) (Some v) o) (lookup-dot_cmp d old)
 
   -- the table at equal sides
-  pub joined_along : (greater : V → V → V) (o o' p p' : Option V) (own theirs : Bool) → o ≡ o' → p ≡ p' → joined greater o own p theirs ≡ joined greater o' own p' theirs
+  pub joined_along : (greater : V → V → V) (o o' p p' : Option V) (own theirs : Bool) → o ≡ o' → p ≡ p'
+      → joined greater o own p theirs ≡ joined greater o' own p' theirs
   joined_along greater o o' p p' own theirs e f = rw (e, f) refl
 
   -- what an entry holds, and what is held as an entry
-  pub held_from_item : (es : List (DotValue × V)) (i : ℕ) (e : DotValue × V) → Ascends dot_cmp es → i < length es → e ≡ get_or es i e → (d : DotValue) → e.0 ≡ d → HoldsDot (at_values es) d
+  pub held_from_item : (es : List (DotValue × V)) (i : ℕ) (e : DotValue × V) → Ascends dot_cmp es → i < length es → e ≡ get_or es i e → (d : DotValue) → e.0 ≡ d
+      → HoldsDot (at_values es) d
   unfolding at_values
-  held_from_item es i e s h is d same = (tt, subst (λ q. IsSome (at_values es tt q)) same (ap is_some (at_values-found es tt e.0 ∙ item_found dot_cmp dot_cmp_total es i e s h is)))
+  held_from_item es i e s h is d same =
+      (tt, subst (λ q. IsSome (at_values es tt q)) same (ap is_some (at_values-found es tt e.0 ∙ item_found dot_cmp dot_cmp_total es i e s h is)))
 
-  pub item_from_held : (P : DotValue × V → Type 0) (es : List (DotValue × V)) → All P es → (place : Unit {0}) (d : DotValue) → IsSome (at_values es place d) → (v : V) × P (d, v)
+  pub item_from_held : (P : DotValue × V → Type 0) (es : List (DotValue × V)) → All P es → (place : Unit {0}) (d : DotValue) → IsSome (at_values es place d)
+      → (v : V) × P (d, v)
   unfolding at_values
   item_from_held P es all place d h =
       let there = some_value (at_values es place d) h in

@@ -1,5 +1,6 @@
 -- What the deletion leaves.
-use Rattle.std.proofs.Common.{◌≡◌, ◌≢◌, ◌⊎◌, inl, inr, ℕ, suc, zero, ℤ, pos, negsuc, List, [], ◌∷◌, ◌++◌, map, flat_map, fold, codes, Bool, true, false, not, ◌&&◌, cond, Some, None, Ok, Err, Result, OnOk, IsTrue, refl, sym, ap, subst, subst₂, ◌∙◌, arith, append-nil, Contains, filter}
+use Rattle.std.proofs.Common.{◌≡◌, ◌≢◌, ◌⊎◌, inl, inr, ℕ, suc, zero, ℤ, pos, negsuc, List, [], ◌∷◌, ◌++◌, map, flat_map, fold, codes, Bool, true, false, not}
+use Rattle.std.proofs.Common.{◌&&◌, cond, Some, None, Ok, Err, Result, OnOk, IsTrue, refl, sym, ap, subst, subst₂, ◌∙◌, arith, append-nil, Contains, filter}
 use Rattle.std.specs.List.{list_all}
 use Rattle.std.specs.Ordering.{is_eq, is_ne, int_cmp}
 use Rattle.std.specs.declared.cmp.Ordering.{Ordering}
@@ -65,10 +66,12 @@ not_among (i ∷ ids) rows r id h there =
       | inr t ↦ not_among ids (without_rowid i rows) r id h t
     ]
 
-is_left : (ids : List ℤ) (rows : List Row) (r : Row) → Contains rows r → ((id : ℤ) → Contains ids id → has_rowid id r ≡ false) → Contains (without_all rows ids) r
+is_left : (ids : List ℤ) (rows : List Row) (r : Row) → Contains rows r → ((id : ℤ) → Contains ids id → has_rowid id r ≡ false)
+    → Contains (without_all rows ids) r
 is_left [] rows r h none = h
 is_left (id ∷ ids) rows r h none =
-    is_left ids (without_rowid id rows) r (in_filter (λ r. not (has_rowid id r)) rows r h (not_false (has_rowid id r) (none id (at_head id ids)))) (λ i there. none i (in_tail id ids i there))
+    is_left ids (without_rowid id rows) r (in_filter (λ r. not (has_rowid id r)) rows r h (not_false (has_rowid id r) (none id (at_head id ids))))
+    (λ i there. none i (in_tail id ids i there))
 
 -- ---- the test of a row
 
@@ -121,7 +124,8 @@ same_number : (n a : ℤ) → differs (Int n) a ≡ false → n ≡ a
 same_number n a h = exact_signed n a (equal_by (int_cmp n a) (sym (differs_is n a) ∙ h))
 
 has_number : (n id : ℤ) (r : Row) → rowid r ≡ Int n → has_rowid id r ≡ true → n ≡ id
-has_number n id r is h = exact_signed n id ((Equal-is (int_cmp n id)).0 (ap is_eq (sym (value_cmp-Int n id)) ∙ ap (λ v. is_eq (value_cmp v (Int id))) (sym is) ∙ h))
+has_number n id r is h = exact_signed n id ((Equal-is (int_cmp n id)).0 (ap is_eq (sym (value_cmp-Int n id))
+    ∙ ap (λ v. is_eq (value_cmp v (Int id))) (sym is) ∙ h))
 
 has_its_number : (n : ℤ) (r : Row) → rowid r ≡ Int n → has_rowid n r ≡ true
 has_its_number n r is = ap (λ v. is_eq (value_cmp v (Int n))) is ∙ ap is_eq (value_cmp-Int n n ∙ tied_itself int_cmp_total n)
@@ -154,7 +158,8 @@ module _ (first second third : ℤ) where
   never : (r : Row) (n : ℤ) → rowid r ≡ Int n → Contains places n → passes r ≡ true → ⊥
   never r n is there e =
       let each = passes_each r e in
-      let at : (a : ℤ) → a ≡ n → differs (column r 0) a ≡ true → ⊥ = λ a same h. false≢true (sym (not_itself a) ∙ ap (λ m. differs (Int m) a) same ∙ ap (λ v. differs v a) (sym is) ∙ h) in
+      let at : (a : ℤ) → a ≡ n → differs (column r 0) a ≡ true → ⊥ = λ a same h.
+      false≢true (sym (not_itself a) ∙ ap (λ m. differs (Int m) a) same ∙ ap (λ v. differs v a) (sym is) ∙ h) in
       elim (head_or_tail first (second ∷ third ∷ []) n there) [
         | inl e ↦ at first e each.0
         | inr more ↦ elim (head_or_tail second (third ∷ []) n more) [
@@ -190,7 +195,8 @@ module _ (first second third : ℤ) where
   picked [] = refl
   picked (r ∷ rows) = by (passes r) _ (picked rows)
     where
-      by : (b : Bool) (envs : List Env) → envs ≡ map env_of (filter passes rows) → cond b (env_of r ∷ []) [] ++ envs ≡ map env_of (cond b (r ∷ filter passes rows) (filter passes rows))
+      by : (b : Bool) (envs : List Env) → envs ≡ map env_of (filter passes rows)
+          → cond b (env_of r ∷ []) [] ++ envs ≡ map env_of (cond b (r ∷ filter passes rows) (filter passes rows))
       by true envs e = ap (λ more. env_of r ∷ more) e
       by false envs e = e
 
@@ -239,7 +245,8 @@ module _ (first second third : ℤ) where
 
     pub leaves : LeavesOnly old new places
     leaves = record {
-      left = λ place string there at. (at.0, (at.1.0, in_new at.1.0 (is_left ids (old 0) at.1.0 at.1.1 (stays_at place at.1.0 at.0 at.1.2 there)), at.1.2, at.1.3));
+      left = λ place string there at.
+          (at.0, (at.1.0, in_new at.1.0 (is_left ids (old 0) at.1.0 at.1.1 (stays_at place at.1.0 at.0 at.1.2 there)), at.1.2, at.1.3));
       gone = λ row place there is.
           let was = in_left row there in
           elim (passes_or row place is) [
@@ -250,12 +257,14 @@ module _ (first second third : ℤ) where
           ];
       known = λ string there.
           let found = from_map (λ (r : Row). bytes (column r 2)) (new 0) string there in
-          at_same (strings old) _ string found.2 (in_map (λ (r : Row). bytes (column r 2)) (old 0) found.0 (was_there ids (old 0) found.0 (in_left found.0 found.1)));
+          at_same (strings old) _ string found.2 (in_map (λ (r : Row). bytes (column r 2)) (old 0) found.0
+          (was_there ids (old 0) found.0 (in_left found.0 found.1)));
     }
 
   -- ---- the statement
 
-  pub deletes : (old : State) (text : List ℕ) (tally : Tally) (after : Database) → old.now.schema ≡ log_schema → Does old.step_limit (mode_of old) params old.now text None drop (Ok (tally, after))
+  pub deletes : (old : State) (text : List ℕ) (tally : Tally) (after : Database) → old.now.schema ≡ log_schema
+      → Does old.step_limit (mode_of old) params old.now text None drop (Ok (tally, after))
       → (after.schema ≡ log_schema) × LeavesOnly old.now.trees after.trees places
   deletes old text tally after has h =
       let db = old.now.trees in
@@ -269,14 +278,24 @@ module _ (first second third : ℤ) where
       (ap (λ (d : Database). d.schema) now, leaves db after.trees (ids_of queried.0) (picks db queried.0 (queried.1.answer Null)) rows)
 
   module _ (old new : State) (ready : IsReady old) where
-    pub dropped : (settled : (db : Trees) → IsTrue new.is_open → new.may_leave db → db ≡ new.committed.trees) (r : Result ℕ Error) → Executes drop_text params old new r
+    pub dropped : (settled : (db : Trees) → IsTrue new.is_open → new.may_leave db → db ≡ new.committed.trees) (r : Result ℕ Error)
+        → Executes drop_text params old new r
         → OnOk r (IsReady new × LeavesOnly old.now.trees new.now.trees places)
     dropped settled (Err e) h = tt
     dropped settled (Ok count) h =
-        let w : Writes old new None drop (statement_of drop_text (understood log_schema drop_text)) params count = runs_as drop_text params old new log_schema ready.schema drop drop_is drop_plain count h in
+        let w : Writes old new None drop (statement_of drop_text (understood log_schema drop_text)) params count =
+        runs_as drop_text params old new log_schema ready.schema drop drop_is drop_plain count h in
         let made = deletes old (statement_of drop_text (understood log_schema drop_text)) w.tally new.now ready.schema w.changed in
-        let is : new.committed ≡ new.now = rw ready.autocommit at w.shown.committed_is in
-        (record { schema = made.0; autocommit = w.shown.mode ∙ ready.autocommit; committed = is; crash = λ db may. settled db w.shown.is_open may ∙ ap (λ (d : Database). d.trees) is }, made.1)
+        let is : new.committed ≡ new.now = rw ready.autocommit at w.shown.committed_is in (
+          record {
+            schema = made.0;
+            autocommit = w.shown.mode ∙ ready.autocommit;
+            committed = is;
+            crash = λ db may. settled db w.shown.is_open may
+                ∙ ap (λ (d : Database). d.trees) is;
+          },
+          made.1,
+        )
 
     pub drop_commits : (db : Trees) → CommitsBy drop_text params old db → LeavesOnly old.now.trees db places
     unfolding CommitsBy

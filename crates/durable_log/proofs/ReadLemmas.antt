@@ -1,5 +1,6 @@
 -- What the one query shows.
-use Rattle.std.proofs.Common.{◌≡◌, ◌⊎◌, inl, inr, ℕ, ℤ, pos, negsuc, List, [], ◌∷◌, ◌++◌, map, flat_map, codes, Bool, true, false, Some, None, Ok, Err, Result, IfOk, OnOk, refl, sym, ap, subst, subst₂, ◌∙◌, append-nil}
+use Rattle.std.proofs.Common.{◌≡◌, ◌⊎◌, inl, inr, ℕ, ℤ, pos, negsuc, List, [], ◌∷◌, ◌++◌, map, flat_map, codes, Bool, true, false, Some, None, Ok, Err, Result}
+use Rattle.std.proofs.Common.{IfOk, OnOk, refl, sym, ap, subst, subst₂, ◌∙◌, append-nil}
 use Rattle.std.specs.List.Sorted.{IsPermutation}
 use Rattle.std.proofs.lemmas.List.Sorted.{IsPermutation-map}
 use Rattle.sqlite.specs.declared.types.Value.TheVariants.{Int, Null}
@@ -33,7 +34,8 @@ query = record {
   offset = lit (Int (pos 0));
 }
 
-select_is : (command_of (understood log_schema select_text) ≡ Select (record { lets = []; body = query }) (codes "bytes" ∷ [])) × (reads_listing log_schema select_text ≡ false)
+select_is : (command_of (understood log_schema select_text) ≡ Select (record { lets = []; body = query }) (codes "bytes" ∷ []))
+    × (reads_listing log_schema select_text ≡ false)
 unfolding understood everything
 select_is = (refl, refl)
 
@@ -62,10 +64,12 @@ of_rows (o ∷ os) = ap (λ l. shown_string o ∷ l) (of_rows os)
 pub reads : (old new : State) (rows : List Row) → old.now.schema ≡ log_schema → Shown select_text [] old new rows
     → IsPermutation (strings old.now.trees) (map (λ (r : Row). bytes (column r 0)) rows)
 reads old new rows has h =
-    let a : IsAnswer query (overlay old.now.trees []) [] rows = (reads_as select_text [] old new log_schema has _ select_is.0 select_plain select_is.1 rows h).answer Null in
+    let a : IsAnswer query (overlay old.now.trees []) [] rows =
+    (reads_as select_text [] old new log_schema has _ select_is.0 select_plain select_is.1 rows h).answer Null in
     let staged : a.staged ≡ map env_of (old.now.trees 0) = a.grouped ∙ envs (old.now.trees 0) in
     let kept : map shown_string a.kept ≡ strings old.now.trees = ap (map shown_string) (a.distinct ∙ ap (map (output query)) staged) ∙ maps (old.now.trees 0) in
-    let given : map (λ (r : Row). bytes (column r 0)) rows ≡ map shown_string a.ordered = ap (map (λ (r : Row). bytes (column r 0))) a.shown ∙ of_rows a.ordered in
+    let given : map (λ (r : Row). bytes (column r 0)) rows ≡ map shown_string a.ordered = ap (map (λ (r : Row). bytes (column r 0))) a.shown
+    ∙ of_rows a.ordered in
     subst₂ IsPermutation kept (sym given) (IsPermutation-map shown_string _ _ a.same)
 
 pub stays : (old new : State) (rows : List Row) → old.now.schema ≡ log_schema → Shown select_text [] old new rows → IsUnchanged old new

@@ -17,10 +17,12 @@ pub record IsGrown (old new : Trees) (news : List (List ℕ)) : Type 0 where
 pub grown_none : (old : Trees) (news : List (List ℕ)) → IsGrown old old news
 grown_none old news = record { known = λ string there. inl there; all = λ string there. there }
 
-pub grown_more : (old mid new : Trees) (news : List (List ℕ)) (string : List ℕ) → IsGrown old mid news → Contains news string → Gains mid new string → IsGrown old new news
+pub grown_more : (old mid new : Trees) (news : List (List ℕ)) (string : List ℕ) → IsGrown old mid news → Contains news string → Gains mid new string
+    → IsGrown old new news
 grown_more old mid new news string grown is gains = record {
   known = λ other there.
-      elim (head_or_tail string (strings mid) other (Contains-permutation (strings new) (string ∷ strings mid) other (IsPermutation-sym (string ∷ strings mid) (strings new) gains) there)) [
+      elim (head_or_tail string (strings mid) other (Contains-permutation (strings new) (string ∷ strings mid) other
+      (IsPermutation-sym (string ∷ strings mid) (strings new) gains) there)) [
         | inl same ↦ inr (at_same news string other same is)
         | inr before ↦ grown.known other before
       ];
@@ -34,7 +36,8 @@ holds_at : (db : Trees) (place : ℤ) (string : List ℕ) → IsAt db place stri
 holds_at db place string at = at_same (strings db) _ string at.1.3 (in_map (λ (r : Row). bytes (column r 2)) (db 0) at.1.0 at.1.1)
 
 module _ (old mid new : Trees) (a b c : List ℕ) (i j k : ℤ) where
-  pub replaced : IsGrown old mid (a ∷ b ∷ c ∷ []) → IsAt mid i a → IsAt mid j b → IsAt mid k c → LeavesOnly mid new (i ∷ j ∷ k ∷ []) → IsReplaced old new (a ∷ b ∷ c ∷ [])
+  pub replaced : IsGrown old mid (a ∷ b ∷ c ∷ []) → IsAt mid i a → IsAt mid j b → IsAt mid k c → LeavesOnly mid new (i ∷ j ∷ k ∷ [])
+      → IsReplaced old new (a ∷ b ∷ c ∷ [])
   replaced grown first second third leaves = record {
     known = λ string there. grown.known string (leaves.known string there);
     whole = λ string is. elim (head_or_tail a (b ∷ c ∷ []) string is) [
@@ -65,12 +68,15 @@ module _ (start : State) (news : List (List ℕ)) where
   pub first_of : (s : State) (string : List ℕ) → Contains news string → Survives start s (λ db. Gains start.now.trees db string) → Survives start s Between
   first_of s string is survives =
       survives_weaker start s (λ db. Gains start.now.trees db string) Between
-      (λ clean db gains. grown_between start.now.trees db news (grown_more start.now.trees start.now.trees db news string (grown_none start.now.trees news) is gains)) survives
+      (λ clean db gains. grown_between start.now.trees db news
+      (grown_more start.now.trees start.now.trees db news string (grown_none start.now.trees news) is gains)) survives
 
-  pub next_of : (s t : State) (string : List ℕ) → Contains news string → Survives start s Between → (HasCleanDisk s → Grows s) → Survives s t (λ db. Gains s.now.trees db string) → Survives start t Between
+  pub next_of : (s t : State) (string : List ℕ) → Contains news string → Survives start s Between → (HasCleanDisk s → Grows s)
+      → Survives s t (λ db. Gains s.now.trees db string) → Survives start t Between
   next_of s t string is before grows survives =
       survives_then start s t Between (λ db. Gains s.now.trees db string) Between (λ clean db between. between)
-      (λ clean db gains. grown_between start.now.trees db news (grown_more start.now.trees s.now.trees db news string (grows (omega (arith, survives.clean))) is gains)) before survives
+      (λ clean db gains. grown_between start.now.trees db news
+      (grown_more start.now.trees s.now.trees db news string (grows (omega (arith, survives.clean))) is gains)) before survives
 
   -- the strings that came are some of these, now and at any moment
   abbrev pub Came : State → Type 0
@@ -105,10 +111,13 @@ module _ (one two three : State) (x y z : List ℕ) (a b c i j k : ℤ) where
       )
 
 module _ (start s t : State) (a b c : List ℕ) (i j k : ℤ) where
-  pub last_of : (HasCleanDisk s → IsGrown start.now.trees s.now.trees (a ∷ b ∷ c ∷ [])) → (HasCleanDisk s → IsAt s.now.trees i a × IsAt s.now.trees j b × IsAt s.now.trees k c) → Survives start s (Between start (a ∷ b ∷ c ∷ []))
+  pub last_of : (HasCleanDisk s → IsGrown start.now.trees s.now.trees (a ∷ b ∷ c ∷ []))
+      → (HasCleanDisk s → IsAt s.now.trees i a × IsAt s.now.trees j b × IsAt s.now.trees k c) → Survives start s (Between start (a ∷ b ∷ c ∷ []))
       → Survives s t (λ db. LeavesOnly s.now.trees db (i ∷ j ∷ k ∷ [])) → Survives start t (Between start (a ∷ b ∷ c ∷ []))
   last_of grown at before survives =
-      survives_then start s t (Between start (a ∷ b ∷ c ∷ [])) (λ db. LeavesOnly s.now.trees db (i ∷ j ∷ k ∷ [])) (Between start (a ∷ b ∷ c ∷ [])) (λ clean db between. between)
+      survives_then start s t (Between start (a ∷ b ∷ c ∷ [])) (λ db. LeavesOnly s.now.trees db (i ∷ j ∷ k ∷ [])) (Between start (a ∷ b ∷ c ∷ []))
+      (λ clean db between. between)
       (λ clean db leaves.
       let there = at (omega (arith, survives.clean)) in
-      replaced_between start.now.trees db (a ∷ b ∷ c ∷ []) (replaced start.now.trees s.now.trees db a b c i j k (grown (omega (arith, survives.clean))) there.0 there.1 there.2 leaves)) before survives
+      replaced_between start.now.trees db (a ∷ b ∷ c ∷ [])
+      (replaced start.now.trees s.now.trees db a b c i j k (grown (omega (arith, survives.clean))) there.0 there.1 there.2 leaves)) before survives

@@ -3,7 +3,8 @@ use Rattle.std.proofs.Common.{◌≡◌, [], ◌∷◌, Some, codes}
 use Rattle.sqlite.specs.Table.{Table}
 use Rattle.durable_log.specs.Log.{seq_column, bytes_column, log_table, IsPlainTable}
 
-pub is_log_by : (t : Table) → (t.name ≡ codes "log") × (t.tree ≡ 0) → (t.key ≡ Some 0) × (t.primary ≡ 0 ∷ []) → t.columns ≡ seq_column ∷ bytes_column ∷ [] → IsPlainTable t → t ≡ log_table
+pub is_log_by : (t : Table) → (t.name ≡ codes "log") × (t.tree ≡ 0) → (t.key ≡ Some 0) × (t.primary ≡ 0 ∷ []) → t.columns ≡ seq_column ∷ bytes_column ∷ []
+    → IsPlainTable t → t ≡ log_table
 is_log_by t name key columns plain = λ i. record {
   name = name.0 i;
   tree = name.1 i;

@@ -1,5 +1,6 @@
 -- What a change of one value leaves of a list, of a slot, of a branch and of a map.
-use Rattle.std.proofs.Common.{◌≡◌, ℕ, suc, ◌+◌, ◌<◌, ◌≤◌, List, [], ◌∷◌, length, get_or, set, Bool, true, false, cond, T, Some, Ok, Err, arith, refl, sym, ◌∙◌, ap, subst}
+use Rattle.std.proofs.Common.{◌≡◌, ℕ, suc, ◌+◌, ◌<◌, ◌≤◌, List, [], ◌∷◌, length, get_or, set, Bool, true, false, cond, T, Some, Ok, Err, arith, refl, sym, ◌∙◌}
+use Rattle.std.proofs.Common.{ap, subst}
 use Rattle.std.specs.Prelude.{◌&&◌, is_some, None, IsSomeAnd, OnOk, OnErr}
 use Rattle.std.specs.declared.cmp.Ordering.{Ordering}
 use Rattle.std.specs.declared.cmp.Ordering.TheVariants.{Less, Equal, Greater}
@@ -39,7 +40,8 @@ module _ {V : Type 0} (w : List ℕ) where
   spot_within [] f = absurd (cc f)
   spot_within (e ∷ es) f = by (eq_by_cmp bytes_cmp w e.0) (spot_within es) f
     where
-      by : (b : Bool) → (is_some (find bytes_cmp w es) ≡ true → spot w es < length es) → is_some (cond b (Some e.1) (find bytes_cmp w es)) ≡ true → cond b 0 (suc (spot w es)) < suc (length es)
+      by : (b : Bool) → (is_some (find bytes_cmp w es) ≡ true → spot w es < length es) → is_some (cond b (Some e.1) (find bytes_cmp w es)) ≡ true
+          → cond b 0 (suc (spot w es)) < suc (length es)
       by true rest t = omega arith
       by false rest t = let h = rest t in omega arith
 
@@ -47,7 +49,8 @@ module _ {V : Type 0} (w : List ℕ) where
   find_spot d [] f = absurd (cc f)
   find_spot d (e ∷ es) f = by (eq_by_cmp bytes_cmp w e.0) (find_spot d es) f
     where
-      by : (b : Bool) → (is_some (find bytes_cmp w es) ≡ true → find bytes_cmp w es ≡ Some (get_or es (spot w es) d).1) → is_some (cond b (Some e.1) (find bytes_cmp w es)) ≡ true
+      by : (b : Bool) → (is_some (find bytes_cmp w es) ≡ true → find bytes_cmp w es ≡ Some (get_or es (spot w es) d).1)
+          → is_some (cond b (Some e.1) (find bytes_cmp w es)) ≡ true
           → cond b (Some e.1) (find bytes_cmp w es) ≡ Some (get_or (e ∷ es) (cond b 0 (suc (spot w es))) d).1
       by true rest t = refl
       by false rest t = rest t
@@ -56,21 +59,24 @@ module _ {V : Type 0} (w : List ℕ) where
   tied_spot d [] f = absurd (cc f)
   tied_spot d (e ∷ es) f = by (eq_by_cmp bytes_cmp w e.0) refl (tied_spot d es) f
     where
-      by : (b : Bool) → eq_by_cmp bytes_cmp w e.0 ≡ b → (is_some (find bytes_cmp w es) ≡ true → eq_by_cmp bytes_cmp w (get_or es (spot w es) d).0 ≡ true) → is_some (cond b (Some e.1) (find bytes_cmp w es)) ≡ true
+      by : (b : Bool) → eq_by_cmp bytes_cmp w e.0 ≡ b → (is_some (find bytes_cmp w es) ≡ true → eq_by_cmp bytes_cmp w (get_or es (spot w es) d).0 ≡ true)
+          → is_some (cond b (Some e.1) (find bytes_cmp w es)) ≡ true
           → eq_by_cmp bytes_cmp w (get_or (e ∷ es) (cond b 0 (suc (spot w es))) d).0 ≡ true
       by true is rest t = is
       by false is rest t = rest t
 
   put_step : (v : V) (e : List ℕ × V) (es : List (List ℕ × V)) (o : Ordering) → bytes_cmp w e.0 ≡ o
       → length (by_order o ((w, v) ∷ e ∷ es) ((e.0, v) ∷ es) (e ∷ put bytes_cmp w v es)) ≡ suc (length es)
-      → (is_some (find bytes_cmp w es) ≡ true → put bytes_cmp w v es ≡ set es (spot w es) (w, v)) → is_some (cond (is_eq o) (Some e.1) (find bytes_cmp w es)) ≡ true
+      → (is_some (find bytes_cmp w es) ≡ true → put bytes_cmp w v es ≡ set es (spot w es) (w, v))
+      → is_some (cond (is_eq o) (Some e.1) (find bytes_cmp w es)) ≡ true
       → by_order o ((w, v) ∷ e ∷ es) ((e.0, v) ∷ es) (e ∷ put bytes_cmp w v es) ≡ set (e ∷ es) (cond (is_eq o) 0 (suc (spot w es))) (w, v)
   put_step v e es Less p more rest t = absurd (omega (arith, more))
   put_step v e es Equal p more rest t = let same = tied_same w e.0 (ap is_eq p) in λ i. (sym same i, v) ∷ es
   put_step v e es Greater p more rest t = ap (λ l. e ∷ l) (rest t)
 
   -- in an ascending list a put at a word that is there is a write at its place
-  pub put_spot : (v : V) (es : List (List ℕ × V)) → T (is_sorted bytes_cmp es) → is_some (find bytes_cmp w es) ≡ true → put bytes_cmp w v es ≡ set es (spot w es) (w, v)
+  pub put_spot : (v : V) (es : List (List ℕ × V)) → T (is_sorted bytes_cmp es) → is_some (find bytes_cmp w es) ≡ true
+      → put bytes_cmp w v es ≡ set es (spot w es) (w, v)
   put_spot v [] s f = absurd (cc f)
   put_spot v (e ∷ es) s f =
       let more = length-put bytes_cmp nat_list_cmp_total w v (e ∷ es) s ∙ ap (λ b. cond b (suc (length es)) (suc (length es) + 1)) f in
@@ -81,19 +87,23 @@ module _ {V : Type 0} (w : List ℕ) where
 
 -- ---- a list of keys with equal hashes
 
-pub list_within : {V A : Type 0} (hash : ℕ) (key : List ℕ) (n : ℕ) (es : List (Arc (Entry V A) A)) (P : V → Type 0) → IsSomeAnd (find bytes_cmp (hash ∷ key) (listed es)) P → n ≡ spot (hash ∷ key) (listed es) → n < length es
+pub list_within : {V A : Type 0} (hash : ℕ) (key : List ℕ) (n : ℕ) (es : List (Arc (Entry V A) A)) (P : V → Type 0)
+    → IsSomeAnd (find bytes_cmp (hash ∷ key) (listed es)) P → n ≡ spot (hash ∷ key) (listed es) → n < length es
 list_within {V} {A} hash key n es P there place =
     subst (λ k. k < length es) (sym place)
-    (subst (λ k. spot (hash ∷ key) (listed es) < k) (length-map es (λ (x : Arc (Entry V A) A). entry_at 0 x.value)) (spot_within (hash ∷ key) (listed es) (there_is (find bytes_cmp (hash ∷ key) (listed es)) P there)))
+    (subst (λ k. spot (hash ∷ key) (listed es) < k) (length-map es (λ (x : Arc (Entry V A) A). entry_at 0 x.value))
+    (spot_within (hash ∷ key) (listed es) (there_is (find bytes_cmp (hash ∷ key) (listed es)) P there)))
 
-module _ {V A : Type 0} (hash : ℕ) (key : List ℕ) (n : ℕ) (es : List (Arc (Entry V A) A)) (e : Arc (Entry V A) A) (P : V → Type 0) (there : IsSomeAnd (find bytes_cmp (hash ∷ key) (listed es)) P)
+module _ {V A : Type 0} (hash : ℕ) (key : List ℕ) (n : ℕ) (es : List (Arc (Entry V A) A)) (e : Arc (Entry V A) A) (P : V → Type 0)
+    (there : IsSomeAnd (find bytes_cmp (hash ∷ key) (listed es)) P)
     (place : n ≡ spot (hash ∷ key) (listed es)) (is : e ≡ get_or es n e) where
   is_there : is_some (find bytes_cmp (hash ∷ key) (listed es)) ≡ true
   is_there = there_is (find bytes_cmp (hash ∷ key) (listed es)) P there
 
   here : get_or (listed es) (spot (hash ∷ key) (listed es)) (entry_at 0 e.value) ≡ entry_at 0 e.value
   here =
-      ap (λ k. get_or (listed es) k (entry_at 0 e.value)) (sym place) ∙ get_or-map (λ (x : Arc (Entry V A) A). entry_at 0 x.value) es n e (entry_at 0 e.value) (list_within hash key n es P there place)
+      ap (λ k. get_or (listed es) k (entry_at 0 e.value)) (sym place)
+      ∙ get_or-map (λ (x : Arc (Entry V A) A). entry_at 0 x.value) es n e (entry_at 0 e.value) (list_within hash key n es P there place)
       ∙ ap (λ (x : Arc (Entry V A) A). entry_at 0 x.value) (sym is)
 
   finds : find bytes_cmp (hash ∷ key) (listed es) ≡ Some e.value.value
@@ -103,12 +113,14 @@ module _ {V A : Type 0} (hash : ℕ) (key : List ℕ) (n : ℕ) (es : List (Arc 
   pub list_fits : P e.value.value
   list_fits = subst (λ o. IsSomeAnd o P) finds there
 
-  pub list_changed : (becomes : V → V → Type 0) (f : Arc (Entry V A) A) → T (is_sorted bytes_cmp (listed es)) → f.value.hash ≡ e.value.hash → f.value.key ≡ e.value.key → becomes e.value.value f.value.value
+  pub list_changed : (becomes : V → V → Type 0) (f : Arc (Entry V A) A) → T (is_sorted bytes_cmp (listed es)) → f.value.hash ≡ e.value.hash
+      → f.value.key ≡ e.value.key → becomes e.value.value f.value.value
       → IsChanged becomes (hash ∷ key) (listed es) (listed (set es n f))
   list_changed becomes f sorted same_hash same_key change =
       let tied : eq_by_cmp bytes_cmp (hash ∷ key) (e.value.hash ∷ e.value.key) ≡ true =
       subst (λ (x : List ℕ × V). eq_by_cmp bytes_cmp (hash ∷ key) x.0 ≡ true) here (tied_spot (hash ∷ key) (entry_at 0 e.value) (listed es) is_there) in
-      let word_is : f.value.hash ∷ f.value.key ≡ hash ∷ key = (λ i. same_hash i ∷ same_key i) ∙ sym (tied_same (hash ∷ key) (e.value.hash ∷ e.value.key) tied) in
+      let word_is : f.value.hash ∷ f.value.key ≡ hash ∷ key = (λ i. same_hash i ∷ same_key i)
+      ∙ sym (tied_same (hash ∷ key) (e.value.hash ∷ e.value.key) tied) in
       record {
         old = e.value.value;
         value = f.value.value;
@@ -119,14 +131,17 @@ module _ {V A : Type 0} (hash : ℕ) (key : List ℕ) (n : ℕ) (es : List (Arc 
             ∙ sym (put_spot (hash ∷ key) f.value.value (listed es) sorted is_there);
       }
 
-  pub list_same : (f : Arc (Entry V A) A) → f.value.hash ≡ e.value.hash → f.value.key ≡ e.value.key → f.value.value ≡ e.value.value → listed (set es n f) ≡ listed es
+  pub list_same : (f : Arc (Entry V A) A) → f.value.hash ≡ e.value.hash → f.value.key ≡ e.value.key → f.value.value ≡ e.value.value
+      → listed (set es n f) ≡ listed es
   list_same f same_hash same_key same_value =
-      map-set_same (λ (x : Arc (Entry V A) A). entry_at 0 x.value) es n f e ((λ i. (same_hash i ∷ same_key i, same_value i)) ∙ ap (λ (x : Arc (Entry V A) A). entry_at 0 x.value) is)
+      map-set_same (λ (x : Arc (Entry V A) A). entry_at 0 x.value) es n f e ((λ i. (same_hash i ∷ same_key i, same_value i))
+      ∙ ap (λ (x : Arc (Entry V A) A). entry_at 0 x.value) is)
 
 -- ---- a slot
 
 -- a node that is changed has as many entries
-pub many_fits : {V T E : Type 0} (becomes : V → V → Type 0) (r : Result T E) (below : ℕ) (w : List ℕ) (h k : ℕ) (es fs : List (List ℕ × V)) → k ≡ h → OnOk r (IsChanged becomes w es fs) → OnErr r (fs ≡ es)
+pub many_fits : {V T E : Type 0} (becomes : V → V → Type 0) (r : Result T E) (below : ℕ) (w : List ℕ) (h k : ℕ) (es fs : List (List ℕ × V)) → k ≡ h
+    → OnOk r (IsChanged becomes w es fs) → OnErr r (fs ≡ es)
     → (h ≡ below) × (2 ≤ length es) → (k ≡ below) × (2 ≤ length fs)
 many_fits becomes (Ok x) below w h k es fs height ok err fits =
     (height ∙ fits.0, let grows = length_put_ge w ok.value es in let same = ap length ok.put_in in let old = fits.1 in omega arith)
@@ -139,13 +154,16 @@ module _ {V M A : Type 0} (below : ℕ) (hash : ℕ) (key : List ℕ) (m : ℕ) 
   child_find : find bytes_cmp (word (suc below) hash key) (fan (children below ss)) ≡ find bytes_cmp (word below hash key) (child below s).1
   child_find = find-fan 0 (digit below hash) (word below hash key) (children below ss) b.rise ∙ ap (λ c. find bytes_cmp (word below hash key) c.1) (sym here)
 
-  pub child_there : (P : V → Type 0) → IsSomeAnd (find bytes_cmp (word (suc below) hash key) (fan (children below ss))) P → IsSomeAnd (find bytes_cmp (word below hash key) (child below s).1) P
+  pub child_there : (P : V → Type 0) → IsSomeAnd (find bytes_cmp (word (suc below) hash key) (fan (children below ss))) P
+      → IsSomeAnd (find bytes_cmp (word below hash key) (child below s).1) P
   child_there P there = subst (λ o. IsSomeAnd o P) child_find there
 
   pub child_sorted : T (is_sorted bytes_cmp (fan (children below ss))) → T (is_sorted bytes_cmp (child below s).1)
-  child_sorted sorted = subst (λ (l : List (List ℕ × V)). T (is_sorted bytes_cmp l)) (sym (ap (λ c. c.1) here)) (sorted-at (digit below hash) (children below ss) sorted)
+  child_sorted sorted = subst (λ (l : List (List ℕ × V)). T (is_sorted bytes_cmp l)) (sym (ap (λ c. c.1) here))
+      (sorted-at (digit below hash) (children below ss) sorted)
 
-  pub branch_changed : (becomes : V → V → Type 0) (count j n : ℕ) (t : Bool) (s' : Slot V M A) → IsSeat (digit below hash) (children below ss) count j n t → t ≡ true → s ≡ get_or ss n s
+  pub branch_changed : (becomes : V → V → Type 0) (count j n : ℕ) (t : Bool) (s' : Slot V M A) → IsSeat (digit below hash) (children below ss) count j n t
+      → t ≡ true → s ≡ get_or ss n s
       → (child below s').0 ≡ (child below s).0 → IsChanged becomes (word below hash key) (child below s).1 (child below s').1 → StandsBelow below s'
       → IsChanged becomes (word (suc below) hash key) (fan (children below ss)) (fan (children below (set ss n s'))) × IsBranch below m (set ss n s')
   branch_changed becomes count j n t s' seat taken at_s index changed fits =

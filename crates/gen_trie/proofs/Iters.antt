@@ -1,5 +1,6 @@
 -- What is left of a walk as it goes on.
-use Rattle.std.proofs.Common.{◌≡◌, ℕ, zero, suc, ◌+◌, ◌-◌, ◌<◌, ◌≤◌, List, [], ◌∷◌, ◌++◌, length, get_or, set, Vec, Some, None, arith, refl, sym, ◌∙◌, ap, subst}
+use Rattle.std.proofs.Common.{◌≡◌, ℕ, zero, suc, ◌+◌, ◌-◌, ◌<◌, ◌≤◌, List, [], ◌∷◌, ◌++◌, length, get_or, set, Vec, Some, None, arith, refl, sym, ◌∙◌, ap}
+use Rattle.std.proofs.Common.{subst}
 use Rattle.std.specs.Borrow.{Bor}
 use Rattle.std.specs.List.{All}
 use Rattle.std.specs.declared.sync.Arc.{Arc}
@@ -34,21 +35,25 @@ module _ {V M A : Type 0} where
   -- the entries of a branch are those of its children
   fan_left : (below : ℕ) (ss : List (Slot V M A)) → by_key (suc below) (fan (children below ss)) ≡ slots_left below ss
   fan_left below [] = refl
-  fan_left below (s ∷ ss) = by_key-under below (child below s).0 (child below s).1 (fan (children below ss)) ∙ ap (λ l. by_key below (child below s).1 ++ l) (fan_left below ss)
+  fan_left below (s ∷ ss) = by_key-under below (child below s).0 (child below s).1 (fan (children below ss))
+      ∙ ap (λ l. by_key below (child below s).1 ++ l) (fan_left below ss)
 
-  first_left : (below : ℕ) (s : Slot V M A) (ss ts : List (Slot V M A)) (rest : List (List ℕ × V)) → ts ≡ s ∷ ss → slots_left below ts ++ rest ≡ by_key below (child below s).1 ++ (slots_left below ss ++ rest)
+  first_left : (below : ℕ) (s : Slot V M A) (ss ts : List (Slot V M A)) (rest : List (List ℕ × V)) → ts ≡ s ∷ ss
+      → slots_left below ts ++ rest ≡ by_key below (child below s).1 ++ (slots_left below ss ++ rest)
   first_left below s ss ts rest is = ap (λ l. slots_left below l ++ rest) is ∙ append_assoc (by_key below (child below s).1) (slots_left below ss) rest
 
   -- the first child of the lowest branch that has one left
   pub next_slot_is : (from k n : ℕ) (ls : List (Bor (List (Slot V M A)))) (d others : Bor (List (Slot V M A))) (s : Slot V M A) → n ≡ from + k → k < length ls
       → (get_or ls k d).now ≡ s ∷ others.now → LevelsStand from ls → NoneBelow k ls
-      → ((levels_left from ls ≡ by_key n (child n s).1 ++ levels_left from (set ls k others)) × StandsBelow n s × NoneBelow k (set ls k others)) × LevelsStand from (set ls k others)
+      → ((levels_left from ls ≡ by_key n (child n s).1 ++ levels_left from (set ls k others)) × StandsBelow n s × NoneBelow k (set ls k others))
+      × LevelsStand from (set ls k others)
   next_slot_is from k n [] d others s e h first stand past = absurd (omega arith)
   next_slot_is from zero n (x ∷ xs) d others s e h first stand past =
       let same : n ≡ from = omega arith in
       let fits = subst (All (StandsBelow from)) first stand.0 in (
         (
-          first_left from s others.now x.now (levels_left (suc from) xs) first ∙ ap (λ m. by_key m (child m s).1 ++ (slots_left from others.now ++ levels_left (suc from) xs)) (sym same),
+          first_left from s others.now x.now (levels_left (suc from) xs) first
+              ∙ ap (λ m. by_key m (child m s).1 ++ (slots_left from others.now ++ levels_left (suc from) xs)) (sym same),
           subst (λ m. StandsBelow m s) (sym same) (All-head (StandsBelow from) s others.now fits),
           tt,
         ),
@@ -73,7 +78,8 @@ module _ {V M A : Type 0} where
   left_at from k n [] put e h fits stand past = absurd (omega arith)
   left_at from zero n (x ∷ xs) put e h fits stand past =
       let same : n ≡ from = omega arith in (
-        ap (λ m. slots_left m put.now ++ levels_left (suc from) xs) (sym same) ∙ ap (λ y. slots_left n put.now ++ (slots_left from y ++ levels_left (suc from) xs)) (sym past.0),
+        ap (λ m. slots_left m put.now ++ levels_left (suc from) xs) (sym same)
+            ∙ ap (λ y. slots_left n put.now ++ (slots_left from y ++ levels_left (suc from) xs)) (sym past.0),
         (subst (λ m. All (StandsBelow m) put.now) same fits, stand.1),
         tt,
       )
@@ -99,7 +105,8 @@ module _ {V M A : Type 0} (below : ℕ) (s : Slot V M A) (i : ℕ) (n : Arc (Nod
 
   module _ (lower m : ℕ) (v : Vec (Slot V M A) A) (branch : shape ≡ Branch lower m v) (holds : IsCanonical shape) where
     branch_is : (suc lower ≡ below) × (2 ≤ length (fan (children lower v.items))) × ((child below s).1 ≡ fan (children lower v.items))
-    branch_is = subst (λ y. ((height_and_entries y).0 ≡ below) × (2 ≤ length (height_and_entries y).1) × ((child below s).1 ≡ (height_and_entries y).1)) branch node_is
+    branch_is = subst (λ y. ((height_and_entries y).0 ≡ below) × (2 ≤ length (height_and_entries y).1) × ((child below s).1 ≡ (height_and_entries y).1))
+        branch node_is
 
     pub lower_is : suc lower ≡ below
     lower_is = branch_is.0
@@ -142,7 +149,8 @@ module _ {V M A : Type 0} (below : ℕ) (s : Slot V M A) (i : ℕ) (n : Arc (Nod
 
   module _ (v : Vec (Arc (Entry V A) A) A) (keys : shape ≡ Keys v) where
     keys_are : (0 ≡ below) × (2 ≤ length (listed v.items)) × ((child below s).1 ≡ listed v.items)
-    keys_are = subst (λ y. ((height_and_entries y).0 ≡ below) × (2 ≤ length (height_and_entries y).1) × ((child below s).1 ≡ (height_and_entries y).1)) keys node_is
+    keys_are = subst (λ y. ((height_and_entries y).0 ≡ below) × (2 ≤ length (height_and_entries y).1) × ((child below s).1 ≡ (height_and_entries y).1))
+        keys node_is
 
     pub no_empty_list : (items : List (Arc (Entry V A) A)) → items ≡ v.items → length items ≡ 0 → ⊥
     no_empty_list items is none = no_items v.items (ap length (sym is) ∙ none) keys_are.1
@@ -156,9 +164,11 @@ module _ {V A : Type 0} where
   pub left_after : (es : List (Arc (Entry V A) A)) (new slots old root : List (List ℕ × V)) → es ≡ [] → new ≡ slots ++ old
       → by_key 0 (listed es) ++ (new ++ root) ≡ slots ++ (by_key 0 (listed es) ++ (old ++ root))
   left_after es new slots old root none is =
-      ap (λ l. by_key 0 (listed l) ++ (new ++ root)) none ∙ ap (λ l. l ++ root) is ∙ append_assoc slots old root ∙ ap (λ l. slots ++ (by_key 0 (listed l) ++ (old ++ root))) (sym none)
+      ap (λ l. by_key 0 (listed l) ++ (new ++ root)) none ∙ ap (λ l. l ++ root) is ∙ append_assoc slots old root
+      ∙ ap (λ l. slots ++ (by_key 0 (listed l) ++ (old ++ root))) (sym none)
 
-  pub entered_one : {M : Type 0} (below i : ℕ) (s : Slot V M A) (e : Arc (Entry V A) A) (rest : List (List ℕ × V)) → s ≡ One i e → by_key below (child below s).1 ++ rest ≡ item e.value ∷ rest
+  pub entered_one : {M : Type 0} (below i : ℕ) (s : Slot V M A) (e : Arc (Entry V A) A) (rest : List (List ℕ × V)) → s ≡ One i e
+      → by_key below (child below s).1 ++ rest ≡ item e.value ∷ rest
   entered_one below i s e rest is =
       ap (λ t. by_key below (child below t).1 ++ rest) is ∙ (λ k. (key_in-word below e.value.hash e.value.key k, e.value.value) ∷ rest)
 
@@ -176,12 +186,14 @@ module _ {V M A : Type 0} where
   all_past from zero (x ∷ xs) e past = absurd (omega arith)
   all_past from (suc n) (x ∷ xs) e past = ap (λ l. slots_left from l ++ levels_left (suc from) xs) past.0 ∙ all_past (suc from) n xs (omega arith) past.1
 
-  module _ (height : ℕ) (list : List (Arc (Entry V A) A)) (ls : List (Bor (List (Slot V M A)))) (none : list ≡ []) (seven : length ls ≡ 7) (past : NoneBelow 7 ls) where
+  module _ (height : ℕ) (list : List (Arc (Entry V A) A)) (ls : List (Bor (List (Slot V M A)))) (none : list ≡ []) (seven : length ls ≡ 7)
+      (past : NoneBelow 7 ls) where
     nothing_before : (x : List (List ℕ × V)) → by_key 0 (listed list) ++ (levels_left 0 ls ++ x) ≡ x
     nothing_before x = (λ k. by_key 0 (listed (none k)) ++ (all_past 0 7 ls seven past k ++ x))
 
     -- the walk goes on at the root, once nothing else is left
-    pub root_first : (root taken : Option (Bor (Slot V M A))) (slot : Bor (Slot V M A)) (y : List ℕ × V) (new : List (List ℕ × V)) → root ≡ Some slot → taken ≡ None
+    pub root_first : (root taken : Option (Bor (Slot V M A))) (slot : Bor (Slot V M A)) (y : List ℕ × V) (new : List (List ℕ × V)) → root ≡ Some slot
+        → taken ≡ None
         → by_key height (child height slot.now).1 ++ (by_key 0 (listed list) ++ (levels_left 0 ls ++ root_left height taken)) ≡ y ∷ new
         → by_key 0 (listed list) ++ (levels_left 0 ls ++ root_left height root) ≡ y ∷ new
     root_first root taken slot y new some gone first =
@@ -190,17 +202,21 @@ module _ {V M A : Type 0} where
 
 -- ---- the whole
 
-module _ {V M A : Type 0} (f : List ℕ → ℕ) (root : Option (Slot V M A)) (count : ℕ) (trie : IsTrie f root count) (all : List (List ℕ × V)) (is : all ≡ by_key 7 (root_entries root)) where
+module _ {V M A : Type 0} (f : List ℕ → ℕ) (root : Option (Slot V M A)) (count : ℕ) (trie : IsTrie f root count) (all : List (List ℕ × V))
+    (is : all ≡ by_key 7 (root_entries root)) where
   iter_is : all ≡ walk f (as_map (root_entries root))
   iter_is = is ∙ sym (walk_is f (root_entries root) trie.hashed (let r = trie.root_is in r.sorted))
 
-module _ {V M A H : Type 0} (hash_of : H → List ℕ → ℕ) (hash : H) (root : Option (Slot V M A)) (count generation : ℕ) (seen : Shown H V) (all : List (List ℕ × V)) where
+module _ {V M A H : Type 0} (hash_of : H → List ℕ → ℕ) (hash : H) (root : Option (Slot V M A)) (count generation : ℕ) (seen : Shown H V)
+    (all : List (List ℕ × V)) where
   -- as the map is seen
-  pub iter_shown : IsTrie (hash_of hash) root count → shown_of hash root generation ≡ seen → all ≡ by_key 7 (root_entries root) → all ≡ walk (hash_of seen.hash) seen.map
+  pub iter_shown : IsTrie (hash_of hash) root count → shown_of hash root generation ≡ seen → all ≡ by_key 7 (root_entries root)
+      → all ≡ walk (hash_of seen.hash) seen.map
   iter_shown trie shown is = iter_is (hash_of hash) root count trie all is ∙ ap (λ x. walk (hash_of x.hash) x.map) shown
 
   -- and its part under a prefix
   pub iter_under_shown : (prefix : List ℕ) → IsTrie (hash_of hash) root count → shown_of hash root generation ≡ seen → length prefix ≤ 7
       → all ≡ by_key (7 - length prefix) (under_prefix prefix (root_entries root)) → all ≡ walk_under (hash_of seen.hash) prefix seen.map
   iter_under_shown prefix trie shown short is =
-      is ∙ sym (walk_under_is (hash_of hash) prefix (root_entries root) short trie.hashed (let r = trie.root_is in r.sorted)) ∙ ap (λ x. walk_under (hash_of x.hash) prefix x.map) shown
+      is ∙ sym (walk_under_is (hash_of hash) prefix (root_entries root) short trie.hashed (let r = trie.root_is in r.sorted))
+      ∙ ap (λ x. walk_under (hash_of x.hash) prefix x.map) shown

@@ -18,7 +18,8 @@ use Rattle.gen_trie.specs.declared.node.Slot.TheVariants.{One, Many}
 use Rattle.gen_trie.specs.Shapes.{children, child, entry_at, height_and_entries, StandsBelow, IsCanonical}
 
 -- one entry is found by its hash and its bytes
-pub found_one : {V A : Type 0} (below hash : ℕ) (key : List ℕ) (e : Entry V A) → find bytes_cmp (word below hash key) (entry_at below e ∷ []) ≡ find bytes_cmp (hash ∷ key) (entry_at 0 e ∷ [])
+pub found_one : {V A : Type 0} (below hash : ℕ) (key : List ℕ) (e : Entry V A)
+    → find bytes_cmp (word below hash key) (entry_at below e ∷ []) ≡ find bytes_cmp (hash ∷ key) (entry_at 0 e ∷ [])
 found_one below hash key e = ap (λ b. cond b (Some e.value) None) (tied-word below hash e.hash key e.key)
 
 module _ {V M A : Type 0} (shape : Shape V M A) (node : ℕ × List (List ℕ × V)) (below m hash : ℕ) (key : List ℕ) (slots : Vec (Slot V M A) A)
@@ -37,7 +38,8 @@ module _ {V M A : Type 0} (shape : Shape V M A) (node : ℕ × List (List ℕ ×
       → r ≡ find bytes_cmp (hash ∷ key) (entry_at 0 x ∷ []) → r ≡ find bytes_cmp (word node.0 hash key) node.1
   look_one s i e x r one q h f =
       let entries : entry_at below e.value ∷ [] ≡ at (digit below hash) (children below slots.items) = ap (λ c. c.1) (ap (child below) (sym one) ∙ h.0) in
-      f ∙ ap (λ y. find bytes_cmp (hash ∷ key) (entry_at 0 y ∷ [])) q ∙ sym (found_one below hash key e.value) ∙ ap (find bytes_cmp (word below hash key)) entries ∙ sym below_it
+      f ∙ ap (λ y. find bytes_cmp (hash ∷ key) (entry_at 0 y ∷ [])) q ∙ sym (found_one below hash key e.value)
+      ∙ ap (find bytes_cmp (word below hash key)) entries ∙ sym below_it
 
   pub look_many : (s : Slot V M A) (i : ℕ) (n : Arc (Node V M A) A) (x : Node V M A) (r : Option V) → s ≡ Many i n → x ≡ n.value
       → (child below s ≡ (digit below hash, at (digit below hash) (children below slots.items))) × StandsBelow below s
@@ -45,7 +47,8 @@ module _ {V M A : Type 0} (shape : Shape V M A) (node : ℕ × List (List ℕ ×
   look_many s i n x r many q h f =
       let entries : n.value.1.0 ≡ at (digit below hash) (children below slots.items) = ap (λ c. c.1) (ap (child below) (sym many) ∙ h.0) in
       let low = subst (StandsBelow below) many h.1 in
-      f ∙ ap (λ y. find bytes_cmp (word y.0 hash key) y.1.0) q ∙ ap (λ k. find bytes_cmp (word k hash key) n.value.1.0) low.0 ∙ ap (find bytes_cmp (word below hash key)) entries ∙ sym below_it
+      f ∙ ap (λ y. find bytes_cmp (word y.0 hash key) y.1.0) q ∙ ap (λ k. find bytes_cmp (word k hash key) n.value.1.0) low.0
+      ∙ ap (find bytes_cmp (word below hash key)) entries ∙ sym below_it
 
   -- and the entries of the child ascend where those of the node do
   pub look_sorted : (s : Slot V M A) (i : ℕ) (n : Arc (Node V M A) A) (x : Node V M A) → s ≡ Many i n → x ≡ n.value

@@ -42,7 +42,8 @@ words_rest height i (e ∷ es) rest a = words_rest height i es rest a.1
 
 module _ {V A : Type 0} (below : ℕ) where
   -- one entry below an index, in a branch
-  up_one : (i : ℕ) (e : Entry V A) (es rest : List (List ℕ × V)) → es ≡ entry_at below e ∷ [] → AllWords (suc below) (under i es ++ rest) → under i es ++ rest ≡ entry_at (suc below) e ∷ rest
+  up_one : (i : ℕ) (e : Entry V A) (es rest : List (List ℕ × V)) → es ≡ entry_at below e ∷ [] → AllWords (suc below) (under i es ++ rest)
+      → under i es ++ rest ≡ entry_at (suc below) e ∷ rest
   up_one i e es rest is words =
       let here = subst (λ l. AllWords (suc below) (under i l ++ rest)) is words in
       let index = word_index below i e.hash e.key here.0 in
@@ -62,7 +63,8 @@ module _ {V M A : Type 0} (below : ℕ) where
       let own = length-under (child below s).0 (child below s).1 in
       omega arith
 
-  pub pair_none : (m : ℕ) (ss : List (Slot V M A)) (node : ℕ × List (List ℕ × V)) → node ≡ (suc below, fan (children below ss)) → IsBranch below m ss → 3 ≤ length ss → length node.1 ≢ 2
+  pub pair_none : (m : ℕ) (ss : List (Slot V M A)) (node : ℕ × List (List ℕ × V)) → node ≡ (suc below, fan (children below ss)) → IsBranch below m ss
+      → 3 ≤ length ss → length node.1 ≢ 2
   pair_none m ss node e b h two =
       let long = fan_long ss b.fits in
       let same = ap (λ n. length n.1) e in
@@ -72,12 +74,14 @@ module _ {V M A : Type 0} (below : ℕ) where
   pair_empty [] node e h two = let same = ap (λ n. length n.1) e in omega arith
   pair_empty (s ∷ ss) node e h two = absurd (omega arith)
 
-  pub pair_one : (ss : List (Slot V M A)) (i : ℕ) (x : Arc (Entry V A) A) (node : ℕ × List (List ℕ × V)) → node ≡ (suc below, fan (children below ss)) → ss ≡ One i x ∷ [] → length node.1 ≢ 2
+  pub pair_one : (ss : List (Slot V M A)) (i : ℕ) (x : Arc (Entry V A) A) (node : ℕ × List (List ℕ × V)) → node ≡ (suc below, fan (children below ss))
+      → ss ≡ One i x ∷ [] → length node.1 ≢ 2
   pair_one ss i x node e is two =
       let same = ap (λ n. length n.1) e ∙ ap (λ l. length (fan (children below l))) is in
       omega arith
 
-  pub pair_many : {X : Type 0} (a b : X → Entry V A) (m : ℕ) (ss : List (Slot V M A)) (i : ℕ) (n : Arc (Node V M A) A) (node : ℕ × List (List ℕ × V)) (r : Option X)
+  pub pair_many : {X : Type 0} (a b : X → Entry V A) (m : ℕ) (ss : List (Slot V M A)) (i : ℕ) (n : Arc (Node V M A) A) (node : ℕ × List (List ℕ × V))
+      (r : Option X)
       → node ≡ (suc below, fan (children below ss)) → IsBranch below m ss → ss ≡ Many i n ∷ []
       → MatchOption r (length n.value.1.0 ≢ 2) (λ x. n.value.1.0 ≡ entry_at n.value.0 (a x) ∷ entry_at n.value.0 (b x) ∷ [])
       → MatchOption r (length node.1 ≢ 2) (λ x. node.1 ≡ entry_at node.0 (a x) ∷ entry_at node.0 (b x) ∷ [])
@@ -101,7 +105,8 @@ module _ {V M A : Type 0} (below : ℕ) where
 
   pub pair_two : {X : Type 0} (a b : X → Entry V A) (m : ℕ) (ss : List (Slot V M A)) (s t : Slot V M A) (node : ℕ × List (List ℕ × V)) (r : Option X)
       → node ≡ (suc below, fan (children below ss)) → IsBranch below m ss → ss ≡ s ∷ t ∷ []
-      → MatchOption r (StandsBelow below s → StandsBelow below t → 3 ≤ length (child below s).1 + length (child below t).1) (λ x. ((child below s).1 ≡ entry_at below (a x) ∷ []) × ((child below t).1 ≡ entry_at below (b x) ∷ []))
+      → MatchOption r (StandsBelow below s → StandsBelow below t → 3 ≤ length (child below s).1 + length (child below t).1)
+      (λ x. ((child below s).1 ≡ entry_at below (a x) ∷ []) × ((child below t).1 ≡ entry_at below (b x) ∷ []))
       → MatchOption r (length node.1 ≢ 2) (λ x. node.1 ≡ entry_at node.0 (a x) ∷ entry_at node.0 (b x) ∷ [])
   pair_two a b m ss s t node r e br is h =
       let both = subst (All (StandsBelow below)) is br.fits in
@@ -120,6 +125,7 @@ module _ {V M A : Type 0} (below : ℕ) where
       option_so r
       (λ f two. let same = ap (λ x. length x.1) seen in let long = f fits_s fits_t in omega arith)
       (λ x q.
-      ap (λ y. y.1) seen ∙ up_one below i (a x) es (under j fs ++ []) q.0 words ∙ ap (λ l. entry_at (suc below) (a x) ∷ l) (up_one below j (b x) fs [] q.1 (words_rest (suc below) i es (under j fs ++ []) words))
+      ap (λ y. y.1) seen ∙ up_one below i (a x) es (under j fs ++ []) q.0 words
+      ∙ ap (λ l. entry_at (suc below) (a x) ∷ l) (up_one below j (b x) fs [] q.1 (words_rest (suc below) i es (under j fs ++ []) words))
       ∙ ap (λ k. entry_at k (a x) ∷ entry_at k (b x) ∷ []) (sym (ap (λ y. y.0) seen)))
       h

@@ -1,5 +1,6 @@
 -- What a write at the root leaves, and what the parts of a trie are as a map.
-use Rattle.std.proofs.Common.{◌≡◌, ◌⊎◌, inl, inr, ℕ, ◌+◌, ◌-◌, ◌^◌, ◌<◌, ◌≤◌, List, [], ◌∷◌, length, Bool, true, false, cond, T, Some, None, arith, refl, sym, ◌∙◌, ap, subst}
+use Rattle.std.proofs.Common.{◌≡◌, ◌⊎◌, inl, inr, ℕ, ◌+◌, ◌-◌, ◌^◌, ◌<◌, ◌≤◌, List, [], ◌∷◌, length, Bool, true, false, cond, T, Some, None, arith, refl, sym}
+use Rattle.std.proofs.Common.{◌∙◌, ap, subst}
 use Rattle.std.specs.Prelude.{is_some, not, MatchOption}
 use Rattle.std.specs.Ordering.{eq_by_cmp}
 use Rattle.std.specs.declared.option.Option.{Option}
@@ -20,14 +21,16 @@ use Rattle.gen_trie.specs.Root.{root_entries, RootStands, IsRoot, IsTrie}
 use Rattle.gen_trie.proofs.Takes.{cut_only}
 
 module _ {V M A : Type 0} where
-  pub same_root : (root copy : Option (Slot V M A)) (count : ℕ) → root_entries copy ≡ root_entries root → (RootStands root → RootStands copy) → IsRoot root count → IsRoot copy count
+  pub same_root : (root copy : Option (Slot V M A)) (count : ℕ) → root_entries copy ≡ root_entries root → (RootStands root → RootStands copy)
+      → IsRoot root count → IsRoot copy count
   same_root root copy count e s h = record {
     stands = s h.stands;
     sorted = subst (λ es. T (is_sorted bytes_cmp es)) (sym e) h.sorted;
     counted = h.counted ∙ ap length (sym e);
   }
 
-  pub put_root_is : (root new : Option (Slot V M A)) (count n : ℕ) (w : List ℕ) (v : V) (fresh : Bool) → IsRoot root count → root_entries new ≡ put bytes_cmp w v (root_entries root) → RootStands new
+  pub put_root_is : (root new : Option (Slot V M A)) (count n : ℕ) (w : List ℕ) (v : V) (fresh : Bool) → IsRoot root count
+      → root_entries new ≡ put bytes_cmp w v (root_entries root) → RootStands new
       → HasMore fresh (root_entries root) (root_entries new) → n ≡ cond fresh (count + 1) count → IsRoot new n
   put_root_is root new count n w v fresh h e s more c = record {
     stands = s;
@@ -36,17 +39,22 @@ module _ {V M A : Type 0} where
   }
 
   -- a key that is there is not counted again
-  pub not_more : (root new : Option (Slot V M A)) (count : ℕ) (w : List ℕ) (v : V) (fresh : Bool) → IsRoot root count → root_entries new ≡ put bytes_cmp w v (root_entries root)
+  pub not_more : (root new : Option (Slot V M A)) (count : ℕ) (w : List ℕ) (v : V) (fresh : Bool) → IsRoot root count
+      → root_entries new ≡ put bytes_cmp w v (root_entries root)
       → HasMore fresh (root_entries root) (root_entries new) → is_some (find bytes_cmp w (root_entries root)) ≡ true → fresh ≡ false
   not_more root new count w v false h e more there = refl
   not_more root new count w v true h e more there =
-      let same = ap length e ∙ length-put bytes_cmp nat_list_cmp_total w v (root_entries root) h.sorted ∙ ap (λ b. cond b (length (root_entries root)) (length (root_entries root) + 1)) there in
+      let same = ap length e ∙ length-put bytes_cmp nat_list_cmp_total w v (root_entries root) h.sorted
+      ∙ ap (λ b. cond b (length (root_entries root)) (length (root_entries root) + 1)) there in
       absurd (omega (arith, same, more))
 
-  pub room_for_one : (root new : Option (Slot V M A)) (count : ℕ) (w : List ℕ) (v : V) (fresh : Bool) → IsRoot root count → root_entries new ≡ put bytes_cmp w v (root_entries root)
-      → HasMore fresh (root_entries root) (root_entries new) → (count < 2 ^ 64 - 1) ⊎ (is_some (find bytes_cmp w (root_entries root)) ≡ true) → fresh ≡ true → count + 1 < 2 ^ 64
+  pub room_for_one : (root new : Option (Slot V M A)) (count : ℕ) (w : List ℕ) (v : V) (fresh : Bool) → IsRoot root count
+      → root_entries new ≡ put bytes_cmp w v (root_entries root)
+      → HasMore fresh (root_entries root) (root_entries new) → (count < 2 ^ 64 - 1) ⊎ (is_some (find bytes_cmp w (root_entries root)) ≡ true) → fresh ≡ true
+      → count + 1 < 2 ^ 64
   room_for_one root new count w v fresh h e more (inl less) t = omega (arith, less)
-  room_for_one root new count w v fresh h e more (inr there) t = let twice : true ≡ false = sym t ∙ not_more root new count w v fresh h e more there in absurd cc
+  room_for_one root new count w v fresh h e more (inr there) t = let twice : true ≡ false = sym t
+      ∙ not_more root new count w v fresh h e more there in absurd cc
 
   -- ---- a key that goes
 
@@ -74,13 +82,15 @@ module _ {V M A : Type 0} where
 
   -- ---- as a map
 
-  pub IsTrie-put : (f : List ℕ → ℕ) (root new : Option (Slot V M A)) (count n hash : ℕ) (key : List ℕ) (v : V) → IsTrie f root count → hash ≡ f key → IsRoot new n
+  pub IsTrie-put : (f : List ℕ → ℕ) (root new : Option (Slot V M A)) (count n hash : ℕ) (key : List ℕ) (v : V) → IsTrie f root count → hash ≡ f key
+      → IsRoot new n
       → root_entries new ≡ put bytes_cmp (word 7 hash key) v (root_entries root) → IsTrie f new n
   IsTrie-put f root new count n hash key v h e r is =
       let at_path : root_entries new ≡ put bytes_cmp (path f key) v (root_entries root) = is ∙ ap (λ x. put bytes_cmp (word 7 x key) v (root_entries root)) e in
       record { root_is = r; hashed = subst (HashedBy f) (sym at_path) (HashedBy-put f key v (root_entries root) h.hashed) }
 
-  pub IsTrie-same : (f : List ℕ → ℕ) (root new : Option (Slot V M A)) (count n : ℕ) → IsTrie f root count → IsRoot new n → root_entries new ≡ root_entries root → IsTrie f new n
+  pub IsTrie-same : (f : List ℕ → ℕ) (root new : Option (Slot V M A)) (count n : ℕ) → IsTrie f root count → IsRoot new n → root_entries new ≡ root_entries root
+      → IsTrie f new n
   IsTrie-same f root new count n h r is = record { root_is = r; hashed = subst (HashedBy f) (sym is) h.hashed }
 
   pub insert_is : (f : List ℕ → ℕ) (root new : Option (Slot V M A)) (count hash : ℕ) (key : List ℕ) (v : V) → IsTrie f root count → hash ≡ f key
@@ -108,7 +118,8 @@ module _ {V M A : Type 0} where
   size_is f root count h = let r = h.root_is in r.counted ∙ sym (len-as_map f (root_entries root) h.hashed r.sorted)
 
   -- with the bytes as they were read for the hash and for the look-up
-  pub lookup_at : (f : List ℕ → ℕ) (root : Option (Slot V M A)) (count hash : ℕ) (hashed read key : List ℕ) (o : Option V) → IsTrie f root count → hash ≡ f hashed → hashed ≡ key → read ≡ key
+  pub lookup_at : (f : List ℕ → ℕ) (root : Option (Slot V M A)) (count hash : ℕ) (hashed read key : List ℕ) (o : Option V) → IsTrie f root count
+      → hash ≡ f hashed → hashed ≡ key → read ≡ key
       → o ≡ find bytes_cmp (word 7 hash read) (root_entries root) → o ≡ finite.get (as_map (root_entries root)) key
   lookup_at f root count hash hashed read key o h e p q is =
       lookup_is f root count hash key o h (e ∙ ap f p) (is ∙ ap (λ k. find bytes_cmp (word 7 hash k) (root_entries root)) q)

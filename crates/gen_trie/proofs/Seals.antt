@@ -9,7 +9,8 @@ use Rattle.gen_trie.specs.Shapes.{children, child, IsSealed, StandsBelow}
 
 module _ {V M A : Type 0} (below n : ℕ) (s new : Slot V M A) (old now : List (Slot V M A)) where
   -- of the children of a branch one is sealed
-  pub one_sealed : (children below now ≡ children below old) × All (StandsBelow below) now × (length now ≡ length old) → s ≡ get_or now n s → child below new ≡ child below s → StandsBelow below new
+  pub one_sealed : (children below now ≡ children below old) × All (StandsBelow below) now × (length now ≡ length old) → s ≡ get_or now n s
+      → child below new ≡ child below s → StandsBelow below new
       → (children below (set now n new) ≡ children below old) × All (StandsBelow below) (set now n new) × (length (set now n new) ≡ length old)
   one_sealed h is same fits = (
     map-set_same (child below) now n new s (same ∙ ap (child below) is) ∙ h.0,
@@ -19,7 +20,8 @@ module _ {V M A : Type 0} (below n : ℕ) (s new : Slot V M A) (old now : List (
 
 module _ {V M A : Type 0} (n : ℕ) where
   -- one child more is sealed
-  pub sealed_more : (new : Slot V M A) (now : List (Slot V M A)) → n < length now → All IsSealed (take n now) → IsSealed new → All IsSealed (take (n + 1) (set now n new))
+  pub sealed_more : (new : Slot V M A) (now : List (Slot V M A)) → n < length now → All IsSealed (take n now) → IsSealed new
+      → All IsSealed (take (n + 1) (set now n new))
   sealed_more new now less before here = subst (All IsSealed) (sym (take_more_set now n new less)) (All-push IsSealed (take n now) new before here)
 
   -- and at the end all are

@@ -12,13 +12,16 @@ module _ {V M A : Type 0} where
 
 module _ {V M A : Type 0} (generation n : ℕ) (slots now : List (Slot V M A)) where
   -- one child more
-  pub stamps_insert : (slot : Slot V M A) → IsNoNewer generation slot → now ≡ insert slots n slot → All (IsNoNewer generation) slots → All (IsNoNewer generation) now
+  pub stamps_insert : (slot : Slot V M A) → IsNoNewer generation slot → now ≡ insert slots n slot → All (IsNoNewer generation) slots
+      → All (IsNoNewer generation) now
   stamps_insert slot here is all =
       subst (All (IsNoNewer generation)) (sym is)
-      (All-append (IsNoNewer generation) (take n slots) _ (All-take (IsNoNewer generation) n slots all) (All-cons (IsNoNewer generation) slot (drop n slots) here (All-drop (IsNoNewer generation) n slots all)))
+      (All-append (IsNoNewer generation) (take n slots) _ (All-take (IsNoNewer generation) n slots all)
+      (All-cons (IsNoNewer generation) slot (drop n slots) here (All-drop (IsNoNewer generation) n slots all)))
 
   -- one fewer
   pub stamps_remove : now ≡ remove slots n → All (IsNoNewer generation) slots → All (IsNoNewer generation) now
   stamps_remove is all =
       subst (All (IsNoNewer generation)) (sym is)
-      (All-append (IsNoNewer generation) (take n slots) (drop (suc n) slots) (All-take (IsNoNewer generation) n slots all) (All-drop (IsNoNewer generation) (suc n) slots all))
+      (All-append (IsNoNewer generation) (take n slots) (drop (suc n) slots) (All-take (IsNoNewer generation) n slots all)
+      (All-drop (IsNoNewer generation) (suc n) slots all))

@@ -38,7 +38,8 @@ module _ {V M A : Type 0} (below : ℕ) (s : List (List ℕ × V) → Option M) 
       )
 
 pub front_fits : {X : Type 0} (P : X → Type 0) (all front : List X) (last : X) → all ≡ front ++ last ∷ [] → All P all → All P front
-front_fits P all front last is fits = subst (All P) (take-append_seam front (last ∷ [])) (All-take P (length front) (front ++ last ∷ []) (subst (All P) is fits))
+front_fits P all front last is fits = subst (All P) (take-append_seam front (last ∷ []))
+    (All-take P (length front) (front ++ last ∷ []) (subst (All P) is fits))
 
 pub few_slots : {V M A : Type 0} (below : ℕ) (slots : List (Slot V M A)) → Rise 0 (children below slots) → length slots ≤ 32
 few_slots below slots rise =
@@ -47,12 +48,14 @@ few_slots below slots rise =
     omega (arith, few, same)
 
 module _ {V M A : Type 0} (c : SummaryCalls V M) where
-  pub of_children : (node : ℕ × List (List ℕ × V)) (below : ℕ) (slots found : List (Slot V M A)) (behind : List (ℕ × M)) (m : M) → node ≡ (suc below, fan (children below slots)) → Rise 0 (children below slots) → 2 ≤ length node.1
+  pub of_children : (node : ℕ × List (List ℕ × V)) (below : ℕ) (slots found : List (Slot V M A)) (behind : List (ℕ × M)) (m : M)
+      → node ≡ (suc below, fan (children below slots)) → Rise 0 (children below slots) → 2 ≤ length node.1
       → found ≡ slots → behind ≡ [] → m ≡ c.branch (sums (summary_of c below) (children below found) ++ behind) → summary_of c node.0 node.1 ≡ Some m
   of_children node below slots found behind m e rise several fs none ms =
       ap (λ n. summary_of c n.0 n.1) e
       ∙ summary_branch c below (children below slots) rise (subst (λ n. 2 ≤ length n.1) e several)
-      ∙ ap (λ l. Some (c.branch l)) (sym (append-nil (sums (summary_of c below) (children below slots))) ∙ (λ t. sums (summary_of c below) (children below (sym fs t)) ++ sym none t))
+      ∙ ap (λ l. Some (c.branch l)) (sym (append-nil (sums (summary_of c below) (children below slots)))
+      ∙ (λ t. sums (summary_of c below) (children below (sym fs t)) ++ sym none t))
       ∙ ap Some (sym ms)
 
   pub children_rise : (below : ℕ) (slots found : List (Slot V M A)) (behind : List (ℕ × M)) → Rise 0 (children below slots) → found ≡ slots → behind ≡ []
@@ -61,7 +64,8 @@ module _ {V M A : Type 0} (c : SummaryCalls V M) where
       subst (Rise 0) (sym ((λ t. sums (summary_of c below) (children below (fs t)) ++ none t) ∙ append-nil (sums (summary_of c below) (children below slots))))
       (Rise-sums (summary_of c below) 0 (children below slots) rise)
 
-  pub one_key : (below : ℕ) (slot : Slot V M A) (i : ℕ) (e : Arc (Entry V A) A) (k : List ℕ) (v : V) (m : M) → slot ≡ One i e → k ≡ e.value.key → v ≡ e.value.value → m ≡ c.leaf k v
+  pub one_key : (below : ℕ) (slot : Slot V M A) (i : ℕ) (e : Arc (Entry V A) A) (k : List ℕ) (v : V) (m : M) → slot ≡ One i e → k ≡ e.value.key
+      → v ≡ e.value.value → m ≡ c.leaf k v
       → summary_of c below (child below slot).1 ≡ Some m
   one_key below slot i e k v m is ks vs ms =
       ap (λ s. summary_of c below (child below s).1) is
@@ -85,7 +89,8 @@ module _ {V M A : Type 0} (c : SummaryCalls V M) (slot : Slot V M A) (prefix : L
   none_there short none = sym (summary_there c prefix 7 (child 7 slot).1 short ∙ ap (summary_of c (7 - length prefix)) none)
 
   pub some_there : (found : Slot V M A) (height : ℕ) (m : M) → length prefix ≤ 7 → height ≡ 7 - length prefix
-      → under_prefix prefix (child 7 slot).1 ≡ (child (7 - length prefix) found).1 → summary_of c height (child height found).1 ≡ Some m → Some m ≡ summary_at c prefix 7 (child 7 slot).1
+      → under_prefix prefix (child 7 slot).1 ≡ (child (7 - length prefix) found).1 → summary_of c height (child height found).1 ≡ Some m
+      → Some m ≡ summary_at c prefix 7 (child 7 slot).1
   some_there found height m short h is so =
       sym (summary_there c prefix 7 (child 7 slot).1 short ∙ ap (summary_of c (7 - length prefix)) is ∙ ap (λ k. summary_of c k (child k found).1) (sym h) ∙ so)
 
@@ -103,5 +108,6 @@ module _ {V M A : Type 0} (c : SummaryCalls V M) (f : List ℕ → ℕ) (root : 
       (λ e. exactly.0 (sym so ∙ e), λ all. so ∙ exactly.1 all)
 
 module _ {V M A : Type 0} (f : List ℕ → ℕ) (root : Option (Slot V M A)) where
-  pub none_nowhere : (prefix : List ℕ) → root ≡ None → (◌≡◌ {A = Option M} None None) ↔ ((key : List ℕ) → indices (length prefix) (f key) ≡ prefix → finite.get (as_map (root_entries root)) key ≡ None)
+  pub none_nowhere : (prefix : List ℕ) → root ≡ None → (◌≡◌ {A = Option M} None None) ↔
+      ((key : List ℕ) → indices (length prefix) (f key) ≡ prefix → finite.get (as_map (root_entries root)) key ≡ None)
   none_nowhere prefix e = (λ same key covers. ap (λ r. finite.get (as_map (root_entries r)) key) e ∙ get-as_map f key [] tt, λ all. refl)

@@ -1,5 +1,6 @@
 -- What taking an entry out of the slots of a branch leaves.
-use Rattle.std.proofs.Common.{◌≡◌, ◌≢◌, ℕ, suc, ◌-◌, ◌*◌, ◌%◌, ◌^◌, ◌<◌, ◌≤◌, List, [], ◌∷◌, ◌++◌, length, take, drop, set, Bool, true, false, not, cond, T, Some, None, arith, refl, sym, ◌∙◌, ap, subst}
+use Rattle.std.proofs.Common.{◌≡◌, ◌≢◌, ℕ, suc, ◌-◌, ◌*◌, ◌%◌, ◌^◌, ◌<◌, ◌≤◌, List, [], ◌∷◌, ◌++◌, length, take, drop, set, Bool, true, false, not, cond, T}
+use Rattle.std.proofs.Common.{Some, None, arith, refl, sym, ◌∙◌, ap, subst}
 use Rattle.std.specs.Prelude.{is_some, OnOk, OnErr, MatchOption}
 use Rattle.std.proofs.Common.{Ok, Err}
 use Rattle.std.specs.List.{All, remove, take-map, drop-map}
@@ -33,7 +34,8 @@ other_first h hash key a b x q t s =
     (tied-word h hash a.hash key a.key ∙ sym (subst (λ y. true ≡ eq_by_cmp bytes_cmp (hash ∷ key) (y.hash ∷ y.key)) q t))
 
 pub other_second : {V A : Type 0} (h hash : ℕ) (key : List ℕ) (a b x : Entry V A) → x ≡ a → false ≡ eq_by_cmp bytes_cmp (hash ∷ key) (x.hash ∷ x.key)
-    → is_some (find bytes_cmp (word h hash key) (entry_at h a ∷ entry_at h b ∷ [])) ≡ true → cut (word h hash key) (entry_at h a ∷ entry_at h b ∷ []) ≡ entry_at h a ∷ []
+    → is_some (find bytes_cmp (word h hash key) (entry_at h a ∷ entry_at h b ∷ [])) ≡ true
+    → cut (word h hash key) (entry_at h a ∷ entry_at h b ∷ []) ≡ entry_at h a ∷ []
 other_second h hash key a b x q t f =
     cut_second (word h hash key) (entry_at h a) (entry_at h b)
     (tied-word h hash a.hash key a.key ∙ sym (subst (λ y. false ≡ eq_by_cmp bytes_cmp (hash ∷ key) (y.hash ∷ y.key)) q t)) f
@@ -48,7 +50,8 @@ no_entry : {V : Type 0} (w : List ℕ) (es : List (List ℕ × V)) → es ≡ []
 no_entry w es e f X = let none = ap (λ l. is_some (find bytes_cmp w l)) (sym e) ∙ f in cc
 
 module _ {V : Type 0} (below : ℕ) (hash : ℕ) (key : List ℕ) where
-  pub cut_only : (e : List ℕ × V) → is_some (find bytes_cmp (word below hash key) (e ∷ [])) ≡ true → ◌≡◌ {A = List (List ℕ × V)} (cut (word below hash key) (e ∷ [])) []
+  pub cut_only : (e : List ℕ × V) → is_some (find bytes_cmp (word below hash key) (e ∷ [])) ≡ true
+      → ◌≡◌ {A = List (List ℕ × V)} (cut (word below hash key) (e ∷ [])) []
   cut_only e f = by (eq_by_cmp bytes_cmp (word below hash key) e.0) f
     where
       by : (t : Bool) → is_some {T = V} (cond t (Some e.1) None) ≡ true → ◌≡◌ {A = List (List ℕ × V)} (cond (not t) (e ∷ []) []) []
@@ -57,7 +60,8 @@ module _ {V : Type 0} (below : ℕ) (hash : ℕ) (key : List ℕ) where
 
   -- two keys or more are left of a node of three or more
   pub two_left : {E : Type 0} (r : Result (Unit {0}) E) (n m : ℕ × List (List ℕ × V)) → OnOk r (n ≡ (m.0, cut (word m.0 hash key) m.1)) → OnErr r (n ≡ m)
-      → (m.0 ≡ below) × (2 ≤ length m.1) → length m.1 ≢ 2 → T (is_sorted bytes_cmp m.1) → is_some (find bytes_cmp (word m.0 hash key) m.1) ≡ true → (n.0 ≡ below) × (2 ≤ length n.1)
+      → (m.0 ≡ below) × (2 ≤ length m.1) → length m.1 ≢ 2 → T (is_sorted bytes_cmp m.1) → is_some (find bytes_cmp (word m.0 hash key) m.1) ≡ true
+      → (n.0 ≡ below) × (2 ≤ length n.1)
   two_left (Ok x) n m ok err h two sorted f =
       (ap (λ y. y.0) ok ∙ h.0, let fewer = length-cut (word m.0 hash key) m.1 sorted f in let same = ap (λ y. length y.1) ok in let many = h.1 in omega arith)
   two_left (Err x) n m ok err h two sorted f = (ap (λ y. y.0) err ∙ h.0, subst (λ y. 2 ≤ length y.1) (sym err) h.1)
@@ -73,14 +77,17 @@ module _ {V M A : Type 0} (below : ℕ) (hash : ℕ) (key : List ℕ) where
     where
       by : (r : Bool) → there (digit below hash) (children below ss) ≡ r → t ≡ true
       by true e = seat.taken_is ∙ e
-      by false e = no_entry (word below hash key) (at (digit below hash) (children below ss)) (at_absent (digit below hash) (children below ss) e) (found_at m ss b f) _
+      by false e = no_entry (word below hash key) (at (digit below hash) (children below ss)) (at_absent (digit below hash) (children below ss) e)
+          (found_at m ss b f) _
 
-  pub cut_one : (m : ℕ) (ss : List (Slot V M A)) (s : Slot V M A) (e : Entry V A) → IsBranch below m ss → is_some (find bytes_cmp (word (suc below) hash key) (fan (children below ss))) ≡ true
+  pub cut_one : (m : ℕ) (ss : List (Slot V M A)) (s : Slot V M A) (e : Entry V A) → IsBranch below m ss
+      → is_some (find bytes_cmp (word (suc below) hash key) (fan (children below ss))) ≡ true
       → child below s ≡ (digit below hash, at (digit below hash) (children below ss)) → (child below s).1 ≡ entry_at below e ∷ []
       → cut (word below hash key) (at (digit below hash) (children below ss)) ≡ []
   cut_one m ss s e b f here one =
       let is : at (digit below hash) (children below ss) ≡ entry_at below e ∷ [] = sym (ap (λ c. c.1) here) ∙ one in
-      ap (cut (word below hash key)) is ∙ cut_only below hash key (entry_at below e) (subst (λ l. is_some (find bytes_cmp (word below hash key) l) ≡ true) is (found_at m ss b f))
+      ap (cut (word below hash key)) is ∙ cut_only below hash key (entry_at below e)
+      (subst (λ l. is_some (find bytes_cmp (word below hash key) l) ≡ true) is (found_at m ss b f))
 
   -- ---- a child that goes
 
@@ -88,7 +95,8 @@ module _ {V M A : Type 0} (below : ℕ) (hash : ℕ) (key : List ℕ) where
   map_remove ss n =
       map-append (child below) (take n ss) (drop (suc n) ss) ∙ (λ i. sym (take-map (child below) n ss) i ++ sym (drop-map (child below) (suc n) ss) i)
 
-  pub bit_there : (m count j n : ℕ) (t : Bool) (ss : List (Slot V M A)) → IsBranch below m ss → IsSeat (digit below hash) (children below ss) count j n t → t ≡ true → 1 * 2 ^ j % 4294967296 ≤ m
+  pub bit_there : (m count j n : ℕ) (t : Bool) (ss : List (Slot V M A)) → IsBranch below m ss → IsSeat (digit below hash) (children below ss) count j n t
+      → t ≡ true → 1 * 2 ^ j % 4294967296 ≤ m
   bit_there m count j n t ss b seat taken =
       let i = digit below hash in
       let yes : there i (children below ss) ≡ true = sym seat.taken_is ∙ taken in
@@ -98,7 +106,8 @@ module _ {V M A : Type 0} (below : ℕ) (hash : ℕ) (key : List ℕ) where
       let shift : 1 * 2 ^ j % 4294967296 ≡ 2 ^ i = one_shl j 32 less ∙ ap (λ k. 2 ^ k) seat.index_is in
       omega arith
 
-  pub drop_is : (m count j n : ℕ) (t : Bool) (ss ts : List (Slot V M A)) → IsBranch below m ss → IsSeat (digit below hash) (children below ss) count j n t → t ≡ true
+  pub drop_is : (m count j n : ℕ) (t : Bool) (ss ts : List (Slot V M A)) → IsBranch below m ss
+      → IsSeat (digit below hash) (children below ss) count j n t → t ≡ true
       → cut (word below hash key) (at (digit below hash) (children below ss)) ≡ [] → ts ≡ remove ss n
       → (fan (children below ts) ≡ cut (word (suc below) hash key) (fan (children below ss))) × IsBranch below (m - 1 * 2 ^ j % 4294967296) ts
   drop_is m count j n t ss ts b seat taken none is =
@@ -119,14 +128,17 @@ module _ {V M A : Type 0} (below : ℕ) (hash : ℕ) (key : List ℕ) where
           height = b.height;
           bitmap_is = left ∙ ap bits_of (sym child_is);
           rise = subst (Rise 0) (sym child_is) (Rise-without i 0 cs b.rise);
-          fits = subst (All (StandsBelow below)) (sym is) (All-append (StandsBelow below) (take n ss) (drop (suc n) ss) (All-take (StandsBelow below) n ss b.fits) (All-drop (StandsBelow below) (suc n) ss b.fits));
+          fits = subst (All (StandsBelow below)) (sym is)
+              (All-append (StandsBelow below) (take n ss) (drop (suc n) ss) (All-take (StandsBelow below) n ss b.fits)
+              (All-drop (StandsBelow below) (suc n) ss b.fits));
           words = subst (AllWords (suc below)) (sym entries) (AllWords-cut (suc below) (i ∷ w) (fan cs) b.words);
         },
       )
 
   -- ---- a child that stays
 
-  pub cut_old_is : (m count j n : ℕ) (t : Bool) (s s' : Slot V M A) (ss ts : List (Slot V M A)) → IsBranch below m ss → IsSeat (digit below hash) (children below ss) count j n t → t ≡ true
+  pub cut_old_is : (m count j n : ℕ) (t : Bool) (s s' : Slot V M A) (ss ts : List (Slot V M A)) → IsBranch below m ss
+      → IsSeat (digit below hash) (children below ss) count j n t → t ≡ true
       → child below s ≡ (digit below hash, at (digit below hash) (children below ss)) → ts ≡ set ss n s'
       → child below s' ≡ ((child below s).0, cut (word below hash key) (child below s).1) → StandsBelow below s'
       → (fan (children below ts) ≡ cut (word (suc below) hash key) (fan (children below ss))) × IsBranch below m ts
@@ -150,7 +162,8 @@ module _ {V M A : Type 0} (below : ℕ) (hash : ℕ) (key : List ℕ) where
       )
 
   -- what the child at the index gives to be taken from
-  pub child_gives : {X : Type 0} (m : ℕ) (ss : List (Slot V M A)) (s : Slot V M A) (r : Option X) (e : X → Entry V A) → IsBranch below m ss → T (is_sorted bytes_cmp (fan (children below ss)))
+  pub child_gives : {X : Type 0} (m : ℕ) (ss : List (Slot V M A)) (s : Slot V M A) (r : Option X) (e : X → Entry V A) → IsBranch below m ss
+      → T (is_sorted bytes_cmp (fan (children below ss)))
       → is_some (find bytes_cmp (word (suc below) hash key) (fan (children below ss))) ≡ true
       → (child below s ≡ (digit below hash, at (digit below hash) (children below ss))) × StandsBelow below s
       → MatchOption r (StandsBelow below s → 2 ≤ length (child below s).1) (λ x. (child below s).1 ≡ entry_at below (e x) ∷ []) → is_some r ≡ false
@@ -174,7 +187,8 @@ module _ {V M A : Type 0} (below : ℕ) (hash : ℕ) (key : List ℕ) where
 -- ---- a list
 
 module _ {V A : Type 0} where
-  pub list_cut : (n : ℕ) (w : List ℕ) (es ts : List (Arc (Entry V A) A)) → T (is_sorted bytes_cmp (listed es)) → n ≡ spot w (listed es) → n < length es → ts ≡ remove es n
+  pub list_cut : (n : ℕ) (w : List ℕ) (es ts : List (Arc (Entry V A) A)) → T (is_sorted bytes_cmp (listed es)) → n ≡ spot w (listed es) → n < length es
+      → ts ≡ remove es n
       → listed ts ≡ cut w (listed es)
   list_cut n w es ts s p h is =
       let f = λ (x : Arc (Entry V A) A). entry_at 0 x.value in

@@ -20,8 +20,10 @@ abbrev Tells : Map → Map → List (List ℕ) → Type 0
 Tells m n keys = ((key : List ℕ) → Contains keys key → IsChanged m n key) × (NoClash fnv1a m n [] → (key : List ℕ) → IsChanged m n key → Contains keys key)
 
 pub tells_since : (older s : Snapshot) (texts : Texts) (m n : Map) → m ≡ older.store.1 → n ≡ s.store.1 → IsAscending (shown texts)
-    → ((key : List ℕ) → Contains (shown texts) key → IsChanged m n key) → (NoClash fnv1a m n [] → (key : List ℕ) → IsChanged m n key → Contains (shown texts) key)
+    → ((key : List ℕ) → Contains (shown texts) key → IsChanged m n key)
+    → (NoClash fnv1a m n [] → (key : List ℕ) → IsChanged m n key → Contains (shown texts) key)
     → TellsSince older s (record { store = s.store; texts = texts })
 tells_since older s texts m n from to ascending changed all =
-    let told : Tells older.store.1 s.store.1 (shown texts) = subst (λ a. Tells a s.store.1 (shown texts)) from (subst (λ b. Tells m b (shown texts)) to (changed, all)) in
+    let told : Tells older.store.1 s.store.1 (shown texts) = subst (λ a. Tells a s.store.1 (shown texts)) from
+    (subst (λ b. Tells m b (shown texts)) to (changed, all)) in
     record { same = refl; ascending = ascending; changed = told.0; all = told.1 }

@@ -15,14 +15,16 @@ use Rattle.replica_core.proofs.MappedPair.{mapped}
 use Rattle.trie_map.specs.Keyed.{TrieMapValue, NoStoreIsEmpty, EachIsCanonical}
 use Rattle.ginelm_c.specs.Reading.{IsRootDigest}
 
-module _ {Hash : Type 0} (store : TrieMapValue Hash FieldsValue) (m : finite.FinMap bytes_cmp FieldsValue) (is : m ≡ store.1) (filled : NoStoreIsEmpty fields_at m) (canonical : EachIsCanonical IsInOrder m) where
+module _ {Hash : Type 0} (store : TrieMapValue Hash FieldsValue) (m : finite.FinMap bytes_cmp FieldsValue) (is : m ≡ store.1)
+    (filled : NoStoreIsEmpty fields_at m) (canonical : EachIsCanonical IsInOrder m) where
   map_in : IsMapOf store.1 (store_state store)
   map_in = mapped (store, no_dots) store refl (subst (NoStoreIsEmpty fields_at) is filled) (subst (EachIsCanonical IsInOrder) is canonical)
 
   pub root_in : (found : Option (List ℕ)) → found ≡ digest_at fnv1a m [] → IsRootDigest (store_state store) found
   root_in found same = record { map = store.1; is_map = map_in; same = same ∙ ap (λ n. digest_at fnv1a n []) is }
 
-  pub key_in : (key : List ℕ) (o : Option (Bor FieldsValue)) (found : Bool) → found ≡ is_some o → option_map (λ v. v.now) o ≡ finite.get m key → IsTrue found ↔ HoldsKey (store_state store) key
+  pub key_in : (key : List ℕ) (o : Option (Bor FieldsValue)) (found : Bool) → found ≡ is_some o → option_map (λ v. v.now) o ≡ finite.get m key
+      → IsTrue found ↔ HoldsKey (store_state store) key
   key_in key o found told at =
       contained store.1 (store_state store) map_in key found (told ∙ (same_some o ∙ (ap is_some at ∙ ap (λ n. is_some (finite.get n key)) is)))
     where

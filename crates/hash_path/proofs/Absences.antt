@@ -1,5 +1,6 @@
 -- The entries under a prefix have no summary exactly where no key's path begins with the prefix.
-use Rattle.std.proofs.Common.{◌≡◌, ℕ, zero, suc, ◌-◌, ◌≤◌, ◌↔◌, List, [], ◌∷◌, ◌++◌, length, take, drop, get_or, Bool, true, false, cond, nat_eq, Some, None, arith, refl, sym, ◌∙◌, ap, subst, eq-eqb, ne_eqb}
+use Rattle.std.proofs.Common.{◌≡◌, ℕ, zero, suc, ◌-◌, ◌≤◌, ◌↔◌, List, [], ◌∷◌, ◌++◌, length, take, drop, get_or, Bool, true, false, cond, nat_eq, Some, None}
+use Rattle.std.proofs.Common.{arith, refl, sym, ◌∙◌, ap, subst, eq-eqb, ne_eqb}
 use Rattle.std.specs.declared.option.Option.{Option}
 use Rattle.std.specs.declared.cmp.Ordering.{Ordering}
 use Rattle.std.specs.declared.cmp.Ordering.TheVariants.{Less, Equal, Greater}
@@ -37,13 +38,15 @@ module _ {V : Type 0} where
       → cond (eq_by_cmp bytes_cmp (i ∷ w) (j ∷ u)) (Some v) found ≡ find bytes_cmp w (cond (nat_eq i j) ((u, v) ∷ rest) rest)
   found_under i j w u v found rest Less p e =
       let h = less i j p in
-      ap (λ r. cond (is_eq (ordering_then r (bytes_cmp w u))) (Some v) found) p ∙ e ∙ ap (λ b. find bytes_cmp w (cond b ((u, v) ∷ rest) rest)) (sym (ne_eqb i j (λ q. absurd (omega arith))))
+      ap (λ r. cond (is_eq (ordering_then r (bytes_cmp w u))) (Some v) found) p ∙ e
+      ∙ ap (λ b. find bytes_cmp w (cond b ((u, v) ∷ rest) rest)) (sym (ne_eqb i j (λ q. absurd (omega arith))))
   found_under i j w u v found rest Equal p e =
       ap (λ r. cond (is_eq (ordering_then r (bytes_cmp w u))) (Some v) found) p ∙ ap (cond (is_eq (bytes_cmp w u)) (Some v)) e
       ∙ ap (λ b. find bytes_cmp w (cond b ((u, v) ∷ rest) rest)) (sym (eq-eqb i j (same i j p)))
   found_under i j w u v found rest Greater p e =
       let h = more i j p in
-      ap (λ r. cond (is_eq (ordering_then r (bytes_cmp w u))) (Some v) found) p ∙ e ∙ ap (λ b. find bytes_cmp w (cond b ((u, v) ∷ rest) rest)) (sym (ne_eqb i j (λ q. absurd (omega arith))))
+      ap (λ r. cond (is_eq (ordering_then r (bytes_cmp w u))) (Some v) found) p ∙ e
+      ∙ ap (λ b. find bytes_cmp w (cond b ((u, v) ∷ rest) rest)) (sym (ne_eqb i j (λ q. absurd (omega arith))))
 
   find-index : (below i : ℕ) (w : List ℕ) (es : List (List ℕ × V)) → AllWords (suc below) es → find bytes_cmp (i ∷ w) es ≡ find bytes_cmp w (under_index i es)
   find-index below i w [] a = refl
@@ -54,10 +57,12 @@ module _ {V : Type 0} where
       ap (λ x. cond (eq_by_cmp bytes_cmp (i ∷ w) x) (Some e.1) (find bytes_cmp (i ∷ w) es)) a.0 ∙ at
       ∙ ap (λ x. find bytes_cmp w (cond (nat_eq i (get_or x 0 0)) ((drop 1 x, e.1) ∷ under_index i es) (under_index i es))) (sym a.0)
 
-  find-under : (p : List ℕ) (height : ℕ) (w : List ℕ) (es : List (List ℕ × V)) → length p ≤ height → AllWords height es → find bytes_cmp (p ++ w) es ≡ find bytes_cmp w (under_prefix p es)
+  find-under : (p : List ℕ) (height : ℕ) (w : List ℕ) (es : List (List ℕ × V)) → length p ≤ height → AllWords height es
+      → find bytes_cmp (p ++ w) es ≡ find bytes_cmp w (under_prefix p es)
   find-under [] height w es h a = refl
   find-under (i ∷ p) zero w es h a = absurd (omega arith)
-  find-under (i ∷ p) (suc below) w es h a = find-index below i (p ++ w) es a ∙ find-under p below w (under_index i es) (omega arith) (AllWords-index below i es a)
+  find-under (i ∷ p) (suc below) w es h a = find-index below i (p ++ w) es a
+      ∙ find-under p below w (under_index i es) (omega arith) (AllWords-index below i es a)
 
   HashedBy-AllWords : (f : List ℕ → ℕ) (es : List (List ℕ × V)) → HashedBy f es → AllWords 7 es
   HashedBy-AllWords f [] h = tt
@@ -93,9 +98,11 @@ module _ {V M : Type 0} (c : SummaryCalls V M) where
         let r = 7 - length p in
         let w = word r (f key) key in
         let is : path f key ≡ p ++ w = path_begins f (length p) r key (omega arith) ∙ ap (λ q. q ++ w) covers in
-        get-as_map f key es h ∙ ap (λ q. find bytes_cmp q es) is ∙ find-under p 7 w es short (HashedBy-AllWords f es h) ∙ ap (find bytes_cmp w) (none_under p 7 es short e)
+        get-as_map f key es h ∙ ap (λ q. find bytes_cmp q es) is ∙ find-under p 7 w es short (HashedBy-AllWords f es h)
+        ∙ ap (find bytes_cmp w) (none_under p 7 es short e)
 
-    nothing : ((key : List ℕ) → indices (length p) (f key) ≡ p → finite.get (as_map es) key ≡ None) → (left : List (List ℕ × V)) → under_prefix p es ≡ left → left ≡ []
+    nothing : ((key : List ℕ) → indices (length p) (f key) ≡ p → finite.get (as_map es) key ≡ None) → (left : List (List ℕ × V)) → under_prefix p es ≡ left
+        → left ≡ []
     nothing all [] e = refl
     nothing all (x ∷ left) e =
         let w = p ++ x.0 in

@@ -1,5 +1,6 @@
 -- No index of a path is greater than the greatest that a child can have there.
-use Rattle.std.proofs.Common.{◌≡◌, ℕ, zero, suc, ◌+◌, ◌^◌, ◌<◌, ◌≤◌, List, [], ◌∷◌, length, drop, get_or, Bool, true, false, cond, nat_eq, arith, refl, sym, subst, eqb-true}
+use Rattle.std.proofs.Common.{◌≡◌, ℕ, zero, suc, ◌+◌, ◌^◌, ◌<◌, ◌≤◌, List, [], ◌∷◌, length, drop, get_or, Bool, true, false, cond, nat_eq, arith, refl, sym}
+use Rattle.std.proofs.Common.{subst, eqb-true}
 use Rattle.hash_path.specs.Path.{last_index}
 use Rattle.hash_path.specs.Word.{word}
 use Rattle.hash_path.specs.Map.{key_of, HashedBy}
@@ -36,7 +37,10 @@ module _ {V : Type 0} where
 
   all_bounded : (f : List ℕ → ℕ) → ((key : List ℕ) → f key < 2 ^ 32) → (es : List (List ℕ × V)) → HashedBy f es → AreBounded 0 es
   all_bounded f h [] hashed = tt
-  all_bounded f h (e ∷ es) hashed = (subst (IsBounded 0) (sym hashed.0) (path_bounded (f (key_of e.0)) (key_of e.0) (h (key_of e.0))), all_bounded f h es hashed.1)
+  all_bounded f h (e ∷ es) hashed = (
+    subst (IsBounded 0) (sym hashed.0) (path_bounded (f (key_of e.0)) (key_of e.0) (h (key_of e.0))),
+    all_bounded f h es hashed.1,
+  )
 
   kept_bounded : (gone i : ℕ) (es : List (List ℕ × V)) → AreBounded gone es → AreBounded (suc gone) (under_index i es)
   kept_bounded gone i [] h = tt
@@ -58,7 +62,8 @@ module _ {V : Type 0} where
           absurd (omega (arith, is, bound, past))
       step false t rest = rest
 
-  under_past : (p : List ℕ) (gone i : ℕ) (es : List (List ℕ × V)) → length p + gone < 7 → last_index (length p + gone) < i → AreBounded gone es → under_index i (under_prefix p es) ≡ []
+  under_past : (p : List ℕ) (gone i : ℕ) (es : List (List ℕ × V)) → length p + gone < 7 → last_index (length p + gone) < i → AreBounded gone es
+      → under_index i (under_prefix p es) ≡ []
   under_past [] gone i es less past h =
       let same : 0 + gone ≡ gone = omega arith in
       nothing_past gone i es (omega (arith, less)) (subst (λ k. last_index k < i) same past) h
@@ -67,7 +72,8 @@ module _ {V : Type 0} where
       under_past p (suc gone) i (under_index j es) (omega (arith, less)) (subst (λ k. last_index k < i) same past) (kept_bounded gone j es h)
 
   -- no entry stands at an index that a child there cannot have
-  pub none_past : (f : List ℕ → ℕ) → ((key : List ℕ) → f key < 2 ^ 32) → (p : List ℕ) (i : ℕ) (es : List (List ℕ × V)) → HashedBy f es → length p < 7 → last_index (length p) < i
+  pub none_past : (f : List ℕ → ℕ) → ((key : List ℕ) → f key < 2 ^ 32) → (p : List ℕ) (i : ℕ) (es : List (List ℕ × V)) → HashedBy f es → length p < 7
+      → last_index (length p) < i
       → under_index i (under_prefix p es) ≡ []
   none_past f h p i es hashed less past =
       let same : length p ≡ length p + 0 = omega arith in

@@ -1,5 +1,6 @@
 -- Cutting a word out of a branch is cutting the rest of it out of the child at its first index.
-use Rattle.std.proofs.Common.{◌≡◌, ℕ, suc, ◌+◌, ◌^◌, ◌<◌, ◌≤◌, List, [], ◌∷◌, ◌++◌, length, Bool, true, false, not, cond, T, Some, None, arith, refl, sym, ◌∙◌, ap, subst}
+use Rattle.std.proofs.Common.{◌≡◌, ℕ, suc, ◌+◌, ◌^◌, ◌<◌, ◌≤◌, List, [], ◌∷◌, ◌++◌, length, Bool, true, false, not, cond, T, Some, None, arith, refl, sym, ◌∙◌}
+use Rattle.std.proofs.Common.{ap, subst}
 use Rattle.std.specs.Prelude.{◌&&◌, is_some}
 use Rattle.std.specs.List.{remove}
 use Rattle.std.specs.declared.cmp.Ordering.{Ordering}
@@ -38,17 +39,20 @@ module _ {V : Type 0} (i : ℕ) (w : List ℕ) where
   kept j true e es rest h = ap (λ l. (j ∷ e.0, e.1) ∷ l) h
   kept j false e es rest h = h
 
-  cut-under : (j : ℕ) (es : List (List ℕ × V)) (o : Ordering) → nat_cmp i j ≡ o → cut (i ∷ w) (under j es) ≡ by_order o (under j es) (under j (cut w es)) (under j es)
+  cut-under : (j : ℕ) (es : List (List ℕ × V)) (o : Ordering) → nat_cmp i j ≡ o
+      → cut (i ∷ w) (under j es) ≡ by_order o (under j es) (under j (cut w es)) (under j es)
   cut-under j [] Less p = refl
   cut-under j [] Equal p = refl
   cut-under j [] Greater p = refl
   cut-under j (e ∷ es) Less p =
-      ap (λ r. cond (not (is_eq (ordering_then r (bytes_cmp w e.0)))) ((j ∷ e.0, e.1) ∷ cut (i ∷ w) (under j es)) (cut (i ∷ w) (under j es))) p ∙ ap (λ l. (j ∷ e.0, e.1) ∷ l) (cut-under j es Less p)
+      ap (λ r. cond (not (is_eq (ordering_then r (bytes_cmp w e.0)))) ((j ∷ e.0, e.1) ∷ cut (i ∷ w) (under j es)) (cut (i ∷ w) (under j es))) p
+      ∙ ap (λ l. (j ∷ e.0, e.1) ∷ l) (cut-under j es Less p)
   cut-under j (e ∷ es) Equal p =
       ap (λ r. cond (not (is_eq (ordering_then r (bytes_cmp w e.0)))) ((j ∷ e.0, e.1) ∷ cut (i ∷ w) (under j es)) (cut (i ∷ w) (under j es))) p
       ∙ kept j (not (is_eq (bytes_cmp w e.0))) e es (cut (i ∷ w) (under j es)) (cut-under j es Equal p)
   cut-under j (e ∷ es) Greater p =
-      ap (λ r. cond (not (is_eq (ordering_then r (bytes_cmp w e.0)))) ((j ∷ e.0, e.1) ∷ cut (i ∷ w) (under j es)) (cut (i ∷ w) (under j es))) p ∙ ap (λ l. (j ∷ e.0, e.1) ∷ l) (cut-under j es Greater p)
+      ap (λ r. cond (not (is_eq (ordering_then r (bytes_cmp w e.0)))) ((j ∷ e.0, e.1) ∷ cut (i ∷ w) (under j es)) (cut (i ∷ w) (under j es))) p
+      ∙ ap (λ l. (j ∷ e.0, e.1) ∷ l) (cut-under j es Greater p)
 
   cut-append : (xs ys : List (List ℕ × V)) → cut (i ∷ w) (xs ++ ys) ≡ cut (i ∷ w) xs ++ cut (i ∷ w) ys
   cut-append xs ys = filter-append (λ e. not (eq_by_cmp bytes_cmp (i ∷ w) e.0)) xs ys
@@ -65,7 +69,8 @@ module _ {V : Type 0} (i : ℕ) (w : List ℕ) where
   cut_step : (c : ℕ × List (List ℕ × V)) (cs : List (ℕ × List (List ℕ × V))) (o : Ordering) → nat_cmp i c.0 ≡ o → Rise (suc c.0) cs
       → (there i cs ≡ true → cut (i ∷ w) (fan cs) ≡ fan (put_child i (cut w (at i cs)) cs)) → by_order o false true (there i cs) ≡ true
       → cut (i ∷ w) (under c.0 c.1 ++ fan cs)
-      ≡ fan (by_order o ((i, cut w (by_order o [] c.1 (at i cs))) ∷ c ∷ cs) ((c.0, cut w (by_order o [] c.1 (at i cs))) ∷ cs) (c ∷ put_child i (cut w (by_order o [] c.1 (at i cs))) cs))
+      ≡ fan (by_order o ((i, cut w (by_order o [] c.1 (at i cs))) ∷ c ∷ cs) ((c.0, cut w (by_order o [] c.1 (at i cs))) ∷ cs)
+      (c ∷ put_child i (cut w (by_order o [] c.1 (at i cs))) cs))
   cut_step c cs Less p r rest t = cc
   cut_step c cs Equal p r rest t =
       let next : i < suc c.0 = let h = same i c.0 p in omega arith in
@@ -135,7 +140,8 @@ module _ {V : Type 0} where
       step true rest = (a.0, rest)
       step false rest = rest
 
-  pub length-cut : (w : List ℕ) (es : List (List ℕ × V)) → T (is_sorted bytes_cmp es) → is_some (find bytes_cmp w es) ≡ true → suc (length (cut w es)) ≡ length es
+  pub length-cut : (w : List ℕ) (es : List (List ℕ × V)) → T (is_sorted bytes_cmp es) → is_some (find bytes_cmp w es) ≡ true
+      → suc (length (cut w es)) ≡ length es
   length-cut w es s f =
       let all = subst (λ b. cond b 1 0 + length (cut w es) ≡ length es) f (length_without bytes_cmp nat_list_cmp_total w es s) in
       omega arith
@@ -145,12 +151,14 @@ module _ {V : Type 0} where
   below_right : (x : List ℕ) (xs ys : List (List ℕ × V)) → T (below_all bytes_cmp x (xs ++ ys)) → T (below_all bytes_cmp x xs)
   below_right x [] ys t = tt
   below_right x (e ∷ xs) ys t =
-      both _ _ (first (is_lt (bytes_cmp x e.0)) (below_all bytes_cmp x (xs ++ ys)) t) (below_right x xs ys (second (is_lt (bytes_cmp x e.0)) (below_all bytes_cmp x (xs ++ ys)) t))
+      both _ _ (first (is_lt (bytes_cmp x e.0)) (below_all bytes_cmp x (xs ++ ys)) t)
+      (below_right x xs ys (second (is_lt (bytes_cmp x e.0)) (below_all bytes_cmp x (xs ++ ys)) t))
 
   sorted_left : (xs ys : List (List ℕ × V)) → T (is_sorted bytes_cmp (xs ++ ys)) → T (is_sorted bytes_cmp xs)
   sorted_left [] ys t = tt
   sorted_left (e ∷ xs) ys t =
-      both _ _ (below_right e.0 xs ys (first (below_all bytes_cmp e.0 (xs ++ ys)) (is_sorted bytes_cmp (xs ++ ys)) t)) (sorted_left xs ys (second (below_all bytes_cmp e.0 (xs ++ ys)) (is_sorted bytes_cmp (xs ++ ys)) t))
+      both _ _ (below_right e.0 xs ys (first (below_all bytes_cmp e.0 (xs ++ ys)) (is_sorted bytes_cmp (xs ++ ys)) t))
+      (sorted_left xs ys (second (below_all bytes_cmp e.0 (xs ++ ys)) (is_sorted bytes_cmp (xs ++ ys)) t))
 
   sorted_right : (xs ys : List (List ℕ × V)) → T (is_sorted bytes_cmp (xs ++ ys)) → T (is_sorted bytes_cmp ys)
   sorted_right [] ys t = t
@@ -159,13 +167,15 @@ module _ {V : Type 0} where
   below-under : (j : ℕ) (x : List ℕ) (es : List (List ℕ × V)) → T (below_all bytes_cmp (j ∷ x) (under j es)) → T (below_all bytes_cmp x es)
   below-under j x [] t = tt
   below-under j x (e ∷ es) t =
-      both _ _ (subst (λ r. T (is_lt r)) (same_index j (bytes_cmp x e.0)) (first (is_lt (bytes_cmp (j ∷ x) (j ∷ e.0))) (below_all bytes_cmp (j ∷ x) (under j es)) t))
+      both _ _ (subst (λ r. T (is_lt r)) (same_index j (bytes_cmp x e.0))
+      (first (is_lt (bytes_cmp (j ∷ x) (j ∷ e.0))) (below_all bytes_cmp (j ∷ x) (under j es)) t))
       (below-under j x es (second (is_lt (bytes_cmp (j ∷ x) (j ∷ e.0))) (below_all bytes_cmp (j ∷ x) (under j es)) t))
 
   sorted-under : (j : ℕ) (es : List (List ℕ × V)) → T (is_sorted bytes_cmp (under j es)) → T (is_sorted bytes_cmp es)
   sorted-under j [] t = tt
   sorted-under j (e ∷ es) t =
-      both _ _ (below-under j e.0 es (first (below_all bytes_cmp (j ∷ e.0) (under j es)) (is_sorted bytes_cmp (under j es)) t)) (sorted-under j es (second (below_all bytes_cmp (j ∷ e.0) (under j es)) (is_sorted bytes_cmp (under j es)) t))
+      both _ _ (below-under j e.0 es (first (below_all bytes_cmp (j ∷ e.0) (under j es)) (is_sorted bytes_cmp (under j es)) t))
+      (sorted-under j es (second (below_all bytes_cmp (j ∷ e.0) (under j es)) (is_sorted bytes_cmp (under j es)) t))
 
   -- the entries at an index ascend where all do
   pub sorted-at : (i : ℕ) (cs : List (ℕ × List (List ℕ × V))) → T (is_sorted bytes_cmp (fan cs)) → T (is_sorted bytes_cmp (at i cs))
@@ -197,16 +207,20 @@ module _ {V : Type 0} (w : List ℕ) where
   remove_spot [] s h = absurd (omega arith)
   remove_spot (e ∷ es) s h = step (eq_by_cmp bytes_cmp w e.0) refl (remove_spot es (second (below_all bytes_cmp e.0 es) (is_sorted bytes_cmp es) s)) h
     where
-      step : (b : Bool) → eq_by_cmp bytes_cmp w e.0 ≡ b → (spot w es < length es → remove es (spot w es) ≡ cut w es) → cond b 0 (suc (spot w es)) < suc (length es)
+      step : (b : Bool) → eq_by_cmp bytes_cmp w e.0 ≡ b → (spot w es < length es → remove es (spot w es) ≡ cut w es)
+          → cond b 0 (suc (spot w es)) < suc (length es)
           → remove (e ∷ es) (cond b 0 (suc (spot w es))) ≡ cond (not b) (e ∷ cut w es) (cut w es)
-      step true t rest l = sym (cut_none es (subst (λ x. T (below_all bytes_cmp x es)) (sym (tied_same w e.0 t)) (first (below_all bytes_cmp e.0 es) (is_sorted bytes_cmp es) s)))
+      step true t rest l =
+          sym (cut_none es (subst (λ x. T (below_all bytes_cmp x es)) (sym (tied_same w e.0 t))
+          (first (below_all bytes_cmp e.0 es) (is_sorted bytes_cmp es) s)))
       step false t rest l = ap (λ r. e ∷ r) (rest (omega arith))
 
   pub cut_past : (es : List (List ℕ × V)) → length es ≤ spot w es → cut w es ≡ es
   cut_past [] h = refl
   cut_past (e ∷ es) h = step (eq_by_cmp bytes_cmp w e.0) (cut_past es) h
     where
-      step : (b : Bool) → (length es ≤ spot w es → cut w es ≡ es) → suc (length es) ≤ cond b 0 (suc (spot w es)) → cond (not b) (e ∷ cut w es) (cut w es) ≡ e ∷ es
+      step : (b : Bool) → (length es ≤ spot w es → cut w es ≡ es) → suc (length es) ≤ cond b 0 (suc (spot w es))
+          → cond (not b) (e ∷ cut w es) (cut w es) ≡ e ∷ es
       step true rest l = absurd (omega arith)
       step false rest l = ap (λ r. e ∷ r) (rest (omega arith))
 
@@ -215,6 +229,7 @@ module _ {V : Type 0} (w : List ℕ) where
   cut_missing [] h = refl
   cut_missing (e ∷ es) h = step (eq_by_cmp bytes_cmp w e.0) (cut_missing es) h
     where
-      step : (b : Bool) → (find bytes_cmp w es ≡ None → cut w es ≡ es) → cond b (Some e.1) (find bytes_cmp w es) ≡ None → cond (not b) (e ∷ cut w es) (cut w es) ≡ e ∷ es
+      step : (b : Bool) → (find bytes_cmp w es ≡ None → cut w es ≡ es) → cond b (Some e.1) (find bytes_cmp w es) ≡ None
+          → cond (not b) (e ∷ cut w es) (cut w es) ≡ e ∷ es
       step true rest l = cc
       step false rest l = ap (λ r. e ∷ r) (rest l)

@@ -19,7 +19,8 @@ first_found true x y z = refl
 first_found false x y z = refl
 
 find-under : {V : Type 0} (i j : ℕ) (w : List ℕ) (es rest : List (List ℕ × V)) (o : Ordering) → nat_cmp i j ≡ o
-    → find bytes_cmp (i ∷ w) (under j es ++ rest) ≡ by_order o (find bytes_cmp (i ∷ w) rest) (option_or (find bytes_cmp w es) (find bytes_cmp (i ∷ w) rest)) (find bytes_cmp (i ∷ w) rest)
+    → find bytes_cmp (i ∷ w) (under j es ++ rest) ≡ by_order o (find bytes_cmp (i ∷ w) rest) (option_or (find bytes_cmp w es) (find bytes_cmp (i ∷ w) rest))
+    (find bytes_cmp (i ∷ w) rest)
 find-under i j w [] rest Less p = refl
 find-under i j w [] rest Equal p = refl
 find-under i j w [] rest Greater p = refl
@@ -51,6 +52,7 @@ find_step i w c cs Equal p r rest =
     find-under i c.0 w c.1 (fan cs) Equal p ∙ ap (option_or (find bytes_cmp w c.1)) (absent (suc c.0) i w cs r next) ∙ or_none (find bytes_cmp w c.1)
 find_step i w c cs Greater p r rest = find-under i c.0 w c.1 (fan cs) Greater p ∙ rest
 
-pub find-fan : {V : Type 0} (low i : ℕ) (w : List ℕ) (cs : List (ℕ × List (List ℕ × V))) → Rise low cs → find bytes_cmp (i ∷ w) (fan cs) ≡ find bytes_cmp w (at i cs)
+pub find-fan : {V : Type 0} (low i : ℕ) (w : List ℕ) (cs : List (ℕ × List (List ℕ × V))) → Rise low cs
+    → find bytes_cmp (i ∷ w) (fan cs) ≡ find bytes_cmp w (at i cs)
 find-fan low i w [] r = refl
 find-fan low i w (c ∷ cs) r = find_step i w c cs (nat_cmp i c.0) refl r.2 (find-fan (suc c.0) i w cs r.2)

@@ -40,20 +40,24 @@ module _ {V : Type 0} (f : List ℕ → ℕ) where
 
 -- ---- two entries, of which one is cut
 
-pub cut_first : {V : Type 0} (w : List ℕ) (a b : List ℕ × V) → T (is_sorted bytes_cmp (a ∷ b ∷ [])) → eq_by_cmp bytes_cmp w a.0 ≡ true → ◌≡◌ {A = List (List ℕ × V)} (cut w (a ∷ b ∷ [])) (b ∷ [])
+pub cut_first : {V : Type 0} (w : List ℕ) (a b : List ℕ × V) → T (is_sorted bytes_cmp (a ∷ b ∷ [])) → eq_by_cmp bytes_cmp w a.0 ≡ true
+    → ◌≡◌ {A = List (List ℕ × V)} (cut w (a ∷ b ∷ [])) (b ∷ [])
 cut_first {V} w a b s t =
     let same = tied_same w a.0 t in
     let apart : eq_by_cmp bytes_cmp w b.0 ≡ false = ap (λ x. eq_by_cmp bytes_cmp x b.0) same ∙ below (bytes_cmp a.0 b.0) s in
-    (λ i. cond (not (t i)) (a ∷ cond (not (eq_by_cmp bytes_cmp w b.0)) (b ∷ []) []) (cond (not (eq_by_cmp bytes_cmp w b.0)) (b ∷ []) [])) ∙ (λ i. cond (not (apart i)) (b ∷ []) [])
+    (λ i. cond (not (t i)) (a ∷ cond (not (eq_by_cmp bytes_cmp w b.0)) (b ∷ []) []) (cond (not (eq_by_cmp bytes_cmp w b.0)) (b ∷ []) []))
+    ∙ (λ i. cond (not (apart i)) (b ∷ []) [])
   where
     below : (o : Ordering) → T ((is_lt o && true) && (true && true)) → is_eq o ≡ false
     below Less h = refl
     below Equal h = absurd h
     below Greater h = refl
 
-pub cut_second : {V : Type 0} (w : List ℕ) (a b : List ℕ × V) → eq_by_cmp bytes_cmp w a.0 ≡ false → is_some (find bytes_cmp w (a ∷ b ∷ [])) ≡ true → ◌≡◌ {A = List (List ℕ × V)} (cut w (a ∷ b ∷ [])) (a ∷ [])
+pub cut_second : {V : Type 0} (w : List ℕ) (a b : List ℕ × V) → eq_by_cmp bytes_cmp w a.0 ≡ false → is_some (find bytes_cmp w (a ∷ b ∷ [])) ≡ true
+    → ◌≡◌ {A = List (List ℕ × V)} (cut w (a ∷ b ∷ [])) (a ∷ [])
 cut_second {V} w a b t f =
-    let left : is_some (cond (eq_by_cmp bytes_cmp w b.0) (Some b.1) None) ≡ true = ap (λ c. is_some (cond c (Some a.1) (cond (eq_by_cmp bytes_cmp w b.0) (Some b.1) None))) (sym t) ∙ f in
+    let left : is_some (cond (eq_by_cmp bytes_cmp w b.0) (Some b.1) None) ≡ true =
+    ap (λ c. is_some (cond c (Some a.1) (cond (eq_by_cmp bytes_cmp w b.0) (Some b.1) None))) (sym t) ∙ f in
     let tie : eq_by_cmp bytes_cmp w b.0 ≡ true = found (eq_by_cmp bytes_cmp w b.0) left in
     (λ i. cond (not (t i)) (a ∷ cond (not (tie i)) (b ∷ []) []) (cond (not (tie i)) (b ∷ []) []))
   where

@@ -39,7 +39,8 @@ module _ {V : Type 0} (f : List ℕ → ℕ) where
   find-by_key : (k : List ℕ) (es : List (List ℕ × V)) → HashedBy f es → find bytes_cmp k (by_key 7 es) ≡ find bytes_cmp (path f k) es
   find-by_key k [] h = refl
   find-by_key k (e ∷ es) h =
-      let same : eq_by_cmp bytes_cmp k (key_of e.0) ≡ eq_by_cmp bytes_cmp (path f k) e.0 = sym (tied_path f k (key_of e.0)) ∙ ap (eq_by_cmp bytes_cmp (path f k)) (sym h.0) in
+      let same : eq_by_cmp bytes_cmp k (key_of e.0) ≡ eq_by_cmp bytes_cmp (path f k) e.0 = sym (tied_path f k (key_of e.0))
+      ∙ ap (eq_by_cmp bytes_cmp (path f k)) (sym h.0) in
       let rest = find-by_key k es h.1 in
       λ i. cond (same i) (Some e.1) (rest i)
 
@@ -50,7 +51,8 @@ module _ {V : Type 0} (f : List ℕ → ℕ) where
   HashedBy-put k v [] h = (is_path f k, tt)
   HashedBy-put k v (e ∷ es) h = step (bytes_cmp (path f k) e.0) (HashedBy-put k v es h.1)
     where
-      step : (o : Ordering) → HashedBy f (put bytes_cmp (path f k) v es) → HashedBy f (by_order o ((path f k, v) ∷ e ∷ es) ((e.0, v) ∷ es) (e ∷ put bytes_cmp (path f k) v es))
+      step : (o : Ordering) → HashedBy f (put bytes_cmp (path f k) v es)
+          → HashedBy f (by_order o ((path f k, v) ∷ e ∷ es) ((e.0, v) ∷ es) (e ∷ put bytes_cmp (path f k) v es))
       step Less rest = (is_path f k, h)
       step Equal rest = h
       step Greater rest = (h.0, rest)
@@ -66,13 +68,15 @@ module _ {V : Type 0} (f : List ℕ → ℕ) where
   none_below : (w : List ℕ) (es : List (List ℕ × V)) → T (below_all bytes_cmp w es) → find bytes_cmp w es ≡ None
   none_below w [] t = refl
   none_below w (e ∷ es) t =
-      ap (λ b. cond b (Some e.1) (find bytes_cmp w es)) (is_less (bytes_cmp w e.0) (first (is_lt (bytes_cmp w e.0)) (below_all bytes_cmp w es) t)) ∙ none_below w es (second (is_lt (bytes_cmp w e.0)) (below_all bytes_cmp w es) t)
+      ap (λ b. cond b (Some e.1) (find bytes_cmp w es)) (is_less (bytes_cmp w e.0) (first (is_lt (bytes_cmp w e.0)) (below_all bytes_cmp w es) t))
+      ∙ none_below w es (second (is_lt (bytes_cmp w e.0)) (below_all bytes_cmp w es) t)
 
   pub len-as_map : (es : List (List ℕ × V)) → HashedBy f es → T (is_sorted bytes_cmp es) → finite.len (as_map es) ≡ length es
   len-as_map [] h s = len-empty bytes_cmp V
   len-as_map (e ∷ es) h s =
       let none : finite.get (as_map es) (key_of e.0) ≡ None =
-      get-as_map (key_of e.0) es h.1 ∙ ap (λ w. find bytes_cmp w es) (sym h.0) ∙ none_below e.0 es (first (below_all bytes_cmp e.0 es) (is_sorted bytes_cmp es) s) in
+      get-as_map (key_of e.0) es h.1 ∙ ap (λ w. find bytes_cmp w es) (sym h.0)
+      ∙ none_below e.0 es (first (below_all bytes_cmp e.0 es) (is_sorted bytes_cmp es) s) in
       len-insert nat_list_cmp_total (as_map es) (key_of e.0) e.1 ∙ ap (λ o. cond (is_some o) (finite.len (as_map es)) (finite.len (as_map es) + 1)) none
       ∙ ap (λ n. n + 1) (len-as_map es h.1 (second (below_all bytes_cmp e.0 es) (is_sorted bytes_cmp es) s)) ∙ one_more (length es)
     where

@@ -1,5 +1,6 @@
 -- What the walk of a map has, and what its part under a prefix is.
-use Rattle.std.proofs.Common.{◌≡◌, ℕ, zero, suc, ◌-◌, ◌≤◌, ◌↔◌, List, [], ◌∷◌, ◌++◌, length, drop, get_or, Bool, true, false, cond, nat_eq, T, Some, arith, refl, sym, ◌∙◌, ap, subst, eqb-true, eq-eqb}
+use Rattle.std.proofs.Common.{◌≡◌, ℕ, zero, suc, ◌-◌, ◌≤◌, ◌↔◌, List, [], ◌∷◌, ◌++◌, length, drop, get_or, Bool, true, false, cond, nat_eq, T, Some, arith}
+use Rattle.std.proofs.Common.{refl, sym, ◌∙◌, ap, subst, eqb-true, eq-eqb}
 use Rattle.std.specs.Prelude.{◌&&◌}
 use Rattle.std.specs.declared.cmp.Ordering.{Ordering}
 use Rattle.std.specs.declared.cmp.Ordering.TheVariants.{Less, Equal, Greater}
@@ -51,7 +52,8 @@ module _ {V : Type 0} where
   later : (w : List ℕ) (es : List (List ℕ × V)) → T (below_all bytes_cmp w es) → All (λ e. eq_by_cmp bytes_cmp e.0 w ≡ false) es
   later w [] t = All-nil (λ e. eq_by_cmp bytes_cmp e.0 w ≡ false)
   later w (e ∷ es) t =
-      All-cons (λ e. eq_by_cmp bytes_cmp e.0 w ≡ false) e es (apart w e.0 (first (is_lt (bytes_cmp w e.0)) (below_all bytes_cmp w es) t)) (later w es (second (is_lt (bytes_cmp w e.0)) (below_all bytes_cmp w es) t))
+      All-cons (λ e. eq_by_cmp bytes_cmp e.0 w ≡ false) e es (apart w e.0 (first (is_lt (bytes_cmp w e.0)) (below_all bytes_cmp w es) t))
+      (later w es (second (is_lt (bytes_cmp w e.0)) (below_all bytes_cmp w es) t))
 
   each_found : (es : List (List ℕ × V)) → T (is_sorted bytes_cmp es) → All (λ e. find bytes_cmp e.0 es ≡ Some e.1) es
   each_found [] s = All-nil (λ e. find bytes_cmp e.0 [] ≡ Some e.1)
@@ -70,7 +72,8 @@ one_later x y xs h = let less = h.1 in (suc h.0, omega (arith, less), h.2)
 module _ {V : Type 0} (f : List ℕ → ℕ) where
   HashedBy-from : (es : List (List ℕ × V)) → HashedBy f (finite.entries (finite.from_entries {R = bytes_cmp} (with_path f es)))
   HashedBy-from [] =
-      let none : finite.entries (finite.empty {X = V} {R = bytes_cmp}) ≡ [] = nil_from_length _ (sym (len-entries (finite.empty {X = V} {R = bytes_cmp})) ∙ len-empty bytes_cmp V) in
+      let none : finite.entries (finite.empty {X = V} {R = bytes_cmp}) ≡ [] =
+      nil_from_length _ (sym (len-entries (finite.empty {X = V} {R = bytes_cmp})) ∙ len-empty bytes_cmp V) in
       subst (HashedBy f) (sym none) tt
   HashedBy-from (e ∷ es) =
       let m = finite.from_entries {R = bytes_cmp} (with_path f es) in
@@ -83,7 +86,8 @@ module _ {V : Type 0} (f : List ℕ → ℕ) where
   pub find-by_path : (m : finite.FinMap bytes_cmp V) (q : List ℕ) → find bytes_cmp (path f q) (by_path f m) ≡ finite.get m q
   find-by_path m q =
       let es = with_path f (finite.entries m) in
-      sym (get-entries (finite.from_entries {R = bytes_cmp} es) (path f q)) ∙ get-from_entries nat_list_cmp_total es (path f q) ∙ find-with_path f q (finite.entries m) ∙ sym (get-entries m q)
+      sym (get-entries (finite.from_entries {R = bytes_cmp} es) (path f q)) ∙ get-from_entries nat_list_cmp_total es (path f q)
+      ∙ find-with_path f q (finite.entries m) ∙ sym (get-entries m q)
 
   at_path : (es : List (List ℕ × V)) → HashedBy f es → All (λ e. e.0 ≡ path f (key_of e.0)) es
   at_path [] h = All-nil (λ e. e.0 ≡ path f (key_of e.0))
@@ -126,7 +130,8 @@ module _ {V : Type 0} where
   filter_all [] = refl
   filter_all (e ∷ es) = ap (λ l. e ∷ l) (filter_all es)
 
-  one_index : (i : ℕ) (p : List ℕ) (b : ℕ) (es : List (List ℕ × V)) → by_key b (filter (λ e. begins p e.0) (under_index i es)) ≡ by_key (suc b) (filter (λ e. begins (i ∷ p) e.0) es)
+  one_index : (i : ℕ) (p : List ℕ) (b : ℕ) (es : List (List ℕ × V)) → by_key b (filter (λ e. begins p e.0) (under_index i es))
+      ≡ by_key (suc b) (filter (λ e. begins (i ∷ p) e.0) es)
   one_index i p b [] = refl
   one_index i p b (e ∷ es) = step (nat_eq i (get_or e.0 0 0)) (begins p (drop 1 e.0)) refl (one_index i p b es)
     where
@@ -137,14 +142,17 @@ module _ {V : Type 0} where
       part = filter (λ e. begins p e.0) (under_index i es)
 
       step : (t u : Bool) → begins p (drop 1 e.0) ≡ u → by_key b part ≡ by_key (suc b) whole
-          → by_key b (filter (λ e. begins p e.0) (cond t ((drop 1 e.0, e.1) ∷ under_index i es) (under_index i es))) ≡ by_key (suc b) (cond (cond t (begins p (drop 1 e.0)) false) (e ∷ whole) whole)
+          → by_key b (filter (λ e. begins p e.0) (cond t ((drop 1 e.0, e.1) ∷ under_index i es) (under_index i es)))
+          ≡ by_key (suc b) (cond (cond t (begins p (drop 1 e.0)) false) (e ∷ whole) whole)
       step false u q rest = rest
       step true true q rest =
-          ap (λ u. by_key b (cond u ((drop 1 e.0, e.1) ∷ part) part)) q ∙ (λ k. (drop_more (suc b) e.0 k, e.1) ∷ rest k) ∙ ap (λ u. by_key (suc b) (cond u (e ∷ whole) whole)) (sym q)
+          ap (λ u. by_key b (cond u ((drop 1 e.0, e.1) ∷ part) part)) q ∙ (λ k. (drop_more (suc b) e.0 k, e.1) ∷ rest k)
+          ∙ ap (λ u. by_key (suc b) (cond u (e ∷ whole) whole)) (sym q)
       step true false q rest =
           ap (λ u. by_key b (cond u ((drop 1 e.0, e.1) ∷ part) part)) q ∙ rest ∙ ap (λ u. by_key (suc b) (cond u (e ∷ whole) whole)) (sym q)
 
-  part_is : (p : List ℕ) (height : ℕ) (es : List (List ℕ × V)) → length p ≤ height → by_key (height - length p) (under_prefix p es) ≡ by_key height (filter (λ e. begins p e.0) es)
+  part_is : (p : List ℕ) (height : ℕ) (es : List (List ℕ × V)) → length p ≤ height
+      → by_key (height - length p) (under_prefix p es) ≡ by_key height (filter (λ e. begins p e.0) es)
   part_is [] height es h = let same : height - 0 ≡ height = omega arith in ap (λ k. by_key k es) same ∙ ap (by_key height) (sym (filter_all es))
   part_is (i ∷ p) zero es h = absurd (omega arith)
   part_is (i ∷ p) (suc b) es h =
@@ -152,7 +160,8 @@ module _ {V : Type 0} where
       ap (λ k. by_key k (under_prefix p (under_index i es))) same ∙ part_is p b (under_index i es) (omega arith) ∙ one_index i p b es
 
 module _ {V : Type 0} (f : List ℕ → ℕ) where
-  keyed_part : (p : List ℕ) (es : List (List ℕ × V)) → HashedBy f es → filter (λ e. begins p (path f e.0)) (by_key 7 es) ≡ by_key 7 (filter (λ e. begins p e.0) es)
+  keyed_part : (p : List ℕ) (es : List (List ℕ × V)) → HashedBy f es → filter (λ e. begins p (path f e.0)) (by_key 7 es)
+      ≡ by_key 7 (filter (λ e. begins p e.0) es)
   keyed_part p [] h = refl
   keyed_part p (e ∷ es) h = step (begins p e.0) (ap (begins p) (sym h.0)) (keyed_part p es h.1)
     where
@@ -160,12 +169,14 @@ module _ {V : Type 0} (f : List ℕ → ℕ) where
       whole = filter (λ e. begins p e.0) es
 
       step : (t : Bool) → begins p (path f (key_of e.0)) ≡ t → filter (λ e. begins p (path f e.0)) (by_key 7 es) ≡ by_key 7 whole
-          → cond (begins p (path f (key_of e.0))) ((key_of e.0, e.1) ∷ filter (λ e. begins p (path f e.0)) (by_key 7 es)) (filter (λ e. begins p (path f e.0)) (by_key 7 es)) ≡ by_key 7 (cond t (e ∷ whole) whole)
+          → cond (begins p (path f (key_of e.0))) ((key_of e.0, e.1) ∷ filter (λ e. begins p (path f e.0)) (by_key 7 es))
+          (filter (λ e. begins p (path f e.0)) (by_key 7 es)) ≡ by_key 7 (cond t (e ∷ whole) whole)
       step true q rest = (λ k. cond (q k) ((key_of e.0, e.1) ∷ rest k) (rest k))
       step false q rest = (λ k. cond (q k) ((key_of e.0, e.1) ∷ rest k) (rest k))
 
   -- the part of the walk is the entries by path under the prefix
-  pub walk_under_is : (p : List ℕ) (es : List (List ℕ × V)) → length p ≤ 7 → HashedBy f es → T (is_sorted bytes_cmp es) → walk_under f p (as_map es) ≡ by_key (7 - length p) (under_prefix p es)
+  pub walk_under_is : (p : List ℕ) (es : List (List ℕ × V)) → length p ≤ 7 → HashedBy f es → T (is_sorted bytes_cmp es)
+      → walk_under f p (as_map es) ≡ by_key (7 - length p) (under_prefix p es)
   walk_under_is p es short h s = ap (filter (λ e. begins p (path f e.0))) (walk_is f es h s) ∙ keyed_part p es h ∙ sym (part_is p 7 es short)
 
   -- and so are those of any map
@@ -198,4 +209,5 @@ begins-path f p key short =
     let d = length p in
     let r = 7 - length p in
     let is : path f key ≡ indices d (f key) ++ word r (f key) key = path_begins f d r key (omega arith) in
-    subst (λ w. (begins p w ≡ true) ↔ (indices d (f key) ≡ p)) (sym is) (begins-front p (indices d (f key)) (word r (f key) key) (sym (length-indices d (f key))))
+    subst (λ w. (begins p w ≡ true) ↔ (indices d (f key) ≡ p)) (sym is)
+    (begins-front p (indices d (f key)) (word r (f key) key) (sym (length-indices d (f key))))

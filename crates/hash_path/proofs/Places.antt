@@ -1,5 +1,6 @@
 -- The bitmap gives a child's position, and what an edit at that position leaves.
-use Rattle.std.proofs.Common.{◌≡◌, ℕ, suc, ◌+◌, ◌-◌, ◌*◌, ◌/◌, ◌%◌, ◌^◌, ◌<◌, ◌≤◌, ◌≢◌, List, [], ◌∷◌, length, get_or, set, true, false, nat_eq, arith, refl, sym, ◌∙◌, ap, eq-eqb, ne_eqb}
+use Rattle.std.proofs.Common.{◌≡◌, ℕ, suc, ◌+◌, ◌-◌, ◌*◌, ◌/◌, ◌%◌, ◌^◌, ◌<◌, ◌≤◌, ◌≢◌, List, [], ◌∷◌, length, get_or, set, true, false, nat_eq, arith, refl}
+use Rattle.std.proofs.Common.{sym, ◌∙◌, ap, eq-eqb, ne_eqb}
 use Rattle.std.specs.Prelude.{count_ones}
 use Rattle.std.specs.Int.Count.{ones}
 use Rattle.std.specs.List.{insert}
@@ -99,7 +100,8 @@ place_le i (c ∷ cs) = step (nat_cmp i c.0) (place_le i cs)
 
 test_step : {V : Type 0} (i : ℕ) (c x : ℕ × List (List ℕ × V)) (cs : List (ℕ × List (List ℕ × V))) (o : Ordering) → nat_cmp i c.0 ≡ o
     → (place i cs < length cs → x ≡ get_or cs (place i cs) x → nat_eq x.0 i ≡ there i cs)
-    → by_order o 0 0 (suc (place i cs)) < suc (length cs) → x ≡ get_or (c ∷ cs) (by_order o 0 0 (suc (place i cs))) x → nat_eq x.0 i ≡ by_order o false true (there i cs)
+    → by_order o 0 0 (suc (place i cs)) < suc (length cs) → x ≡ get_or (c ∷ cs) (by_order o 0 0 (suc (place i cs))) x
+    → nat_eq x.0 i ≡ by_order o false true (there i cs)
 test_step i c x cs Less p rest h e =
     let first = ap (λ y. y.0) e in
     let ne : x.0 ≢ i = λ q. let l = less i c.0 p in omega arith in
@@ -109,7 +111,8 @@ test_step i c x cs Greater p rest h e =
     let within : place i cs < length cs = omega arith in
     rest within e
 
-pub test_some : {V : Type 0} (i : ℕ) (x : ℕ × List (List ℕ × V)) (cs : List (ℕ × List (List ℕ × V))) → place i cs < length cs → x ≡ get_or cs (place i cs) x → nat_eq x.0 i ≡ there i cs
+pub test_some : {V : Type 0} (i : ℕ) (x : ℕ × List (List ℕ × V)) (cs : List (ℕ × List (List ℕ × V))) → place i cs < length cs → x ≡ get_or cs (place i cs) x
+    → nat_eq x.0 i ≡ there i cs
 test_some i x [] h e = absurd (omega arith)
 test_some i x (c ∷ cs) h e = test_step i c x cs (nat_cmp i c.0) refl (test_some i x cs) h e
 
@@ -117,7 +120,8 @@ pub test_none : {V : Type 0} (i : ℕ) (cs : List (ℕ × List (List ℕ × V)))
 test_none i [] h = refl
 test_none i (c ∷ cs) h = step (nat_cmp i c.0) (test_none i cs) h
   where
-    step : (o : Ordering) → (length cs ≤ place i cs → there i cs ≡ false) → suc (length cs) ≤ by_order o 0 0 (suc (place i cs)) → by_order o false true (there i cs) ≡ false
+    step : (o : Ordering) → (length cs ≤ place i cs → there i cs ≡ false) → suc (length cs) ≤ by_order o 0 0 (suc (place i cs))
+        → by_order o false true (there i cs) ≡ false
     step Less rest k = refl
     step Equal rest k = absurd (omega arith)
     step Greater rest k = let within : length cs ≤ place i cs = omega arith in rest within
@@ -127,7 +131,8 @@ test_none i (c ∷ cs) h = step (nat_cmp i c.0) (test_none i cs) h
 there_step : {V : Type 0} (i : ℕ) (c d : ℕ × List (List ℕ × V)) (cs : List (ℕ × List (List ℕ × V))) (o : Ordering) → nat_cmp i c.0 ≡ o
     → (there i cs ≡ true → (place i cs < length cs) × ((get_or cs (place i cs) d).0 ≡ i) × ((get_or cs (place i cs) d).1 ≡ at i cs))
     → by_order o false true (there i cs) ≡ true
-    → (by_order o 0 0 (suc (place i cs)) < suc (length cs)) × ((get_or (c ∷ cs) (by_order o 0 0 (suc (place i cs))) d).0 ≡ i) × ((get_or (c ∷ cs) (by_order o 0 0 (suc (place i cs))) d).1 ≡ by_order o [] c.1 (at i cs))
+    → (by_order o 0 0 (suc (place i cs)) < suc (length cs)) × ((get_or (c ∷ cs) (by_order o 0 0 (suc (place i cs))) d).0 ≡ i)
+    × ((get_or (c ∷ cs) (by_order o 0 0 (suc (place i cs))) d).1 ≡ by_order o [] c.1 (at i cs))
 there_step i c d cs Less p rest t = cc
 there_step i c d cs Equal p rest t = (omega arith, sym (same i c.0 p), refl)
 there_step i c d cs Greater p rest t = let h = rest t in let k = h.0 in (omega arith, h.1, h.2)
@@ -144,7 +149,8 @@ set_step i es c cs Less p rest t = cc
 set_step i es c cs Equal p rest t = ap (λ k. (k, es) ∷ cs) (same i c.0 p)
 set_step i es c cs Greater p rest t = ap (λ l. c ∷ l) (rest t)
 
-pub set_there : {V : Type 0} (i : ℕ) (es : List (List ℕ × V)) (cs : List (ℕ × List (List ℕ × V))) → there i cs ≡ true → set cs (place i cs) (i, es) ≡ put_child i es cs
+pub set_there : {V : Type 0} (i : ℕ) (es : List (List ℕ × V)) (cs : List (ℕ × List (List ℕ × V))) → there i cs ≡ true
+    → set cs (place i cs) (i, es) ≡ put_child i es cs
 set_there i es [] t = cc
 set_there i es (c ∷ cs) t = set_step i es c cs (nat_cmp i c.0) refl (set_there i es cs) t
 
@@ -166,7 +172,8 @@ insert_step i es c cs Less rest t = refl
 insert_step i es c cs Equal rest t = cc
 insert_step i es c cs Greater rest t = ap (λ l. c ∷ l) (rest t)
 
-pub insert_absent : {V : Type 0} (i : ℕ) (es : List (List ℕ × V)) (cs : List (ℕ × List (List ℕ × V))) → there i cs ≡ false → insert cs (place i cs) (i, es) ≡ put_child i es cs
+pub insert_absent : {V : Type 0} (i : ℕ) (es : List (List ℕ × V)) (cs : List (ℕ × List (List ℕ × V))) → there i cs ≡ false
+    → insert cs (place i cs) (i, es) ≡ put_child i es cs
 insert_absent i es [] t = refl
 insert_absent i es (c ∷ cs) t = insert_step i es c cs (nat_cmp i c.0) (insert_absent i es cs) t
 
@@ -179,11 +186,13 @@ rise_step low i es c cs Less p rest h l r = (h, l, (less i c.0 p, r.1, r.2))
 rise_step low i es c cs Equal p rest h l r = r
 rise_step low i es c cs Greater p rest h l r = (r.0, r.1, rest (more i c.0 p))
 
-pub Rise-put_child : {V : Type 0} (low i : ℕ) (es : List (List ℕ × V)) (cs : List (ℕ × List (List ℕ × V))) → low ≤ i → i < 32 → Rise low cs → Rise low (put_child i es cs)
+pub Rise-put_child : {V : Type 0} (low i : ℕ) (es : List (List ℕ × V)) (cs : List (ℕ × List (List ℕ × V))) → low ≤ i → i < 32 → Rise low cs
+    → Rise low (put_child i es cs)
 Rise-put_child low i es [] h l r = (h, l, tt)
 Rise-put_child low i es (c ∷ cs) h l r = rise_step low i es c cs (nat_cmp i c.0) refl (λ k. Rise-put_child (suc c.0) i es cs k l r.2) h l r
 
-pub bits_there : {V : Type 0} (i : ℕ) (es : List (List ℕ × V)) (cs : List (ℕ × List (List ℕ × V))) → there i cs ≡ true → bits_of (put_child i es cs) ≡ bits_of cs
+pub bits_there : {V : Type 0} (i : ℕ) (es : List (List ℕ × V)) (cs : List (ℕ × List (List ℕ × V))) → there i cs ≡ true
+    → bits_of (put_child i es cs) ≡ bits_of cs
 bits_there i es [] t = cc
 bits_there i es (c ∷ cs) t = step (nat_cmp i c.0) (bits_there i es cs) t
   where
@@ -193,7 +202,8 @@ bits_there i es (c ∷ cs) t = step (nat_cmp i c.0) (bits_there i es cs) t
     step Equal rest k = refl
     step Greater rest k = ap (λ x. 2 ^ c.0 + x) (rest k)
 
-pub bits_absent : {V : Type 0} (i : ℕ) (es : List (List ℕ × V)) (cs : List (ℕ × List (List ℕ × V))) → there i cs ≡ false → bits_of (put_child i es cs) ≡ bits_of cs + 2 ^ i
+pub bits_absent : {V : Type 0} (i : ℕ) (es : List (List ℕ × V)) (cs : List (ℕ × List (List ℕ × V))) → there i cs ≡ false
+    → bits_of (put_child i es cs) ≡ bits_of cs + 2 ^ i
 bits_absent i es [] t = omega arith
 bits_absent i es (c ∷ cs) t = step (nat_cmp i c.0) (bits_absent i es cs) t
   where

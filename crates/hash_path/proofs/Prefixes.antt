@@ -1,5 +1,6 @@
 -- What the calls of a prefix do to its bits, and so to its indices.
-use Rattle.std.proofs.Common.{◌≡◌, ◌≢◌, length, ℕ, zero, suc, ◌+◌, ◌-◌, ◌*◌, ◌/◌, ◌%◌, ◌^◌, ◌<◌, ◌≤◌, ◌++◌, ◌∷◌, [], IsTrue, nat_eq, ◌↔◌, arith, refl, sym, ◌∙◌, ap, subst, add-one, eq-eqb, eqb-true}
+use Rattle.std.proofs.Common.{◌≡◌, ◌≢◌, length, ℕ, zero, suc, ◌+◌, ◌-◌, ◌*◌, ◌/◌, ◌%◌, ◌^◌, ◌<◌, ◌≤◌, ◌++◌, ◌∷◌, [], IsTrue, nat_eq, ◌↔◌, arith, refl, sym, ◌∙◌}
+use Rattle.std.proofs.Common.{ap, subst, add-one, eq-eqb, eqb-true}
 use Rattle.std.proofs.lemmas.Nat.{one_shl, pow-add}
 use Rattle.std.proofs.Math.Nat.{mod-eq_of_lt}
 use Rattle.hash_path.specs.Path.{AreIndices, indices, last_index}
@@ -9,7 +10,8 @@ use Rattle.hash_path.specs.PathLaws.{length-indices, same_indices, same_bits, ch
 pub test_is : (a b : ℕ) (P : Type 0) → (a ≡ b → P) → (P → a ≡ b) → IsTrue (nat_eq a b) ↔ P
 test_is a b P f g = (λ t. f (eqb-true a b t), λ p. eq-eqb a b (g p))
 
-pub covers_mask : (d bits hash : ℕ) → d < 7 → bits < 2 ^ (5 * d) → IsTrue (nat_eq (hash % (1 * 2 ^ (5 * d) % 4294967296)) bits) ↔ (indices d hash ≡ indices d bits)
+pub covers_mask : (d bits hash : ℕ) → d < 7 → bits < 2 ^ (5 * d) → IsTrue (nat_eq (hash % (1 * 2 ^ (5 * d) % 4294967296)) bits) ↔
+    (indices d hash ≡ indices d bits)
 covers_mask d bits hash h b =
     let room : 5 * d < 32 = omega arith in
     let mask : 1 * 2 ^ (5 * d) % 4294967296 ≡ 2 ^ (5 * d) = one_shl (5 * d) 32 room in
@@ -94,5 +96,6 @@ are_indices at (suc depth) bits h b =
     (first_lawful at bits (omega arith) b, are_indices (suc at) depth (bits / 32) (omega arith) (others_below at bits (omega arith) b))
 
 -- the greatest index of a child, by the indices
-pub last_is : (depth bits last : ℕ) → depth < 7 → last ≡ last_index depth → (length (indices depth bits) < 7) × (last ≡ last_index (length (indices depth bits)))
+pub last_is : (depth bits last : ℕ) → depth < 7 → last ≡ last_index depth → (length (indices depth bits) < 7)
+    × (last ≡ last_index (length (indices depth bits)))
 last_is depth bits last h e = let long = length-indices depth bits in (omega arith, e ∙ ap last_index (sym long))

@@ -18,7 +18,8 @@ module _ {V : Type 0} (w : List ℕ) (v : V) where
   set_step d e es Equal p rest t h = let same = tied_same w e.0 t in λ i. (sym same i, v) ∷ es
   set_step d e es Greater p rest t h = ap (λ l. e ∷ l) (rest t (omega arith))
 
-  pub put_set : (d : List ℕ × V) (es : List (List ℕ × V)) → is_eq (bytes_cmp w (get_or es (rank w es) d).0) ≡ true → rank w es < length es → put bytes_cmp w v es ≡ set es (rank w es) (w, v)
+  pub put_set : (d : List ℕ × V) (es : List (List ℕ × V)) → is_eq (bytes_cmp w (get_or es (rank w es) d).0) ≡ true → rank w es < length es
+      → put bytes_cmp w v es ≡ set es (rank w es) (w, v)
   put_set d [] t h = absurd (omega arith)
   put_set d (e ∷ es) t h = set_step d e es (bytes_cmp w e.0) refl (put_set d es) t h
 
@@ -30,7 +31,8 @@ module _ {V : Type 0} (w : List ℕ) (v : V) where
   insert_step d e es Equal p rest t = let no : is_eq Equal ≡ false = ap is_eq (sym p) ∙ t (omega arith) in cc
   insert_step d e es Greater p rest t = ap (λ l. e ∷ l) (rest (λ h. t (omega (arith, h))))
 
-  pub put_insert : (d : List ℕ × V) (es : List (List ℕ × V)) → (rank w es < length es → is_eq (bytes_cmp w (get_or es (rank w es) d).0) ≡ false) → put bytes_cmp w v es ≡ insert es (rank w es) (w, v)
+  pub put_insert : (d : List ℕ × V) (es : List (List ℕ × V)) → (rank w es < length es → is_eq (bytes_cmp w (get_or es (rank w es) d).0) ≡ false)
+      → put bytes_cmp w v es ≡ insert es (rank w es) (w, v)
   put_insert d [] t = refl
   put_insert d (e ∷ es) t = insert_step d e es (bytes_cmp w e.0) refl (put_insert d es) t
 

@@ -1,5 +1,6 @@
 -- The summary of a branch is made of the summaries of its children, and that at a prefix is found in one child.
-use Rattle.std.proofs.Common.{◌≡◌, ℕ, zero, suc, ◌+◌, ◌-◌, ◌<◌, ◌≤◌, List, [], ◌∷◌, ◌++◌, length, false, cond, nat_eq, Some, None, arith, refl, sym, ◌∙◌, ap, subst, append-nil, eq-eqb, ne_eqb}
+use Rattle.std.proofs.Common.{◌≡◌, ℕ, zero, suc, ◌+◌, ◌-◌, ◌<◌, ◌≤◌, List, [], ◌∷◌, ◌++◌, length, false, cond, nat_eq, Some, None, arith, refl, sym, ◌∙◌, ap}
+use Rattle.std.proofs.Common.{subst, append-nil, eq-eqb, ne_eqb}
 use Rattle.std.specs.declared.option.Option.{Option}
 use Rattle.std.specs.declared.cmp.Ordering.{Ordering}
 use Rattle.std.specs.declared.cmp.Ordering.TheVariants.{Less, Equal, Greater}
@@ -75,7 +76,8 @@ module _ {V M : Type 0} (s : List (List ℕ × V) → Option M) (none_is : s [] 
       let e = same i c.0 p in
       let rises : Rise (suc i) cs = subst (λ k. Rise (suc k) cs) (sym e) r.2 in
       let later : present (suc i) n (λ j. s (at j (c ∷ cs))) ≡ sums s cs =
-      present_agree (suc i) n (λ j. s (at j (c ∷ cs))) (λ j. s (at j cs)) (λ j l. ap (λ o. s (by_order o [] c.1 (at j cs))) (is_more j c.0 (omega (arith, e)))) ∙ rest rises in
+      present_agree (suc i) n (λ j. s (at j (c ∷ cs))) (λ j. s (at j cs)) (λ j l. ap (λ o. s (by_order o [] c.1 (at j cs))) (is_more j c.0 (omega (arith, e))))
+      ∙ rest rises in
       λ t. one_present (e t) (s c.1) (later t)
   present_step i n c cs Greater p r all rest = let h = more i c.0 p in let l = r.0 in absurd (omega arith)
 
@@ -86,16 +88,19 @@ module _ {V M : Type 0} (s : List (List ℕ × V) → Option M) (none_is : s [] 
       present_step i n c cs (nat_cmp i c.0) refl r (present_is (suc i) n (c ∷ cs) (omega arith)) (present_is (suc i) n cs (omega arith))
 
 module _ {V M : Type 0} (c : SummaryCalls V M) where
-  several : (below : ℕ) (es : List (List ℕ × V)) → 2 ≤ length es → summary_of c (suc below) es ≡ Some (c.branch (present 0 32 (λ i. summary_of c below (under_index i es))))
+  several : (below : ℕ) (es : List (List ℕ × V)) → 2 ≤ length es → summary_of c (suc below) es
+      ≡ Some (c.branch (present 0 32 (λ i. summary_of c below (under_index i es))))
   several below [] h = absurd (omega arith)
   several below (e ∷ []) h = absurd (omega arith)
   several below (e ∷ f ∷ es) h = refl
 
-  pub summary_branch : (below : ℕ) (cs : List (ℕ × List (List ℕ × V))) → Rise 0 cs → 2 ≤ length (fan cs) → summary_of c (suc below) (fan cs) ≡ Some (c.branch (sums (summary_of c below) cs))
+  pub summary_branch : (below : ℕ) (cs : List (ℕ × List (List ℕ × V))) → Rise 0 cs → 2 ≤ length (fan cs)
+      → summary_of c (suc below) (fan cs) ≡ Some (c.branch (sums (summary_of c below) cs))
   summary_branch below cs r h =
       several below (fan cs) h
       ∙ ap (λ l. Some (c.branch l))
-      (present_agree 0 32 (λ i. summary_of c below (under_index i (fan cs))) (λ i. summary_of c below (at i cs)) (λ i l. ap (summary_of c below) (under_index-fan 0 i cs r))
+      (present_agree 0 32 (λ i. summary_of c below (under_index i (fan cs))) (λ i. summary_of c below (at i cs))
+      (λ i l. ap (summary_of c below) (under_index-fan 0 i cs r))
       ∙ present_is (summary_of c below) refl 0 32 cs refl r)
 
   pub summary_list : (es : List (List ℕ × V)) → 2 ≤ length es → summary_of c 0 es ≡ Some (c.list (by_key 0 es))
@@ -110,11 +115,13 @@ module _ {V M : Type 0} (c : SummaryCalls V M) where
   summary_none (i ∷ p) zero = refl
   summary_none (i ∷ p) (suc below) = summary_none p below
 
-  pub summary_child : (i : ℕ) (p : List ℕ) (below : ℕ) (cs : List (ℕ × List (List ℕ × V))) → Rise 0 cs → summary_at c (i ∷ p) (suc below) (fan cs) ≡ summary_at c p below (at i cs)
+  pub summary_child : (i : ℕ) (p : List ℕ) (below : ℕ) (cs : List (ℕ × List (List ℕ × V))) → Rise 0 cs
+      → summary_at c (i ∷ p) (suc below) (fan cs) ≡ summary_at c p below (at i cs)
   summary_child i p below cs r = ap (summary_at c p below) (under_index-fan 0 i cs r)
 
   -- a summary at a prefix is that of the entries there
-  pub summary_there : (p : List ℕ) (height : ℕ) (es : List (List ℕ × V)) → length p ≤ height → summary_at c p height es ≡ summary_of c (height - length p) (under_prefix p es)
+  pub summary_there : (p : List ℕ) (height : ℕ) (es : List (List ℕ × V)) → length p ≤ height
+      → summary_at c p height es ≡ summary_of c (height - length p) (under_prefix p es)
   summary_there [] height es h = let same : height ≡ height - 0 = omega arith in ap (λ k. summary_of c k es) same
   summary_there (i ∷ p) zero es h = absurd (omega arith)
   summary_there (i ∷ p) (suc below) es h =
@@ -137,6 +144,7 @@ module _ {M : Type 0} where
   append_step i (Some y) ks rest one e = ap (λ l. (i, y) ∷ l) e
 
 module _ {V M : Type 0} where
-  pub sums_append : (s : List (List ℕ × V) → Option M) (cs : List (ℕ × List (List ℕ × V))) (k : ℕ × List (List ℕ × V)) (m : M) → s k.1 ≡ Some m → sums s (cs ++ k ∷ []) ≡ sums s cs ++ (k.0, m) ∷ []
+  pub sums_append : (s : List (List ℕ × V) → Option M) (cs : List (ℕ × List (List ℕ × V))) (k : ℕ × List (List ℕ × V)) (m : M) → s k.1 ≡ Some m
+      → sums s (cs ++ k ∷ []) ≡ sums s cs ++ (k.0, m) ∷ []
   sums_append s [] k m e = ap (λ x. one_present k.0 x []) e
   sums_append s (x ∷ cs) k m e = append_step x.0 (s x.1) (sums s (cs ++ k ∷ [])) (sums s cs) (k.0, m) (sums_append s cs k m e)

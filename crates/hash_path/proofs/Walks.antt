@@ -48,7 +48,8 @@ module _ {V : Type 0} (f : List ℕ → ℕ) where
   pub by_path_is : (es : List (List ℕ × V)) → HashedBy f es → T (is_sorted bytes_cmp es) → by_path f (as_map es) ≡ es
   by_path_is es h s =
       let m = with_path f (finite.entries (as_map es)) in
-      same_entries bytes_cmp nat_list_cmp_total (slice_cmp-IsAntisymmetric nat_cmp-IsAntisymmetric) _ _ (entries_sorted (finite.from_entries {R = bytes_cmp} m)) s
+      same_entries bytes_cmp nat_list_cmp_total (slice_cmp-IsAntisymmetric nat_cmp-IsAntisymmetric) _ _
+      (entries_sorted (finite.from_entries {R = bytes_cmp} m)) s
       (λ q. sym (get-entries (finite.from_entries {R = bytes_cmp} m) q) ∙ get-from_entries nat_list_cmp_total m q ∙ found_alike q es h)
 
   pub walk_is : (es : List (List ℕ × V)) → HashedBy f es → T (is_sorted bytes_cmp es) → walk f (as_map es) ≡ by_key 7 es

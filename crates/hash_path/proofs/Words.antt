@@ -21,7 +21,8 @@ key_in-word (suc below) hash key = key_in-word below hash key
 pub IsWord-word : (height hash : ℕ) (key : List ℕ) → IsWord height (word height hash key)
 IsWord-word height hash key = λ i. word height (sym (hash_in-word height hash key) i) (sym (key_in-word height hash key) i)
 
-pub AllWords-put : {V : Type 0} (height : ℕ) (w : List ℕ) (v : V) (es : List (List ℕ × V)) → AllWords height es → IsWord height w → AllWords height (put bytes_cmp w v es)
+pub AllWords-put : {V : Type 0} (height : ℕ) (w : List ℕ) (v : V) (es : List (List ℕ × V)) → AllWords height es → IsWord height w
+    → AllWords height (put bytes_cmp w v es)
 AllWords-put height w v [] a p = (p, tt)
 AllWords-put height w v (e ∷ es) a p = step (bytes_cmp w e.0) (AllWords-put height w v es a.1 p)
   where
@@ -61,7 +62,8 @@ pub length_put_le : {V : Type 0} (w : List ℕ) (v : V) (es : List (List ℕ × 
 length_put_le w v [] = omega arith
 length_put_le w v (e ∷ es) = step (bytes_cmp w e.0) (length_put_le w v es)
   where
-    step : (o : Ordering) → length (put bytes_cmp w v es) ≤ suc (length es) → length (by_order o ((w, v) ∷ e ∷ es) ((e.0, v) ∷ es) (e ∷ put bytes_cmp w v es)) ≤ suc (suc (length es))
+    step : (o : Ordering) → length (put bytes_cmp w v es) ≤ suc (length es) → length (by_order o ((w, v) ∷ e ∷ es) ((e.0, v) ∷ es) (e ∷ put bytes_cmp w v es))
+        ≤ suc (suc (length es))
     step Less h = omega arith
     step Equal h = omega arith
     step Greater h = omega arith
@@ -70,7 +72,8 @@ pub length_put_ge : {V : Type 0} (w : List ℕ) (v : V) (es : List (List ℕ × 
 length_put_ge w v [] = omega arith
 length_put_ge w v (e ∷ es) = step (bytes_cmp w e.0) (length_put_ge w v es)
   where
-    step : (o : Ordering) → length es ≤ length (put bytes_cmp w v es) → suc (length es) ≤ length (by_order o ((w, v) ∷ e ∷ es) ((e.0, v) ∷ es) (e ∷ put bytes_cmp w v es))
+    step : (o : Ordering) → length es ≤ length (put bytes_cmp w v es) → suc (length es)
+        ≤ length (by_order o ((w, v) ∷ e ∷ es) ((e.0, v) ∷ es) (e ∷ put bytes_cmp w v es))
     step Less h = omega arith
     step Equal h = omega arith
     step Greater h = omega arith

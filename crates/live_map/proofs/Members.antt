@@ -27,7 +27,8 @@ module _ {K : Type 0} (cmp : K → K → Ordering) where
   abbrev pub member : List K → K → Bool
   member keys q = list_any (λ k. is_eq (cmp q k)) keys
 
-  among_step : (q k : K) (keys : List K) (b : Bool) → is_eq (cmp q k) ≡ b → (IsTrue (member keys q) → (x : K) × Among keys x × (cmp q x ≡ Equal)) → IsTrue (b || member keys q) → (x : K) × Among (k ∷ keys) x × (cmp q x ≡ Equal)
+  among_step : (q k : K) (keys : List K) (b : Bool) → is_eq (cmp q k) ≡ b → (IsTrue (member keys q) → (x : K) × Among keys x × (cmp q x ≡ Equal))
+      → IsTrue (b || member keys q) → (x : K) × Among (k ∷ keys) x × (cmp q x ≡ Equal)
   among_step q k keys true e rest h = (k, inl refl, equal (cmp q k) e)
   among_step q k keys false e rest h = let there = rest h in (there.0, inr there.1, there.2)
 
@@ -40,7 +41,8 @@ module _ {K : Type 0} (cmp : K → K → Ordering) where
   among_exact exact keys q h = let there = among_member keys q h in subst (Among keys) (sym (exact q there.0 there.2)) there.1
 
 -- ---- items that pass a test
-filtered : {K : Type 0} (p : K → Bool) (x : K) (xs : List K) (b : Bool) (y : K) → p y ≡ b → p x ≡ true → (y ≡ x) ⊎ Among (filter p xs) x → Among (cond b (y ∷ filter p xs) (filter p xs)) x
+filtered : {K : Type 0} (p : K → Bool) (x : K) (xs : List K) (b : Bool) (y : K) → p y ≡ b → p x ≡ true → (y ≡ x) ⊎ Among (filter p xs) x
+    → Among (cond b (y ∷ filter p xs) (filter p xs)) x
 filtered p x xs true y e h there = there
 filtered p x xs false y e h there = ⊎_elim (λ is. let same = ap p is in absurd (cc (e, h, same))) (λ rest. rest) there
 
@@ -70,7 +72,8 @@ pub none_of : {V : Type 0} (o : Option V) → is_some o ≡ false → o ≡ None
 none_of None e = refl
 none_of (Some v) e = absurd (cc e)
 
-pub has_last : (keys : List (List ℕ)) (n : ℕ) (o : Option (List ℕ)) (k key : List ℕ) → o ≡ slice_get keys n → o ≡ Some k → eq_by_cmp bytes_cmp k key ≡ true → IsTrue (has_key keys key)
+pub has_last : (keys : List (List ℕ)) (n : ℕ) (o : Option (List ℕ)) (k key : List ℕ) → o ≡ slice_get keys n → o ≡ Some k → eq_by_cmp bytes_cmp k key ≡ true
+    → IsTrue (has_key keys key)
 has_last keys n o k key place is same =
     any_passes_from_place (λ x. is_eq (bytes_cmp key x)) keys n k (sym place ∙ is) ((eq_by_cmp_equiv nat_list_cmp_total).symm key k ∙ same)
 

@@ -21,18 +21,27 @@ use Rattle.live_map.specs.OneKey.{IsJoinedIn, IsMadeAt}
 use Rattle.live_map.proofs.Changing.{touched_joined, and_first, and_second, known_none}
 
 -- ---- the store
-module _ {S P H Hash : Type 0} (at : S → P → DotValue → Option H) (greater : H → H → H) (mine : TrieMapValue Hash S) (own : DotValue → Bool) (yours : List ℕ × P → DotValue → Option H) (theirs : DotValue → Bool)
+module _ {S P H Hash : Type 0} (at : S → P → DotValue → Option H) (greater : H → H → H) (mine : TrieMapValue Hash S) (own : DotValue → Bool)
+    (yours : List ℕ × P → DotValue → Option H) (theirs : DotValue → Bool)
     (keys : List (List ℕ)) (key : List ℕ) where
   pub step_joined : AreAllTouched (at_keys at mine) yours theirs keys → ((q : List ℕ) → IsTrue (has_key keys q) → q ≡ key) → (new : TrieMapValue Hash S)
-      → IsJoinedIn at greater mine.1 new.1 key own yours theirs → HoldsSame (at_keys at new) (join greater (state_with (at_keys at mine) own) (state_with yours theirs)).at
+      → IsJoinedIn at greater mine.1 new.1 key own yours theirs → HoldsSame (at_keys at new)
+      (join greater (state_with (at_keys at mine) own) (state_with yours theirs)).at
   step_joined all only new is =
       touched_joined at greater mine own yours theirs keys all new (here_either at greater mine own yours theirs new.1 key is.store is.holds is.joins)
-      (λ q h. subst (IsJoinedAt at greater (at_keys at mine) own yours theirs new.1) (sym (only q h)) (here_joined at greater mine own yours theirs new.1 key is.store is.holds is.joins))
+      (λ q h. subst (IsJoinedAt at greater (at_keys at mine) own yours theirs new.1) (sym (only q h))
+      (here_joined at greater mine own yours theirs new.1 key is.store is.holds is.joins))
 
-  pub made_written : AreAllTouched (at_keys at mine) yours theirs keys → ((q : List ℕ) → IsTrue (has_key keys q) → q ≡ key) → (new : TrieMapValue Hash S) (made : Option S)
-      → IsMadeAt at greater mine.1 key own yours theirs made → Writes at mine.1 new.1 key made → HoldsSame (at_keys at new) (join greater (state_with (at_keys at mine) own) (state_with yours theirs)).at
+  pub made_written : AreAllTouched (at_keys at mine) yours theirs keys → ((q : List ℕ) → IsTrue (has_key keys q) → q ≡ key)
+      → (new : TrieMapValue Hash S) (made : Option S)
+      → IsMadeAt at greater mine.1 key own yours theirs made → Writes at mine.1 new.1 key made
+      → HoldsSame (at_keys at new) (join greater (state_with (at_keys at mine) own) (state_with yours theirs)).at
   made_written all only new made is written =
-      step_joined all only new (record { store = is.store; holds = is.holds; joins = joins_made at greater own is.store theirs mine.1 new.1 key made is.joins written })
+      step_joined all only new (record {
+        store = is.store;
+        holds = is.holds;
+        joins = joins_made at greater own is.store theirs mine.1 new.1 key made is.joins written;
+      })
 
 -- ---- a join in place
 pub none_long : {X : Type 0} (xs : List X) → length xs ≡ 0 → xs ≡ []
@@ -43,7 +52,8 @@ or_none : (b : Bool) → IsTrue (b || false) → IsTrue b
 or_none true h = refl
 or_none false h = absurd (cc h)
 
-contains_by : (x : DotValue) (cloud : List DotValue) (d : DotValue) (b : Bool) → same_dot d x ≡ b → IsTrue (b || in_cloud cloud d) → (IsTrue (in_cloud cloud d) → Contains cloud d) → Contains (x ∷ cloud) d
+contains_by : (x : DotValue) (cloud : List DotValue) (d : DotValue) (b : Bool) → same_dot d x ≡ b → IsTrue (b || in_cloud cloud d)
+    → (IsTrue (in_cloud cloud d) → Contains cloud d) → Contains (x ∷ cloud) d
 contains_by x cloud d true e h more = subst (Contains (x ∷ cloud)) (sym (same_from_test d x e)) (Contains-append_left (x ∷ []) cloud x (Contains-push [] x))
 contains_by x cloud d false e h more = Contains-append_right (x ∷ []) cloud d (more h)
 
@@ -53,17 +63,22 @@ cloud_contains (x ∷ cloud) d h = contains_by x cloud d (same_dot d x) refl h (
 
 in_cloud_of : (n : ℕ) (t : Bool) → IsTrue (nat_le 1 n && (nat_le n 0 || t)) → IsTrue t
 in_cloud_of n true h = refl
-in_cloud_of n false h = absurd (known_none n (and_first (nat_le 1 n) (nat_le n 0 || false) h) (or_none (nat_le n 0) (and_second (nat_le 1 n) (nat_le n 0 || false) h)))
+in_cloud_of n false h = absurd (known_none n (and_first (nat_le 1 n) (nat_le n 0 || false) h)
+    (or_none (nat_le n 0) (and_second (nat_le 1 n) (nat_le n 0 || false) h)))
 
 -- what a context with no vector knows, and is known here, is among those dots of its cloud that are known here
-pub known_among : (own : DotValue → Bool) (theirs : ContextValue) (known : List DotValue) → theirs.vector ≡ [] → ((d : DotValue) → has theirs d ≡ is_known theirs.vector theirs.cloud d) → All (λ d. IsTrue (own d) → Contains known d) theirs.cloud
+pub known_among : (own : DotValue → Bool) (theirs : ContextValue) (known : List DotValue) → theirs.vector ≡ []
+    → ((d : DotValue) → has theirs d ≡ is_known theirs.vector theirs.cloud d) → All (λ d. IsTrue (own d) → Contains known d) theirs.cloud
     → (d : DotValue) → IsTrue (own d) → IsTrue (has theirs d) → Contains known d
 known_among own theirs known none has_is all d mine h =
     let seen : IsTrue (is_known [] theirs.cloud d) = ap (λ v. is_known v theirs.cloud d) (sym none) ∙ sym (has_is d) ∙ h in
-    All-contains (λ x. IsTrue (own x) → Contains known x) theirs.cloud d all (cloud_contains theirs.cloud d (in_cloud_of d.number (in_cloud theirs.cloud d) seen)) mine
+    All-contains (λ x. IsTrue (own x) → Contains known x) theirs.cloud d all
+    (cloud_contains theirs.cloud d (in_cloud_of d.number (in_cloud theirs.cloud d) seen)) mine
 
-module _ {S P H Hash : Type 0} (at : S → P → DotValue → Option H) (greater : H → H → H) (mine : TrieMapValue Hash S) (own theirs : DotValue → Bool) (key : List ℕ) (y : S) (found : List DotValue) (dot : DotValue) where
-  pub fits_in : IsInside (state_with (at_keys at mine) own) → ((d : DotValue) → IsTrue (own d) → IsTrue (theirs d) → Contains found d) → own dot ≡ false → HoldsDot (at y) dot
+module _ {S P H Hash : Type 0} (at : S → P → DotValue → Option H) (greater : H → H → H) (mine : TrieMapValue Hash S) (own theirs : DotValue → Bool)
+    (key : List ℕ) (y : S) (found : List DotValue) (dot : DotValue) where
+  pub fits_in : IsInside (state_with (at_keys at mine) own) → ((d : DotValue) → IsTrue (own d) → IsTrue (theirs d) → Contains found d) → own dot ≡ false
+      → HoldsDot (at y) dot
       → IfSome (finite.get mine.1 key) (λ s. HasEachKnown (at s) theirs found × HoldsAny at greater s own y theirs)
   unfolding at_keys
   fits_in inside among fresh held = by_store (finite.get mine.1 key) refl
@@ -71,8 +86,10 @@ module _ {S P H Hash : Type 0} (at : S → P → DotValue → Option H) (greater
       by_store : (o : Option S) → finite.get mine.1 key ≡ o → IfSome o (λ s. HasEachKnown (at s) theirs found × HoldsAny at greater s own y theirs)
       by_store None e = tt
       by_store (Some s) e =
-          let known : (place : P) (d : DotValue) → IsSome (at s place d) → IsTrue (own d) = known_at s e in
-          (λ place d h k. among d (known place d h) k, (held.0, dot, none_here (at s held.0 dot) (at y held.0 dot) (own dot) (theirs dot) (known held.0 dot) fresh held.1))
+          let known : (place : P) (d : DotValue) → IsSome (at s place d) → IsTrue (own d) = known_at s e in (
+            λ place d h k. among d (known place d h) k,
+            (held.0, dot, none_here (at s held.0 dot) (at y held.0 dot) (own dot) (theirs dot) (known held.0 dot) fresh held.1),
+          )
         where
           known_at : (s : S) → finite.get mine.1 key ≡ Some s → (place : P) (d : DotValue) → IsSome (at s place d) → IsTrue (own d)
           known_at s e place d h = inside (key, place) d (ap (λ x. is_some (held_by at x place d)) e ∙ h)
@@ -98,9 +115,11 @@ one_more false a b others there = nothing_more a b others
 pub knows_included : (own theirs : ContextValue) → Includes own theirs → (d : DotValue) → has own d ≡ has own d || has theirs d
 knows_included own theirs includes d = nothing_more (has own d) (has theirs d) (includes d)
 
-pub knows_added : (own theirs new : ContextValue) (dot : DotValue) → IsOnlyNew (has own) (has theirs) (has theirs) dot → ((d : DotValue) → has new d ≡ same_dot dot d || has own d) → (d : DotValue) → has new d ≡ has own d || has theirs d
+pub knows_added : (own theirs new : ContextValue) (dot : DotValue) → IsOnlyNew (has own) (has theirs) (has theirs) dot
+    → ((d : DotValue) → has new d ≡ same_dot dot d || has own d) → (d : DotValue) → has new d ≡ has own d || has theirs d
 knows_added own theirs new dot only added d =
-    added d ∙ one_more (same_dot dot d) (has own d) (has theirs d) (only.others d) (λ same. subst (λ e. IsTrue (has theirs e)) (same_from_test dot d same) only.is_new.present)
+    added d ∙ one_more (same_dot dot d) (has own d) (has theirs d) (only.others d)
+    (λ same. subst (λ e. IsTrue (has theirs e)) (same_from_test dot d same) only.is_new.present)
 
 above_apart : (dot : DotValue) (b : Bool) → same_dot dot (record { name = dot.name; number = dot.number + 1 }) ≡ b → b ≡ false
 above_apart dot false e = refl
@@ -109,9 +128,11 @@ above_apart dot true e =
     let number : dot.number ≡ dot.number + 1 = ap (λ d. d.number) same in
     absurd (omega (arith, number))
 
-pub last_added : (own new : ContextValue) (dot : DotValue) → ((d : DotValue) → has new d ≡ same_dot dot d || has own d) → has own (record { name = dot.name; number = dot.number + 1 }) ≡ false → has new (record { name = dot.name; number = dot.number + 1 }) ≡ false
+pub last_added : (own new : ContextValue) (dot : DotValue) → ((d : DotValue) → has new d ≡ same_dot dot d || has own d)
+    → has own (record { name = dot.name; number = dot.number + 1 }) ≡ false → has new (record { name = dot.name; number = dot.number + 1 }) ≡ false
 last_added own new dot added last =
-    added (record { name = dot.name; number = dot.number + 1 }) ∙ (λ i. above_apart dot (same_dot dot (record { name = dot.name; number = dot.number + 1 })) refl i || last i)
+    added (record { name = dot.name; number = dot.number + 1 })
+    ∙ (λ i. above_apart dot (same_dot dot (record { name = dot.name; number = dot.number + 1 })) refl i || last i)
 
 pub known_added : (own new : ContextValue) (dot : DotValue) → ((d : DotValue) → has new d ≡ same_dot dot d || has own d) → IsTrue (has new dot)
 known_added own new dot added = added dot ∙ ap (λ b. b || has own dot) (same_dot-refl dot)
@@ -121,5 +142,6 @@ is_only true h or fresh = refl
 is_only false h or fresh = absurd (cc (or, fresh))
 
 -- the only dot that is new is each one that is
-pub only_new : (here there seen : DotValue → Bool) (dot : DotValue) → IsOnlyNew here there seen dot → (d : DotValue) → here d ≡ false → IsTrue (seen d) → dot ≡ d
+pub only_new : (here there seen : DotValue → Bool) (dot : DotValue) → IsOnlyNew here there seen dot → (d : DotValue) → here d ≡ false
+    → IsTrue (seen d) → dot ≡ d
 only_new here there seen dot only d fresh known = same_from_test dot d (is_only (same_dot dot d) (here d) (only.others d known) fresh)

@@ -1,5 +1,6 @@
 -- The prefixes that it goes through.
-use Rattle.std.proofs.Common.{◌≡◌, ◌⊎◌, inl, inr, ℕ, zero, suc, ◌+◌, ◌≤◌, ◌<◌, List, [], ◌∷◌, ◌++◌, length, get_or, take, Result, Ok, Err, Bool, true, false, not, Some, None, refl, sym, ap, subst, arith, ◌∙◌, eq-eqb}
+use Rattle.std.proofs.Common.{◌≡◌, ◌⊎◌, inl, inr, ℕ, zero, suc, ◌+◌, ◌≤◌, ◌<◌, List, [], ◌∷◌, ◌++◌, length, get_or, take, Result, Ok, Err, Bool, true, false}
+use Rattle.std.proofs.Common.{not, Some, None, refl, sym, ap, subst, arith, ◌∙◌, eq-eqb}
 use Rattle.std.specs.Prelude.{Option, ◌&&◌}
 use Rattle.std.specs.Option.{option_eq}
 use Rattle.std.specs.Result.{OnOk}
@@ -51,7 +52,8 @@ module _ (older newer : Held) where
     ];
   }
 
-  pub finds_one : (old found new : List (List ℕ)) (key : List ℕ) → Finds older newer old found → new ≡ insert_key bytes_cmp found key → IsChanged older newer key → Finds older newer old new
+  pub finds_one : (old found new : List (List ℕ)) (key : List ℕ) → Finds older newer old found → new ≡ insert_key bytes_cmp found key
+      → IsChanged older newer key → Finds older newer old new
   finds_one old found new key f is differs = record {
     ascending = λ h. more_ascend found new key is (f.ascending h);
     kept = λ q h. more_keeps found new key is q (f.kept q h);
@@ -101,7 +103,8 @@ module _ (prefix : List ℕ) where
   pub there_before : (xs : List (List ℕ)) (x q : List ℕ) → Contains xs q → Contains (xs ++ x ∷ []) q
   there_before xs x q h = Contains-In (xs ++ x ∷ []) q (in_front xs x q (In-Contains xs q h))
 
-  pub one_below : (old now : List (List ℕ)) (index : ℕ) → length prefix < 7 → GoesBelow prefix old now → GoesBelow prefix old (now ++ (prefix ++ index ∷ []) ∷ [])
+  pub one_below : (old now : List (List ℕ)) (index : ℕ) → length prefix < 7 → GoesBelow prefix old now
+      → GoesBelow prefix old (now ++ (prefix ++ index ∷ []) ∷ [])
   one_below old now index short f = record {
     kept = λ q h. there_before now (prefix ++ index ∷ []) q (f.kept q h);
     long = λ q h. elim (from_snoc now (prefix ++ index ∷ []) q (In-Contains (now ++ (prefix ++ index ∷ []) ∷ []) q h)) [
@@ -135,14 +138,16 @@ module _ (hash_of : List ℕ → ℕ) (older newer : Held) (prefix : List ℕ) w
       → (digest_at hash_of older (prefix ++ index ∷ []) ≡ digest_at hash_of newer (prefix ++ index ∷ [])) ⊎ Contains new (prefix ++ index ∷ [])
       → AddsChildren (suc index) new
   one_child index old new before kept here i less = elim (eq-or-lt_of_le (omega (arith, less))) [
-    | inl e ↦ subst (λ k. (digest_at hash_of older (prefix ++ k ∷ []) ≡ digest_at hash_of newer (prefix ++ k ∷ [])) ⊎ Contains new (prefix ++ k ∷ [])) (sym e) here
+    | inl e ↦ subst (λ k. (digest_at hash_of older (prefix ++ k ∷ []) ≡ digest_at hash_of newer (prefix ++ k ∷ [])) ⊎ Contains new (prefix ++ k ∷ []))
+        (sym e) here
     | inr lower ↦ elim (before i lower) [
       | inl same ↦ inl same
       | inr there ↦ inr (kept (prefix ++ i ∷ []) there)
     ]
   ]
 
-  pub all_children : (next found : List (List ℕ)) → length prefix < 7 → NoClash hash_of older newer [] → AddsChildren 32 next → CoversAt hash_of older newer prefix found next
+  pub all_children : (next found : List (List ℕ)) → length prefix < 7 → NoClash hash_of older newer [] → AddsChildren 32 next
+      → CoversAt hash_of older newer prefix found next
   all_children next found short no_clash all key differs under =
       let i = get_or (path hash_of key) (length prefix) 0 in
       let long = length-further prefix i in
@@ -172,8 +177,10 @@ module _ (hash_of : List ℕ → ℕ) (older newer : Held) where
 
   -- the keys under a prefix were gone through in the one map and in the other
   pub both_gathered : (other : List ℕ → ℕ) (q : List ℕ) (f g next : List (List ℕ)) → other ≡ hash_of
-      → ((key : List ℕ) (fields : FieldsValue) → finite.get older key ≡ Some fields → begins q (path hash_of key) ≡ true → IsChanged older newer key → Contains f key)
-      → ((key : List ℕ) (fields : FieldsValue) → finite.get newer key ≡ Some fields → begins q (path other key) ≡ true → IsChanged newer older key → Contains g key)
+      → ((key : List ℕ) (fields : FieldsValue) → finite.get older key ≡ Some fields → begins q (path hash_of key) ≡ true → IsChanged older newer key
+      → Contains f key)
+      → ((key : List ℕ) (fields : FieldsValue) → finite.get newer key ≡ Some fields → begins q (path other key) ≡ true → IsChanged newer older key
+      → Contains g key)
       → Finds newer older f g → CoversAt hash_of older newer q g next
   both_gathered other q f g next same first second finds key differs under = elim (on_a_side older newer key differs) [
     | inl (fields, e) ↦ inl (finds.kept key (first key fields e under differs))
@@ -184,13 +191,15 @@ module _ (hash_of : List ℕ → ℕ) (older newer : Held) where
   none_gone found next q h = absurd (In-Contains [] q h)
 
   pub one_gone : (gone : List (List ℕ)) (prefix : List ℕ) (found found' next next' : List (List ℕ)) → GoneThrough gone found next
-      → Finds older newer found found' → GoesBelow prefix next next' → CoversAt hash_of older newer prefix found' next' → GoneThrough (gone ++ prefix ∷ []) found' next'
+      → Finds older newer found found' → GoesBelow prefix next next' → CoversAt hash_of older newer prefix found' next'
+      → GoneThrough (gone ++ prefix ∷ []) found' next'
   one_gone gone prefix found found' next next' before finds below covers q h = elim (from_snoc prefix gone prefix q (In-Contains (gone ++ prefix ∷ []) q h)) [
     | inl there ↦ still_covered q found found' next next' finds.kept below.kept (before q (Contains-In gone q there))
     | inr e ↦ subst (λ x. CoversAt hash_of older newer x found' next') e covers
   ]
 
-  pub all_gone : (level old new next : List (List ℕ)) → Finds older newer old new → GoneThrough level new next → Covers hash_of older newer old level → Covers hash_of older newer new next
+  pub all_gone : (level old new next : List (List ℕ)) → Finds older newer old new → GoneThrough level new next → Covers hash_of older newer old level
+      → Covers hash_of older newer new next
   all_gone level old new next finds gone covers key differs = elim (covers key differs) [
     | inl there ↦ inl (finds.kept key there)
     | inr on ↦ gone on.0 on.1 key differs on.2
@@ -200,14 +209,16 @@ module _ (hash_of : List ℕ → ℕ) (older newer : Held) where
   pub all_at_root : (found : List (List ℕ)) → Covers hash_of older newer found ([] ∷ [])
   all_at_root found key differs = inr ([], Contains-In ([] ∷ []) [] (inl refl), refl)
 
-  pub none_past : (found level : List (List ℕ)) → AreLong 8 level → Covers hash_of older newer found level → (key : List ℕ) → IsChanged older newer key → Contains found key
+  pub none_past : (found level : List (List ℕ)) → AreLong 8 level → Covers hash_of older newer found level → (key : List ℕ) → IsChanged older newer key
+      → Contains found key
   none_past found level long covers key differs = elim (covers key differs) [
     | inl there ↦ there
     | inr on ↦ absurd (let past = (long on.0 on.1).1 in omega (arith, past))
   ]
 
 pub taken_one : (xs : List (List ℕ)) (i : ℕ) (x : List ℕ) → i < length xs → x ≡ get_or xs i x → take (i + 1) xs ≡ take i xs ++ x ∷ []
-taken_one xs i x within is = let next : i + 1 ≡ suc i = omega arith in ap (λ n. take n xs) next ∙ take-suc xs i x within ∙ ap (λ y. take i xs ++ y ∷ []) (sym is)
+taken_one xs i x within is = let next : i + 1 ≡ suc i = omega arith in ap (λ n. take n xs) next ∙ take-suc xs i x within
+    ∙ ap (λ y. take i xs ++ y ∷ []) (sym is)
 
 -- ---- how long the prefixes are
 
@@ -218,7 +229,8 @@ AreLonger level next = (depth : ℕ) → AreLong depth level → AreLong (suc de
 pub none_longer : (level : List (List ℕ)) → AreLonger level []
 none_longer level depth long q h = absurd (In-Contains [] q h)
 
-pub one_longer : (level : List (List ℕ)) (prefix : List ℕ) (old new : List (List ℕ)) → Contains level prefix → GoesBelow prefix old new → AreLonger level old → AreLonger level new
+pub one_longer : (level : List (List ℕ)) (prefix : List ℕ) (old new : List (List ℕ)) → Contains level prefix → GoesBelow prefix old new → AreLonger level old
+    → AreLonger level new
 one_longer level prefix old new there below before depth long q h = elim (below.long q h) [
   | inl was ↦ before depth long q was
   | inr more ↦

@@ -24,11 +24,17 @@ use Rattle.map_changes.specs.Changes.{AreSame, IsChanged}
 module _ (P : List ℕ → Type 0) where
   each_value : (vs : ValuesValue) → ((d : DotValue) (v : List ℕ) → Contains vs (d, v) → P v) → EachValue P vs
   each_value [] all = tt
-  each_value (x ∷ vs) all = (all x.0 x.1 (Contains-In (x ∷ vs) x (inl refl)), each_value vs (λ d v h. all d v (Contains-In (x ∷ vs) (d, v) (inr (In-Contains vs (d, v) h)))))
+  each_value (x ∷ vs) all = (
+    all x.0 x.1 (Contains-In (x ∷ vs) x (inl refl)),
+    each_value vs (λ d v h. all d v (Contains-In (x ∷ vs) (d, v) (inr (In-Contains vs (d, v) h)))),
+  )
 
   each_field : (fs : FieldsValue) → ((field : List ℕ) (vs : ValuesValue) → Contains fs (field, vs) → EachValue P vs) → EachField P fs
   each_field [] all = tt
-  each_field (x ∷ fs) all = (all x.0 x.1 (Contains-In (x ∷ fs) x (inl refl)), each_field fs (λ f vs h. all f vs (Contains-In (x ∷ fs) (f, vs) (inr (In-Contains fs (f, vs) h)))))
+  each_field (x ∷ fs) all = (
+    all x.0 x.1 (Contains-In (x ∷ fs) x (inl refl)),
+    each_field fs (λ f vs h. all f vs (Contains-In (x ∷ fs) (f, vs) (inr (In-Contains fs (f, vs) h)))),
+  )
 
 each_held : (m : Held) (key : List ℕ) (fs : FieldsValue) → finite.get m key ≡ Some fs → EachField (HoldsValue m) fs
 each_held m key fs e = each_field (HoldsValue m) fs (λ field vs h. each_value (HoldsValue m) vs (λ d v g. (key, fs, e, (field, vs, h, (d, g)))))
@@ -46,12 +52,14 @@ module _ (hash_of : List ℕ → ℕ) (older newer : Held) (no_clash : NoClash h
   same_by_names : (key : List ℕ) → names_at older key ≡ names_at newer key → AreSame (finite.get older key) (finite.get newer key)
   same_by_names key e = step (finite.get older key) (finite.get newer key) refl refl e
     where
-      step : (a b : Option FieldsValue) → finite.get older key ≡ a → finite.get newer key ≡ b → option_map named_fields a ≡ option_map named_fields b → AreSame a b
+      step : (a b : Option FieldsValue) → finite.get older key ≡ a → finite.get newer key ≡ b → option_map named_fields a ≡ option_map named_fields b
+          → AreSame a b
       step None None x y s = tt
       step None (Some gs) x y s = absurd cc
       step (Some fs) None x y s = absurd cc
       step (Some fs) (Some gs) x y s =
-          same_fields fs gs (fields_same (HoldsValue older) (HoldsValue newer) values_apart fs gs (each_held older key fs x) (each_held newer key gs y) (same_Some (named_fields fs) (named_fields gs) s))
+          same_fields fs gs (fields_same (HoldsValue older) (HoldsValue newer) values_apart fs gs (each_held older key fs x) (each_held newer key gs y)
+          (same_Some (named_fields fs) (named_fields gs) s))
 
   -- a changed key is under no prefix at which the digests are equal
   pub not_changed : (p : List ℕ) → length p ≤ 7 → digest_at hash_of older p ≡ digest_at hash_of newer p

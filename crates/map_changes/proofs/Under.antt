@@ -20,7 +20,8 @@ module _ (these others : Held) where
   all_left all found = record { part = λ e h. h; gone = λ e h. inl h }
 
   -- one more is looked at, and found where it is changed; what was found is
-  pub one_less : (all left rest : List (List ℕ × FieldsValue)) (key : List ℕ) (fields : FieldsValue) (old new : List (List ℕ)) → LooksAt all left old → left ≡ (key, fields) ∷ rest
+  pub one_less : (all left rest : List (List ℕ × FieldsValue)) (key : List ℕ) (fields : FieldsValue) (old new : List (List ℕ)) → LooksAt all left old
+      → left ≡ (key, fields) ∷ rest
       → ((q : List ℕ) → Contains old q → Contains new q) → (IsChanged these others key → Contains new key) → LooksAt all rest new
   one_less all left rest key fields old new before is kept here = record {
     part = λ e h. before.part e (subst (λ l. In l e) (sym is) (inr h));
@@ -31,19 +32,23 @@ module _ (these others : Held) where
       first e (inl same) = inr (subst (λ (x : List ℕ × FieldsValue). IsChanged these others x.0 → Contains new x.0) same here)
       first e (inr h) = inl h
 
-      step : (e : List ℕ × FieldsValue) → In left e ⊎ (IsChanged these others e.0 → Contains old e.0) → In rest e ⊎ (IsChanged these others e.0 → Contains new e.0)
+      step : (e : List ℕ × FieldsValue) → In left e ⊎ (IsChanged these others e.0 → Contains old e.0) → In rest e
+          ⊎ (IsChanged these others e.0 → Contains new e.0)
       step e (inl h) = first e (subst (λ l. In l e) is h)
       step e (inr f) = inr (λ differs. kept e.0 (f differs))
 
   -- what is looked at next is of the map
-  pub next_there : (hash_of : List ℕ → ℕ) (prefix : List ℕ) (left rest : List (List ℕ × FieldsValue)) (key : List ℕ) (fields : FieldsValue) (found : List (List ℕ))
+  pub next_there : (hash_of : List ℕ → ℕ) (prefix : List ℕ) (left rest : List (List ℕ × FieldsValue)) (key : List ℕ) (fields : FieldsValue)
+      (found : List (List ℕ))
       → LooksAt (walk_under hash_of prefix these) left found → left ≡ (key, fields) ∷ rest → finite.get these key ≡ Some fields
   next_there hash_of prefix left rest key fields found looks is =
       let first : In left (key, fields) = subst (λ (l : List (List ℕ × FieldsValue)). In l (key, fields)) (sym is) (inl refl) in
       (part_found hash_of these prefix key fields (looks.part (key, fields) first)).0
 
-  pub none_left : (hash_of : List ℕ → ℕ) (prefix : List ℕ) (left : List (List ℕ × FieldsValue)) (found : List (List ℕ)) → LooksAt (walk_under hash_of prefix these) left found → left ≡ []
-      → (key : List ℕ) (fields : FieldsValue) → finite.get these key ≡ Some fields → begins prefix (path hash_of key) ≡ true → IsChanged these others key → Contains found key
+  pub none_left : (hash_of : List ℕ → ℕ) (prefix : List ℕ) (left : List (List ℕ × FieldsValue)) (found : List (List ℕ))
+      → LooksAt (walk_under hash_of prefix these) left found → left ≡ []
+      → (key : List ℕ) (fields : FieldsValue) → finite.get these key ≡ Some fields → begins prefix (path hash_of key) ≡ true → IsChanged these others key
+      → Contains found key
   none_left hash_of prefix left found looks is key fields e under differs = step (looks.gone (key, fields) (part_has hash_of these prefix key fields e under))
     where
       step : In left (key, fields) ⊎ (IsChanged these others key → Contains found key) → Contains found key
@@ -51,8 +56,10 @@ module _ (these others : Held) where
       step (inr f) = f differs
 
   -- whether what stands at a key of the one is the same in the other
-  pub changed_here : (key : List ℕ) (fields : FieldsValue) (o : Option FieldsValue) → finite.get these key ≡ Some fields → o ≡ finite.get others key → ¬ AreSame (Some fields) o → IsChanged these others key
+  pub changed_here : (key : List ℕ) (fields : FieldsValue) (o : Option FieldsValue) → finite.get these key ≡ Some fields → o ≡ finite.get others key
+      → ¬ AreSame (Some fields) o → IsChanged these others key
   changed_here key fields o here there differs = λ same. differs (subst (λ x. AreSame x o) here (subst (AreSame (finite.get these key)) (sym there) same))
 
-  pub same_here : (key : List ℕ) (fields : FieldsValue) (o : Option FieldsValue) → finite.get these key ≡ Some fields → o ≡ finite.get others key → AreSame (Some fields) o → ¬ IsChanged these others key
+  pub same_here : (key : List ℕ) (fields : FieldsValue) (o : Option FieldsValue) → finite.get these key ≡ Some fields → o ≡ finite.get others key
+      → AreSame (Some fields) o → ¬ IsChanged these others key
   same_here key fields o here there same = λ differs. differs (subst (AreSame (finite.get these key)) there (subst (λ x. AreSame x o) (sym here) same))

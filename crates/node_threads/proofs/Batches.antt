@@ -25,8 +25,10 @@ module _ {A : Type 0} (place : ℕ) where
       → ys ≡ xs ++ w ∷ [] → also ≡ wrote ++ told ∷ [] → Runs fnv1a r (entries_of (made_at place ys)) (map answer_of also) next
   wrote_more r mid next xs ys w wrote also told runs step more longer =
       let e = entry (deed_of w) in
-      let all = runs_then fnv1a (entries_of (made_at place xs)) (e ∷ []) r mid next (map answer_of wrote) (answer_of told ∷ []) runs (runs_once fnv1a mid next e (answer_of told) [] step) in
-      let events : entries_of (made_at place ys) ≡ entries_of (made_at place xs) ++ e ∷ [] = ap (λ (zs : List (Write A)). entries_of (made_at place zs)) more ∙ made_more xs w in
+      let all = runs_then fnv1a (entries_of (made_at place xs)) (e ∷ []) r mid next (map answer_of wrote) (answer_of told ∷ []) runs
+      (runs_once fnv1a mid next e (answer_of told) [] step) in
+      let events : entries_of (made_at place ys) ≡ entries_of (made_at place xs) ++ e ∷ [] = ap (λ (zs : List (Write A)). entries_of (made_at place zs)) more
+      ∙ made_more xs w in
       let answers : map answer_of also ≡ map answer_of wrote ++ answer_of told ∷ [] = ap (map answer_of) longer ∙ map-append answer_of wrote (told ∷ []) in
       subst (λ (es : List Entry). Runs fnv1a r es (map answer_of also) next) (sym events)
       (subst (λ bs. Runs fnv1a r (entries_of (made_at place xs) ++ e ∷ []) bs next) (sym answers) all)

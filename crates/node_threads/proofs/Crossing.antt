@@ -80,10 +80,12 @@ abbrev Event : RattleType
 Event = NodeEvent.the_row Heap.the_row ghosts copied
 
 root_send : IsSend Root
-root_send = map_send Fnv1a.the_row Fnv1aHash.ghosts Fnv1aDefault.ghosts Fields ShaSummary.the_row digesting Place Value fields_store fields_send fields_sync Digests.the_send Digests.the_sync Hashes.the_send
+root_send = map_send Fnv1a.the_row Fnv1aHash.ghosts Fnv1aDefault.ghosts Fields ShaSummary.the_row digesting Place Value fields_store fields_send fields_sync
+    Digests.the_send Digests.the_sync Hashes.the_send
 
 root_sync : IsSync Root
-root_sync = map_sync Fnv1a.the_row Fnv1aHash.ghosts Fnv1aDefault.ghosts Fields ShaSummary.the_row digesting Place Value fields_store fields_send fields_sync Digests.the_send Digests.the_sync Hashes.the_sync
+root_sync = map_sync Fnv1a.the_row Fnv1aHash.ghosts Fnv1aDefault.ghosts Fields ShaSummary.the_row digesting Place Value fields_store fields_send fields_sync
+    Digests.the_send Digests.the_sync Hashes.the_sync
 
 event_send : IsSend Event
 event_send = search (Events.the_send, crosses, sendable) depth 20
@@ -125,4 +127,5 @@ each_send [] s = tt
 each_send (T ∷ Ts) s = (as_row_send (row_field T) s.0, each_send Ts s.1)
 
 pub closure_send : (name : Sym) (Ts : List RattleType) (i : ℕ) (δ : Ty) (k : Kept) → AllSend Ts → IsSend (param i (arg δ k (Tuple.TupleAt name Ts)))
-closure_send name Ts i δ k s = param_send i (arg δ k (Tuple.TupleAt name Ts)) (arg_send δ k (Tuple.TupleAt name Ts) (declared_send (Tuple.type_at name Ts) (each_send Ts s)))
+closure_send name Ts i δ k s = param_send i (arg δ k (Tuple.TupleAt name Ts))
+    (arg_send δ k (Tuple.TupleAt name Ts) (declared_send (Tuple.type_at name Ts) (each_send Ts s)))

@@ -33,18 +33,28 @@ module _ {A : Type 0} where
   }
 
   -- the calls of an accepted call: those before and this one
-  made_more : (old new : Seat (NodeEvent A)) (history : List (NodeEvent A)) (e : NodeEvent A) → IsAccepted place old new history e → e.place ≡ old.place → made place new ≡ made place old ++ e ∷ []
+  made_more : (old new : Seat (NodeEvent A)) (history : List (NodeEvent A)) (e : NodeEvent A) → IsAccepted place old new history e → e.place ≡ old.place
+      → made place new ≡ made place old ++ e ∷ []
   made_more old new history e h at_place =
-      let calls : calls_by place old.place (history ++ e ∷ []) ≡ made place old ++ e ∷ [] = calls_more place old.place history e at_place ∙ ap (λ (xs : List (NodeEvent A)). xs ++ e ∷ []) h.own in
-      let same : calls_by place new.place new.front ≡ made place old ++ e ∷ [] = ap (λ (p : ℕ). calls_by place p new.front) h.seat ∙ (ap (calls_by place old.place) h.front ∙ calls) in
+      let calls : calls_by place old.place (history ++ e ∷ []) ≡ made place old ++ e ∷ [] = calls_more place old.place history e at_place
+      ∙ ap (λ (xs : List (NodeEvent A)). xs ++ e ∷ []) h.own in
+      let same : calls_by place new.place new.front ≡ made place old ++ e ∷ [] = ap (λ (p : ℕ). calls_by place p new.front) h.seat
+      ∙ (ap (calls_by place old.place) h.front ∙ calls) in
       let few : length (made place old) ≤ old.operations = short old.operations (calls_by place old.place old.front) in
-      ap (take new.operations) same ∙ take_all new.operations (made place old ++ e ∷ []) (omega (arith, length-append (made place old) (e ∷ []), few, h.operations))
+      ap (take new.operations) same ∙ take_all new.operations (made place old ++ e ∷ [])
+      (omega (arith, length-append (made place old) (e ∷ []), few, h.operations))
 
-  pub took_one : (Comes : List ℕ → Type 0) (old new : Seat (NodeEvent A)) (history : List (NodeEvent A)) (e : NodeEvent A) → IsAccepted place old new history e → e.place ≡ old.place → IsDelivery Comes e → TookIn Comes old new
+  pub took_one : (Comes : List ℕ → Type 0) (old new : Seat (NodeEvent A)) (history : List (NodeEvent A)) (e : NodeEvent A) → IsAccepted place old new history e
+      → e.place ≡ old.place → IsDelivery Comes e → TookIn Comes old new
   took_one Comes old new history e h at_place delivery = record {
     seat = h.seat;
     seen = prefix_trans old.front history new.front h.seen (e ∷ [], sym h.front);
-    calls = (e ∷ [], made_more old new history e h at_place, All-push (IsDelivery Comes) [] e (All-nil (IsDelivery Comes)) delivery, omega (arith, h.operations));
+    calls = (
+      e ∷ [],
+      made_more old new history e h at_place,
+      All-push (IsDelivery Comes) [] e (All-nil (IsDelivery Comes)) delivery,
+      omega (arith, h.operations),
+    );
   }
 
   pub took_then : (Comes : List ℕ → Type 0) (old mid new : Seat (NodeEvent A)) → TookIn Comes old mid → TookIn Comes mid new → TookIn Comes old new

@@ -20,14 +20,16 @@ use Rattle.shared_object.specs.Calling.{IsRefusedBy}
 use Rattle.node_threads.specs.History.{IsAfter, NeverRefuses, Replies, RefusesAfter, StandsFor, act_of, entries, entries_of}
 
 -- what runs on from where something ran to
-pub runs_then : (hash_of : List ℕ → ℕ) (es fs : List Entry) (q r s : Replica) (answers more : List Answer) → Runs hash_of q es answers r → Runs hash_of r fs more s
+pub runs_then : (hash_of : List ℕ → ℕ) (es fs : List Entry) (q r s : Replica) (answers more : List Answer) → Runs hash_of q es answers r
+    → Runs hash_of r fs more s
     → Runs hash_of q (es ++ fs) (answers ++ more) s
 runs_then hash_of [] fs q r s answers more (none, same) rest =
     subst (λ told. Runs hash_of q fs (told ++ more) s) (sym none) (subst (λ p. Runs hash_of p fs more s) same rest)
 runs_then hash_of (x ∷ es) fs q r s answers more (first, others, a, (p, sent, now, after)) rest =
     (first, others ++ more, ap (λ told. told ++ more) a, (p, sent, now, runs_then hash_of es fs p r s others more after rest))
 
-pub runs_once : (hash_of : List ℕ → ℕ) (r next : Replica) (e : Entry) (answer : Answer) (out : List Mail) → IsStep hash_of r e.act next answer out → Runs hash_of r (e ∷ []) (answer ∷ []) next
+pub runs_once : (hash_of : List ℕ → ℕ) (r next : Replica) (e : Entry) (answer : Answer) (out : List Mail) → IsStep hash_of r e.act next answer out
+    → Runs hash_of r (e ∷ []) (answer ∷ []) next
 runs_once hash_of r next e answer out step = (answer, [], refl, (next, out, step, (refl, refl)))
 
 -- a history with one event more
@@ -44,7 +46,8 @@ module _ {A : Type 0} (first : Replica) (history : List (NodeEvent A)) (r next :
     )
 
     -- a root of the next stands for the longer history
-    pub stands_after_all : {Hash : Type 0} (root : TrieMapValue Hash FieldsValue) → (store_state root).at ≡ next.live.at → StandsFor first root (history ++ e ∷ [])
+    pub stands_after_all : {Hash : Type 0} (root : TrieMapValue Hash FieldsValue) → (store_state root).at ≡ next.live.at
+        → StandsFor first root (history ++ e ∷ [])
     stands_after_all root same = (next, after_all, same)
 
   module _ (place : ℕ) (deed : Deed A) (answer : Answer) (out : List Mail) (step : IsStep fnv1a r (act_of deed) next answer out) where
@@ -75,7 +78,8 @@ module _ {A : Type 0} (first : Replica) (history : List (NodeEvent A)) (r : Repl
   pub without_memory_after : (refusal : Refusal) → refusal ≡ OutOfMemory → RefusesNothing r call → IsRefusedBy (λ h. RefusesAfter first h call) history refusal
   without_memory_after refusal is nothing = inl (is, unrefused_after nothing)
 
-  pub refused_after : (refusal : Refusal) → ((refusal ≡ OutOfMemory) × RefusesNothing r call) ⊎ Refuses r call refusal → IsRefusedBy (λ h. RefusesAfter first h call) history refusal
+  pub refused_after : (refusal : Refusal) → ((refusal ≡ OutOfMemory) × RefusesNothing r call) ⊎ Refuses r call refusal
+      → IsRefusedBy (λ h. RefusesAfter first h call) history refusal
   refused_after refusal (inl (none, nothing)) = without_memory_after refusal none nothing
   refused_after refusal (inr refuses) = foretold_after refusal refuses
 

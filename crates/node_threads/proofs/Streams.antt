@@ -33,13 +33,15 @@ of_three (a ∷ b ∷ c ∷ []) e = refl
 of_three (a ∷ b ∷ c ∷ d ∷ xs) e = absurd (omega (arith, e))
 
 -- a frame that is read: the number of its bytes, and so many bytes
-pub frame_read : (a b c : Option (List ℕ)) (count : ℕ) (bytes : List ℕ) → Consumes a b (to_be_bytes w32 count) → Consumes b c bytes → length bytes ≡ count → Consumes a c (framed bytes)
+pub frame_read : (a b c : Option (List ℕ)) (count : ℕ) (bytes : List ℕ) → Consumes a b (to_be_bytes w32 count) → Consumes b c bytes → length bytes ≡ count
+    → Consumes a c (framed bytes)
 frame_read a b c count bytes p q is =
     subst (λ (n : ℕ). Consumes a c (to_be_bytes w32 n ++ bytes)) (sym is) (consumes_then a b c (to_be_bytes w32 count) bytes p q)
 
 -- a frame that is written: the number of its bytes, the name that it is for, and the bytes
 pub frame_put : (a b c d e : Option (List ℕ)) (long named bytes : List ℕ) (head name to : ℕ) → Appends a b long → Appends b c named
-    → Appends c d bytes → Keeps d e → long ≡ to_be_bytes w32 head → named ≡ to_be_bytes w64 name → head ≡ length bytes + 8 → name ≡ to → Appends a e (framed (addressed to bytes))
+    → Appends c d bytes → Keeps d e → long ≡ to_be_bytes w32 head → named ≡ to_be_bytes w64 name → head ≡ length bytes + 8 → name ≡ to
+    → Appends a e (framed (addressed to bytes))
 frame_put a b c d e long named bytes head name to p q r k spelled called is same =
     let count : head ≡ length (addressed to bytes) = omega (arith, is) in
     let first : long ≡ to_be_bytes w32 (length (addressed to bytes)) = spelled ∙ ap (λ (n : ℕ). to_be_bytes w32 n) count in

@@ -1,5 +1,6 @@
 -- What comes but once in a history.
-use Rattle.std.proofs.Common.{◌≡◌, ℕ, zero, suc, ◌+◌, ◌<◌, ◌≤◌, Bool, ltb, List, [], ◌∷◌, true, false, ◌||◌, Option, Some, None, refl, sym, ap, ◌∙◌, subst, arith}
+use Rattle.std.proofs.Common.{◌≡◌, ℕ, zero, suc, ◌+◌, ◌<◌, ◌≤◌, Bool, ltb, List, [], ◌∷◌, true, false, ◌||◌, Option, Some, None, refl, sym, ap, ◌∙◌, subst}
+use Rattle.std.proofs.Common.{arith}
 use Rattle.std.specs.List.{slice_get}
 use Rattle.std.proofs.Math.Bool.{or-true}
 use Rattle.std.proofs.lemmas.Bool.Decides.{nat_tests}
@@ -13,7 +14,8 @@ use Rattle.sync_model.specs.Closing.{IsBelow}
 use Rattle.replica_model.specs.History.{Entry, Runs}
 use Rattle.replica_model.specs.Mail.{Mail}
 use Rattle.replica_model.specs.Replica.{Replica, Open, open_numbered}
-use Rattle.replica_model.specs.Step.{Act, Do, Take, Answer, Made, Numbered, Abandons, Put, Remove, RemoveField, Clear, Flush, Ask, Retry, Abandon, Restart, IsStep}
+use Rattle.replica_model.specs.Step.{Act, Do, Take, Answer, Made, Numbered, Abandons, Put, Remove, RemoveField, Clear, Flush, Ask, Retry, Abandon, Restart}
+use Rattle.replica_model.specs.Step.{IsStep}
 use Rattle.replica_model.proofs.Asks.{delivery_opens, call_opens}
 use Rattle.replica_model.proofs.Growing.{call_grows, delivery_grows}
 use Rattle.node_threads.specs.Twice.{ComesOnce, DotsDiffer, NumbersDiffer}
@@ -25,10 +27,13 @@ empty_at i x there = absurd cc
 module _ (hash_of : List ℕ → ℕ) {X : Type 0} (kind : X → Answer) (used : Replica → X → Type 0)
     (stays : (old new : Replica) (act : Act) (answer : Answer) (out : List Mail) (x : X) → IsStep hash_of old act new answer out → used old x → used new x)
     (begins : (old new : Replica) (act : Act) (out : List Mail) (x : X) → IsStep hash_of old act new (kind x) out → (used old x → ⊥) × used new x) where
-  begun : (old new : Replica) (act : Act) (answer : Answer) (out : List Mail) (x : X) → IsStep hash_of old act new answer out → Some answer ≡ Some (kind x) → (used old x → ⊥) × used new x
-  begun old new act answer out x step there = let same : answer ≡ kind x = cc in begins old new act out x (subst (λ a. IsStep hash_of old act new a out) same step)
+  begun : (old new : Replica) (act : Act) (answer : Answer) (out : List Mail) (x : X) → IsStep hash_of old act new answer out → Some answer ≡ Some (kind x)
+      → (used old x → ⊥) × used new x
+  begun old new act answer out x step there = let same : answer ≡ kind x = cc in
+      begins old new act out x (subst (λ a. IsStep hash_of old act new a out) same step)
 
-  pub not_again : (r s : Replica) (es : List Entry) (answers : List Answer) → Runs hash_of r es answers s → (i : ℕ) (x : X) → slice_get answers i ≡ Some (kind x) → used r x → ⊥
+  pub not_again : (r s : Replica) (es : List Entry) (answers : List Answer) → Runs hash_of r es answers s → (i : ℕ) (x : X)
+      → slice_get answers i ≡ Some (kind x) → used r x → ⊥
   not_again r s [] answers (none, same) i x there was = empty_at i (kind x) (subst (λ l. slice_get l i ≡ Some (kind x)) none there)
   not_again r s (e ∷ es) answers (answer, more, a, (next, out, step, rest)) zero x there was =
       (begun r next e.act answer out x step (subst (λ l. slice_get l zero ≡ Some (kind x)) a there)).0 was
@@ -39,11 +44,14 @@ module _ (hash_of : List ℕ → ℕ) {X : Type 0} (kind : X → Answer) (used :
   comes_once r s [] answers (none, same) i j x h t = absurd (empty_at i (kind x) (subst (λ l. slice_get l i ≡ Some (kind x)) none h))
   comes_once r s (e ∷ es) answers (answer, more, a, (next, out, step, rest)) zero zero x h t = refl
   comes_once r s (e ∷ es) answers (answer, more, a, (next, out, step, rest)) zero (suc j) x h t =
-      absurd (not_again next s es more rest j x (subst (λ l. slice_get l (suc j) ≡ Some (kind x)) a t) (begun r next e.act answer out x step (subst (λ l. slice_get l zero ≡ Some (kind x)) a h)).1)
+      absurd (not_again next s es more rest j x (subst (λ l. slice_get l (suc j) ≡ Some (kind x)) a t)
+      (begun r next e.act answer out x step (subst (λ l. slice_get l zero ≡ Some (kind x)) a h)).1)
   comes_once r s (e ∷ es) answers (answer, more, a, (next, out, step, rest)) (suc i) zero x h t =
-      absurd (not_again next s es more rest i x (subst (λ l. slice_get l (suc i) ≡ Some (kind x)) a h) (begun r next e.act answer out x step (subst (λ l. slice_get l zero ≡ Some (kind x)) a t)).1)
+      absurd (not_again next s es more rest i x (subst (λ l. slice_get l (suc i) ≡ Some (kind x)) a h)
+      (begun r next e.act answer out x step (subst (λ l. slice_get l zero ≡ Some (kind x)) a t)).1)
   comes_once r s (e ∷ es) answers (answer, more, a, (next, out, step, rest)) (suc i) (suc j) x h t =
-      ap suc (comes_once next s es more rest i j x (subst (λ l. slice_get l (suc i) ≡ Some (kind x)) a h) (subst (λ l. slice_get l (suc j) ≡ Some (kind x)) a t))
+      ap suc (comes_once next s es more rest i j x (subst (λ l. slice_get l (suc i) ≡ Some (kind x)) a h)
+      (subst (λ l. slice_get l (suc j) ≡ Some (kind x)) a t))
 
 -- ---- dots: a dot is used where it is known
 
@@ -58,7 +66,8 @@ module _ (hash_of : List ℕ → ℕ) where
   abbrev knows : Replica → Dot → Type 0
   knows r dot = r.live.has dot ≡ true
 
-  dot_stays : (old new : Replica) (act : Act) (answer : Answer) (out : List Mail) (dot : Dot) → IsStep hash_of old act new answer out → knows old dot → knows new dot
+  dot_stays : (old new : Replica) (act : Act) (answer : Answer) (out : List Mail) (dot : Dot) → IsStep hash_of old act new answer out → knows old dot
+      → knows new dot
   dot_stays old new act answer out dot step was = still_known old.live new.live dot (step_grows old new act answer out step) was
 
   no_dot_abandoned : (old new : Replica) (o : Option Open) (dot : Dot) → Abandons old o new (Made dot) → ⊥
@@ -70,7 +79,8 @@ module _ (hash_of : List ℕ → ℕ) where
       let same : dot ≡ w.id = cc in (
         (λ was. let below = put.id.above w.id put.id.named (ap old.live.has (sym same) ∙ was) in absurd (omega (arith, below))),
         subst (λ (r : Replica). r.live.has dot ≡ true) (sym n)
-            (ap (λ b. old.live.has dot || b) (has-write w dot ∙ ap (λ d. same_dot w.id d || has w.over dot) same ∙ ap (λ b. b || has w.over dot) (same_dot-self w.id)) ∙ or-true (old.live.has dot)),
+            (ap (λ b. old.live.has dot || b) (has-write w dot ∙ ap (λ d. same_dot w.id d || has w.over dot) same
+            ∙ ap (λ b. b || has w.over dot) (same_dot-self w.id)) ∙ or-true (old.live.has dot)),
       )
   dot_begins old new (Do (Remove key)) out dot (over, just, n, (k, counts, a), o) = absurd cc
   dot_begins old new (Do (RemoveField place)) out dot (over, just, n, (k, counts, a), o) = absurd cc
@@ -90,7 +100,8 @@ module _ (hash_of : List ℕ → ℕ) where
   abbrev is_used : Replica → ℕ → Type 0
   is_used r n = n ≤ r.opened
 
-  number_stays : (old new : Replica) (act : Act) (answer : Answer) (out : List Mail) (n : ℕ) → IsStep hash_of old act new answer out → is_used old n → is_used new n
+  number_stays : (old new : Replica) (act : Act) (answer : Answer) (out : List Mail) (n : ℕ) → IsStep hash_of old act new answer out → is_used old n
+      → is_used new n
   number_stays old new (Do call) answer out n step le = let few = call_opens old new call answer out step in omega (arith, few, le)
   number_stays old new (Take mail) answer out n (outcome, a, (own, map, is)) le =
       subst (λ t. n ≤ t.new.opened) is (let few = delivery_opens hash_of own old mail in omega (arith, few, le))
@@ -133,9 +144,13 @@ unused_at_first hash_of first r es answers runs i n there = go (ltb first.opened
         absurd (not_again hash_of Numbered (is_used hash_of) (number_stays hash_of) (number_begins hash_of) first r es answers runs i n there used)
 
 pub dots_differ : DotsDiffer
-dots_differ hash_of first history answers r runs =
-    (comes_once hash_of Made (knows hash_of) (dot_stays hash_of) (dot_begins hash_of) first r history answers runs, unknown_at_first hash_of first r history answers runs)
+dots_differ hash_of first history answers r runs = (
+  comes_once hash_of Made (knows hash_of) (dot_stays hash_of) (dot_begins hash_of) first r history answers runs,
+  unknown_at_first hash_of first r history answers runs,
+)
 
 pub numbers_differ : NumbersDiffer
-numbers_differ hash_of first history answers r runs =
-    (comes_once hash_of Numbered (is_used hash_of) (number_stays hash_of) (number_begins hash_of) first r history answers runs, unused_at_first hash_of first r history answers runs)
+numbers_differ hash_of first history answers r runs = (
+  comes_once hash_of Numbered (is_used hash_of) (number_stays hash_of) (number_begins hash_of) first r history answers runs,
+  unused_at_first hash_of first r history answers runs,
+)

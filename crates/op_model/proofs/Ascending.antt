@@ -56,7 +56,8 @@ pub from_with_one : (x : List ℕ) (ys : List (List ℕ)) (z : List ℕ) → Con
 from_with_one x [] z h = elim (head_or_tail x [] z h) [ inl e ↦ inl (sym e) | inr t ↦ nothing_in z t ]
 from_with_one x (y ∷ ys) z h = from_placed (bytes_cmp x y) x y ys (with_one x ys) z (from_with_one x ys) h
 
-in_placed : (o : Ordering) (x y : List ℕ) (ys among : List (List ℕ)) → bytes_cmp x y ≡ o → Contains among x → ((z : List ℕ) → Contains ys z → Contains among z) →
+in_placed : (o : Ordering) (x y : List ℕ) (ys among : List (List ℕ)) → bytes_cmp x y ≡ o → Contains among x
+    → ((z : List ℕ) → Contains ys z → Contains among z) →
     Contains (placed o x y ys among) x × ((z : List ℕ) → Contains (y ∷ ys) z → Contains (placed o x y ys among) z)
 in_placed Less x y ys among e h f = (at_head x (y ∷ ys), λ z t. in_tail x (y ∷ ys) z t)
 in_placed Equal x y ys among e h f = (at_same (y ∷ ys) y x (sym (bytes_exact x y e)) (at_head y ys), λ z t. t)
@@ -67,7 +68,8 @@ pub in_with_one : (x : List ℕ) (ys : List (List ℕ)) → Contains (with_one x
 in_with_one x [] = (at_head x [], λ z t. nothing_in z t)
 in_with_one x (y ∷ ys) = let rest = in_with_one x ys in in_placed (bytes_cmp x y) x y ys (with_one x ys) refl rest.0 rest.1
 
-placed_ascends : (o : Ordering) (x y : List ℕ) (ys : List (List ℕ)) → bytes_cmp x y ≡ o → IsAscending (y ∷ ys) → IsAscending (with_one x ys) → IsAscending (placed o x y ys (with_one x ys))
+placed_ascends : (o : Ordering) (x y : List ℕ) (ys : List (List ℕ)) → bytes_cmp x y ≡ o → IsAscending (y ∷ ys) → IsAscending (with_one x ys)
+    → IsAscending (placed o x y ys (with_one x ys))
 placed_ascends Less x y ys e h g =
     ascends x (y ∷ ys) (record {
       below = λ z t.
@@ -116,7 +118,8 @@ one_head x y xs ys h g f b =
     ]
 
 -- the members of a tail, where the heads are one
-tails : (x y : List ℕ) (xs ys : List (List ℕ)) → IsAscending (x ∷ xs) → x ≡ y → ((z : List ℕ) → Contains (x ∷ xs) z → Contains (y ∷ ys) z) → (z : List ℕ) → Contains xs z → Contains ys z
+tails : (x y : List ℕ) (xs ys : List (List ℕ)) → IsAscending (x ∷ xs) → x ≡ y → ((z : List ℕ) → Contains (x ∷ xs) z → Contains (y ∷ ys) z) → (z : List ℕ)
+    → Contains xs z → Contains ys z
 tails x y xs ys h same f z t =
     elim (head_or_tail y ys z (f z (in_tail x xs z t))) [
       | inl e ↦ absurd (less_self x (ap (bytes_cmp x) (same ∙ e) ∙ (head_below x xs h).below z t))
@@ -124,7 +127,8 @@ tails x y xs ys h same f z t =
     ]
 
 -- two ascending lists of the same members are one
-pub one_ascending : (xs ys : List (List ℕ)) → IsAscending xs → IsAscending ys → ((z : List ℕ) → Contains xs z → Contains ys z) → ((z : List ℕ) → Contains ys z → Contains xs z) → xs ≡ ys
+pub one_ascending : (xs ys : List (List ℕ)) → IsAscending xs → IsAscending ys → ((z : List ℕ) → Contains xs z → Contains ys z)
+    → ((z : List ℕ) → Contains ys z → Contains xs z) → xs ≡ ys
 one_ascending [] [] h g f b = refl
 one_ascending [] (y ∷ ys) h g f b = nothing_in y (b y (at_head y ys))
 one_ascending (x ∷ xs) [] h g f b = nothing_in x (f x (at_head x xs))

@@ -10,7 +10,8 @@ use Rattle.op_model.specs.Operation.{Write, Operation, Wrote, Erased, has, ids, 
 use Rattle.op_model.specs.Shown.{shown, shown_within, shown_anywhere}
 use Rattle.op_model.specs.Meaning.{MapState, greater, state}
 use Rattle.op_model.specs.Made.{put_at, erasure, remove_at, remove_field_at, clear_at, IsPutAt, IsRemoveAt, IsFieldRemoveAt, IsClearAt}
-use Rattle.op_model.specs.World.{AbstractWorld, Means, IsUntouched, replica_of, AbstractEvent, Node, Put, Remove, RemoveField, Clear, Flush, Deliver, is_among, is_node, message, makes, happens, after}
+use Rattle.op_model.specs.World.{AbstractWorld, Means, IsUntouched, replica_of, AbstractEvent, Node, Put, Remove, RemoveField, Clear, Flush, Deliver, is_among}
+use Rattle.op_model.specs.World.{is_node, message, makes, happens, after}
 use Rattle.op_model.proofs.Joins.{same-chain, or_assoc}
 use Rattle.op_model.proofs.Dots.{same_dot-self, has-append}
 use Rattle.op_model.proofs.Making.{put_made, remove_made, field_remove_made, clear_made}
@@ -18,7 +19,8 @@ use Rattle.op_model.proofs.Members.{at_head}
 use Rattle.op_model.proofs.Fresh.{IsNew, put-new, erasure-new, sound-after, after-push}
 use Rattle.op_model.proofs.Pairs.{grown-there, emptied-here, emptied-there, makes_live, makes_group, learns_live}
 
-then_after : (events : List AbstractEvent) (e : AbstractEvent) (p g : MapState) (name : ℕ) → Means p g (happens (after events) e) name → Means p g (after (events ++ e ∷ [])) name
+then_after : (events : List AbstractEvent) (e : AbstractEvent) (p g : MapState) (name : ℕ) → Means p g (happens (after events) e) name
+    → Means p g (after (events ++ e ∷ [])) name
 then_after events e p g name h = let P : AbstractWorld → Type 0 = λ w. Means p g w name in subst P (sym (after-push events e)) h
 
 module _ (events : List AbstractEvent) (name : ℕ) (p g : MapState) (means : Means p g (after events) name) where
@@ -40,19 +42,22 @@ module _ (events : List AbstractEvent) (name : ℕ) (p g : MapState) (means : Me
       Means (join greater p d) (join greater g d) (after (events ++ Remove name key ∷ [])) name
   after_remove key d delta =
       then_after events (Remove name key) (join greater p d) (join greater g d) name
-      (makes_means (remove_at ((after events).seen name) key) (erasure-new ((after events).seen name) name (ids (shown_within ((after events).seen name) key))) d delta)
+      (makes_means (remove_at ((after events).seen name) key)
+      (erasure-new ((after events).seen name) name (ids (shown_within ((after events).seen name) key))) d delta)
 
   pub after_remove_field : (place : Place) (d : MapState) → Same d (state (remove_field_at ((after events).seen name) place)) →
       Means (join greater p d) (join greater g d) (after (events ++ RemoveField name place ∷ [])) name
   after_remove_field place d delta =
       then_after events (RemoveField name place) (join greater p d) (join greater g d) name
-      (makes_means (remove_field_at ((after events).seen name) place) (erasure-new ((after events).seen name) name (ids (shown ((after events).seen name) place))) d delta)
+      (makes_means (remove_field_at ((after events).seen name) place)
+      (erasure-new ((after events).seen name) name (ids (shown ((after events).seen name) place))) d delta)
 
   pub after_clear : (d : MapState) → Same d (state (clear_at ((after events).seen name))) →
       Means (join greater p d) (join greater g d) (after (events ++ Clear name ∷ [])) name
   after_clear d delta =
       then_after events (Clear name) (join greater p d) (join greater g d) name
-      (makes_means (clear_at ((after events).seen name)) (erasure-new ((after events).seen name) name (ids (shown_anywhere ((after events).seen name)))) d delta)
+      (makes_means (clear_at ((after events).seen name)) (erasure-new ((after events).seen name) name
+      (ids (shown_anywhere ((after events).seen name)))) d delta)
 
   -- the same with the delta of the operation made at the pair
   pub after_put_at : (place : Place) (value : List ℕ) (w : Write) (d : MapState) → IsPutAt p name place value w → Same d (state (Wrote w ∷ [])) →
@@ -92,8 +97,11 @@ module _ (events : List AbstractEvent) (name : ℕ) (p g : MapState) (means : Me
       by : (S : List Operation) → (after events).outgoing name ≡ S → ((dot : Dot) → g.has dot ≡ false) → (after events).outgoing name ≡ []
       by [] e h = e
       by (Wrote w ∷ S) e h =
-          absurd (false≢true (sym (h w.id) ∙ means.outgoing.has w.id ∙ ap (λ T. has (known T) w.id) e ∙ or_left (same_dot w.id w.id) (has (ids (writes S) ++ observed (Wrote w ∷ S)) w.id) (same_dot-self w.id)))
-      by (Erased [] ∷ S) e h = absurd ((sound-after events).told ((sound-after events).outgoing name (Erased []) (subst (λ T. Contains T (Erased [])) (sym e) (at_head (Erased []) S))))
+          absurd (false≢true (sym (h w.id) ∙ means.outgoing.has w.id ∙ ap (λ T. has (known T) w.id) e
+          ∙ or_left (same_dot w.id w.id) (has (ids (writes S) ++ observed (Wrote w ∷ S)) w.id) (same_dot-self w.id)))
+      by (Erased [] ∷ S) e h =
+          absurd ((sound-after events).told ((sound-after events).outgoing name (Erased [])
+          (subst (λ T. Contains T (Erased [])) (sym e) (at_head (Erased []) S))))
       by (Erased (d ∷ ds) ∷ S) e h =
           let there : has (known (Erased (d ∷ ds) ∷ S)) d ≡ true =
           has-append (ids (writes S)) ((d ∷ ds) ++ observed S) d
@@ -106,25 +114,40 @@ module _ (events : List AbstractEvent) (name : ℕ) (p g : MapState) (means : Me
   after_deliver number d delta =
       then_after events (Deliver number name) (join greater p d) g name
       (record {
-        seen = learns_live (after events) (sound-after events) name (message (after events).messages number) ((sound-after events).messages number) p d means.seen delta;
+        seen = learns_live (after events) (sound-after events) name (message (after events).messages number) ((sound-after events).messages number)
+            p d means.seen delta;
         outgoing = means.outgoing;
       })
 
 -- an event leaves every other replica as it was
 pub untouched : (w : AbstractWorld) (e : AbstractEvent) (n : ℕ) → n ≢ replica_of e → IsUntouched w (happens w e) n
 untouched w (Node name) n apart = record { seen = refl; outgoing = refl }
-untouched w (Put name place value) n apart = record { seen = grown-there n name (w.seen n) (put_at (w.seen name) name place value) apart; outgoing = grown-there n name (w.outgoing n) (put_at (w.seen name) name place value) apart }
-untouched w (Remove name key) n apart = record { seen = grown-there n name (w.seen n) (remove_at (w.seen name) key) apart; outgoing = grown-there n name (w.outgoing n) (remove_at (w.seen name) key) apart }
-untouched w (RemoveField name place) n apart = record { seen = grown-there n name (w.seen n) (remove_field_at (w.seen name) place) apart; outgoing = grown-there n name (w.outgoing n) (remove_field_at (w.seen name) place) apart }
-untouched w (Clear name) n apart = record { seen = grown-there n name (w.seen n) (clear_at (w.seen name)) apart; outgoing = grown-there n name (w.outgoing n) (clear_at (w.seen name)) apart }
+untouched w (Put name place value) n apart = record {
+  seen = grown-there n name (w.seen n) (put_at (w.seen name) name place value) apart;
+  outgoing = grown-there n name (w.outgoing n) (put_at (w.seen name) name place value) apart;
+}
+untouched w (Remove name key) n apart = record {
+  seen = grown-there n name (w.seen n) (remove_at (w.seen name) key) apart;
+  outgoing = grown-there n name (w.outgoing n) (remove_at (w.seen name) key) apart;
+}
+untouched w (RemoveField name place) n apart = record {
+  seen = grown-there n name (w.seen n) (remove_field_at (w.seen name) place) apart;
+  outgoing = grown-there n name (w.outgoing n) (remove_field_at (w.seen name) place) apart;
+}
+untouched w (Clear name) n apart = record {
+  seen = grown-there n name (w.seen n) (clear_at (w.seen name)) apart;
+  outgoing = grown-there n name (w.outgoing n) (clear_at (w.seen name)) apart;
+}
 untouched w (Flush name) n apart = record { seen = refl; outgoing = emptied-there n name (w.outgoing n) apart }
 untouched w (Deliver number name) n apart = record { seen = grown-there n name (w.seen n) (message w.messages number) apart; outgoing = refl }
 
 pub after_elsewhere : (events : List AbstractEvent) (e : AbstractEvent) (n : ℕ) → n ≢ replica_of e → IsUntouched (after events) (after (events ++ e ∷ [])) n
-after_elsewhere events e n apart = let P : AbstractWorld → Type 0 = λ w. IsUntouched (after events) w n in subst P (sym (after-push events e)) (untouched (after events) e n apart)
+after_elsewhere events e n apart = let P : AbstractWorld → Type 0 = λ w. IsUntouched (after events) w n in
+    subst P (sym (after-push events e)) (untouched (after events) e n apart)
 
 -- and what another replica's pairs meant they mean
-pub means_elsewhere : (events : List AbstractEvent) (e : AbstractEvent) (n : ℕ) (p g : MapState) → n ≢ replica_of e → Means p g (after events) n → Means p g (after (events ++ e ∷ [])) n
+pub means_elsewhere : (events : List AbstractEvent) (e : AbstractEvent) (n : ℕ) (p g : MapState) → n ≢ replica_of e → Means p g (after events) n
+    → Means p g (after (events ++ e ∷ [])) n
 means_elsewhere events e n p g apart means =
     let still = after_elsewhere events e n apart in
     record {
@@ -147,7 +170,8 @@ or_false false = refl
 
 pub node_there : (events : List AbstractEvent) (name n : ℕ) → is_node (after (events ++ Node name ∷ [])) n ≡ (is_node (after events) n || name == n)
 node_there events name n =
-    ap (λ w. is_node w n) (after-push events (Node name)) ∙ among-append (after events).nodes (name ∷ []) n ∙ ap (λ b. is_node (after events) n || b) (or_false (name == n))
+    ap (λ w. is_node w n) (after-push events (Node name)) ∙ among-append (after events).nodes (name ∷ []) n
+    ∙ ap (λ b. is_node (after events) n || b) (or_false (name == n))
 
 pub node_means : (events : List AbstractEvent) (name n : ℕ) (p g : MapState) → Means p g (after events) n → Means p g (after (events ++ Node name ∷ [])) n
 node_means events name n p g means = then_after events (Node name) p g n (record { seen = means.seen; outgoing = means.outgoing })

@@ -1,5 +1,6 @@
 -- No dot is used twice: what the moves of a world keep.
-use Rattle.std.proofs.Common.{◌≡◌, ℕ, zero, suc, ◌≤◌, max, List, [], ◌∷◌, ◌++◌, fold, refl, sym, ap, ◌∙◌, subst, inl, inr, Bool, true, false, cond, arith, eq-eqb}
+use Rattle.std.proofs.Common.{◌≡◌, ℕ, zero, suc, ◌≤◌, max, List, [], ◌∷◌, ◌++◌, fold, refl, sym, ap, ◌∙◌, subst, inl, inr, Bool, true, false, cond, arith}
+use Rattle.std.proofs.Common.{eq-eqb}
 use Rattle.std.specs.Prelude.{Contains, ◌==◌}
 use Rattle.std.proofs.lemmas.Bool.{false≢true, cases_Bool, or_left}
 use Rattle.std.proofs.lemmas.List.Elements.{Contains-append_left, Contains-append_right, Contains-append_cases}
@@ -8,7 +9,8 @@ use Rattle.op_model.specs.Operation.{Write, Operation, Wrote, Erased, writes, ob
 use Rattle.op_model.specs.Place.{Place}
 use Rattle.op_model.specs.Shown.{is_on, shown, shown_where, shown_within, shown_anywhere}
 use Rattle.op_model.specs.Made.{greatest_number, next, put_at, erasure, remove_at, remove_field_at, clear_at}
-use Rattle.op_model.specs.World.{AbstractWorld, IsSound, AbstractEvent, Node, Put, Remove, RemoveField, Clear, Flush, Deliver, nothing, message, grown, emptied, group_messages, makes, sends, shows, learns, happens, after}
+use Rattle.op_model.specs.World.{AbstractWorld, IsSound, AbstractEvent, Node, Put, Remove, RemoveField, Clear, Flush, Deliver, nothing, message, grown, emptied}
+use Rattle.op_model.specs.World.{group_messages, makes, sends, shows, learns, happens, after}
 use Rattle.op_model.proofs.Dots.{has-append, in_has, from_has}
 use Rattle.op_model.proofs.Members.{nothing_in, head_or_tail, at_same, in_map, from_map}
 use Rattle.op_model.proofs.Union.{in_writes_left, in_writes_right, in_writes_either}
@@ -30,7 +32,8 @@ greatest_number-above name (c ∷ ds) d h e =
       | inl same ↦
           let here : d.name == name ≡ true = eq-eqb d.name name e in
           let there : c.name == name ≡ true = ap (λ x. x.name == name) same ∙ here in
-          let known_there : c.number ≤ cond (c.name == name) (max c.number (greatest_number name ds)) (greatest_number name ds) = step_here (c.name == name) c.number (greatest_number name ds) there in
+          let known_there : c.number ≤ cond (c.name == name) (max c.number (greatest_number name ds)) (greatest_number name ds) =
+          step_here (c.name == name) c.number (greatest_number name ds) there in
           subst (λ x. x.number ≤ greatest_number name (c ∷ ds)) same known_there
       | inr t ↦ step_above (c.name == name) c.number (greatest_number name ds) d.number (greatest_number-above name ds d t e)
     ]
@@ -49,7 +52,8 @@ shown_known S test dot e =
     let found = from_map (λ w. w.id) (shown_where S test) dot (from_has (ids (shown_where S test)) dot e) in
     let written = (from_shown S test found.0 found.1).0 in
     has-append (ids (writes S)) (observed S) dot
-    ∙ or_left (has (ids (writes S)) dot) (has (observed S) dot) (in_has (ids (writes S)) dot (at_same (ids (writes S)) found.0.id dot found.2 (in_map (λ w. w.id) (writes S) found.0 written)))
+    ∙ or_left (has (ids (writes S)) dot) (has (observed S) dot)
+    (in_has (ids (writes S)) dot (at_same (ids (writes S)) found.0.id dot found.2 (in_map (λ w. w.id) (writes S) found.0 written)))
 
 pub written_known : (S : List Operation) (w : Write) → Contains (writes S) w → has (known S) w.id ≡ true
 written_known S w h =
@@ -87,7 +91,13 @@ put-new S name place value =
     }
 
 pub erasure-new : (S : List Operation) (name : ℕ) (ds : List Dot) → IsNew S name (erasure ds)
-erasure-new S name [] = record { named = λ v h. nothing_in v h; fresh = λ v h. nothing_in v h; not_itself = λ v h. nothing_in v h; one_write = λ u v h g e. nothing_in u h; told = λ h. nothing_in (Erased []) h }
+erasure-new S name [] = record {
+  named = λ v h. nothing_in v h;
+  fresh = λ v h. nothing_in v h;
+  not_itself = λ v h. nothing_in v h;
+  one_write = λ u v h g e. nothing_in u h;
+  told = λ h. nothing_in (Erased []) h;
+}
 erasure-new S name (d ∷ ds) = record {
   named = λ v h. nothing_in v h;
   fresh = λ v h. nothing_in v h;
@@ -132,7 +142,8 @@ grown_more true S more w e h = in_writes_right S more w h
 grown_more false S more w e h = absurd (false≢true e)
 
 -- messages, each a part of what was made
-pub message-append : (ms more : List (List Operation)) (T : List Operation) → ((number : ℕ) → IsPartOf (message ms number) T) → ((number : ℕ) → IsPartOf (message more number) T) →
+pub message-append : (ms more : List (List Operation)) (T : List Operation) → ((number : ℕ) → IsPartOf (message ms number) T)
+    → ((number : ℕ) → IsPartOf (message more number) T) →
     (number : ℕ) → IsPartOf (message (ms ++ more) number) T
 message-append ms more T f g zero = nothing_part T
 message-append [] more T f g (suc n) = g (suc n)
@@ -234,7 +245,8 @@ pub sound-happens : (w : AbstractWorld) (e : AbstractEvent) → IsSound w → Is
 sound-happens w (Node name) s = record { seen = s.seen; outgoing = s.outgoing; messages = s.messages; own = s.own; told = s.told; no_reuse = s.no_reuse }
 sound-happens w (Put name place value) s = sound-makes w name (put_at (w.seen name) name place value) s (put-new (w.seen name) name place value)
 sound-happens w (Remove name key) s = sound-makes w name (remove_at (w.seen name) key) s (erasure-new (w.seen name) name (ids (shown_within (w.seen name) key)))
-sound-happens w (RemoveField name place) s = sound-makes w name (remove_field_at (w.seen name) place) s (erasure-new (w.seen name) name (ids (shown (w.seen name) place)))
+sound-happens w (RemoveField name place) s = sound-makes w name (remove_field_at (w.seen name) place) s
+    (erasure-new (w.seen name) name (ids (shown (w.seen name) place)))
 sound-happens w (Clear name) s = sound-makes w name (clear_at (w.seen name)) s (erasure-new (w.seen name) name (ids (shown_anywhere (w.seen name))))
 sound-happens w (Flush name) s = sound-sends w name s
 sound-happens w (Deliver number name) s = sound-learns w name (message w.messages number) s (s.messages number)

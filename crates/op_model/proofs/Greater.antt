@@ -54,7 +54,8 @@ module _ {K : Type 0} (R : K → K → Ordering) (total : IsTotalOrder R) (exact
   pub max_assoc : (x y z : K) → ord_max R (ord_max R x y) z ≡ ord_max R x (ord_max R y z)
   max_assoc x y z = by (cases_Bool (is_lt (R y x))) (cases_Bool (is_lt (R z y)))
     where
-      by : (is_lt (R y x) ≡ true) ⊎ (is_lt (R y x) ≡ false) → (is_lt (R z y) ≡ true) ⊎ (is_lt (R z y) ≡ false) → ord_max R (ord_max R x y) z ≡ ord_max R x (ord_max R y z)
+      by : (is_lt (R y x) ≡ true) ⊎ (is_lt (R y x) ≡ false) → (is_lt (R z y) ≡ true) ⊎ (is_lt (R z y) ≡ false)
+          → ord_max R (ord_max R x y) z ≡ ord_max R x (ord_max R y z)
       by (inl a) (inl b) = ap (λ m. ord_max R m z) (first x y a) ∙ first x z (above x y z b a) ∙ sym (first x y a) ∙ sym (ap (ord_max R x) (first y z b))
       by (inl a) (inr b) = ap (λ m. ord_max R m z) (first x y a) ∙ sym (ap (ord_max R x) (second y z b))
       by (inr a) (inl b) = ap (λ m. ord_max R m z) (second x y a) ∙ first y z b ∙ sym (second x y a) ∙ sym (ap (ord_max R x) (first y z b))

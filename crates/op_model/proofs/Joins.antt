@@ -3,7 +3,8 @@ use Rattle.std.proofs.Common.{◌≡◌, refl, sym, ap, ◌∙◌, Bool, true, f
 use Rattle.op_model.specs.State.{State, joined, join, Same}
 
 module _ {H : Type 0} (greater : H → H → H) where
-  pub joined-comm : ((x y : H) → greater x y ≡ greater y x) → (a : Option H) (s : Bool) (b : Option H) (t : Bool) → joined greater a s b t ≡ joined greater b t a s
+  pub joined-comm : ((x y : H) → greater x y ≡ greater y x) → (a : Option H) (s : Bool) (b : Option H) (t : Bool)
+      → joined greater a s b t ≡ joined greater b t a s
   joined-comm comm (Some x) s (Some y) t = ap Some (comm x y)
   joined-comm comm (Some x) s None t = refl
   joined-comm comm None s (Some y) t = refl
@@ -13,7 +14,8 @@ module _ {H : Type 0} (greater : H → H → H) where
   joined-idem idem (Some x) s = ap Some (idem x)
   joined-idem idem None s = refl
 
-  pub joined-assoc : ((x y z : H) → greater (greater x y) z ≡ greater x (greater y z)) → (a : Option H) (s : Bool) (b : Option H) (t : Bool) (c : Option H) (u : Bool) →
+  pub joined-assoc : ((x y z : H) → greater (greater x y) z ≡ greater x (greater y z))
+      → (a : Option H) (s : Bool) (b : Option H) (t : Bool) (c : Option H) (u : Bool) →
       joined greater (joined greater a s b t) (s || t) c u ≡ joined greater a s (joined greater b t c u) (t || u)
   joined-assoc assoc (Some x) s (Some y) t (Some z) u = ap Some (assoc x y z)
   joined-assoc assoc (Some x) s (Some y) true None true = refl
@@ -57,7 +59,8 @@ module _ {P H : Type 0} (greater : H → H → H) where
     has = λ dot. or_comm (p.has dot) (q.has dot);
   }
 
-  pub join-assoc : ((x y z : H) → greater (greater x y) z ≡ greater x (greater y z)) → (p q r : State P H) → Same (join greater (join greater p q) r) (join greater p (join greater q r))
+  pub join-assoc : ((x y z : H) → greater (greater x y) z ≡ greater x (greater y z)) → (p q r : State P H)
+      → Same (join greater (join greater p q) r) (join greater p (join greater q r))
   join-assoc assoc p q r = record {
     at = λ place dot. joined-assoc greater assoc (p.at place dot) (p.has dot) (q.at place dot) (q.has dot) (r.at place dot) (r.has dot);
     has = λ dot. or_assoc (p.has dot) (q.has dot) (r.has dot);

@@ -1,5 +1,6 @@
 -- Operations made at a state and at the set that it stands for are the same.
-use Rattle.std.proofs.Common.{◌≡◌, ℕ, ◌+◌, ◌-◌, ◌<◌, max, List, [], ◌∷◌, refl, sym, ap, ◌∙◌, ◌⊎◌, inl, inr, Bool, true, false, cond, ◌&&◌, ◌||◌, Some, None, arith, eqb-true}
+use Rattle.std.proofs.Common.{◌≡◌, ℕ, ◌+◌, ◌-◌, ◌<◌, max, List, [], ◌∷◌, refl, sym, ap, ◌∙◌, ◌⊎◌, inl, inr, Bool, true, false, cond, ◌&&◌, ◌||◌, Some, None}
+use Rattle.std.proofs.Common.{arith, eqb-true}
 use Rattle.std.specs.Prelude.{◌==◌, IsTrue, IsSome, is_some, ◌↔◌}
 use Rattle.std.specs.Set.{distinct_count, is_member}
 use Rattle.std.specs.Cmp.{IsEquivalence}
@@ -13,7 +14,8 @@ use Rattle.op_model.specs.State.{Same, IsInside}
 use Rattle.op_model.specs.Operation.{Write, Operation, Wrote, ids, has, known}
 use Rattle.op_model.specs.Shown.{is_on, shown, shown_within, shown_anywhere}
 use Rattle.op_model.specs.Meaning.{MapState, greater_if, state}
-use Rattle.op_model.specs.Made.{greatest_number, next, dot_at, write_at, put_at, erasure, remove_at, remove_field_at, clear_at, removed_at, field_removed_at, cleared_at, IsNext, IsPutAt, IsFieldRemoveAt, IsRemoveAt, IsClearAt, IsWithin, IsAnywhere, Counts}
+use Rattle.op_model.specs.Made.{greatest_number, next, dot_at, write_at, put_at, erasure, remove_at, remove_field_at, clear_at, removed_at, field_removed_at}
+use Rattle.op_model.specs.Made.{cleared_at, IsNext, IsPutAt, IsFieldRemoveAt, IsRemoveAt, IsClearAt, IsWithin, IsAnywhere, Counts}
 use Rattle.op_model.proofs.Dots.{same_dot-true, same_dot-self, same_dot-symm, from_has}
 use Rattle.op_model.proofs.SameSets.{both_ways}
 use Rattle.op_model.proofs.Union.{at-state, under_cond}
@@ -35,14 +37,17 @@ reached_step name c ds m h =
     elim (which (c.name == name) c.number m) [
       | inl e ↦ elim h [
         | inl zero_there ↦ inl (e ∙ zero_there)
-        | inr there ↦ inr (or_right (same_dot c (record { name = name; number = g })) (has ds (record { name = name; number = g })) (ap (λ n. has ds (record { name = name; number = n })) e ∙ there))
+        | inr there ↦ inr (or_right (same_dot c (record { name = name; number = g })) (has ds (record { name = name; number = g }))
+            (ap (λ n. has ds (record { name = name; number = n })) e ∙ there))
       ]
       | inr e ↦
           let same : c ≡ record { name = name; number = g } = same_dots c (record { name = name; number = g }) (eqb-true c.name name e.0) (sym e.1) in
-          inr (or_left (same_dot c (record { name = name; number = g })) (has ds (record { name = name; number = g })) (ap (same_dot c) (sym same) ∙ same_dot-self c))
+          inr (or_left (same_dot c (record { name = name; number = g })) (has ds (record { name = name; number = g }))
+          (ap (same_dot c) (sym same) ∙ same_dot-self c))
     ]
 
-pub greatest_number-reached : (name : ℕ) (ds : List Dot) → (greatest_number name ds ≡ 0) ⊎ (has ds (record { name = name; number = greatest_number name ds }) ≡ true)
+pub greatest_number-reached : (name : ℕ) (ds : List Dot) → (greatest_number name ds ≡ 0)
+    ⊎ (has ds (record { name = name; number = greatest_number name ds }) ≡ true)
 greatest_number-reached name [] = inl refl
 greatest_number-reached name (c ∷ ds) = reached_step name c ds (greatest_number name ds) (greatest_number-reached name ds)
 
@@ -135,7 +140,8 @@ counted : (P : Dot → Type 0) (ds : List Dot) (n : ℕ) → Counts P n → ((do
 counted P ds n c all =
     c.number
     ∙ length-from_keys same_dot_equivalence c.dots ds c.apart
-    (λ q. sym (has-is_member c.dots q) ∙ both_ways (has c.dots q) (has ds q) (λ h. (all q).1 ((c.just q).0 h)) (λ h. (c.just q).1 ((all q).0 h)) ∙ has-is_member ds q)
+    (λ q. sym (has-is_member c.dots q) ∙ both_ways (has c.dots q) (has ds q) (λ h. (all q).1 ((c.just q).0 h)) (λ h. (c.just q).1 ((all q).0 h))
+    ∙ has-is_member ds q)
 
 -- a write's value stands at its key under its dot alone
 pub at-write-own : (w : Write) → has w.over w.id ≡ false → (place : Place) (dot : Dot) →
@@ -179,10 +185,12 @@ module _ (S : List Operation) (p : MapState) (same : Same p (state S)) where
       erasure-same over ds (λ dot. both_ways (has over dot) (has ds dot) (λ h. (n dot).1 ((m dot).0 h)) (λ h. (m dot).1 ((n dot).0 h)))
 
   -- what a put, a remove of a key, a remove of a field and a clear made at the state stand for
-  pub put_made : (name : ℕ) (place : Place) (value : List ℕ) (w : Write) → IsPutAt p name place value w → Same (state (Wrote w ∷ [])) (state (put_at S name place value))
+  pub put_made : (name : ℕ) (place : Place) (value : List ℕ) (w : Write) → IsPutAt p name place value w
+      → Same (state (Wrote w ∷ [])) (state (put_at S name place value))
   put_made name place value w m =
       let v : Write = record { id = dot_at S name; place = place; value = value; over = ids (shown S place) } in
-      let id : w.id ≡ v.id = IsNext-one name (has (known S)) w.id v.id (IsNext-same name p.has (has (known S)) w.id same.has m.id) (next-IsNext name (known S)) in
+      let id : w.id ≡ v.id = IsNext-one name (has (known S)) w.id v.id (IsNext-same name p.has (has (known S)) w.id same.has m.id)
+      (next-IsNext name (known S)) in
       write-same w v id m.same_place m.same_value (λ dot. m.over dot ∙ standing_same place dot)
 
   pub field_remove_made : (place : Place) (over : List Dot) → IsFieldRemoveAt p place over → Same (state (erasure over)) (state (remove_field_at S place))

@@ -53,7 +53,8 @@ module _ (w : AbstractWorld) (sound : IsSound w) (name : ℕ) (more : List Opera
       means (join greater p d) ((makes name more w).seen name) (w.seen name ++ more) (grown-here name (w.seen name) more)
       (joins (w.seen name) more (w.made ++ more) p d (sound-makes w name more sound new).no_reuse part_seen part_more live delta)
 
-  pub makes_group : (g d : MapState) → Same g (state (w.outgoing name)) → Same d (state more) → Same (join greater g d) (state ((makes name more w).outgoing name))
+  pub makes_group : (g d : MapState) → Same g (state (w.outgoing name)) → Same d (state more)
+      → Same (join greater g d) (state ((makes name more w).outgoing name))
   makes_group g d group delta =
       means (join greater g d) ((makes name more w).outgoing name) (w.outgoing name ++ more) (grown-here name (w.outgoing name) more)
       (joins (w.outgoing name) more (w.made ++ more) g d (sound-makes w name more sound new).no_reuse part_outgoing part_more group delta)

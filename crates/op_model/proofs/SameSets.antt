@@ -54,7 +54,8 @@ in_observed (p ∷ S) o dot h e =
 pub from_observed : (S : List Operation) (dot : Dot) → has (observed S) dot ≡ true → (o : Operation) × Contains S o × (has (over_of o) dot ≡ true)
 from_observed [] dot e = absurd (false≢true e)
 from_observed (p ∷ S) dot e =
-    elim (or_cases (has (over_of p) dot) (has (observed S) dot) (sym (has-append (over_of p) (observed S) dot) ∙ sym (ap (λ ds. has ds dot) (observed-cons p S)) ∙ e)) [
+    elim (or_cases (has (over_of p) dot) (has (observed S) dot) (sym (has-append (over_of p) (observed S) dot)
+    ∙ sym (ap (λ ds. has ds dot) (observed-cons p S)) ∙ e)) [
       | inl f ↦ (p, at_head p S, f)
       | inr f ↦ let found = from_observed S dot f in (found.0, in_tail p S found.0 found.1, found.2)
     ]
@@ -91,7 +92,8 @@ from_shown S test w h =
 pub in_shown : (S : List Operation) (test : Write → Bool) (w : Write) → Contains (writes S) w → test w ≡ true → has (observed S) w.id ≡ false →
     Contains (shown_where S test) w
 in_shown S test w h e f =
-    in_filter (λ v. test v && not (has (observed S) v.id)) (writes S) w h (and_from (test w) (not (has (observed S) w.id)) e (not_from_false (has (observed S) w.id) f))
+    in_filter (λ v. test v && not (has (observed S) v.id)) (writes S) w h
+    (and_from (test w) (not (has (observed S) w.id)) e (not_from_false (has (observed S) w.id) f))
 
 -- the value under a dot goes by the members alone
 greater_if-twice : (b : Bool) (x : List ℕ) (o : Option (List ℕ)) → greater_if b x (greater_if b x o) ≡ greater_if b x o
@@ -109,8 +111,10 @@ absorbed : (dot : Dot) (ws : List Write) (w : Write) → Contains ws w → great
 absorbed dot [] w h = nothing_in w h
 absorbed dot (v ∷ ws) w h =
     elim (head_or_tail v ws w h) [
-      | inl e ↦ ap (λ u. greater_if (same_dot u.id dot) u.value (value_under dot (v ∷ ws))) (sym e) ∙ greater_if-twice (same_dot v.id dot) v.value (value_under dot ws)
-      | inr t ↦ greater_if-swap (same_dot w.id dot) (same_dot v.id dot) w.value v.value (value_under dot ws) ∙ ap (greater_if (same_dot v.id dot) v.value) (absorbed dot ws w t)
+      | inl e ↦ ap (λ u. greater_if (same_dot u.id dot) u.value (value_under dot (v ∷ ws))) (sym e)
+          ∙ greater_if-twice (same_dot v.id dot) v.value (value_under dot ws)
+      | inr t ↦ greater_if-swap (same_dot w.id dot) (same_dot v.id dot) w.value v.value (value_under dot ws)
+          ∙ ap (greater_if (same_dot v.id dot) v.value) (absorbed dot ws w t)
     ]
 
 best-comm : (a b : Option (List ℕ)) → best a b ≡ best b a
@@ -131,7 +135,8 @@ pub value_under-same : (dot : Dot) (ws vs : List Write) → ((w : Write) → Con
 value_under-same dot ws vs f g = sym (covered dot vs ws g) ∙ best-comm (value_under dot vs) (value_under dot ws) ∙ covered dot ws vs f
 
 -- sets with the same members show the same
-pub shown_same : (S T : List Operation) (same : IsSameSet S T) (test : Write → Bool) (w : Write) → Contains (shown_where S test) w → Contains (shown_where T test) w
+pub shown_same : (S T : List Operation) (same : IsSameSet S T) (test : Write → Bool) (w : Write) → Contains (shown_where S test) w
+    → Contains (shown_where T test) w
 shown_same S T same test w h =
     let parts = from_shown S test w h in
     in_shown T test w (writes_part S T same.there w parts.0) parts.1
@@ -139,6 +144,7 @@ shown_same S T same test w h =
 
 pub state-same : (S T : List Operation) → IsSameSet S T → Same (state S) (state T)
 state-same S T same = record {
-  at = λ place dot. value_under-same dot (shown S place) (shown T place) (shown_same S T same (is_on place)) (shown_same T S (record { there = same.back; back = same.there }) (is_on place));
+  at = λ place dot. value_under-same dot (shown S place) (shown T place) (shown_same S T same (is_on place))
+      (shown_same T S (record { there = same.back; back = same.there }) (is_on place));
   has = λ dot. both_ways (has (known S) dot) (has (known T) dot) (known_part S T same.there dot) (known_part T S same.back dot);
 }

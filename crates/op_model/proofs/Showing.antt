@@ -6,7 +6,8 @@ use Rattle.dots.specs.declared.dot.Dot.{Dot}
 use Rattle.op_model.specs.Place.{Place, place_of}
 use Rattle.op_model.specs.State.{Same}
 use Rattle.op_model.specs.Operation.{Write, Operation, writes, observed, ids, has, NoReuse, IsSameSet}
-use Rattle.op_model.specs.Shown.{is_on, is_within, is_anywhere, shown, shown_where, shown_within, shown_anywhere, ascending, IsAscending, values, values_of_key, fields, keys}
+use Rattle.op_model.specs.Shown.{is_on, is_within, is_anywhere, shown, shown_where, shown_within, shown_anywhere, ascending, IsAscending, values, values_of_key}
+use Rattle.op_model.specs.Shown.{fields, keys}
 use Rattle.op_model.specs.Meaning.{MapState, value_under, state, Stands, StandsWithin, HoldsField, HoldsKey}
 use Rattle.op_model.specs.Made.{IsWithin, IsAnywhere}
 use Rattle.op_model.proofs.Joins.{same-back}
@@ -29,7 +30,8 @@ there_is (Some x) h = (x, refl)
 
 -- an ascending list of just what the writes say that pass the test
 list_standing : (S : List Operation) (test : Write → Bool) (said : Write → List ℕ) (found : List (List ℕ)) (P : List ℕ → Type 0) → IsAscending found →
-    ((x : List ℕ) → Contains found x ↔ P x) → ((x : List ℕ) → P x ↔ Contains (map said (shown_where S test)) x) → found ≡ ascending (map said (shown_where S test))
+    ((x : List ℕ) → Contains found x ↔ P x) → ((x : List ℕ) → P x ↔ Contains (map said (shown_where S test)) x)
+    → found ≡ ascending (map said (shown_where S test))
 list_standing S test said found P a just shows =
     one_ascending found (ascending (map said (shown_where S test))) a (ascending-ascends (map said (shown_where S test)))
     (λ x h. in_ascending (map said (shown_where S test)) x ((shows x).0 ((just x).0 h)))
@@ -43,7 +45,8 @@ said_part S T test said same x h =
     in_ascending (map said (shown_where T test)) x
     (at_same (map said (shown_where T test)) (said found.0) x found.2 (in_map said (shown_where T test) found.0 (shown_same S T same test found.0 found.1)))
 
-said-same : (S T : List Operation) (test : Write → Bool) (said : Write → List ℕ) → IsSameSet S T → ascending (map said (shown_where S test)) ≡ ascending (map said (shown_where T test))
+said-same : (S T : List Operation) (test : Write → Bool) (said : Write → List ℕ) → IsSameSet S T
+    → ascending (map said (shown_where S test)) ≡ ascending (map said (shown_where T test))
 said-same S T test said same =
     one_ascending (ascending (map said (shown_where S test))) (ascending (map said (shown_where T test)))
     (ascending-ascends (map said (shown_where S test))) (ascending-ascends (map said (shown_where T test)))
@@ -69,7 +72,8 @@ shown_stands S test w h =
     let parts = from_shown S test w h in
     is_there ((state S).at w.place w.id) (λ none. stands_under w.id (shown S w.place) w (in_shown S (is_on w.place) w parts.0 (on_own w) parts.2) refl none)
 
-shown_stands_at : (S : List Operation) (test : Write → Bool) (w : Write) (place : Place) (dot : Dot) → Contains (shown_where S test) w → w.place ≡ place → w.id ≡ dot → IsSome ((state S).at place dot)
+shown_stands_at : (S : List Operation) (test : Write → Bool) (w : Write) (place : Place) (dot : Dot) → Contains (shown_where S test) w → w.place ≡ place
+    → w.id ≡ dot → IsSome ((state S).at place dot)
 shown_stands_at S test w place dot h there same = sym (λ i. is_some ((state S).at (there i) (same i))) ∙ shown_stands S test w h
 
 -- and what stands at a place is a write that is shown there
@@ -89,7 +93,8 @@ standing_shown S place dot h =
     record { write = found.0; id = found.2; there = on_place place found.0 parts.1; written = parts.0; unobserved = parts.2; at_place = found.1 }
 
 -- so it is shown by each test that it passes
-standing_where : (S : List Operation) (place : Place) (dot : Dot) (s : Standing S place dot) (test : Write → Bool) → test s.write ≡ true → Contains (shown_where S test) s.write
+standing_where : (S : List Operation) (place : Place) (dot : Dot) (s : Standing S place dot) (test : Write → Bool) → test s.write ≡ true
+    → Contains (shown_where S test) s.write
 standing_where S place dot s test passes = in_shown S test s.write s.written passes s.unobserved
 
 within_there : (key field : List ℕ) (w : Write) → w.place ≡ place_of key field → is_within key w ≡ true
@@ -102,7 +107,8 @@ place_within key w passes = let e : w.place.key ≡ key = within_key key w passe
 -- ---- values
 
 -- the same write's value, where the writes under the dot are all the same
-value_of_write : (dot : Dot) (ws : List Write) (w : Write) → ((v : Write) → Contains ws v → v.id ≡ w.id → v ≡ w) → Contains ws w → w.id ≡ dot → value_under dot ws ≡ Some w.value
+value_of_write : (dot : Dot) (ws : List Write) (w : Write) → ((v : Write) → Contains ws v → v.id ≡ w.id → v ≡ w) → Contains ws w → w.id ≡ dot
+    → value_under dot ws ≡ Some w.value
 value_of_write dot ws w one h same = by (value_under dot ws) refl
   where
     by : (o : Option (List ℕ)) → value_under dot ws ≡ o → value_under dot ws ≡ Some w.value
@@ -116,11 +122,13 @@ shown_value S test w r h =
     value_of_write w.id (shown S w.place) w (λ v g e. r.one_write v w (from_shown S (is_on w.place) v g).0 parts.0 e)
     (in_shown S (is_on w.place) w parts.0 (on_own w) parts.2) refl
 
-shown_value_at : (S : List Operation) (test : Write → Bool) (w : Write) (place : Place) (value : List ℕ) → NoReuse S → Contains (shown_where S test) w → w.place ≡ place → w.value ≡ value → Stands (state S) place value
+shown_value_at : (S : List Operation) (test : Write → Bool) (w : Write) (place : Place) (value : List ℕ) → NoReuse S → Contains (shown_where S test) w
+    → w.place ≡ place → w.value ≡ value → Stands (state S) place value
 shown_value_at S test w place value r h there same = (w.id, sym (ap (λ p. (state S).at p w.id) there) ∙ shown_value S test w r h ∙ ap Some same)
 
 -- a value stands at a place exactly where a write shown there has it
-values_stand : (S : List Operation) (place : Place) (value : List ℕ) → NoReuse S → Stands (state S) place value ↔ Contains (map (λ w. w.value) (shown S place)) value
+values_stand : (S : List Operation) (place : Place) (value : List ℕ) → NoReuse S
+    → Stands (state S) place value ↔ Contains (map (λ w. w.value) (shown S place)) value
 values_stand S place value r = (
   λ (dot, e). let found = found_under dot (shown S place) value e in
       at_same (map (λ w. w.value) (shown S place)) found.0.value value found.3 (in_map (λ w. w.value) (shown S place) found.0 found.1),
@@ -129,7 +137,8 @@ values_stand S place value r = (
 )
 
 -- and at a key exactly where a write shown within it has it
-values_stand_within : (S : List Operation) (key value : List ℕ) → NoReuse S → StandsWithin (state S) key value ↔ Contains (map (λ w. w.value) (shown_within S key)) value
+values_stand_within : (S : List Operation) (key value : List ℕ) → NoReuse S
+    → StandsWithin (state S) key value ↔ Contains (map (λ w. w.value) (shown_within S key)) value
 values_stand_within S key value r = (
   λ (field, (dot, e)). let found = found_under dot (shown S (place_of key field)) value e in
       let parts = from_shown S (is_on (place_of key field)) found.0 found.1 in
@@ -175,7 +184,8 @@ fields_hold : (S : List Operation) (key field : List ℕ) → HoldsField (state 
 fields_hold S key field = (
   λ (dot, h). let s = standing_shown S (place_of key field) dot h in
       at_same (map (λ w. w.place.field) (shown_within S key)) s.write.place.field field (ap (λ p. p.field) s.there)
-      (in_map (λ w. w.place.field) (shown_within S key) s.write (standing_where S (place_of key field) dot s (is_within key) (within_there key field s.write s.there))),
+      (in_map (λ w. w.place.field) (shown_within S key) s.write
+      (standing_where S (place_of key field) dot s (is_within key) (within_there key field s.write s.there))),
   λ h. let found = from_map (λ w. w.place.field) (shown_within S key) field h in
       let there = place_within key found.0 (from_shown S (is_within key) found.0 found.1).1 in
       (found.0.id, shown_stands_at S (is_within key) found.0 (place_of key field) found.0.id found.1 (there ∙ ap (place_of key) found.2) refl),
@@ -186,8 +196,14 @@ keys_hold S key = (
   λ (field, (dot, h)). let s = standing_shown S (place_of key field) dot h in
       at_same (map (λ w. w.place.key) (shown_anywhere S)) s.write.place.key key (ap (λ p. p.key) s.there)
       (in_map (λ w. w.place.key) (shown_anywhere S) s.write (standing_where S (place_of key field) dot s is_anywhere refl)),
-  λ h. let found = from_map (λ w. w.place.key) (shown_anywhere S) key h in
-      (found.0.place.field, (found.0.id, shown_stands_at S is_anywhere found.0 (place_of key found.0.place.field) found.0.id found.1 (ap (λ k. place_of k found.0.place.field) found.2) refl)),
+  λ h. let found = from_map (λ w. w.place.key) (shown_anywhere S) key h in (
+    found.0.place.field,
+    (
+      found.0.id,
+      shown_stands_at S is_anywhere found.0 (place_of key found.0.place.field) found.0.id found.1
+          (ap (λ k. place_of k found.0.place.field) found.2) refl,
+    ),
+  ),
 )
 
 pub fields_standing : (S : List Operation) (key : List ℕ) (p : MapState) (fs : List (List ℕ)) → Same p (state S) → IsAscending fs →
@@ -211,11 +227,14 @@ keys_standing S p ks same a just =
 -- ---- dots
 
 -- the dots of the writes that pass a test
-dot_shown : (S : List Operation) (test : Write → Bool) (dot : Dot) → has (ids (shown_where S test)) dot ≡ true → (w : Write) × Contains (shown_where S test) w × (w.id ≡ dot)
+dot_shown : (S : List Operation) (test : Write → Bool) (dot : Dot) → has (ids (shown_where S test)) dot ≡ true → (w : Write) × Contains (shown_where S test) w
+    × (w.id ≡ dot)
 dot_shown S test dot h = from_map (λ w. w.id) (shown_where S test) dot (from_has (ids (shown_where S test)) dot h)
 
-shown_dot : (S : List Operation) (test : Write → Bool) (dot : Dot) (w : Write) → Contains (shown_where S test) w → w.id ≡ dot → has (ids (shown_where S test)) dot ≡ true
-shown_dot S test dot w h same = in_has (ids (shown_where S test)) dot (at_same (ids (shown_where S test)) w.id dot same (in_map (λ v. v.id) (shown_where S test) w h))
+shown_dot : (S : List Operation) (test : Write → Bool) (dot : Dot) (w : Write) → Contains (shown_where S test) w → w.id ≡ dot
+    → has (ids (shown_where S test)) dot ≡ true
+shown_dot S test dot w h same = in_has (ids (shown_where S test)) dot
+    (at_same (ids (shown_where S test)) w.id dot same (in_map (λ v. v.id) (shown_where S test) w h))
 
 -- those that stand at a place, at a key, and anywhere
 pub dots_standing : (S : List Operation) (place : Place) (dot : Dot) → has (ids (shown S place)) dot ≡ is_some ((state S).at place dot)

@@ -1,5 +1,6 @@
 -- The state of a set of operations, and that the join of two states is the state of the union.
-use Rattle.std.proofs.Common.{◌≡◌, ℕ, List, [], ◌∷◌, ◌++◌, refl, sym, ap, ◌∙◌, subst, ◌⊎◌, inl, inr, Bool, true, false, cond, not, ◌&&◌, ◌||◌, Option, Some, None}
+use Rattle.std.proofs.Common.{◌≡◌, ℕ, List, [], ◌∷◌, ◌++◌, refl, sym, ap, ◌∙◌, subst, ◌⊎◌, inl, inr, Bool, true, false, cond, not, ◌&&◌, ◌||◌, Option, Some}
+use Rattle.std.proofs.Common.{None}
 use Rattle.std.specs.Prelude.{Contains, filter}
 use Rattle.std.proofs.lemmas.Bool.{false≢true}
 use Rattle.std.proofs.lemmas.List.{map-append, append_assoc}
@@ -47,7 +48,8 @@ best-none (Some x) = refl
 pub value_under-append : (dot : Dot) (ws vs : List Write) → value_under dot (ws ++ vs) ≡ best (value_under dot ws) (value_under dot vs)
 value_under-append dot [] vs = refl
 value_under-append dot (w ∷ ws) vs =
-    ap (greater_if (same_dot w.id dot) w.value) (value_under-append dot ws vs) ∙ greater_if-best (same_dot w.id dot) w.value (value_under dot ws) (value_under dot vs)
+    ap (greater_if (same_dot w.id dot) w.value) (value_under-append dot ws vs)
+    ∙ greater_if-best (same_dot w.id dot) w.value (value_under dot ws) (value_under dot vs)
 
 pub under_cond : (dot : Dot) (b : Bool) (w : Write) (ws : List Write) →
     value_under dot (cond b (w ∷ ws) ws) ≡ cond b (greater_if (same_dot w.id dot) w.value (value_under dot ws)) (value_under dot ws)
@@ -80,7 +82,8 @@ hidden ds test dot (w ∷ ws) =
     ∙ sym (ap (cond (has ds dot) None) (under_cond dot (test w) w (filter test ws)))
 
 -- what stands at a place and dot
-pub at-state : (S : List Operation) (place : Place) (dot : Dot) → (state S).at place dot ≡ cond (has (observed S) dot) None (value_under dot (filter (is_on place) (writes S)))
+pub at-state : (S : List Operation) (place : Place) (dot : Dot) → (state S).at place dot
+    ≡ cond (has (observed S) dot) None (value_under dot (filter (is_on place) (writes S)))
 at-state S place dot = hidden (observed S) (is_on place) dot (writes S)
 
 pub has-state : (S : List Operation) (dot : Dot) → (state S).has dot ≡ (has (ids (writes S)) dot || has (observed S) dot)
@@ -143,13 +146,15 @@ pub in_writes_left : (S T : List Operation) (w : Write) → Contains (writes S) 
 in_writes_left S T w h = let P : List Write → Type 0 = λ ws. Contains ws w in subst P (sym (writes-append S T)) (Contains-append_left (writes S) (writes T) w h)
 
 pub in_writes_right : (S T : List Operation) (w : Write) → Contains (writes T) w → Contains (writes (S ++ T)) w
-in_writes_right S T w h = let P : List Write → Type 0 = λ ws. Contains ws w in subst P (sym (writes-append S T)) (Contains-append_right (writes S) (writes T) w h)
+in_writes_right S T w h = let P : List Write → Type 0 = λ ws. Contains ws w in
+    subst P (sym (writes-append S T)) (Contains-append_right (writes S) (writes T) w h)
 
 pub in_writes_either : (S T : List Operation) (w : Write) → Contains (writes (S ++ T)) w → Contains (writes S) w ⊎ Contains (writes T) w
 in_writes_either S T w h = let P : List Write → Type 0 = λ ws. Contains ws w in Contains-append_cases (writes S) (writes T) w (subst P (writes-append S T) h)
 
 ids_either : (S T : List Operation) (dot : Dot) → has (ids (writes (S ++ T))) dot ≡ (has (ids (writes S)) dot || has (ids (writes T)) dot)
-ids_either S T dot = ap (λ ws. has (ids ws) dot) (writes-append S T) ∙ ap (λ ds. has ds dot) (map-append (λ w. w.id) (writes S) (writes T)) ∙ has-append (ids (writes S)) (ids (writes T)) dot
+ids_either S T dot = ap (λ ws. has (ids ws) dot) (writes-append S T) ∙ ap (λ ds. has ds dot) (map-append (λ w. w.id) (writes S) (writes T))
+    ∙ has-append (ids (writes S)) (ids (writes T)) dot
 
 observed_either : (S T : List Operation) (dot : Dot) → has (observed (S ++ T)) dot ≡ (has (observed S) dot || has (observed T) dot)
 observed_either S T dot = ap (λ ds. has ds dot) (observed-append S T) ∙ has-append (observed S) (observed T) dot
@@ -157,16 +162,19 @@ observed_either S T dot = ap (λ ds. has ds dot) (observed-append S T) ∙ has-a
 -- what the union wrote at the place, and observed
 union_written : (S T : List Operation) (place : Place) (dot : Dot) →
     cond (has (observed (S ++ T)) dot) None (value_under dot (filter (is_on place) (writes (S ++ T))))
-    ≡ cond (has (observed S) dot || has (observed T) dot) None (best (value_under dot (filter (is_on place) (writes S))) (value_under dot (filter (is_on place) (writes T))))
+    ≡ cond (has (observed S) dot || has (observed T) dot) None
+    (best (value_under dot (filter (is_on place) (writes S))) (value_under dot (filter (is_on place) (writes T))))
 union_written S T place dot =
-    let both : value_under dot (filter (is_on place) (writes (S ++ T))) ≡ best (value_under dot (filter (is_on place) (writes S))) (value_under dot (filter (is_on place) (writes T))) =
+    let both : value_under dot (filter (is_on place) (writes (S ++ T))) ≡ best (value_under dot (filter (is_on place) (writes S)))
+    (value_under dot (filter (is_on place) (writes T))) =
     ap (λ ws. value_under dot (filter (is_on place) ws)) (writes-append S T)
     ∙ ap (value_under dot) (filter-append (is_on place) (writes S) (writes T))
     ∙ value_under-append dot (filter (is_on place) (writes S)) (filter (is_on place) (writes T)) in
     λ k. cond (observed_either S T dot k) None (both k)
 
 -- a write at the place that the first set has, under a dot that the second wrote: it is the second's too
-shared : (S T : List Operation) (place : Place) (dot : Dot) (x : List ℕ) → ((v w : Write) → Contains (writes S) v → Contains (writes T) w → v.id ≡ w.id → v ≡ w) →
+shared : (S T : List Operation) (place : Place) (dot : Dot) (x : List ℕ)
+    → ((v w : Write) → Contains (writes S) v → Contains (writes T) w → v.id ≡ w.id → v ≡ w) →
     value_under dot (filter (is_on place) (writes S)) ≡ Some x → has (ids (writes T)) dot ≡ true → value_under dot (filter (is_on place) (writes T)) ≡ None → ⊥
 shared S T place dot x agree e known_there none =
     let found = found_under dot (filter (is_on place) (writes S)) x e in

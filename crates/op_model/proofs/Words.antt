@@ -54,19 +54,23 @@ shown-IsShown S place w = (
 )
 
 -- what a list of what writes say has in it
-said : (S : List Operation) (test : Write → Bool) (of : Write → List ℕ) (x : List ℕ) → Contains (ascending (map of (shown_where S test))) x → (w : Write) × Contains (shown_where S test) w × (of w ≡ x)
+said : (S : List Operation) (test : Write → Bool) (of : Write → List ℕ) (x : List ℕ) → Contains (ascending (map of (shown_where S test))) x → (w : Write)
+    × Contains (shown_where S test) w × (of w ≡ x)
 said S test of x h = from_map of (shown_where S test) x (from_ascending (map of (shown_where S test)) x h)
 
-is_said : (S : List Operation) (test : Write → Bool) (of : Write → List ℕ) (x : List ℕ) (w : Write) → Contains (shown_where S test) w → of w ≡ x → Contains (ascending (map of (shown_where S test))) x
+is_said : (S : List Operation) (test : Write → Bool) (of : Write → List ℕ) (x : List ℕ) (w : Write) → Contains (shown_where S test) w → of w ≡ x
+    → Contains (ascending (map of (shown_where S test))) x
 is_said S test of x w h e = in_ascending (map of (shown_where S test)) x (at_same (map of (shown_where S test)) (of w) x e (in_map of (shown_where S test) w h))
 
-pub values-IsShown : (S : List Operation) (place : Place) (value : List ℕ) → Contains (values S place) value ↔ ((w : Write) × IsShown S place w × (w.value ≡ value))
+pub values-IsShown : (S : List Operation) (place : Place) (value : List ℕ)
+    → Contains (values S place) value ↔ ((w : Write) × IsShown S place w × (w.value ≡ value))
 values-IsShown S place value = (
   λ h. let found = said S (is_on place) (λ w. w.value) value h in (found.0, (shown-IsShown S place found.0).0 found.1, found.2),
   λ (w, s, e). is_said S (is_on place) (λ v. v.value) value w ((shown-IsShown S place w).1 s) e,
 )
 
-pub values_of_key-IsShown : (S : List Operation) (key value : List ℕ) → Contains (values_of_key S key) value ↔ ((field : List ℕ) × Contains (values S (place_of key field)) value)
+pub values_of_key-IsShown : (S : List Operation) (key value : List ℕ)
+    → Contains (values_of_key S key) value ↔ ((field : List ℕ) × Contains (values S (place_of key field)) value)
 values_of_key-IsShown S key value = (
   λ h. let found = said S (is_within key) (λ w. w.value) value h in
       (found.0.place.field, (values-IsShown S (place_of key found.0.place.field) value).1 (found.0, within_in_words S key found.0 found.1, found.2)),
@@ -85,11 +89,15 @@ pub keys-IsShown : (S : List Operation) (key : List ℕ) → Contains (keys S) k
 keys-IsShown S key = (
   λ h. let found = said S is_anywhere (λ w. w.place.key) key h in (
     found.0.place.field,
-    (fields-IsShown S key found.0.place.field).1
-        (found.0, at_place S found.0.place (place_of key found.0.place.field) found.0 (ap (λ k. place_of k found.0.place.field) found.2) (shown_in_words S is_anywhere found.0 found.1)),
+    (fields-IsShown S key found.0.place.field).1 (
+      found.0,
+      at_place S found.0.place (place_of key found.0.place.field) found.0 (ap (λ k. place_of k found.0.place.field) found.2)
+          (shown_in_words S is_anywhere found.0 found.1),
+    ),
   ),
   λ (field, h). let found = (fields-IsShown S key field).0 h in
-      is_said S is_anywhere (λ v. v.place.key) key found.0 (words_shown S (place_of key field) is_anywhere found.0 found.1 refl) (ap (λ p. p.key) found.1.there),
+      is_said S is_anywhere (λ v. v.place.key) key found.0 (words_shown S (place_of key field) is_anywhere found.0 found.1 refl)
+      (ap (λ p. p.key) found.1.there),
 )
 
 -- a dot is known exactly where an operation of the set wrote it or had observed it
@@ -99,7 +107,8 @@ tells_over (Erased over) dot h = h
 
 told_known : (S : List Operation) (dot : Dot) (o : Operation) → Contains S o → Tells o dot → has (ids (writes S)) dot || has (observed S) dot ≡ true
 told_known S dot (Wrote w) h (inl e) =
-    or_left (has (ids (writes S)) dot) (has (observed S) dot) (in_has (ids (writes S)) dot (at_same (ids (writes S)) w.id dot e (in_map (λ v. v.id) (writes S) w (in_writes S w h))))
+    or_left (has (ids (writes S)) dot) (has (observed S) dot)
+    (in_has (ids (writes S)) dot (at_same (ids (writes S)) w.id dot e (in_map (λ v. v.id) (writes S) w (in_writes S w h))))
 told_known S dot (Wrote w) h (inr e) = or_right (has (ids (writes S)) dot) (has (observed S) dot) (in_observed S (Wrote w) dot h e)
 told_known S dot (Erased over) h e = or_right (has (ids (writes S)) dot) (has (observed S) dot) (in_observed S (Erased over) dot h e)
 

@@ -1,5 +1,6 @@
 -- A list of items that ascend: places and gaps, and what an edit at one of them leaves.
-use Rattle.std.proofs.Common.{◌≡◌, ℕ, zero, suc, ◌+◌, ◌<◌, ◌≤◌, Bool, true, false, not, ◌||◌, ◌&&◌, cond, List, [], ◌∷◌, ◌++◌, length, get_or, Result, Ok, Err, refl, sym, ap, ◌∙◌, arith, subst, ⊎_elim}
+use Rattle.std.proofs.Common.{◌≡◌, ℕ, zero, suc, ◌+◌, ◌<◌, ◌≤◌, Bool, true, false, not, ◌||◌, ◌&&◌, cond, List, [], ◌∷◌, ◌++◌, length, get_or, Result, Ok, Err}
+use Rattle.std.proofs.Common.{refl, sym, ap, ◌∙◌, arith, subst, ⊎_elim}
 use Rattle.std.specs.Prelude.{IfOk, IfErr, IsTrue, is_ok}
 use Rattle.std.specs.declared.cmp.Ordering.{Ordering}
 use Rattle.std.specs.declared.cmp.Ordering.TheVariants.{Less, Equal, Greater}
@@ -71,35 +72,43 @@ module _ {T : Type 0} (cmp : T → T → Ordering) where
     not_among_in_gap item (x ∷ xs) (suc i) s h = rw h.0 (not_among_in_gap item xs i (tail_ascends x xs s) h.1)
 
     -- ---- what a search finds
-    item_place_from_search : (item : T) (xs : List T) (i : ℕ) → IsStrictlySortedBy cmp xs → i < length xs → HoldsAt (λ y. cmp y item ≡ Equal) xs i → IsPlaceIn cmp item xs i
+    item_place_from_search : (item : T) (xs : List T) (i : ℕ) → IsStrictlySortedBy cmp xs → i < length xs → HoldsAt (λ y. cmp y item ≡ Equal) xs i
+        → IsPlaceIn cmp item xs i
     item_place_from_search item [] i s h at = absurd (omega arith)
     item_place_from_search item (x ∷ xs) zero s h at = equal_turned cmp total x item (at x)
     item_place_from_search item (x ∷ xs) (suc i) s h at =
-        let here : cmp x (get_or xs i x) ≡ Less = item_below_at x xs i x (head_below x xs s) (omega arith) in
-        (greater_from_less cmp total x item (sym (alike_right total (get_or xs i x) item x (at x)) ∙ here), item_place_from_search item xs i (tail_ascends x xs s) (omega arith) at)
+        let here : cmp x (get_or xs i x) ≡ Less = item_below_at x xs i x (head_below x xs s) (omega arith) in (
+          greater_from_less cmp total x item (sym (alike_right total (get_or xs i x) item x (at x)) ∙ here),
+          item_place_from_search item xs i (tail_ascends x xs s) (omega arith) at,
+        )
 
-    item_gap_from_search : (item : T) (xs : List T) (i : ℕ) → i ≤ length xs → AllWithin (λ y. cmp y item ≡ Less) xs 0 i → AllWithin (λ y. cmp y item ≡ Greater) xs i (length xs) → IsGapIn cmp item xs i
+    item_gap_from_search : (item : T) (xs : List T) (i : ℕ) → i ≤ length xs → AllWithin (λ y. cmp y item ≡ Less) xs 0 i
+        → AllWithin (λ y. cmp y item ≡ Greater) xs i (length xs) → IsGapIn cmp item xs i
     item_gap_from_search item [] i h before after = omega arith
     item_gap_from_search item (x ∷ xs) zero h before after = less_from_greater cmp total x item (after 0 x (omega arith) (omega arith))
     item_gap_from_search item (x ∷ xs) (suc i) h before after = (
       greater_from_less cmp total x item (before 0 x (omega arith) (omega arith)),
-      item_gap_from_search item xs i (omega arith) (λ j d low high. before (suc j) d (omega arith) (omega arith)) (λ j d low high. after (suc j) d (omega arith) (omega arith)),
+      item_gap_from_search item xs i (omega arith) (λ j d low high. before (suc j) d (omega arith) (omega arith))
+          (λ j d low high. after (suc j) d (omega arith) (omega arith)),
     )
 
     items_sorted : (xs : List T) → IsStrictlySortedBy cmp xs → IsSortedBy (λ a b. is_lt (cmp a b)) xs
     items_sorted xs s i d low high = ap is_lt (greater_from_less cmp total _ _ (Less-from_sorted cmp xs i (i + 1) d s (omega arith) high))
 
-    pub item_searched_Ok : (item : T) (xs : List T) (r : Result ℕ ℕ) → IsStrictlySortedBy cmp xs → IsSearchInRange r (length xs) → IsBinarySearchResult (λ y. cmp y item) xs r → IfOk r (IsPlaceIn cmp item xs)
+    pub item_searched_Ok : (item : T) (xs : List T) (r : Result ℕ ℕ) → IsStrictlySortedBy cmp xs → IsSearchInRange r (length xs)
+        → IsBinarySearchResult (λ y. cmp y item) xs r → IfOk r (IsPlaceIn cmp item xs)
     item_searched_Ok item xs (Ok i) s range found = item_place_from_search item xs i s range found
     item_searched_Ok item xs (Err i) s range found = tt
 
-    pub item_searched_Err : (item : T) (xs : List T) (r : Result ℕ ℕ) → IsStrictlySortedBy cmp xs → IsSearchInRange r (length xs) → IsBinarySearchResult (λ y. cmp y item) xs r → IfErr r (IsGapIn cmp item xs)
+    pub item_searched_Err : (item : T) (xs : List T) (r : Result ℕ ℕ) → IsStrictlySortedBy cmp xs → IsSearchInRange r (length xs)
+        → IsBinarySearchResult (λ y. cmp y item) xs r → IfErr r (IsGapIn cmp item xs)
     item_searched_Err item xs (Ok i) s range found = tt
     item_searched_Err item xs (Err i) s range found =
         let parts = found (searchable_from_sorted total (λ x. x) xs item (items_sorted xs s)) in
         item_gap_from_search item xs i range parts.0 parts.1
 
-    pub among_from_place : (item : T) (xs : List T) (r : Result ℕ ℕ) → IsStrictlySortedBy cmp xs → IfOk r (IsPlaceIn cmp item xs) → IfErr r (IsGapIn cmp item xs) → is_ok r ≡ is_among cmp xs item
+    pub among_from_place : (item : T) (xs : List T) (r : Result ℕ ℕ) → IsStrictlySortedBy cmp xs → IfOk r (IsPlaceIn cmp item xs)
+        → IfErr r (IsGapIn cmp item xs) → is_ok r ≡ is_among cmp xs item
     among_from_place item xs (Ok i) s found absent = sym (among_there item xs i found)
     among_from_place item xs (Err i) s found absent = sym (not_among_in_gap item xs i s absent)
 
@@ -108,10 +117,13 @@ module _ {T : Type 0} (cmp : T → T → Ordering) where
     last_item_below x [] last a = a.0
     last_item_below x (y ∷ ys) last a = last_item_below x ys last a.1
 
-    pub item_gap_at_end : (item : T) (xs : List T) (last : T) → IsStrictlySortedBy cmp (xs ++ last ∷ []) → cmp last item ≡ Less → IsGapIn cmp item (xs ++ last ∷ []) (length (xs ++ last ∷ []))
+    pub item_gap_at_end : (item : T) (xs : List T) (last : T) → IsStrictlySortedBy cmp (xs ++ last ∷ []) → cmp last item ≡ Less
+        → IsGapIn cmp item (xs ++ last ∷ []) (length (xs ++ last ∷ []))
     item_gap_at_end item [] last s h = (greater_from_less cmp total last item h, refl)
-    item_gap_at_end item (x ∷ xs) last s h =
-        (greater_from_less cmp total x item (total.trans x last item (last_item_below x xs last (head_below x (xs ++ last ∷ []) s)) h), item_gap_at_end item xs last (tail_ascends x (xs ++ last ∷ []) s) h)
+    item_gap_at_end item (x ∷ xs) last s h = (
+      greater_from_less cmp total x item (total.trans x last item (last_item_below x xs last (head_below x (xs ++ last ∷ []) s)) h),
+      item_gap_at_end item xs last (tail_ascends x (xs ++ last ∷ []) s) h,
+    )
 
     -- ---- the items still ascend
     insert_key_all_by : (P : T → Type 0) (x : T) (xs : List T) (k : T) (o : Ordering) → AllByRecursion P (x ∷ xs) → P k → AllByRecursion P (insert_key cmp xs k)
@@ -124,7 +136,8 @@ module _ {T : Type 0} (cmp : T → T → Ordering) where
     all_insert_key P [] k a p = (p, tt)
     all_insert_key P (x ∷ xs) k a p = insert_key_all_by P x xs k (cmp k x) a p (all_insert_key P xs k a.1 p)
 
-    ascends_insert_key_by : (x : T) (xs : List T) (k : T) (o : Ordering) → cmp k x ≡ o → IsStrictlySortedBy cmp (x ∷ xs) → IsStrictlySortedBy cmp (insert_key cmp xs k)
+    ascends_insert_key_by : (x : T) (xs : List T) (k : T) (o : Ordering) → cmp k x ≡ o → IsStrictlySortedBy cmp (x ∷ xs)
+        → IsStrictlySortedBy cmp (insert_key cmp xs k)
         → IsStrictlySortedBy cmp (match_ordering o (k ∷ x ∷ xs) (x ∷ xs) (x ∷ insert_key cmp xs k))
     unfolding IsStrictlySortedBy
     ascends_insert_key_by x xs k Less h s rest = ((h, below_all cmp total k x xs h s.0), s)
@@ -151,9 +164,11 @@ module _ {T : Type 0} (cmp : T → T → Ordering) where
     head_by true c = refl
     head_by false c = refl
 
-    among_insert_by : (x : T) (xs : List T) (k q : T) (o : Ordering) → cmp k x ≡ o → is_among cmp (insert_key cmp xs k) q ≡ cond (is_eq (cmp k q)) true (is_among cmp xs q)
+    among_insert_by : (x : T) (xs : List T) (k q : T) (o : Ordering) → cmp k x ≡ o
+        → is_among cmp (insert_key cmp xs k) q ≡ cond (is_eq (cmp k q)) true (is_among cmp xs q)
         → is_among cmp (match_ordering o (k ∷ x ∷ xs) (x ∷ xs) (x ∷ insert_key cmp xs k)) q ≡ cond (is_eq (cmp k q)) true (is_among cmp (x ∷ xs) q)
-    among_insert_by x xs k q Less h rest = head_by (is_eq (cmp q k)) (is_among cmp (x ∷ xs) q) ∙ ap (λ b. cond b true (is_among cmp (x ∷ xs) q)) ((eq_by_cmp_equiv total).symm q k)
+    among_insert_by x xs k q Less h rest = head_by (is_eq (cmp q k)) (is_among cmp (x ∷ xs) q)
+        ∙ ap (λ b. cond b true (is_among cmp (x ∷ xs) q)) ((eq_by_cmp_equiv total).symm q k)
     among_insert_by x xs k q Equal h rest =
         let same : is_eq (cmp q x) ≡ is_eq (cmp k q) = (eq_by_cmp_equiv total).symm q x ∙ sym ((eq_by_cmp_equiv total).congr k x q (ap is_eq h)) in
         rw same (twice_by (is_eq (cmp k q)) (is_among cmp xs q))
@@ -163,7 +178,8 @@ module _ {T : Type 0} (cmp : T → T → Ordering) where
     among-insert_key [] k q = head_by (is_eq (cmp q k)) false ∙ ap (λ b. cond b true false) ((eq_by_cmp_equiv total).symm q k)
     among-insert_key (x ∷ xs) k q = among_insert_by x xs k q (cmp k x) refl (among-insert_key xs k q)
 
-    pub updated_insert_key : (old new : List T) (k : T) → new ≡ insert_key cmp old k → (q : T) → is_among cmp new q ≡ cond (is_eq (cmp k q)) true (is_among cmp old q)
+    pub updated_insert_key : (old new : List T) (k : T) → new ≡ insert_key cmp old k → (q : T)
+        → is_among cmp new q ≡ cond (is_eq (cmp k q)) true (is_among cmp old q)
     updated_insert_key old new k is q = rw is (among-insert_key old k q)
 
     -- ---- the test whether items ascend
@@ -198,7 +214,8 @@ module _ {T : Type 0} (cmp : T → T → Ordering) where
     test_from_not true h = refl
     test_from_not false h = absurd (cc h)
 
-    up_to : (xs : List T) (high q : T) (n : ℕ) (d : T) → IsStrictlySortedBy cmp xs → n < length xs → AllWithin (λ y. not (is_gt (cmp y high)) ≡ false) xs (n + 1) (length xs)
+    up_to : (xs : List T) (high q : T) (n : ℕ) (d : T) → IsStrictlySortedBy cmp xs → n < length xs
+        → AllWithin (λ y. not (is_gt (cmp y high)) ≡ false) xs (n + 1) (length xs)
         → (k : ℕ) → k < length xs → is_eq (cmp q (get_or xs k d)) ≡ true → is_gt (cmp q high) ≡ false → is_gt (cmp q (get_or xs n d)) ≡ false
     up_to xs high q n d s l after k in' e t =
         let same = total.congr q (get_or xs k d) in
@@ -221,7 +238,8 @@ module _ {T : Type 0} (cmp : T → T → Ordering) where
     found_at : (xs : List T) (q d : T) (k : ℕ) (x : T) → k < length xs → get_or xs k x ≡ x → is_eq (cmp q x) ≡ true → is_eq (cmp q (get_or xs k d)) ≡ true
     found_at xs q d k x l is e = ap (λ y. is_eq (cmp q y)) (sym (get_or_default xs k x d l) ∙ is) ∙ e
 
-    pub last_from_point : (xs : List T) (high item : T) (n : ℕ) → IsStrictlySortedBy cmp xs → IsPartitionPoint (λ y. not (is_gt (cmp y high)) ≡ true) (λ y. not (is_gt (cmp y high)) ≡ false) xs (n + 1)
+    pub last_from_point : (xs : List T) (high item : T) (n : ℕ) → IsStrictlySortedBy cmp xs
+        → IsPartitionPoint (λ y. not (is_gt (cmp y high)) ≡ true) (λ y. not (is_gt (cmp y high)) ≡ false) xs (n + 1)
         → n < length xs → item ≡ get_or xs n item → IsLastUpTo cmp xs high item
     last_from_point xs high item n s point l is =
         let here : is_eq (cmp item (get_or xs n item)) ≡ true = ap (λ x. is_eq (cmp item x)) (sym is) ∙ ap is_eq (tied_itself total item) in
@@ -246,7 +264,8 @@ module _ {T : Type 0} (cmp : T → T → Ordering) where
         equal_by Greater h = absurd (cc h)
 
     -- ---- what is left of each item where those that fail a test are taken out
-    pub among-filter : (p : T → Bool) (xs : List T) (q : T) → ((x : T) → is_eq (cmp q x) ≡ true → p x ≡ p q) → is_among cmp (filter p xs) q ≡ (p q && is_among cmp xs q)
+    pub among-filter : (p : T → Bool) (xs : List T) (q : T) → ((x : T) → is_eq (cmp q x) ≡ true → p x ≡ p q)
+        → is_among cmp (filter p xs) q ≡ (p q && is_among cmp xs q)
     among-filter p xs q same = any-filter_same (is_at (cmp q)) p (p q) same xs
 
     -- a set with one item more, which is taken from what is still to come
@@ -256,7 +275,8 @@ module _ {T : Type 0} (cmp : T → T → Ordering) where
     taken_by b false true r o h u = ap (λ x. x || r) u ∙ h
     taken_by b false false r o h u = ap (λ x. x || r) u ∙ h
 
-    pub taken_more : (kept new : List T) (item : T) (left rest wanted : T → Bool) → ((q : T) → (is_among cmp kept q || left q) ≡ wanted q) → ((q : T) → left q ≡ (is_eq (cmp q item) || rest q))
+    pub taken_more : (kept new : List T) (item : T) (left rest wanted : T → Bool) → ((q : T) → (is_among cmp kept q || left q) ≡ wanted q)
+        → ((q : T) → left q ≡ (is_eq (cmp q item) || rest q))
         → ((q : T) → is_among cmp new q ≡ cond (is_eq (cmp item q)) true (is_among cmp kept q)) → (q : T) → (is_among cmp new q || rest q) ≡ wanted q
     taken_more kept new item left rest wanted before turn updates q =
         taken_by (is_among cmp new q) (is_eq (cmp q item)) (is_among cmp kept q) (rest q) (wanted q)
@@ -269,7 +289,8 @@ module _ {T : Type 0} (cmp : T → T → Ordering) where
     or_assoc false b c = refl
 
     -- the items of two lists are the first of the second, and the others
-    pub from_second : (xs ys : List T) (y q : T) → (is_among cmp xs q || is_among cmp (y ∷ ys) q) ≡ (is_eq (cmp q y) || (is_among cmp xs q || is_among cmp ys q))
+    pub from_second : (xs ys : List T) (y q : T) → (is_among cmp xs q || is_among cmp (y ∷ ys) q)
+        ≡ (is_eq (cmp q y) || (is_among cmp xs q || is_among cmp ys q))
     from_second xs ys y q = or_assoc (is_among cmp xs q) (is_eq (cmp q y)) (is_among cmp ys q)
 
     or_grouped : (a b c : Bool) → ((a || b) || c) ≡ (a || (b || c))
@@ -283,7 +304,8 @@ module _ {T : Type 0} (cmp : T → T → Ordering) where
     or_none true = refl
     or_none false = refl
 
-    pub taken_all : (kept : List T) (rests : List T × List T) (wanted : T → Bool) → rests ≡ ([], []) → ((q : T) → (is_among cmp kept q || (is_among cmp rests.0 q || is_among cmp rests.1 q)) ≡ wanted q)
+    pub taken_all : (kept : List T) (rests : List T × List T) (wanted : T → Bool) → rests ≡ ([], [])
+        → ((q : T) → (is_among cmp kept q || (is_among cmp rests.0 q || is_among cmp rests.1 q)) ≡ wanted q)
         → (q : T) → is_among cmp kept q ≡ wanted q
     taken_all kept rests wanted end h q =
         sym (or_none (is_among cmp kept q)) ∙ ap (λ (r : List T × List T). is_among cmp kept q || (is_among cmp r.0 q || is_among cmp r.1 q)) (sym end) ∙ h q

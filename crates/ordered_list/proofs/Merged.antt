@@ -22,7 +22,8 @@ module _ {K V : Type 0} (cmp : K → K → Ordering) (total : IsTotalOrder cmp) 
   untouched_by false o h = refl
 
   -- a list with no key that is equal to x is what it was at the other keys
-  untouched : (x : K) (es : List (K × V)) → lookup (is_at (cmp x)) es ≡ None → (q : K) → lookup (is_at (cmp q)) es ≡ cond (is_eq (cmp x q)) None (lookup (is_at (cmp q)) es)
+  untouched : (x : K) (es : List (K × V)) → lookup (is_at (cmp x)) es ≡ None → (q : K)
+      → lookup (is_at (cmp q)) es ≡ cond (is_eq (cmp x q)) None (lookup (is_at (cmp q)) es)
   untouched x es none q = untouched_by (is_eq (cmp x q)) (lookup (is_at (cmp q)) es) (λ h. lookup_along x q es h ∙ none)
 
   first_by : (b : Bool) (v : V) (o : Option V) → (b ≡ true → o ≡ None) → o ≡ cond b None (cond b (Some v) o)
@@ -30,7 +31,8 @@ module _ {K V : Type 0} (cmp : K → K → Ordering) (total : IsTotalOrder cmp) 
   first_by false v o h = refl
 
   -- so is one without its first entry
-  without_first : (e : K × V) (es : List (K × V)) → lookup (is_at (cmp e.0)) es ≡ None → (q : K) → lookup (is_at (cmp q)) es ≡ cond (is_eq (cmp e.0 q)) None (lookup (is_at (cmp q)) (e ∷ es))
+  without_first : (e : K × V) (es : List (K × V)) → lookup (is_at (cmp e.0)) es ≡ None → (q : K)
+      → lookup (is_at (cmp q)) es ≡ cond (is_eq (cmp e.0 q)) None (lookup (is_at (cmp q)) (e ∷ es))
   without_first e es none q =
       rw ((eq_by_cmp_equiv total).symm q e.0) (first_by (is_eq (cmp e.0 q)) e.1 (lookup (is_at (cmp q)) es) (λ h. lookup_along e.0 q es h ∙ none))
 
@@ -47,7 +49,8 @@ module _ {K V : Type 0} (cmp : K → K → Ordering) (total : IsTotalOrder cmp) 
       let less = less_from_greater cmp total e.0 q h in
       not_found_below cmp q (e ∷ es) (less, below_all cmp total q e.0 (keys_of es) less (ascends_head cmp e es s))
 
-  least_by : (o : Ordering) (mine yours : Option V) → (o ≡ Greater → mine ≡ None) → (o ≡ Greater → yours ≡ None) → IsTrue (is_some mine || is_some yours) → is_gt o ≡ false
+  least_by : (o : Ordering) (mine yours : Option V) → (o ≡ Greater → mine ≡ None) → (o ≡ Greater → yours ≡ None) → IsTrue (is_some mine || is_some yours)
+      → is_gt o ≡ false
   least_by Less mine yours h k found = refl
   least_by Equal mine yours h k found = refl
   least_by Greater mine yours h k found = absurd (cc (h refl, k refl, found))
@@ -81,7 +84,8 @@ module _ {K V : Type 0} (cmp : K → K → Ordering) (total : IsTotalOrder cmp) 
         fewer = omega arith;
       }
 
-  pub turn_both : (e f : K × V) (es fs : List (K × V)) → Ascends cmp (e ∷ es) → Ascends cmp (f ∷ fs) → cmp e.0 f.0 ≡ Equal → IsTurn cmp (e ∷ es) (f ∷ fs) es fs e.0 (Some e.1) (Some f.1)
+  pub turn_both : (e f : K × V) (es fs : List (K × V)) → Ascends cmp (e ∷ es) → Ascends cmp (f ∷ fs) → cmp e.0 f.0 ≡ Equal
+      → IsTurn cmp (e ∷ es) (f ∷ fs) es fs e.0 (Some e.1) (Some f.1)
   turn_both e f es fs s t h =
       let none = not_found_below cmp e.0 es (ascends_head cmp e es s) in
       let absent = not_found_below cmp f.0 fs (ascends_head cmp f fs t) in
@@ -92,7 +96,8 @@ module _ {K V : Type 0} (cmp : K → K → Ordering) (total : IsTotalOrder cmp) 
         least = λ q. least_by (cmp e.0 q) (value_at cmp (e ∷ es) q) (value_at cmp (f ∷ fs) q) (absent_before e es q s)
             (λ above. absent_before f fs q t (sym (total.congr e.0 f.0 q h) ∙ above));
         mine_past = without_first e es none;
-        yours_past = λ q. without_first f fs absent q ∙ ap (λ b. cond b None (lookup (is_at (cmp q)) (f ∷ fs))) (sym ((eq_by_cmp_equiv total).congr e.0 f.0 q (ap is_eq h)));
+        yours_past = λ q. without_first f fs absent q ∙ ap (λ b. cond b None (lookup (is_at (cmp q)) (f ∷ fs)))
+            (sym ((eq_by_cmp_equiv total).congr e.0 f.0 q (ap is_eq h)));
         fewer = omega arith;
       }
 

@@ -1,5 +1,6 @@
 -- A list of entries whose keys ascend: places and gaps, and what an edit at one of them leaves.
-use Rattle.std.proofs.Common.{◌≡◌, ℕ, zero, suc, ◌+◌, ◌<◌, ◌≤◌, Bool, true, false, cond, List, [], ◌∷◌, ◌++◌, length, get_or, set, take, Option, Some, None, Result, Ok, Err, refl, sym, ap, ◌∙◌, arith, subst, below_more}
+use Rattle.std.proofs.Common.{◌≡◌, ℕ, zero, suc, ◌+◌, ◌<◌, ◌≤◌, Bool, true, false, cond, List, [], ◌∷◌, ◌++◌, length, get_or, set, take, Option, Some, None}
+use Rattle.std.proofs.Common.{Result, Ok, Err, refl, sym, ap, ◌∙◌, arith, subst, below_more}
 use Rattle.std.specs.Prelude.{IfOk, IfErr}
 use Rattle.std.specs.declared.cmp.Ordering.{Ordering}
 use Rattle.std.specs.declared.cmp.Ordering.TheVariants.{Less, Equal, Greater}
@@ -110,7 +111,8 @@ module _ {K V : Type 0} where
     remove_nothing [] h = refl
     remove_nothing (e ∷ es) h = remove_by (is_eq (cmp key e.0)) e es h (remove_nothing es)
       where
-        remove_by : (b : Bool) (e : K × V) (es : List (K × V)) → cond b (Some e.1) (lookup (is_at (cmp key)) es) ≡ None → (lookup (is_at (cmp key)) es ≡ None → remove_entry (is_at (cmp key)) es ≡ es)
+        remove_by : (b : Bool) (e : K × V) (es : List (K × V)) → cond b (Some e.1) (lookup (is_at (cmp key)) es) ≡ None
+            → (lookup (is_at (cmp key)) es ≡ None → remove_entry (is_at (cmp key)) es ≡ es)
             → cond b es (e ∷ remove_entry (is_at (cmp key)) es) ≡ e ∷ es
         remove_by true e es h rest = absurd (cc h)
         remove_by false e es h rest = ap (λ l. e ∷ l) (rest h)
@@ -123,17 +125,20 @@ module _ {K V : Type 0} where
     not_found_in_gap key (e ∷ es) (suc i) s h = rw h.0 (not_found_in_gap key es i (ascends_tail cmp e es s) h.1)
 
     -- ---- the keys still ascend
-    insert_all_by : (P : K → Type 0) (e : K × V) (es : List (K × V)) (k : K) (v : V) (o : Ordering) → AllByRecursion P (keys_of (e ∷ es)) → P k → AllByRecursion P (keys_of (insert_entry cmp es k v))
+    insert_all_by : (P : K → Type 0) (e : K × V) (es : List (K × V)) (k : K) (v : V) (o : Ordering) → AllByRecursion P (keys_of (e ∷ es)) → P k
+        → AllByRecursion P (keys_of (insert_entry cmp es k v))
         → AllByRecursion P (keys_of (match_ordering o ((k, v) ∷ e ∷ es) ((e.0, v) ∷ es) (e ∷ insert_entry cmp es k v)))
     insert_all_by P e es k v Less a p rest = (p, a)
     insert_all_by P e es k v Equal a p rest = a
     insert_all_by P e es k v Greater a p rest = (a.0, rest)
 
-    all_insert : (P : K → Type 0) (es : List (K × V)) (k : K) (v : V) → AllByRecursion P (keys_of es) → P k → AllByRecursion P (keys_of (insert_entry cmp es k v))
+    all_insert : (P : K → Type 0) (es : List (K × V)) (k : K) (v : V) → AllByRecursion P (keys_of es) → P k
+        → AllByRecursion P (keys_of (insert_entry cmp es k v))
     all_insert P [] k v a p = (p, tt)
     all_insert P (e ∷ es) k v a p = insert_all_by P e es k v (cmp k e.0) a p (all_insert P es k v a.1 p)
 
-    ascends_insert_by : (e : K × V) (es : List (K × V)) (k : K) (v : V) (o : Ordering) → cmp k e.0 ≡ o → Ascends cmp (e ∷ es) → Ascends cmp (insert_entry cmp es k v)
+    ascends_insert_by : (e : K × V) (es : List (K × V)) (k : K) (v : V) (o : Ordering) → cmp k e.0 ≡ o → Ascends cmp (e ∷ es)
+        → Ascends cmp (insert_entry cmp es k v)
         → Ascends cmp (match_ordering o ((k, v) ∷ e ∷ es) ((e.0, v) ∷ es) (e ∷ insert_entry cmp es k v))
     unfolding IsStrictlySortedBy
     ascends_insert_by e es k v Less h s rest = ((h, below_all cmp total k e.0 (keys_of es) h s.0), s)
@@ -145,7 +150,8 @@ module _ {K V : Type 0} where
     ascends_insert [] k v s = (tt, tt)
     ascends_insert (e ∷ es) k v s = ascends_insert_by e es k v (cmp k e.0) refl s (ascends_insert es k v s.1)
 
-    remove_all_by : (P : K → Type 0) (test : K → Bool) (e : K × V) (es : List (K × V)) (b : Bool) → AllByRecursion P (keys_of (e ∷ es)) → AllByRecursion P (keys_of (remove_entry test es))
+    remove_all_by : (P : K → Type 0) (test : K → Bool) (e : K × V) (es : List (K × V)) (b : Bool) → AllByRecursion P (keys_of (e ∷ es))
+        → AllByRecursion P (keys_of (remove_entry test es))
         → AllByRecursion P (keys_of (cond b es (e ∷ remove_entry test es)))
     remove_all_by P test e es true a rest = a.1
     remove_all_by P test e es false a rest = (a.0, rest)
@@ -154,7 +160,8 @@ module _ {K V : Type 0} where
     all_remove P test [] a = tt
     all_remove P test (e ∷ es) a = remove_all_by P test e es (test e.0) a (all_remove P test es a.1)
 
-    ascends_remove_by : (test : K → Bool) (e : K × V) (es : List (K × V)) (b : Bool) → Ascends cmp (e ∷ es) → Ascends cmp (remove_entry test es) → Ascends cmp (cond b es (e ∷ remove_entry test es))
+    ascends_remove_by : (test : K → Bool) (e : K × V) (es : List (K × V)) (b : Bool) → Ascends cmp (e ∷ es) → Ascends cmp (remove_entry test es)
+        → Ascends cmp (cond b es (e ∷ remove_entry test es))
     unfolding IsStrictlySortedBy
     ascends_remove_by test e es true s rest = s.1
     ascends_remove_by test e es false s rest = (all_remove (λ y. cmp e.0 y ≡ Less) test es s.0, rest)
@@ -175,8 +182,10 @@ module _ {K V : Type 0} where
     over_by true v w o = refl
     over_by false v w o = refl
 
-    insert_by : (e : K × V) (es : List (K × V)) (k q : K) (v : V) (o : Ordering) → cmp k e.0 ≡ o → lookup (is_at (cmp q)) (insert_entry cmp es k v) ≡ cond (is_eq (cmp k q)) (Some v) (lookup (is_at (cmp q)) es)
-        → lookup (is_at (cmp q)) (match_ordering o ((k, v) ∷ e ∷ es) ((e.0, v) ∷ es) (e ∷ insert_entry cmp es k v)) ≡ cond (is_eq (cmp k q)) (Some v) (lookup (is_at (cmp q)) (e ∷ es))
+    insert_by : (e : K × V) (es : List (K × V)) (k q : K) (v : V) (o : Ordering) → cmp k e.0 ≡ o
+        → lookup (is_at (cmp q)) (insert_entry cmp es k v) ≡ cond (is_eq (cmp k q)) (Some v) (lookup (is_at (cmp q)) es)
+        → lookup (is_at (cmp q)) (match_ordering o ((k, v) ∷ e ∷ es) ((e.0, v) ∷ es) (e ∷ insert_entry cmp es k v))
+        ≡ cond (is_eq (cmp k q)) (Some v) (lookup (is_at (cmp q)) (e ∷ es))
     insert_by e es k q v Less h rest = ap (λ b. cond b (Some v) (lookup (is_at (cmp q)) (e ∷ es))) ((eq_by_cmp_equiv total).symm q k)
     insert_by e es k q v Equal h rest =
         let same : is_eq (cmp q e.0) ≡ is_eq (cmp k q) = (eq_by_cmp_equiv total).symm q e.0 ∙ sym ((eq_by_cmp_equiv total).congr k e.0 q (ap is_eq h)) in
@@ -185,24 +194,30 @@ module _ {K V : Type 0} where
         ap (λ o. cond (is_eq (cmp q e.0)) (Some e.1) o) rest
         ∙ swap_by (is_eq (cmp q e.0)) (is_eq (cmp k q)) v e.1 (lookup (is_at (cmp q)) es) (apart_by cmp total k q e.0 h)
 
-    pub lookup-insert_entry : (es : List (K × V)) (k q : K) (v : V) → lookup (is_at (cmp q)) (insert_entry cmp es k v) ≡ cond (is_eq (cmp k q)) (Some v) (lookup (is_at (cmp q)) es)
+    pub lookup-insert_entry : (es : List (K × V)) (k q : K) (v : V) → lookup (is_at (cmp q)) (insert_entry cmp es k v)
+        ≡ cond (is_eq (cmp k q)) (Some v) (lookup (is_at (cmp q)) es)
     lookup-insert_entry [] k q v = ap (λ b. cond b (Some v) None) ((eq_by_cmp_equiv total).symm q k)
     lookup-insert_entry (e ∷ es) k q v = insert_by e es k q v (cmp k e.0) refl (lookup-insert_entry es k q v)
 
     -- ---- what a search finds
-    place_from_search : (key : K) (es : List (K × V)) (i : ℕ) → Ascends cmp es → i < length es → HoldsAt (λ e. cmp e.0 key ≡ Equal) es i → IsPlaceOf cmp key es i
+    place_from_search : (key : K) (es : List (K × V)) (i : ℕ) → Ascends cmp es → i < length es → HoldsAt (λ e. cmp e.0 key ≡ Equal) es i
+        → IsPlaceOf cmp key es i
     place_from_search key [] i s h at = absurd (omega arith)
     place_from_search key (e ∷ es) zero s h at = equal_turned cmp total e.0 key (at e)
     place_from_search key (e ∷ es) (suc i) s h at =
-        let here : cmp e.0 (get_or es i e).0 ≡ Less = below_at cmp e.0 es i e (ascends_head cmp e es s) (omega arith) in
-        (greater_from_less cmp total e.0 key (sym (alike_right total (get_or es i e).0 key e.0 (at e)) ∙ here), place_from_search key es i (ascends_tail cmp e es s) (omega arith) at)
+        let here : cmp e.0 (get_or es i e).0 ≡ Less = below_at cmp e.0 es i e (ascends_head cmp e es s) (omega arith) in (
+          greater_from_less cmp total e.0 key (sym (alike_right total (get_or es i e).0 key e.0 (at e)) ∙ here),
+          place_from_search key es i (ascends_tail cmp e es s) (omega arith) at,
+        )
 
-    gap_from_search : (key : K) (es : List (K × V)) (i : ℕ) → i ≤ length es → AllWithin (λ e. cmp e.0 key ≡ Less) es 0 i → AllWithin (λ e. cmp e.0 key ≡ Greater) es i (length es) → IsGapFor cmp key es i
+    gap_from_search : (key : K) (es : List (K × V)) (i : ℕ) → i ≤ length es → AllWithin (λ e. cmp e.0 key ≡ Less) es 0 i
+        → AllWithin (λ e. cmp e.0 key ≡ Greater) es i (length es) → IsGapFor cmp key es i
     gap_from_search key [] i h before after = omega arith
     gap_from_search key (e ∷ es) zero h before after = less_from_greater cmp total e.0 key (after 0 e (omega arith) (omega arith))
     gap_from_search key (e ∷ es) (suc i) h before after = (
       greater_from_less cmp total e.0 key (before 0 e (omega arith) (omega arith)),
-      gap_from_search key es i (omega arith) (λ j d low high. before (suc j) d (omega arith) (omega arith)) (λ j d low high. after (suc j) d (omega arith) (omega arith)),
+      gap_from_search key es i (omega arith) (λ j d low high. before (suc j) d (omega arith) (omega arith))
+          (λ j d low high. after (suc j) d (omega arith) (omega arith)),
     )
 
     adjacent : (es : List (K × V)) (i j : ℕ) (d : K × V) → Ascends cmp es → i < j → j < length es → cmp (get_or es i d).0 (get_or es j d).0 ≡ Less
@@ -215,21 +230,26 @@ module _ {K V : Type 0} where
     sorted_from_ascends : (es : List (K × V)) → Ascends cmp es → IsSortedBy (λ a b. is_lt (cmp a.0 b.0)) es
     sorted_from_ascends es s i d low high = ap is_lt (greater_from_less cmp total _ _ (adjacent es i (i + 1) d s (omega arith) high))
 
-    pub searched_Ok : (key : K) (es : List (K × V)) (r : Result ℕ ℕ) → Ascends cmp es → IsSearchInRange r (length es) → IsBinarySearchResult (λ e. cmp e.0 key) es r → IfOk r (IsPlaceOf cmp key es)
+    pub searched_Ok : (key : K) (es : List (K × V)) (r : Result ℕ ℕ) → Ascends cmp es → IsSearchInRange r (length es)
+        → IsBinarySearchResult (λ e. cmp e.0 key) es r → IfOk r (IsPlaceOf cmp key es)
     searched_Ok key es (Ok i) s range found = place_from_search key es i s range found
     searched_Ok key es (Err i) s range found = tt
 
-    pub searched_Err : (key : K) (es : List (K × V)) (r : Result ℕ ℕ) → Ascends cmp es → IsSearchInRange r (length es) → IsBinarySearchResult (λ e. cmp e.0 key) es r → IfErr r (IsGapFor cmp key es)
+    pub searched_Err : (key : K) (es : List (K × V)) (r : Result ℕ ℕ) → Ascends cmp es → IsSearchInRange r (length es)
+        → IsBinarySearchResult (λ e. cmp e.0 key) es r → IfErr r (IsGapFor cmp key es)
     searched_Err key es (Ok i) s range found = tt
     searched_Err key es (Err i) s range found =
         let parts = found (searchable_from_sorted total (λ e. e.0) es key (sorted_from_ascends es s)) in
         gap_from_search key es i range parts.0 parts.1
 
     -- past the last key
-    pub gap_at_end : (key : K) (es : List (K × V)) (last : K × V) → Ascends cmp (es ++ last ∷ []) → cmp last.0 key ≡ Less → IsGapFor cmp key (es ++ last ∷ []) (length (es ++ last ∷ []))
+    pub gap_at_end : (key : K) (es : List (K × V)) (last : K × V) → Ascends cmp (es ++ last ∷ []) → cmp last.0 key ≡ Less
+        → IsGapFor cmp key (es ++ last ∷ []) (length (es ++ last ∷ []))
     gap_at_end key [] last s h = (greater_from_less cmp total last.0 key h, refl)
-    gap_at_end key (e ∷ es) last s h =
-        (greater_from_less cmp total e.0 key (total.trans e.0 last.0 key (last_below e.0 es last (ascends_head cmp e (es ++ last ∷ []) s)) h), gap_at_end key es last (ascends_tail cmp e (es ++ last ∷ []) s) h)
+    gap_at_end key (e ∷ es) last s h = (
+      greater_from_less cmp total e.0 key (total.trans e.0 last.0 key (last_below e.0 es last (ascends_head cmp e (es ++ last ∷ []) s)) h),
+      gap_at_end key es last (ascends_tail cmp e (es ++ last ∷ []) s) h,
+    )
       where
         last_below : (x : K) (es : List (K × V)) (last : K × V) → IsBelow cmp x (es ++ last ∷ []) → cmp x last.0 ≡ Less
         last_below x [] last a = a.0
@@ -255,15 +275,18 @@ module _ {K V : Type 0} where
         absurd (cc (test, ap is_lt less))
 
     -- ---- what an edit leaves at each key
-    pub updated_insert : (old new : List (K × V)) (k : K) (v : V) → new ≡ insert_entry cmp old k v → (q : K) → value_at cmp new q ≡ cond (is_eq (cmp k q)) (Some v) (value_at cmp old q)
+    pub updated_insert : (old new : List (K × V)) (k : K) (v : V) → new ≡ insert_entry cmp old k v → (q : K)
+        → value_at cmp new q ≡ cond (is_eq (cmp k q)) (Some v) (value_at cmp old q)
     updated_insert old new k v is q = rw is (lookup-insert_entry old k q v)
 
-    pub updated_remove : (old new : List (K × V)) (k : K) → Ascends cmp old → new ≡ remove_entry (is_at (cmp k)) old → (q : K) → value_at cmp new q ≡ cond (is_eq (cmp k q)) None (value_at cmp old q)
+    pub updated_remove : (old new : List (K × V)) (k : K) → Ascends cmp old → new ≡ remove_entry (is_at (cmp k)) old → (q : K)
+        → value_at cmp new q ≡ cond (is_eq (cmp k q)) None (value_at cmp old q)
     updated_remove old new k s is q =
         rw is (lookup-remove_entry (eq_by_cmp_equiv total) (is_at (cmp k)) ((eq_by_cmp_equiv total).congr k) q old (IsDistinct-from_sorted cmp (keys_of old) s))
 
     -- the first entries with the next one are these with its value put at its key
-    pub take_insert : (es : List (K × V)) (i : ℕ) (e : K × V) → Ascends cmp es → i < length es → e ≡ get_or es i e → take (i + 1) es ≡ insert_entry cmp (take i es) e.0 e.1
+    pub take_insert : (es : List (K × V)) (i : ℕ) (e : K × V) → Ascends cmp es → i < length es → e ≡ get_or es i e
+        → take (i + 1) es ≡ insert_entry cmp (take i es) e.0 e.1
     take_insert [] i e s h is = absurd (omega arith)
     take_insert (x ∷ es) zero e s h is = ap (λ y. y ∷ []) (sym is)
     take_insert (x ∷ es) (suc i) e s h is =
@@ -274,10 +297,12 @@ module _ {K V : Type 0} where
 
     -- an entry is what a look-up of its key finds
     pub item_found : (es : List (K × V)) (i : ℕ) (e : K × V) → Ascends cmp es → i < length es → e ≡ get_or es i e → value_at cmp es e.0 ≡ Some e.1
-    item_found es i e s h is = lookup_from_place (eq_by_cmp_equiv total) es i e.0 e.1 (IsDistinct-from_sorted cmp (keys_of es) s) (slice_get_read es (length es) i e refl h is)
+    item_found es i e s h is = lookup_from_place (eq_by_cmp_equiv total) es i e.0 e.1 (IsDistinct-from_sorted cmp (keys_of es) s)
+        (slice_get_read es (length es) i e refl h is)
 
 -- what holds of each entry holds of the one that a look-up finds
-pub entry_found : {K V : Type 0} (P : K × V → Type 0) (test : K → Bool) (es : List (K × V)) (v : V) → All P es → lookup test es ≡ Some v → (k : K) × (test k ≡ true) × P (k, v)
+pub entry_found : {K V : Type 0} (P : K × V → Type 0) (test : K → Bool) (es : List (K × V)) (v : V) → All P es → lookup test es ≡ Some v → (k : K)
+    × (test k ≡ true) × P (k, v)
 entry_found P test es v all h =
     let place = place_from_lookup test es v h in
     let here : P (get_or es place.0 (place.1, v)) = all place.0 (place.1, v) (slice_get_within es place.0 (place.1, v) place.2) in
@@ -294,6 +319,7 @@ pub take_next : {X : Type 0} (xs : List X) (i : ℕ) (x : X) → i < length xs �
 take_next xs i x h is = take_more xs i x h ∙ ap (λ y. take i xs ++ y ∷ []) (sym is)
 
 -- what holds of the first items holds of these and the next
-pub items_more : {X : Type 0} (P : X → Type 0) (xs : List X) (i : ℕ) (x : X) → i < length xs → x ≡ get_or xs i x → ((k : ℕ) (d : X) → k < i → P (get_or xs k d)) → P x → (k : ℕ) (d : X) → k < i + 1 → P (get_or xs k d)
+pub items_more : {X : Type 0} (P : X → Type 0) (xs : List X) (i : ℕ) (x : X) → i < length xs → x ≡ get_or xs i x → ((k : ℕ) (d : X) → k < i → P (get_or xs k d))
+    → P x → (k : ℕ) (d : X) → k < i + 1 → P (get_or xs k d)
 items_more P xs i x h is before here k d below =
     below_more (λ j. P (get_or xs j d)) i (λ j. before j d) (subst P (is ∙ get_or_default xs i x d h) here) k below

@@ -26,7 +26,8 @@ map_itself [] = refl
 map_itself (x ∷ xs) = ap (λ l. x ∷ l) (map_itself xs)
 
 -- the elements that a loop has gone through, and one more
-pub one_taken : {X Y : Type 0} (shows : X → Y) (xs : List X) (at : ℕ) (x : X) → at < length xs → x ≡ get_or xs at x → map shows (take (at + 1) xs) ≡ map shows (take at xs) ++ shows x ∷ []
+pub one_taken : {X Y : Type 0} (shows : X → Y) (xs : List X) (at : ℕ) (x : X) → at < length xs → x ≡ get_or xs at x
+    → map shows (take (at + 1) xs) ≡ map shows (take at xs) ++ shows x ∷ []
 one_taken shows xs at x within is =
     let next : at + 1 ≡ suc at = omega arith in
     ap (map shows) (ap (λ n. take n xs) next ∙ take-suc xs at x within ∙ ap (λ y. take at xs ++ y ∷ []) (sym is)) ∙ map-append shows (take at xs) (x ∷ [])

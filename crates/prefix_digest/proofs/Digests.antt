@@ -23,7 +23,8 @@ index_named i [] = refl
 index_named i (e ∷ es) = step (nat_eq i (get_or e.0 0 0)) (index_named i es)
   where
     step : (b : Bool) → under_index i (named_entries es) ≡ named_entries (under_index i es)
-        → cond b ((drop 1 e.0, named_fields e.1) ∷ under_index i (named_entries es)) (under_index i (named_entries es)) ≡ named_entries (cond b ((drop 1 e.0, e.1) ∷ under_index i es) (under_index i es))
+        → cond b ((drop 1 e.0, named_fields e.1) ∷ under_index i (named_entries es)) (under_index i (named_entries es))
+        ≡ named_entries (cond b ((drop 1 e.0, e.1) ∷ under_index i es) (under_index i es))
     step true rest = ap (λ l. (drop 1 e.0, named_fields e.1) ∷ l) rest
     step false rest = rest
 
@@ -54,10 +55,12 @@ is_digest (suc below) (e ∷ f ∷ es) =
     (present_told 0 32 (λ i. page below (under_index i (named_entries (e ∷ f ∷ es)))) (λ i. summary_of sha_calls below (under_index i (e ∷ f ∷ es)))
     (λ i. is_digest below (under_index i (e ∷ f ∷ es)) ∙ ap (λ l. option_map of_page (page below l)) (sym (index_named i (e ∷ f ∷ es)))))
 
-is_digest_under : (prefix : List ℕ) (height : ℕ) (es : List (List ℕ × FieldsValue)) → summary_at sha_calls prefix height es ≡ option_map of_page (page_under prefix height (named_entries es))
+is_digest_under : (prefix : List ℕ) (height : ℕ) (es : List (List ℕ × FieldsValue))
+    → summary_at sha_calls prefix height es ≡ option_map of_page (page_under prefix height (named_entries es))
 is_digest_under [] height es = is_digest height es
 is_digest_under (i ∷ p) zero es = refl
-is_digest_under (i ∷ p) (suc below) es = is_digest_under p below (under_index i es) ∙ ap (λ l. option_map of_page (page_under p below l)) (sym (index_named i es))
+is_digest_under (i ∷ p) (suc below) es = is_digest_under p below (under_index i es)
+    ∙ ap (λ l. option_map of_page (page_under p below l)) (sym (index_named i es))
 
 read : (o : Option PageValue) → option_map (λ (s : ShaSummary). s.digest) (option_map of_page o) ≡ option_map digest_of o
 read None = refl

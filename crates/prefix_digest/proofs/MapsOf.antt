@@ -44,32 +44,42 @@ use Rattle.prefix_digest.specs.MapOf.{values_by_dot, fields_by_dot, map_of, IsIn
 
 -- ---- a state has one map at most
 
-values_one : (v w : ValuesValue) → IsStrictlySortedBy dot_cmp (keys_of v) → IsStrictlySortedBy dot_cmp (keys_of w) → ((dot : Dot) → at_values v tt dot ≡ at_values w tt dot) → v ≡ w
+values_one : (v w : ValuesValue) → IsStrictlySortedBy dot_cmp (keys_of v) → IsStrictlySortedBy dot_cmp (keys_of w)
+    → ((dot : Dot) → at_values v tt dot ≡ at_values w tt dot) → v ≡ w
 unfolding at_values
-values_one v w first second same = entries_from_lookup dot_cmp_total dot_exact v w first second (λ dot. lookup-dot_cmp dot v ∙ same dot ∙ sym (lookup-dot_cmp dot w))
+values_one v w first second same = entries_from_lookup dot_cmp_total dot_exact v w first second
+    (λ dot. lookup-dot_cmp dot v ∙ same dot ∙ sym (lookup-dot_cmp dot w))
 
-fields_one : (f g : FieldsValue) → IsInOrder f → IsInOrder g → ((field : List ℕ) (dot : Dot) → fields_at f (field, tt) dot ≡ fields_at g (field, tt) dot) → f ≡ g
+fields_one : (f g : FieldsValue) → IsInOrder f → IsInOrder g
+    → ((field : List ℕ) (dot : Dot) → fields_at f (field, tt) dot ≡ fields_at g (field, tt) dot) → f ≡ g
 unfolding at_stores
 fields_one f g first second same =
-    entries_from_lookup nat_list_cmp_total bytes_exact f g first.ordered second.ordered (λ field. by field (lookup (is_at (bytes_cmp field)) f) (lookup (is_at (bytes_cmp field)) g) refl refl)
+    entries_from_lookup nat_list_cmp_total bytes_exact f g first.ordered second.ordered
+    (λ field. by field (lookup (is_at (bytes_cmp field)) f) (lookup (is_at (bytes_cmp field)) g) refl refl)
   where
-    held : (field : List ℕ) (a b : Option ValuesValue) → lookup (is_at (bytes_cmp field)) f ≡ a → lookup (is_at (bytes_cmp field)) g ≡ b → (dot : Dot) → held_by at_values a tt dot ≡ held_by at_values b tt dot
+    held : (field : List ℕ) (a b : Option ValuesValue) → lookup (is_at (bytes_cmp field)) f ≡ a → lookup (is_at (bytes_cmp field)) g ≡ b → (dot : Dot)
+        → held_by at_values a tt dot ≡ held_by at_values b tt dot
     held field a b is other dot = ap (λ o. held_by at_values o tt dot) (sym is) ∙ same field dot ∙ ap (λ o. held_by at_values o tt dot) other
 
     by : (field : List ℕ) (a b : Option ValuesValue) → lookup (is_at (bytes_cmp field)) f ≡ a → lookup (is_at (bytes_cmp field)) g ≡ b → a ≡ b
     by field None None is other = refl
-    by field None (Some w) is other = absurd (filled_at at_values (is_at (bytes_cmp field)) g w second.filled other (λ place dot. sym (held field None (Some w) is other dot)))
-    by field (Some v) None is other = absurd (filled_at at_values (is_at (bytes_cmp field)) f v first.filled is (λ place dot. held field (Some v) None is other dot))
+    by field None (Some w) is other =
+        absurd (filled_at at_values (is_at (bytes_cmp field)) g w second.filled other (λ place dot. sym (held field None (Some w) is other dot)))
+    by field (Some v) None is other =
+        absurd (filled_at at_values (is_at (bytes_cmp field)) f v first.filled is (λ place dot. held field (Some v) None is other dot))
     by field (Some v) (Some w) is other =
-        ap Some (values_one v w (first.each field v (Contains-from_lookup same_bytes-true field v f is)) (second.each field w (Contains-from_lookup same_bytes-true field w g other))
+        ap Some (values_one v w (first.each field v (Contains-from_lookup same_bytes-true field v f is))
+        (second.each field w (Contains-from_lookup same_bytes-true field w g other))
         (held field (Some v) (Some w) is other))
 
 pub maps_one : (m n : finite.FinMap bytes_cmp FieldsValue) (p : MapState) → IsMapOf m p → IsMapOf n p → m ≡ n
 maps_one m n p first second = same_map nat_list_cmp_total bytes_exact m n (λ key. by key (finite.get m key) (finite.get n key) refl refl)
   where
-    held : (key : List ℕ) (a b : Option FieldsValue) → finite.get m key ≡ a → finite.get n key ≡ b → (field : List ℕ) (dot : Dot) → held_by fields_at a (field, tt) dot ≡ held_by fields_at b (field, tt) dot
+    held : (key : List ℕ) (a b : Option FieldsValue) → finite.get m key ≡ a → finite.get n key ≡ b → (field : List ℕ) (dot : Dot)
+        → held_by fields_at a (field, tt) dot ≡ held_by fields_at b (field, tt) dot
     held key a b is other field dot =
-        ap (λ o. held_by fields_at o (field, tt) dot) (sym is) ∙ first.at (place_of key field) dot ∙ sym (second.at (place_of key field) dot) ∙ ap (λ o. held_by fields_at o (field, tt) dot) other
+        ap (λ o. held_by fields_at o (field, tt) dot) (sym is) ∙ first.at (place_of key field) dot ∙ sym (second.at (place_of key field) dot)
+        ∙ ap (λ o. held_by fields_at o (field, tt) dot) other
 
     by : (key : List ℕ) (a b : Option FieldsValue) → finite.get m key ≡ a → finite.get n key ≡ b → a ≡ b
     by key None None is other = refl
@@ -99,7 +109,8 @@ module _ {K X : Type 0} (R : K → K → Ordering) where
   rising [] t = tt
   rising (e ∷ es) t = by (rising es) (below_all R e.0 es) refl t
     where
-      by : (T (is_sorted R es) → IsStrictlySortedBy R (keys_of es)) → (b : Bool) → below_all R e.0 es ≡ b → T (b && is_sorted R es) → IsStrictlySortedBy R (keys_of (e ∷ es))
+      by : (T (is_sorted R es) → IsStrictlySortedBy R (keys_of es)) → (b : Bool) → below_all R e.0 es ≡ b → T (b && is_sorted R es)
+          → IsStrictlySortedBy R (keys_of (e ∷ es))
       by later true is u = (below_by e.0 es (subst T (sym is) tt), later u)
       by later false is u = absurd u
 
@@ -114,7 +125,8 @@ module _ {K X : Type 0} (R : K → K → Ordering) where
         here : q ≡ e.0 → Some e.1 ≡ Some x → Contains (e ∷ es) (q, x)
         here key value = at_same (e ∷ es) e (q, x) (let same : e.1 ≡ x = cc in λ i. (sym key i, same i)) (at_head e es)
 
-        by : (find R q es ≡ Some x → Contains (e ∷ es) (q, x)) → (o : Ordering) → R q e.0 ≡ o → cond (is_eq o) (Some e.1) (find R q es) ≡ Some x → Contains (e ∷ es) (q, x)
+        by : (find R q es ≡ Some x → Contains (e ∷ es) (q, x)) → (o : Ordering) → R q e.0 ≡ o → cond (is_eq o) (Some e.1) (find R q es) ≡ Some x
+            → Contains (e ∷ es) (q, x)
         by later Less at then = later then
         by later Equal at then = here (exact q e.0 at) then
         by later Greater at then = later then
@@ -151,7 +163,8 @@ abbrev dot_and_value : Write → Dot × List ℕ
 dot_and_value w = (w.id, w.value)
 
 -- what is found under a dot is the value of the write that has it, where no dot was used twice
-under_dot : (S : List Operation) (place : Place) (dot : Dot) → NoReuse S → find dot_cmp dot (map dot_and_value (shown S place)) ≡ value_under dot (shown S place)
+under_dot : (S : List Operation) (place : Place) (dot : Dot) → NoReuse S → find dot_cmp dot (map dot_and_value (shown S place))
+    ≡ value_under dot (shown S place)
 under_dot S place dot once = by (find dot_cmp dot (map dot_and_value ws)) (value_under dot ws) refl refl
   where
     ws : List Write
@@ -177,7 +190,8 @@ unfolding at_values
 values_at S place dot once =
     let es = map dot_and_value (shown S place) in
     let m : finite.FinMap dot_cmp (List ℕ) = finite.from_entries {R = dot_cmp} es in
-    sym (lookup-dot_cmp dot (values_by_dot S place)) ∙ sym (find-lookup dot_cmp dot (values_by_dot S place)) ∙ sym (get-entries m dot) ∙ get-from_entries dot_cmp_total es dot ∙ under_dot S place dot once
+    sym (lookup-dot_cmp dot (values_by_dot S place)) ∙ sym (find-lookup dot_cmp dot (values_by_dot S place)) ∙ sym (get-entries m dot)
+    ∙ get-from_entries dot_cmp_total es dot ∙ under_dot S place dot once
 
 is_there : (o : Option (List ℕ)) → (o ≡ None → ⊥) → IsSome o
 is_there None f = absurd (f refl)
@@ -199,17 +213,20 @@ no_field_holds S key field dot none = by ((state S).at (place_of key field) dot)
         let w = found_under dot (shown S (place_of key field)) x is in
         absurd (none ((fields-IsShown S key field).1 (w.0, (shown-IsShown S (place_of key field) w.0).0 w.1)))
 
-field_at : (S : List Operation) (key field : List ℕ) (dot : Dot) → NoReuse S → fields_at (fields_by_dot S key) (field, tt) dot ≡ (state S).at (place_of key field) dot
+field_at : (S : List Operation) (key field : List ℕ) (dot : Dot) → NoReuse S → fields_at (fields_by_dot S key) (field, tt) dot
+    ≡ (state S).at (place_of key field) dot
 unfolding at_stores
 field_at S key field dot once = by (lookup (is_at (bytes_cmp field)) (fields_by_dot S key)) refl
   where
     F : List ℕ → ValuesValue
     F f = values_by_dot S (place_of key f)
 
-    by : (o : Option ValuesValue) → lookup (is_at (bytes_cmp field)) (fields_by_dot S key) ≡ o → held_by at_values (lookup (is_at (bytes_cmp field)) (fields_by_dot S key)) tt dot ≡ (state S).at (place_of key field) dot
+    by : (o : Option ValuesValue) → lookup (is_at (bytes_cmp field)) (fields_by_dot S key) ≡ o
+        → held_by at_values (lookup (is_at (bytes_cmp field)) (fields_by_dot S key)) tt dot ≡ (state S).at (place_of key field) dot
     by None is =
         ap (λ o. held_by at_values o tt dot) is
-        ∙ sym (no_field_holds S key field dot (not_given bytes_cmp bytes_exact nat_list_cmp_total F (fields S key) field (find-lookup bytes_cmp field (fields_by_dot S key) ∙ is)))
+        ∙ sym (no_field_holds S key field dot (not_given bytes_cmp bytes_exact nat_list_cmp_total F (fields S key) field
+        (find-lookup bytes_cmp field (fields_by_dot S key) ∙ is)))
     by (Some v) is =
         let of = given bytes_cmp bytes_exact nat_list_cmp_total F (fields S key) field v (find-lookup bytes_cmp field (fields_by_dot S key) ∙ is) in
         ap (λ o. held_by at_values o tt dot) (is ∙ ap Some of.1) ∙ values_at S (place_of key field) dot once
@@ -230,8 +247,10 @@ keys_given F (k ∷ ks) = ap (λ xs. k ∷ xs) (keys_given F ks)
 
 in_order : (S : List Operation) (key : List ℕ) → NoReuse S → IsInOrder (fields_by_dot S key)
 in_order S key once = record {
-  ordered = subst (IsStrictlySortedBy bytes_cmp) (sym (keys_given F (fields S key))) (sorted_ascending (fields S key) (ascending-ascends (map (λ w. w.place.field) (shown_within S key))));
-  filled = filled_all at_values (fields_by_dot S key) (All-weaker (Contains (fields_by_dot S key)) (λ e. HasNothing (at_values e.1) → ⊥) filled (fields_by_dot S key) (All-contains_itself (fields_by_dot S key)));
+  ordered = subst (IsStrictlySortedBy bytes_cmp) (sym (keys_given F (fields S key)))
+      (sorted_ascending (fields S key) (ascending-ascends (map (λ w. w.place.field) (shown_within S key))));
+  filled = filled_all at_values (fields_by_dot S key) (All-weaker (Contains (fields_by_dot S key)) (λ e. HasNothing (at_values e.1) → ⊥) filled
+      (fields_by_dot S key) (All-contains_itself (fields_by_dot S key)));
   each = dots;
 }
   where
@@ -250,22 +269,26 @@ in_order S key once = record {
     dots field values there =
         let from = from_map (λ f. (f, F f)) (fields S key) (field, values) there in
         let same : F from.0 ≡ values = ap (λ p. p.1) from.2 in
-        subst (λ v. IsStrictlySortedBy dot_cmp (keys_of v)) same (sorted_map dot_cmp (finite.from_entries {R = dot_cmp} (map dot_and_value (shown S (place_of key from.0)))))
+        subst (λ v. IsStrictlySortedBy dot_cmp (keys_of v)) same
+        (sorted_map dot_cmp (finite.from_entries {R = dot_cmp} (map dot_and_value (shown S (place_of key from.0)))))
 
 module _ (S : List Operation) (once : NoReuse S) where
   abbrev F : List ℕ → FieldsValue
   F key = fields_by_dot S key
 
   key_held : (key : List ℕ) (held : FieldsValue) → finite.get (map_of S) key ≡ Some held → Contains (keys S) key × (held ≡ F key)
-  key_held key held is = given bytes_cmp bytes_exact nat_list_cmp_total F (keys S) key held (sym (get-from_entries nat_list_cmp_total (map (λ k. (k, F k)) (keys S)) key) ∙ is)
+  key_held key held is = given bytes_cmp bytes_exact nat_list_cmp_total F (keys S) key held
+      (sym (get-from_entries nat_list_cmp_total (map (λ k. (k, F k)) (keys S)) key) ∙ is)
 
   key_at : (place : Place) (dot : Dot) → held_by fields_at (finite.get (map_of S) place.key) (place.field, tt) dot ≡ (state S).at place dot
   key_at place dot = by (finite.get (map_of S) place.key) refl
     where
-      by : (o : Option FieldsValue) → finite.get (map_of S) place.key ≡ o → held_by fields_at (finite.get (map_of S) place.key) (place.field, tt) dot ≡ (state S).at place dot
+      by : (o : Option FieldsValue) → finite.get (map_of S) place.key ≡ o → held_by fields_at (finite.get (map_of S) place.key) (place.field, tt) dot
+          ≡ (state S).at place dot
       by None is =
           let none : Contains (keys S) place.key → ⊥ =
-          not_given bytes_cmp bytes_exact nat_list_cmp_total F (keys S) place.key (sym (get-from_entries nat_list_cmp_total (map (λ k. (k, F k)) (keys S)) place.key) ∙ is) in
+          not_given bytes_cmp bytes_exact nat_list_cmp_total F (keys S) place.key
+          (sym (get-from_entries nat_list_cmp_total (map (λ k. (k, F k)) (keys S)) place.key) ∙ is) in
           ap (λ o. held_by fields_at o (place.field, tt) dot) is
           ∙ sym (no_field_holds S place.key place.field dot (λ there. none ((keys-IsShown S place.key).1 (place.field, there))))
       by (Some held) is =
@@ -286,7 +309,8 @@ module _ (S : List Operation) (once : NoReuse S) where
 
   -- so what stands for the state is the map of the set
   pub map_is : (m : finite.FinMap bytes_cmp FieldsValue) (p : MapState) → IsMapOf m p → Same p (state S) → m ≡ map_of S
-  map_is m p stands same = maps_one m (map_of S) (state S) (record { at = λ place dot. stands.at place dot ∙ same.at place dot; filled = stands.filled; ordered = stands.ordered }) stands_for
+  map_is m p stands same = maps_one m (map_of S) (state S)
+      (record { at = λ place dot. stands.at place dot ∙ same.at place dot; filled = stands.filled; ordered = stands.ordered }) stands_for
 
 -- sets with the same members have one map
 pub same_map_of : (S T : List Operation) → NoReuse S → IsSameSet S T → map_of S ≡ map_of T

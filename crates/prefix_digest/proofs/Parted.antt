@@ -1,5 +1,6 @@
 -- The page at a prefix, by the part of the walk there.
-use Rattle.std.proofs.Common.{◌≡◌, ◌⊎◌, ⊎_elim, ℕ, zero, suc, ◌+◌, ◌-◌, ◌^◌, ◌<◌, ◌≤◌, List, [], ◌∷◌, ◌++◌, length, Some, None, refl, sym, ap, ◌∙◌, subst, arith}
+use Rattle.std.proofs.Common.{◌≡◌, ◌⊎◌, ⊎_elim, ℕ, zero, suc, ◌+◌, ◌-◌, ◌^◌, ◌<◌, ◌≤◌, List, [], ◌∷◌, ◌++◌, length, Some, None, refl, sym, ap, ◌∙◌, subst}
+use Rattle.std.proofs.Common.{arith}
 use Rattle.std.specs.declared.option.Option.{Option}
 use Rattle.std.specs.Option.{option_map}
 use Rattle.std.specs.FinMap as finite
@@ -30,7 +31,8 @@ module _ {M : Type 0} where
   present_more i (suc n) k f e =
       ap (one_present i (f i)) (present_more (suc i) n k f (omega (arith, e))) ∙ behind i (f i) (present (suc i) n f) (one_present k (f k) [])
 
-  pub present_next : (n : ℕ) (f : ℕ → Option M) (old new : List (ℕ × M)) (o : Option M) → old ≡ present 0 n f → o ≡ f n → new ≡ old ++ one_present n o [] → new ≡ present 0 (n + 1) f
+  pub present_next : (n : ℕ) (f : ℕ → Option M) (old new : List (ℕ × M)) (o : Option M) → old ≡ present 0 n f → o ≡ f n → new ≡ old ++ one_present n o []
+      → new ≡ present 0 (n + 1) f
   present_next n f old new o was is now =
       let next : suc n ≡ n + 1 = omega arith in
       now ∙ (λ t. was t ++ one_present n (is t) []) ∙ sym (present_more 0 n n f (omega arith)) ∙ ap (λ k. present 0 k f) next
@@ -47,7 +49,8 @@ page_there (i ∷ p) (suc below) es h =
     let same : below - length p ≡ suc below - suc (length p) = omega arith in
     page_there p below (under_index i es) (omega (arith, h)) ∙ ap (λ k. page k (under_prefix p (under_index i es))) same
 
-page_further : (p : List ℕ) (i height : ℕ) (es : List EntryValue) → length p < height → page_under (p ++ i ∷ []) height es ≡ page (height - suc (length p)) (under_index i (under_prefix p es))
+page_further : (p : List ℕ) (i height : ℕ) (es : List EntryValue) → length p < height
+    → page_under (p ++ i ∷ []) height es ≡ page (height - suc (length p)) (under_index i (under_prefix p es))
 page_further [] i zero es h = absurd (omega (arith, h))
 page_further [] i (suc below) es h = let same : below ≡ suc below - 1 = omega arith in ap (λ k. page k (under_index i es)) same
 page_further (j ∷ p) i zero es h = absurd (omega (arith, h))
@@ -61,7 +64,8 @@ pub no_entries : {V : Type 0} (height : ℕ) (es : List (List ℕ × V)) → by_
 no_entries height [] e = refl
 no_entries height (x ∷ es) e = let long : suc (length (by_key height es)) ≡ 0 = ap length e in absurd (omega (arith, long))
 
-one_entry : (height : ℕ) (es : List (List ℕ × FieldsValue)) (k : List ℕ) (fields : FieldsValue) → by_key height es ≡ (k, fields) ∷ [] → page height (named_entries es) ≡ Some (OneKey (named_entry (k, fields)))
+one_entry : (height : ℕ) (es : List (List ℕ × FieldsValue)) (k : List ℕ) (fields : FieldsValue) → by_key height es ≡ (k, fields) ∷ []
+    → page height (named_entries es) ≡ Some (OneKey (named_entry (k, fields)))
 one_entry height [] k fields e = let long : 0 ≡ 1 = ap length e in absurd (omega (arith, long))
 one_entry height (x ∷ []) k fields e =
     ap (λ l. Some (OneKey (head l))) e
@@ -76,7 +80,8 @@ several_listed [] h = absurd (omega (arith, h))
 several_listed (x ∷ []) h = absurd (omega (arith, h))
 several_listed (x ∷ y ∷ es) h = refl
 
-several_parted : (below : ℕ) (es : List EntryValue) → 2 ≤ length es → page (suc below) es ≡ Some (Branch (present 0 32 (λ i. option_map digest_of (page below (under_index i es)))))
+several_parted : (below : ℕ) (es : List EntryValue) → 2 ≤ length es → page (suc below) es
+    ≡ Some (Branch (present 0 32 (λ i. option_map digest_of (page below (under_index i es)))))
 several_parted below [] h = absurd (omega (arith, h))
 several_parted below (x ∷ []) h = absurd (omega (arith, h))
 several_parted below (x ∷ y ∷ es) h = refl
@@ -87,13 +92,16 @@ module _ (f : List ℕ → ℕ) (m : finite.FinMap bytes_cmp FieldsValue) (p : L
 
   as_long : length p ≤ 7 → length (walk_under f p m) ≡ length (named_entries (under_prefix p (by_path f m)))
   as_long short =
-      ap length (walk_part f p m short) ∙ length-map (under_prefix p (by_path f m)) (λ e. (key_in (7 - length p) e.0, e.1)) ∙ sym (length-map (under_prefix p (by_path f m)) named_entry)
+      ap length (walk_part f p m short) ∙ length-map (under_prefix p (by_path f m)) (λ e. (key_in (7 - length p) e.0, e.1))
+      ∙ sym (length-map (under_prefix p (by_path f m)) named_entry)
 
   pub page_none : length p ≤ 7 → walk_under f p m ≡ [] → page_at f m p ≡ None
   page_none short none =
-      at_there short ∙ ap (λ es. page (7 - length p) (named_entries es)) (no_entries (7 - length p) (under_prefix p (by_path f m)) (sym (walk_part f p m short) ∙ none))
+      at_there short ∙ ap (λ es. page (7 - length p) (named_entries es))
+      (no_entries (7 - length p) (under_prefix p (by_path f m)) (sym (walk_part f p m short) ∙ none))
 
-  pub page_one : (k : List ℕ) (fields : FieldsValue) → length p ≤ 7 → walk_under f p m ≡ (k, fields) ∷ [] → page_at f m p ≡ Some (OneKey (named_entry (k, fields)))
+  pub page_one : (k : List ℕ) (fields : FieldsValue) → length p ≤ 7 → walk_under f p m ≡ (k, fields) ∷ []
+      → page_at f m p ≡ Some (OneKey (named_entry (k, fields)))
   page_one k fields short one = at_there short ∙ one_entry (7 - length p) (under_prefix p (by_path f m)) k fields (sym (walk_part f p m short) ∙ one)
 
   pub page_list : length p ≡ 7 → 2 ≤ length (walk_under f p m) → page_at f m p ≡ Some (Keys (named_entries (walk_under f p m)))
@@ -117,13 +125,16 @@ module _ (f : List ℕ → ℕ) (m : finite.FinMap bytes_cmp FieldsValue) (p : L
       let es = under_prefix p (by_path f m) in
       at_there short ∙ ap (λ k. page k (named_entries es)) next
       ∙ several_parted (7 - suc (length p)) (named_entries es) (subst (λ n. 2 ≤ n) (as_long short) several)
-      ∙ ap (λ l. Some (Branch l)) (present_same 0 32 (λ i. option_map digest_of (page (7 - suc (length p)) (under_index i (named_entries es)))) (λ i. digest_at f m (p ++ i ∷ []))
+      ∙ ap (λ l. Some (Branch l)) (present_same 0 32 (λ i. option_map digest_of (page (7 - suc (length p)) (under_index i (named_entries es))))
+      (λ i. digest_at f m (p ++ i ∷ []))
       (λ i. ap (λ l. option_map digest_of (page (7 - suc (length p)) l)) (index_named i es) ∙ ap (option_map digest_of) (sym (further i less))))
 
   -- no digest at an index that a child there cannot have
   none_further : ((key : List ℕ) → f key < 2 ^ 32) → (i : ℕ) → length p < 7 → last_index (length p) < i → digest_at f m (p ++ i ∷ []) ≡ None
   none_further bounded i less past =
-      ap (option_map digest_of) (further i less ∙ ap (λ es. page (7 - suc (length p)) (named_entries es)) (none_past f bounded p i (by_path f m) (HashedBy-by_path f m) less past))
+      ap (option_map digest_of) (further i less ∙ ap (λ es. page (7 - suc (length p)) (named_entries es))
+      (none_past f bounded p i (by_path f m) (HashedBy-by_path f m) less past))
 
-  pub digest_past : ((key : List ℕ) → f key < 2 ^ 32) → (i : ℕ) → length p < 7 → (length p ≡ 7) ⊎ (last_index (length p) < i) → digest_at f m (p ++ i ∷ []) ≡ None
+  pub digest_past : ((key : List ℕ) → f key < 2 ^ 32) → (i : ℕ) → length p < 7 → (length p ≡ 7) ⊎ (last_index (length p) < i)
+      → digest_at f m (p ++ i ∷ []) ≡ None
   digest_past bounded i less past = ⊎_elim (λ deep. absurd (omega (arith, deep, less))) (λ far. none_further bounded i less far) past

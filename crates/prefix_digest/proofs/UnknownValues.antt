@@ -1,5 +1,6 @@
 -- The values at unknown dots, one after another.
-use Rattle.std.proofs.Common.{◌≡◌, ℕ, zero, suc, ◌+◌, ◌-◌, ◌<◌, ◌≤◌, List, [], ◌∷◌, ◌++◌, length, take, get_or, Bool, true, false, cond, map, refl, sym, ap, ◌∙◌, subst, arith, append_assoc}
+use Rattle.std.proofs.Common.{◌≡◌, ℕ, zero, suc, ◌+◌, ◌-◌, ◌<◌, ◌≤◌, List, [], ◌∷◌, ◌++◌, length, take, get_or, Bool, true, false, cond, map, refl, sym, ap}
+use Rattle.std.proofs.Common.{◌∙◌, subst, arith, append_assoc}
 use Rattle.std.specs.Prelude.{not}
 use Rattle.std.specs.List.{filter}
 use Rattle.std.specs.FinMap as finite
@@ -15,7 +16,8 @@ use Rattle.prefix_digest.specs.Values.{unknown_in_values, unknown_in_fields, unk
 use Rattle.prefix_digest.proofs.Parted.{no_entries}
 
 module _ (known : DotValue → Bool) where
-  unknown_more : (xs : ValuesValue) (v : DotValue × List ℕ) → unknown_in_values known (xs ++ v ∷ []) ≡ unknown_in_values known xs ++ cond (known v.0) [] (v.1 ∷ [])
+  unknown_more : (xs : ValuesValue) (v : DotValue × List ℕ) → unknown_in_values known (xs ++ v ∷ []) ≡ unknown_in_values known xs
+      ++ cond (known v.0) [] (v.1 ∷ [])
   unknown_more [] v = last (known v.0)
     where
       last : (b : Bool) → map (λ (w : DotValue × List ℕ). w.1) (cond (not b) (v ∷ []) []) ≡ cond b [] (v.1 ∷ [])
@@ -25,12 +27,14 @@ module _ (known : DotValue → Bool) where
     where
       step : (b : Bool) → unknown_in_values known (xs ++ v ∷ []) ≡ unknown_in_values known xs ++ cond (known v.0) [] (v.1 ∷ [])
           → map (λ (w : DotValue × List ℕ). w.1) (cond b (x ∷ filter (λ w. not (known w.0)) (xs ++ v ∷ [])) (filter (λ w. not (known w.0)) (xs ++ v ∷ [])))
-          ≡ map (λ (w : DotValue × List ℕ). w.1) (cond b (x ∷ filter (λ w. not (known w.0)) xs) (filter (λ w. not (known w.0)) xs)) ++ cond (known v.0) [] (v.1 ∷ [])
+          ≡ map (λ (w : DotValue × List ℕ). w.1) (cond b (x ∷ filter (λ w. not (known w.0)) xs) (filter (λ w. not (known w.0)) xs))
+          ++ cond (known v.0) [] (v.1 ∷ [])
       step true rest = ap (λ l. x.1 ∷ l) rest
       step false rest = rest
 
   -- a value more, which is put there where its dot is unknown
-  pub unknown_next : (old now new : List (List ℕ)) (xs : ValuesValue) (i : ℕ) (v : DotValue × List ℕ) → now ≡ old ++ unknown_in_values known (take i xs) → i < length xs → v ≡ get_or xs i v
+  pub unknown_next : (old now new : List (List ℕ)) (xs : ValuesValue) (i : ℕ) (v : DotValue × List ℕ) → now ≡ old ++ unknown_in_values known (take i xs)
+      → i < length xs → v ≡ get_or xs i v
       → new ≡ now ++ cond (known v.0) [] (v.1 ∷ []) → new ≡ old ++ unknown_in_values known (take (i + 1) xs)
   unknown_next old now new xs i v was h is put =
       let more : take (i + 1) xs ≡ take i xs ++ v ∷ [] = take_more xs i v h ∙ ap (λ y. take i xs ++ y ∷ []) (sym is) in
@@ -43,7 +47,8 @@ module _ (known : DotValue → Bool) where
   unkeyed height [] = refl
   unkeyed height (e ∷ es) = ap (λ l. unknown_in_fields known e.1 ++ l) (unkeyed height es)
 
-  values_there : (p : List ℕ) (height : ℕ) (es : List (List ℕ × FieldsValue)) → length p ≤ height → unknown_under known p height es ≡ unknown_on_page known (height - length p) (under_prefix p es)
+  values_there : (p : List ℕ) (height : ℕ) (es : List (List ℕ × FieldsValue)) → length p ≤ height
+      → unknown_under known p height es ≡ unknown_on_page known (height - length p) (under_prefix p es)
   values_there [] height es h = let same : height ≡ height - 0 = omega arith in ap (λ k. unknown_on_page known k es) same
   values_there (i ∷ p) zero es h = absurd (omega (arith, h))
   values_there (i ∷ p) (suc below) es h =
@@ -74,9 +79,11 @@ module _ (known : DotValue → Bool) where
 
     pub values_of_none : length p ≤ 7 → walk_under f p m ≡ [] → unknown_at known f m p ≡ []
     values_of_none short none =
-        values_there p 7 (by_path f m) short ∙ ap (unknown_on_page known (7 - length p)) (no_entries (7 - length p) (under_prefix p (by_path f m)) (sym (walk_part f p m short) ∙ none))
+        values_there p 7 (by_path f m) short ∙ ap (unknown_on_page known (7 - length p))
+        (no_entries (7 - length p) (under_prefix p (by_path f m)) (sym (walk_part f p m short) ∙ none))
 
-    pub values_of_one : (k : List ℕ) (fields : FieldsValue) → length p ≤ 7 → walk_under f p m ≡ (k, fields) ∷ [] → unknown_at known f m p ≡ unknown_in known (walk_under f p m)
+    pub values_of_one : (k : List ℕ) (fields : FieldsValue) → length p ≤ 7 → walk_under f p m ≡ (k, fields) ∷ []
+        → unknown_at known f m p ≡ unknown_in known (walk_under f p m)
     values_of_one k fields short one =
         values_there p 7 (by_path f m) short ∙ of_one (7 - length p) (under_prefix p (by_path f m)) (sym (as_many short) ∙ ap length one) ∙ as_walked short
 

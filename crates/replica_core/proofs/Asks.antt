@@ -1,5 +1,6 @@
 -- What an ask, a retry and the end of a session are to the model.
-use Rattle.std.proofs.Common.{◌≡◌, ◌<◌, ◌≤◌, ◌+◌, ◌^◌, ℕ, List, [], ◌∷◌, Bool, true, false, Some, None, inl, inr, length, map, not, refl, sym, ap, ◌∙◌, subst, arith}
+use Rattle.std.proofs.Common.{◌≡◌, ◌<◌, ◌≤◌, ◌+◌, ◌^◌, ℕ, List, [], ◌∷◌, Bool, true, false, Some, None, inl, inr, length, map, not, refl, sym, ap, ◌∙◌, subst}
+use Rattle.std.proofs.Common.{arith}
 use Rattle.std.specs.Prelude.{◌==◌}
 use Rattle.std.proofs.lemmas.List.{length-map}
 use Rattle.causal_context.specs.Context.{has}
@@ -31,14 +32,17 @@ mails_are [] = refl
 mails_are (m ∷ ms) = ap (λ xs. mail_of (message_of m) ∷ xs) (mails_are ms)
 
 -- what is told by a kind of outcome and its replies
-module _ {Hash A : Type 0} (hash_of : Hash → List ℕ → ℕ) (old new : ReplicaValue Hash) (act : Act) (outcome kind : Outcome) (replies : List (Message A)) (is : outcome ≡ kind) where
+module _ {Hash A : Type 0} (hash_of : Hash → List ℕ → ℕ) (old new : ReplicaValue Hash) (act : Act) (outcome kind : Outcome) (replies : List (Message A))
+    (is : outcome ≡ kind) where
   pub told_by : replies ≡ [] → Steps hash_of old new act (Came (outcome_of kind)) [] → Steps hash_of old new act (Came (outcome_of outcome)) (mails_of replies)
-  told_by none steps = subst (λ o. Steps hash_of old new act (Came (outcome_of o)) (mails_of replies)) (sym is) (subst (λ ms. Steps hash_of old new act (Came (outcome_of kind)) (mails_of ms)) (sym none) steps)
+  told_by none steps = subst (λ o. Steps hash_of old new act (Came (outcome_of o)) (mails_of replies)) (sym is)
+      (subst (λ ms. Steps hash_of old new act (Came (outcome_of kind)) (mails_of ms)) (sym none) steps)
 
   pub answered_by : (reply : Message A) → replies ≡ reply ∷ [] → Steps hash_of old new act (Came (outcome_of kind)) (mail_of (message_of reply) ∷ [])
       → Steps hash_of old new act (Came (outcome_of outcome)) (mails_of replies)
   answered_by reply one steps =
-      subst (λ o. Steps hash_of old new act (Came (outcome_of o)) (mails_of replies)) (sym is) (subst (λ ms. Steps hash_of old new act (Came (outcome_of kind)) (mails_of ms)) (sym one) steps)
+      subst (λ o. Steps hash_of old new act (Came (outcome_of o)) (mails_of replies)) (sym is)
+      (subst (λ ms. Steps hash_of old new act (Came (outcome_of kind)) (mails_of ms)) (sym one) steps)
 
 module _ {Hash : Type 0} (old : ReplicaValue Hash) (peer : ℕ) where
   pub full_refused : 8 ≤ length old.sessions → IsRefused old (Ask peer) SessionsFull
@@ -61,7 +65,8 @@ module _ {Hash : Type 0} (old : ReplicaValue Hash) (peer : ℕ) where
   pub ask_without_memory : (refusal : Refusal) → refusal ≡ OutOfMemory → length old.sessions < 8 → old.opened + 1 < 2 ^ 64 → IsRefused old (Ask peer) refusal
   ask_without_memory refusal is few left = inl (is, ask_not_refused few left)
 
-module _ {Hash : Type 0} (hash_of : Hash → List ℕ → ℕ) (old new : ReplicaValue Hash) (peer : ℕ) (session : SessionValue) (next : session ≡ next_session (meaning old) peer) where
+module _ {Hash : Type 0} (hash_of : Hash → List ℕ → ℕ) (old new : ReplicaValue Hash) (peer : ℕ) (session : SessionValue)
+    (next : session ≡ next_session (meaning old) peer) where
   pub asked_stepped : (hello : MessageValue) → session.number + 1 ≤ 2 ^ 64 → length old.sessions < 8 → IsMapOf old.live.0.0.1 (meaning old).live
       → meaning new ≡ opens (meaning old) session.answerer old.live.0.0.1 → hello ≡ Hello session old.live.0.1 → hash_in new ≡ hash_in old
       → Steps hash_of old new (Do (Ask peer)) (Numbered session.number) (mail_of hello ∷ [])
@@ -100,7 +105,8 @@ module _ {Hash : Type 0} (hash_of : Hash → List ℕ → ℕ) (old : ReplicaVal
     found : open_numbered (meaning old).sessions number ≡ Some (open_of a)
     found = numbered_tied old.sessions number place a first
 
-    pub retry_found : {A : Type 0} (messages : List (Message A)) → IsReplica hash_of old → map message_of messages ≡ turning.again a.session (stage_with a.own a.seen a.stage)
+    pub retry_found : {A : Type 0} (messages : List (Message A)) → IsReplica hash_of old
+        → map message_of messages ≡ turning.again a.session (stage_with a.own a.seen a.stage)
         → Steps hash_of old old (Do (Retry number)) (Came Sent) (mails_of messages)
     retry_found messages is said =
         let own = at_place (IsOwn hash_of old.name (hash_in old) (meaning old).live) old.sessions place a first.0 is.own in
@@ -113,8 +119,12 @@ module _ {Hash : Type 0} (hash_of : Hash → List ℕ → ℕ) (old : ReplicaVal
           hash = refl;
         }
 
-    pub abandon_found : (new : ReplicaValue Hash) → meaning new ≡ closes (meaning old) a.session → hash_in new ≡ hash_in old → Steps hash_of old new (Do (Abandon number)) (Closed true) []
-    abandon_found new means hash = record { step = (subst (λ o. Abandons (meaning old) o (meaning new) (Closed true)) (sym found) (means, refl), refl); hash = hash }
+    pub abandon_found : (new : ReplicaValue Hash) → meaning new ≡ closes (meaning old) a.session → hash_in new ≡ hash_in old
+        → Steps hash_of old new (Do (Abandon number)) (Closed true) []
+    abandon_found new means hash = record {
+      step = (subst (λ o. Abandons (meaning old) o (meaning new) (Closed true)) (sym found) (means, refl), refl);
+      hash = hash;
+    }
 
 -- whether a session is for this replica, as a comparison of names tells it
 not_true : (b : Bool) → not b ≡ true → b ≡ false

@@ -31,20 +31,35 @@ use Rattle.replica_core.proofs.TiedLists.{found_tied, none_tied}
 
 module _ {Hash : Type 0} (hash_of : Hash → List ℕ → ℕ) (old : ReplicaValue Hash) (mapped : IsMapOf old.live.0.0.1 (live_state old.live.0)) where
   pub taken_came : (new : ReplicaValue Hash) (mail : Mail) (outcome : model.Outcome) (out : List Mail) → is_for old.name mail ≡ true
-      → taken (hash_of (hash_in old)) old.live.0.0.1 (meaning old) mail ≡ turn (meaning new) outcome out → hash_in new ≡ hash_in old → Steps hash_of old new (Take mail) (Came outcome) out
+      → taken (hash_of (hash_in old)) old.live.0.0.1 (meaning old) mail ≡ turn (meaning new) outcome out → hash_in new ≡ hash_in old
+      → Steps hash_of old new (Take mail) (Came outcome) out
   taken_came new mail outcome out here is hash = record {
-    step = (outcome, refl, (old.live.0.0.1, mapped, ap (λ b. cond b (taken (hash_of (hash_in old)) old.live.0.0.1 (meaning old) mail) (ignored (meaning old))) here ∙ is));
+    step = (
+      outcome,
+      refl,
+      (
+        old.live.0.0.1,
+        mapped,
+        ap (λ b. cond b (taken (hash_of (hash_in old)) old.live.0.0.1 (meaning old) mail) (ignored (meaning old)))
+            here ∙ is,
+      ),
+    );
     hash = hash;
   }
 
   pub ignored_came : (mail : Mail) → is_for old.name mail ≡ false → Steps hash_of old old (Take mail) (Came Ignored) []
   ignored_came mail away = record {
-    step = (Ignored, refl, (old.live.0.0.1, mapped, ap (λ b. cond b (taken (hash_of (hash_in old)) old.live.0.0.1 (meaning old) mail) (ignored (meaning old))) away));
+    step = (
+      Ignored,
+      refl,
+      (old.live.0.0.1, mapped, ap (λ b. cond b (taken (hash_of (hash_in old)) old.live.0.0.1 (meaning old) mail) (ignored (meaning old))) away),
+    );
     hash = refl;
   }
 
   -- for whomever it is, nothing comes of it
-  pub nothing_came : (mail : Mail) → taken (hash_of (hash_in old)) old.live.0.0.1 (meaning old) mail ≡ ignored (meaning old) → Steps hash_of old old (Take mail) (Came Ignored) []
+  pub nothing_came : (mail : Mail) → taken (hash_of (hash_in old)) old.live.0.0.1 (meaning old) mail ≡ ignored (meaning old)
+      → Steps hash_of old old (Take mail) (Came Ignored) []
   nothing_came mail none = record { step = (Ignored, refl, (old.live.0.0.1, mapped, either (is_for old.name mail))); hash = refl }
     where
       either : (b : Bool) → cond b (taken (hash_of (hash_in old)) old.live.0.0.1 (meaning old) mail) (ignored (meaning old)) ≡ ignored (meaning old)
@@ -52,17 +67,21 @@ module _ {Hash : Type 0} (hash_of : Hash → List ℕ → ℕ) (old : ReplicaVal
       either false = refl
 
   -- a delta
-  pub delta_came : (new : ReplicaValue Hash) (d : MapState) → meaning new ≡ joins (meaning old) d → hash_in new ≡ hash_in old → Steps hash_of old new (Take (Delta d)) (Came Joined) []
+  pub delta_came : (new : ReplicaValue Hash) (d : MapState) → meaning new ≡ joins (meaning old) d → hash_in new ≡ hash_in old
+      → Steps hash_of old new (Take (Delta d)) (Came Joined) []
   delta_came new d is hash = taken_came new (Delta d) Joined [] refl (ap (λ r. turn r Joined []) (sym is)) hash
 
   -- a hello
-  pub hello_came : IsReplica hash_of old → (new : ReplicaValue Hash) (s : SessionValue) (k : SnapshotValue Hash) (opening : MessageValue) → (s.answerer == old.name) ≡ true
+  pub hello_came : IsReplica hash_of old → (new : ReplicaValue Hash) (s : SessionValue) (k : SnapshotValue Hash) (opening : MessageValue)
+      → (s.answerer == old.name) ≡ true
       → k.hash ≡ hash_in old → k.map ≡ old.live.0.0.1 → k.context ≡ old.live.0.1
-      → opening ≡ opening_of hash_of s (told_of old.kept s k) → meaning new ≡ record (meaning old) { kept = map kept_of (kept_after old.kept s k) } → hash_in new ≡ hash_in old
+      → opening ≡ opening_of hash_of s (told_of old.kept s k) → meaning new ≡ record (meaning old) { kept = map kept_of (kept_after old.kept s k) }
+      → hash_in new ≡ hash_in old
       → Steps hash_of old new (Take (Hello s (has k.seen))) (Came Sent) (mail_of opening ∷ [])
   hello_came is new s k opening here hashed map_is context_is told means hash =
       taken_came new (Hello s (has k.seen)) Sent (mail_of opening ∷ []) here (
-      ap (λ m. took_hello (hash_of (hash_in old)) m (meaning old) s (has k.seen) (Rattle.replica_model.specs.Replica.kept_at (map kept_of old.kept) s)) (sym map_is)
+      ap (λ m. took_hello (hash_of (hash_in old)) m (meaning old) s (has k.seen) (Rattle.replica_model.specs.Replica.kept_at (map kept_of old.kept) s))
+      (sym map_is)
       ∙ hello_tied hash_of (hash_in old) old.kept s k (meaning old) is.kept hashed refl (λ i. has (sym context_is i))
       ∙ (λ i. turn (sym means i) Sent (mail_of (sym told i) ∷ []))
       ) hash
@@ -74,7 +93,8 @@ module _ {Hash : Type 0} (hash_of : Hash → List ℕ → ℕ) (old : ReplicaVal
       taken_came old (Ask s prefix) Sent (mail_of answer ∷ []) here
       (ask_tied hash_of (hash_in old) old.kept s prefix (meaning old) is.kept refl ∙ ap (asked_turn (meaning old)) (sym told)) refl
 
-  pub ask_ignored : IsReplica hash_of old → (s : SessionValue) (prefix : List ℕ) → None ≡ answer_of hash_of old.kept s prefix → Steps hash_of old old (Take (Ask s prefix)) (Came Ignored) []
+  pub ask_ignored : IsReplica hash_of old → (s : SessionValue) (prefix : List ℕ) → None ≡ answer_of hash_of old.kept s prefix
+      → Steps hash_of old old (Take (Ask s prefix)) (Came Ignored) []
   ask_ignored is s prefix told =
       nothing_came (Ask s prefix) (ask_tied hash_of (hash_in old) old.kept s prefix (meaning old) is.kept refl ∙ ap (asked_turn (meaning old)) (sym told))
 
@@ -83,9 +103,12 @@ module _ {Hash : Type 0} (hash_of : Hash → List ℕ → ℕ) (old : ReplicaVal
   for_asker : (s : SessionValue) (a : AskerValue Hash) → a.session.asker ≡ old.name → same_session a.session s ≡ true → (s.asker == old.name) ≡ true
   for_asker s a named same = eq-eqb s.asker old.name (ap (λ (x : SessionValue). x.asker) (sym (same_is_one a.session s same)) ∙ named)
 
-  module _ (new : ReplicaValue Hash) (s : SessionValue) (place : ℕ) (a : AskerValue Hash) (first : IsFirstAt (λ b. same_session b.session s) old.sessions place a) (named : a.session.asker ≡ old.name)
-      (unended : is_over a.stage ≡ false) (t : StateAndStep) (outcome : model.Outcome) (out : List Mail) (came : turned (meaning old) t.0 t.1 ≡ turn (meaning new) outcome out) (hash : hash_in new ≡ hash_in old) where
-    pub opening_came : (context : ContextValue) (root : Option (List ℕ)) → t ≡ turning.opening_at (hash_of (hash_in old)) a.session (stage_with a.own a.seen a.stage) context root
+  module _ (new : ReplicaValue Hash) (s : SessionValue) (place : ℕ) (a : AskerValue Hash)
+      (first : IsFirstAt (λ b. same_session b.session s) old.sessions place a) (named : a.session.asker ≡ old.name)
+      (unended : is_over a.stage ≡ false) (t : StateAndStep) (outcome : model.Outcome) (out : List Mail)
+      (came : turned (meaning old) t.0 t.1 ≡ turn (meaning new) outcome out) (hash : hash_in new ≡ hash_in old) where
+    pub opening_came : (context : ContextValue) (root : Option (List ℕ))
+        → t ≡ turning.opening_at (hash_of (hash_in old)) a.session (stage_with a.own a.seen a.stage) context root
         → Steps hash_of old new (Take (Opening s (has context) root)) (Came outcome) out
     opening_came context root is =
         taken_came new (Opening s (has context) root) outcome out (for_asker s a named first.1)
@@ -106,7 +129,8 @@ module _ {Hash : Type 0} (hash_of : Hash → List ℕ → ℕ) (old : ReplicaVal
 
   module _ (s : SessionValue) (missing : NoneIs (λ b. same_session b.session s) old.sessions) where
     pub opening_missed : (context : ContextValue) (root : Option (List ℕ)) → Steps hash_of old old (Take (Opening s (has context) root)) (Came Ignored) []
-    opening_missed context root = nothing_came (Opening s (has context) root) (ap (took_opening (hash_of (hash_in old)) (meaning old) (has context) root) (none_tied old.sessions s missing))
+    opening_missed context root = nothing_came (Opening s (has context) root)
+        (ap (took_opening (hash_of (hash_in old)) (meaning old) (has context) root) (none_tied old.sessions s missing))
 
     pub page_missed : (sent : SentValue) → Steps hash_of old old (Take (Page s sent)) (Came Ignored) []
     page_missed sent = nothing_came (Page s sent) (ap (took_page (hash_of (hash_in old)) (meaning old) sent) (none_tied old.sessions s missing))

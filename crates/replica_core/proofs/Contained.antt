@@ -28,8 +28,12 @@ field_there : (fs : FieldsValue) → IsInOrder fs → ¬ HasNothing (fields_at f
 unfolding at_stores
 field_there [] ordered filled = absurd (filled (λ place dot. refl))
 field_there (f ∷ fs) ordered filled =
-    let there = value_there f.1 (All-head (λ store. ¬ HasNothing (at_values store)) f.1 (values_of fs) ordered.filled) in
-    (f.0, there.0, subst (λ b. IsSome (held_by at_values (cond b (Some f.1) (lookup (is_at (bytes_cmp f.0)) fs)) tt there.0)) (sym (same_tied f.0 f.0 refl)) there.1)
+    let there = value_there f.1 (All-head (λ store. ¬ HasNothing (at_values store)) f.1 (values_of fs) ordered.filled) in (
+      f.0,
+      there.0,
+      subst (λ b. IsSome (held_by at_values (cond b (Some f.1) (lookup (is_at (bytes_cmp f.0)) fs)) tt there.0))
+          (sym (same_tied f.0 f.0 refl)) there.1,
+    )
 
 module _ (m : Held) (live : MapState) (mapped : IsMapOf m live) (key : List ℕ) where
   some_there : (o : Option FieldsValue) → finite.get m key ≡ o → IsSome o → HoldsKey live key

@@ -47,8 +47,8 @@ use Rattle.wire_form.proofs.session.Session.TheSendSync as Session
 use Rattle.prefix_digest.proofs.sha_summary.ShaSummary.TheSendSync as Digests
 use Rattle.prefix_digest.specs.contracts.sha_summary.ShaSummary as ShaSummary
 use Rattle.prefix_digest.specs.contracts.sha_summary.ShaSummarySummaryFields.TheImpl as FieldSummary
-use Rattle.page_taking.specs.contracts.built.Built as Built
-use Rattle.page_taking.specs.contracts.fetching.Fetching as Fetching
+use Rattle.page_fetching.specs.contracts.built.Built as Built
+use Rattle.page_fetching.specs.contracts.fetching.Fetching as Fetching
 use Rattle.sync_protocol.specs.contracts.answerer.Answerer as Answerer
 use Rattle.sync_protocol.specs.contracts.asker.Asker as Asker
 use Rattle.sync_protocol.specs.contracts.snapshot.Snapshot as Snapshot
@@ -101,7 +101,19 @@ module _ (H : RattleType) (p : hashing.Ghosts H.Denot) (d : standard.Ghosts H.De
     fetching_send h = search (built_send, frozen_send, NoSummary.the_send, NoSummary.the_sync, sendable) depth 20
 
     asker_send : IsSend H → IsSend (Asker.the_row H Heap.the_row p d ghosts c)
-    asker_send h = search (fetching_send, built_send, frozen_send, fields_send, fields_sync, Digests.the_send, Digests.the_sync, Session.the_send, Context.the_send, crosses, sendable) depth 20
+    asker_send h = search (
+      fetching_send,
+      built_send,
+      frozen_send,
+      fields_send,
+      fields_sync,
+      Digests.the_send,
+      Digests.the_sync,
+      Session.the_send,
+      Context.the_send,
+      crosses,
+      sendable,
+    ) depth 20
 
     snapshot_send : IsSend H → IsSend (Snapshot.the_row H Heap.the_row p d ghosts c)
     snapshot_send h = search (map_send, fields_send, fields_sync, Digests.the_send, Digests.the_sync, Context.the_send, crosses, sendable) depth 20
@@ -110,7 +122,18 @@ module _ (H : RattleType) (p : hashing.Ghosts H.Denot) (d : standard.Ghosts H.De
     answerer_send h = search (snapshot_send, IndexMap.the_send, Session.the_send, Hasher.the_send, crosses, sendable) depth 20
 
     pub checkpoint_send : IsSend H → IsSend (Checkpoint.the_row H Heap.the_row p d ghosts c)
-    checkpoint_send h = search (map_send, fields_send, fields_sync, Digests.the_send, Digests.the_sync, Context.the_send, Outgoing.the_send, Name.the_send, crosses, sendable) depth 20
+    checkpoint_send h = search (
+      map_send,
+      fields_send,
+      fields_sync,
+      Digests.the_send,
+      Digests.the_sync,
+      Context.the_send,
+      Outgoing.the_send,
+      Name.the_send,
+      crosses,
+      sendable,
+    ) depth 20
 
     pub replica_send : IsSend H → IsSend (Replica.the_row H Heap.the_row p d ghosts c)
     replica_send h = search (

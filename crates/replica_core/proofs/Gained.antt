@@ -8,10 +8,12 @@ use Rattle.wire_form.specs.Sent.{SentValue}
 use Rattle.sync_model.specs.Differ.{Held}
 use Rattle.sync_model.specs.Fetch.{Fetch, take_opening, take_page}
 use Rattle.sync_model.specs.Fetch as model
-use Rattle.page_taking.specs.Building.{BuiltValue}
-use Rattle.page_taking.specs.Taking.{FetchingValue, fetch_of}
-use Rattle.sync_protocol.specs.Asking.{AskerValue, StageValue, Asked, Fetching, Complete, Over, Stage, Waits, Fetches, Has, Ended, AskerState, IsFrom, is_over, stage_with, asker_state}
-use Rattle.sync_protocol.specs.Turning.{StepValue, Sent, Done, Ignored, Mismatch, IsGone, StateAndStep, at_stage, goes_on, comes_to, opening_at, page_at_stage, asks_for, gone_at}
+use Rattle.page_fetching.specs.Building.{BuiltValue}
+use Rattle.page_fetching.specs.Taking.{FetchingValue, fetch_of}
+use Rattle.sync_protocol.specs.Asking.{AskerValue, StageValue, Asked, Fetching, Complete, Over, Stage, Waits, Fetches, Has, Ended, AskerState, IsFrom, is_over}
+use Rattle.sync_protocol.specs.Asking.{stage_with, asker_state}
+use Rattle.sync_protocol.specs.Turning.{StepValue, Sent, Done, Ignored, Mismatch, IsGone, StateAndStep, at_stage, goes_on, comes_to, opening_at, page_at_stage}
+use Rattle.sync_protocol.specs.Turning.{asks_for, gone_at}
 use Rattle.replica_core.specs.Known.{IsKnown}
 use Rattle.replica_core.specs.Own.{KnowsBuilt}
 use Rattle.replica_core.specs.Turning.{IsGoingOn, IsWhole, Gives, CanTake}
@@ -45,18 +47,21 @@ module _ {Hash : Type 0} (hash_of : Hash → List ℕ → ℕ) (a next : AskerVa
   step_is : (step is : StepValue) (stage : Stage) → outcome (asker_state next) step ≡ outcome (at_stage a.session stage) is → is ≡ step
   step_is step is stage e = sym (ap (λ (t : StateAndStep). t.1) e)
 
-  stage_is : (step is : StepValue) (stage : Stage) → outcome (asker_state next) step ≡ outcome (at_stage a.session stage) is → stage_with next.own next.seen next.stage ≡ stage
+  stage_is : (step is : StepValue) (stage : Stage) → outcome (asker_state next) step ≡ outcome (at_stage a.session stage) is
+      → stage_with next.own next.seen next.stage ≡ stage
   stage_is step is stage e = ap (λ (t : StateAndStep). t.0.stage) e
 
   -- it gives nothing
-  nothing_given : (step is : StepValue) (stage : Stage) → Gives hash_of a next is → outcome (asker_state next) step ≡ outcome (at_stage a.session stage) is → CanTake hash_of a next step
+  nothing_given : (step is : StepValue) (stage : Stage) → Gives hash_of a next is → outcome (asker_state next) step ≡ outcome (at_stage a.session stage) is
+      → CanTake hash_of a next step
   nothing_given step is stage gives e = record {
     session = session_is step is stage e;
     goes_from = goes_from;
     gives = subst (Gives hash_of a next) (step_is step is stage e) gives;
   }
 
-  sent_gives : (c : ContextValue) (f : Fetch) → IsKnown (hash_of a.hash) a.own (has c) f → stage_with next.own next.seen next.stage ≡ Fetches a.own a.seen c f → IsGoingOn hash_of a next
+  sent_gives : (c : ContextValue) (f : Fetch) → IsKnown (hash_of a.hash) a.own (has c) f → stage_with next.own next.seen next.stage ≡ Fetches a.own a.seen c f
+      → IsGoingOn hash_of a next
   sent_gives c f known e =
       let back = fetches_back next.stage next.own a.own next.seen a.seen c f e in
       record {
@@ -66,7 +71,8 @@ module _ {Hash : Type 0} (hash_of : Hash → List ℕ → ℕ) (a next : AskerVa
         built = subst (KnowsBuilt hash_of a.hash a.own) (sym back.1) (subst (IsKnown (hash_of a.hash) a.own (has c)) (sym back.4) known);
       }
 
-  done_gives : (c : ContextValue) (f : Fetch) → IsKnown (hash_of a.hash) a.own (has c) f → (finite.len f.waiting == 0) ≡ true → stage_with next.own next.seen next.stage ≡ Has c f.built → IsWhole hash_of next
+  done_gives : (c : ContextValue) (f : Fetch) → IsKnown (hash_of a.hash) a.own (has c) f → (finite.len f.waiting == 0) ≡ true
+      → stage_with next.own next.seen next.stage ≡ Has c f.built → IsWhole hash_of next
   done_gives c f known complete e =
       let back = has_back next.stage next.own next.seen c f.built e in
       record {
@@ -82,7 +88,8 @@ module _ {Hash : Type 0} (hash_of : Hash → List ℕ → ℕ) (a next : AskerVa
   goes_take step c asks f known e = split (finite.len f.waiting == 0) refl e
     where
       split : (b : Bool) → (finite.len f.waiting == 0) ≡ b
-          → outcome (asker_state next) step ≡ cond b (outcome (at_stage a.session (Has c f.built)) Done) (outcome (at_stage a.session (Fetches a.own a.seen c f)) (Sent asks)) → CanTake hash_of a next step
+          → outcome (asker_state next) step ≡ cond b (outcome (at_stage a.session (Has c f.built)) Done)
+          (outcome (at_stage a.session (Fetches a.own a.seen c f)) (Sent asks)) → CanTake hash_of a next step
       split true complete is = record {
         session = session_is step Done (Has c f.built) is;
         goes_from = goes_from;
@@ -91,10 +98,12 @@ module _ {Hash : Type 0} (hash_of : Hash → List ℕ → ℕ) (a next : AskerVa
       split false more is = record {
         session = session_is step (Sent asks) (Fetches a.own a.seen c f) is;
         goes_from = goes_from;
-        gives = subst (Gives hash_of a next) (step_is step (Sent asks) (Fetches a.own a.seen c f) is) (sent_gives c f known (stage_is step (Sent asks) (Fetches a.own a.seen c f) is));
+        gives = subst (Gives hash_of a next) (step_is step (Sent asks) (Fetches a.own a.seen c f) is)
+            (sent_gives c f known (stage_is step (Sent asks) (Fetches a.own a.seen c f) is));
       }
 
-  comes_take : (step : StepValue) (c : ContextValue) (stage : Stage) (asks : List MessageValue) (t : model.Taken) → ((f : Fetch) → t ≡ model.Took f → IsKnown (hash_of a.hash) a.own (has c) f)
+  comes_take : (step : StepValue) (c : ContextValue) (stage : Stage) (asks : List MessageValue) (t : model.Taken)
+      → ((f : Fetch) → t ≡ model.Took f → IsKnown (hash_of a.hash) a.own (has c) f)
       → outcome (asker_state next) step ≡ comes_to a.session a.own a.seen c stage asks t → CanTake hash_of a next step
   comes_take step c stage asks model.Ignored known e = nothing_given step Ignored stage tt e
   comes_take step c stage asks model.Mismatch known e = nothing_given step Mismatch stage tt e
@@ -103,7 +112,8 @@ module _ {Hash : Type 0} (hash_of : Hash → List ℕ → ℕ) (a next : AskerVa
   opening_step : (step : StepValue) (context : ContextValue) (root : Option (List ℕ)) (s : StageValue Hash) → is_over s ≡ false
       → outcome (asker_state next) step ≡ opening_at (hash_of a.hash) a.session (stage_with a.own a.seen s) context root → CanTake hash_of a next step
   opening_step step context root Asked unended e =
-      comes_take step context (Waits a.own a.seen) (Rattle.wire_form.specs.Message.Ask a.session [] ∷ []) (take_opening (hash_of a.hash) a.own (has a.seen) (has context) root)
+      comes_take step context (Waits a.own a.seen) (Rattle.wire_form.specs.Message.Ask a.session [] ∷ [])
+      (take_opening (hash_of a.hash) a.own (has a.seen) (has context) root)
       (λ f is. known_opening (hash_of a.hash) a.own (has a.seen) (has context) root f is) e
   opening_step step context root (Fetching c f) unended e = nothing_given step Ignored (Fetches a.own a.seen c (fetch_of f)) tt e
   opening_step step context root (Complete c b) unended e = nothing_given step Ignored (Has c b.entries) tt e
@@ -129,7 +139,8 @@ module _ {Hash : Type 0} (hash_of : Hash → List ℕ → ℕ) (a next : AskerVa
       → outcome (asker_state next) step ≡ page_at_stage (hash_of a.hash) a.session (stage_with a.own a.seen a.stage) sent → CanTake hash_of a next step
   page_gives step sent = page_step step sent a.stage
 
-  gone_step : (step : StepValue) (s : StageValue Hash) → outcome (asker_state next) step ≡ gone_at a.session (stage_with a.own a.seen s) → CanTake hash_of a next step
+  gone_step : (step : StepValue) (s : StageValue Hash) → outcome (asker_state next) step ≡ gone_at a.session (stage_with a.own a.seen s)
+      → CanTake hash_of a next step
   gone_step step Asked e = nothing_given step IsGone Ended tt e
   gone_step step (Fetching c f) e = nothing_given step IsGone Ended tt e
   gone_step step (Complete c b) e = nothing_given step Ignored (Has c b.entries) tt e

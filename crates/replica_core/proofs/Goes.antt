@@ -5,7 +5,7 @@ use Rattle.std.specs.List.{slice_get, remove}
 use Rattle.causal_context.specs.Context.{ContextValue, has}
 use Rattle.delta_ops.specs.LiveMap.{live_state}
 use Rattle.op_model.specs.Meaning.{MapState}
-use Rattle.page_taking.specs.Building.{BuiltValue}
+use Rattle.page_fetching.specs.Building.{BuiltValue}
 use Rattle.sync_model.specs.Closing as closing
 use Rattle.sync_model.specs.Closing.{IsBelow}
 use Rattle.sync_model.specs.Differ.{Held}
@@ -29,13 +29,15 @@ use Rattle.replica_core.proofs.Changing.{StaysBut, at_place, advanced_is, advanc
 use Rattle.replica_core.proofs.Turns.{base_below, closed_by, own_next, sent_turned}
 
 -- what a complete stage says
-whole_back : {Hash : Type 0} (stage : StageValue Hash) (c d : ContextValue) (b e : BuiltValue Hash) → stage ≡ Complete c b → stage ≡ Complete d e → (c ≡ d) × (b ≡ e)
+whole_back : {Hash : Type 0} (stage : StageValue Hash) (c d : ContextValue) (b e : BuiltValue Hash) → stage ≡ Complete c b → stage ≡ Complete d e
+    → (c ≡ d) × (b ≡ e)
 whole_back stage c d b e first second = both (sym first ∙ second)
   where
     both : Complete c b ≡ Complete d e → (c ≡ d) × (b ≡ e)
     both is = (cc, cc)
 
-module _ {Hash : Type 0} (hash_of : Hash → List ℕ → ℕ) (old new : ReplicaValue Hash) (is : IsReplica hash_of old) (rest : StaysBut old new) (place : ℕ) (a : AskerValue Hash) (there : slice_get old.sessions place ≡ Some a)
+module _ {Hash : Type 0} (hash_of : Hash → List ℕ → ℕ) (old new : ReplicaValue Hash) (is : IsReplica hash_of old) (rest : StaysBut old new) (place : ℕ)
+    (a : AskerValue Hash) (there : slice_get old.sessions place ≡ Some a)
     (next : AskerValue Hash) (live : new.live.0 ≡ old.live.0) where
   own_at : IsOwn hash_of old.name (hash_in old) (live_state old.live.0) a
   own_at = at_place (IsOwn hash_of old.name (hash_in old) (live_state old.live.0)) old.sessions place a there is.own
@@ -43,18 +45,22 @@ module _ {Hash : Type 0} (hash_of : Hash → List ℕ → ℕ) (old new : Replic
   -- it goes on
   module _ (messages : List MessageValue) (can : CanTake hash_of a next (turning.Sent messages)) (sessions : new.sessions ≡ set old.sessions place next) where
     pub sent_is : IsReplica hash_of new
-    sent_is = advanced_is hash_of old new is rest place a there next can.session sessions live (own_next hash_of old.name (hash_in old) (live_state old.live.0) a next own_at can.session can.goes_from can.gives)
+    sent_is = advanced_is hash_of old new is rest place a there next can.session sessions live
+        (own_next hash_of old.name (hash_in old) (live_state old.live.0) a next own_at can.session can.goes_from can.gives)
 
-    pub sent_taken : (out : List Mail) → out ≡ map mail_of messages → turned (meaning old) (asker_state next) (turning.Sent messages) ≡ turn (meaning new) Sent out
+    pub sent_taken : (out : List Mail) → out ≡ map mail_of messages → turned (meaning old) (asker_state next) (turning.Sent messages)
+        ≡ turn (meaning new) Sent out
     sent_taken out said =
-        sent_turned (meaning old) (meaning new) next messages (advanced_meaning hash_of old new is rest place a there next can.session sessions live) can.gives.is_open
+        sent_turned (meaning old) (meaning new) next messages (advanced_meaning hash_of old new is rest place a there next can.session sessions live)
+        can.gives.is_open
         ∙ ap (turn (meaning new) Sent) (sym said)
 
   -- it is taken out
   module _ (sessions : new.sessions ≡ remove old.sessions place) where
     pub out_is : remove old.sessions place ≡ take place old.sessions ++ drop (place + 1) old.sessions → IsReplica hash_of new
     out_is parts =
-        closed_is hash_of old new is rest place a there sessions parts (subst (λ p. IsBelow (live_state old.live.0) (live_state p)) (sym live) (below_itself (live_state old.live.0)))
+        closed_is hash_of old new is rest place a there sessions parts
+        (subst (λ p. IsBelow (live_state old.live.0) (live_state p)) (sym live) (below_itself (live_state old.live.0)))
 
     pub out_meaning : meaning new ≡ closes (meaning old) a.session
     out_meaning = closed_meaning hash_of old new is rest place a there sessions (live_state old.live.0) (ap live_state live)
@@ -64,7 +70,8 @@ module _ {Hash : Type 0} (hash_of : Hash → List ℕ → ℕ) (old new : Replic
 
 -- ---- what a session built is joined in, and it is taken out
 
-module _ {Hash : Type 0} (hash_of : Hash → List ℕ → ℕ) (name : ℕ) (hash : Hash) (live : MapState) (a : AskerValue Hash) (own : IsOwn hash_of name hash live a) (next : AskerValue Hash) (can : CanTake hash_of a next turning.Done) where
+module _ {Hash : Type 0} (hash_of : Hash → List ℕ → ℕ) (name : ℕ) (hash : Hash) (live : MapState) (a : AskerValue Hash) (own : IsOwn hash_of name hash live a)
+    (next : AskerValue Hash) (can : CanTake hash_of a next turning.Done) where
   -- its base is below what the replica holds
   pub base_is_below : (base : Held) (seen : ContextValue) → base ≡ next.own → seen ≡ next.seen → IsBelow (closing.held_state base (has seen)) live
   base_is_below base seen same known =
@@ -87,15 +94,18 @@ module _ {Hash : Type 0} (hash_of : Hash → List ℕ → ℕ) (name : ℕ) (has
   joined_as r m d e first is c b second =
       let same = whole_back next.stage d c e b first second in is ∙ (λ i. joins r (closing.held_state (same.1 i).entries (has (same.0 i))))
 
-  pub done_taken : (r mid new : Replica) → ((c : ContextValue) (b : BuiltValue Hash) → next.stage ≡ Complete c b → mid ≡ joins r (closing.held_state b.entries (has c))) → new ≡ closes mid a.session
+  pub done_taken : (r mid new : Replica) → ((c : ContextValue) (b : BuiltValue Hash) → next.stage ≡ Complete c b
+      → mid ≡ joins r (closing.held_state b.entries (has c))) → new ≡ closes mid a.session
       → turned r (asker_state next) turning.Done ≡ turn new Done []
   done_taken r mid new joined closed =
       let whole : IsWhole hash_of next = can.gives in
       let c = whole.context in
       let b = whole.built in
       ap (λ x. turn x Done [])
-      (closed_by r next c b whole.complete ∙ ap (closes (joins r (closing.held_state b.entries (has c)))) can.session ∙ ap (λ x. closes x a.session) (sym (joined c b whole.complete)) ∙ sym closed)
+      (closed_by r next c b whole.complete ∙ ap (closes (joins r (closing.held_state b.entries (has c)))) can.session
+      ∙ ap (λ x. closes x a.session) (sym (joined c b whole.complete)) ∙ sym closed)
 
 -- what was told without a reply
-pub silent_turn : {A : Type 0} (r : Replica) (outcome kind : Outcome) (replies : List (Message A)) → outcome ≡ kind → replies ≡ [] → turn r (outcome_of kind) [] ≡ turn r (outcome_of outcome) (mails_of replies)
+pub silent_turn : {A : Type 0} (r : Replica) (outcome kind : Outcome) (replies : List (Message A)) → outcome ≡ kind → replies ≡ []
+    → turn r (outcome_of kind) [] ≡ turn r (outcome_of outcome) (mails_of replies)
 silent_turn r outcome kind replies is none = λ i. turn r (outcome_of (sym is i)) (mails_of (sym none i))

@@ -12,7 +12,8 @@ use Rattle.replica_core.specs.Own.{IsReplica}
 use Rattle.replica_core.proofs.Growth.{same_grown}
 use Rattle.replica_core.proofs.Meant.{meaning_by}
 
-module _ {Hash : Type 0} (hash_of : Hash → List ℕ → ℕ) (old new : ReplicaValue Hash) (name : new.name ≡ old.name) (live : new.live.0 ≡ old.live.0) (opened : new.opened ≡ old.opened) (sessions : new.sessions ≡ old.sessions)
+module _ {Hash : Type 0} (hash_of : Hash → List ℕ → ℕ) (old new : ReplicaValue Hash) (name : new.name ≡ old.name) (live : new.live.0 ≡ old.live.0)
+    (opened : new.opened ≡ old.opened) (sessions : new.sessions ≡ old.sessions)
     (s : SessionValue) (k : SnapshotValue Hash) (kept : new.kept ≡ kept_after old.kept s k) where
   pub kept_is : IsReplica hash_of old → k.hash ≡ hash_in old → IsReplica hash_of new
   kept_is is hashed =
@@ -28,4 +29,5 @@ module _ {Hash : Type 0} (hash_of : Hash → List ℕ → ℕ) (old new : Replic
 
   pub kept_meaning : new.group ≡ old.group → meaning new ≡ record (meaning old) { kept = map kept_of (kept_after old.kept s k) }
   kept_meaning group =
-      meaning_by new (record (meaning old) { kept = map kept_of (kept_after old.kept s k) }) name (ap live_state live) (ap group_state group) opened (ap (map open_of) sessions) (ap (map kept_of) kept)
+      meaning_by new (record (meaning old) { kept = map kept_of (kept_after old.kept s k) }) name (ap live_state live) (ap group_state group) opened
+      (ap (map open_of) sessions) (ap (map kept_of) kept)

@@ -15,11 +15,16 @@ module _ (own other : ContextValue) (name : ℕ) where
   unfolding has
   lacks_next canonical less =
       let entry = known_up_to own.vector in
-      let new = next_is_new entry (in_cloud own.cloud) name (entry name + 1) canonical.apart (omega arith) in
-      (entry name + 1, known_below (known_up_to other.vector) (in_cloud other.cloud) (record { name = name; number = entry name + 1 }) (omega arith) (omega arith), new.unknown)
+      let new = next_is_new entry (in_cloud own.cloud) name (entry name + 1) canonical.apart (omega arith) in (
+        entry name + 1,
+        known_below (known_up_to other.vector) (in_cloud other.cloud) (record { name = name; number = entry name + 1 }) (omega arith)
+            (omega arith),
+        new.unknown,
+      )
 
   -- a dot that stands apart in the other
-  pub lacks_apart : IsCanonical other → (dot : DotValue) → IsTrue (in_cloud other.cloud dot) → (dot.name ≡ name) × (has own dot ≡ false) → LacksOf (has own) (has other) name
+  pub lacks_apart : IsCanonical other → (dot : DotValue) → IsTrue (in_cloud other.cloud dot) → (dot.name ≡ name) × (has own dot ≡ false)
+      → LacksOf (has own) (has other) name
   unfolding has
   lacks_apart canonical dot there lacking =
       let above = canonical.apart dot there in
@@ -30,7 +35,8 @@ module _ (own other : ContextValue) (name : ℕ) where
       )
 
   -- and no other one
-  pub lacks_none : known_up_to other.vector name ≤ known_up_to own.vector name → ((d : DotValue) → IsTrue (in_cloud other.cloud d) → d.name ≡ name → IsTrue (has own d)) → ¬ LacksOf (has own) (has other) name
+  pub lacks_none : known_up_to other.vector name ≤ known_up_to own.vector name
+      → ((d : DotValue) → IsTrue (in_cloud other.cloud d) → d.name ≡ name → IsTrue (has own d)) → ¬ LacksOf (has own) (has other) name
   unfolding has
   lacks_none up apart (number, there, lacking) =
       let d : DotValue = record { name = name; number = number } in
@@ -38,7 +44,8 @@ module _ (own other : ContextValue) (name : ℕ) where
       (λ one below. known_below (known_up_to own.vector) (in_cloud own.cloud) d one (omega arith)) (λ one in_it. apart d in_it refl))
 
 -- where it is not lacking, it is there
-pub is_there_unless : (own : ContextValue) (dot : DotValue) (name : ℕ) (b : Bool) → b ≡ false → ((dot.name ≡ name) × (has own dot ≡ false) → IsTrue b) → dot.name ≡ name → IsTrue (has own dot)
+pub is_there_unless : (own : ContextValue) (dot : DotValue) (name : ℕ) (b : Bool) → b ≡ false → ((dot.name ≡ name) × (has own dot ≡ false) → IsTrue b)
+    → dot.name ≡ name → IsTrue (has own dot)
 is_there_unless own dot name b is lacking named = by (has own dot) refl
   where
     by : (x : Bool) → has own dot ≡ x → IsTrue x

@@ -1,5 +1,6 @@
 -- No message of a world tells of a lost memory: what messages know is part of all that was made, and of that each replica knows its own writes.
-use Rattle.std.proofs.Common.{◌≡◌, ◌⊎◌, inl, inr, ℕ, zero, suc, ◌==◌, List, [], ◌∷◌, ◌++◌, map, Bool, true, false, Option, Some, None, cond, refl, sym, ap, ◌∙◌, subst}
+use Rattle.std.proofs.Common.{◌≡◌, ◌⊎◌, inl, inr, ℕ, zero, suc, ◌==◌, List, [], ◌∷◌, ◌++◌, map, Bool, true, false, Option, Some, None, cond, refl, sym, ap, ◌∙◌}
+use Rattle.std.proofs.Common.{subst}
 use Rattle.std.specs.Prelude.{Contains}
 use Rattle.std.specs.FinMap as finite
 use Rattle.std.proofs.lemmas.Bool.{false≢true}
@@ -27,10 +28,13 @@ use Rattle.sync_model.specs.Fetch.{Fetch, take_opening, take_page}
 use Rattle.sync_model.specs.Fetch as fetch
 use Rattle.replica_model.specs.Mail.{Mail, Delta, Hello, Opening, Ask, Page, Gone, is_for}
 use Rattle.replica_model.specs.Replica.{Replica, Open, Accepted, Kept, open_at, kept_at, open_numbered, next_session, joins, advances, closes}
-use Rattle.replica_model.specs.Delivery.{Outcome, Turn, turn, ignored, Sent, Done, is_complete, asks_for, asks_of, fetching, went_on, took_gone, took_hello, answered, took_ask, opening_taken, took_first, took_opening, child_prefixes, page_taken, took_further, took_page, taken, delivered}
+use Rattle.replica_model.specs.Delivery.{Outcome, Turn, turn, ignored, Sent, Done, is_complete, asks_for, asks_of, fetching, went_on, took_gone, took_hello}
+use Rattle.replica_model.specs.Delivery.{answered, took_ask, opening_taken, took_first, took_opening, child_prefixes, page_taken, took_further, took_page}
+use Rattle.replica_model.specs.Delivery.{taken, delivered}
 use Rattle.replica_model.specs.Step.{Call, Put, Remove, RemoveField, Clear, Flush, Retry, Abandon, Restart, Answer, IsCall, again, retried}
 use Rattle.replica_model.specs.Step as call
-use Rattle.replica_model.specs.World.{World, Event, Node, At, Deliver, Message, Snapshot, message_at, nothing, calls, takes, goes, sent_as, Happens, Runs, Unclashed}
+use Rattle.replica_model.specs.World.{World, Event, Node, At, Deliver, Message, Snapshot, message_at, nothing, calls, takes, goes, sent_as, Happens, Runs}
+use Rattle.replica_model.specs.World.{Unclashed}
 use Rattle.replica_model.proofs.Carried.{at_either, same_messages, left_as_is}
 use Rattle.replica_model.proofs.Fronts.{by_events, none_at, delivery}
 use Rattle.replica_model.proofs.Meant.{SnapOf, AskedOf, SendsOf, Meant, meant_all, closed_by_call, closed_grows}
@@ -47,7 +51,8 @@ OverWrites S = (o : Operation) → Contains S o → (dot : DotValue) → has (ov
 abbrev ObserveIn : List Operation → List Operation → Type 0
 ObserveIn S more = (o : Operation) → Contains more o → (dot : DotValue) → has (over_of o) dot ≡ true → (v : Write) × Contains (writes S) v × (v.id ≡ dot)
 
-shown_written : (S : List Operation) (test : Write → Bool) (dot : DotValue) → has (ids (shown_where S test)) dot ≡ true → (v : Write) × Contains (writes S) v × (v.id ≡ dot)
+shown_written : (S : List Operation) (test : Write → Bool) (dot : DotValue) → has (ids (shown_where S test)) dot ≡ true → (v : Write) × Contains (writes S) v
+    × (v.id ≡ dot)
 shown_written S test dot h =
     let found = from_map (λ (w : Write). w.id) (shown_where S test) dot (from_has (ids (shown_where S test)) dot h) in
     (found.0, (from_shown S test found.0 found.1).0, found.2)
@@ -75,9 +80,11 @@ more_over seen made more part before observe o h dot e = elim (Contains-append_c
 ]
 
 call_over : (w : World) (name : ℕ) (c : Call) → IsPartOf (w.seen name) w.made → OverWrites w.made → OverWrites (calls name c w).made
-call_over w name (Put place value) part f = more_over (w.seen name) w.made (put_at (w.seen name) name place value) part f (put_observes (w.seen name) name place value)
+call_over w name (Put place value) part f = more_over (w.seen name) w.made (put_at (w.seen name) name place value) part f
+    (put_observes (w.seen name) name place value)
 call_over w name (Remove key) part f = more_over (w.seen name) w.made (remove_at (w.seen name) key) part f (erasure_observes (w.seen name) (is_within key))
-call_over w name (RemoveField place) part f = more_over (w.seen name) w.made (remove_field_at (w.seen name) place) part f (erasure_observes (w.seen name) (is_on place))
+call_over w name (RemoveField place) part f = more_over (w.seen name) w.made (remove_field_at (w.seen name) place) part f
+    (erasure_observes (w.seen name) (is_on place))
 call_over w name Clear part f = more_over (w.seen name) w.made (clear_at (w.seen name)) part f (erasure_observes (w.seen name) is_anywhere)
 call_over w name Flush part f = f
 call_over w name (call.Ask peer) part f = f
@@ -128,7 +135,8 @@ module _ (hash_of : List ℕ → ℕ) (r : Replica) where
 
   went_on_none : (o : Open) (context : DotValue → Bool) (f : Fetch) (asks : List Mail) → NoHello asks → NoHello (went_on r o context f asks).replies
   went_on_none o context f asks none =
-      no_hello_if (is_complete f) (turn (closes (joins r (held_state f.built context)) o.session) Done []) (turn (advances r (fetching o context f)) Sent asks) tt none
+      no_hello_if (is_complete f) (turn (closes (joins r (held_state f.built context)) o.session) Done [])
+      (turn (advances r (fetching o context f)) Sent asks) tt none
 
   hello_none : (own : Held) (s : SessionValue) (seen : DotValue → Bool) (k : Option Kept) → NoHello (took_hello hash_of own r s seen k).replies
   hello_none own s seen None = (refl, tt)
@@ -162,7 +170,8 @@ module _ (hash_of : List ℕ → ℕ) (r : Replica) where
       taken_none : (a : Accepted) (t : fetch.Taken) → NoHello (page_taken hash_of r o a.context sent t).replies
       taken_none a fetch.Ignored = tt
       taken_none a fetch.Mismatch = tt
-      taken_none a (fetch.Took f) = went_on_none o a.context f (asks_for o.session (child_prefixes hash_of o sent)) (asks_are_none o.session (child_prefixes hash_of o sent))
+      taken_none a (fetch.Took f) = went_on_none o a.context f (asks_for o.session (child_prefixes hash_of o sent))
+          (asks_are_none o.session (child_prefixes hash_of o sent))
 
       further : (a : Option Accepted) → NoHello (took_further hash_of r o sent a).replies
       further None = tt
@@ -201,22 +210,25 @@ HellosOf made out = (s : SessionValue) (seen : DotValue → Bool) → Contains o
 no_hello_of : (made : List Operation) (out : List Mail) → NoHello out → HellosOf made out
 no_hello_of made out none s seen h = absurd (false≢true (sym (no_hello_in out (Hello s seen) none h)))
 
-hellos_after : (w : World) (name : ℕ) (new : Replica) (out : List Mail) (group : List Operation) (made : List Operation) → IsPartOf made w.made → HellosOf w.made out
+hellos_after : (w : World) (name : ℕ) (new : Replica) (out : List Mail) (group : List Operation) (made : List Operation) → IsPartOf made w.made
+    → HellosOf w.made out
     → ((number : ℕ) (m : Message) → message_at w.messages number ≡ Some m → (s : SessionValue) (seen : DotValue → Bool) → m.mail ≡ Hello s seen
     → (S : List Operation) × IsPartOf S made × (seen ≡ has (known S)))
     → HellosMade (goes name new out group w)
-hellos_after w name new out group made grew sent before number m at s seen is = elim (at_either w.messages (map (sent_as group w.kept new.kept) out) number m at) [
-  | inl old ↦ part_of_more made w.made seen grew (before number m old s seen is)
-  | inr more ↦
-      let from = from_map (sent_as group w.kept new.kept) out m more in
-      sent s seen (subst (Contains out) (ap (λ (x : Message). x.mail) from.2 ∙ is) from.1)
-]
+hellos_after w name new out group made grew sent before number m at s seen is =
+    elim (at_either w.messages (map (sent_as group w.kept new.kept) out) number m at) [
+      | inl old ↦ part_of_more made w.made seen grew (before number m old s seen is)
+      | inr more ↦
+          let from = from_map (sent_as group w.kept new.kept) out m more in
+          sent s seen (subst (Contains out) (ap (λ (x : Message). x.mail) from.2 ∙ is) from.1)
+    ]
 
 abbrev seen_of_hello : Mail → DotValue → Bool
 seen_of_hello (Hello s seen) = seen
 seen_of_hello other = λ dot. false
 
-one_hello : (s : SessionValue) (seen : DotValue → Bool) (t : SessionValue) (found : DotValue → Bool) → Contains (Hello s seen ∷ []) (Hello t found) → found ≡ seen
+one_hello : (s : SessionValue) (seen : DotValue → Bool) (t : SessionValue) (found : DotValue → Bool) → Contains (Hello s seen ∷ []) (Hello t found)
+    → found ≡ seen
 one_hello s seen t found h = elim (head_or_tail (Hello s seen) [] (Hello t found) h) [
   | inl is ↦ ap seen_of_hello (sym is)
   | inr none ↦ nothing_in (Hello t found) none
@@ -279,18 +291,22 @@ module _ (hash_of : List ℕ → ℕ) where
   nothing_tells : Told nothing
   nothing_tells = record { over = λ o h. nothing_in o h; hellos = λ number m at. absurd (none_at number m at) }
 
-  next_tells : (events : List Event) (w v : World) (e : Event) (answer : Answer) → Runs hash_of nothing events w → IfClean events w → Happens hash_of w e answer v → IfClean (events ++ e ∷ []) v
+  next_tells : (events : List Event) (w v : World) (e : Event) (answer : Answer) → Runs hash_of nothing events w → IfClean events w
+      → Happens hash_of w e answer v → IfClean (events ++ e ∷ []) v
   next_tells events w v (Node name) answer runs t (new, a, e) clean =
-      subst Told (sym e) (let before = t (λ x h. clean x (subst (λ (u : World). Contains u.closed x) (sym e) h)) in record { over = before.over; hellos = before.hellos })
+      subst Told (sym e) (let before = t (λ x h. clean x (subst (λ (u : World). Contains u.closed x) (sym e) h)) in
+      record { over = before.over; hellos = before.hellos })
   next_tells events w v (At name c) answer runs t (there, peer, (new, out, step, e)) clean =
-      let before : Unclashed hash_of w = λ x h. clean x (subst (λ (u : World). Contains u.closed x) (sym e) (subst (λ l. Contains l x) (sym (closed_by_call w name c)) h)) in
+      let before : Unclashed hash_of w =
+      λ x h. clean x (subst (λ (u : World). Contains u.closed x) (sym e) (subst (λ l. Contains l x) (sym (closed_by_call w name c)) h)) in
       let s = sound hash_of events w runs in
       let told = t before in
       let grew = made_stays w name c w.made (λ o h. h) in
       let sent = call_hellos hash_of w name (meant_all hash_of events w runs before) (s.sets.seen name) c new answer out step in
       subst Told (sym e) (record {
         over = call_over w name c (s.sets.seen name) told.over;
-        hellos = hellos_after (calls name c w) name new out (w.outgoing name) w.made grew (λ x seen h. part_of_more w.made (calls name c w).made seen grew (sent x seen h))
+        hellos = hellos_after (calls name c w) name new out (w.outgoing name) w.made grew
+            (λ x seen h. part_of_more w.made (calls name c w).made seen grew (sent x seen h))
             (subst (λ ms. (number : ℕ) (m : Message) → message_at ms number ≡ Some m → (x : SessionValue) (seen : DotValue → Bool) → m.mail ≡ Hello x seen
             → (S : List Operation) × IsPartOf S w.made × (seen ≡ has (known S))) (sym (messages_by_call w name c)) told.hellos);
       })
@@ -299,14 +315,16 @@ module _ (hash_of : List ℕ → ℕ) where
       let old = w.replica name in
       let after = takes name old d.message.mail d.message.of d.outcome w in
       let same = made_after w name old d.message.mail d.message.of d.outcome in
-      let before : Unclashed hash_of w = λ x h. clean x (subst (λ (u : World). Contains u.closed x) (sym d.after) (closed_grows w name old d.message.mail d.message.of d.outcome x h)) in
+      let before : Unclashed hash_of w =
+      λ x h. clean x (subst (λ (u : World). Contains u.closed x) (sym d.after) (closed_grows w name old d.message.mail d.message.of d.outcome x h)) in
       let told = t before in
       let none = subst (λ (y : Turn). NoHello y.replies) d.step (delivered_none hash_of old d.own d.message.mail) in
       subst Told (sym d.after) (record {
         over = subst OverWrites (sym same) told.over;
         hellos = hellos_after after name d.new d.out [] w.made (subst (IsPartOf w.made) (sym same) (λ o h. h)) (no_hello_of after.made d.out none)
             (subst (λ ms. (k : ℕ) (m : Message) → message_at ms k ≡ Some m → (x : SessionValue) (seen : DotValue → Bool) → m.mail ≡ Hello x seen
-            → (S : List Operation) × IsPartOf S w.made × (seen ≡ has (known S))) (sym (same_messages w name old d.message.mail d.message.of d.outcome)) told.hellos);
+            → (S : List Operation) × IsPartOf S w.made × (seen ≡ has (known S))) (sym (same_messages w name old d.message.mail d.message.of d.outcome))
+            told.hellos);
       })
 
   all_tell : (events : List Event) (w : World) → Runs hash_of nothing events w → Unclashed hash_of w → Told w
@@ -328,7 +346,8 @@ module _ (hash_of : List ℕ → ℕ) (events : List Event) (w : World) (runs : 
     where
       written : (v : Write) → Contains (writes w.made) v → v.id ≡ dot → has (known (w.seen dot.name)) dot ≡ true
       written v there is =
-          subst (λ (d : DotValue). has (known (w.seen d.name)) d ≡ true) is (written_known (w.seen v.id.name) v ((sound hash_of events w runs).sets.own v there))
+          subst (λ (d : DotValue). has (known (w.seen d.name)) d ≡ true) is
+          (written_known (w.seen v.id.name) v ((sound hash_of events w runs).sets.own v there))
 
       by : (o : Operation) × Contains S o × operation.Tells o dot → has (known (w.seen dot.name)) dot ≡ true
       by (Wrote v, there, inl is) = written v (in_writes w.made v (part (Wrote v) there)) is
@@ -336,15 +355,18 @@ module _ (hash_of : List ℕ → ℕ) (events : List Event) (w : World) (runs : 
       by (Erased ds, there, over) = let found = tells.over (Erased ds) (part (Erased ds) there) dot over in written found.0 found.1 found.2
 
   -- what a message knows is known of what was made
-  mail_known : (number : ℕ) (m : Message) → message_at w.messages number ≡ Some m → (dot : DotValue) → knows m.mail dot ≡ true → (w.replica dot.name).live.has dot ≡ true
+  mail_known : (number : ℕ) (m : Message) → message_at w.messages number ≡ Some m → (dot : DotValue) → knows m.mail dot ≡ true
+      → (w.replica dot.name).live.has dot ≡ true
   mail_known number m at dot h = by m.mail refl (meant.ties.messages number m at) h
     where
       part : IsPartOf m.of.seen w.made
       part = subst (λ S. IsPartOf S w.made) (carried w.messages number m at) ((sound hash_of events w runs).sets.messages number)
 
-      by : (mail : Mail) → m.mail ≡ mail → MailTie hash_of SnapOf (AskedOf w) SendsOf mail m.of → knows mail dot ≡ true → (w.replica dot.name).live.has dot ≡ true
+      by : (mail : Mail) → m.mail ≡ mail → MailTie hash_of SnapOf (AskedOf w) SendsOf mail m.of → knows mail dot ≡ true
+          → (w.replica dot.name).live.has dot ≡ true
       by (Delta d) is tie h = own_known m.of.seen part dot (ap (λ (p : MapState). p.has dot) (sym tie) ∙ h)
-      by (Hello s seen) is tie h = let known_of = tells.hellos number m at s seen is in own_known known_of.0 known_of.1 dot (ap (λ f. f dot) (sym known_of.2) ∙ h)
+      by (Hello s seen) is tie h = let known_of = tells.hellos number m at s seen is in
+          own_known known_of.0 known_of.1 dot (ap (λ f. f dot) (sym known_of.2) ∙ h)
       by (Opening s context root) is tie h = own_known m.of.seen part dot (ap (λ f. f dot) (sym tie.0.1) ∙ h)
       by (Ask s prefix) is tie h = absurd (false≢true h)
       by (Page s sent) is tie h = absurd (false≢true h)

@@ -35,14 +35,16 @@ module _ {Hash : Type 0} where
   }
 
   -- a replica to which nothing happened
-  pub fresh_meaning : (r : ReplicaValue Hash) → HasNothing (at_keys fields_at r.live.0.0) → HasNone r.live.0.1 → r.group ≡ [] → r.opened ≡ 0 → r.sessions ≡ [] → r.kept ≡ []
+  pub fresh_meaning : (r : ReplicaValue Hash) → HasNothing (at_keys fields_at r.live.0.0) → HasNone r.live.0.1 → r.group ≡ [] → r.opened ≡ 0 → r.sessions ≡ []
+      → r.kept ≡ []
       → meaning r ≡ fresh r.name
   fresh_meaning r nothing unknown group opened sessions kept =
       meaning_by r (fresh r.name) refl (bottom_live r.live.0 nothing unknown) (ap group_state group) opened (ap (map open_of) sessions) (ap (map kept_of) kept)
 
   pub fresh_is : (hash_of : Hash → List ℕ → ℕ) (r : ReplicaValue Hash) → r.sessions ≡ [] → r.kept ≡ [] → IsReplica hash_of r
   fresh_is hash_of r sessions kept = record {
-    own = subst (All (IsOwn hash_of r.name (hash_in r) (live_state r.live.0))) (sym sessions) (All-nil (IsOwn hash_of r.name (hash_in r) (live_state r.live.0)));
+    own = subst (All (IsOwn hash_of r.name (hash_in r) (live_state r.live.0))) (sym sessions)
+        (All-nil (IsOwn hash_of r.name (hash_in r) (live_state r.live.0)));
     ascend = subst (λ them. IsStrictlySortedBy nat_cmp (numbers them)) (sym sessions) sorted_nothing;
     numbered = subst (All (λ a. a.session.number ≤ r.opened)) (sym sessions) (All-nil (λ (a : AskerValue Hash). a.session.number ≤ r.opened));
     kept = subst (AreHashedBy Hash (hash_in r)) (sym kept) (All-nil (λ e. e.1.hash ≡ hash_in r));

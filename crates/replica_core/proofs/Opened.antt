@@ -41,7 +41,8 @@ module _ (known : DotValue → Bool) (dot : DotValue) where
   value_known [] all some = absurd (false≢true some)
   value_known (v ∷ vs) all some = step (same_dot dot v.0) refl some (value_known vs (and_right (known v.0) (within_values known vs) all))
     where
-      step : (b : Bool) → same_dot dot v.0 ≡ b → IsSome (cond b (Some v.1) (lookup (same_dot dot) vs)) → (IsSome (lookup (same_dot dot) vs) → known dot ≡ true) → known dot ≡ true
+      step : (b : Bool) → same_dot dot v.0 ≡ b → IsSome (cond b (Some v.1) (lookup (same_dot dot) vs)) → (IsSome (lookup (same_dot dot) vs) → known dot ≡ true)
+          → known dot ≡ true
       step true same here rest = subst (λ d. known d ≡ true) (sym (same_dot-true dot v.0 same)) (and_left (known v.0) (within_values known vs) all)
       step false apart there rest = rest there
 
@@ -49,7 +50,8 @@ module _ (known : DotValue → Bool) (dot : DotValue) where
   unfolding at_values
   value_held vs all some = value_known vs all some
 
-  field_known : (field : List ℕ) (fs : FieldsValue) → within_fields known fs ≡ true → IsSome (held_by at_values (lookup (is_at (bytes_cmp field)) fs) tt dot) → known dot ≡ true
+  field_known : (field : List ℕ) (fs : FieldsValue) → within_fields known fs ≡ true → IsSome (held_by at_values (lookup (is_at (bytes_cmp field)) fs) tt dot)
+      → known dot ≡ true
   field_known field [] all some = absurd (false≢true some)
   field_known field (f ∷ fs) all some =
       step (is_at (bytes_cmp field) f.0) some (field_known field fs (and_right (within_values known f.1) (within_fields known fs) all))
@@ -63,7 +65,8 @@ module _ (known : DotValue → Bool) (dot : DotValue) where
   unfolding at_stores
   field_held field fs all some = field_known field fs all some
 
-  key_held : (field : List ℕ) (o : Option FieldsValue) → ((fs : FieldsValue) → o ≡ Some fs → within_fields known fs ≡ true) → IsSome (held_by fields_at o (field, tt) dot) → known dot ≡ true
+  key_held : (field : List ℕ) (o : Option FieldsValue) → ((fs : FieldsValue) → o ≡ Some fs → within_fields known fs ≡ true)
+      → IsSome (held_by fields_at o (field, tt) dot) → known dot ≡ true
   key_held field None all some = absurd (false≢true some)
   key_held field (Some fs) all some = field_held field fs (all fs refl) some
 
@@ -79,7 +82,8 @@ module _ {Hash : Type 0} (hash : Hash) (live : PairValue Hash FieldsValue) (m : 
   unfolding at_keys
   below_pair below = record {
     at = λ path dot.
-        ap (λ own. joined greater own (has live.1 dot) (held_by fields_at (finite.get m path.0) path.1 dot) (has context dot)) (sym (as_entries live.0 path dot))
+        ap (λ own. joined greater own (has live.1 dot) (held_by fields_at (finite.get m path.0) path.1 dot) (has context dot))
+        (sym (as_entries live.0 path dot))
         ∙ below.at (place_of path.0 path.1.0) dot ∙ as_entries live.0 path dot;
     has = below.has;
   }
@@ -91,6 +95,7 @@ module _ {Hash : Type 0} (hash : Hash) (live : PairValue Hash FieldsValue) (m : 
   unfolding at_keys
   opened_joined next same = same_is (live_state next) (join greater (live_state live) (closing.held_state m (has context))) (record {
     at = λ place dot. as_entries next.0 (path_of place) dot ∙ same.at (path_of place) dot
-        ∙ ap (λ own. joined greater own (has live.1 dot) (held_by fields_at (finite.get m place.key) (place.field, tt) dot) (has context dot)) (sym (as_entries live.0 (path_of place) dot));
+        ∙ ap (λ own. joined greater own (has live.1 dot) (held_by fields_at (finite.get m place.key) (place.field, tt) dot) (has context dot))
+        (sym (as_entries live.0 (path_of place) dot));
     has = same.has;
   })

@@ -32,13 +32,16 @@ all_less : (ns : List ℕ) (n m : ℕ) → n < m → AllByRecursion (λ y. nat_c
 all_less [] n m h all = (is_less n m h, tt)
 all_less (x ∷ xs) n m h all = (all.0, all_less xs n m h all.1)
 
-one_more : {Hash : Type 0} (list : List (AskerValue Hash)) (a : AskerValue Hash) (n : ℕ) → IsStrictlySortedBy nat_cmp (numbers list) → All (λ b. b.session.number ≤ n) list → n < a.session.number
+one_more : {Hash : Type 0} (list : List (AskerValue Hash)) (a : AskerValue Hash) (n : ℕ) → IsStrictlySortedBy nat_cmp (numbers list)
+    → All (λ b. b.session.number ≤ n) list → n < a.session.number
     → IsStrictlySortedBy nat_cmp (numbers list ++ a.session.number ∷ [])
 unfolding IsStrictlySortedBy
 one_more [] a n sorted below above = (tt, tt)
 one_more (x ∷ xs) a n sorted below above =
-    let here = All-head (λ b. b.session.number ≤ n) x xs below in
-    (all_less (numbers xs) x.session.number a.session.number (omega (arith, here, above)) sorted.0, one_more xs a n sorted.1 (All-tail (λ b. b.session.number ≤ n) x xs below) above)
+    let here = All-head (λ b. b.session.number ≤ n) x xs below in (
+      all_less (numbers xs) x.session.number a.session.number (omega (arith, here, above)) sorted.0,
+      one_more xs a n sorted.1 (All-tail (λ b. b.session.number ≤ n) x xs below) above,
+    )
 
 -- ---- what was there before one more was added is the front of what is there then
 
@@ -49,17 +52,25 @@ front_again old new cut x more count is = is ∙ (λ i. take (count i) (more i))
 
 pub map_below : (m : Held) (live : MapState) → IsMapOf m live → IsBelow (closing.held_state m live.has) live
 map_below m live mapped =
-    subst (λ p. IsBelow p live) (sym (same_is (closing.held_state m live.has) live (record { at = λ place dot. mapped.at place dot; has = λ dot. refl }))) (below_itself live)
+    subst (λ p. IsBelow p live) (sym (same_is (closing.held_state m live.has) live (record { at = λ place dot. mapped.at place dot; has = λ dot. refl })))
+    (below_itself live)
 
 -- ---- the session is opened
 
-module _ {Hash : Type 0} (old new : ReplicaValue Hash) (a : AskerValue Hash) (session : SessionValue) (next : session ≡ next_session (meaning old) session.answerer)
-    (made : a ≡ record { session = session; hash = hash_in old; own = old.live.0.0.1; seen = old.live.0.1; stage = Asked }) (sessions : new.sessions ≡ old.sessions ++ a ∷ [])
+module _ {Hash : Type 0} (old new : ReplicaValue Hash) (a : AskerValue Hash) (session : SessionValue)
+    (next : session ≡ next_session (meaning old) session.answerer)
+    (made : a ≡ record { session = session; hash = hash_in old; own = old.live.0.0.1; seen = old.live.0.1; stage = Asked })
+    (sessions : new.sessions ≡ old.sessions ++ a ∷ [])
     (rest : StaysButOpened old new) (opened : new.opened ≡ session.number) where
   number_is : session.number ≡ old.opened + 1
   number_is = ap (λ (s : SessionValue). s.number) next
 
-  open_is : open_of a ≡ record { session = next_session (meaning old) session.answerer; own = old.live.0.0.1; seen = (meaning old).live.has; accepted = Rattle.std.specs.Prelude.None }
+  open_is : open_of a ≡ record {
+    session = next_session (meaning old) session.answerer;
+    own = old.live.0.0.1;
+    seen = (meaning old).live.has;
+    accepted = Rattle.std.specs.Prelude.None;
+  }
   open_is = ap open_of made ∙ (λ i. record { session = next i; own = old.live.0.0.1; seen = has old.live.0.1; accepted = Rattle.std.specs.Prelude.None })
 
   pub opened_meaning : meaning new ≡ opens (meaning old) session.answerer old.live.0.0.1
@@ -88,18 +99,21 @@ module _ {Hash : Type 0} (old new : ReplicaValue Hash) (a : AskerValue Hash) (se
           let both = All-append (P old.name (hash_in old) (live_state old.live.0)) old.sessions (a ∷ []) is.own
           (All-cons (P old.name (hash_in old) (live_state old.live.0)) a [] own_new (All-nil (P old.name (hash_in old) (live_state old.live.0)))) in
           subst (λ l. All (P new.name (hash_in new) (live_state l)) new.sessions) (sym rest.live)
-          (subst (λ n. All (P n (hash_in new) (live_state old.live.0)) new.sessions) (sym rest.name) (subst (λ h. All (P old.name h (live_state old.live.0)) new.sessions) (sym (ap (λ p. p.0.0) rest.live))
+          (subst (λ n. All (P n (hash_in new) (live_state old.live.0)) new.sessions) (sym rest.name)
+          (subst (λ h. All (P old.name h (live_state old.live.0)) new.sessions) (sym (ap (λ p. p.0.0) rest.live))
           (subst (All (P old.name (hash_in old) (live_state old.live.0))) (sym sessions) both)));
       ascend =
           let above : old.opened < a.session.number = let e = number_new in omega (arith, e) in
           subst (λ them. IsStrictlySortedBy nat_cmp (numbers them)) (sym sessions)
-          (subst (IsStrictlySortedBy nat_cmp) (sym (map-append (λ (b : AskerValue Hash). b.session.number) old.sessions (a ∷ []))) (one_more old.sessions a old.opened is.ascend is.numbered above));
+          (subst (IsStrictlySortedBy nat_cmp) (sym (map-append (λ (b : AskerValue Hash). b.session.number) old.sessions (a ∷ [])))
+          (one_more old.sessions a old.opened is.ascend is.numbered above));
       numbered =
           let Q : ℕ → AskerValue Hash → Type 0 = λ n b. b.session.number ≤ n in
           let e = opened ∙ number_is in
           let f = number_new in
           let more : (b : AskerValue Hash) → Q old.opened b → Q new.opened b = λ b h. omega (arith, h, e) in
-          subst (All (Q new.opened)) (sym sessions) (All-append (Q new.opened) old.sessions (a ∷ []) (All-weaker (Q old.opened) (Q new.opened) more old.sessions is.numbered)
+          subst (All (Q new.opened)) (sym sessions) (All-append (Q new.opened) old.sessions (a ∷ [])
+          (All-weaker (Q old.opened) (Q new.opened) more old.sessions is.numbered)
           (All-cons (Q new.opened) a [] (omega (arith, e, f)) (All-nil (Q new.opened))));
       kept = subst (λ h. AreHashedBy Hash h new.kept) (sym (ap (λ p. p.0.0) rest.live)) (subst (AreHashedBy Hash (hash_in old)) (sym rest.kept) is.kept);
     }

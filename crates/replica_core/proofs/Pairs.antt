@@ -17,15 +17,18 @@ use Rattle.replica_model.proofs.States.{same_is}
 
 module _ {Hash : Type 0} where
   -- the join of a delta into a live pair is that of their states
-  join-live : (both live : PairValue Hash FieldsValue) (delta : OrMapValue) → Same (state_of (at_keys fields_at) both) (join greater (state_of (at_keys fields_at) live) (state_of or_map_at delta))
+  join-live : (both live : PairValue Hash FieldsValue) (delta : OrMapValue)
+      → Same (state_of (at_keys fields_at) both) (join greater (state_of (at_keys fields_at) live) (state_of or_map_at delta))
       → Same (live_state both) (join greater (live_state live) (or_map_state delta))
   join-live both live delta same = record {
     at = λ place dot. as_entries both.0 (path_of place) dot ∙ same.at (path_of place) dot
-        ∙ ap (λ own. joined greater own (has live.1 dot) (or_map_at delta.0 (path_of place) dot) (has delta.1 dot)) (sym (as_entries live.0 (path_of place) dot));
+        ∙ ap (λ own. joined greater own (has live.1 dot) (or_map_at delta.0 (path_of place) dot) (has delta.1 dot))
+        (sym (as_entries live.0 (path_of place) dot));
     has = same.has;
   }
 
-  pub live_joined : (both live : PairValue Hash FieldsValue) (delta : OrMapValue) → Same (state_of (at_keys fields_at) both) (join greater (state_of (at_keys fields_at) live) (state_of or_map_at delta))
+  pub live_joined : (both live : PairValue Hash FieldsValue) (delta : OrMapValue)
+      → Same (state_of (at_keys fields_at) both) (join greater (state_of (at_keys fields_at) live) (state_of or_map_at delta))
       → live_state both ≡ join greater (live_state live) (or_map_state delta)
   live_joined both live delta same = same_is (live_state both) (join greater (live_state live) (or_map_state delta)) (join-live both live delta same)
 
@@ -37,13 +40,15 @@ module _ {Hash : Type 0} where
   bottom_live live nothing unknown = same_is (live_state live) (state []) (bottom_same live nothing unknown)
 
   -- its map stands for it
-  pub pair_map : (live : PairValue Hash FieldsValue) → NoStoreIsEmpty fields_at live.0.1 → ((key : List ℕ) (held : FieldsValue) → finite.get live.0.1 key ≡ Some held → IsInOrder held)
+  pub pair_map : (live : PairValue Hash FieldsValue) → NoStoreIsEmpty fields_at live.0.1
+      → ((key : List ℕ) (held : FieldsValue) → finite.get live.0.1 key ≡ Some held → IsInOrder held)
       → IsMapOf live.0.1 (live_state live)
   unfolding at_keys
   pair_map live filled ordered = record { at = λ place dot. sym (as_entries live.0 (path_of place) dot); filled = filled; ordered = ordered }
 
 -- a delta that knows no dot changes nothing
-unknown_at : (own : Option (List ℕ)) (knows : Bool) (held : Option (List ℕ)) (known : Bool) → known ≡ false → (IsSome held → IsTrue known) → own ≡ joined greater own knows held known
+unknown_at : (own : Option (List ℕ)) (knows : Bool) (held : Option (List ℕ)) (known : Bool) → known ≡ false → (IsSome held → IsTrue known)
+    → own ≡ joined greater own knows held known
 unknown_at own knows (Some x) known none inside = absurd (false≢true (sym none ∙ inside refl))
 unknown_at (Some x) knows None true none inside = absurd (false≢true (sym none))
 unknown_at (Some x) knows None false none inside = refl
@@ -55,6 +60,7 @@ unknown_has false known none = sym none
 
 pub join-unknown : (p : MapState) (delta : OrMapValue) → IsInside (state_of or_map_at delta) → HasNone delta.1 → p ≡ join greater p (or_map_state delta)
 join-unknown p delta inside none = same_is p (join greater p (or_map_state delta)) (record {
-  at = λ place dot. unknown_at (p.at place dot) (p.has dot) ((or_map_state delta).at place dot) ((or_map_state delta).has dot) (none dot) (inside (path_of place) dot);
+  at = λ place dot. unknown_at (p.at place dot) (p.has dot) ((or_map_state delta).at place dot) ((or_map_state delta).has dot) (none dot)
+      (inside (path_of place) dot);
   has = λ dot. unknown_has (p.has dot) ((or_map_state delta).has dot) (none dot);
 })

@@ -10,5 +10,6 @@ module _ {A Box : Type 0} (gains : Box → Box → List MessageValue → Type 0)
   posted_none box replies none = inr (refl, ap (map message_of) none)
 
   -- one message was
-  pub posted_one : (old new : Box) (m : Message A) (replies : List (Message A)) → gains old new (message_of m ∷ []) → replies ≡ m ∷ [] → IsPosted gains old new (map message_of replies)
+  pub posted_one : (old new : Box) (m : Message A) (replies : List (Message A)) → gains old new (message_of m ∷ []) → replies ≡ m ∷ []
+      → IsPosted gains old new (map message_of replies)
   posted_one old new m replies gained is = inl (subst (gains old new) (sym (ap (map message_of) is)) gained)

@@ -25,7 +25,8 @@ module _ {Hash : Type 0} (hash_of : Hash → List ℕ → ℕ) where
       inr (
         (λ none. made.1 (λ dot. made.0.has dot ∙ none dot)),
         meaning_by new (flushed (meaning old)) name (ap (λ l. Rattle.delta_ops.specs.LiveMap.live_state l.0) live) (ap group_state group) opened
-            (ap (Rattle.std.specs.Prelude.map Rattle.replica_core.specs.Meaning.open_of) sessions) (ap (Rattle.std.specs.Prelude.map Rattle.replica_core.specs.Meaning.kept_of) kept),
+            (ap (Rattle.std.specs.Prelude.map Rattle.replica_core.specs.Meaning.open_of) sessions)
+            (ap (Rattle.std.specs.Prelude.map Rattle.replica_core.specs.Meaning.kept_of) kept),
         ap (λ d. Delta d ∷ []) (same_is (or_map_state whole) (group_state old.group) made.0),
       ),
     );

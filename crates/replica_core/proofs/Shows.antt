@@ -28,4 +28,5 @@ shows hash_of live S once is =
 
 pub shows_alone : ShowsAlone
 shows_alone hash_of name deeds w runs says once clean =
-    shows hash_of (w.replica name).live (w.seen name) (NoReuse-part (w.seen name) (w.made ++ brought deeds) (seen_alone hash_of name deeds w runs says once clean) once) (headline_alone hash_of name deeds w runs says once clean).live
+    shows hash_of (w.replica name).live (w.seen name) (NoReuse-part (w.seen name) (w.made ++ brought deeds)
+    (seen_alone hash_of name deeds w runs says once clean) once) (headline_alone hash_of name deeds w runs says once clean).live

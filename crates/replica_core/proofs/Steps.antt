@@ -23,9 +23,11 @@ use Rattle.dots.specs.declared.refusal.Refusal.TheVariants.{NumbersSpent, OutOfM
 use Rattle.replica_core.specs.Stepping.{Foretells, Steps, IsRefused}
 
 -- An own operation at what the replica holds: its name and its pair are told as the operation was told of them.
-module _ {Hash : Type 0} (hash_of : Hash → List ℕ → ℕ) (old new : ReplicaValue Hash) (delta : OrMapValue) (made : meaning new ≡ makes (meaning old) (or_map_state delta)) (hash : hash_in new ≡ hash_in old)
+module _ {Hash : Type 0} (hash_of : Hash → List ℕ → ℕ) (old new : ReplicaValue Hash) (delta : OrMapValue)
+    (made : meaning new ≡ makes (meaning old) (or_map_state delta)) (hash : hash_in new ≡ hash_in old)
     (pair : PairValue Hash FieldsValue) (here : pair ≡ old.live.0) where
-  pub put_stepped : (name : ℕ) → name ≡ old.name → (place : Place) (value : List ℕ) (dot : Dot) (w : Write) → IsPutAt (live_state pair) name place value w → Same (or_map_state delta) (state (Wrote w ∷ []))
+  pub put_stepped : (name : ℕ) → name ≡ old.name → (place : Place) (value : List ℕ) (dot : Dot) (w : Write) → IsPutAt (live_state pair) name place value w
+      → Same (or_map_state delta) (state (Wrote w ∷ []))
       → dot ≡ w.id → dot.number < 2 ^ 64 → Steps hash_of old new (Do (Put place value)) (Made dot) []
   put_stepped name named place value dot w put same is below = record {
     step = (
@@ -40,10 +42,12 @@ module _ {Hash : Type 0} (hash_of : Hash → List ℕ → ℕ) (old new : Replic
   }
 
   -- what a removal observed is taken away, and counted
-  pub removed : (P : MapState → Dot → Type 0) (over : List Dot) (n : ℕ) → ((dot : Dot) → IsTrue (has over dot) ↔ P (live_state pair) dot) → Same (or_map_state delta) (state (erasure over)) → IsDistinct same_dot over
+  pub removed : (P : MapState → Dot → Type 0) (over : List Dot) (n : ℕ) → ((dot : Dot) → IsTrue (has over dot) ↔ P (live_state pair) dot)
+      → Same (or_map_state delta) (state (erasure over)) → IsDistinct same_dot over
       → n ≡ length over → Removes (P (live_state old.live.0)) (meaning old) (meaning new) (Counted n) []
   removed P over n just same apart counted =
-      let observed : (dot : Dot) → IsTrue (has over dot) ↔ P (live_state old.live.0) dot = subst (λ p. (dot : Dot) → IsTrue (has over dot) ↔ P (live_state p) dot) here just in (
+      let observed : (dot : Dot) → IsTrue (has over dot) ↔ P (live_state old.live.0) dot =
+      subst (λ p. (dot : Dot) → IsTrue (has over dot) ↔ P (live_state p) dot) here just in (
         over,
         observed,
         made ∙ ap (makes (meaning old)) (same_is (or_map_state delta) (state (erasure over)) same),
@@ -52,11 +56,13 @@ module _ {Hash : Type 0} (hash_of : Hash → List ℕ → ℕ) (old new : Replic
       )
 
 -- a test that is whether something is there
-pub just_some : {X : Type 0} (over : List Dot) (at : Dot → Option X) → ((dot : Dot) → has over dot ≡ is_some (at dot)) → (dot : Dot) → IsTrue (has over dot) ↔ IsSome (at dot)
+pub just_some : {X : Type 0} (over : List Dot) (at : Dot → Option X) → ((dot : Dot) → has over dot ≡ is_some (at dot)) → (dot : Dot)
+    → IsTrue (has over dot) ↔ IsSome (at dot)
 just_some over at is dot = ((λ h. sym (is dot) ∙ h), (λ h. is dot ∙ h))
 
 -- the next dot is past the last number
-pub past_last : (name : ℕ) (known : Dot → Rattle.std.specs.Prelude.Bool) → IsGreatest name known (2 ^ 64 - 1) → (dot : Dot) × IsNext name known dot × (2 ^ 64 ≤ dot.number)
+pub past_last : (name : ℕ) (known : Dot → Rattle.std.specs.Prelude.Bool) → IsGreatest name known (2 ^ 64 - 1) → (dot : Dot) × IsNext name known dot
+    × (2 ^ 64 ≤ dot.number)
 past_last name known most = (
   record { name = name; number = 2 ^ 64 },
   record {
@@ -69,11 +75,13 @@ past_last name known most = (
   where
     above : (d : Dot) → d.name ≡ name → IsTrue (known d) → d.number < 2 ^ 64
     above d same there =
-        let here : IsTrue (known (record { name = name; number = d.number })) = subst (λ n. IsTrue (known (record { name = n; number = d.number }))) same there in
+        let here : IsTrue (known (record { name = name; number = d.number })) =
+        subst (λ n. IsTrue (known (record { name = n; number = d.number }))) same there in
         let bound = most.bound d.number here in omega (arith, bound)
 
 -- a next dot that is a number of 64 bits is the only next one
-pub not_past : (name : ℕ) (known : Dot → Rattle.std.specs.Prelude.Bool) (dot : Dot) → context.IsNext name known dot → dot.number < 2 ^ 64 → (other : Dot) → IsNext name known other → other.number < 2 ^ 64
+pub not_past : (name : ℕ) (known : Dot → Rattle.std.specs.Prelude.Bool) (dot : Dot) → context.IsNext name known dot → dot.number < 2 ^ 64 → (other : Dot)
+    → IsNext name known other → other.number < 2 ^ 64
 not_past name known dot next below other is = by is.least
   where
     by : (other.number ≡ 1) ⊎ IsTrue (known (record { name = name; number = other.number - 1 })) → other.number < 2 ^ 64

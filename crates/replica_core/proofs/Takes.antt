@@ -23,13 +23,16 @@ use Rattle.replica_core.proofs.Changing.{at_place}
 use Rattle.replica_core.proofs.Came.{opening_came, page_came, gone_came, opening_missed, page_missed, gone_missed}
 use Rattle.replica_core.proofs.Gained.{outcome, opening_gives, page_gives, gone_gives}
 
-module _ {Hash : Type 0} (hash_of : Hash → List ℕ → ℕ) (old : ReplicaValue Hash) (is : IsReplica hash_of old) (s : SessionValue) (place : ℕ) (a : AskerValue Hash)
-    (first : IsFirstAt (λ b. same_session b.session s) old.sessions place a) (next : AskerValue Hash) (step : StepValue) (goes_from : IsFrom a next) (message : MessageValue) where
+module _ {Hash : Type 0} (hash_of : Hash → List ℕ → ℕ) (old : ReplicaValue Hash) (is : IsReplica hash_of old) (s : SessionValue) (place : ℕ)
+    (a : AskerValue Hash)
+    (first : IsFirstAt (λ b. same_session b.session s) old.sessions place a) (next : AskerValue Hash) (step : StepValue) (goes_from : IsFrom a next)
+    (message : MessageValue) where
   own_at : IsOwn hash_of old.name (hash_in old) (live_state old.live.0) a
   own_at = at_place (IsOwn hash_of old.name (hash_in old) (live_state old.live.0)) old.sessions place a first.0 is.own
 
   -- an opening
-  module _ (context : ContextValue) (root : Option (List ℕ)) (said : message ≡ Opening s context root) (told : outcome (asker_state next) step ≡ turning.on_opening (hash_of a.hash) (asker_state a) message) where
+  module _ (context : ContextValue) (root : Option (List ℕ)) (said : message ≡ Opening s context root)
+      (told : outcome (asker_state next) step ≡ turning.on_opening (hash_of a.hash) (asker_state a) message) where
     opening_is : outcome (asker_state next) step ≡ opening_at (hash_of a.hash) a.session (stage_with a.own a.seen a.stage) context root
     opening_is =
         told ∙ ap (turning.on_opening (hash_of a.hash) (asker_state a)) said
@@ -38,7 +41,8 @@ module _ {Hash : Type 0} (hash_of : Hash → List ℕ → ℕ) (old : ReplicaVal
     pub opening_can : CanTake hash_of a next step
     opening_can = opening_gives hash_of a next goes_from step context root own_at.is_open opening_is
 
-    pub opening_stepped : IsMapOf old.live.0.0.1 (live_state old.live.0) → (new : ReplicaValue Hash) (o : model.Outcome) (out : List Mail) → turned (meaning old) (asker_state next) step ≡ turn (meaning new) o out
+    pub opening_stepped : IsMapOf old.live.0.0.1 (live_state old.live.0) → (new : ReplicaValue Hash) (o : model.Outcome) (out : List Mail)
+        → turned (meaning old) (asker_state next) step ≡ turn (meaning new) o out
         → hash_in new ≡ hash_in old → Steps hash_of old new (Take (mail_of message)) (Came o) out
     opening_stepped mapped new o out came hash =
         subst (λ m. Steps hash_of old new (Take (mail_of m)) (Came o) out) (sym said)
@@ -46,15 +50,18 @@ module _ {Hash : Type 0} (hash_of : Hash → List ℕ → ℕ) (old : ReplicaVal
         (opening_is ∙ ap (λ h. opening_at (hash_of h) a.session (stage_with a.own a.seen a.stage) context root) own_at.hash_is))
 
   -- a page, or that the session is not kept
-  module _ (said : ((sent : SentValue) × (message ≡ Page s sent)) ⊎ (message ≡ Gone s)) (told : outcome (asker_state next) step ≡ turning.on_page (hash_of a.hash) (asker_state a) message) where
-    page_is : (sent : SentValue) → message ≡ Page s sent → outcome (asker_state next) step ≡ page_at_stage (hash_of a.hash) a.session (stage_with a.own a.seen a.stage) sent
+  module _ (said : ((sent : SentValue) × (message ≡ Page s sent)) ⊎ (message ≡ Gone s))
+      (told : outcome (asker_state next) step ≡ turning.on_page (hash_of a.hash) (asker_state a) message) where
+    page_is : (sent : SentValue) → message ≡ Page s sent → outcome (asker_state next) step
+        ≡ page_at_stage (hash_of a.hash) a.session (stage_with a.own a.seen a.stage) sent
     page_is sent e =
         told ∙ ap (turning.on_page (hash_of a.hash) (asker_state a)) e
         ∙ ap (λ b. cond b (page_at_stage (hash_of a.hash) a.session (stage_with a.own a.seen a.stage) sent) (outcome (asker_state a) Ignored)) first.1
 
     gone_is : message ≡ Gone s → outcome (asker_state next) step ≡ gone_at a.session (stage_with a.own a.seen a.stage)
     gone_is e =
-        told ∙ ap (turning.on_page (hash_of a.hash) (asker_state a)) e ∙ ap (λ b. cond b (gone_at a.session (stage_with a.own a.seen a.stage)) (outcome (asker_state a) Ignored)) first.1
+        told ∙ ap (turning.on_page (hash_of a.hash) (asker_state a)) e
+        ∙ ap (λ b. cond b (gone_at a.session (stage_with a.own a.seen a.stage)) (outcome (asker_state a) Ignored)) first.1
 
     pub page_can : CanTake hash_of a next step
     page_can = either said
@@ -64,7 +71,8 @@ module _ {Hash : Type 0} (hash_of : Hash → List ℕ → ℕ) (old : ReplicaVal
             page_gives hash_of a next goes_from step sent (subst (λ h. KnowsBuilt hash_of h a.own a.stage) (sym own_at.hash_is) own_at.built) (page_is sent e)
         either (inr e) = gone_gives hash_of a next goes_from step (gone_is e)
 
-    pub page_stepped : IsMapOf old.live.0.0.1 (live_state old.live.0) → (new : ReplicaValue Hash) (o : model.Outcome) (out : List Mail) → turned (meaning old) (asker_state next) step ≡ turn (meaning new) o out
+    pub page_stepped : IsMapOf old.live.0.0.1 (live_state old.live.0) → (new : ReplicaValue Hash) (o : model.Outcome) (out : List Mail)
+        → turned (meaning old) (asker_state next) step ≡ turn (meaning new) o out
         → hash_in new ≡ hash_in old → Steps hash_of old new (Take (mail_of message)) (Came o) out
     page_stepped mapped new o out came hash = either said
       where
@@ -78,11 +86,15 @@ module _ {Hash : Type 0} (hash_of : Hash → List ℕ → ℕ) (old : ReplicaVal
             (gone_came hash_of old mapped new s place a first own_at.asker own_at.is_open (outcome (asker_state next) step) o out came hash (gone_is e))
 
 -- where there is no such session
-module _ {Hash : Type 0} (hash_of : Hash → List ℕ → ℕ) (old : ReplicaValue Hash) (mapped : IsMapOf old.live.0.0.1 (live_state old.live.0)) (s : SessionValue) (missing : NoneIs (λ b. same_session b.session s) old.sessions)
+module _ {Hash : Type 0} (hash_of : Hash → List ℕ → ℕ) (old : ReplicaValue Hash) (mapped : IsMapOf old.live.0.0.1 (live_state old.live.0)) (s : SessionValue)
+    (missing : NoneIs (λ b. same_session b.session s) old.sessions)
     (message : MessageValue) where
-  pub no_opening : (context : ContextValue) (root : Option (List ℕ)) → message ≡ Opening s context root → Steps hash_of old old (Take (mail_of message)) (Came model.Ignored) []
-  no_opening context root e = subst (λ m. Steps hash_of old old (Take (mail_of m)) (Came model.Ignored) []) (sym e) (opening_missed hash_of old mapped s missing context root)
+  pub no_opening : (context : ContextValue) (root : Option (List ℕ)) → message ≡ Opening s context root
+      → Steps hash_of old old (Take (mail_of message)) (Came model.Ignored) []
+  no_opening context root e = subst (λ m. Steps hash_of old old (Take (mail_of m)) (Came model.Ignored) []) (sym e)
+      (opening_missed hash_of old mapped s missing context root)
 
   pub no_page : (((sent : SentValue) × (message ≡ Page s sent)) ⊎ (message ≡ Gone s)) → Steps hash_of old old (Take (mail_of message)) (Came model.Ignored) []
-  no_page (inl (sent, e)) = subst (λ m. Steps hash_of old old (Take (mail_of m)) (Came model.Ignored) []) (sym e) (page_missed hash_of old mapped s missing sent)
+  no_page (inl (sent, e)) = subst (λ m. Steps hash_of old old (Take (mail_of m)) (Came model.Ignored) []) (sym e)
+      (page_missed hash_of old mapped s missing sent)
   no_page (inr e) = subst (λ m. Steps hash_of old old (Take (mail_of m)) (Came model.Ignored) []) (sym e) (gone_missed hash_of old mapped s missing)

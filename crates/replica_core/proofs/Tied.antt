@@ -14,14 +14,15 @@ use Rattle.hash_path.specs.Map.{walk_under}
 use Rattle.sync_model.specs.Closing.{held_state}
 use Rattle.sync_model.specs.Fetch as fetch
 use Rattle.sync_model.specs.Fetch.{Fetch, is_digest, within, take_opening, take_page}
-use Rattle.page_taking.specs.Taking.{fetch_of}
+use Rattle.page_fetching.specs.Taking.{fetch_of}
 use Rattle.sync_protocol.specs.Asking.{AskerValue, StageValue, Asked, Fetching, Complete, Over, is_over, Waits, Fetches, Has, stage_with}
 use Rattle.sync_protocol.specs.Turning as turning
 use Rattle.sync_protocol.specs.Turning.{StateAndStep, goes_on, comes_to, gone_at, opening_at, page_at_stage}
 use Rattle.replica_model.proofs.Waiting.{empty_complete, root_entries}
 use Rattle.replica_model.specs.Mail.{Mail, Ask, mail_of}
 use Rattle.replica_model.specs.Replica.{Replica, Open, joins, advances, closes}
-use Rattle.replica_model.specs.Delivery.{Turn, turn, Sent, Done, is_complete, asks_for, asks_of, fetching, went_on, took_gone, opening_taken, took_first, child_prefixes, page_taken, took_further}
+use Rattle.replica_model.specs.Delivery.{Turn, turn, Sent, Done, is_complete, asks_for, asks_of, fetching, went_on, took_gone, opening_taken, took_first}
+use Rattle.replica_model.specs.Delivery.{child_prefixes, page_taken, took_further}
 use Rattle.replica_model.specs.Step.{again}
 use Rattle.replica_core.specs.Meaning.{accepted_of, open_of}
 use Rattle.replica_core.specs.Turned.{turned}
@@ -62,7 +63,8 @@ module _ (hash_of : List ℕ → ℕ) (r : Replica) where
         ∙ step (finite.len f.waiting == 0) (complete_is f)
       where
         step : (c : Bool) → is_complete f ≡ c → cond c (ending f) (turn (advances r (on f)) Sent mails)
-            ≡ by (cond c (turning.at_stage a.session (Has context f.built), turning.Done) (turning.at_stage a.session (Fetches a.own a.seen context f), turning.Sent asks))
+            ≡ by (cond c (turning.at_stage a.session (Has context f.built), turning.Done)
+            (turning.at_stage a.session (Fetches a.own a.seen context f), turning.Sent asks))
         step true e = refl
         step false e = ap (λ ms. turn (advances r (on f)) Sent ms) (same e)
 
@@ -78,7 +80,8 @@ module _ (hash_of : List ℕ → ℕ) (r : Replica) where
     opened_root : (d : List ℕ) (f : Fetch) → f.waiting ≡ finite.insert finite.empty [] d
         → opening_taken hash_of r (open_of a) (has context) (fetch.Took f) ≡ by (opens_with (fetch.Took f))
     opened_root d f e =
-        went f (message.Ask a.session [] ∷ []) (asks_of a.session f) (λ _. ap (λ w. map (Ask a.session) (map (λ x. x.0) (finite.entries w))) e ∙ ap (λ es. map (Ask a.session) (map (λ x. x.0) es)) (root_entries d))
+        went f (message.Ask a.session [] ∷ []) (asks_of a.session f) (λ _. ap (λ w. map (Ask a.session) (map (λ x. x.0) (finite.entries w))) e
+        ∙ ap (λ es. map (Ask a.session) (map (λ x. x.0) es)) (root_entries d))
 
     abbrev whole : Fetch
     whole = record { waiting = finite.empty; built = a.own }
@@ -126,7 +129,8 @@ page_tied {Hash} hash_of r a going sent t e = step a.stage going ∙ ap (by hash
         → took_further hash_of r (open_of a) sent (accepted_of stage)
         ≡ by hash_of r (page_at_stage hash_of a.session (stage_with a.own a.seen stage) sent)
     step Asked going = refl
-    step (Fetching c f) going = paged hash_of r a c sent (fetch_of f) (take_page hash_of a.own (has a.seen) (has c) (fetch_of f) sent.prefix sent.page sent.values)
+    step (Fetching c f) going = paged hash_of r a c sent (fetch_of f)
+        (take_page hash_of a.own (has a.seen) (has c) (fetch_of f) sent.prefix sent.page sent.values)
     step (Complete c b) going = absurd (true≢false going)
     step Over going = absurd (true≢false going)
 

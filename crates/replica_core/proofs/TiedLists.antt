@@ -1,5 +1,6 @@
 -- Own sessions that are found, that go on at their places, and that are taken out there.
-use Rattle.std.proofs.Common.{◌≡◌, ◌≢◌, ℕ, zero, suc, ◌<◌, List, [], ◌∷◌, Bool, true, false, Option, Some, None, cond, not, set, arith, refl, sym, ap, ◌∙◌, subst, Less}
+use Rattle.std.proofs.Common.{◌≡◌, ◌≢◌, ℕ, zero, suc, ◌<◌, List, [], ◌∷◌, Bool, true, false, Option, Some, None, cond, not, set, arith, refl, sym, ap, ◌∙◌}
+use Rattle.std.proofs.Common.{subst, Less}
 use Rattle.std.specs.Prelude.{map, ◌==◌}
 use Rattle.std.specs.List.{find, slice_get, remove, AllByRecursion}
 use Rattle.std.specs.List.Sorted.{IsStrictlySortedBy}
@@ -10,7 +11,8 @@ use Rattle.sync_protocol.specs.Asking.{AskerValue}
 use Rattle.replica_model.specs.Replica.{Open, open_at, open_numbered, advanced, without_session}
 use Rattle.replica_model.proofs.Found.{same_is_one, one_is_same}
 use Rattle.replica_core.specs.Meaning.{open_of}
-use Rattle.replica_core.specs.Tied.{IsFirstAt, NoneIs, AreApart, OpensAreFound, OpensAreMissed, NumbersAreFound, NumbersAreMissed, AdvancesInPlace, ClosesInPlace}
+use Rattle.replica_core.specs.Tied.{IsFirstAt, NoneIs, AreApart, OpensAreFound, OpensAreMissed, NumbersAreFound, NumbersAreMissed, AdvancesInPlace}
+use Rattle.replica_core.specs.Tied.{ClosesInPlace}
 
 -- ---- who is found
 
@@ -51,7 +53,8 @@ module _ {Hash : Type 0} where
   unfolding opened
   numbered_found [] number = refl
   numbered_found (x ∷ xs) number =
-      opened_either (x.session.number == number) x (open_numbered (map open_of xs) number) (find (λ b. b.session.number == number) xs) (numbered_found xs number)
+      opened_either (x.session.number == number) x (open_numbered (map open_of xs) number) (find (λ b. b.session.number == number) xs)
+      (numbered_found xs number)
 
   pub found_tied : OpensAreFound Hash
   unfolding opened
@@ -145,7 +148,8 @@ module _ {Hash : Type 0} where
       let one : x ≡ a = cc in
       let same : a.session ≡ x.session = ap (λ (y : AskerValue Hash). y.session) (sym one) in
       let rest = rest_kept a.session xs (all_other x.session.number xs a.session (ap (λ (u : SessionValue). u.number) same) (apart_head x xs apart)) in
-      (λ j. cond (not (one_is_same x.session a.session (sym same) j)) (open_of x ∷ without_session a.session (map open_of xs)) (without_session a.session (map open_of xs))) ∙ rest
+      (λ j. cond (not (one_is_same x.session a.session (sym same) j)) (open_of x ∷ without_session a.session (map open_of xs))
+      (without_session a.session (map open_of xs))) ∙ rest
   closes_there (x ∷ xs) (suc i) a apart e =
       let rest = closes_there xs i a (apart_tail x xs apart) e in
       λ j. cond (not (before x xs i a a.session apart e refl j)) (open_of x ∷ rest j) (rest j)

@@ -25,17 +25,20 @@ use Rattle.replica_core.specs.Turning.{IsGoingOn}
 -- ---- it goes on
 
 advanced_open : {Hash : Type 0} (r : Replica) (next : AskerValue Hash) (s : StageValue Hash) → is_over s ≡ false
-    → advanced_to r next.session (stage_with next.own next.seen s) ≡ advances r (record { session = next.session; own = next.own; seen = has next.seen; accepted = accepted_of s })
+    → advanced_to r next.session (stage_with next.own next.seen s) ≡ advances r
+    (record { session = next.session; own = next.own; seen = has next.seen; accepted = accepted_of s })
 advanced_open r next Asked unended = refl
 advanced_open r next (Fetching c f) unended = refl
 advanced_open r next (Complete c b) unended = absurd (false≢true (sym unended))
 advanced_open r next Over unended = absurd (false≢true (sym unended))
 
-pub sent_turned : {Hash : Type 0} (r m : Replica) (next : AskerValue Hash) (messages : List MessageValue) → m ≡ advances r (open_of next) → is_over next.stage ≡ false
+pub sent_turned : {Hash : Type 0} (r m : Replica) (next : AskerValue Hash) (messages : List MessageValue) → m ≡ advances r (open_of next)
+    → is_over next.stage ≡ false
     → turned r (asker_state next) (turning.Sent messages) ≡ turn m Sent (map mail_of messages)
 sent_turned r m next messages is unended = ap (λ x. turn x Sent (map mail_of messages)) (advanced_open r next next.stage unended ∙ sym is)
 
-module _ {Hash : Type 0} (hash_of : Hash → List ℕ → ℕ) (name : ℕ) (hash : Hash) (live : MapState) (a next : AskerValue Hash) (own : IsOwn hash_of name hash live a) where
+module _ {Hash : Type 0} (hash_of : Hash → List ℕ → ℕ) (name : ℕ) (hash : Hash) (live : MapState) (a next : AskerValue Hash)
+    (own : IsOwn hash_of name hash live a) where
   pub own_next : next.session ≡ a.session → IsFrom a next → IsGoingOn hash_of a next → IsOwn hash_of name hash live next
   own_next session goes_from on = record {
     asker = ap (λ s. s.asker) session ∙ own.asker;
@@ -62,7 +65,8 @@ module _ {Hash : Type 0} (hash_of : Hash → List ℕ → ℕ) (name : ℕ) (has
   nothing_below : (c : ContextValue) → HasNone c → IsBelow (closing.held_state finite.empty (has c)) live
   nothing_below c none = record {
     at = λ place dot.
-        (λ i. joined greater (live.at place dot) (live.has dot) (held_in (get-empty bytes_cmp place.key i) place.field dot) (none dot i)) ∙ nothing_joined (live.at place dot) (live.has dot);
+        (λ i. joined greater (live.at place dot) (live.has dot) (held_in (get-empty bytes_cmp place.key i) place.field dot) (none dot i))
+        ∙ nothing_joined (live.at place dot) (live.has dot);
     has = λ dot. (λ i. live.has dot || none dot i) ∙ or_none (live.has dot);
   }
 
@@ -70,7 +74,8 @@ module _ {Hash : Type 0} (hash_of : Hash → List ℕ → ℕ) (name : ℕ) (has
   pub base_below : IsFrom a next → IsBelow (closing.held_state next.own (has next.seen)) live
   base_below goes_from = either goes_from.base
     where
-      either : (((next.own ≡ a.own) × (next.seen ≡ a.seen)) ⊎ (((next.own ≡ finite.empty) × HasNone next.seen) × IsCompleteWithNothing next.stage)) → IsBelow (closing.held_state next.own (has next.seen)) live
+      either : (((next.own ≡ a.own) × (next.seen ≡ a.seen)) ⊎ (((next.own ≡ finite.empty) × HasNone next.seen) × IsCompleteWithNothing next.stage))
+          → IsBelow (closing.held_state next.own (has next.seen)) live
       either (inl same) =
           let B : Held → ContextValue → Type 0 = λ m c. IsBelow (closing.held_state m (has c)) live in
           subst (λ m. B m next.seen) (sym same.0) (subst (B a.own) (sym same.1) own.below)

@@ -13,7 +13,8 @@ use Rattle.op_model.specs.State.{Same, joined, join, IsInside}
 use Rattle.replica_model.proofs.States.{same_is}
 use Rattle.trie_map.specs.Keyed.{at_keys}
 
-module _ {Hash : Type 0} (pair : PairValue Hash FieldsValue) (d : OrMapValue) (holds : HoldsSame (or_map_at d.0) (at_keys fields_at pair.0)) (knows : d.1 ≡ pair.1) where
+module _ {Hash : Type 0} (pair : PairValue Hash FieldsValue) (d : OrMapValue) (holds : HoldsSame (or_map_at d.0) (at_keys fields_at pair.0))
+    (knows : d.1 ≡ pair.1) where
   pub whole_same : Same (or_map_state d) (live_state pair)
   whole_same = record { at = λ place dot. holds (path_of place) dot ∙ sym (as_entries pair.0 (path_of place) dot); has = λ dot. ap (λ c. has c dot) knows }
 

@@ -32,7 +32,8 @@ of_key P [] q v all h = absurd h
 of_key P (f ∷ fs) q v all (inl same) = subst P (ap (λ x. x.0) same) all.0
 of_key P (f ∷ fs) q v all (inr h) = of_key P fs q v all.1 h
 
-found : {V : Type 0} (fs : List (List ℕ × V)) (q : List ℕ) (v : V) → IsStrictlySortedBy bytes_cmp (keys_of fs) → In fs (q, v) → lookup (is_at (bytes_cmp q)) fs ≡ Some v
+found : {V : Type 0} (fs : List (List ℕ × V)) (q : List ℕ) (v : V) → IsStrictlySortedBy bytes_cmp (keys_of fs) → In fs (q, v)
+    → lookup (is_at (bytes_cmp q)) fs ≡ Some v
 found [] q v sorted h = absurd h
 found ((k, w) ∷ fs) q v sorted (inl same) =
     ap (λ b. cond b (Some w) (lookup (is_at (bytes_cmp q)) fs)) (ap (λ x. is_eq (bytes_cmp q x.0)) same ∙ same_tied q q refl) ∙ ap (λ x. Some x.1) same
@@ -45,7 +46,8 @@ found ((k, w) ∷ fs) q v sorted (inr h) =
 
 pub own_value : (vs : ValuesValue) (d : DotValue) (v : List ℕ) → In vs (d, v) → IsSome (lookup (same_dot d) vs)
 own_value [] d v h = absurd h
-own_value ((e, w) ∷ vs) d v (inl same) = subst IsSome (sym (ap (λ b. cond b (Some w) (lookup (same_dot d) vs)) (ap (λ x. same_dot d x.0) same ∙ same_dot-refl d))) refl
+own_value ((e, w) ∷ vs) d v (inl same) =
+    subst IsSome (sym (ap (λ b. cond b (Some w) (lookup (same_dot d) vs)) (ap (λ x. same_dot d x.0) same ∙ same_dot-refl d))) refl
 own_value ((e, w) ∷ vs) d v (inr h) = step (same_dot d e) (own_value vs d v h)
   where
     step : (b : Bool) → IsSome (lookup (same_dot d) vs) → IsSome (cond b (Some w) (lookup (same_dot d) vs))
@@ -57,14 +59,16 @@ module _ (known : DotValue → Bool) where
   unfolding at_values
   values_within vs all = all_pass (λ v. known v.0) vs (λ v h. all v.0 (own_value vs v.0 v.1 h))
 
-  fields_within : (fs : FieldsValue) → IsStrictlySortedBy bytes_cmp (keys_of fs) → ((field : List ℕ) (d : DotValue) → IsSome (fields_at fs (field, tt) d) → known d ≡ true) → within_fields known fs ≡ true
+  fields_within : (fs : FieldsValue) → IsStrictlySortedBy bytes_cmp (keys_of fs)
+      → ((field : List ℕ) (d : DotValue) → IsSome (fields_at fs (field, tt) d) → known d ≡ true) → within_fields known fs ≡ true
   unfolding at_stores
   fields_within fs sorted all =
       all_pass (λ f. within_values known f.1) fs (λ f h. values_within f.1 (λ d some.
       all f.0 d (subst (λ (o : Option ValuesValue). IsSome (held_by at_values o tt d)) (sym (found fs f.0 f.1 sorted h)) some)))
 
 module _ {Hash : Type 0} (live : PairValue Hash FieldsValue) where
-  pub live_within : IsInside (state_of (at_keys fields_at) live) → ((key : List ℕ) (fs : FieldsValue) → finite.get live.0.1 key ≡ Some fs → IsStrictlySortedBy bytes_cmp (keys_of fs)) → KnowsEachDot (has live.1) live.0.1
+  pub live_within : IsInside (state_of (at_keys fields_at) live)
+      → ((key : List ℕ) (fs : FieldsValue) → finite.get live.0.1 key ≡ Some fs → IsStrictlySortedBy bytes_cmp (keys_of fs)) → KnowsEachDot (has live.1) live.0.1
   unfolding at_keys
   live_within inside sorted key fs e =
       fields_within (has live.1) fs (sorted key fs e) (λ field d some.

@@ -1,11 +1,12 @@
 -- Letters of messages: over plain variables.
-use Rattle.std.proofs.Common.{◌≡◌, ℕ, ◌+◌, ◌<◌, ◌≤◌, zero, suc, List, [], ◌∷◌, ◌++◌, map, length, drop, get_or, Some, None, inl, inr, refl, sym, ap, ◌∙◌, subst, append_assoc, arith}
+use Rattle.std.proofs.Common.{◌≡◌, ℕ, ◌+◌, ◌<◌, ◌≤◌, zero, suc, List, [], ◌∷◌, ◌++◌, map, length, drop, get_or, Some, None, inl, inr, refl, sym, ap, ◌∙◌, subst}
+use Rattle.std.proofs.Common.{append_assoc, arith}
 use Rattle.std.specs.Prelude.{Option}
 use Rattle.std.proofs.lemmas.List.{append-nil, map-append}
 use Rattle.wire_form.specs.declared.message.Message.{Message}
 use Rattle.wire_form.specs.Message.{MessageValue, message_of}
 use Rattle.wire_form.specs.Session.{SessionValue}
-use Rattle.page_taking.proofs.Loops.{stands_at, is_past}
+use Rattle.page_fetching.proofs.Loops.{stands_at, is_past}
 use Rattle.sync_protocol.specs.Asking.{AskerValue}
 use Rattle.sync_protocol.specs.Posting.{IsPosted}
 use Rattle.replica_model.specs.Mail.{Mail, mail_of}
@@ -50,31 +51,39 @@ module _ {A : Type 0} where
 
 -- a step with the letters of what it sends
 module _ {Hash : Type 0} (hash_of : Hash → List ℕ → ℕ) (old new : ReplicaValue Hash) (act : Act) (answer : Answer) where
-  pub sends : (mails : List Mail) (ms : List MessageValue) (letters : List (Option ℕ × List ℕ)) → mails ≡ map mail_of ms → Steps hash_of old new act answer mails → AreLetters letters ms → Sends hash_of old new act answer letters
+  pub sends : (mails : List Mail) (ms : List MessageValue) (letters : List (Option ℕ × List ℕ)) → mails ≡ map mail_of ms
+      → Steps hash_of old new act answer mails → AreLetters letters ms → Sends hash_of old new act answer letters
   sends mails ms letters is steps are = record { messages = ms; steps = subst (Steps hash_of old new act answer) is steps; letters_are = are }
 
 -- one more is posted
-pub posts : {A : Type 0} (old new : List (Letter A)) (letter : Letter A) (m : MessageValue) → new ≡ old ++ letter ∷ [] → IsLetter (letter_of letter) m → Gains (letters_of old) (letters_of new) (m ∷ [])
+pub posts : {A : Type 0} (old new : List (Letter A)) (letter : Letter A) (m : MessageValue) → new ≡ old ++ letter ∷ [] → IsLetter (letter_of letter) m
+    → Gains (letters_of old) (letters_of new) (m ∷ [])
 posts old new letter m is spelled = (letter_of letter ∷ [], ap letters_of is ∙ map-append letter_of old (letter ∷ []), (spelled, tt))
 
-pub posts_all : {A : Type 0} (old new more : List (Letter A)) (ms : List MessageValue) → new ≡ old ++ more → AreLetters (letters_of more) ms → Gains (letters_of old) (letters_of new) ms
+pub posts_all : {A : Type 0} (old new more : List (Letter A)) (ms : List MessageValue) → new ≡ old ++ more → AreLetters (letters_of more) ms
+    → Gains (letters_of old) (letters_of new) ms
 posts_all old new more ms is spelled = (letters_of more, ap letters_of is ∙ map-append letter_of old more, spelled)
 
 -- messages that are spelled one by one: with the letters of the rest behind them all are
 abbrev pub Spelling : {A : Type 0} → List (Letter A) → List (Message A) → ℕ → Type 0
 Spelling spelled ms i = (ls : List (Option ℕ × List ℕ)) → AreLetters ls (map message_of (drop i ms)) → AreLetters (letters_of spelled ++ ls) (map message_of ms)
 
-pub one_spelled : {A : Type 0} (spelled new : List (Letter A)) (letter : Letter A) (ms : List (Message A)) (i : ℕ) (m : Message A) → Spelling spelled ms i → i < length ms → m ≡ get_or ms i m
+pub one_spelled : {A : Type 0} (spelled new : List (Letter A)) (letter : Letter A) (ms : List (Message A)) (i : ℕ) (m : Message A) → Spelling spelled ms i
+    → i < length ms → m ≡ get_or ms i m
     → IsLetter (letter_of letter) (message_of m) → new ≡ spelled ++ letter ∷ [] → Spelling new ms (i + 1)
 one_spelled spelled new letter ms i m before within is spells put ls rest =
-    let all = before (letter_of letter ∷ ls) (subst (λ l. AreLetters (letter_of letter ∷ ls) (map message_of l)) (sym (stands_at ms i m within is)) (spells, rest)) in
+    let all = before (letter_of letter ∷ ls) (subst (λ l. AreLetters (letter_of letter ∷ ls) (map message_of l)) (sym (stands_at ms i m within is))
+    (spells, rest)) in
     let same : letters_of spelled ++ letter_of letter ∷ ls ≡ letters_of new ++ ls =
-    sym (append_assoc (letters_of spelled) (letter_of letter ∷ []) ls) ∙ ap (λ l. l ++ ls) (sym (map-append letter_of spelled (letter ∷ []))) ∙ ap (λ l. letters_of l ++ ls) (sym put) in
+    sym (append_assoc (letters_of spelled) (letter_of letter ∷ []) ls) ∙ ap (λ l. l ++ ls) (sym (map-append letter_of spelled (letter ∷ [])))
+    ∙ ap (λ l. letters_of l ++ ls) (sym put) in
     subst (λ l. AreLetters l (map message_of ms)) same all
 
-pub all_spelled : {A : Type 0} (spelled : List (Letter A)) (ms : List (Message A)) (i : ℕ) → Spelling spelled ms i → length ms ≤ i → AreLetters (letters_of spelled) (map message_of ms)
+pub all_spelled : {A : Type 0} (spelled : List (Letter A)) (ms : List (Message A)) (i : ℕ) → Spelling spelled ms i → length ms ≤ i
+    → AreLetters (letters_of spelled) (map message_of ms)
 all_spelled spelled ms i before past =
-    subst (λ l. AreLetters l (map message_of ms)) (append-nil (letters_of spelled)) (before [] (subst (λ l. AreLetters [] (map message_of l)) (sym (is_past ms i past)) tt))
+    subst (λ l. AreLetters l (map message_of ms)) (append-nil (letters_of spelled))
+    (before [] (subst (λ l. AreLetters [] (map message_of l)) (sym (is_past ms i past)) tt))
 
 -- own sessions by their names and numbers
 module _ {Hash : Type 0} where

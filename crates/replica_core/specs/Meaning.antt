@@ -8,7 +8,7 @@ use Rattle.causal_join.specs.OrMap.{FieldsValue, OrMapValue}
 use Rattle.delta_ops.specs.Group.{group_state}
 use Rattle.delta_ops.specs.LiveMap.{live_state}
 use Rattle.live_map.specs.Live.{LiveValue, live_code}
-use Rattle.page_taking.specs.Taking.{fetch_of}
+use Rattle.page_fetching.specs.Taking.{fetch_of}
 use Rattle.wire_form.specs.Session.{SessionValue}
 use Rattle.sync_protocol.specs.Asking.{AskerValue, StageValue, Asked, Fetching, Complete, Over, asker_code}
 use Rattle.sync_protocol.specs.Snapshot.{KeptValue, SnapshotValue, kept_code}

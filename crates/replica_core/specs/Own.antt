@@ -9,7 +9,7 @@ use Rattle.op_model.specs.Meaning.{MapState}
 use Rattle.sync_model.specs.Closing.{IsBelow}
 use Rattle.sync_model.specs.Closing as closing
 use Rattle.sync_model.specs.Differ.{Held}
-use Rattle.page_taking.specs.Taking.{fetch_of}
+use Rattle.page_fetching.specs.Taking.{fetch_of}
 use Rattle.sync_protocol.specs.Asking.{AskerValue, StageValue, Asked, Fetching, Complete, Over, is_over}
 use Rattle.sync_protocol.specs.Laws.{AreHashedBy}
 use Rattle.replica_core.specs.Known.{IsKnown}

@@ -2,7 +2,7 @@
 use Rattle.std.specs.Prelude.{◌≡◌, ℕ, false, List}
 use Rattle.causal_context.specs.Context.{ContextValue, has}
 use Rattle.sync_model.specs.Laws.{KnowsEachDot}
-use Rattle.page_taking.specs.Building.{BuiltValue}
+use Rattle.page_fetching.specs.Building.{BuiltValue}
 use Rattle.sync_protocol.specs.Asking.{AskerValue, Complete, IsFrom, is_over}
 use Rattle.sync_protocol.specs.Turning.{StepValue, Sent, Done, Ignored, Mismatch, IsGone}
 use Rattle.replica_core.specs.Own.{KnowsBuilt}

@@ -9,7 +9,7 @@ ghost use Rattle.wire_form.specs.Sent.{SentValue};
 ghost use Rattle.sync_model.specs.Closing.{IsBelow};
 ghost use Rattle.sync_model.specs.Closing as closing;
 ghost use Rattle.sync_model.specs.Laws.{KnowsEachDot};
-ghost use Rattle.page_taking.specs.Building.{BuiltValue, GoesOn};
+ghost use Rattle.page_fetching.specs.Building.{BuiltValue, GoesOn};
 ghost use Rattle.sync_protocol.specs.Asking.{AskerValue, Complete, IsFrom, asker_state};
 ghost use Rattle.sync_protocol.specs.Posting.{IsPosted};
 ghost use Rattle.sync_protocol.specs.Turning as turning;

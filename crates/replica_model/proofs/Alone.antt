@@ -18,7 +18,8 @@ use Rattle.replica_model.specs.Mail.{Mail, Delta, Hello, Opening, Ask, Page, Gon
 use Rattle.replica_model.specs.Replica.{Replica, open_at}
 use Rattle.replica_model.specs.Step.{Call, Put, Remove, RemoveField, Clear, Flush, Retry, Abandon, Restart, Answer, IsStep}
 use Rattle.replica_model.specs.Step as call
-use Rattle.replica_model.specs.World.{World, Snapshot, changed, nothing, learns, keeps, accepts, takes_page, taking_of, own_of, ends, calls, is_joined, is_sent, is_done, takes, goes, Unclashed}
+use Rattle.replica_model.specs.World.{World, Snapshot, changed, nothing, learns, keeps, accepts, takes_page, taking_of, own_of, ends, calls, is_joined, is_sent}
+use Rattle.replica_model.specs.World.{is_done, takes, goes, Unclashed}
 use Rattle.replica_model.proofs.Answers.{told_by}
 use Rattle.replica_model.proofs.Carried.{left_as_is}
 use Rattle.replica_model.proofs.Deciding.{came_one}
@@ -48,7 +49,8 @@ module _ (name : ℕ) (whole : List Operation) where
 
   -- what a call makes is part of the whole where all that was made is
   fits_made : (w : World) (more : List Operation) → Fits w name whole → IsPartOf (w.made ++ more) whole → ¬ Contains more (Erased []) → (v : World)
-      → v.seen name ≡ grown (name == name) (w.seen name) more → v.outgoing name ≡ grown (name == name) (w.outgoing name) more → v.accepted ≡ w.accepted → Fits v name whole
+      → v.seen name ≡ grown (name == name) (w.seen name) more → v.outgoing name ≡ grown (name == name) (w.outgoing name) more → v.accepted ≡ w.accepted
+      → Fits v name whole
   fits_made w more f all told v seen out accepted =
       let part : IsPartOf more whole = λ o h. all o (Contains-append_right w.made more o h) in
       record {
@@ -60,10 +62,14 @@ module _ (name : ℕ) (whole : List Operation) where
       }
 
   fits_call : (w : World) (c : Call) → Fits w name whole → IsPartOf (calls name c w).made whole → Fits (calls name c w) name whole
-  fits_call w (Put place value) f all = fits_made w (put_at (w.seen name) name place value) f all (put-new (w.seen name) name place value).told (calls name (Put place value) w) refl refl refl
-  fits_call w (Remove key) f all = fits_made w (remove_at (w.seen name) key) f all (erasure-new (w.seen name) name (ids (shown_within (w.seen name) key))).told (calls name (Remove key) w) refl refl refl
-  fits_call w (RemoveField place) f all = fits_made w (remove_field_at (w.seen name) place) f all (erasure-new (w.seen name) name (ids (shown (w.seen name) place))).told (calls name (RemoveField place) w) refl refl refl
-  fits_call w Clear f all = fits_made w (clear_at (w.seen name)) f all (erasure-new (w.seen name) name (ids (shown_anywhere (w.seen name)))).told (calls name Clear w) refl refl refl
+  fits_call w (Put place value) f all = fits_made w (put_at (w.seen name) name place value) f all (put-new (w.seen name) name place value).told
+      (calls name (Put place value) w) refl refl refl
+  fits_call w (Remove key) f all = fits_made w (remove_at (w.seen name) key) f all (erasure-new (w.seen name) name (ids (shown_within (w.seen name) key))).told
+      (calls name (Remove key) w) refl refl refl
+  fits_call w (RemoveField place) f all = fits_made w (remove_field_at (w.seen name) place) f all
+      (erasure-new (w.seen name) name (ids (shown (w.seen name) place))).told (calls name (RemoveField place) w) refl refl refl
+  fits_call w Clear f all = fits_made w (clear_at (w.seen name)) f all (erasure-new (w.seen name) name (ids (shown_anywhere (w.seen name)))).told
+      (calls name Clear w) refl refl refl
   fits_call w Flush f all = record {
     seen = f.seen;
     outgoing = emptied_within (name == name) (w.outgoing name) f.outgoing;
@@ -77,12 +83,26 @@ module _ (name : ℕ) (whole : List Operation) where
   fits_call w Restart f all = f
 
   fits_learns : (w : World) (more : List Operation) → Fits w name whole → IsPartOf more whole → Fits (learns name more w) name whole
-  fits_learns w more f part = record { seen = grown_within (name == name) (w.seen name) more f.seen part; outgoing = f.outgoing; accepted = f.accepted; told = f.told; once = f.once }
+  fits_learns w more f part = record {
+    seen = grown_within (name == name) (w.seen name) more f.seen part;
+    outgoing = f.outgoing;
+    accepted = f.accepted;
+    told = f.told;
+    once = f.once;
+  }
 
-  fits_ends : (w : World) (own : Rattle.sync_model.specs.Differ.Held) (of : Snapshot) (ts : List Rattle.sync_model.specs.Laws.Taking) → Fits w name whole → IsPartOf of.seen whole → Fits (ends name own of ts w) name whole
-  fits_ends w own of ts f part = record { seen = grown_within (name == name) (w.seen name) of.seen f.seen part; outgoing = f.outgoing; accepted = f.accepted; told = f.told; once = f.once }
+  fits_ends : (w : World) (own : Rattle.sync_model.specs.Differ.Held) (of : Snapshot) (ts : List Rattle.sync_model.specs.Laws.Taking) → Fits w name whole
+      → IsPartOf of.seen whole → Fits (ends name own of ts w) name whole
+  fits_ends w own of ts f part = record {
+    seen = grown_within (name == name) (w.seen name) of.seen f.seen part;
+    outgoing = f.outgoing;
+    accepted = f.accepted;
+    told = f.told;
+    once = f.once;
+  }
 
-  accepted_within : (f : SessionValue → Snapshot) (s : SessionValue) (x : Snapshot) → ((t : SessionValue) → IsPartOf (f t).seen whole) → IsPartOf x.seen whole → (t : SessionValue) → IsPartOf (changed f s x t).seen whole
+  accepted_within : (f : SessionValue → Snapshot) (s : SessionValue) (x : Snapshot) → ((t : SessionValue) → IsPartOf (f t).seen whole) → IsPartOf x.seen whole
+      → (t : SessionValue) → IsPartOf (changed f s x t).seen whole
   accepted_within f s x all part t = step (same_session t s)
     where
       step : (b : Bool) → IsPartOf (cond b x (f t)).seen whole
@@ -93,18 +113,23 @@ module _ (name : ℕ) (whole : List Operation) where
   either true u w f g = f
   either false u w f g = g
 
-  fits_takes : (w : World) (old : Replica) (mail : Mail) (of : Snapshot) (outcome : Outcome) → Fits w name whole → IsPartOf of.seen whole → Fits (takes name old mail of outcome w) name whole
+  fits_takes : (w : World) (old : Replica) (mail : Mail) (of : Snapshot) (outcome : Outcome) → Fits w name whole → IsPartOf of.seen whole
+      → Fits (takes name old mail of outcome w) name whole
   fits_takes w old (Delta d) of outcome f part = either (is_joined outcome) (learns name of.seen w) w (fits_learns w of.seen f part) f
   fits_takes w old (Hello s seen) of outcome f part =
       either (is_sent outcome) (keeps name old s w) w (record { seen = f.seen; outgoing = f.outgoing; accepted = f.accepted; told = f.told; once = f.once }) f
   fits_takes w old (Opening s context root) of outcome f part =
-      either (is_done outcome) (ends name (own_of (open_at old.sessions s)) of [] w) (cond (is_sent outcome) (accepts s of w) w) (fits_ends w (own_of (open_at old.sessions s)) of [] f part)
-      (either (is_sent outcome) (accepts s of w) w (record { seen = f.seen; outgoing = f.outgoing; accepted = accepted_within w.accepted s of f.accepted part; told = f.told; once = f.once }) f)
+      either (is_done outcome) (ends name (own_of (open_at old.sessions s)) of [] w) (cond (is_sent outcome) (accepts s of w) w)
+      (fits_ends w (own_of (open_at old.sessions s)) of [] f part)
+      (either (is_sent outcome) (accepts s of w) w
+      (record { seen = f.seen; outgoing = f.outgoing; accepted = accepted_within w.accepted s of f.accepted part; told = f.told; once = f.once }) f)
   fits_takes w old (Ask s prefix) of outcome f part = f
   fits_takes w old (Page s sent) of outcome f part =
-      either (is_done outcome) (ends name (own_of (open_at old.sessions s)) (w.accepted s) (taking_of sent ∷ w.taken s) w) (cond (is_sent outcome) (takes_page s sent w) w)
+      either (is_done outcome) (ends name (own_of (open_at old.sessions s)) (w.accepted s) (taking_of sent ∷ w.taken s) w)
+      (cond (is_sent outcome) (takes_page s sent w) w)
       (fits_ends w (own_of (open_at old.sessions s)) (w.accepted s) (taking_of sent ∷ w.taken s) f (f.accepted s))
-      (either (is_sent outcome) (takes_page s sent w) w (record { seen = f.seen; outgoing = f.outgoing; accepted = f.accepted; told = f.told; once = f.once }) f)
+      (either (is_sent outcome) (takes_page s sent w) w
+      (record { seen = f.seen; outgoing = f.outgoing; accepted = f.accepted; told = f.told; once = f.once }) f)
   fits_takes w old (Gone s) of outcome f part = f
 
   fits_goes : (w : World) (new : Replica) (out : List Mail) (group : List Operation) → Fits w name whole → Fits (goes name new out group w) name whole
@@ -135,7 +160,8 @@ module _ (hash_of : List ℕ → ℕ) (name : ℕ) where
   tie_of : (w : World) (mail : Mail) (of : Snapshot) → NoReuse of.seen → Says hash_of mail of → MailTie hash_of SnapOf (AskedOf w) SendsOf mail of
   tie_of w (Delta d) of once says = says
   tie_of w (Hello s seen) of once says = tt
-  tie_of w (Opening s context root) of once says = ((map_is of.seen once of.map (Rattle.op_model.specs.Meaning.state of.seen) says.0 (is_same _ _ refl), says.1), says.2)
+  tie_of w (Opening s context root) of once says =
+      ((map_is of.seen once of.map (Rattle.op_model.specs.Meaning.state of.seen) says.0 (is_same _ _ refl), says.1), says.2)
   tie_of w (Ask s prefix) of once says = tt
   tie_of w (Page s sent) of once says = tt
   tie_of w (Gone s) of once says = tt
@@ -143,7 +169,8 @@ module _ (hash_of : List ℕ → ℕ) (name : ℕ) where
   -- ---- the headline
 
   module _ (whole : List Operation) where
-    meant_run : (deeds : List Deed) (w v : World) → RunsAlone hash_of name w deeds v → AllSay hash_of deeds → IsPartOf v.made whole → IsPartOf (brought deeds) whole → Unclashed hash_of v
+    meant_run : (deeds : List Deed) (w v : World) → RunsAlone hash_of name w deeds v → AllSay hash_of deeds → IsPartOf v.made whole
+        → IsPartOf (brought deeds) whole → Unclashed hash_of v
         → Fits w name whole → Meant hash_of w → Meant hash_of v × Fits v name whole
     meant_run [] w v e says made came clean fits meant = (subst (Meant hash_of) (sym e) meant, subst (λ (u : World). Fits u name whole) (sym e) fits)
     meant_run (Calls c ∷ deeds) w v (answer, u, (new, out, step, e), rest) says made came clean fits meant =
@@ -160,13 +187,16 @@ module _ (hash_of : List ℕ → ℕ) (name : ℕ) where
         let after = takes name (w.replica name) mail of outcome w in
         let clean_after : Unclashed hash_of after = λ x h. clean_u x (subst (λ (y : World). Contains y.closed x) (sym e) h) in
         meant_run deeds u v rest all made (λ o h. came o (Contains-append_right of.seen (brought deeds) o h)) clean
-        (subst (λ (x : World). Fits x name whole) (sym e) (fits_goes name whole after new out [] (fits_takes name whole w (w.replica name) mail of outcome fits part)))
+        (subst (λ (x : World). Fits x name whole) (sym e)
+        (fits_goes name whole after new out [] (fits_takes name whole w (w.replica name) mail of outcome fits part)))
         (subst (Meant hash_of) (sym e)
-        (meant_delivery hash_of w name whole fits meant mail of (tie_of w mail of once says) part own is new outcome out (step ∙ ap (λ o. turn new o out) same) clean_after))
+        (meant_delivery hash_of w name whole fits meant mail of (tie_of w mail of once says) part own is new outcome out (step ∙ ap (λ o. turn new o out) same)
+        clean_after))
 
   -- ---- histories
 
-  seen_from : (entries : List Entry) (deeds : List Deed) (w : World) (answers : List Answer) (r : Replica) → history.Runs hash_of (w.replica name) entries answers r → map (λ (e : Entry). e.act) entries ≡ map act_of deeds
+  seen_from : (entries : List Entry) (deeds : List Deed) (w : World) (answers : List Answer) (r : Replica)
+      → history.Runs hash_of (w.replica name) entries answers r → map (λ (e : Entry). e.act) entries ≡ map act_of deeds
       → (v : World) × RunsAlone hash_of name w deeds v × (v.replica name ≡ r)
   seen_from [] [] w answers r (a, e) same = (w, refl, sym e)
   seen_from [] (d ∷ deeds) w answers r runs same = absurd cc
@@ -193,16 +223,24 @@ module _ (hash_of : List ℕ → ℕ) (name : ℕ) where
 pub histories_are_seen : HistoriesAreSeen
 histories_are_seen hash_of name entries r deeds (answers, runs) same = seen_from hash_of name entries deeds nothing answers r runs same
 
-module _ (hash_of : List ℕ → ℕ) (name : ℕ) (deeds : List Deed) (w : World) (runs : RunsAlone hash_of name nothing deeds w) (says : AllSay hash_of deeds) (once : NoReuse (w.made ++ brought deeds)) (clean : Unclashed hash_of w) where
+module _ (hash_of : List ℕ → ℕ) (name : ℕ) (deeds : List Deed) (w : World) (runs : RunsAlone hash_of name nothing deeds w) (says : AllSay hash_of deeds)
+    (once : NoReuse (w.made ++ brought deeds)) (clean : Unclashed hash_of w) where
   abbrev whole : List Operation
   whole = w.made ++ brought deeds
 
   first : Fits nothing name whole
-  first = record { seen = nothing_part whole; outgoing = nothing_part whole; accepted = λ s. nothing_part whole; told = λ h. nothing_in (Erased []) h; once = once }
+  first = record {
+    seen = nothing_part whole;
+    outgoing = nothing_part whole;
+    accepted = λ s. nothing_part whole;
+    told = λ h. nothing_in (Erased []) h;
+    once = once;
+  }
 
   in_the_end : Meant hash_of w × Fits w name whole
   in_the_end =
-      meant_run hash_of name whole deeds nothing w runs says (part_left w.made w.made (brought deeds) (itself_part w.made)) (λ o h. Contains-append_right w.made (brought deeds) o h) clean first (meant_first hash_of)
+      meant_run hash_of name whole deeds nothing w runs says (part_left w.made w.made (brought deeds) (itself_part w.made))
+      (λ o h. Contains-append_right w.made (brought deeds) o h) clean first (meant_first hash_of)
 
   -- what it has seen is of what it made and of what came
   pub seen_alone : IsPartOf (w.seen name) (w.made ++ brought deeds)
@@ -212,4 +250,9 @@ pub headline_alone : HeadlineAlone
 headline_alone hash_of name deeds w runs says once clean =
     let end = in_the_end hash_of name deeds w runs says once clean in
     let m = end.0 in
-    record { live = m.live name; group = m.group name; messages = λ number x there. means_mail hash_of w x.mail x.of (m.ties.messages number x there); calls = told_by hash_of (w.replica name) (w.seen name) (w.outgoing name) (m.live name) (m.group name) end.1.told name (m.ties.named name) }
+    record {
+      live = m.live name;
+      group = m.group name;
+      messages = λ number x there. means_mail hash_of w x.mail x.of (m.ties.messages number x there);
+      calls = told_by hash_of (w.replica name) (w.seen name) (w.outgoing name) (m.live name) (m.group name) end.1.told name (m.ties.named name);
+    }

@@ -22,22 +22,29 @@ none_told : (answer told : Answer) → None ≡ Some told → answer ≡ told
 none_told answer told e = absurd cc
 
 -- so many writes were observed
-removed : (P : Dot → Type 0) (ds : List Dot) → ((dot : Dot) → IsTrue (has ds dot) ↔ P dot) → (old new : Replica) (answer : Answer) (out : List Mail) → Removes P old new answer out
+removed : (P : Dot → Type 0) (ds : List Dot) → ((dot : Dot) → IsTrue (has ds dot) ↔ P dot) → (old new : Replica) (answer : Answer) (out : List Mail)
+    → Removes P old new answer out
     → answer ≡ Counted (Rattle.std.specs.Set.distinct_count Rattle.dots.specs.Dot.same_dot ds)
 removed P ds all old new answer out (over, just, n, (k, counts, a), o) = a ∙ ap Counted (counted P ds k counts all)
 
-module _ (hash_of : List ℕ → ℕ) (r : Replica) (S T : List Operation) (live : r.live ≡ state S) (group : r.group ≡ state T) (told_of : ¬ Contains T (Erased [])) where
+module _ (hash_of : List ℕ → ℕ) (r : Replica) (S T : List Operation) (live : r.live ≡ state S) (group : r.group ≡ state T)
+    (told_of : ¬ Contains T (Erased [])) where
   same : Same r.live (state S)
   same = is_same r.live (state S) live
 
-  calls_told : (c : Call) (new : Replica) (answer : Answer) (out : List Mail) → IsCall r c new answer out → (told : Answer) → answer_by S r.name c ≡ Some told → answer ≡ told
+  calls_told : (c : Call) (new : Replica) (answer : Answer) (out : List Mail) → IsCall r c new answer out → (told : Answer) → answer_by S r.name c ≡ Some told
+      → answer ≡ told
   calls_told (Put place value) new answer out (v, put, lt, n, a, o) told e =
       let there : IsPutAt r.live r.name place value (write_at S r.name place value) = put_there S r.live same r.name place value in
       a ∙ ap Made (IsNext-one r.name r.live.has v.id (write_at S r.name place value).id put.id there.id) ∙ same_Some _ _ e
-  calls_told (Remove key) new answer out step told e = removed (IsWithin r.live key) (ids (shown_within S key)) (remove_there S r.live same key) r new answer out step ∙ same_Some _ _ e
+  calls_told (Remove key) new answer out step told e = removed (IsWithin r.live key) (ids (shown_within S key)) (remove_there S r.live same key)
+      r new answer out step ∙ same_Some _ _ e
   calls_told (RemoveField place) new answer out step told e =
-      removed (λ dot. IsSome (r.live.at place dot)) (ids (shown S place)) (λ dot. (λ h. sym (field_remove_there S r.live same place dot) ∙ h, λ h. field_remove_there S r.live same place dot ∙ h)) r new answer out step ∙ same_Some _ _ e
-  calls_told Clear new answer out step told e = removed (IsAnywhere r.live) (ids (shown_anywhere S)) (clear_there S r.live same) r new answer out step ∙ same_Some _ _ e
+      removed (λ dot. IsSome (r.live.at place dot)) (ids (shown S place))
+      (λ dot. (λ h. sym (field_remove_there S r.live same place dot) ∙ h, λ h. field_remove_there S r.live same place dot ∙ h)) r new answer out step
+      ∙ same_Some _ _ e
+  calls_told Clear new answer out step told e = removed (IsAnywhere r.live) (ids (shown_anywhere S)) (clear_there S r.live same) r new answer out step
+      ∙ same_Some _ _ e
   calls_told Flush new answer out step told e = none_told answer told e
   calls_told (call.Ask peer) new answer out step told e = none_told answer told e
   calls_told (Retry number) new answer out step told e = none_told answer told e
@@ -61,4 +68,5 @@ module _ (hash_of : List ℕ → ℕ) (r : Replica) (S T : List Operation) (live
 pub calls_are_told : CallsAreTold
 calls_are_told hash_of events w runs clean name =
     let m = meant_all hash_of events w runs clean in
-    told_by hash_of (w.replica name) (w.seen name) (w.outgoing name) (m.live name) (m.group name) (sound_fits w (sound hash_of events w runs) name).told name (m.ties.named name)
+    told_by hash_of (w.replica name) (w.seen name) (w.outgoing name) (m.live name) (m.group name) (sound_fits w (sound hash_of events w runs) name).told name
+    (m.ties.named name)

@@ -1,5 +1,6 @@
 -- A kept snapshot is for the hello of its session, and a hello tells what its asker knew when it asked.
-use Rattle.std.proofs.Common.{◌≡◌, ◌⊎◌, inl, inr, ℕ, zero, suc, ◌==◌, List, [], ◌∷◌, ◌++◌, map, Bool, true, false, Option, Some, None, cond, refl, sym, ap, ◌∙◌, subst}
+use Rattle.std.proofs.Common.{◌≡◌, ◌⊎◌, inl, inr, ℕ, zero, suc, ◌==◌, List, [], ◌∷◌, ◌++◌, map, Bool, true, false, Option, Some, None, cond, refl, sym, ap, ◌∙◌}
+use Rattle.std.proofs.Common.{subst}
 use Rattle.std.specs.Prelude.{Contains, slice_get}
 use Rattle.dots.specs.Dot.{DotValue}
 use Rattle.op_model.specs.Operation.{Operation}
@@ -33,27 +34,31 @@ stays_at ms more (suc n) m e = by ms n e
 -- ---- which hellos are sent
 
 -- no reply to a delivery is a hello
-asks_no_hello : (u : SessionValue) (prefixes : List (List ℕ)) (x : Mail) → Contains (asks_for u prefixes) x → (s : SessionValue) (seen : DotValue → Bool) → x ≡ Hello s seen → ⊥
+asks_no_hello : (u : SessionValue) (prefixes : List (List ℕ)) (x : Mail) → Contains (asks_for u prefixes) x → (s : SessionValue) (seen : DotValue → Bool)
+    → x ≡ Hello s seen → ⊥
 asks_no_hello u prefixes x h s seen e = let found = from_map (Ask u) prefixes x h in let same : Ask u found.0 ≡ Hello s seen = found.2 ∙ e in absurd cc
 
-no_hello : (hash_of : List ℕ → ℕ) (own : Held) (r : Replica) (mail x : Mail) → Contains (delivered hash_of own r mail).replies x → (s : SessionValue) (seen : DotValue → Bool) → x ≡ Hello s seen → ⊥
-no_hello hash_of own r mail = each_row hash_of own r (λ mail t. (x : Mail) → Contains t.replies x → (s : SessionValue) (seen : DotValue → Bool) → x ≡ Hello s seen → ⊥) (record {
-  ignoring = λ mail x h s seen e. nothing_in x h;
-  mismatch = λ mail x h s seen e. nothing_in x h;
-  delta = λ d x h s seen e. nothing_in x h;
-  told_again = λ t known k is x h s seen e. let same = sym (in_one _ x h) ∙ e in absurd cc;
-  kept = λ t known here none x h s seen e. let same = sym (in_one _ x h) ∙ e in absurd cc;
-  gone = λ t p x h s seen e. let same = sym (in_one _ x h) ∙ e in absurd cc;
-  page = λ t p k page x h s seen e. let same = sym (in_one _ x h) ∙ e in absurd cc;
-  opening_done = λ t c root o f there first took complete x h s seen e. nothing_in x h;
-  opening_sent = λ t c root o f there first took x h s seen e. asks_no_hello o.session _ x h s seen e;
-  page_done = λ t sent o a f there accepted took complete x h s seen e. nothing_in x h;
-  page_sent = λ t sent o a f there accepted took x h s seen e. asks_no_hello o.session _ x h s seen e;
-  ended = λ t o there x h s seen e. nothing_in x h;
-}) mail
+no_hello : (hash_of : List ℕ → ℕ) (own : Held) (r : Replica) (mail x : Mail) → Contains (delivered hash_of own r mail).replies x
+    → (s : SessionValue) (seen : DotValue → Bool) → x ≡ Hello s seen → ⊥
+no_hello hash_of own r mail = each_row hash_of own r (λ mail t. (x : Mail) → Contains t.replies x → (s : SessionValue) (seen : DotValue → Bool)
+    → x ≡ Hello s seen → ⊥) (record {
+      ignoring = λ mail x h s seen e. nothing_in x h;
+      mismatch = λ mail x h s seen e. nothing_in x h;
+      delta = λ d x h s seen e. nothing_in x h;
+      told_again = λ t known k is x h s seen e. let same = sym (in_one _ x h) ∙ e in absurd cc;
+      kept = λ t known here none x h s seen e. let same = sym (in_one _ x h) ∙ e in absurd cc;
+      gone = λ t p x h s seen e. let same = sym (in_one _ x h) ∙ e in absurd cc;
+      page = λ t p k page x h s seen e. let same = sym (in_one _ x h) ∙ e in absurd cc;
+      opening_done = λ t c root o f there first took complete x h s seen e. nothing_in x h;
+      opening_sent = λ t c root o f there first took x h s seen e. asks_no_hello o.session _ x h s seen e;
+      page_done = λ t sent o a f there accepted took complete x h s seen e. nothing_in x h;
+      page_sent = λ t sent o a f there accepted took x h s seen e. asks_no_hello o.session _ x h s seen e;
+      ended = λ t o there x h s seen e. nothing_in x h;
+    }) mail
 
 -- a kept snapshot was kept, or is for the hello that came
-kept_from : (hash_of : List ℕ → ℕ) (own : Held) (r : Replica) (mail : Mail) (k : Kept) → Contains (delivered hash_of own r mail).new.kept k → Contains r.kept k ⊎ (mail ≡ Hello k.session k.seen)
+kept_from : (hash_of : List ℕ → ℕ) (own : Held) (r : Replica) (mail : Mail) (k : Kept) → Contains (delivered hash_of own r mail).new.kept k → Contains r.kept k
+    ⊎ (mail ≡ Hello k.session k.seen)
 kept_from hash_of own r = each_row hash_of own r (λ mail t. (k : Kept) → Contains t.new.kept k → Contains r.kept k ⊎ (mail ≡ Hello k.session k.seen)) (record {
   ignoring = λ mail k h. inl h;
   mismatch = λ mail k h. inl h;
@@ -69,7 +74,8 @@ kept_from hash_of own r = each_row hash_of own r (λ mail t. (k : Kept) → Cont
   ended = λ s o there k h. inl h;
 })
   where
-    either : (s : SessionValue) (seen : DotValue → Bool) (k : Kept) → Contains r.kept k ⊎ (k ≡ Rattle.replica_model.proofs.Rows.snapshot own r s seen) → Contains r.kept k ⊎ (Hello s seen ≡ Hello k.session k.seen)
+    either : (s : SessionValue) (seen : DotValue → Bool) (k : Kept) → Contains r.kept k ⊎ (k ≡ Rattle.replica_model.proofs.Rows.snapshot own r s seen)
+        → Contains r.kept k ⊎ (Hello s seen ≡ Hello k.session k.seen)
     either s seen k (inl h) = inl h
     either s seen k (inr e) = inr (ap (λ (j : Kept). Hello j.session j.seen) (sym e))
 
@@ -79,7 +85,8 @@ abandon_keeps old new None answer (n, a) = ap (λ (r : Replica). r.kept) n
 abandon_keeps old new (Some o) answer (n, a) = ap (λ (r : Replica). r.kept) n
 
 -- each snapshot stays, or the replica restarts and keeps none
-pub call_keeps : (old new : Replica) (c : Call) (answer : Answer) (out : List Mail) → IsCall old c new answer out → (new.kept ≡ old.kept) ⊎ ((c ≡ Restart) × (new.kept ≡ []))
+pub call_keeps : (old new : Replica) (c : Call) (answer : Answer) (out : List Mail) → IsCall old c new answer out → (new.kept ≡ old.kept)
+    ⊎ ((c ≡ Restart) × (new.kept ≡ []))
 call_keeps old new (Put place value) answer out (w, put, lt, n, a, o) = inl (ap (λ (r : Replica). r.kept) n)
 call_keeps old new (Remove key) answer out (over, just, n, a, o) = inl (ap (λ (r : Replica). r.kept) n)
 call_keeps old new (RemoveField place) answer out (over, just, n, a, o) = inl (ap (λ (r : Replica). r.kept) n)
@@ -92,7 +99,8 @@ call_keeps old new (Abandon number) answer out (step, o) = inl (abandon_keeps ol
 call_keeps old new Restart answer out (n, a, o) = inr (refl, ap (λ (r : Replica). r.kept) n)
 
 -- so a snapshot that is kept after a call was kept before it
-pub call_kept : (old new : Replica) (c : Call) (answer : Answer) (out : List Mail) → IsCall old c new answer out → (k : Kept) → Contains new.kept k → Contains old.kept k
+pub call_kept : (old new : Replica) (c : Call) (answer : Answer) (out : List Mail) → IsCall old c new answer out → (k : Kept) → Contains new.kept k
+    → Contains old.kept k
 call_kept old new c answer out step k h = by (call_keeps old new c answer out step)
   where
     by : (new.kept ≡ old.kept) ⊎ ((c ≡ Restart) × (new.kept ≡ [])) → Contains old.kept k
@@ -112,25 +120,29 @@ module _ (hash_of : List ℕ → ℕ) where
   abbrev Hellos : List Event → Mail → Type 0
   Hellos events x = (s : SessionValue) (seen : DotValue → Bool) → x ≡ Hello s seen → (own : Held) × IsAskOf hash_of events s own seen
 
-  asked_hello : (events : List Event) (s : SessionValue) (own : Held) (seen : DotValue → Bool) → IsAskOf hash_of events s own seen → (x : Mail) → x ≡ Hello s seen → Hellos events x
+  asked_hello : (events : List Event) (s : SessionValue) (own : Held) (seen : DotValue → Bool) → IsAskOf hash_of events s own seen → (x : Mail)
+      → x ≡ Hello s seen → Hellos events x
   asked_hello events s own seen asked x is t known e =
       let same : Hello s seen ≡ Hello t known = sym is ∙ e in
       let session : s ≡ t = cc in
       let dots : seen ≡ known = cc in
       (own, subst (λ u. IsAskOf hash_of events u own known) session (subst (IsAskOf hash_of events s own) dots asked))
 
-  again_hellos : (events : List Event) (o : Open) → IsAskOf hash_of events o.session o.own o.seen → (a : Option Accepted) (x : Mail) → Contains (again o a) x → Hellos events x
+  again_hellos : (events : List Event) (o : Open) → IsAskOf hash_of events o.session o.own o.seen → (a : Option Accepted) (x : Mail) → Contains (again o a) x
+      → Hellos events x
   again_hellos events o asked None x h s seen e = asked_hello events o.session o.own o.seen asked x (in_one (Hello o.session o.seen) x h) s seen e
   again_hellos events o asked (Some a) x h s seen e = absurd (asks_no_hello o.session _ x h s seen e)
 
-  retry_hellos : (events : List Event) (r : Replica) (o : Option Open) → ((p : Open) → o ≡ Some p → IsAskOf hash_of events p.session p.own p.seen) → (x : Mail) → Contains (retried r o).replies x → Hellos events x
+  retry_hellos : (events : List Event) (r : Replica) (o : Option Open) → ((p : Open) → o ≡ Some p → IsAskOf hash_of events p.session p.own p.seen) → (x : Mail)
+      → Contains (retried r o).replies x → Hellos events x
   retry_hellos events r None asked x h s seen e = nothing_in x h
   retry_hellos events r (Some o) asked x h s seen e = again_hellos events o (asked o refl) o.accepted x h s seen e
 
   nothing_told : (events : List Event) (out : List Mail) → out ≡ [] → (x : Mail) → Contains out x → Hellos events x
   nothing_told events out e x h s seen is = nothing_in x (subst (λ ms. Contains ms x) e h)
 
-  call_hellos : (events : List Event) (w : World) (name : ℕ) → Runs hash_of nothing events w → (c : Call) (new : Replica) (answer : Answer) (out : List Mail) → IsCall (w.replica name) c new answer out
+  call_hellos : (events : List Event) (w : World) (name : ℕ) → Runs hash_of nothing events w → (c : Call) (new : Replica) (answer : Answer) (out : List Mail)
+      → IsCall (w.replica name) c new answer out
       → (x : Mail) → Contains out x → Hellos (events ++ At name c ∷ []) x
   call_hellos events w name runs (Put place value) new answer out (v, put, lt, n, a, o) x h s seen e = nothing_told _ out o x h s seen e
   call_hellos events w name runs (Remove key) new answer out (over, just, n, a, o) x h s seen e = nothing_told _ out o x h s seen e
@@ -144,7 +156,8 @@ module _ (hash_of : List ℕ → ℕ) where
       (asked_now hash_of events w name peer own runs ((told hash_of events w runs).named name) is) x (in_one _ x (subst (λ ms. Contains ms x) o h)) s seen e
   call_hellos events w name runs (Retry number) new answer out (n, a, o) x h s seen e =
       retry_hellos (events ++ At name (Retry number) ∷ []) (w.replica name) (open_numbered (w.replica name).sessions number)
-      (λ p at. ask_more hash_of events (At name (Retry number)) p.session p.own p.seen ((told hash_of events w runs).sessions name p (found_numbered (w.replica name).sessions number p at)).asked.0)
+      (λ p at. ask_more hash_of events (At name (Retry number)) p.session p.own p.seen
+      ((told hash_of events w runs).sessions name p (found_numbered (w.replica name).sessions number p at)).asked.0)
       x (subst (λ ms. Contains ms x) o h) s seen e
   call_hellos events w name runs (Abandon number) new answer out (step, o) x h s seen e = nothing_told _ out o x h s seen e
   call_hellos events w name runs Restart new answer out (n, a, o) x h s seen e = nothing_told _ out o x h s seen e
@@ -159,25 +172,31 @@ module _ (hash_of : List ℕ → ℕ) where
     hellos : (number : ℕ) (m : Message) → message_at w.messages number ≡ Some m → Hellos events m.mail
 
   -- messages that were added, of these mails
-  heard_goes : (events : List Event) (e : Event) (w u : World) (name : ℕ) (new : Replica) (out : List Mail) (group : List Operation) → u.messages ≡ w.messages → u.replica ≡ w.replica → Heard events w
-      → ((k : Kept) → Contains new.kept k → HeardOf w k) → ((x : Mail) → Contains out x → Hellos (events ++ e ∷ []) x) → Heard (events ++ e ∷ []) (goes name new out group u)
+  heard_goes : (events : List Event) (e : Event) (w u : World) (name : ℕ) (new : Replica) (out : List Mail) (group : List Operation) → u.messages ≡ w.messages
+      → u.replica ≡ w.replica → Heard events w
+      → ((k : Kept) → Contains new.kept k → HeardOf w k) → ((x : Mail) → Contains out x → Hellos (events ++ e ∷ []) x)
+      → Heard (events ++ e ∷ []) (goes name new out group u)
   heard_goes events e w u name new out group same same_rs heard here sent = record {
     kept = λ n k h. further k
-        (by_name (λ j r. Contains r.kept k → HeardOf w k) name new w.replica (λ i. here k i) (λ j apart i. heard.kept j k i) n (subst (λ f. Contains (cond (n == name) new (f n)).kept k) same_rs h));
-    hellos = λ number m there. either m (at_either u.messages (map (sent_as group u.kept new.kept) out) number m there) (λ i. heard.hellos number m (subst (λ ms. message_at ms number ≡ Some m) same i));
+        (by_name (λ j r. Contains r.kept k → HeardOf w k) name new w.replica (λ i. here k i) (λ j apart i. heard.kept j k i) n
+        (subst (λ f. Contains (cond (n == name) new (f n)).kept k) same_rs h));
+    hellos = λ number m there. either m (at_either u.messages (map (sent_as group u.kept new.kept) out) number m there)
+        (λ i. heard.hellos number m (subst (λ ms. message_at ms number ≡ Some m) same i));
   }
     where
       further : (k : Kept) → HeardOf w k → HeardOf (goes name new out group u) k
       further k (number, m, there, is) =
           (number, m, stays_at u.messages (map (sent_as group u.kept new.kept) out) number m (subst (λ ms. message_at ms number ≡ Some m) (sym same) there), is)
 
-      either : (m : Message) → {A : Type 0} → A ⊎ Contains (map (sent_as group u.kept new.kept) out) m → (A → Hellos events m.mail) → Hellos (events ++ e ∷ []) m.mail
+      either : (m : Message) → {A : Type 0} → A ⊎ Contains (map (sent_as group u.kept new.kept) out) m → (A → Hellos events m.mail)
+          → Hellos (events ++ e ∷ []) m.mail
       either m (inl i) old s seen is = let a = old i s seen is in (a.0, ask_more hash_of events e s a.0 seen a.1)
       either m (inr i) old s seen is =
           let found = from_map (sent_as group u.kept new.kept) out m i in
           sent found.0 found.1 s seen (ap (λ (y : Message). y.mail) found.2 ∙ is)
 
-  heard_next : (events : List Event) (w v : World) (e : Event) (answer : Answer) → Runs hash_of nothing events w → Heard events w → Happens hash_of w e answer v → Heard (events ++ e ∷ []) v
+  heard_next : (events : List Event) (w v : World) (e : Event) (answer : Answer) → Runs hash_of nothing events w → Heard events w → Happens hash_of w e answer v
+      → Heard (events ++ e ∷ []) v
   heard_next events w v (Node name) answer runs heard (new, a, e) =
       subst (Heard (events ++ Node name ∷ [])) (sym e) (record {
         kept = heard.kept;
@@ -192,12 +211,14 @@ module _ (hash_of : List ℕ → ℕ) where
       let d = delivery hash_of w v number name answer happens in
       let old = w.replica name in
       subst (Heard (events ++ Deliver number name ∷ [])) (sym d.after)
-      (heard_goes events (Deliver number name) w (takes name old d.message.mail d.message.of d.outcome w) name d.new d.out [] (same_messages w name old d.message.mail d.message.of d.outcome)
+      (heard_goes events (Deliver number name) w (takes name old d.message.mail d.message.of d.outcome w) name d.new d.out []
+      (same_messages w name old d.message.mail d.message.of d.outcome)
       (same_replicas w name old d.message.mail d.message.of d.outcome) heard
       (λ k h. by_case k d.message d.there (kept_from hash_of d.own old d.message.mail k (subst (λ (t : Turn). Contains t.new.kept k) (sym d.step) h)))
       (λ x h s seen e. absurd (no_hello hash_of d.own old d.message.mail x (subst (λ (t : Turn). Contains t.replies x) (sym d.step) h) s seen e)))
     where
-      by_case : (k : Kept) (m : Message) → message_at w.messages number ≡ Some m → Contains (w.replica name).kept k ⊎ (m.mail ≡ Hello k.session k.seen) → HeardOf w k
+      by_case : (k : Kept) (m : Message) → message_at w.messages number ≡ Some m → Contains (w.replica name).kept k ⊎ (m.mail ≡ Hello k.session k.seen)
+          → HeardOf w k
       by_case k m there (inl h) = heard.kept name k h
       by_case k m there (inr e) = (number, m, there, e)
 

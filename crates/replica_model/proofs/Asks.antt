@@ -1,5 +1,6 @@
 -- A session is asked for once: its number is past those of all sessions that its asker opened before.
-use Rattle.std.proofs.Common.{◌≡◌, ◌⊎◌, inl, inr, ℕ, ◌+◌, ◌≤◌, ◌==◌, List, [], ◌∷◌, ◌++◌, Bool, Option, Some, None, cond, refl, sym, ap, ◌∙◌, subst, arith, eq-eqb}
+use Rattle.std.proofs.Common.{◌≡◌, ◌⊎◌, inl, inr, ℕ, ◌+◌, ◌≤◌, ◌==◌, List, [], ◌∷◌, ◌++◌, Bool, Option, Some, None, cond, refl, sym, ap, ◌∙◌, subst, arith}
+use Rattle.std.proofs.Common.{eq-eqb}
 use Rattle.dots.specs.Dot.{DotValue}
 use Rattle.prefix_digest.specs.MapOf.{IsMapOf}
 use Rattle.prefix_digest.proofs.MapsOf.{maps_one}
@@ -42,12 +43,14 @@ call_opens old new (Abandon number) answer out (abandons, o) = abandon_opens old
 call_opens old new Restart answer out (n, a, o) = as_many old new _ n (omega arith)
 
 -- so no event takes a number back
-event_opens : (hash_of : List ℕ → ℕ) (w v : World) (e : Event) (answer : Answer) → Happens hash_of w e answer v → (n : ℕ) → (w.replica n).opened ≤ (v.replica n).opened
+event_opens : (hash_of : List ℕ → ℕ) (w v : World) (e : Event) (answer : Answer) → Happens hash_of w e answer v → (n : ℕ)
+    → (w.replica n).opened ≤ (v.replica n).opened
 event_opens hash_of w v (Node name) answer (absent, a, after) n = subst (λ (x : World). (w.replica n).opened ≤ (x.replica n).opened) (sym after) (omega arith)
 event_opens hash_of w v (At name c) answer (there, peer, (new, out, step, after)) n =
     subst (λ (x : World). (w.replica n).opened ≤ (x.replica n).opened) (sym after)
     (subst (λ f. (w.replica n).opened ≤ (cond (n == name) new (f n)).opened) (sym (same_after_calls hash_of w name c))
-    (by_name (λ k (r : Replica). (w.replica k).opened ≤ r.opened) name new w.replica (call_opens (w.replica name) new c answer out step) (λ k apart. omega arith) n))
+    (by_name (λ k (r : Replica). (w.replica k).opened ≤ r.opened) name new w.replica (call_opens (w.replica name) new c answer out step)
+    (λ k apart. omega arith) n))
 event_opens hash_of w v (Deliver number name) answer happens n =
     let d = delivery hash_of w v number name answer happens in
     let old = w.replica name in
@@ -62,7 +65,8 @@ runs_open hash_of (e ∷ events) u w (answer, v, happens, rest) n = omega (arith
 
 -- ---- two fronts of one list, each before one event
 
-runs_split : (hash_of : List ℕ → ℕ) (front more : List Event) (u w : World) → Runs hash_of u (front ++ more) w → (t : World) × Runs hash_of u front t × Runs hash_of t more w
+runs_split : (hash_of : List ℕ → ℕ) (front more : List Event) (u w : World) → Runs hash_of u (front ++ more) w → (t : World) × Runs hash_of u front t
+    × Runs hash_of t more w
 runs_split hash_of [] more u w runs = (u, refl, runs)
 runs_split hash_of (e ∷ front) more u w (answer, v, happens, rest) =
     let later = runs_split hash_of front more v w rest in
@@ -96,12 +100,15 @@ fronts e (x ∷ xs) (y ∷ ys) us vs same = step (ap (first_of e) same) (fronts 
     step one (inr (inr (more, longer))) = inr (inr (more, (λ i. one i ∷ xs) ∙ ap (λ zs. y ∷ zs) longer))
 
 module _ (hash_of : List ℕ → ℕ) (s : SessionValue) where
-  asked_here : (t v : World) (answer : Answer) → Happens hash_of t (At s.asker (Ask s.answerer)) answer v → (v.replica s.asker).opened ≡ (t.replica s.asker).opened + 1
+  asked_here : (t v : World) (answer : Answer) → Happens hash_of t (At s.asker (Ask s.answerer)) answer v
+      → (v.replica s.asker).opened ≡ (t.replica s.asker).opened + 1
   asked_here t v answer (there, peer, (new, out, (own, is, few, left, n, a, o), after)) =
-      ap (λ (x : World). (x.replica s.asker).opened) after ∙ ap (λ b. (cond b new (t.replica s.asker)).opened) (eq-eqb s.asker s.asker refl) ∙ ap (λ (r : Replica). r.opened) n
+      ap (λ (x : World). (x.replica s.asker).opened) after ∙ ap (λ b. (cond b new (t.replica s.asker)).opened) (eq-eqb s.asker s.asker refl)
+      ∙ ap (λ (r : Replica). r.opened) n
 
   -- no front goes on to another before which the session has the same number
-  not_again : (front later : List Event) (t w : World) → Runs hash_of nothing front t → s.number ≡ (t.replica s.asker).opened + 1 → s.number ≡ (w.replica s.asker).opened + 1
+  not_again : (front later : List Event) (t w : World) → Runs hash_of nothing front t → s.number ≡ (t.replica s.asker).opened + 1
+      → s.number ≡ (w.replica s.asker).opened + 1
       → GoesOnWith (At s.asker (Ask s.answerer)) front later → Runs hash_of nothing later w → ⊥
   unfolding GoesOnWith
   not_again front later t w runs first second (more, longer) all =
@@ -114,7 +121,8 @@ module _ (hash_of : List ℕ → ℕ) (s : SessionValue) where
           let here : (x.replica s.asker).opened ≡ (t.replica s.asker).opened = ap (λ (y : World). (y.replica s.asker).opened) same in
           omega (arith, first, second, here, asked_here x v answer happens, runs_open hash_of more v w rest s.asker)
 
-  ask_one : (events : List Event) (own own' : Held) (known known' : DotValue → Bool) → (a : IsAskOf hash_of events s own known) → (b : IsAskOf hash_of events s own' known')
+  ask_one : (events : List Event) (own own' : Held) (known known' : DotValue → Bool) → (a : IsAskOf hash_of events s own known)
+      → (b : IsAskOf hash_of events s own' known')
       → (own ≡ own') × (known ≡ known')
   ask_one events own own' known known' a b = step (fronts (At s.asker (Ask s.answerer)) a.front b.front a.later b.later (sym a.split ∙ b.split))
     where

@@ -29,15 +29,22 @@ use Rattle.replica_model.proofs.Ending.{none_waits}
 some_waits : (f : Fetch) → is_complete f ≡ false → (p : List ℕ) × (d : List ℕ) × (finite.get f.waiting p ≡ Some d)
 some_waits f e = by (finite.entries f.waiting) refl e
   where
-    by : (es : List (List ℕ × List ℕ)) → finite.entries f.waiting ≡ es → nat_lt (length es) 1 ≡ false → (p : List ℕ) × (d : List ℕ) × (finite.get f.waiting p ≡ Some d)
+    by : (es : List (List ℕ × List ℕ)) → finite.entries f.waiting ≡ es → nat_lt (length es) 1 ≡ false → (p : List ℕ) × (d : List ℕ)
+        × (finite.get f.waiting p ≡ Some d)
     by [] are e = absurd cc
-    by ((p, d) ∷ es) are e = (p, d, get-entries f.waiting p ∙ ap (find prefix_cmp p) are ∙ ap (λ b. cond b (Some d) (find prefix_cmp p es)) (same_tied p p refl))
+    by ((p, d) ∷ es) are e = (
+      p,
+      d,
+      get-entries f.waiting p ∙ ap (find prefix_cmp p) are
+          ∙ ap (λ b. cond b (Some d) (find prefix_cmp p es)) (same_tied p p refl),
+    )
 
 -- nothing is waited for
 abbrev pub NoneWaits : (List ℕ → ℕ) → Held → Held → List Taking → Type 0
 NoneWaits hash_of own theirs ts = (p d : List ℕ) → ¬ Waits hash_of own theirs (TakenAt ts) p d
 
-module _ (hash_of : List ℕ → ℕ) (own theirs : Held) (seen opened : DotValue → Bool) (ts : List Taking) (f : Fetch) (law : IsFetched hash_of own theirs seen opened ts f) where
+module _ (hash_of : List ℕ → ℕ) (own theirs : Held) (seen opened : DotValue → Bool) (ts : List Taking) (f : Fetch)
+    (law : IsFetched hash_of own theirs seen opened ts f) where
   pub complete_waits : is_complete f ≡ true → NoneWaits hash_of own theirs ts
   complete_waits e p d waits = let some : None ≡ Some d = sym (none_waits f e p) ∙ (law.waits p d).1 waits in absurd cc
 
@@ -64,7 +71,8 @@ from_flat_map : {X A : Type 0} (f : X → List A) (xs : List X) (y : A) → Cont
 from_flat_map f [] y h = nothing_in y h
 from_flat_map f (x ∷ xs) y h = by (Contains-append_cases (f x) (flat_map f xs) y h) (from_flat_map f xs y)
   where
-    by : Contains (f x) y ⊎ Contains (flat_map f xs) y → (Contains (flat_map f xs) y → (z : _) × Contains xs z × Contains (f z) y) → (z : _) × Contains (x ∷ xs) z × Contains (f z) y
+    by : Contains (f x) y ⊎ Contains (flat_map f xs) y → (Contains (flat_map f xs) y → (z : _) × Contains xs z × Contains (f z) y) → (z : _)
+        × Contains (x ∷ xs) z × Contains (f z) y
     by (inl here) rest = (x, at_head x xs, here)
     by (inr there) rest = let found = rest there in (found.0, in_tail x xs found.0 found.1, found.2)
 
@@ -81,8 +89,12 @@ module _ (hash_of : List ℕ → ℕ) (own theirs : Held) (seen : DotValue → B
       in_walk : Contains (unknown_in seen (walk_under hash_of p theirs)) v → HoldsValue theirs v
       in_walk h =
           let e = from_flat_map (λ (e : List ℕ × FieldsValue). unknown_in_fields seen e.1) (walk_under hash_of p theirs) v h in
-          let f = from_flat_map (λ (f : List ℕ × ValuesValue). unknown_in_values seen f.1) e.0.1 v e.2 in
-          (e.0.0, e.0.1, (part_found hash_of theirs p e.0.0 e.0.1 (In-Contains (walk_under hash_of p theirs) e.0 e.1)).0, (f.0.0, f.0.1, f.1, in_values f.0.1 f.2))
+          let f = from_flat_map (λ (f : List ℕ × ValuesValue). unknown_in_values seen f.1) e.0.1 v e.2 in (
+            e.0.0,
+            e.0.1,
+            (part_found hash_of theirs p e.0.0 e.0.1 (In-Contains (walk_under hash_of p theirs) e.0 e.1)).0,
+            (f.0.0, f.0.1, f.1, in_values f.0.1 f.2),
+          )
 
       step : Shown hash_of theirs p page → HoldsValue theirs v
       step (Leaf none entries off values) = in_walk (subst (λ vs. Contains vs v) (values seen) h)

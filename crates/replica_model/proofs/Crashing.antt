@@ -1,5 +1,6 @@
 -- What runs, whichever replicas crash, is the world after the events that are left.
-use Rattle.std.proofs.Common.{◌≡◌, ◌≢◌, ℕ, zero, suc, ◌==◌, List, [], ◌∷◌, ◌++◌, map, Bool, true, false, Option, Some, None, cond, refl, sym, ap, ◌∙◌, subst, eqb-true, append_assoc}
+use Rattle.std.proofs.Common.{◌≡◌, ◌≢◌, ℕ, zero, suc, ◌==◌, List, [], ◌∷◌, ◌++◌, map, Bool, true, false, Option, Some, None, cond, refl, sym, ap, ◌∙◌, subst}
+use Rattle.std.proofs.Common.{eqb-true, append_assoc}
 use Rattle.std.specs.Prelude.{slice_get}
 use Rattle.std.proofs.lemmas.Bool.{false≢true}
 use Rattle.std.proofs.lemmas.List.{append-nil}
@@ -12,10 +13,12 @@ use Rattle.replica_model.specs.Replica.{Replica, restarts, open_at}
 use Rattle.replica_model.specs.Delivery.{Outcome, Joined, Sent, Done, Ignored, Mismatch, Ended}
 use Rattle.replica_model.specs.Step.{Call, Put, Remove, RemoveField, Clear, Flush, Retry, Abandon, Restart, Do, Take, Answer, Nothing, Came, IsStep}
 use Rattle.replica_model.specs.Step as call
-use Rattle.replica_model.specs.World.{World, Event, Node, At, Deliver, Message, Snapshot, message_at, nothing, calls, takes, learns, keeps, accepts, takes_page, taking_of, own_of, ends, is_joined, is_sent, is_done, sent_as, goes, is_node, has_peer, Happens, Runs}
+use Rattle.replica_model.specs.World.{World, Event, Node, At, Deliver, Message, Snapshot, message_at, nothing, calls, takes, learns, keeps, accepts, takes_page}
+use Rattle.replica_model.specs.World.{taking_of, own_of, ends, is_joined, is_sent, is_done, sent_as, goes, is_node, has_peer, Happens, Runs}
 use Rattle.replica_model.specs.Laws.{Leaves, replica_of}
 use Rattle.replica_model.specs.Crashing as crashing
-use Rattle.replica_model.specs.Crashing.{System, started, Occurrence, Saving, Passing, Saves, Crashes, put, mail_at, peer_in, nodes_after, Does, Occurs, Goes, is_lost, unless_lost, left, Shows, CrashesTakeBack}
+use Rattle.replica_model.specs.Crashing.{System, started, Occurrence, Saving, Passing, Saves, Crashes, put, mail_at, peer_in, nodes_after, Does, Occurs, Goes}
+use Rattle.replica_model.specs.Crashing.{is_lost, unless_lost, left, Shows, CrashesTakeBack}
 use Rattle.replica_model.proofs.Carried.{if_both, same_replicas, same_messages, left_as_is}
 use Rattle.replica_model.proofs.Deciding.{goes_on}
 use Rattle.replica_model.proofs.Fronts.{same_after_calls}
@@ -91,7 +94,8 @@ world_of h = record {
 abbrev after_call : ℕ → Call → Replica → List Mail → Common × Own → Common × Own
 after_call n c new out h = here n (goes n new out h.1.outgoing (calls n c (world_of h)))
 
-call_here : (w : World) (n : ℕ) (c : Call) (new : Replica) (out : List Mail) → here n (goes n new out (w.outgoing n) (calls n c w)) ≡ after_call n c new out (here n w)
+call_here : (w : World) (n : ℕ) (c : Call) (new : Replica) (out : List Mail) → here n (goes n new out (w.outgoing n) (calls n c w))
+    ≡ after_call n c new out (here n w)
 call_here w n (Put place value) new out = refl
 call_here w n (Remove key) new out = refl
 call_here w n (RemoveField place) new out = refl
@@ -131,18 +135,21 @@ take_here : (w : World) (n : ℕ) (old : Replica) (mail : Mail) (of : Snapshot) 
     → here n (goes n new out [] (takes n old mail of outcome w)) ≡ after_take n old mail of outcome new out (here n w)
 take_here w n old (Delta d) of outcome new out = by (is_joined outcome)
   where
-    by : (b : Bool) → here n (goes n new out [] (cond b (learns n of.seen w) w)) ≡ here n (goes n new out [] (cond b (learns n of.seen (world_of (here n w))) (world_of (here n w))))
+    by : (b : Bool) → here n (goes n new out [] (cond b (learns n of.seen w) w))
+        ≡ here n (goes n new out [] (cond b (learns n of.seen (world_of (here n w))) (world_of (here n w))))
     by true = refl
     by false = refl
 take_here w n old (Hello s seen) of outcome new out = by (is_sent outcome)
   where
-    by : (b : Bool) → here n (goes n new out [] (cond b (keeps n old s w) w)) ≡ here n (goes n new out [] (cond b (keeps n old s (world_of (here n w))) (world_of (here n w))))
+    by : (b : Bool) → here n (goes n new out [] (cond b (keeps n old s w) w))
+        ≡ here n (goes n new out [] (cond b (keeps n old s (world_of (here n w))) (world_of (here n w))))
     by true = refl
     by false = refl
 take_here w n old (Opening s context root) of outcome new out = by (is_done outcome) (is_sent outcome)
   where
     by : (b d : Bool) → here n (goes n new out [] (cond b (ends n (own_of (open_at old.sessions s)) of [] w) (cond d (accepts s of w) w)))
-        ≡ here n (goes n new out [] (cond b (ends n (own_of (open_at old.sessions s)) of [] (world_of (here n w))) (cond d (accepts s of (world_of (here n w))) (world_of (here n w)))))
+        ≡ here n (goes n new out [] (cond b (ends n (own_of (open_at old.sessions s)) of [] (world_of (here n w)))
+        (cond d (accepts s of (world_of (here n w))) (world_of (here n w)))))
     by true d = refl
     by false true = refl
     by false false = refl
@@ -152,8 +159,11 @@ take_here w n old (Page s sent) of outcome new out = by (is_done outcome) (is_se
     ended : World → World
     ended u = ends n (own_of (open_at old.sessions s)) (u.accepted s) (taking_of sent ∷ u.taken s) u
 
-    by : (b d : Bool) → here n (goes n new out [] (cond b (ends n (own_of (open_at old.sessions s)) (w.accepted s) (taking_of sent ∷ w.taken s) w) (cond d (takes_page s sent w) w)))
-        ≡ here n (goes n new out [] (cond b (ends n (own_of (open_at old.sessions s)) (w.accepted s) (taking_of sent ∷ w.taken s) (world_of (here n w))) (cond d (takes_page s sent (world_of (here n w))) (world_of (here n w)))))
+    by : (b d : Bool)
+        → here n (goes n new out [] (cond b (ends n (own_of (open_at old.sessions s)) (w.accepted s) (taking_of sent ∷ w.taken s) w)
+        (cond d (takes_page s sent w) w)))
+        ≡ here n (goes n new out [] (cond b (ends n (own_of (open_at old.sessions s)) (w.accepted s) (taking_of sent ∷ w.taken s) (world_of (here n w)))
+        (cond d (takes_page s sent (world_of (here n w))) (world_of (here n w)))))
     by true d = refl
     by false true = refl
     by false false = refl
@@ -167,7 +177,8 @@ not_sent Ignored apart = refl
 not_sent Mismatch apart = refl
 not_sent Ended apart = refl
 
-take_common : (w : World) (n : ℕ) (old : Replica) (mail : Mail) (of : Snapshot) (outcome : Outcome) → (outcome ≡ Sent → ⊥) → common (takes n old mail of outcome w) ≡ common w
+take_common : (w : World) (n : ℕ) (old : Replica) (mail : Mail) (of : Snapshot) (outcome : Outcome) → (outcome ≡ Sent → ⊥)
+    → common (takes n old mail of outcome w) ≡ common w
 take_common w n old (Delta d) of outcome apart = if_both common (is_joined outcome) (learns n of.seen w) w (common w) refl refl
 take_common w n old (Hello s seen) of outcome apart = ap (λ b. common (cond b (keeps n old s w) w)) (not_sent outcome apart)
 take_common w n old (Opening s context root) of outcome apart =
@@ -175,7 +186,8 @@ take_common w n old (Opening s context root) of outcome apart =
     (ap (λ b. common (cond b (accepts s of w) w)) (not_sent outcome apart))
 take_common w n old (Ask s prefix) of outcome apart = refl
 take_common w n old (Page s sent) of outcome apart =
-    if_both common (is_done outcome) (ends n (own_of (open_at old.sessions s)) (w.accepted s) (taking_of sent ∷ w.taken s) w) (cond (is_sent outcome) (takes_page s sent w) w) (common w) refl
+    if_both common (is_done outcome) (ends n (own_of (open_at old.sessions s)) (w.accepted s) (taking_of sent ∷ w.taken s) w)
+    (cond (is_sent outcome) (takes_page s sent w) w) (common w) refl
     (ap (λ b. common (cond b (takes_page s sent w) w)) (not_sent outcome apart))
 take_common w n old (Gone s) of outcome apart = refl
 
@@ -188,13 +200,15 @@ none_sent n new group w = λ i. record { nodes = w.nodes; messages = append-nil 
 mails : List Message → List Mail
 mails ms = map (λ m. m.mail) ms
 
-mails_on : (ms : List Message) (group : List Operation) (kept : SessionValue → List Operation) (ks : List Rattle.replica_model.specs.Replica.Kept) (out : List Mail)
+mails_on : (ms : List Message) (group : List Operation) (kept : SessionValue → List Operation) (ks : List Rattle.replica_model.specs.Replica.Kept)
+    (out : List Mail)
     → map (λ m. m.mail) (ms ++ map (sent_as group kept ks) out) ≡ map (λ m. m.mail) ms ++ out
 mails_on [] group kept ks [] = refl
 mails_on [] group kept ks (x ∷ out) = ap (λ xs. x ∷ xs) (mails_on [] group kept ks out)
 mails_on (m ∷ ms) group kept ks out = ap (λ xs. m.mail ∷ xs) (mails_on ms group kept ks out)
 
-found : (ms : List Message) (number : ℕ) (mail : Mail) → mail_at (map (λ m. m.mail) ms) number ≡ Some mail → (m : Message) × (message_at ms number ≡ Some m) × (m.mail ≡ mail)
+found : (ms : List Message) (number : ℕ) (mail : Mail) → mail_at (map (λ m. m.mail) ms) number ≡ Some mail → (m : Message) × (message_at ms number ≡ Some m)
+    × (m.mail ≡ mail)
 found ms zero mail e = absurd cc
 found ms (suc n) mail e = by ms n e
   where
@@ -220,10 +234,12 @@ module _ (hash_of : List ℕ → ℕ) where
     next : World
     happens : Happens hash_of u e answer next
     is_world : IsWorld next (crashing.goes hash_of s e new out)
-    again : (w : World) → here (replica_of e) w ≡ here (replica_of e) u → (v : World) × Happens hash_of w e answer v × (here (replica_of e) v ≡ here (replica_of e) next)
+    again : (w : World) → here (replica_of e) w ≡ here (replica_of e) u → (v : World) × Happens hash_of w e answer v
+        × (here (replica_of e) v ≡ here (replica_of e) next)
     quiet : out ≡ [] → (answer ≡ Came Sent → ⊥) → IsNoNode e → common next ≡ common u
 
-  did_node : (u : World) (s : System) (name : ℕ) (new : Replica) (answer : Answer) (out : List Mail) → IsWorld u s → Does hash_of s (Node name) new answer out → Did u s (Node name) new answer out
+  did_node : (u : World) (s : System) (name : ℕ) (new : Replica) (answer : Answer) (out : List Mail) → IsWorld u s → Does hash_of s (Node name) new answer out
+      → Did u s (Node name) new answer out
   did_node u s name new answer out is (absent, n, a, o) = record {
     next = record u { nodes = u.nodes ++ name ∷ [] };
     happens = (ap (λ ns. is_among ns name) is.nodes ∙ absent, a, refl);
@@ -244,7 +260,8 @@ module _ (hash_of : List ℕ → ℕ) where
       unchanged m true e = ap s.replica (eqb-true m name e) ∙ sym n
       unchanged m false e = refl
 
-  did_call : (u : World) (s : System) (name : ℕ) (c : Call) (new : Replica) (answer : Answer) (out : List Mail) → IsWorld u s → Does hash_of s (At name c) new answer out → Did u s (At name c) new answer out
+  did_call : (u : World) (s : System) (name : ℕ) (c : Call) (new : Replica) (answer : Answer) (out : List Mail) → IsWorld u s
+      → Does hash_of s (At name c) new answer out → Did u s (At name c) new answer out
   did_call u s name c new answer out is (there, peer, step) =
       let there_now : is_node u name ≡ true = ap (λ ns. is_among ns name) is.nodes ∙ there in
       let peer_now : has_peer u c ≡ true = peer_same u c ∙ ap (λ ns. peer_in ns c) is.nodes ∙ peer in
@@ -270,10 +287,12 @@ module _ (hash_of : List ℕ → ℕ) where
           call_here w name c new out ∙ ap (after_call name c new out) same ∙ sym (call_here u name c new out),
         );
         quiet = λ none apart node.
-            subst (λ ms. common (goes name new ms (u.outgoing name) (calls name c u)) ≡ common u) (sym none) (none_sent name new (u.outgoing name) (calls name c u) ∙ call_common u name c);
+            subst (λ ms. common (goes name new ms (u.outgoing name) (calls name c u)) ≡ common u) (sym none)
+            (none_sent name new (u.outgoing name) (calls name c u) ∙ call_common u name c);
       }
 
-  did_delivery : (u : World) (s : System) (number name : ℕ) (new : Replica) (answer : Answer) (out : List Mail) → IsWorld u s → Does hash_of s (Deliver number name) new answer out → Did u s (Deliver number name) new answer out
+  did_delivery : (u : World) (s : System) (number name : ℕ) (new : Replica) (answer : Answer) (out : List Mail) → IsWorld u s
+      → Does hash_of s (Deliver number name) new answer out → Did u s (Deliver number name) new answer out
   did_delivery u s number name new answer out is (there, (mail, at, (outcome, a, by_table))) =
       let x = found u.messages number mail (ap (λ ms. mail_at ms number) is.mails_are ∙ at) in
       let m : Message = x.0 in
@@ -286,7 +305,8 @@ module _ (hash_of : List ℕ → ℕ) where
         next = goes name new out [] (takes name old m.mail m.of outcome u);
         happens = (there_now, (m, x.1, (new, outcome, out, a, step_now, refl)));
         is_world = record {
-          nodes = left_as_is name (λ y. y.nodes) (λ y z. refl) (λ y o t. refl) (λ y t o. refl) (λ y t z. refl) (λ y o f t. refl) u old m.mail m.of outcome ∙ is.nodes;
+          nodes = left_as_is name (λ y. y.nodes) (λ y z. refl) (λ y o t. refl) (λ y t o. refl) (λ y t z. refl) (λ y o f t. refl) u old m.mail m.of outcome
+              ∙ is.nodes;
           replica = λ k. ap (λ f. cond (k == name) new (f k)) (same_replicas u name old m.mail m.of outcome) ∙ ap (λ r. cond (k == name) new r) (is.replica k);
           mails_are =
               mails_on (takes name old m.mail m.of outcome u).messages [] (takes name old m.mail m.of outcome u).kept new.kept out
@@ -312,7 +332,8 @@ module _ (hash_of : List ℕ → ℕ) where
             (none_sent name new [] (takes name old m.mail m.of outcome u) ∙ take_common u name old m.mail m.of outcome (λ e. apart (a ∙ ap Came e)));
       }
 
-  did : (u : World) (s : System) (e : Event) (new : Replica) (answer : Answer) (out : List Mail) → IsWorld u s → Does hash_of s e new answer out → Did u s e new answer out
+  did : (u : World) (s : System) (e : Event) (new : Replica) (answer : Answer) (out : List Mail) → IsWorld u s → Does hash_of s e new answer out
+      → Did u s e new answer out
   did u s (Node name) = did_node u s name
   did u s (At name c) = did_call u s name c
   did u s (Deliver number name) = did_delivery u s number name
@@ -384,7 +405,8 @@ module _ (hash_of : List ℕ → ℕ) where
           own : (m : ℕ) (b : Bool) → (m == n) ≡ b → (v : World) → Happens hash_of w e answer v → own_at n v ≡ own_at n d.next
               → own_at m v ≡ cond (lost m) (cond b (own_at n d.next) (h.saved m)) (own_at m d.next)
           own m true eq v happens one =
-              ap (λ k. own_at k v) (eqb-true m n eq) ∙ one ∙ both (lost m) (own_at n d.next) (own_at m d.next) (ap (λ k. own_at k d.next) (sym (eqb-true m n eq)))
+              ap (λ k. own_at k v) (eqb-true m n eq) ∙ one ∙ both (lost m) (own_at n d.next) (own_at m d.next)
+              (ap (λ k. own_at k d.next) (sym (eqb-true m n eq)))
           own m false eq v happens one =
               let apart : m ≢ n = λ same. false≢true (sym eq ∙ Rattle.std.proofs.Common.eq-eqb m n same) in
               elsewhere w v e answer happens m apart
@@ -393,7 +415,8 @@ module _ (hash_of : List ℕ → ℕ) where
               ∙ ap (λ o. cond (lost m) (h.saved m) o) (sym (elsewhere h.now d.next e answer d.happens m apart))
 
   -- an event that was not saved
-  next_passing : (xs : List Occurrence) (s t : System) (e : Event) → IsNoNode e → ((lost : Bool) → unless_lost lost e ≡ cond lost [] (e ∷ [])) → Holds xs s → Occurs hash_of s (Passing e) t → Holds (xs ++ Passing e ∷ []) t
+  next_passing : (xs : List Occurrence) (s t : System) (e : Event) → IsNoNode e → ((lost : Bool) → unless_lost lost e ≡ cond lost [] (e ∷ [])) → Holds xs s
+      → Occurs hash_of s (Passing e) t → Holds (xs ++ Passing e ∷ []) t
   unfolding before
   next_passing xs s t e node may_be h (new, answer, does, apart, is) = subst (Holds (xs ++ Passing e ∷ [])) (sym is) (record {
     now = d.next;
@@ -440,17 +463,20 @@ module _ (hash_of : List ℕ → ℕ) where
             record { same = ap (λ (p : Common × Own). p.0) a.2; own = λ m. own m (m == n) refl a.0 a.1 (ap (λ (p : Common × Own). p.1) a.2) },
           )
         where
-          own : (m : ℕ) (b : Bool) → (m == n) ≡ b → (v : World) → Happens hash_of w e answer v → own_at n v ≡ own_at n d.next → own_at m v ≡ cond (lost m) (h.saved m) (own_at m d.next)
+          own : (m : ℕ) (b : Bool) → (m == n) ≡ b → (v : World) → Happens hash_of w e answer v → own_at n v ≡ own_at n d.next
+              → own_at m v ≡ cond (lost m) (h.saved m) (own_at m d.next)
           own m true at v happens one =
               let there : lost m ≡ false = ap lost (eqb-true m n at) ∙ eq in
-              ap (λ k. own_at k v) (eqb-true m n at) ∙ one ∙ ap (λ k. own_at k d.next) (sym (eqb-true m n at)) ∙ sym (ap (λ b. cond b (h.saved m) (own_at m d.next)) there)
+              ap (λ k. own_at k v) (eqb-true m n at) ∙ one ∙ ap (λ k. own_at k d.next) (sym (eqb-true m n at))
+              ∙ sym (ap (λ b. cond b (h.saved m) (own_at m d.next)) there)
           own m false at v happens one =
               elsewhere w v e answer happens m (λ same. false≢true (sym at ∙ Rattle.std.proofs.Common.eq-eqb m n same))
               ∙ st.own m
               ∙ ap (λ o. cond (lost m) (h.saved m) o) (sym (others m at))
 
   -- a replica is there, and was not saved
-  next_node : (xs : List Occurrence) (s t : System) (name : ℕ) → Holds xs s → Occurs hash_of s (Passing (Node name)) t → Holds (xs ++ Passing (Node name) ∷ []) t
+  next_node : (xs : List Occurrence) (s t : System) (name : ℕ) → Holds xs s → Occurs hash_of s (Passing (Node name)) t
+      → Holds (xs ++ Passing (Node name) ∷ []) t
   unfolding before
   next_node xs s t name h (new, answer, (absent, n, a, o), apart, is) = subst (Holds (xs ++ Passing (Node name) ∷ [])) (sym is) (record {
     now = d.next;
@@ -502,8 +528,10 @@ module _ (hash_of : List ℕ → ℕ) where
         record { same = st.same; own = λ m. st.own m ∙ own m (m == n) refl },
       )
         where
-          own : (m : ℕ) (b : Bool) → (m == n) ≡ b → cond (cond b false (lost m)) (h.saved m) (own_at m h.now) ≡ cond (lost m) (cond b (own_at n h.now) (h.saved m)) (own_at m h.now)
-          own m true eq = ap (λ k. own_at k h.now) (eqb-true m n eq) ∙ both (lost m) (own_at n h.now) (own_at m h.now) (ap (λ k. own_at k h.now) (sym (eqb-true m n eq)))
+          own : (m : ℕ) (b : Bool) → (m == n) ≡ b → cond (cond b false (lost m)) (h.saved m) (own_at m h.now)
+              ≡ cond (lost m) (cond b (own_at n h.now) (h.saved m)) (own_at m h.now)
+          own m true eq = ap (λ k. own_at k h.now) (eqb-true m n eq)
+              ∙ both (lost m) (own_at n h.now) (own_at m h.now) (ap (λ k. own_at k h.now) (sym (eqb-true m n eq)))
           own m false eq = refl
 
   -- a replica crashes, and comes back
@@ -518,7 +546,8 @@ module _ (hash_of : List ℕ → ℕ) where
     is_world = record {
       nodes = ap (λ (c : Common). c.nodes) st_one.same ∙ h.is_world.nodes;
       replica = λ m. replica_here m (m == n) refl;
-      mails_are = ap (λ (c : Common). map (λ (x : Message). x.mail) c.messages) (none_sent n (restarts (one.replica n)) (one.outgoing n) one ∙ st_one.same) ∙ h.is_world.mails_are;
+      mails_are = ap (λ (c : Common). map (λ (x : Message). x.mail) c.messages) (none_sent n (restarts (one.replica n)) (one.outgoing n) one ∙ st_one.same)
+          ∙ h.is_world.mails_are;
     };
     is_saved = λ m. saved_here m (m == n);
     worlds = λ lost. goes_to lost (h.worlds (before (Crashes n) lost));
@@ -540,13 +569,18 @@ module _ (hash_of : List ℕ → ℕ) where
       v = goes n (restarts (one.replica n)) [] (one.outgoing n) one
 
       happens_in : (w : World) → common w ≡ common h.now → Happens hash_of w (At n Restart) Nothing (goes n (restarts (w.replica n)) [] (w.outgoing n) w)
-      happens_in w same = (ap (λ (c : Common). is_among c.nodes n) same ∙ ap (λ ns. is_among ns n) h.is_world.nodes ∙ there, refl, (restarts (w.replica n), [], (refl, refl, refl), refl))
+      happens_in w same = (
+        ap (λ (c : Common). is_among c.nodes n) same ∙ ap (λ ns. is_among ns n) h.is_world.nodes ∙ there,
+        refl,
+        (restarts (w.replica n), [], (refl, refl, refl), refl),
+      )
 
       saved_there : (lost : ℕ → Bool) (w : World) → lost n ≡ true → Stands lost h.now h.saved w → own_at n w ≡ h.saved n
       saved_there lost w gone st = st.own n ∙ ap (λ b. cond b (h.saved n) (own_at n h.now)) gone
 
       restarted_there : (w : World) → own_at n w ≡ h.saved n → own_at n (goes n (restarts (w.replica n)) [] (w.outgoing n) w) ≡ restarted (h.saved n)
-      restarted_there w e = (λ i. record { replica = cond (itself n i) (restarts (w.replica n)) (w.replica n); seen = w.seen n; outgoing = w.outgoing n }) ∙ ap restarted e
+      restarted_there w e = (λ i. record { replica = cond (itself n i) (restarts (w.replica n)) (w.replica n); seen = w.seen n; outgoing = w.outgoing n })
+          ∙ ap restarted e
 
       alone_gone : alone n ≡ true
       alone_gone = ap (λ b. cond b true false) (itself n)
@@ -572,9 +606,11 @@ module _ (hash_of : List ℕ → ℕ) where
           → (w : World) × Runs hash_of nothing (left lost (xs ++ Crashes n ∷ [])) w × Stands lost v (put h.saved n (own_at n v)) w
       goes_to lost (w, runs, st) = (
         goes n (restarts (w.replica n)) [] (w.outgoing n) w,
-        runs_to _ _ _ (left_on lost (Crashes n) xs) (goes_on hash_of (left (before (Crashes n) lost) xs) w (goes n (restarts (w.replica n)) [] (w.outgoing n) w) (At n Restart) Nothing runs (happens_in w st.same)),
+        runs_to _ _ _ (left_on lost (Crashes n) xs) (goes_on hash_of (left (before (Crashes n) lost) xs) w (goes n (restarts (w.replica n)) [] (w.outgoing n) w)
+            (At n Restart) Nothing runs (happens_in w st.same)),
         record {
-          same = none_sent n (restarts (w.replica n)) (w.outgoing n) w ∙ st.same ∙ sym st_one.same ∙ sym (none_sent n (restarts (one.replica n)) (one.outgoing n) one);
+          same = none_sent n (restarts (w.replica n)) (w.outgoing n) w ∙ st.same ∙ sym st_one.same
+              ∙ sym (none_sent n (restarts (one.replica n)) (one.outgoing n) one);
           own = λ m. own m (m == n) refl;
         },
       )

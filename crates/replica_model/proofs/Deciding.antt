@@ -31,7 +31,8 @@ pub came_one : (o p : Outcome) → Came o ≡ Came p → o ≡ p
 unfolding outcome_of
 came_one o p e = ap (outcome_of o) e
 
-comes_one : (hash_of : List ℕ → ℕ) (w v v' : World) (name : ℕ) (answer answer' : Answer) (m : Message) → Comes hash_of w name answer v m → Comes hash_of w name answer' v' m → (answer ≡ answer') × (v ≡ v')
+comes_one : (hash_of : List ℕ → ℕ) (w v v' : World) (name : ℕ) (answer answer' : Answer) (m : Message) → Comes hash_of w name answer v m
+    → Comes hash_of w name answer' v' m → (answer ≡ answer') × (v ≡ v')
 unfolding Comes outcome_of
 comes_one hash_of w v v' name answer answer' m (new, outcome, out, a, step, e) (new', outcome', out', a', step', e') =
     let one = steps_one hash_of (w.replica name) new new' (Take m.mail) answer answer' out out' step step' in
@@ -68,11 +69,13 @@ pub refused_not : RefusedDoesNotHappen
 refused_not hash_of w v (Node name) answer refusal (there, r) (new, a, e) = false≢true (sym new ∙ there)
 refused_not hash_of w v (At name c) answer refusal (inl (none, r)) (there, peer, rest) = false≢true (sym none ∙ there)
 refused_not hash_of w v (At name c) answer refusal (inr (here, inl (none, r))) (there, peer, rest) = false≢true (sym none ∙ peer)
-refused_not hash_of w v (At name c) answer refusal (inr (here, inr (is, refused))) (there, peer, (new, out, step, e)) = refused_none hash_of (w.replica name) new c answer out refusal refused step
+refused_not hash_of w v (At name c) answer refusal (inr (here, inr (is, refused))) (there, peer, (new, out, step, e)) =
+    refused_none hash_of (w.replica name) new c answer out refusal refused step
 refused_not hash_of w v (Deliver number name) answer refusal (inl (none, r)) (there, rest) = false≢true (sym none ∙ there)
 refused_not hash_of w v (Deliver number name) answer refusal (inr (here, none, r)) (there, (m, is, rest)) = no_message (message_at w.messages number) m none is
 
-runs_on : (hash_of : List ℕ → ℕ) (events : List Event) (u w v : World) (e : Event) (answer : Answer) → Runs hash_of u events w → Happens hash_of w e answer v → Runs hash_of u (events ++ e ∷ []) v
+runs_on : (hash_of : List ℕ → ℕ) (events : List Event) (u w v : World) (e : Event) (answer : Answer) → Runs hash_of u events w → Happens hash_of w e answer v
+    → Runs hash_of u (events ++ e ∷ []) v
 runs_on hash_of [] u w v e answer same step = (answer, v, subst (λ s. Happens hash_of s e answer v) same step, refl)
 runs_on hash_of (x ∷ events) u w v e answer (a, t, first, rest) step = (a, t, first, runs_on hash_of events t w v e answer rest step)
 

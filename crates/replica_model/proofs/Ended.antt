@@ -30,8 +30,10 @@ here_new name new old = ap (λ b. cond b new old) (eq-eqb name name refl)
 pub one_state : (m : Held) (c : DotValue → Bool) (p : MapState) → IsMapOf m p → c ≡ p.has → held_state m c ≡ p
 one_state m c p is e = ap (held_state m) e ∙ map_state m p is
 
-module _ (hash_of : List ℕ → ℕ) (events : List Event) (w v : World) (number name : ℕ) (runs : Runs hash_of nothing events w) (answer : Answer) (d : Delivered hash_of w number name answer v) where
-  ending_is : Ending hash_of (IsTakenOf hash_of events) (AskedIn hash_of events w) (SendsAny hash_of) w name d.message.mail d.message.of (turn d.new d.outcome d.out) → IsEnd hash_of events w v number name
+module _ (hash_of : List ℕ → ℕ) (events : List Event) (w v : World) (number name : ℕ) (runs : Runs hash_of nothing events w) (answer : Answer)
+    (d : Delivered hash_of w number name answer v) where
+  ending_is : Ending hash_of (IsTakenOf hash_of events) (AskedIn hash_of events w) (SendsAny hash_of) w name d.message.mail d.message.of
+      (turn d.new d.outcome d.out) → IsEnd hash_of events w v number name
   ending_is e =
       let tie = (told hash_of events w runs).sessions name e.session e.there in
       record {
@@ -51,12 +53,15 @@ module _ (hash_of : List ℕ → ℕ) (events : List Event) (w v : World) (numbe
         pages = e.pages;
         met = ap (λ (x : World). x.closed) d.after ∙ ap (λ (x : World). x.closed) e.sets;
         all = λ no_clash.
-            let law = fetching hash_of e.session.own e.snapshot.map e.session.seen e.context e.takings e.fetched (map_lawful e.session.own _ tie.asked.0.own_then) no_clash e.is_fetched in
+            let law = fetching hash_of e.session.own e.snapshot.map e.session.seen e.context e.takings e.fetched
+            (map_lawful e.session.own _ tie.asked.0.own_then) no_clash e.is_fetched in
             let done = law.done e.complete in record { each = done.1; no_other = done.2; once = law.once; theirs_taken = law.theirs_taken };
         joins = λ no_clash.
             let live = (w.replica name).live in
-            let law = fetching hash_of e.session.own e.snapshot.map e.session.seen e.context e.takings e.fetched (map_lawful e.session.own _ tie.asked.0.own_then) no_clash e.is_fetched in
-            let closed = closing e.session.own e.snapshot.map e.fetched.built e.session.seen e.context live (map_lawful e.snapshot.map _ e.snap.map_then) (law.done e.complete).0 tie.asked.1 in
+            let law = fetching hash_of e.session.own e.snapshot.map e.session.seen e.context e.takings e.fetched
+            (map_lawful e.session.own _ tie.asked.0.own_then) no_clash e.is_fetched in
+            let closed = closing e.session.own e.snapshot.map e.fetched.built e.session.seen e.context live (map_lawful e.snapshot.map _ e.snap.map_then)
+            (law.done e.complete).0 tie.asked.1 in
             ap (λ (x : World). (x.replica name).live) d.after ∙ ap (λ (x : Replica). x.live) (here_new name d.new _) ∙ e.live
             ∙ same_is _ _ closed ∙ ap (join greater live) (one_state e.snapshot.map e.context _ e.snap.map_then e.snap.known_then);
       }
@@ -68,10 +73,12 @@ ends_are hash_of events w v number name runs answer happens is_done =
     let done : d.outcome ≡ Done = came_one d.outcome Done (sym d.answers ∙ is_done) in
     step d done
     (subst (Comes hash_of (IsTakenOf hash_of events) (AskedIn hash_of events w) (SendsAny hash_of) w name d.message.mail d.message.of) d.step
-    (comes hash_of (IsTakenOf hash_of events) (AskedIn hash_of events w) (SendsAny hash_of) w name t d.own d.message.mail d.message.of (t.messages number d.message d.there)))
+    (comes hash_of (IsTakenOf hash_of events) (AskedIn hash_of events w) (SendsAny hash_of) w name t d.own d.message.mail d.message.of
+    (t.messages number d.message d.there)))
   where
     step : (d : Delivered hash_of w number name answer v) → d.outcome ≡ Done
-        → Comes hash_of (IsTakenOf hash_of events) (AskedIn hash_of events w) (SendsAny hash_of) w name d.message.mail d.message.of (turn d.new d.outcome d.out) → IsEnd hash_of events w v number name
+        → Comes hash_of (IsTakenOf hash_of events) (AskedIn hash_of events w) (SendsAny hash_of) w name d.message.mail d.message.of (turn d.new d.outcome d.out)
+        → IsEnd hash_of events w v number name
     step d done (inl learns) = let apart = sym learns.joined ∙ done in absurd cc
     step d done (inr (inl e)) = ending_is hash_of events w v number name runs answer d e
     step d done (inr (inr stays)) = absurd (stays.not_done done)

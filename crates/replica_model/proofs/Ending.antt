@@ -36,7 +36,8 @@ none_waits f e p = get-entries f.waiting p ∙ step (finite.entries f.waiting) e
     step [] e = refl
     step (x ∷ es) e = let less = ltb-true (length (x ∷ es)) 1 e in absurd (omega (arith, less))
 
-module _ (hash_of : List ℕ → ℕ) (Snap : SessionValue → List Operation → Held → (DotValue → Bool) → Type 0) (Asked : ℕ → SessionValue → Held → (DotValue → Bool) → Type 0) (Sends : MapState → List Operation → Type 0) (w : World) (name : ℕ) where
+module _ (hash_of : List ℕ → ℕ) (Snap : SessionValue → List Operation → Held → (DotValue → Bool) → Type 0)
+    (Asked : ℕ → SessionValue → Held → (DotValue → Bool) → Type 0) (Sends : MapState → List Operation → Type 0) (w : World) (name : ℕ) where
   pub record Learns (mail : Mail) (of : Snapshot) (t : Turn) : Type 0 where
     pub joined : t.outcome ≡ Joined
     pub delta : MapState
@@ -91,8 +92,10 @@ module _ (hash_of : List ℕ → ℕ) (Snap : SessionValue → List Operation �
   mismatched (Gone s) of = inr (inr (record { not_done = λ e. absurd cc; live = refl; seen = refl; closed = refl }))
 
   module _ (t : Ties hash_of Snap Asked Sends w) where
-    opening_ends : (s : SessionValue) (c : DotValue → Bool) (root : Option (List ℕ)) (o : Open) (f : Fetch) → open_at r.sessions s ≡ Some o → take_opening hash_of o.own o.seen c root ≡ fetch.Took f → is_complete f ≡ true
-        → (of : Snapshot) → MailTie hash_of Snap Asked Sends (Opening s c root) of → Comes (Opening s c root) of (turn (closes (joins r (held_state f.built c)) o.session) Done [])
+    opening_ends : (s : SessionValue) (c : DotValue → Bool) (root : Option (List ℕ)) (o : Open) (f : Fetch) → open_at r.sessions s ≡ Some o
+        → take_opening hash_of o.own o.seen c root ≡ fetch.Took f → is_complete f ≡ true
+        → (of : Snapshot) → MailTie hash_of Snap Asked Sends (Opening s c root) of
+        → Comes (Opening s c root) of (turn (closes (joins r (held_state f.built c)) o.session) Done [])
     opening_ends s c root o f there took complete of tie =
         let found = found_open r.sessions s o there in
         inr (inl (record {
@@ -134,7 +137,8 @@ module _ (hash_of : List ℕ → ℕ) (Snap : SessionValue → List Operation �
           snap = before.0;
           is_fetched = (a.fetch, before.1, took);
           live = refl;
-          sets = ap (λ x. ends name (own_of x) (w.accepted s) (taking_of sent ∷ w.taken s) w) there ∙ ap (λ u. ends name o.own (w.accepted u) (taking_of sent ∷ w.taken u) w) (sym found.1);
+          sets = ap (λ x. ends name (own_of x) (w.accepted s) (taking_of sent ∷ w.taken s) w) there
+              ∙ ap (λ u. ends name o.own (w.accepted u) (taking_of sent ∷ w.taken u) w) (sym found.1);
         }))
 
     pub comes : (own : Held) (mail : Mail) (of : Snapshot) → MailTie hash_of Snap Asked Sends mail of → Comes mail of (delivered hash_of own r mail)

@@ -53,7 +53,8 @@ module _ (hash_of : List ℕ → ℕ) (name : ℕ) (deeds : List Deed) (w : Worl
     page_ends s sent o a f there accepted took complete to live =
         let found = found_open (w.replica name).sessions s o there in
         let was = (t.sessions o found.0).fetched a accepted in
-        let got : Fetched hash_of o.own o.seen a.context was.0 (w.taken s) a.fetch = subst (λ u. Fetched hash_of o.own o.seen a.context was.0 (w.taken u) a.fetch) found.1 was.2 in
+        let got : Fetched hash_of o.own o.seen a.context was.0 (w.taken s) a.fetch =
+        subst (λ u. Fetched hash_of o.own o.seen a.context was.0 (w.taken u) a.fetch) found.1 was.2 in
         record {
           session = o;
           there = found.0;
@@ -96,12 +97,14 @@ module _ (hash_of : List ℕ → ℕ) (name : ℕ) (deeds : List Deed) (w : Worl
       ended = λ s o there e. absurd cc;
     })
 
-  module _ (mail : Mail) (of : Snapshot) (answer : Answer) (v : World) (runs : RunsAlone hash_of name nothing deeds w) (befalls : Befalls hash_of name w (Comes mail of) answer v) (is_done : answer ≡ Came Done)
+  module _ (mail : Mail) (of : Snapshot) (answer : Answer) (v : World) (runs : RunsAlone hash_of name nothing deeds w)
+      (befalls : Befalls hash_of name w (Comes mail of) answer v) (is_done : answer ≡ Came Done)
       (d : Arrived hash_of name w mail of answer v) where
     end_is : Ending mail (turn d.new d.outcome d.out) → IsEndAlone hash_of name deeds w v mail of
     end_is e =
         let tie = t.sessions e.session e.there in
-        let law : (theirs : Held) → e.root ≡ digest_at hash_of theirs [] → NoClash hash_of e.session.own theirs (taken_with w mail) → IsFetched hash_of e.session.own theirs e.session.seen e.context (taken_with w mail) e.built =
+        let law : (theirs : Held) → e.root ≡ digest_at hash_of theirs [] → NoClash hash_of e.session.own theirs (taken_with w mail)
+        → IsFetched hash_of e.session.own theirs e.session.seen e.context (taken_with w mail) e.built =
         λ theirs root no_clash.
         fetching hash_of e.session.own theirs e.session.seen e.context (taken_with w mail) e.built (map_lawful e.session.own _ tie.asked.own_then) no_clash
         (subst (λ x. Fetched hash_of e.session.own e.session.seen e.context x (taken_with w mail) e.built) root e.is_fetched) in
@@ -113,14 +116,17 @@ module _ (hash_of : List ℕ → ℕ) (name : ℕ) (deeds : List Deed) (w : Worl
           context = e.context;
           root = e.root;
           opening = either e.session.session e.context e.root e.opening;
-          all = λ theirs root no_clash. let fetched = law theirs root no_clash in let done = fetched.done e.complete in record { each = done.1; no_other = done.2; once = fetched.once; theirs_taken = fetched.theirs_taken };
+          all = λ theirs root no_clash. let fetched = law theirs root no_clash in let done = fetched.done e.complete in
+              record { each = done.1; no_other = done.2; once = fetched.once; theirs_taken = fetched.theirs_taken };
           joins = λ theirs lawful root no_clash.
               let live = (w.replica name).live in
-              let closed = closing e.session.own theirs e.built.built e.session.seen e.context live lawful ((law theirs root no_clash).done e.complete).0 tie.below in
+              let closed = closing e.session.own theirs e.built.built e.session.seen e.context live lawful
+              ((law theirs root no_clash).done e.complete).0 tie.below in
               ap (λ (x : World). (x.replica name).live) d.after ∙ ap (λ (x : Replica). x.live) (here_new name d.new _) ∙ e.live ∙ same_is _ _ closed;
         }
       where
-        either : (s : SessionValue) (context : DotValue → Bool) (root : Option (List ℕ)) → (mail ≡ Opening s context root) ⊎ TookOpening hash_of name deeds s context root → TookOpening hash_of name (deeds ++ Comes mail of ∷ []) s context root
+        either : (s : SessionValue) (context : DotValue → Bool) (root : Option (List ℕ)) → (mail ≡ Opening s context root)
+            ⊎ TookOpening hash_of name deeds s context root → TookOpening hash_of name (deeds ++ Comes mail of ∷ []) s context root
         either s context root (inl now) = opened_now hash_of name deeds w v mail of answer runs befalls (inr is_done) s context root now
         either s context root (inr before) = opening_more hash_of name deeds (Comes mail of) s context root before
 
@@ -128,5 +134,7 @@ pub ends_alone : EndsAlone
 ends_alone hash_of name deeds w v mail of runs answer befalls is_done =
     let d = arrived hash_of name w v mail of answer befalls in
     let t = tied hash_of name deeds w runs in
-    let done : (delivered hash_of d.own (w.replica name) mail).outcome ≡ Done = ap (λ (x : Turn). x.outcome) d.step ∙ came_one d.outcome Done (sym d.answers ∙ is_done) in
-    end_is hash_of name deeds w t mail of answer v runs befalls is_done d (subst (Ending hash_of name deeds w t mail) d.step (ending hash_of name deeds w t d.own mail done))
+    let done : (delivered hash_of d.own (w.replica name) mail).outcome ≡ Done = ap (λ (x : Turn). x.outcome) d.step
+    ∙ came_one d.outcome Done (sym d.answers ∙ is_done) in
+    end_is hash_of name deeds w t mail of answer v runs befalls is_done d
+    (subst (Ending hash_of name deeds w t mail) d.step (ending hash_of name deeds w t d.own mail done))

@@ -1,6 +1,8 @@
--- States in which values stand at finitely many places, and which know finitely many dots: each has a map that stands for it, a next dot of each name, and lists of
+-- States in which values stand at finitely many places, and which know finitely many dots: each has a map that stands for it, a next dot of each name, and
+-- lists of
 -- just the dots that stand at a place, at a key and anywhere. So is each state of which all others are made, and so is what a map holds.
-use Rattle.std.proofs.Common.{◌≡◌, ◌⊎◌, inl, inr, ℕ, List, [], ◌∷◌, ◌++◌, map, Bool, true, false, cond, Option, Some, None, refl, sym, ap, ◌∙◌, subst, ◌&&◌, ◌||◌}
+use Rattle.std.proofs.Common.{◌≡◌, ◌⊎◌, inl, inr, ℕ, List, [], ◌∷◌, ◌++◌, map, Bool, true, false, cond, Option, Some, None, refl, sym, ap, ◌∙◌, subst, ◌&&◌}
+use Rattle.std.proofs.Common.{◌||◌}
 use Rattle.std.specs.Prelude.{Contains, ◌↔◌, IsTrue, IsSome, is_some, T}
 use Rattle.std.specs.List.{AllByRecursion, filter, list_any}
 use Rattle.std.specs.List.Sorted.{IsStrictlySortedBy}
@@ -68,7 +70,8 @@ module _ {K X : Type 0} (R : K → K → Ordering) where
   below k [] t = tt
   below k (e ∷ es) t = step (R k e.0) refl t (below k es)
     where
-      step : (o : Ordering) → R k e.0 ≡ o → T (is_lt o && below_all R k es) → (T (below_all R k es) → AllByRecursion (λ y. R k y ≡ Less) (keys_of es)) → AllByRecursion (λ y. R k y ≡ Less) (keys_of (e ∷ es))
+      step : (o : Ordering) → R k e.0 ≡ o → T (is_lt o && below_all R k es) → (T (below_all R k es) → AllByRecursion (λ y. R k y ≡ Less) (keys_of es))
+          → AllByRecursion (λ y. R k y ≡ Less) (keys_of (e ∷ es))
       step Less is u further = (is, further u)
       step Equal is u further = absurd u
       step Greater is u further = absurd u
@@ -78,13 +81,15 @@ module _ {K X : Type 0} (R : K → K → Ordering) where
   rising [] t = tt
   rising (e ∷ es) t = step (below_all R e.0 es) refl t (rising es)
     where
-      step : (b : Bool) → below_all R e.0 es ≡ b → T (b && is_sorted R es) → (T (is_sorted R es) → IsStrictlySortedBy R (keys_of es)) → IsStrictlySortedBy R (keys_of (e ∷ es))
+      step : (b : Bool) → below_all R e.0 es ≡ b → T (b && is_sorted R es) → (T (is_sorted R es) → IsStrictlySortedBy R (keys_of es))
+          → IsStrictlySortedBy R (keys_of (e ∷ es))
       step true is u further = (below e.0 es (subst T (sym is) tt), further u)
       step false is u further = absurd u
 
 -- ---- a function that gives something at listed keys alone, as a map
 
-module _ {K X : Type 0} (R : K → K → Ordering) (total : IsTotalOrder R) (exact : (x y : K) → eq_by_cmp R x y ≡ true → x ≡ y) (same : (x : K) → eq_by_cmp R x x ≡ true) where
+module _ {K X : Type 0} (R : K → K → Ordering) (total : IsTotalOrder R) (exact : (x y : K) → eq_by_cmp R x y ≡ true → x ≡ y)
+    (same : (x : K) → eq_by_cmp R x x ≡ true) where
   with_value : K → Option X → finite.FinMap R X → finite.FinMap R X
   with_value k None m = m
   with_value k (Some x) m = finite.insert m k x
@@ -93,7 +98,8 @@ module _ {K X : Type 0} (R : K → K → Ordering) (total : IsTotalOrder R) (exa
   or_else None o = o
   or_else (Some x) o = Some x
 
-  get-with_value : (k : K) (o : Option X) (m : finite.FinMap R X) (q : K) → finite.get (with_value k o m) q ≡ cond (eq_by_cmp R q k) (or_else o (finite.get m q)) (finite.get m q)
+  get-with_value : (k : K) (o : Option X) (m : finite.FinMap R X) (q : K) → finite.get (with_value k o m) q
+      ≡ cond (eq_by_cmp R q k) (or_else o (finite.get m q)) (finite.get m q)
   unfolding with_value or_else
   get-with_value k None m q = by (eq_by_cmp R q k)
     where
@@ -127,7 +133,8 @@ module _ {K X : Type 0} (R : K → K → Ordering) (total : IsTotalOrder R) (exa
         here None e further = further (λ x g. absurd (let both : None ≡ Some x = sym e ∙ g in cc)) ∙ e
         here (Some x) e further = refl
 
-        step : (b : Bool) → eq_by_cmp R q k ≡ b → (((x : X) → f q ≡ Some x → In ks q) → finite.get (graph ks) q ≡ f q) → cond b (or_else (f k) (finite.get (graph ks) q)) (finite.get (graph ks) q) ≡ f q
+        step : (b : Bool) → eq_by_cmp R q k ≡ b → (((x : X) → f q ≡ Some x → In ks q) → finite.get (graph ks) q ≡ f q)
+            → cond b (or_else (f k) (finite.get (graph ks) q)) (finite.get (graph ks) q) ≡ f q
         step true e further = ap (λ y. or_else (f y) (finite.get (graph ks) q)) (sym (exact q k e)) ∙ here (f q) refl further
         step false e further = further (rest e)
 
@@ -159,7 +166,8 @@ state_finite S = record {
   at = λ place dot v e.
       let under = found_under dot (shown S place) v e in
       let there = from_shown S (is_on place) under.0 under.1 in
-      at_same (map (λ (w : Write). w.place) (writes S)) under.0.place place (on_place place under.0 there.1) (in_map (λ (w : Write). w.place) (writes S) under.0 there.0);
+      at_same (map (λ (w : Write). w.place) (writes S)) under.0.place place (on_place place under.0 there.1)
+      (in_map (λ (w : Write). w.place) (writes S) under.0 there.0);
   dots = known S;
   knows = λ dot. refl;
 }
@@ -200,13 +208,16 @@ map_places : List (List ℕ × FieldsValue) → List Place
 map_places [] = []
 map_places (e ∷ es) = field_places e.0 e.1 ++ map_places es
 
-in_places : (es : List (List ℕ × FieldsValue)) (key field : List ℕ) (fs : FieldsValue) (vs : ValuesValue) → In es (key, fs) → In fs (field, vs) → Contains (map_places es) (place_of key field)
+in_places : (es : List (List ℕ × FieldsValue)) (key field : List ℕ) (fs : FieldsValue) (vs : ValuesValue) → In es (key, fs) → In fs (field, vs)
+    → Contains (map_places es) (place_of key field)
 unfolding map_places field_places
 in_places [] key field fs vs h i = absurd h
 in_places (e ∷ es) key field fs vs (inl here) i =
     Contains-append_left (field_places e.0 e.1) (map_places es) (place_of key field)
-    (subst (λ (x : List ℕ × FieldsValue). Contains (field_places x.0 x.1) (place_of key field)) (sym here) (in_map (λ (f : List ℕ × ValuesValue). place_of key f.0) fs (field, vs) (Contains-In fs (field, vs) i)))
-in_places (e ∷ es) key field fs vs (inr h) i = Contains-append_right (field_places e.0 e.1) (map_places es) (place_of key field) (in_places es key field fs vs h i)
+    (subst (λ (x : List ℕ × FieldsValue). Contains (field_places x.0 x.1) (place_of key field)) (sym here)
+    (in_map (λ (f : List ℕ × ValuesValue). place_of key f.0) fs (field, vs) (Contains-In fs (field, vs) i)))
+in_places (e ∷ es) key field fs vs (inr h) i = Contains-append_right (field_places e.0 e.1) (map_places es) (place_of key field)
+    (in_places es key field fs vs h i)
 
 pub held_finite : (m : Held) (c : Dot → Bool) (ds : List Dot) → ((dot : Dot) → c dot ≡ has ds dot) → IsFinite (held_state m c)
 held_finite m c ds knows = record {
@@ -216,15 +227,18 @@ held_finite m c ds knows = record {
   knows = knows;
 }
   where
-    by_field : (place : Place) (dot : Dot) (v : List ℕ) (fs : FieldsValue) → In (finite.entries m) (place.key, fs) → (y : Option ValuesValue) → find bytes_cmp place.field fs ≡ y
+    by_field : (place : Place) (dot : Dot) (v : List ℕ) (fs : FieldsValue) → In (finite.entries m) (place.key, fs) → (y : Option ValuesValue)
+        → find bytes_cmp place.field fs ≡ y
         → find dot_cmp dot (values_or_none y) ≡ Some v → Contains (map_places (finite.entries m)) place
     by_field place dot v fs h None u r = absurd cc
     by_field place dot v fs h (Some vs) u r = in_places (finite.entries m) place.key place.field fs vs h (find_in place.field fs vs u)
 
-    by_key : (place : Place) (dot : Dot) (v : List ℕ) (x : Option FieldsValue) → finite.get m place.key ≡ x → find dot_cmp dot (values_or_none (find bytes_cmp place.field (fields_or_none x))) ≡ Some v
+    by_key : (place : Place) (dot : Dot) (v : List ℕ) (x : Option FieldsValue) → finite.get m place.key ≡ x
+        → find dot_cmp dot (values_or_none (find bytes_cmp place.field (fields_or_none x))) ≡ Some v
         → Contains (map_places (finite.entries m)) place
     by_key place dot v None t s = absurd cc
-    by_key place dot v (Some fs) t s = by_field place dot v fs (find_in place.key (finite.entries m) fs (sym (get-entries m place.key) ∙ t)) (find bytes_cmp place.field fs) refl s
+    by_key place dot v (Some fs) t s = by_field place dot v fs (find_in place.key (finite.entries m) fs (sym (get-entries m place.key) ∙ t))
+        (find bytes_cmp place.field fs) refl s
 
 -- ---- the map of a finite state
 
@@ -257,7 +271,8 @@ module _ (p : MapState) (is : IsFinite p) (inside : IsInside p) where
 
   -- where a place has a value, it is one of them
   value_there : (place : Place) (vs : ValuesValue) → if_any (finite.entries (values place)) ≡ Some vs → (dot : Dot) × (v : List ℕ) × (p.at place dot ≡ Some v)
-  value_there place vs e = let first = first_there dot_cmp dot_cmp_total dots_exact dot_tied (values place) vs e in (first.0.0, first.0.1, sym (values_at place first.0.0) ∙ first.1)
+  value_there place vs e = let first = first_there dot_cmp dot_cmp_total dots_exact dot_tied (values place) vs e in
+      (first.0.0, first.0.1, sym (values_at place first.0.0) ∙ first.1)
 
   at_field : List ℕ → List ℕ → Option ValuesValue
   at_field key field = if_any (finite.entries (values (place_of key field)))
@@ -267,12 +282,15 @@ module _ (p : MapState) (is : IsFinite p) (inside : IsInside p) where
 
   fields_of : (key field : List ℕ) → finite.get (fields key) field ≡ at_field key field
   unfolding fields at_field
-  fields_of key field = get-graph bytes_cmp nat_list_cmp_total tied_same bytes_same (at_field key) (map (λ place. place.field) is.places) field (λ vs e. by (value_there (place_of key field) vs e))
+  fields_of key field = get-graph bytes_cmp nat_list_cmp_total tied_same bytes_same (at_field key) (map (λ place. place.field) is.places) field
+      (λ vs e. by (value_there (place_of key field) vs e))
     where
       by : (dot : Dot) × (v : List ℕ) × (p.at (place_of key field) dot ≡ Some v) → In (map (λ (place : Place). place.field) is.places) field
-      by (dot, v, e) = In-Contains (map (λ (place : Place). place.field) is.places) field (in_map (λ (place : Place). place.field) is.places (place_of key field) (is.at (place_of key field) dot v e))
+      by (dot, v, e) = In-Contains (map (λ (place : Place). place.field) is.places) field
+          (in_map (λ (place : Place). place.field) is.places (place_of key field) (is.at (place_of key field) dot v e))
 
-  field_there : (key : List ℕ) (fs : FieldsValue) → if_any (finite.entries (fields key)) ≡ Some fs → (field : List ℕ) × (dot : Dot) × (v : List ℕ) × (p.at (place_of key field) dot ≡ Some v)
+  field_there : (key : List ℕ) (fs : FieldsValue) → if_any (finite.entries (fields key)) ≡ Some fs → (field : List ℕ) × (dot : Dot) × (v : List ℕ)
+      × (p.at (place_of key field) dot ≡ Some v)
   unfolding at_field
   field_there key fs e =
       let first = first_there bytes_cmp nat_list_cmp_total tied_same bytes_same (fields key) fs e in
@@ -287,10 +305,12 @@ module _ (p : MapState) (is : IsFinite p) (inside : IsInside p) where
 
   keys_of_map : (key : List ℕ) → finite.get finite_map key ≡ at_key key
   unfolding finite_map at_key
-  keys_of_map key = get-graph bytes_cmp nat_list_cmp_total tied_same bytes_same at_key (map (λ place. place.key) is.places) key (λ fs e. by (field_there key fs e))
+  keys_of_map key = get-graph bytes_cmp nat_list_cmp_total tied_same bytes_same at_key (map (λ place. place.key) is.places) key
+      (λ fs e. by (field_there key fs e))
     where
       by : (field : List ℕ) × (dot : Dot) × (v : List ℕ) × (p.at (place_of key field) dot ≡ Some v) → In (map (λ (place : Place). place.key) is.places) key
-      by (field, dot, v, e) = In-Contains (map (λ (place : Place). place.key) is.places) key (in_map (λ (place : Place). place.key) is.places (place_of key field) (is.at (place_of key field) dot v e))
+      by (field, dot, v, e) = In-Contains (map (λ (place : Place). place.key) is.places) key
+          (in_map (λ (place : Place). place.key) is.places (place_of key field) (is.at (place_of key field) dot v e))
 
   held_at : (place : Place) (dot : Dot) → held_in (finite.get finite_map place.key) place.field dot ≡ p.at place dot
   unfolding at_key at_field
@@ -308,7 +328,8 @@ module _ (p : MapState) (is : IsFinite p) (inside : IsInside p) where
   in_order key = record {
     ordered = sorted bytes_cmp nat_list_cmp_total tied_same bytes_same (fields key);
     filled = filled_all at_values (finite.entries (fields key))
-        (All-weaker (Contains (finite.entries (fields key))) (λ e. HasNothing (at_values e.1) → ⊥) (λ e h. filled e.0 e.1 (there e.0 e.1 h)) (finite.entries (fields key)) (All-contains_itself (finite.entries (fields key))));
+        (All-weaker (Contains (finite.entries (fields key))) (λ e. HasNothing (at_values e.1) → ⊥) (λ e h. filled e.0 e.1 (there e.0 e.1 h))
+        (finite.entries (fields key)) (All-contains_itself (finite.entries (fields key))));
     each = λ field vs h. each field vs (there field vs h);
   }
     where
@@ -331,7 +352,8 @@ module _ (p : MapState) (is : IsFinite p) (inside : IsInside p) where
     at = held_at;
     filled = λ key held e nothing.
         let there = field_there key held (sym (keys_of_map key) ∙ e) in
-        let none : Some there.2 ≡ None = sym there.3 ∙ sym (held_at (place_of key there.0) there.1) ∙ ap (λ o. held_by fields_at o (there.0, tt) there.1) e ∙ nothing (there.0, tt) there.1 in
+        let none : Some there.2 ≡ None = sym there.3 ∙ sym (held_at (place_of key there.0) there.1) ∙ ap (λ o. held_by fields_at o (there.0, tt) there.1) e
+        ∙ nothing (there.0, tt) there.1 in
         cc;
     ordered = λ key held e. subst IsInOrder (sym (any_first (finite.entries (fields key)) held (sym (keys_of_map key) ∙ e)).3) (in_order key);
   }
@@ -348,7 +370,8 @@ module _ (p : MapState) (is : IsFinite p) (inside : IsInside p) where
   listed_at : (place : Place) (dot : Dot) → IsSome (p.at place dot) → In is.places place
   listed_at place dot some = let there = some_of (p.at place dot) some in In-Contains is.places place (is.at place dot there.0 there.1)
 
-  passing : (test : Dot → Bool) (P : Dot → Type 0) → ((dot : Dot) → test dot ≡ true → P dot) → ((dot : Dot) → P dot → (test dot ≡ true) × (has is.dots dot ≡ true))
+  passing : (test : Dot → Bool) (P : Dot → Type 0) → ((dot : Dot) → test dot ≡ true → P dot)
+      → ((dot : Dot) → P dot → (test dot ≡ true) × (has is.dots dot ≡ true))
       → (dot : Dot) → IsTrue (has (filter test is.dots) dot) ↔ P dot
   passing test P means back dot = (
     λ h. means dot (from_filter test is.dots dot (from_has (filter test is.dots) dot h)).1,
@@ -380,8 +403,11 @@ module _ (p : MapState) (is : IsFinite p) (inside : IsInside p) where
 
       back : (dot : Dot) → IsWithin p key dot → (list_any (is_within key dot) is.places ≡ true) × (has is.dots dot ≡ true)
       back dot (field, some) =
-          let place = place_of key field in
-          (any_passes (is_within key dot) is.places place (listed_at place dot some) (and_from (same_bytes key key) (is_some (p.at place dot)) (same_bytes-self key) some), known_at place dot some)
+          let place = place_of key field in (
+            any_passes (is_within key dot) is.places place (listed_at place dot some)
+                (and_from (same_bytes key key) (is_some (p.at place dot)) (same_bytes-self key) some),
+            known_at place dot some,
+          )
 
   pub all_dots : List Dot
   all_dots = filter (λ dot. list_any (λ place. is_some (p.at place dot)) is.places) is.dots
@@ -397,7 +423,8 @@ module _ (p : MapState) (is : IsFinite p) (inside : IsInside p) where
       back dot (place, some) = (any_passes (λ place. is_some (p.at place dot)) is.places place (listed_at place dot some) some, known_at place dot some)
 
   -- so there is a put at each place
-  pub put_there : (name : ℕ) (place : Place) (value : List ℕ) → IsPutAt p name place value (record { id = next name is.dots; place = place; value = value; over = dots_at place })
+  pub put_there : (name : ℕ) (place : Place) (value : List ℕ) → IsPutAt p name place value
+      (record { id = next name is.dots; place = place; value = value; over = dots_at place })
   put_there name place value = record {
     id = next_there name;
     same_place = refl;

@@ -1,5 +1,6 @@
 -- Sessions that are found by their key, and what a change by key leaves.
-use Rattle.std.proofs.Common.{◌≡◌, ◌≢◌, ◌⊎◌, inl, inr, List, [], ◌∷◌, ◌++◌, Bool, true, false, Some, None, cond, not, ◌&&◌, refl, sym, ap, ◌∙◌, subst, eqb-true, eq-eqb}
+use Rattle.std.proofs.Common.{◌≡◌, ◌≢◌, ◌⊎◌, inl, inr, List, [], ◌∷◌, ◌++◌, Bool, true, false, Some, None, cond, not, ◌&&◌, refl, sym, ap, ◌∙◌, subst, eqb-true}
+use Rattle.std.proofs.Common.{eq-eqb}
 use Rattle.std.specs.Prelude.{◌==◌, Contains, length, nat_lt}
 use Rattle.std.proofs.lemmas.Bool.{false≢true}
 use Rattle.std.proofs.lemmas.List.Elements.{Contains-append_cases}
@@ -30,7 +31,8 @@ same_is_one s t e =
     λ i. record { asker = eqb-true s.asker t.asker first i; answerer = eqb-true s.answerer t.answerer second i; number = eqb-true s.number t.number third i }
 
 pub same_itself : (s : SessionValue) → same_session s s ≡ true
-same_itself s = both (s.asker == s.asker) ((s.answerer == s.answerer) && (s.number == s.number)) (eq-eqb s.asker s.asker refl) (both (s.answerer == s.answerer) (s.number == s.number) (eq-eqb s.answerer s.answerer refl) (eq-eqb s.number s.number refl))
+same_itself s = both (s.asker == s.asker) ((s.answerer == s.answerer) && (s.number == s.number)) (eq-eqb s.asker s.asker refl)
+    (both (s.answerer == s.answerer) (s.number == s.number) (eq-eqb s.answerer s.answerer refl) (eq-eqb s.number s.number refl))
 
 pub one_is_same : (s t : SessionValue) → s ≡ t → same_session s t ≡ true
 one_is_same s t e = subst (λ u. same_session s u ≡ true) e (same_itself s)
@@ -52,16 +54,26 @@ pub found_open : (os : List Open) (s : SessionValue) (o : Open) → open_at os s
 found_open [] s o e = absurd cc
 found_open (x ∷ os) s o e = step (same_session x.session s) refl e (found_open os s o)
   where
-    step : (b : Bool) → same_session x.session s ≡ b → cond b (Some x) (open_at os s) ≡ Some o → (open_at os s ≡ Some o → Contains os o × (o.session ≡ s)) → Contains (x ∷ os) o × (o.session ≡ s)
-    step true same here rest = let one : x ≡ o = cc in (subst (λ y. Contains (x ∷ os) y) one (at_head x os), ap (λ (y : Open). y.session) (sym one) ∙ same_is_one x.session s same)
+    step : (b : Bool) → same_session x.session s ≡ b → cond b (Some x) (open_at os s) ≡ Some o → (open_at os s ≡ Some o → Contains os o × (o.session ≡ s))
+        → Contains (x ∷ os) o × (o.session ≡ s)
+    step true same here rest = let one : x ≡ o = cc in (
+      subst (λ y. Contains (x ∷ os) y) one (at_head x os),
+      ap (λ (y : Open). y.session) (sym one)
+          ∙ same_is_one x.session s same,
+    )
     step false apart there rest = let found = rest there in (in_tail x os o found.0, found.1)
 
 pub found_kept : (ks : List Kept) (s : SessionValue) (k : Kept) → kept_at ks s ≡ Some k → Contains ks k × (k.session ≡ s)
 found_kept [] s k e = absurd cc
 found_kept (x ∷ ks) s k e = step (same_session x.session s) refl e (found_kept ks s k)
   where
-    step : (b : Bool) → same_session x.session s ≡ b → cond b (Some x) (kept_at ks s) ≡ Some k → (kept_at ks s ≡ Some k → Contains ks k × (k.session ≡ s)) → Contains (x ∷ ks) k × (k.session ≡ s)
-    step true same here rest = let one : x ≡ k = cc in (subst (λ y. Contains (x ∷ ks) y) one (at_head x ks), ap (λ (y : Kept). y.session) (sym one) ∙ same_is_one x.session s same)
+    step : (b : Bool) → same_session x.session s ≡ b → cond b (Some x) (kept_at ks s) ≡ Some k → (kept_at ks s ≡ Some k → Contains ks k × (k.session ≡ s))
+        → Contains (x ∷ ks) k × (k.session ≡ s)
+    step true same here rest = let one : x ≡ k = cc in (
+      subst (λ y. Contains (x ∷ ks) y) one (at_head x ks),
+      ap (λ (y : Kept). y.session) (sym one)
+          ∙ same_is_one x.session s same,
+    )
     step false apart there rest = let found = rest there in (in_tail x ks k found.0, found.1)
 
 -- where none is found, each is of another session
@@ -69,19 +81,22 @@ pub none_kept : (ks : List Kept) (s : SessionValue) (k : Kept) → kept_at ks s 
 none_kept [] s k e h = nothing_in k h
 none_kept (x ∷ ks) s k e h = step (same_session x.session s) refl e (head_or_tail x ks k h) (none_kept ks s k)
   where
-    step : (b : Bool) → same_session x.session s ≡ b → cond b (Some x) (kept_at ks s) ≡ None → (x ≡ k) ⊎ Contains ks k → (kept_at ks s ≡ None → Contains ks k → same_session k.session s ≡ false) → same_session k.session s ≡ false
+    step : (b : Bool) → same_session x.session s ≡ b → cond b (Some x) (kept_at ks s) ≡ None → (x ≡ k) ⊎ Contains ks k
+        → (kept_at ks s ≡ None → Contains ks k → same_session k.session s ≡ false) → same_session k.session s ≡ false
     step true same e at rest = absurd cc
     step false apart e (inl one) rest = ap (λ (y : Kept). same_session y.session s) (sym one) ∙ apart
     step false apart e (inr there) rest = rest e there
 
 -- ---- lists of sessions that changed
 
-pub in_advanced : (next : Open) (os : List Open) (o : Open) → Contains (advanced next os) o → (o ≡ next) ⊎ (Contains os o × (same_session o.session next.session ≡ false))
+pub in_advanced : (next : Open) (os : List Open) (o : Open) → Contains (advanced next os) o → (o ≡ next)
+    ⊎ (Contains os o × (same_session o.session next.session ≡ false))
 in_advanced next os o h =
     let found = from_map (λ x. cond (same_session x.session next.session) next x) os o h in
     step found.0 (same_session found.0.session next.session) refl found.1 found.2
   where
-    step : (x : Open) (b : Bool) → same_session x.session next.session ≡ b → Contains os x → cond b next x ≡ o → (o ≡ next) ⊎ (Contains os o × (same_session o.session next.session ≡ false))
+    step : (x : Open) (b : Bool) → same_session x.session next.session ≡ b → Contains os x → cond b next x ≡ o → (o ≡ next)
+        ⊎ (Contains os o × (same_session o.session next.session ≡ false))
     step x true same there e = inl (sym e)
     step x false apart there e = inr (subst (λ y. Contains os y) e there, ap (λ (y : Open). same_session y.session next.session) (sym e) ∙ apart)
 
@@ -118,7 +133,8 @@ kept_last : (ks : List Kept) (new : Kept) (s : SessionValue) → kept_at ks s �
 kept_last [] new s none is = ap (λ b. cond b (Some new) None) (one_is_same new.session s is)
 kept_last (x ∷ ks) new s none is = step (same_session x.session s) none (kept_last ks new s)
   where
-    step : (b : Bool) → cond b (Some x) (kept_at ks s) ≡ None → (kept_at ks s ≡ None → new.session ≡ s → kept_at (ks ++ new ∷ []) s ≡ Some new) → cond b (Some x) (kept_at (ks ++ new ∷ []) s) ≡ Some new
+    step : (b : Bool) → cond b (Some x) (kept_at ks s) ≡ None → (kept_at ks s ≡ None → new.session ≡ s → kept_at (ks ++ new ∷ []) s ≡ Some new)
+        → cond b (Some x) (kept_at (ks ++ new ∷ []) s) ≡ Some new
     step true e rest = absurd cc
     step false e rest = rest e is
 

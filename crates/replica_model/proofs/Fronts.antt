@@ -24,7 +24,8 @@ use Rattle.replica_model.proofs.Calls.{more_ties, called_ties}
 -- ---- what holds at first and is kept by each event holds after every list of events
 
 module _ (hash_of : List ℕ → ℕ) (P : List Event → World → Type 0) (first : P [] nothing)
-    (next : (events : List Event) (w v : World) (e : Event) (answer : Answer) → Runs hash_of nothing events w → P events w → Happens hash_of w e answer v → P (events ++ e ∷ []) v) where
+    (next : (events : List Event) (w v : World) (e : Event) (answer : Answer) → Runs hash_of nothing events w → P events w
+    → Happens hash_of w e answer v → P (events ++ e ∷ []) v) where
   further : (front es : List Event) (u w : World) → Runs hash_of nothing front u → P front u → Runs hash_of u es w → P (front ++ es) w
   further front [] u w runs p e = subst (λ f. P f w) (sym (append-nil front)) (subst (P front) (sym e) p)
   further front (x ∷ es) u w runs p (answer, t, step, rest) =
@@ -53,7 +54,8 @@ pub record Delivered (hash_of : List ℕ → ℕ) (w : World) (number name : ℕ
   pub step : delivered hash_of own (w.replica name) message.mail ≡ turn new outcome out
   pub after : v ≡ goes name new out [] (takes name (w.replica name) message.mail message.of outcome w)
 
-pub delivery : (hash_of : List ℕ → ℕ) (w v : World) (number name : ℕ) (answer : Answer) → Happens hash_of w (Deliver number name) answer v → Delivered hash_of w number name answer v
+pub delivery : (hash_of : List ℕ → ℕ) (w v : World) (number name : ℕ) (answer : Answer) → Happens hash_of w (Deliver number name) answer v
+    → Delivered hash_of w number name answer v
 delivery hash_of w v number name answer (node, (m, there, (new, outcome, out, a, (second, b, (own, is, step)), after))) =
     let same : second ≡ outcome = came_one second outcome (sym b ∙ a) in
     record {
@@ -72,11 +74,14 @@ delivery hash_of w v number name answer (node, (m, there, (new, outcome, out, a,
 -- ---- fronts
 
 -- the one replica grew, and the others stay
-pub grown_there : (w : World) (name : ℕ) (new : Replica) → IsBelow (w.replica name).live new.live → (n : ℕ) → IsBelow (w.replica n).live (cond (n == name) new (w.replica n)).live
-grown_there w name new grew = by_name (λ n r. IsBelow (w.replica n).live r.live) name new w.replica grew (λ n apart. Rattle.replica_model.proofs.Growing.below_itself (w.replica n).live)
+pub grown_there : (w : World) (name : ℕ) (new : Replica) → IsBelow (w.replica name).live new.live → (n : ℕ)
+    → IsBelow (w.replica n).live (cond (n == name) new (w.replica n)).live
+grown_there w name new grew = by_name (λ n r. IsBelow (w.replica n).live r.live) name new w.replica grew
+    (λ n apart. Rattle.replica_model.proofs.Growing.below_itself (w.replica n).live)
 
 module _ (hash_of : List ℕ → ℕ) where
-  taken_more : (events : List Event) (e : Event) (s : SessionValue) (S : List Operation) (m : Held) (c : DotValue → Bool) → IsTakenOf hash_of events s S m c → IsTakenOf hash_of (events ++ e ∷ []) s S m c
+  taken_more : (events : List Event) (e : Event) (s : SessionValue) (S : List Operation) (m : Held) (c : DotValue → Bool) → IsTakenOf hash_of events s S m c
+      → IsTakenOf hash_of (events ++ e ∷ []) s S m c
   taken_more events e s S m c t = record {
     front = t.front;
     number = t.number;
@@ -94,7 +99,8 @@ module _ (hash_of : List ℕ → ℕ) where
     known_then = t.known_then;
   }
 
-  pub ask_more : (events : List Event) (e : Event) (s : SessionValue) (m : Held) (c : DotValue → Bool) → IsAskOf hash_of events s m c → IsAskOf hash_of (events ++ e ∷ []) s m c
+  pub ask_more : (events : List Event) (e : Event) (s : SessionValue) (m : Held) (c : DotValue → Bool) → IsAskOf hash_of events s m c
+      → IsAskOf hash_of (events ++ e ∷ []) s m c
   ask_more events e s m c t = record {
     front = t.front;
     later = t.later ++ e ∷ [];
@@ -116,7 +122,8 @@ module _ (hash_of : List ℕ → ℕ) where
   abbrev pub Told : List Event → World → Type 0
   Told events w = Ties hash_of (IsTakenOf hash_of events) (AskedIn events w) SendsAny w
 
-  more_told : (events : List Event) (e : Event) (w v : World) → ((n : ℕ) → IsBelow (w.replica n).live (v.replica n).live) → Told events w → Ties hash_of (IsTakenOf hash_of (events ++ e ∷ [])) (AskedIn (events ++ e ∷ []) v) SendsAny w
+  more_told : (events : List Event) (e : Event) (w v : World) → ((n : ℕ) → IsBelow (w.replica n).live (v.replica n).live) → Told events w
+      → Ties hash_of (IsTakenOf hash_of (events ++ e ∷ [])) (AskedIn (events ++ e ∷ []) v) SendsAny w
   more_told events e w v grew =
       more_ties hash_of (IsTakenOf hash_of events) (IsTakenOf hash_of (events ++ e ∷ [])) (AskedIn events w) (AskedIn (events ++ e ∷ []) v) SendsAny SendsAny
       (taken_more events e)
@@ -130,7 +137,8 @@ module _ (hash_of : List ℕ → ℕ) where
       record { named = u.named; kept = u.kept; sessions = u.sessions; messages = u.messages }
 
   -- an ask that was just made
-  pub asked_now : (events : List Event) (w : World) (name peer : ℕ) (own : Held) → Runs hash_of nothing events w → (w.replica name).name ≡ name → IsMapOf own (w.replica name).live
+  pub asked_now : (events : List Event) (w : World) (name peer : ℕ) (own : Held) → Runs hash_of nothing events w → (w.replica name).name ≡ name
+      → IsMapOf own (w.replica name).live
       → IsAskOf hash_of (events ++ At name (Ask peer) ∷ []) (next_session (w.replica name) peer) own (w.replica name).live.has
   asked_now events w name peer own runs named is = record {
     front = events;
@@ -154,21 +162,26 @@ module _ (hash_of : List ℕ → ℕ) where
   same_after_calls w name (Rattle.replica_model.specs.Step.Abandon number) = refl
   same_after_calls w name Rattle.replica_model.specs.Step.Restart = refl
 
-  told_call : (events : List Event) (w : World) (name : ℕ) (c : Call) (new : Replica) (answer : Answer) (out : List Mail) → Runs hash_of nothing events w → Told events w
+  told_call : (events : List Event) (w : World) (name : ℕ) (c : Call) (new : Replica) (answer : Answer) (out : List Mail) → Runs hash_of nothing events w
+      → Told events w
       → IsCall (w.replica name) c new answer out → Told (events ++ At name c ∷ []) (goes name new out (w.outgoing name) (calls name c w))
   told_call events w name c new answer out runs t step =
       let v = goes name new out (w.outgoing name) (calls name c w) in
       let grew : (n : ℕ) → IsBelow (w.replica n).live (v.replica n).live =
-      subst (λ f. (n : ℕ) → IsBelow (w.replica n).live (cond (n == name) new (f n)).live) (sym (same_after_calls w name c)) (grown_there w name new (call_grows (w.replica name) new c answer out step)) in
-      called_ties hash_of (IsTakenOf hash_of (events ++ At name c ∷ [])) (AskedIn (events ++ At name c ∷ []) v) SendsAny w name (more_told events (At name c) w v grew t) tt c
+      subst (λ f. (n : ℕ) → IsBelow (w.replica n).live (cond (n == name) new (f n)).live) (sym (same_after_calls w name c))
+      (grown_there w name new (call_grows (w.replica name) new c answer out step)) in
+      called_ties hash_of (IsTakenOf hash_of (events ++ At name c ∷ [])) (AskedIn (events ++ At name c ∷ []) v) SendsAny w name
+      (more_told events (At name c) w v grew t) tt c
       (λ peer own is_ask is. (
-        subst (λ x. IsAskOf hash_of (events ++ At name x ∷ []) (next_session (w.replica name) peer) own (w.replica name).live.has) (sym is_ask) (asked_now events w name peer own runs (t.named name) is),
+        subst (λ x. IsAskOf hash_of (events ++ At name x ∷ []) (next_session (w.replica name) peer) own (w.replica name).live.has) (sym is_ask)
+            (asked_now events w name peer own runs (t.named name) is),
         below_below (held_state own (w.replica name).live.has) (w.replica name).live (v.replica name).live (map_below own (w.replica name).live is) (grew name),
       ))
       new answer out step
 
   -- a snapshot that was just taken
-  taken_now : (events : List Event) (w : World) (number name : ℕ) (m : Message) (own : Held) → Runs hash_of nothing events w → message_at w.messages number ≡ Some m → IsMapOf own (w.replica name).live
+  taken_now : (events : List Event) (w : World) (number name : ℕ) (m : Message) (own : Held) → Runs hash_of nothing events w
+      → message_at w.messages number ≡ Some m → IsMapOf own (w.replica name).live
       → (s : SessionValue) (seen : DotValue → Bool) → m.mail ≡ Hello s seen → s.answerer ≡ name → kept_at (w.replica name).kept s ≡ None
       → IsTakenOf hash_of (events ++ Deliver number name ∷ []) s (w.seen name) own (w.replica name).live.has
   taken_now events w number name m own runs there is s seen hello here none = record {
@@ -188,21 +201,28 @@ module _ (hash_of : List ℕ → ℕ) where
     known_then = ap (λ n. (w.replica n).live.has) (sym here);
   }
 
-  told_delivery : (events : List Event) (w v : World) (number name : ℕ) (answer : Answer) → Runs hash_of nothing events w → Told events w → Delivered hash_of w number name answer v → Told (events ++ Deliver number name ∷ []) v
+  told_delivery : (events : List Event) (w v : World) (number name : ℕ) (answer : Answer) → Runs hash_of nothing events w → Told events w
+      → Delivered hash_of w number name answer v → Told (events ++ Deliver number name ∷ []) v
   told_delivery events w v number name answer runs t d =
       let u = takes name (w.replica name) d.message.mail d.message.of d.outcome w in
       let x = goes name d.new d.out [] u in
       let here : IsBelow (w.replica name).live d.new.live =
-      subst (λ (y : Rattle.replica_model.specs.Delivery.Turn). IsBelow (w.replica name).live y.new.live) d.step (delivery_grows hash_of d.own (w.replica name) d.message.mail) in
+      subst (λ (y : Rattle.replica_model.specs.Delivery.Turn). IsBelow (w.replica name).live y.new.live) d.step
+      (delivery_grows hash_of d.own (w.replica name) d.message.mail) in
       let grew : (n : ℕ) → IsBelow (w.replica n).live (x.replica n).live =
-      subst (λ f. (n : ℕ) → IsBelow (w.replica n).live (cond (n == name) d.new (f n)).live) (sym (same_replicas w name (w.replica name) d.message.mail d.message.of d.outcome)) (grown_there w name d.new here) in
+      subst (λ f. (n : ℕ) → IsBelow (w.replica n).live (cond (n == name) d.new (f n)).live)
+      (sym (same_replicas w name (w.replica name) d.message.mail d.message.of d.outcome)) (grown_there w name d.new here) in
       subst (Told (events ++ Deliver number name ∷ [])) (sym d.after)
-      (delivered_ties hash_of (IsTakenOf hash_of (events ++ Deliver number name ∷ [])) (AskedIn (events ++ Deliver number name ∷ []) x) SendsAny w name d.own d.message number
-      (more_told events (Deliver number name) w x grew t) d.there (taken_now events w number name d.message d.own runs d.there d.is_own) d.new d.outcome d.out d.step)
+      (delivered_ties hash_of (IsTakenOf hash_of (events ++ Deliver number name ∷ [])) (AskedIn (events ++ Deliver number name ∷ []) x)
+      SendsAny w name d.own d.message number
+      (more_told events (Deliver number name) w x grew t) d.there (taken_now events w number name d.message d.own runs d.there d.is_own)
+      d.new d.outcome d.out d.step)
 
-  told_next : (events : List Event) (w v : World) (e : Event) (answer : Answer) → Runs hash_of nothing events w → Told events w → Happens hash_of w e answer v → Told (events ++ e ∷ []) v
+  told_next : (events : List Event) (w v : World) (e : Event) (answer : Answer) → Runs hash_of nothing events w → Told events w → Happens hash_of w e answer v
+      → Told (events ++ e ∷ []) v
   told_next events w v (Node name) answer runs t (new, a, e) = subst (Told (events ++ Node name ∷ [])) (sym e) (told_node events w name t)
-  told_next events w v (At name c) answer runs t (there, peer, (new, out, step, e)) = subst (Told (events ++ At name c ∷ [])) (sym e) (told_call events w name c new answer out runs t step)
+  told_next events w v (At name c) answer runs t (there, peer, (new, out, step, e)) =
+      subst (Told (events ++ At name c ∷ [])) (sym e) (told_call events w name c new answer out runs t step)
   told_next events w v (Deliver number name) answer runs t h = told_delivery events w v number name answer runs t (delivery hash_of w v number name answer h)
 
   told_first : Told [] nothing
@@ -223,5 +243,6 @@ sessions_are hash_of events w runs name o h =
 
 pub openings_are : Openings
 openings_are hash_of events w runs number m there s context root is =
-    let tie = subst (λ x. MailTie hash_of (IsTakenOf hash_of events) (AskedIn hash_of events w) (SendsAny hash_of) x m.of) is ((told hash_of events w runs).messages number m there) in
+    let tie = subst (λ x. MailTie hash_of (IsTakenOf hash_of events) (AskedIn hash_of events w) (SendsAny hash_of) x m.of) is
+    ((told hash_of events w runs).messages number m there) in
     record { snapshot = tie.0; digest = tie.1 }

@@ -24,4 +24,5 @@ runs_on hash_of (x ∷ es) q r next answers e answer out (first, more, a, (p, se
     (first, more ++ answer ∷ [], ap (λ told. told ++ answer ∷ []) a, (p, sent, now, runs_on hash_of es p r next more e answer out rest step))
 
 pub history_on : HistoryGoesOn
-history_on hash_of name history r next e answer out (answers, runs) step = (answers ++ answer ∷ [], runs_on hash_of history (fresh name) r next answers e answer out runs step)
+history_on hash_of name history r next e answer out (answers, runs) step =
+    (answers ++ answer ∷ [], runs_on hash_of history (fresh name) r next answers e answer out runs step)

@@ -39,7 +39,11 @@ leaves hash_of w v (At name c) answer (is, peer, (new, out, step, e)) =
       replicas = λ n apart. ap (λ (x : World). x.replica n) e ∙ there n name apart new (u.replica n) ∙ ap (λ f. f n) (same_after_calls hash_of w name c);
       seen = λ n apart. ap (λ (x : World). x.seen n) e ∙ (seen_elsewhere w name c n apart).0;
       outgoing = λ n apart. ap (λ (x : World). x.outgoing n) e ∙ (seen_elsewhere w name c n apart).1;
-      messages = (map (sent_as (w.outgoing name) u.kept new.kept) out, ap (λ (x : World). x.messages) e ∙ ap (λ ms. ms ++ map (sent_as (w.outgoing name) u.kept new.kept) out) (same_calls w name c).0);
+      messages = (
+        map (sent_as (w.outgoing name) u.kept new.kept) out,
+        ap (λ (x : World). x.messages) e
+            ∙ ap (λ ms. ms ++ map (sent_as (w.outgoing name) u.kept new.kept) out) (same_calls w name c).0,
+      );
       nodes = ([], ap (λ (x : World). x.nodes) e ∙ (same_calls w name c).1 ∙ sym (append-nil w.nodes));
     }
 leaves hash_of w v (Deliver number name) answer happens =
@@ -47,17 +51,20 @@ leaves hash_of w v (Deliver number name) answer happens =
     let old = w.replica name in
     let u = takes name old d.message.mail d.message.of d.outcome w in
     record {
-      replicas = λ n apart. ap (λ (x : World). x.replica n) d.after ∙ there n name apart d.new (u.replica n) ∙ ap (λ f. f n) (same_replicas w name old d.message.mail d.message.of d.outcome);
+      replicas = λ n apart. ap (λ (x : World). x.replica n) d.after ∙ there n name apart d.new (u.replica n)
+          ∙ ap (λ f. f n) (same_replicas w name old d.message.mail d.message.of d.outcome);
       seen = λ n apart. ap (λ (x : World). x.seen n) d.after ∙ seen_stays w name n apart old d.message.mail d.message.of d.outcome;
       outgoing = λ n apart. ap (λ (x : World). x.outgoing n) d.after ∙ ap (λ f. f n) (outgoing_stays w name old d.message.mail d.message.of d.outcome);
       messages = (
         map (sent_as [] u.kept d.new.kept) d.out,
-        ap (λ (x : World). x.messages) d.after ∙ ap (λ ms. ms ++ map (sent_as [] u.kept d.new.kept) d.out) (same_messages w name old d.message.mail d.message.of d.outcome),
+        ap (λ (x : World). x.messages) d.after ∙ ap (λ ms. ms ++ map (sent_as [] u.kept d.new.kept) d.out)
+            (same_messages w name old d.message.mail d.message.of d.outcome),
       );
       nodes = (
         [],
         ap (λ (x : World). x.nodes) d.after
-            ∙ left_as_is name (λ x. x.nodes) (λ x m. refl) (λ x o s. refl) (λ x s o. refl) (λ x s t. refl) (λ x o f t. refl) w old d.message.mail d.message.of d.outcome
+            ∙ left_as_is name (λ x. x.nodes) (λ x m. refl) (λ x o s. refl) (λ x s o. refl) (λ x s t. refl) (λ x o f t. refl)
+            w old d.message.mail d.message.of d.outcome
             ∙ sym (append-nil w.nodes),
       );
     }

@@ -1,5 +1,6 @@
 -- A replica stays within its limits.
-use Rattle.std.proofs.Common.{◌≡◌, inl, inr, ℕ, ◌+◌, ◌==◌, ◌<◌, ◌≤◌, ◌^◌, List, [], ◌∷◌, ◌++◌, length, Bool, true, false, Option, Some, None, cond, not, refl, sym, ap, subst, arith, length-append}
+use Rattle.std.proofs.Common.{◌≡◌, inl, inr, ℕ, ◌+◌, ◌==◌, ◌<◌, ◌≤◌, ◌^◌, List, [], ◌∷◌, ◌++◌, length, Bool, true, false, Option, Some, None, cond, not, refl}
+use Rattle.std.proofs.Common.{sym, ap, subst, arith, length-append}
 use Rattle.std.specs.Prelude.{nat_lt}
 use Rattle.std.proofs.lemmas.Bool.{ltb-true}
 use Rattle.std.proofs.lemmas.List.{length-map}
@@ -22,11 +23,13 @@ lower : (low high : ℕ) (os : List Open) (last : ℕ) → low ≤ high → AreN
 lower low high [] last le n = omega (arith, le, n)
 lower low high (o ∷ os) last le n = let first = n.0 in (omega (arith, le, first), n.1)
 
-numbered_without : (s : Rattle.wire_form.specs.Session.SessionValue) (low : ℕ) (os : List Open) (last : ℕ) → AreNumbered low os last → AreNumbered low (without_session s os) last
+numbered_without : (s : Rattle.wire_form.specs.Session.SessionValue) (low : ℕ) (os : List Open) (last : ℕ) → AreNumbered low os last
+    → AreNumbered low (without_session s os) last
 numbered_without s low [] last n = n
 numbered_without s low (o ∷ os) last n = step (not (same_session o.session s)) (numbered_without s o.session.number os last n.1)
   where
-    step : (b : Bool) → AreNumbered o.session.number (without_session s os) last → AreNumbered low (cond b (o ∷ without_session s os) (without_session s os)) last
+    step : (b : Bool) → AreNumbered o.session.number (without_session s os) last
+        → AreNumbered low (cond b (o ∷ without_session s os) (without_session s os)) last
     step true rest = (n.0, rest)
     step false rest = let first = n.0 in lower low o.session.number (without_session s os) last (omega (arith, first)) rest
 
@@ -34,13 +37,16 @@ numbered_advanced : (next : Open) (low : ℕ) (os : List Open) (last : ℕ) → 
 numbered_advanced next low [] last n = n
 numbered_advanced next low (o ∷ os) last n = step (same_session o.session next.session) refl (numbered_advanced next o.session.number os last n.1)
   where
-    step : (b : Bool) → same_session o.session next.session ≡ b → AreNumbered o.session.number (advanced next os) last → AreNumbered low (cond b next o ∷ advanced next os) last
+    step : (b : Bool) → same_session o.session next.session ≡ b → AreNumbered o.session.number (advanced next os) last
+        → AreNumbered low (cond b next o ∷ advanced next os) last
     step true same rest =
-        let one : o.session.number ≡ next.session.number = ap (λ (s : Rattle.wire_form.specs.Session.SessionValue). s.number) (same_is_one o.session next.session same) in
+        let one : o.session.number ≡ next.session.number = ap (λ (s : Rattle.wire_form.specs.Session.SessionValue). s.number)
+        (same_is_one o.session next.session same) in
         (subst (λ x. low < x) one n.0, subst (λ x. AreNumbered x (advanced next os) last) one rest)
     step false apart rest = (n.0, rest)
 
-numbered_opened : (low : ℕ) (os : List Open) (last : ℕ) (next : Open) → next.session.number ≡ last + 1 → AreNumbered low os last → AreNumbered low (os ++ next ∷ []) (last + 1)
+numbered_opened : (low : ℕ) (os : List Open) (last : ℕ) (next : Open) → next.session.number ≡ last + 1 → AreNumbered low os last
+    → AreNumbered low (os ++ next ∷ []) (last + 1)
 numbered_opened low [] last next e n = (omega (arith, e, n), omega (arith, e))
 numbered_opened low (o ∷ os) last next e n = (n.0, numbered_opened o.session.number os last next e n.1)
 
@@ -87,11 +93,36 @@ delivery_limits hash_of own r l = each_row hash_of own r (λ mail t. IsWithinLim
   kept = λ s seen here none. record { sessions = l.sessions; kept = few_kept _ r.kept l.kept; numbered = l.numbered; opened = l.opened };
   gone = λ s p. l;
   page = λ s p k page. l;
-  opening_done = λ s c root o f there first took complete. record { sessions = closing r o.session l; kept = l.kept; numbered = numbered_without o.session 0 r.sessions r.opened l.numbered; opened = l.opened };
-  opening_sent = λ s c root o f there first took. record { sessions = subst (λ n. n ≤ LIMIT) (sym (length-map r.sessions _)) l.sessions; kept = l.kept; numbered = numbered_advanced _ 0 r.sessions r.opened l.numbered; opened = l.opened };
-  page_done = λ s sent o a f there accepted took complete. record { sessions = closing r o.session l; kept = l.kept; numbered = numbered_without o.session 0 r.sessions r.opened l.numbered; opened = l.opened };
-  page_sent = λ s sent o a f there accepted took. record { sessions = subst (λ n. n ≤ LIMIT) (sym (length-map r.sessions _)) l.sessions; kept = l.kept; numbered = numbered_advanced _ 0 r.sessions r.opened l.numbered; opened = l.opened };
-  ended = λ s o there. record { sessions = closing r o.session l; kept = l.kept; numbered = numbered_without o.session 0 r.sessions r.opened l.numbered; opened = l.opened };
+  opening_done = λ s c root o f there first took complete. record {
+    sessions = closing r o.session l;
+    kept = l.kept;
+    numbered = numbered_without o.session 0 r.sessions r.opened l.numbered;
+    opened = l.opened;
+  };
+  opening_sent = λ s c root o f there first took. record {
+    sessions = subst (λ n. n ≤ LIMIT) (sym (length-map r.sessions _)) l.sessions;
+    kept = l.kept;
+    numbered = numbered_advanced _ 0 r.sessions r.opened l.numbered;
+    opened = l.opened;
+  };
+  page_done = λ s sent o a f there accepted took complete. record {
+    sessions = closing r o.session l;
+    kept = l.kept;
+    numbered = numbered_without o.session 0 r.sessions r.opened l.numbered;
+    opened = l.opened;
+  };
+  page_sent = λ s sent o a f there accepted took. record {
+    sessions = subst (λ n. n ≤ LIMIT) (sym (length-map r.sessions _)) l.sessions;
+    kept = l.kept;
+    numbered = numbered_advanced _ 0 r.sessions r.opened l.numbered;
+    opened = l.opened;
+  };
+  ended = λ s o there. record {
+    sessions = closing r o.session l;
+    kept = l.kept;
+    numbered = numbered_without o.session 0 r.sessions r.opened l.numbered;
+    opened = l.opened;
+  };
 })
 
 to : (new r : Replica) → new ≡ r → IsWithinLimits r → IsWithinLimits new
@@ -99,9 +130,16 @@ to new r e l = subst IsWithinLimits (sym e) l
 
 abandon_limits : (r new : Replica) (o : Option Open) (answer : Answer) → IsWithinLimits r → Abandons r o new answer → IsWithinLimits new
 abandon_limits r new None answer l (n, a) = to new r n l
-abandon_limits r new (Some o) answer l (n, a) = to new _ n (record { sessions = closing r o.session l; kept = l.kept; numbered = numbered_without o.session 0 r.sessions r.opened l.numbered; opened = l.opened })
+abandon_limits r new (Some o) answer l (n, a) =
+    to new _ n (record {
+      sessions = closing r o.session l;
+      kept = l.kept;
+      numbered = numbered_without o.session 0 r.sessions r.opened l.numbered;
+      opened = l.opened;
+    })
 
-same_three : (r new : Replica) → IsWithinLimits r → (e : Replica) → new ≡ e → e.sessions ≡ r.sessions → e.kept ≡ r.kept → e.opened ≡ r.opened → IsWithinLimits new
+same_three : (r new : Replica) → IsWithinLimits r → (e : Replica) → new ≡ e → e.sessions ≡ r.sessions → e.kept ≡ r.kept → e.opened ≡ r.opened
+    → IsWithinLimits new
 same_three r new l e n s k o = to new e n (same_limits r e s k o l)
 
 call_limits : (r new : Replica) (c : Call) (answer : Answer) (out : List Mail) → IsWithinLimits r → IsCall r c new answer out → IsWithinLimits new
@@ -127,7 +165,8 @@ call_limits r new Restart answer out l (n, a, o) = to new _ n (record { sessions
 abbrev AllWithin : List Event → World → Type 0
 AllWithin events w = (name : ℕ) → IsWithinLimits (w.replica name)
 
-limits_next : (hash_of : List ℕ → ℕ) (events : List Event) (w v : World) (e : Event) (answer : Answer) → Runs hash_of nothing events w → AllWithin events w → Happens hash_of w e answer v → AllWithin (events ++ e ∷ []) v
+limits_next : (hash_of : List ℕ → ℕ) (events : List Event) (w v : World) (e : Event) (answer : Answer) → Runs hash_of nothing events w → AllWithin events w
+    → Happens hash_of w e answer v → AllWithin (events ++ e ∷ []) v
 limits_next hash_of events w v (Node name) answer runs all (new, a, e) n = subst (λ (x : World). IsWithinLimits (x.replica n)) (sym e) (all n)
 limits_next hash_of events w v (At name c) answer runs all (there, peer, (new, out, step, e)) n =
     subst (λ (x : World). IsWithinLimits (x.replica n)) (sym e)
@@ -141,4 +180,5 @@ limits_next hash_of events w v (Deliver number name) answer runs all happens n =
     (subst (λ (t : Turn). IsWithinLimits t.new) d.step (delivery_limits hash_of d.own (w.replica name) (all name) d.message.mail)) (λ k apart. all k) n))
 
 pub limits : StayWithinLimits
-limits hash_of = by_events hash_of AllWithin (λ n. record { sessions = omega arith; kept = omega arith; numbered = omega arith; opened = omega arith }) (limits_next hash_of)
+limits hash_of = by_events hash_of AllWithin (λ n. record { sessions = omega arith; kept = omega arith; numbered = omega arith; opened = omega arith })
+    (limits_next hash_of)

@@ -30,7 +30,8 @@ use Rattle.replica_model.specs.Replica.{Replica, Open, open_numbered, makes, ope
 use Rattle.replica_model.specs.Delivery.{Outcome, Turn, turn, delivered}
 use Rattle.replica_model.specs.Step.{Call, Put, Remove, RemoveField, Clear, Flush, Retry, Abandon, Restart, Answer, Abandons, KnowsNone, IsCall}
 use Rattle.replica_model.specs.Step as call
-use Rattle.replica_model.specs.World.{World, Event, Node, At, Deliver, Snapshot, Met, nothing, learns, calls, own_of, ends, takes, taking_of, accepts, takes_page, is_joined, is_sent, is_done, goes, Happens, Runs, Unclashed}
+use Rattle.replica_model.specs.World.{World, Event, Node, At, Deliver, Snapshot, Met, nothing, learns, calls, own_of, ends, takes, taking_of, accepts}
+use Rattle.replica_model.specs.World.{takes_page, is_joined, is_sent, is_done, goes, Happens, Runs, Unclashed}
 use Rattle.replica_model.specs.World as world
 use Rattle.replica_model.specs.Laws.{IsSound, MeansMail, Headline, SameSeen}
 use Rattle.replica_model.proofs.States.{same_is, is_same}
@@ -59,7 +60,8 @@ pub record Meant (hash_of : List ℕ → ℕ) (w : World) : Type 0 where
   pub group : (name : ℕ) → (w.replica name).group ≡ state (w.outgoing name)
 
 -- what was seen grows
-more_meant : (hash_of : List ℕ → ℕ) (w v : World) → ((n : ℕ) → IsPartOf (w.seen n) (v.seen n)) → Ties hash_of SnapOf (AskedOf w) SendsOf w → Ties hash_of SnapOf (AskedOf v) SendsOf w
+more_meant : (hash_of : List ℕ → ℕ) (w v : World) → ((n : ℕ) → IsPartOf (w.seen n) (v.seen n)) → Ties hash_of SnapOf (AskedOf w) SendsOf w
+    → Ties hash_of SnapOf (AskedOf v) SendsOf w
 more_meant hash_of w v grew =
     more_ties hash_of SnapOf SnapOf (AskedOf w) (AskedOf v) SendsOf SendsOf
     (λ s S m c h. h)
@@ -113,7 +115,8 @@ nothing_outgoing T told g is none = by T refl
     by : (S : List Operation) → T ≡ S → T ≡ []
     by [] e = e
     by (Wrote v ∷ S) e =
-        absurd (false≢true (sym (knows v.id) ∙ ap (λ U. has (known U) v.id) e ∙ or_left (same_dot v.id v.id) (has (ids (writes S) ++ observed (Wrote v ∷ S)) v.id) (same_dot-self v.id)))
+        absurd (false≢true (sym (knows v.id) ∙ ap (λ U. has (known U) v.id) e
+        ∙ or_left (same_dot v.id v.id) (has (ids (writes S) ++ observed (Wrote v ∷ S)) v.id) (same_dot-self v.id)))
     by (Erased [] ∷ S) e = absurd (told (subst (λ U. Contains U (Erased [])) (sym e) (at_head (Erased []) S)))
     by (Erased (d ∷ ds) ∷ S) e =
         let there : has (known (Erased (d ∷ ds) ∷ S)) d ≡ true =
@@ -132,34 +135,42 @@ module _ (hash_of : List ℕ → ℕ) (w : World) (name : ℕ) (whole : List Ope
 
   -- a delta that it made
   made : (more : List Operation) → IsPartOf (grown (name == name) (w.seen name) more) whole → (d : MapState) → Same d (state more)
-      → (join greater (w.replica name).live d ≡ state (grown (name == name) (w.seen name) more)) × (join greater (w.replica name).group d ≡ state (grown (name == name) (w.outgoing name) more))
+      → (join greater (w.replica name).live d ≡ state (grown (name == name) (w.seen name) more))
+      × (join greater (w.replica name).group d ≡ state (grown (name == name) (w.outgoing name) more))
   made more all d same = (
-    same_is _ _ (joins (w.seen name) more whole (w.replica name).live d fits.once fits.seen (more_part more all) (is_same _ _ (meant.live name)) same) ∙ ap state (sym (grown-here name (w.seen name) more)),
-    same_is _ _ (joins (w.outgoing name) more whole (w.replica name).group d fits.once fits.outgoing (more_part more all) (is_same _ _ (meant.group name)) same) ∙ ap state (sym (grown-here name (w.outgoing name) more)),
+    same_is _ _ (joins (w.seen name) more whole (w.replica name).live d fits.once fits.seen (more_part more all) (is_same _ _ (meant.live name)) same)
+        ∙ ap state (sym (grown-here name (w.seen name) more)),
+    same_is _ _ (joins (w.outgoing name) more whole (w.replica name).group d fits.once fits.outgoing (more_part more all) (is_same _ _ (meant.group name)) same)
+        ∙ ap state (sym (grown-here name (w.outgoing name) more)),
   )
 
   with_made : (c : Call) (new : Replica) (d : MapState) → new ≡ makes (w.replica name) d
-      → (join greater (w.replica name).live d ≡ state ((calls name c w).seen name)) × (join greater (w.replica name).group d ≡ state ((calls name c w).outgoing name)) → Follows c new
+      → (join greater (w.replica name).live d ≡ state ((calls name c w).seen name))
+      × (join greater (w.replica name).group d ≡ state ((calls name c w).outgoing name)) → Follows c new
   with_made c new d n both = (ap (λ (x : Replica). x.live) n ∙ both.0, ap (λ (x : Replica). x.group) n ∙ both.1)
 
   named : (w.replica name).name ≡ name
   named = meant.ties.named name
 
-  still : (c : Call) (new : Replica) → new.live ≡ (w.replica name).live → new.group ≡ (w.replica name).group → w.seen name ≡ (calls name c w).seen name → w.outgoing name ≡ (calls name c w).outgoing name → Follows c new
+  still : (c : Call) (new : Replica) → new.live ≡ (w.replica name).live → new.group ≡ (w.replica name).group → w.seen name ≡ (calls name c w).seen name
+      → w.outgoing name ≡ (calls name c w).outgoing name → Follows c new
   still c new l g s o = (l ∙ meant.live name ∙ ap state s, g ∙ meant.group name ∙ ap state o)
 
   abandoned : (o : Option Open) (number : ℕ) (new : Replica) (answer : Answer) → Abandons (w.replica name) o new answer → Follows (Abandon number) new
   abandoned None number new answer (n, a) = still (Abandon number) new (ap (λ (x : Replica). x.live) n) (ap (λ (x : Replica). x.group) n) refl refl
   abandoned (Some o) number new answer (n, a) = still (Abandon number) new (ap (λ (x : Replica). x.live) n) (ap (λ (x : Replica). x.group) n) refl refl
 
-  follows : (c : Call) → IsPartOf ((calls name c w).seen name) whole → (new : Replica) (answer : Answer) (out : List Mail) → IsCall (w.replica name) c new answer out → Follows c new
+  follows : (c : Call) → IsPartOf ((calls name c w).seen name) whole → (new : Replica) (answer : Answer) (out : List Mail)
+      → IsCall (w.replica name) c new answer out → Follows c new
   follows (Put place value) all new answer out (v, put, lt, n, a, o) =
       let put_here : IsPutAt (w.replica name).live name place value v = subst (λ x. IsPutAt (w.replica name).live x place value v) named put in
       with_made (Put place value) new (state (Wrote v ∷ [])) n
-      (made (put_at (w.seen name) name place value) all (state (Wrote v ∷ [])) (put_made (w.seen name) (w.replica name).live (is_same _ _ (meant.live name)) name place value v put_here))
+      (made (put_at (w.seen name) name place value) all (state (Wrote v ∷ []))
+      (put_made (w.seen name) (w.replica name).live (is_same _ _ (meant.live name)) name place value v put_here))
   follows (Remove key) all new answer out (over, just, n, a, o) =
       with_made (Remove key) new (state (erasure over)) n
-      (made (remove_at (w.seen name) key) all (state (erasure over)) (remove_made (w.seen name) (w.replica name).live (is_same _ _ (meant.live name)) key over just))
+      (made (remove_at (w.seen name) key) all (state (erasure over))
+      (remove_made (w.seen name) (w.replica name).live (is_same _ _ (meant.live name)) key over just))
   follows (RemoveField place) all new answer out (over, just, n, a, o) =
       with_made (RemoveField place) new (state (erasure over)) n
       (made (remove_field_at (w.seen name) place) all (state (erasure over))
@@ -169,22 +180,36 @@ module _ (hash_of : List ℕ → ℕ) (w : World) (name : ℕ) (whole : List Ope
       with_made Clear new (state (erasure over)) n
       (made (clear_at (w.seen name)) all (state (erasure over)) (clear_made (w.seen name) (w.replica name).live (is_same _ _ (meant.live name)) over just))
   follows Flush all new answer out (a, inl (none, n, o)) =
-      still Flush new (ap (λ (x : Replica). x.live) n) (ap (λ (x : Replica). x.group) n) refl (nothing_outgoing (w.outgoing name) fits.told (w.replica name).group (meant.group name) none ∙ sym (emptied-here name (w.outgoing name)))
+      still Flush new (ap (λ (x : Replica). x.live) n) (ap (λ (x : Replica). x.group) n) refl
+      (nothing_outgoing (w.outgoing name) fits.told (w.replica name).group (meant.group name) none ∙ sym (emptied-here name (w.outgoing name)))
   follows Flush all new answer out (a, inr (some, n, o)) = (
     ap (λ (x : Replica). x.live) n ∙ meant.live name,
     ap (λ (x : Replica). x.group) n ∙ ap state (sym (emptied-here name (w.outgoing name))),
   )
-  follows (call.Ask peer) all new answer out (own, is, few, left, n, a, o) = still (call.Ask peer) new (ap (λ (x : Replica). x.live) n) (ap (λ (x : Replica). x.group) n) refl refl
+  follows (call.Ask peer) all new answer out (own, is, few, left, n, a, o) =
+      still (call.Ask peer) new (ap (λ (x : Replica). x.live) n) (ap (λ (x : Replica). x.group) n) refl refl
   follows (Retry number) all new answer out (n, a, o) = still (Retry number) new (ap (λ (x : Replica). x.live) n) (ap (λ (x : Replica). x.group) n) refl refl
   follows (Abandon number) all new answer out (step, o) = abandoned (open_numbered (w.replica name).sessions number) number new answer step
   follows Restart all new answer out (n, a, o) = still Restart new (ap (λ (x : Replica). x.live) n) (ap (λ (x : Replica). x.group) n) refl refl
 
 -- a call leaves what another replica has seen and is to send, and what it has seen itself only grows
 pub seen_elsewhere : (w : World) (name : ℕ) (c : Call) (n : ℕ) → n ≢ name → ((calls name c w).seen n ≡ w.seen n) × ((calls name c w).outgoing n ≡ w.outgoing n)
-seen_elsewhere w name (Put place value) n apart = (grown-there n name (w.seen n) (put_at (w.seen name) name place value) apart, grown-there n name (w.outgoing n) (put_at (w.seen name) name place value) apart)
-seen_elsewhere w name (Remove key) n apart = (grown-there n name (w.seen n) (remove_at (w.seen name) key) apart, grown-there n name (w.outgoing n) (remove_at (w.seen name) key) apart)
-seen_elsewhere w name (RemoveField place) n apart = (grown-there n name (w.seen n) (remove_field_at (w.seen name) place) apart, grown-there n name (w.outgoing n) (remove_field_at (w.seen name) place) apart)
-seen_elsewhere w name Clear n apart = (grown-there n name (w.seen n) (clear_at (w.seen name)) apart, grown-there n name (w.outgoing n) (clear_at (w.seen name)) apart)
+seen_elsewhere w name (Put place value) n apart = (
+  grown-there n name (w.seen n) (put_at (w.seen name) name place value) apart,
+  grown-there n name (w.outgoing n) (put_at (w.seen name) name place value) apart,
+)
+seen_elsewhere w name (Remove key) n apart = (
+  grown-there n name (w.seen n) (remove_at (w.seen name) key) apart,
+  grown-there n name (w.outgoing n) (remove_at (w.seen name) key) apart,
+)
+seen_elsewhere w name (RemoveField place) n apart = (
+  grown-there n name (w.seen n) (remove_field_at (w.seen name) place) apart,
+  grown-there n name (w.outgoing n) (remove_field_at (w.seen name) place) apart,
+)
+seen_elsewhere w name Clear n apart = (
+  grown-there n name (w.seen n) (clear_at (w.seen name)) apart,
+  grown-there n name (w.outgoing n) (clear_at (w.seen name)) apart,
+)
 seen_elsewhere w name Flush n apart = (refl, emptied-there n name (w.outgoing n) apart)
 seen_elsewhere w name (call.Ask peer) n apart = (refl, refl)
 seen_elsewhere w name (Retry number) n apart = (refl, refl)
@@ -203,23 +228,34 @@ calls_grow w name (Abandon number) n = itself_part (w.seen n)
 calls_grow w name Restart n = itself_part (w.seen n)
 
 -- each replica's live state by name, where one changed
-live_by_name : (old : ℕ → Replica) (name : ℕ) (new : Replica) (seen before : ℕ → List Operation) → new.live ≡ state (seen name) → ((n : ℕ) → n ≢ name → seen n ≡ before n) → ((n : ℕ) → (old n).live ≡ state (before n))
+live_by_name : (old : ℕ → Replica) (name : ℕ) (new : Replica) (seen before : ℕ → List Operation) → new.live ≡ state (seen name)
+    → ((n : ℕ) → n ≢ name → seen n ≡ before n) → ((n : ℕ) → (old n).live ≡ state (before n))
     → (n : ℕ) → (cond (n == name) new (old n)).live ≡ state (seen n)
-live_by_name old name new seen before here there was = by_name (λ n r. r.live ≡ state (seen n)) name new old here (λ n apart. was n ∙ ap state (sym (there n apart)))
+live_by_name old name new seen before here there was = by_name (λ n r. r.live ≡ state (seen n)) name new old here
+    (λ n apart. was n ∙ ap state (sym (there n apart)))
 
-group_by_name : (old : ℕ → Replica) (name : ℕ) (new : Replica) (out before : ℕ → List Operation) → new.group ≡ state (out name) → ((n : ℕ) → n ≢ name → out n ≡ before n) → ((n : ℕ) → (old n).group ≡ state (before n))
+group_by_name : (old : ℕ → Replica) (name : ℕ) (new : Replica) (out before : ℕ → List Operation) → new.group ≡ state (out name)
+    → ((n : ℕ) → n ≢ name → out n ≡ before n) → ((n : ℕ) → (old n).group ≡ state (before n))
     → (n : ℕ) → (cond (n == name) new (old n)).group ≡ state (out n)
-group_by_name old name new out before here there was = by_name (λ n r. r.group ≡ state (out n)) name new old here (λ n apart. was n ∙ ap state (sym (there n apart)))
+group_by_name old name new out before here there was = by_name (λ n r. r.group ≡ state (out n)) name new old here
+    (λ n apart. was n ∙ ap state (sym (there n apart)))
 
-pub meant_call : (hash_of : List ℕ → ℕ) (w : World) (name : ℕ) (c : Call) (new : Replica) (answer : Answer) (out : List Mail) (whole : List Operation) → Fits w name whole
-    → IsPartOf ((calls name c w).seen name) whole → Meant hash_of w → IsCall (w.replica name) c new answer out → Meant hash_of (goes name new out (w.outgoing name) (calls name c w))
+pub meant_call : (hash_of : List ℕ → ℕ) (w : World) (name : ℕ) (c : Call) (new : Replica) (answer : Answer) (out : List Mail) (whole : List Operation)
+    → Fits w name whole
+    → IsPartOf ((calls name c w).seen name) whole → Meant hash_of w → IsCall (w.replica name) c new answer out
+    → Meant hash_of (goes name new out (w.outgoing name) (calls name c w))
 meant_call hash_of w name c new answer out whole fits all meant step =
     let u = calls name c w in
     let v = goes name new out (w.outgoing name) u in
     let on = follows hash_of w name whole fits meant c all new answer out step in
     record {
       ties = called_ties hash_of SnapOf (AskedOf v) SendsOf w name (more_meant hash_of w v (calls_grow w name c) meant.ties) (meant.group name) c
-          (λ peer own is_ask is. (w.seen name, calls_grow w name c name, map_is (w.seen name) (NoReuse-part (w.seen name) whole fits.seen fits.once) own (w.replica name).live is (is_same _ _ (meant.live name)), ap (λ (p : MapState). p.has) (meant.live name)))
+          (λ peer own is_ask is. (
+            w.seen name,
+            calls_grow w name c name,
+            map_is (w.seen name) (NoReuse-part (w.seen name) whole fits.seen fits.once) own (w.replica name).live is (is_same _ _ (meant.live name)),
+            ap (λ (p : MapState). p.has) (meant.live name),
+          ))
           new answer out step;
       live = subst (λ f. (n : ℕ) → (cond (n == name) new (f n)).live ≡ state (u.seen n)) (sym (same_after_calls hash_of w name c))
           (live_by_name w.replica name new u.seen w.seen on.0 (λ n a. (seen_elsewhere w name c n a).0) meant.live);
@@ -230,26 +266,34 @@ meant_call hash_of w name c new answer out whole fits all meant step =
 -- ---- deliveries
 
 -- a delivery leaves the group, and what was to be sent
-pub outgoing_stays : (w : World) (name : ℕ) (old : Replica) (mail : Mail) (of : Snapshot) (outcome : Outcome) → (takes name old mail of outcome w).outgoing ≡ w.outgoing
+pub outgoing_stays : (w : World) (name : ℕ) (old : Replica) (mail : Mail) (of : Snapshot) (outcome : Outcome)
+    → (takes name old mail of outcome w).outgoing ≡ w.outgoing
 outgoing_stays w name = left_as_is name (λ u. u.outgoing) (λ u m. refl) (λ u o s. refl) (λ u s o. refl) (λ u s t. refl) (λ u o f t. refl) w
 
-pub seen_stays : (w : World) (name n : ℕ) → n ≢ name → (old : Replica) (mail : Mail) (of : Snapshot) (outcome : Outcome) → (takes name old mail of outcome w).seen n ≡ w.seen n
+pub seen_stays : (w : World) (name n : ℕ) → n ≢ name → (old : Replica) (mail : Mail) (of : Snapshot) (outcome : Outcome)
+    → (takes name old mail of outcome w).seen n ≡ w.seen n
 seen_stays w name n apart =
-    left_as_is name (λ u. u.seen n) (λ u m. grown-there n name (u.seen n) m apart) (λ u o s. refl) (λ u s o. refl) (λ u s t. refl) (λ u o f t. grown-there n name (u.seen n) f.seen apart) w
+    left_as_is name (λ u. u.seen n) (λ u m. grown-there n name (u.seen n) m apart) (λ u o s. refl) (λ u s o. refl) (λ u s t. refl)
+    (λ u o f t. grown-there n name (u.seen n) f.seen apart) w
 
 either_part : (b : Bool) (S : List Operation) (n : ℕ) (u w : World) → IsPartOf S (u.seen n) → IsPartOf S (w.seen n) → IsPartOf S ((cond b u w).seen n)
 either_part true S n u w f g = f
 either_part false S n u w f g = g
 
-pub takes_grow : (w : World) (name n : ℕ) (old : Replica) (mail : Mail) (of : Snapshot) (outcome : Outcome) → IsPartOf (w.seen n) ((takes name old mail of outcome w).seen n)
-takes_grow w name n old (Delta d) of outcome = either_part (is_joined outcome) (w.seen n) n (learns name of.seen w) w (grown_part (n == name) (w.seen n) of.seen) (itself_part (w.seen n))
-takes_grow w name n old (Hello s seen) of outcome = either_part (is_sent outcome) (w.seen n) n (world.keeps name old s w) w (itself_part (w.seen n)) (itself_part (w.seen n))
+pub takes_grow : (w : World) (name n : ℕ) (old : Replica) (mail : Mail) (of : Snapshot) (outcome : Outcome)
+    → IsPartOf (w.seen n) ((takes name old mail of outcome w).seen n)
+takes_grow w name n old (Delta d) of outcome = either_part (is_joined outcome) (w.seen n) n (learns name of.seen w) w
+    (grown_part (n == name) (w.seen n) of.seen) (itself_part (w.seen n))
+takes_grow w name n old (Hello s seen) of outcome = either_part (is_sent outcome) (w.seen n) n (world.keeps name old s w) w (itself_part (w.seen n))
+    (itself_part (w.seen n))
 takes_grow w name n old (Opening s c root) of outcome =
-    either_part (is_done outcome) (w.seen n) n (ends name (own_of (open_at old.sessions s)) of [] w) (cond (is_sent outcome) (accepts s of w) w) (grown_part (n == name) (w.seen n) of.seen)
+    either_part (is_done outcome) (w.seen n) n (ends name (own_of (open_at old.sessions s)) of [] w) (cond (is_sent outcome) (accepts s of w) w)
+    (grown_part (n == name) (w.seen n) of.seen)
     (either_part (is_sent outcome) (w.seen n) n (accepts s of w) w (itself_part (w.seen n)) (itself_part (w.seen n)))
 takes_grow w name n old (Ask s p) of outcome = itself_part (w.seen n)
 takes_grow w name n old (Page s sent) of outcome =
-    either_part (is_done outcome) (w.seen n) n (ends name (own_of (open_at old.sessions s)) (w.accepted s) (taking_of sent ∷ w.taken s) w) (cond (is_sent outcome) (takes_page s sent w) w) (grown_part (n == name) (w.seen n) (w.accepted s).seen)
+    either_part (is_done outcome) (w.seen n) n (ends name (own_of (open_at old.sessions s)) (w.accepted s) (taking_of sent ∷ w.taken s) w)
+    (cond (is_sent outcome) (takes_page s sent w) w) (grown_part (n == name) (w.seen n) (w.accepted s).seen)
     (either_part (is_sent outcome) (w.seen n) n (takes_page s sent w) w (itself_part (w.seen n)) (itself_part (w.seen n)))
 takes_grow w name n old (Gone s) of outcome = itself_part (w.seen n)
 
@@ -257,14 +301,17 @@ either_closed : (b : Bool) (m : Met) (u w : World) → Contains u.closed m → C
 either_closed true m u w f g = f
 either_closed false m u w f g = g
 
-pub closed_grows : (w : World) (name : ℕ) (old : Replica) (mail : Mail) (of : Snapshot) (outcome : Outcome) (m : Met) → Contains w.closed m → Contains (takes name old mail of outcome w).closed m
+pub closed_grows : (w : World) (name : ℕ) (old : Replica) (mail : Mail) (of : Snapshot) (outcome : Outcome) (m : Met) → Contains w.closed m
+    → Contains (takes name old mail of outcome w).closed m
 closed_grows w name old (Delta d) of outcome m h = either_closed (is_joined outcome) m (learns name of.seen w) w h h
 closed_grows w name old (Hello s seen) of outcome m h = either_closed (is_sent outcome) m (world.keeps name old s w) w h h
 closed_grows w name old (Opening s c root) of outcome m h =
-    either_closed (is_done outcome) m (ends name (own_of (open_at old.sessions s)) of [] w) (cond (is_sent outcome) (accepts s of w) w) (Contains-append_left w.closed _ m h) (either_closed (is_sent outcome) m (accepts s of w) w h h)
+    either_closed (is_done outcome) m (ends name (own_of (open_at old.sessions s)) of [] w) (cond (is_sent outcome) (accepts s of w) w)
+    (Contains-append_left w.closed _ m h) (either_closed (is_sent outcome) m (accepts s of w) w h h)
 closed_grows w name old (Ask s p) of outcome m h = h
 closed_grows w name old (Page s sent) of outcome m h =
-    either_closed (is_done outcome) m (ends name (own_of (open_at old.sessions s)) (w.accepted s) (taking_of sent ∷ w.taken s) w) (cond (is_sent outcome) (takes_page s sent w) w) (Contains-append_left w.closed _ m h)
+    either_closed (is_done outcome) m (ends name (own_of (open_at old.sessions s)) (w.accepted s) (taking_of sent ∷ w.taken s) w)
+    (cond (is_sent outcome) (takes_page s sent w) w) (Contains-append_left w.closed _ m h)
     (either_closed (is_sent outcome) m (takes_page s sent w) w h h)
 closed_grows w name old (Gone s) of outcome m h = h
 
@@ -281,12 +328,14 @@ closed_by_call w name Restart = refl
 
 -- a session that ends, by the sets that its asker had seen when it asked and its peer when it opened
 session_joins : (hash_of : List ℕ → ℕ) (S T seen : List Operation) (own theirs : Held) (known_own context : DotValue → Bool) (ts : List Taking) (f : Fetch)
-    → own ≡ map_of S → known_own ≡ has (known S) → theirs ≡ map_of T → context ≡ has (known T) → IsPartOf S seen → NoReuse (seen ++ T) → NoClash hash_of own theirs ts
+    → own ≡ map_of S → known_own ≡ has (known S) → theirs ≡ map_of T → context ≡ has (known T) → IsPartOf S seen → NoReuse (seen ++ T)
+    → NoClash hash_of own theirs ts
     → Fetched hash_of own known_own context (digest_at hash_of theirs []) ts f → ((p : List ℕ) → finite.get f.waiting p ≡ None)
     → join greater (state seen) (held_state f.built context) ≡ state (seen ++ T)
 unfolding root_digest
 session_joins hash_of S T seen own theirs known_own context ts f own_is known_is theirs_is context_is part once no_clash fetched complete =
-    let clean : NoClash hash_of (map_of S) (map_of T) ts = subst (λ o. NoClash hash_of o (map_of T) ts) own_is (subst (λ m. NoClash hash_of own m ts) theirs_is no_clash) in
+    let clean : NoClash hash_of (map_of S) (map_of T) ts = subst (λ o. NoClash hash_of o (map_of T) ts) own_is
+    (subst (λ m. NoClash hash_of own m ts) theirs_is no_clash) in
     let first = subst (λ o. Fetched hash_of o known_own context (digest_at hash_of theirs []) ts f) own_is fetched in
     let second = subst (λ k. Fetched hash_of (map_of S) k context (digest_at hash_of theirs []) ts f) known_is first in
     let third = subst (λ c. Fetched hash_of (map_of S) (has (known S)) c (digest_at hash_of theirs []) ts f) context_is second in
@@ -294,7 +343,8 @@ session_joins hash_of S T seen own theirs known_own context ts f own_is known_is
     ap (λ c. join greater (state seen) (held_state f.built c)) context_is ∙ same_is _ _ (done hash_of S T seen ts f part once clean fourth complete)
 
 -- a message that comes to a replica, and what it stands for
-module _ (hash_of : List ℕ → ℕ) (w : World) (name : ℕ) (whole : List Operation) (fits : Fits w name whole) (meant : Meant hash_of w) (mail : Mail) (of : Snapshot)
+module _ (hash_of : List ℕ → ℕ) (w : World) (name : ℕ) (whole : List Operation) (fits : Fits w name whole) (meant : Meant hash_of w) (mail : Mail)
+    (of : Snapshot)
     (tie : MailTie hash_of SnapOf (AskedOf w) SendsOf mail of) (of_part : IsPartOf of.seen whole) (own : Held) (is_own : IsMapOf own (w.replica name).live)
     (new : Replica) (outcome : Outcome) (out : List Mail) (step : delivered hash_of own (w.replica name) mail ≡ turn new outcome out) where
   abbrev after : World
@@ -303,7 +353,8 @@ module _ (hash_of : List ℕ → ℕ) (w : World) (name : ℕ) (whole : List Ope
   learnt : Learns hash_of SnapOf (AskedOf w) SendsOf w name mail of (turn new outcome out) → new.live ≡ state (after.seen name)
   learnt l =
       l.live
-      ∙ same_is _ _ (joins (w.seen name) of.seen whole (w.replica name).live l.delta fits.once fits.seen of_part (is_same _ _ (meant.live name)) (is_same _ _ l.sends))
+      ∙ same_is _ _ (joins (w.seen name) of.seen whole (w.replica name).live l.delta fits.once fits.seen of_part (is_same _ _ (meant.live name))
+      (is_same _ _ l.sends))
       ∙ ap state (sym (grown-here name (w.seen name) of.seen))
       ∙ ap (λ (x : World). state (x.seen name)) (sym l.sets)
 
@@ -317,10 +368,12 @@ module _ (hash_of : List ℕ → ℕ) (w : World) (name : ℕ) (whole : List Ope
       let T = e.snapshot.seen in
       let part : IsPartOf T whole = snapshot_part e.snapshot e.session.session e.which in
       let met : Met = record { own = e.session.own; theirs = e.snapshot.map; takings = e.takings } in
-      let there : Contains after.closed met = subst (λ (x : World). Contains x.closed met) (sym e.sets) (Contains-append_right w.closed (met ∷ []) met (at_head met [])) in
+      let there : Contains after.closed met = subst (λ (x : World). Contains x.closed met) (sym e.sets)
+      (Contains-append_right w.closed (met ∷ []) met (at_head met [])) in
       e.live
       ∙ ap (λ p. join greater p (held_state e.fetched.built e.context)) (meant.live name)
-      ∙ session_joins hash_of asked.0 T (w.seen name) e.session.own e.snapshot.map e.session.seen e.context e.takings e.fetched asked.2 asked.3 e.snap.0 e.snap.1 asked.1
+      ∙ session_joins hash_of asked.0 T (w.seen name) e.session.own e.snapshot.map e.session.seen e.context e.takings e.fetched asked.2 asked.3 e.snap.0
+      e.snap.1 asked.1
       (NoReuse-part (w.seen name ++ T) whole (part_both (w.seen name) T whole fits.seen part) fits.once) (clean met there) e.is_fetched e.complete
       ∙ ap state (sym (grown-here name (w.seen name) T))
       ∙ ap (λ (x : World). state (x.seen name)) (sym e.sets)
@@ -341,13 +394,16 @@ module _ (hash_of : List ℕ → ℕ) (w : World) (name : ℕ) (whole : List Ope
       let own_is = map_is (w.seen name) (NoReuse-part (w.seen name) whole fits.seen fits.once) own old.live is_own (is_same _ _ (meant.live name)) in
       let group : new.group ≡ state (w.outgoing name) = ap (λ (t : Turn). t.new.group) (sym step) ∙ (unchanged hash_of own old mail).1 ∙ meant.group name in
       record {
-        ties = taken_ties hash_of SnapOf (AskedOf x) SendsOf w name own mail of (more_meant hash_of w x (λ n. takes_grow w name n old mail of outcome) meant.ties)
-            (mail_more hash_of SnapOf SnapOf (AskedOf w) (AskedOf x) SendsOf SendsOf (λ s S m c h. h) (λ n s m c a. (a.0, λ o h. takes_grow w name n old mail of outcome o (a.1 o h), a.2, a.3)) (λ d S h. h) mail of tie)
+        ties = taken_ties hash_of SnapOf (AskedOf x) SendsOf w name own
+            mail of (more_meant hash_of w x (λ n. takes_grow w name n old mail of outcome) meant.ties)
+            (mail_more hash_of SnapOf SnapOf (AskedOf w) (AskedOf x) SendsOf SendsOf (λ s S m c h. h)
+            (λ n s m c a. (a.0, λ o h. takes_grow w name n old mail of outcome o (a.1 o h), a.2, a.3)) (λ d S h. h) mail of tie)
             (λ s seen hello here none. (own_is, ap (λ (p : MapState). p.has) (meant.live name))) new outcome out step;
         live = subst (λ f. (n : ℕ) → (cond (n == name) new (f n)).live ≡ state (after.seen n)) (sym (same_replicas w name old mail of outcome))
             (live_by_name w.replica name new after.seen w.seen (live_after clean) (λ n a. seen_stays w name n a old mail of outcome) meant.live);
         group = subst (λ f. (n : ℕ) → (cond (n == name) new (f n)).group ≡ state (after.outgoing n)) (sym (same_replicas w name old mail of outcome))
-            (group_by_name w.replica name new after.outgoing w.outgoing (group ∙ ap (λ f. state (f name)) (sym same_outgoing)) (λ n a. ap (λ f. f n) same_outgoing) meant.group);
+            (group_by_name w.replica name new after.outgoing w.outgoing (group ∙ ap (λ f. state (f name)) (sym same_outgoing))
+            (λ n a. ap (λ f. f n) same_outgoing) meant.group);
       }
     where
       same_outgoing : after.outgoing ≡ w.outgoing
@@ -372,9 +428,14 @@ module _ (hash_of : List ℕ → ℕ) where
   }
 
   meant_node : (w : World) (name : ℕ) → Meant hash_of w → Meant hash_of (record w { nodes = w.nodes ++ name ∷ [] })
-  meant_node w name m = record { ties = record { named = m.ties.named; kept = m.ties.kept; sessions = m.ties.sessions; messages = m.ties.messages }; live = m.live; group = m.group }
+  meant_node w name m = record {
+    ties = record { named = m.ties.named; kept = m.ties.kept; sessions = m.ties.sessions; messages = m.ties.messages };
+    live = m.live;
+    group = m.group;
+  }
 
-  meant_next : (events : List Event) (w v : World) (e : Event) (answer : Answer) → Runs hash_of nothing events w → IfClean events w → Happens hash_of w e answer v → IfClean (events ++ e ∷ []) v
+  meant_next : (events : List Event) (w v : World) (e : Event) (answer : Answer) → Runs hash_of nothing events w → IfClean events w
+      → Happens hash_of w e answer v → IfClean (events ++ e ∷ []) v
   meant_next events w v (Node name) answer runs m (new, a, e) clean =
       subst (Meant hash_of) (sym e) (meant_node w name (m (λ x h. clean x (subst (λ (u : World). Contains u.closed x) (sym e) h))))
   meant_next events w v (At name c) answer runs m (there, peer, (new, out, step, e)) clean =
@@ -391,13 +452,15 @@ module _ (hash_of : List ℕ → ℕ) where
       let meant = m before in
       subst (Meant hash_of) (sym d.after)
       (meant_delivery hash_of w name w.made (sound_fits w s name) meant d.message.mail d.message.of (meant.ties.messages number d.message d.there)
-      (subst (λ S. IsPartOf S w.made) (carried w.messages number d.message d.there) (s.sets.messages number)) d.own d.is_own d.new d.outcome d.out d.step clean_after)
+      (subst (λ S. IsPartOf S w.made) (carried w.messages number d.message d.there) (s.sets.messages number))
+      d.own d.is_own d.new d.outcome d.out d.step clean_after)
 
   pub meant_all : (events : List Event) (w : World) → Runs hash_of nothing events w → Unclashed hash_of w → Meant hash_of w
   meant_all events w runs = by_events hash_of IfClean (λ clean. meant_first) meant_next events w runs
 
 -- what a message means, by the ties
-pub means_mail : (hash_of : List ℕ → ℕ) (w : World) (mail : Mail) (of : Snapshot) → MailTie hash_of SnapOf (AskedOf w) SendsOf mail of → MeansMail hash_of mail of.seen
+pub means_mail : (hash_of : List ℕ → ℕ) (w : World) (mail : Mail) (of : Snapshot) → MailTie hash_of SnapOf (AskedOf w) SendsOf mail of
+    → MeansMail hash_of mail of.seen
 unfolding root_digest
 means_mail hash_of w (Delta d) of tie = tie
 means_mail hash_of w (Hello s seen) of tie = tt
@@ -415,5 +478,6 @@ pub same_seen : SameSeen
 same_seen hash_of events w runs clean a b same =
     let m = meant_all hash_of events w runs clean in
     let live : (w.replica a).live ≡ (w.replica b).live = m.live a ∙ same_is _ _ (state-same (w.seen a) (w.seen b) same) ∙ sym (m.live b) in
-    let one : (x y : Held) → IsMapOf x (w.replica a).live → IsMapOf y (w.replica b).live → x ≡ y = λ x y f g. maps_one x y (w.replica b).live (subst (IsMapOf x) live f) g in
+    let one : (x y : Held) → IsMapOf x (w.replica a).live → IsMapOf y (w.replica b).live → x ≡ y =
+    λ x y f g. maps_one x y (w.replica b).live (subst (IsMapOf x) live f) g in
     record { live = live; one_map = one; digests = λ x y f g prefix. ap (λ z. digest_at hash_of z prefix) (one x y f g) }

@@ -1,6 +1,7 @@
 -- A session of a replica by itself has one ask and takes one opening: its number is past those of all that were opened before, and it accepts no
 -- other once it accepted one.
-use Rattle.std.proofs.Common.{◌≡◌, ◌⊎◌, inl, inr, ℕ, ◌+◌, ◌≤◌, List, [], ◌∷◌, ◌++◌, Bool, true, false, not, Option, Some, None, refl, sym, ap, ◌∙◌, subst, arith}
+use Rattle.std.proofs.Common.{◌≡◌, ◌⊎◌, inl, inr, ℕ, ◌+◌, ◌≤◌, List, [], ◌∷◌, ◌++◌, Bool, true, false, not, Option, Some, None, refl, sym, ap, ◌∙◌, subst}
+use Rattle.std.proofs.Common.{arith}
 use Rattle.std.specs.Prelude.{Contains}
 use Rattle.std.proofs.lemmas.Bool.{false≢true}
 use Rattle.dots.specs.Dot.{DotValue}
@@ -28,7 +29,8 @@ use Rattle.replica_model.proofs.SessionsAlone.{Arrived, arrived, IsAsking, call_
 -- ---- deeds decide the world
 
 module _ (hash_of : List ℕ → ℕ) (name : ℕ) where
-  befalls_one : (w v v' : World) (d : Deed) (answer answer' : Answer) → Befalls hash_of name w d answer v → Befalls hash_of name w d answer' v' → (answer ≡ answer') × (v ≡ v')
+  befalls_one : (w v v' : World) (d : Deed) (answer answer' : Answer) → Befalls hash_of name w d answer v → Befalls hash_of name w d answer' v'
+      → (answer ≡ answer') × (v ≡ v')
   befalls_one w v v' (Calls c) answer answer' (new, out, step, e) (new', out', step', e') =
       let one = steps_one hash_of (w.replica name) new new' (Do c) answer answer' out out' step step' in
       (one.answers, e ∙ (λ i. goes name (one.replica i) (one.sent i) (w.outgoing name) (calls name c w)) ∙ sym e')
@@ -43,14 +45,16 @@ module _ (hash_of : List ℕ → ℕ) (name : ℕ) where
       let same = (befalls_one u t t' x answer answer' step step').1 in
       runs_one deeds t w v rest (subst (λ s. RunsAlone hash_of name s deeds v) (sym same) rest')
 
-  runs_split : (front more : List Deed) (u w : World) → RunsAlone hash_of name u (front ++ more) w → (t : World) × RunsAlone hash_of name u front t × RunsAlone hash_of name t more w
+  runs_split : (front more : List Deed) (u w : World) → RunsAlone hash_of name u (front ++ more) w → (t : World) × RunsAlone hash_of name u front t
+      × RunsAlone hash_of name t more w
   runs_split [] more u w runs = (u, refl, runs)
   runs_split (d ∷ front) more u w (answer, v, step, rest) =
       let later = runs_split front more v w rest in
       (later.0, (answer, v, step, later.1), later.2)
 
   -- a front that goes on with a deed, which befell after it
-  passed : (front later : List Deed) (d : Deed) (t u w : World) (answer : Answer) → RunsAlone hash_of name nothing front t → Befalls hash_of name t d answer u → RunsAlone hash_of name nothing (front ++ d ∷ later) w → RunsAlone hash_of name u later w
+  passed : (front later : List Deed) (d : Deed) (t u w : World) (answer : Answer) → RunsAlone hash_of name nothing front t → Befalls hash_of name t d answer u
+      → RunsAlone hash_of name nothing (front ++ d ∷ later) w → RunsAlone hash_of name u later w
   passed front later d t u w answer runs befell all =
       let parts = runs_split front (d ∷ later) nothing w all in
       step parts.0 (runs_one front nothing parts.0 t parts.1 runs) parts.2
@@ -152,9 +156,11 @@ module _ (hash_of : List ℕ → ℕ) (own : Held) (r : Replica) where
     gone = λ s p. as_they_were;
     page = λ s p k page. as_they_were;
     opening_done = λ s c root o f there first took complete. less o.session;
-    opening_sent = λ s c root o f there first took. further (fetching o c f) o (found_open r.sessions s o there).0 refl (record { context = c; fetch = f }, refl);
+    opening_sent = λ s c root o f there first took. further (fetching o c f) o (found_open r.sessions s o there).0 refl
+        (record { context = c; fetch = f }, refl);
     page_done = λ s sent o a f there accepted took complete. less o.session;
-    page_sent = λ s sent o a f there accepted took. further (fetching o a.context f) o (found_open r.sessions s o there).0 refl (record { context = a.context; fetch = f }, refl);
+    page_sent = λ s sent o a f there accepted took. further (fetching o a.context f) o (found_open r.sessions s o there).0 refl
+        (record { context = a.context; fetch = f }, refl);
     ended = λ s o there. less o.session;
   })
 
@@ -211,7 +217,13 @@ module _ (hash_of : List ℕ → ℕ) (own : Held) (r : Replica) where
         record { was = o; there = found.0; session = found.1; none = first; accepted = none_left s o.session found.1 };
     opening_sent = λ s c root o f there first took is.
         let found = found_open r.sessions s o there in
-        record { was = o; there = found.0; session = found.1; none = first; accepted = gone_on s (fetching o c f) found.1 (record { context = c; fetch = f }, refl) };
+        record {
+          was = o;
+          there = found.0;
+          session = found.1;
+          none = first;
+          accepted = gone_on s (fetching o c f) found.1 (record { context = c; fetch = f }, refl);
+        };
     page_done = λ s sent o a f there accepted took complete. tt;
     page_sent = λ s sent o a f there accepted took. tt;
     ended = λ s o there. tt;
@@ -244,8 +256,10 @@ module _ (hash_of : List ℕ → ℕ) (name : ℕ) where
   asked_here : (old new : Replica) (peer : ℕ) (answer : Answer) (out : List Mail) → IsCall old (Ask peer) new answer out → new.opened ≡ old.opened + 1
   asked_here old new peer answer out (own, is, few, left, n, a, o) = ap (λ (r : Replica). r.opened) n
 
-  deed_leaves : (w v : World) (d : Deed) (answer : Answer) → Befalls hash_of name w d answer v → (o : Open) → Contains (v.replica name).sessions o → AfterDeed (w.replica name) (v.replica name) o
-  deed_leaves w v (Calls c) answer (new, out, step, after) o h = either ((call_leaves (w.replica name) new c answer out step).sessions o (subst (λ (q : Replica). Contains q.sessions o) here h))
+  deed_leaves : (w v : World) (d : Deed) (answer : Answer) → Befalls hash_of name w d answer v → (o : Open) → Contains (v.replica name).sessions o
+      → AfterDeed (w.replica name) (v.replica name) o
+  deed_leaves w v (Calls c) answer (new, out, step, after) o h =
+      either ((call_leaves (w.replica name) new c answer out step).sessions o (subst (λ (q : Replica). Contains q.sessions o) here h))
     where
       here : v.replica name ≡ new
       here = ap (λ (x : World). x.replica name) after ∙ here_new name new _
@@ -255,7 +269,8 @@ module _ (hash_of : List ℕ → ℕ) (name : ℕ) where
       either (inr a) =
           inr (
             ap (λ (x : Open). x.session.number) a.session,
-            ap (λ (q : Replica). q.opened) here ∙ asked_here (w.replica name) new a.peer answer out (subst (λ x. IsCall (w.replica name) x new answer out) a.call step),
+            ap (λ (q : Replica). q.opened) here ∙ asked_here (w.replica name) new a.peer answer out
+                (subst (λ x. IsCall (w.replica name) x new answer out) a.call step),
           )
   deed_leaves w v (Comes mail of) answer befalls o h = inl (by (arrived hash_of name w v mail of answer befalls))
     where
@@ -269,7 +284,8 @@ module _ (hash_of : List ℕ → ℕ) (name : ℕ) where
   abbrev AllNumbered : List Deed → World → Type 0
   AllNumbered deeds w = (o : Open) → Contains (w.replica name).sessions o → o.session.number ≤ (w.replica name).opened
 
-  numbered_next : (deeds : List Deed) (w v : World) (d : Deed) (answer : Answer) → RunsAlone hash_of name nothing deeds w → AllNumbered deeds w → Befalls hash_of name w d answer v → AllNumbered (deeds ++ d ∷ []) v
+  numbered_next : (deeds : List Deed) (w v : World) (d : Deed) (answer : Answer) → RunsAlone hash_of name nothing deeds w → AllNumbered deeds w
+      → Befalls hash_of name w d answer v → AllNumbered (deeds ++ d ∷ []) v
   numbered_next deeds w v d answer runs all befalls o h = either (deed_leaves w v d answer befalls o h)
     where
       either : AfterDeed (w.replica name) (v.replica name) o → o.session.number ≤ (v.replica name).opened
@@ -284,7 +300,8 @@ module _ (hash_of : List ℕ → ℕ) (name : ℕ) where
     number : s.number ≤ r.opened
     accepted : AllAccepted s r.sessions
 
-  took_next : (s : SessionValue) (w v : World) (d : Deed) (answer : Answer) → Befalls hash_of name w d answer v → TookOne s (w.replica name) → TookOne s (v.replica name)
+  took_next : (s : SessionValue) (w v : World) (d : Deed) (answer : Answer) → Befalls hash_of name w d answer v → TookOne s (w.replica name)
+      → TookOne s (v.replica name)
   took_next s w v d answer befalls t = record {
     number = omega (arith, t.number, deed_opens w v d answer befalls);
     accepted = λ o h is. either o is (deed_leaves w v d answer befalls o h);
@@ -298,7 +315,8 @@ module _ (hash_of : List ℕ → ℕ) (name : ℕ) where
       either o is (inl one) = same_or o one is one.or_accepted
       either o is (inr (new, last)) = absurd (omega (arith, new, ap (λ (x : SessionValue). x.number) is, t.number))
 
-  took_ever_since : (s : SessionValue) (deeds : List Deed) (u w : World) → RunsAlone hash_of name u deeds w → TookOne s (u.replica name) → TookOne s (w.replica name)
+  took_ever_since : (s : SessionValue) (deeds : List Deed) (u w : World) → RunsAlone hash_of name u deeds w → TookOne s (u.replica name)
+      → TookOne s (w.replica name)
   took_ever_since s [] u w same t = subst (λ (x : World). TookOne s (x.replica name)) (sym same) t
   took_ever_since s (d ∷ deeds) u w (answer, v, befalls, rest) t = took_ever_since s deeds v w rest (took_next s u v d answer befalls t)
 
@@ -306,7 +324,8 @@ module _ (hash_of : List ℕ → ℕ) (name : ℕ) where
   taken_outcome answer outcome is (inl e) = inl (came_one outcome Sent (sym is ∙ e))
   taken_outcome answer outcome is (inr e) = inr (came_one outcome Done (sym is ∙ e))
 
-  takes_first : (w v : World) (s : SessionValue) (context : DotValue → Bool) (root : Option (List ℕ)) (of : Snapshot) (answer : Answer) → Befalls hash_of name w (Comes (Opening s context root) of) answer v → (answer ≡ Came Sent) ⊎ (answer ≡ Came Done)
+  takes_first : (w v : World) (s : SessionValue) (context : DotValue → Bool) (root : Option (List ℕ)) (of : Snapshot) (answer : Answer)
+      → Befalls hash_of name w (Comes (Opening s context root) of) answer v → (answer ≡ Came Sent) ⊎ (answer ≡ Came Done)
       → TakesFirst (w.replica name) s (v.replica name).sessions
   takes_first w v s context root of answer befalls taken = by (arrived hash_of name w v (Opening s context root) of answer befalls)
     where
@@ -314,34 +333,41 @@ module _ (hash_of : List ℕ → ℕ) (name : ℕ) where
       by d =
           let here : v.replica name ≡ d.new = ap (λ (x : World). x.replica name) d.after ∙ here_new name d.new _ in
           subst (λ (q : Replica). TakesFirst (w.replica name) s q.sessions) (sym here)
-          (subst (Takes (w.replica name) (Opening s context root)) d.step (opening_takes hash_of d.own (w.replica name) (Opening s context root)) (taken_outcome answer d.outcome d.answers taken))
+          (subst (Takes (w.replica name) (Opening s context root)) d.step (opening_takes hash_of d.own (w.replica name) (Opening s context root))
+          (taken_outcome answer d.outcome d.answers taken))
 
   -- none takes another opening after a front on which it took one
-  not_again : (deeds : List Deed) (s : SessionValue) (c c' : DotValue → Bool) (root root' : Option (List ℕ)) (a : TookOpening hash_of name deeds s c root) (b : TookOpening hash_of name deeds s c' root')
+  not_again : (deeds : List Deed) (s : SessionValue) (c c' : DotValue → Bool) (root root' : Option (List ℕ)) (a : TookOpening hash_of name deeds s c root)
+      (b : TookOpening hash_of name deeds s c' root')
       → GoesOnWith (Comes (Opening s c root) a.of) a.front b.front → ⊥
   unfolding GoesOnWith
   not_again deeds s c c' root root' a b (more, longer) =
       let first = takes_first a.before a.after s c root a.of a.answer a.befell a.taken in
       let second = takes_first b.before b.after s c' root' b.of b.answer b.befell b.taken in
-      let number : s.number ≤ (a.before.replica name).opened = subst (λ (x : SessionValue). x.number ≤ (a.before.replica name).opened) first.session (numbered a.front a.before a.runs first.was first.there) in
+      let number : s.number ≤ (a.before.replica name).opened = subst (λ (x : SessionValue). x.number ≤ (a.before.replica name).opened) first.session
+      (numbered a.front a.before a.runs first.was first.there) in
       let then : TookOne s (a.after.replica name) =
       record { number = omega (arith, number, deed_opens a.before a.after (Comes (Opening s c root) a.of) a.answer a.befell); accepted = first.accepted } in
-      let rest = passed hash_of name a.front more (Comes (Opening s c root) a.of) a.before a.after b.before a.answer a.runs a.befell (subst (λ ds. RunsAlone hash_of name nothing ds b.before) longer b.runs) in
+      let rest = passed hash_of name a.front more (Comes (Opening s c root) a.of) a.before a.after b.before a.answer a.runs a.befell
+      (subst (λ ds. RunsAlone hash_of name nothing ds b.before) longer b.runs) in
       let one = (took_ever_since s more a.after b.before rest then).accepted second.was second.there second.session in
       let both : None ≡ Some one.0 = sym second.none ∙ one.1 in
       absurd cc
 
   -- nor is it asked for again
-  not_asked_again : (s : SessionValue) (front later : List Deed) (t w : World) → RunsAlone hash_of name nothing front t → s.number ≡ (t.replica name).opened + 1 → s.number ≡ (w.replica name).opened + 1
+  not_asked_again : (s : SessionValue) (front later : List Deed) (t w : World) → RunsAlone hash_of name nothing front t → s.number ≡ (t.replica name).opened + 1
+      → s.number ≡ (w.replica name).opened + 1
       → GoesOnWith (Calls (Ask s.answerer)) front later → RunsAlone hash_of name nothing later w → ⊥
   unfolding GoesOnWith
   not_asked_again s front later t w runs first second (more, longer) all =
       let parts = runs_split hash_of name front (Calls (Ask s.answerer) ∷ more) nothing w (subst (λ ds. RunsAlone hash_of name nothing ds w) longer all) in
       step parts.0 (runs_one hash_of name front nothing parts.0 t parts.1 runs) parts.2
     where
-      opened : (x v : World) (answer : Answer) → Befalls hash_of name x (Calls (Ask s.answerer)) answer v → (v.replica name).opened ≡ (x.replica name).opened + 1
+      opened : (x v : World) (answer : Answer) → Befalls hash_of name x (Calls (Ask s.answerer)) answer v
+          → (v.replica name).opened ≡ (x.replica name).opened + 1
       opened x v answer (new, out, call, after) =
-          ap (λ (y : World). (y.replica name).opened) after ∙ ap (λ (q : Replica). q.opened) (here_new name new _) ∙ asked_here (x.replica name) new s.answerer answer out call
+          ap (λ (y : World). (y.replica name).opened) after ∙ ap (λ (q : Replica). q.opened) (here_new name new _)
+          ∙ asked_here (x.replica name) new s.answerer answer out call
 
       step : (x : World) → x ≡ t → RunsAlone hash_of name x (Calls (Ask s.answerer) ∷ more) w → ⊥
       step x same (answer, v, befalls, rest) =
@@ -358,11 +384,13 @@ one_opening_alone hash_of name deeds s context context' root root' a b =
     step (inr (inr longer)) = absurd (not_again hash_of name deeds s context' context root' root b a longer)
 
 pub one_ask_alone : OneAskAlone
-one_ask_alone hash_of name deeds s own own' known known' a b = step (fronts (Calls (Ask s.answerer)) (Calls (Ask s.answerer)) a.front b.front a.later b.later (sym a.split ∙ b.split))
+one_ask_alone hash_of name deeds s own own' known known' a b =
+    step (fronts (Calls (Ask s.answerer)) (Calls (Ask s.answerer)) a.front b.front a.later b.later (sym a.split ∙ b.split))
   where
     step : AreFronts (Calls (Ask s.answerer)) a.front (Calls (Ask s.answerer)) b.front → (own ≡ own') × (known ≡ known')
     step (inl (both, is)) =
-        let same : a.before ≡ b.before = runs_one hash_of name b.front nothing a.before b.before (subst (λ ds. RunsAlone hash_of name nothing ds a.before) both a.runs) b.runs in (
+        let same : a.before ≡ b.before = runs_one hash_of name b.front nothing a.before b.before
+        (subst (λ ds. RunsAlone hash_of name nothing ds a.before) both a.runs) b.runs in (
           maps_one own own' (b.before.replica name).live (subst (λ (x : World). IsMapOf own (x.replica name).live) same a.own_then) b.own_then,
           a.known_then ∙ ap (λ (x : World). (x.replica name).live.has) same ∙ sym b.known_then,
         )

@@ -28,7 +28,8 @@ use Rattle.replica_model.proofs.Taking.{for_it}
 
 -- a delivery that comes to this turn is only answered
 only_answered : (hash_of : List ℕ → ℕ) (outcome : Outcome) (old new : Replica) (mail : Mail) (answer : Answer) (out : List Mail)
-    → ((own : Held) → delivered hash_of own old mail ≡ turn old outcome []) → IsStep hash_of old (Take mail) new answer out → IsOnlyAnswered outcome old new answer out
+    → ((own : Held) → delivered hash_of own old mail ≡ turn old outcome []) → IsStep hash_of old (Take mail) new answer out
+    → IsOnlyAnswered outcome old new answer out
 only_answered hash_of outcome old new mail answer out comes (is, answers, (own, is_map, step)) =
     let same : turn new is out ≡ turn old outcome [] = sym step ∙ comes own in record {
       answers = answers ∙ ap (λ (t : Turn). Came t.outcome) same;
@@ -39,7 +40,8 @@ only_answered hash_of outcome old new mail answer out comes (is, answers, (own, 
 -- ---- a page where none is waited for
 
 module _ (hash_of : List ℕ → ℕ) (r : Replica) (s : SessionValue) (sent : SentValue) (none : ¬ AwaitsPage r s sent.prefix) where
-  not_waited : (o : Open) (a : Accepted) → open_at r.sessions s ≡ Some o → o.accepted ≡ Some a → (x : Option (List ℕ)) → finite.get a.fetch.waiting sent.prefix ≡ x
+  not_waited : (o : Open) (a : Accepted) → open_at r.sessions s ≡ Some o → o.accepted ≡ Some a → (x : Option (List ℕ))
+      → finite.get a.fetch.waiting sent.prefix ≡ x
       → page_taken hash_of r o a.context sent (promised hash_of o.own o.seen a.context a.fetch sent.prefix sent.page sent.values x) ≡ ignored r
   not_waited o a there accepted None e = refl
   not_waited o a there accepted (Some digest) e = absurd (none (o, a, digest, there, accepted, e))
@@ -60,34 +62,42 @@ module _ (hash_of : List ℕ → ℕ) (r : Replica) (s : SessionValue) (sent : S
       by false = refl
 
 pub elsewhere_ignored : PagesElsewhereAreIgnored
-elsewhere_ignored hash_of old new s sent answer out step none = only_answered hash_of Ignored old new (Page s sent) answer out (none_taken hash_of old s sent none) step
+elsewhere_ignored hash_of old new s sent answer out step none = only_answered hash_of Ignored old new (Page s sent) answer out
+    (none_taken hash_of old s sent none) step
 
 -- ---- and another than that which is waited for
 
 -- a page that is waited for is not ignored
-waited_not_ignored : (hash_of : List ℕ → ℕ) (own : Held) (seen opened : DotValue → Bool) (f : Fetch) (sent : SentValue) (digest : List ℕ) → finite.get f.waiting sent.prefix ≡ Some digest
+waited_not_ignored : (hash_of : List ℕ → ℕ) (own : Held) (seen opened : DotValue → Bool) (f : Fetch) (sent : SentValue) (digest : List ℕ)
+    → finite.get f.waiting sent.prefix ≡ Some digest
     → ¬ (take_page hash_of own seen opened f sent.prefix sent.page sent.values ≡ fetch.Ignored)
 waited_not_ignored hash_of own seen opened f sent digest waits is =
     by (bytes_eq digest (digest_of sent.page) && fits hash_of own opened sent.prefix sent.page) (filled seen own (entries_of sent.page) sent.values)
     (sym (ap (promised hash_of own seen opened f sent.prefix sent.page sent.values) waits) ∙ is)
   where
-    by : (b : Bool) (x : Option (List (List ℕ × FieldsValue))) → cond b (took hash_of own seen opened f sent.prefix sent.page x) fetch.Mismatch ≡ fetch.Ignored → ⊥
+    by : (b : Bool) (x : Option (List (List ℕ × FieldsValue))) → cond b (took hash_of own seen opened f sent.prefix sent.page x) fetch.Mismatch
+        ≡ fetch.Ignored → ⊥
     by false x e = absurd cc
     by true None e = absurd cc
     by true (Some es) e = absurd cc
 
 -- and one that is taken is that of the snapshot
-taken_is_page : (hash_of : List ℕ → ℕ) (o : Open) (a : Accepted) (theirs : Held) (ts : List Taking) (sent : SentValue) (f : Fetch) → IsLawfulMap o.own → NoClash hash_of o.own theirs (taking_of sent ∷ ts)
-    → Fetched hash_of o.own o.seen a.context (digest_at hash_of theirs []) ts a.fetch → take_page hash_of o.own o.seen a.context a.fetch sent.prefix sent.page sent.values ≡ fetch.Took f → IsPageOf o.seen hash_of theirs sent
+taken_is_page : (hash_of : List ℕ → ℕ) (o : Open) (a : Accepted) (theirs : Held) (ts : List Taking) (sent : SentValue) (f : Fetch) → IsLawfulMap o.own
+    → NoClash hash_of o.own theirs (taking_of sent ∷ ts)
+    → Fetched hash_of o.own o.seen a.context (digest_at hash_of theirs []) ts a.fetch
+    → take_page hash_of o.own o.seen a.context a.fetch sent.prefix sent.page sent.values ≡ fetch.Took f → IsPageOf o.seen hash_of theirs sent
 taken_is_page hash_of o a theirs ts sent f lawful no_clash got e =
     let takings = taking_of sent ∷ ts in
     let law = fetching hash_of o.own theirs o.seen a.context takings f lawful no_clash (a.fetch, got, e) in
     law.theirs_taken (taking_of sent) (at_head (taking_of sent) ts)
 
-mismatches : (hash_of : List ℕ → ℕ) (o : Open) (a : Accepted) (theirs : Held) (ts : List Taking) (sent : SentValue) (digest : List ℕ) → finite.get a.fetch.waiting sent.prefix ≡ Some digest → IsLawfulMap o.own
-    → NoClash hash_of o.own theirs (taking_of sent ∷ ts) → Fetched hash_of o.own o.seen a.context (digest_at hash_of theirs []) ts a.fetch → ¬ IsPageOf o.seen hash_of theirs sent
+mismatches : (hash_of : List ℕ → ℕ) (o : Open) (a : Accepted) (theirs : Held) (ts : List Taking) (sent : SentValue) (digest : List ℕ)
+    → finite.get a.fetch.waiting sent.prefix ≡ Some digest → IsLawfulMap o.own
+    → NoClash hash_of o.own theirs (taking_of sent ∷ ts) → Fetched hash_of o.own o.seen a.context (digest_at hash_of theirs []) ts a.fetch
+    → ¬ IsPageOf o.seen hash_of theirs sent
     → take_page hash_of o.own o.seen a.context a.fetch sent.prefix sent.page sent.values ≡ fetch.Mismatch
-mismatches hash_of o a theirs ts sent digest waits lawful no_clash got other = by (take_page hash_of o.own o.seen a.context a.fetch sent.prefix sent.page sent.values) refl
+mismatches hash_of o a theirs ts sent digest waits lawful no_clash got other =
+    by (take_page hash_of o.own o.seen a.context a.fetch sent.prefix sent.page sent.values) refl
   where
     by : (t : fetch.Taken) → take_page hash_of o.own o.seen a.context a.fetch sent.prefix sent.page sent.values ≡ t → t ≡ fetch.Mismatch
     by fetch.Mismatch e = refl

@@ -12,7 +12,9 @@ use Rattle.sync_model.specs.Fetch.{Fetch, take_opening, take_page}
 use Rattle.sync_model.specs.Fetch as fetch
 use Rattle.replica_model.specs.Mail.{Mail, Delta, Hello, Opening, Ask, Page, Gone, is_for}
 use Rattle.replica_model.specs.Replica.{Replica, Open, Accepted, Kept, open_at, kept_at, joins, advances, closes, keeps}
-use Rattle.replica_model.specs.Delivery.{Turn, turn, ignored, Joined, Sent, Done, Mismatch, Ended, is_complete, asks_for, asks_of, fetching, took_gone, opening_of, took_hello, page_for, answered, took_ask, opening_taken, took_first, took_opening, child_prefixes, page_taken, took_further, took_page, taken, delivered}
+use Rattle.replica_model.specs.Delivery.{Turn, turn, ignored, Joined, Sent, Done, Mismatch, Ended, is_complete, asks_for, asks_of, fetching, took_gone}
+use Rattle.replica_model.specs.Delivery.{opening_of, took_hello, page_for, answered, took_ask, opening_taken, took_first, took_opening, child_prefixes}
+use Rattle.replica_model.specs.Delivery.{page_taken, took_further, took_page, taken, delivered}
 
 -- the snapshot that is kept of a replica
 abbrev pub snapshot : Held → Replica → SessionValue → (DotValue → Bool) → Kept
@@ -23,15 +25,18 @@ module _ (hash_of : List ℕ → ℕ) (own : Held) (r : Replica) (P : Mail → T
     pub ignoring : (mail : Mail) → P mail (ignored r)
     pub mismatch : (mail : Mail) → P mail (turn r Mismatch [])
     pub delta : (d : MapState) → P (Delta d) (turn (joins r d) Joined [])
-    pub told_again : (s : SessionValue) (seen : DotValue → Bool) (k : Kept) → kept_at r.kept s ≡ Some k → P (Hello s seen) (turn r Sent (opening_of hash_of k ∷ []))
+    pub told_again : (s : SessionValue) (seen : DotValue → Bool) (k : Kept) → kept_at r.kept s ≡ Some k
+        → P (Hello s seen) (turn r Sent (opening_of hash_of k ∷ []))
     pub kept : (s : SessionValue) (seen : DotValue → Bool) → s.answerer ≡ r.name → kept_at r.kept s ≡ None →
         P (Hello s seen) (turn (keeps r (snapshot own r s seen)) Sent (opening_of hash_of (snapshot own r s seen) ∷ []))
     pub gone : (s : SessionValue) (prefix : List ℕ) → P (Ask s prefix) (turn r Sent (Gone s ∷ []))
     pub page : (s : SessionValue) (prefix : List ℕ) (k : Kept) (page : PageValue) → P (Ask s prefix) (turn r Sent (page_for hash_of s k prefix page ∷ []))
-    pub opening_done : (s : SessionValue) (context : DotValue → Bool) (root : Option (List ℕ)) (o : Open) (f : Fetch) → open_at r.sessions s ≡ Some o → o.accepted ≡ None →
+    pub opening_done : (s : SessionValue) (context : DotValue → Bool) (root : Option (List ℕ)) (o : Open) (f : Fetch) → open_at r.sessions s ≡ Some o
+        → o.accepted ≡ None →
         take_opening hash_of o.own o.seen context root ≡ fetch.Took f → is_complete f ≡ true →
         P (Opening s context root) (turn (closes (joins r (held_state f.built context)) o.session) Done [])
-    pub opening_sent : (s : SessionValue) (context : DotValue → Bool) (root : Option (List ℕ)) (o : Open) (f : Fetch) → open_at r.sessions s ≡ Some o → o.accepted ≡ None →
+    pub opening_sent : (s : SessionValue) (context : DotValue → Bool) (root : Option (List ℕ)) (o : Open) (f : Fetch) → open_at r.sessions s ≡ Some o
+        → o.accepted ≡ None →
         take_opening hash_of o.own o.seen context root ≡ fetch.Took f →
         P (Opening s context root) (turn (advances r (fetching o context f)) Sent (asks_of o.session f))
     pub page_done : (s : SessionValue) (sent : SentValue) (o : Open) (a : Accepted) (f : Fetch) → open_at r.sessions s ≡ Some o → o.accepted ≡ Some a →
@@ -43,7 +48,8 @@ module _ (hash_of : List ℕ → ℕ) (own : Held) (r : Replica) (P : Mail → T
     pub ended : (s : SessionValue) (o : Open) → open_at r.sessions s ≡ Some o → P (Gone s) (turn (closes r o.session) Ended [])
 
   module _ (rows : Rows) where
-    hello_row : (s : SessionValue) (seen : DotValue → Bool) → s.answerer ≡ r.name → (k : Option Kept) → kept_at r.kept s ≡ k → P (Hello s seen) (took_hello hash_of own r s seen k)
+    hello_row : (s : SessionValue) (seen : DotValue → Bool) → s.answerer ≡ r.name → (k : Option Kept) → kept_at r.kept s ≡ k
+        → P (Hello s seen) (took_hello hash_of own r s seen k)
     hello_row s seen here (Some k) e = rows.told_again s seen k e
     hello_row s seen here None e = rows.kept s seen here e
 
@@ -55,40 +61,50 @@ module _ (hash_of : List ℕ → ℕ) (own : Held) (r : Replica) (P : Mail → T
     ask_row s prefix None = rows.gone s prefix
     ask_row s prefix (Some k) = answered_row s prefix k (page_at hash_of k.map prefix)
 
-    module _ (s : SessionValue) (context : DotValue → Bool) (root : Option (List ℕ)) (o : Open) (there : open_at r.sessions s ≡ Some o) (first : o.accepted ≡ None) where
+    module _ (s : SessionValue) (context : DotValue → Bool) (root : Option (List ℕ)) (o : Open) (there : open_at r.sessions s ≡ Some o)
+        (first : o.accepted ≡ None) where
       opening_went : (f : Fetch) → take_opening hash_of o.own o.seen context root ≡ fetch.Took f → (b : Bool) → is_complete f ≡ b →
-          P (Opening s context root) (cond b (turn (closes (joins r (held_state f.built context)) o.session) Done []) (turn (advances r (fetching o context f)) Sent (asks_of o.session f)))
+          P (Opening s context root) (cond b (turn (closes (joins r (held_state f.built context)) o.session) Done [])
+          (turn (advances r (fetching o context f)) Sent (asks_of o.session f)))
       opening_went f took true complete = rows.opening_done s context root o f there first took complete
       opening_went f took false complete = rows.opening_sent s context root o f there first took
 
-      taken_opening_row : (t : fetch.Taken) → take_opening hash_of o.own o.seen context root ≡ t → P (Opening s context root) (opening_taken hash_of r o context t)
+      taken_opening_row : (t : fetch.Taken) → take_opening hash_of o.own o.seen context root ≡ t
+          → P (Opening s context root) (opening_taken hash_of r o context t)
       taken_opening_row fetch.Ignored e = rows.ignoring (Opening s context root)
       taken_opening_row fetch.Mismatch e = rows.mismatch (Opening s context root)
       taken_opening_row (fetch.Took f) e = opening_went f e (is_complete f) refl
 
-    first_row : (s : SessionValue) (context : DotValue → Bool) (root : Option (List ℕ)) (o : Open) → open_at r.sessions s ≡ Some o → (a : Option Accepted) → o.accepted ≡ a →
+    first_row : (s : SessionValue) (context : DotValue → Bool) (root : Option (List ℕ)) (o : Open) → open_at r.sessions s ≡ Some o → (a : Option Accepted)
+        → o.accepted ≡ a →
         P (Opening s context root) (took_first hash_of r o context root a)
     first_row s context root o there (Some a) e = rows.ignoring (Opening s context root)
     first_row s context root o there None e = taken_opening_row s context root o there e (take_opening hash_of o.own o.seen context root) refl
 
-    opening_row : (s : SessionValue) (context : DotValue → Bool) (root : Option (List ℕ)) (o : Option Open) → open_at r.sessions s ≡ o → P (Opening s context root) (took_opening hash_of r context root o)
+    opening_row : (s : SessionValue) (context : DotValue → Bool) (root : Option (List ℕ)) (o : Option Open) → open_at r.sessions s ≡ o
+        → P (Opening s context root) (took_opening hash_of r context root o)
     opening_row s context root None e = rows.ignoring (Opening s context root)
     opening_row s context root (Some o) e = first_row s context root o e o.accepted refl
 
     module _ (s : SessionValue) (sent : SentValue) (o : Open) (there : open_at r.sessions s ≡ Some o) (a : Accepted) (accepted : o.accepted ≡ Some a) where
-      page_went : (f : Fetch) → take_page hash_of o.own o.seen a.context a.fetch sent.prefix sent.page sent.values ≡ fetch.Took f → (b : Bool) → is_complete f ≡ b →
-          P (Page s sent) (cond b (turn (closes (joins r (held_state f.built a.context)) o.session) Done []) (turn (advances r (fetching o a.context f)) Sent (asks_for o.session (child_prefixes hash_of o sent))))
+      page_went : (f : Fetch) → take_page hash_of o.own o.seen a.context a.fetch sent.prefix sent.page sent.values ≡ fetch.Took f → (b : Bool)
+          → is_complete f ≡ b →
+          P (Page s sent) (cond b (turn (closes (joins r (held_state f.built a.context)) o.session) Done [])
+          (turn (advances r (fetching o a.context f)) Sent (asks_for o.session (child_prefixes hash_of o sent))))
       page_went f took true complete = rows.page_done s sent o a f there accepted took complete
       page_went f took false complete = rows.page_sent s sent o a f there accepted took
 
-      taken_page_row : (t : fetch.Taken) → take_page hash_of o.own o.seen a.context a.fetch sent.prefix sent.page sent.values ≡ t → P (Page s sent) (page_taken hash_of r o a.context sent t)
+      taken_page_row : (t : fetch.Taken) → take_page hash_of o.own o.seen a.context a.fetch sent.prefix sent.page sent.values ≡ t
+          → P (Page s sent) (page_taken hash_of r o a.context sent t)
       taken_page_row fetch.Ignored e = rows.ignoring (Page s sent)
       taken_page_row fetch.Mismatch e = rows.mismatch (Page s sent)
       taken_page_row (fetch.Took f) e = page_went f e (is_complete f) refl
 
-    further_row : (s : SessionValue) (sent : SentValue) (o : Open) → open_at r.sessions s ≡ Some o → (a : Option Accepted) → o.accepted ≡ a → P (Page s sent) (took_further hash_of r o sent a)
+    further_row : (s : SessionValue) (sent : SentValue) (o : Open) → open_at r.sessions s ≡ Some o → (a : Option Accepted) → o.accepted ≡ a
+        → P (Page s sent) (took_further hash_of r o sent a)
     further_row s sent o there None e = rows.ignoring (Page s sent)
-    further_row s sent o there (Some a) e = taken_page_row s sent o there a e (take_page hash_of o.own o.seen a.context a.fetch sent.prefix sent.page sent.values) refl
+    further_row s sent o there (Some a) e = taken_page_row s sent o there a e
+        (take_page hash_of o.own o.seen a.context a.fetch sent.prefix sent.page sent.values) refl
 
     page_row : (s : SessionValue) (sent : SentValue) (o : Option Open) → open_at r.sessions s ≡ o → P (Page s sent) (took_page hash_of r sent o)
     page_row s sent None e = rows.ignoring (Page s sent)

@@ -34,13 +34,15 @@ use Rattle.replica_model.proofs.Unchanged.{unchanged}
 
 -- ---- deeds, the last first
 
-pub runs_on : (hash_of : List ℕ → ℕ) (name : ℕ) (deeds : List Deed) (u w v : World) (d : Deed) (answer : Answer) → RunsAlone hash_of name u deeds w → Befalls hash_of name w d answer v → RunsAlone hash_of name u (deeds ++ d ∷ []) v
+pub runs_on : (hash_of : List ℕ → ℕ) (name : ℕ) (deeds : List Deed) (u w v : World) (d : Deed) (answer : Answer) → RunsAlone hash_of name u deeds w
+    → Befalls hash_of name w d answer v → RunsAlone hash_of name u (deeds ++ d ∷ []) v
 runs_on hash_of name [] u w v d answer same step = (answer, v, subst (λ s. Befalls hash_of name s d answer v) same step, refl)
 runs_on hash_of name (x ∷ deeds) u w v d answer (a, t, first, rest) step = (a, t, first, runs_on hash_of name deeds t w v d answer rest step)
 
 -- what holds at first and is kept by each deed holds after every list of deeds
 module _ (hash_of : List ℕ → ℕ) (name : ℕ) (P : List Deed → World → Type 0) (first : P [] nothing)
-    (next : (deeds : List Deed) (w v : World) (d : Deed) (answer : Answer) → RunsAlone hash_of name nothing deeds w → P deeds w → Befalls hash_of name w d answer v → P (deeds ++ d ∷ []) v) where
+    (next : (deeds : List Deed) (w v : World) (d : Deed) (answer : Answer) → RunsAlone hash_of name nothing deeds w → P deeds w
+    → Befalls hash_of name w d answer v → P (deeds ++ d ∷ []) v) where
   further : (front ds : List Deed) (u w : World) → RunsAlone hash_of name nothing front u → P front u → RunsAlone hash_of name u ds w → P (front ++ ds) w
   further front [] u w runs p e = subst (λ f. P f w) (sym (append-nil front)) (subst (P front) (sym e) p)
   further front (x ∷ ds) u w runs p (answer, t, step, rest) =
@@ -61,7 +63,8 @@ pub record Arrived (hash_of : List ℕ → ℕ) (name : ℕ) (w : World) (mail :
   pub step : delivered hash_of own (w.replica name) mail ≡ turn new outcome out
   pub after : v ≡ goes name new out [] (takes name (w.replica name) mail of outcome w)
 
-pub arrived : (hash_of : List ℕ → ℕ) (name : ℕ) (w v : World) (mail : Mail) (of : Snapshot) (answer : Answer) → Befalls hash_of name w (Comes mail of) answer v → Arrived hash_of name w mail of answer v
+pub arrived : (hash_of : List ℕ → ℕ) (name : ℕ) (w v : World) (mail : Mail) (of : Snapshot) (answer : Answer) → Befalls hash_of name w (Comes mail of) answer v
+    → Arrived hash_of name w mail of answer v
 arrived hash_of name w v mail of answer (new, outcome, out, a, (second, b, (own, is, step)), after) =
     let same : second ≡ outcome = came_one second outcome (sym b ∙ a) in
     record { own = own; new = new; outcome = outcome; out = out; answers = a; step = step ∙ ap (λ o. turn new o out) same; after = after }
@@ -97,17 +100,22 @@ leaves_as old new r c e leaves = subst (λ x. CallLeaves old x c) (sym e) leaves
 
 abandon_leaves : (old new : Replica) (c : Call) (o : Option Open) (answer : Answer) → Abandons old o new answer → CallLeaves old new c
 abandon_leaves old new c None answer (n, a) = leaves_as old new old c n (record { same_name = refl; sessions = λ o h. inl h })
-abandon_leaves old new c (Some x) answer (n, a) = leaves_as old new _ c n (record { same_name = refl; sessions = λ o h. inl (in_without x.session old.sessions o h) })
+abandon_leaves old new c (Some x) answer (n, a) = leaves_as old new _ c n
+    (record { same_name = refl; sessions = λ o h. inl (in_without x.session old.sessions o h) })
 
 pub call_leaves : (old new : Replica) (c : Call) (answer : Answer) (out : List Mail) → IsCall old c new answer out → CallLeaves old new c
-call_leaves old new (Put place value) answer out (x, put, few, n, a, o) = leaves_as old new _ (Put place value) n (record { same_name = refl; sessions = λ o h. inl h })
-call_leaves old new (Remove key) answer out (over, just, n, counts, o) = leaves_as old new _ (Remove key) n (record { same_name = refl; sessions = λ o h. inl h })
-call_leaves old new (RemoveField place) answer out (over, just, n, counts, o) = leaves_as old new _ (RemoveField place) n (record { same_name = refl; sessions = λ o h. inl h })
+call_leaves old new (Put place value) answer out (x, put, few, n, a, o) =
+    leaves_as old new _ (Put place value) n (record { same_name = refl; sessions = λ o h. inl h })
+call_leaves old new (Remove key) answer out (over, just, n, counts, o) =
+    leaves_as old new _ (Remove key) n (record { same_name = refl; sessions = λ o h. inl h })
+call_leaves old new (RemoveField place) answer out (over, just, n, counts, o) =
+    leaves_as old new _ (RemoveField place) n (record { same_name = refl; sessions = λ o h. inl h })
 call_leaves old new Clear answer out (over, just, n, counts, o) = leaves_as old new _ Clear n (record { same_name = refl; sessions = λ o h. inl h })
 call_leaves old new Flush answer out (a, inl (none, n, o)) = leaves_as old new _ Flush n (record { same_name = refl; sessions = λ o h. inl h })
 call_leaves old new Flush answer out (a, inr (some, n, o)) = leaves_as old new _ Flush n (record { same_name = refl; sessions = λ o h. inl h })
 call_leaves old new (Ask peer) answer out (own, is, few, left, n, a, o) =
-    leaves_as old new _ (Ask peer) n (record { same_name = refl; sessions = λ o h. either o (Contains-append_cases old.sessions (asking old peer own ∷ []) o h) })
+    leaves_as old new _ (Ask peer) n
+    (record { same_name = refl; sessions = λ o h. either o (Contains-append_cases old.sessions (asking old peer own ∷ []) o h) })
   where
     either : (o : Open) → Contains old.sessions o ⊎ Contains (asking old peer own ∷ []) o → Contains old.sessions o ⊎ IsAsking old (Ask peer) o
     either o (inl h) = inl h
@@ -123,7 +131,8 @@ module _ (hash_of : List ℕ → ℕ) (name : ℕ) where
   pub record Tied (deeds : List Deed) (live : MapState) (takings : List Taking) (o : Open) : Type 0 where
     pub asked : IsAskAlone hash_of name deeds o.session o.own o.seen
     pub below : IsBelow (held_state o.own o.seen) live
-    pub fetched : (a : Accepted) → o.accepted ≡ Some a → (root : Option (List ℕ)) × TookOpening hash_of name deeds o.session a.context root × Fetched hash_of o.own o.seen a.context root takings a.fetch
+    pub fetched : (a : Accepted) → o.accepted ≡ Some a → (root : Option (List ℕ)) × TookOpening hash_of name deeds o.session a.context root
+        × Fetched hash_of o.own o.seen a.context root takings a.fetch
 
   abbrev pub AllTied : List Deed → MapState → (SessionValue → List Taking) → List Open → Type 0
   AllTied deeds live taken os = (o : Open) → Contains os o → Tied deeds live (taken o.session) o
@@ -134,7 +143,8 @@ module _ (hash_of : List ℕ → ℕ) (name : ℕ) where
 
   -- ---- it is kept while more comes
 
-  ask_more : (deeds : List Deed) (d : Deed) (s : SessionValue) (own : Held) (known : DotValue → Bool) → IsAskAlone hash_of name deeds s own known → IsAskAlone hash_of name (deeds ++ d ∷ []) s own known
+  ask_more : (deeds : List Deed) (d : Deed) (s : SessionValue) (own : Held) (known : DotValue → Bool) → IsAskAlone hash_of name deeds s own known
+      → IsAskAlone hash_of name (deeds ++ d ∷ []) s own known
   ask_more deeds d s own known t = record {
     asker = t.asker;
     front = t.front;
@@ -147,7 +157,8 @@ module _ (hash_of : List ℕ → ℕ) (name : ℕ) where
     known_then = t.known_then;
   }
 
-  pub opening_more : (deeds : List Deed) (d : Deed) (s : SessionValue) (context : DotValue → Bool) (root : Option (List ℕ)) → TookOpening hash_of name deeds s context root → TookOpening hash_of name (deeds ++ d ∷ []) s context root
+  pub opening_more : (deeds : List Deed) (d : Deed) (s : SessionValue) (context : DotValue → Bool) (root : Option (List ℕ))
+      → TookOpening hash_of name deeds s context root → TookOpening hash_of name (deeds ++ d ∷ []) s context root
   opening_more deeds d s context root t = record {
     front = t.front;
     of = t.of;
@@ -161,7 +172,8 @@ module _ (hash_of : List ℕ → ℕ) (name : ℕ) where
     befell = t.befell;
   }
 
-  more_tied : (deeds : List Deed) (d : Deed) (old new : MapState) (takings : List Taking) (o : Open) → IsBelow old new → Tied deeds old takings o → Tied (deeds ++ d ∷ []) new takings o
+  more_tied : (deeds : List Deed) (d : Deed) (old new : MapState) (takings : List Taking) (o : Open) → IsBelow old new → Tied deeds old takings o
+      → Tied (deeds ++ d ∷ []) new takings o
   more_tied deeds d old new takings o grew t = record {
     asked = ask_more deeds d o.session o.own o.seen t.asked;
     below = below_below (held_state o.own o.seen) old new t.below grew;
@@ -173,7 +185,8 @@ module _ (hash_of : List ℕ → ℕ) (name : ℕ) where
 
   -- ---- a call
 
-  called : (deeds : List Deed) (w : World) (c : Call) (new : Replica) (answer : Answer) (out : List Mail) → RunsAlone hash_of name nothing deeds w → TiedWorld deeds w
+  called : (deeds : List Deed) (w : World) (c : Call) (new : Replica) (answer : Answer) (out : List Mail) → RunsAlone hash_of name nothing deeds w
+      → TiedWorld deeds w
       → IsCall (w.replica name) c new answer out → AllTied (deeds ++ Calls c ∷ []) new.live w.taken new.sessions
   called deeds w c new answer out runs t step o h = either ((call_leaves (w.replica name) new c answer out step).sessions o h)
     where
@@ -214,7 +227,8 @@ module _ (hash_of : List ℕ → ℕ) (name : ℕ) where
 
     -- where the message is an opening that is taken, it is the one of its session
     abbrev OpenedNow : Mail → Outcome → Type 0
-    OpenedNow mail outcome = (s : SessionValue) (context : DotValue → Bool) (root : Option (List ℕ)) → mail ≡ Opening s context root → outcome ≡ Sent → TookOpening hash_of name deeds s context root
+    OpenedNow mail outcome = (s : SessionValue) (context : DotValue → Bool) (root : Option (List ℕ)) → mail ≡ Opening s context root → outcome ≡ Sent
+        → TookOpening hash_of name deeds s context root
 
     abbrev Holds : Mail → Turn → Type 0
     Holds mail t = (of : Snapshot) → OpenedNow mail t.outcome → AllTied deeds live (takes name r mail of t.outcome w).taken t.new.sessions
@@ -247,11 +261,14 @@ module _ (hash_of : List ℕ → ℕ) (name : ℕ) where
     went s more next is tied o h = either (in_advanced next r.sessions o h)
       where
         either : (o ≡ next) ⊎ (Contains r.sessions o × (same_session o.session next.session ≡ false)) → Tied deeds live (changed w.taken s more o.session) o
-        either (inl e) = subst (λ x. Tied deeds live (changed w.taken s more x.session) x) (sym e) (taken_as deeds live more (changed w.taken s more next.session) next (changed_here w.taken s more next.session is) tied)
+        either (inl e) = subst (λ x. Tied deeds live (changed w.taken s more x.session) x) (sym e)
+            (taken_as deeds live more (changed w.taken s more next.session) next (changed_here w.taken s more next.session is) tied)
         either (inr (there, apart)) =
-            taken_as deeds live (w.taken o.session) (changed w.taken s more o.session) o (changed_elsewhere w.taken s more o.session (ap (same_session o.session) (sym is) ∙ apart)) (before o there)
+            taken_as deeds live (w.taken o.session) (changed w.taken s more o.session) o
+            (changed_elsewhere w.taken s more o.session (ap (same_session o.session) (sym is) ∙ apart)) (before o there)
 
-    opening_goes : (s : SessionValue) (c : DotValue → Bool) (root : Option (List ℕ)) (o : Open) (f : Fetch) → open_at r.sessions s ≡ Some o → take_opening hash_of o.own o.seen c root ≡ fetch.Took f
+    opening_goes : (s : SessionValue) (c : DotValue → Bool) (root : Option (List ℕ)) (o : Open) (f : Fetch) → open_at r.sessions s ≡ Some o
+        → take_opening hash_of o.own o.seen c root ≡ fetch.Took f
         → TookOpening hash_of name deeds s c root → AllTied deeds live (changed w.taken s []) (advanced (with_fetch o c f) r.sessions)
     opening_goes s c root o f there took opening =
         let found = found_open r.sessions s o there in
@@ -262,7 +279,8 @@ module _ (hash_of : List ℕ → ℕ) (name : ℕ) where
           below = old.below;
           fetched = λ x is.
               accepted_is (record { context = c; fetch = f }) x
-              (λ y. (d : Option (List ℕ)) × TookOpening hash_of name deeds o.session y.context d × Fetched hash_of o.own o.seen y.context d [] y.fetch) is (root, mine, took);
+              (λ y. (d : Option (List ℕ)) × TookOpening hash_of name deeds o.session y.context d × Fetched hash_of o.own o.seen y.context d [] y.fetch) is
+              (root, mine, took);
         })
 
     page_goes : (s : SessionValue) (sent : SentValue) (o : Open) (a : Accepted) (f : Fetch) → open_at r.sessions s ≡ Some o → o.accepted ≡ Some a
@@ -272,13 +290,15 @@ module _ (hash_of : List ℕ → ℕ) (name : ℕ) where
         let found = found_open r.sessions s o there in
         let old = before o found.0 in
         let was = old.fetched a accepted in
-        let got : Fetched hash_of o.own o.seen a.context was.0 (w.taken s) a.fetch = subst (λ u. Fetched hash_of o.own o.seen a.context was.0 (w.taken u) a.fetch) found.1 was.2 in
+        let got : Fetched hash_of o.own o.seen a.context was.0 (w.taken s) a.fetch =
+        subst (λ u. Fetched hash_of o.own o.seen a.context was.0 (w.taken u) a.fetch) found.1 was.2 in
         went s (taking_of sent ∷ w.taken s) (with_fetch o a.context f) found.1 (record {
           asked = old.asked;
           below = old.below;
           fetched = λ x is.
               accepted_is (record { context = a.context; fetch = f }) x
-              (λ y. (d : Option (List ℕ)) × TookOpening hash_of name deeds o.session y.context d × Fetched hash_of o.own o.seen y.context d (taking_of sent ∷ w.taken s) y.fetch)
+              (λ y. (d : Option (List ℕ)) × TookOpening hash_of name deeds o.session y.context d
+              × Fetched hash_of o.own o.seen y.context d (taking_of sent ∷ w.taken s) y.fetch)
               is (was.0, was.1, (a.fetch, got, took));
         })
 
@@ -301,8 +321,10 @@ module _ (hash_of : List ℕ → ℕ) (name : ℕ) where
   -- ---- after all deeds
 
   -- an opening that is taken now
-  pub opened_now : (deeds : List Deed) (w v : World) (mail : Mail) (of : Snapshot) (answer : Answer) → RunsAlone hash_of name nothing deeds w → Befalls hash_of name w (Comes mail of) answer v → (answer ≡ Came Sent) ⊎ (answer ≡ Came Done)
-      → (s : SessionValue) (context : DotValue → Bool) (root : Option (List ℕ)) → mail ≡ Opening s context root → TookOpening hash_of name (deeds ++ Comes mail of ∷ []) s context root
+  pub opened_now : (deeds : List Deed) (w v : World) (mail : Mail) (of : Snapshot) (answer : Answer) → RunsAlone hash_of name nothing deeds w
+      → Befalls hash_of name w (Comes mail of) answer v → (answer ≡ Came Sent) ⊎ (answer ≡ Came Done)
+      → (s : SessionValue) (context : DotValue → Bool) (root : Option (List ℕ)) → mail ≡ Opening s context root
+      → TookOpening hash_of name (deeds ++ Comes mail of ∷ []) s context root
   opened_now deeds w v mail of answer runs befalls taken s context root is = record {
     front = deeds;
     of = of;
@@ -316,7 +338,8 @@ module _ (hash_of : List ℕ → ℕ) (name : ℕ) where
     befell = subst (λ m. Befalls hash_of name w (Comes m of) answer v) is befalls;
   }
 
-  tied_next : (deeds : List Deed) (w v : World) (d : Deed) (answer : Answer) → RunsAlone hash_of name nothing deeds w → TiedWorld deeds w → Befalls hash_of name w d answer v → TiedWorld (deeds ++ d ∷ []) v
+  tied_next : (deeds : List Deed) (w v : World) (d : Deed) (answer : Answer) → RunsAlone hash_of name nothing deeds w → TiedWorld deeds w
+      → Befalls hash_of name w d answer v → TiedWorld (deeds ++ d ∷ []) v
   tied_next deeds w v (Calls c) answer runs t (new, out, step, after) =
       let x = goes name new out (w.outgoing name) (calls name c w) in
       let here : x.replica name ≡ new = here_new name new _ in
@@ -338,8 +361,10 @@ module _ (hash_of : List ℕ → ℕ) (name : ℕ) where
           let x = goes name d.new d.out [] (takes name old mail of d.outcome w) in
           let here : x.replica name ≡ d.new = here_new name d.new _ in
           let grew : IsBelow old.live d.new.live = subst (λ (y : Turn). IsBelow old.live y.new.live) d.step (delivery_grows hash_of d.own old mail) in
-          let before : AllTied more d.new.live w.taken old.sessions = λ o h. more_tied deeds (Comes mail of) old.live d.new.live (w.taken o.session) o grew (t.sessions o h) in
-          let now : (s : SessionValue) (context : DotValue → Bool) (root : Option (List ℕ)) → mail ≡ Opening s context root → d.outcome ≡ Sent → TookOpening hash_of name more s context root =
+          let before : AllTied more d.new.live w.taken old.sessions =
+          λ o h. more_tied deeds (Comes mail of) old.live d.new.live (w.taken o.session) o grew (t.sessions o h) in
+          let now : (s : SessionValue) (context : DotValue → Bool) (root : Option (List ℕ)) → mail ≡ Opening s context root → d.outcome ≡ Sent
+          → TookOpening hash_of name more s context root =
           λ s context root is sent. opened_now deeds w v mail of answer runs befalls (inl (d.answers ∙ ap Came sent)) s context root is in
           let all : AllTied more d.new.live (takes name old mail of d.outcome w).taken d.new.sessions =
           subst (Holds more w d.new.live before d.own mail) d.step (taken_in more w d.new.live before d.own mail) of now in

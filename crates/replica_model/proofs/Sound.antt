@@ -13,7 +13,9 @@ use Rattle.replica_model.specs.Replica.{Replica, Kept, open_at, kept_at}
 use Rattle.replica_model.specs.Delivery.{Outcome}
 use Rattle.replica_model.specs.Step.{Call, Put, Remove, RemoveField, Clear, Flush, Retry, Abandon, Restart, Answer}
 use Rattle.replica_model.specs.Step as call
-use Rattle.replica_model.specs.World.{World, Event, Node, At, Deliver, Message, Snapshot, sets_of, nothing, message_at, changed, makes, learns, calls, is_joined, is_sent, is_done, first_kept, keeps, accepts, takes_page, taking_of, own_of, ends, takes, sent_as, goes, Happens, Runs}
+use Rattle.replica_model.specs.World.{World, Event, Node, At, Deliver, Message, Snapshot, sets_of, nothing, message_at, changed, makes, learns, calls}
+use Rattle.replica_model.specs.World.{is_joined, is_sent, is_done, first_kept, keeps, accepts, takes_page, taking_of, own_of, ends, takes, sent_as, goes}
+use Rattle.replica_model.specs.World.{Happens, Runs}
 use Rattle.replica_model.specs.World as world
 use Rattle.replica_model.specs.Laws.{IsSound, Sound}
 
@@ -37,7 +39,8 @@ map-append (m ∷ ms) more = ap (λ xs. m.of.seen ∷ xs) (map-append ms more)
 
 -- ---- the messages that a replica sends are part of what was made
 
-module _ (made group : List Operation) (kept : SessionValue → List Operation) (ks : List Kept) (here : IsPartOf group made) (there : (s : SessionValue) → IsPartOf (kept s) made) where
+module _ (made group : List Operation) (kept : SessionValue → List Operation) (ks : List Kept) (here : IsPartOf group made)
+    (there : (s : SessionValue) → IsPartOf (kept s) made) where
   shown_part : (mail : Mail) → IsPartOf (world.snapshot_with group kept ks mail).seen made
   shown_part (Delta d) = here
   shown_part (Hello s seen) = nothing_part made
@@ -52,14 +55,16 @@ module _ (made group : List Operation) (kept : SessionValue → List Operation) 
   sent_part (mail ∷ out) (suc zero) = shown_part mail
   sent_part (mail ∷ out) (suc (suc n)) = sent_part out (suc n)
 
-sound_goes : (w : World) (name : ℕ) (new : Replica) (out : List Mail) (group : List Operation) → IsSound w → IsPartOf group w.made → IsSound (goes name new out group w)
+sound_goes : (w : World) (name : ℕ) (new : Replica) (out : List Mail) (group : List Operation) → IsSound w → IsPartOf group w.made
+    → IsSound (goes name new out group w)
 sound_goes w name new out group s part = record {
   sets = record {
     seen = s.sets.seen;
     outgoing = s.sets.outgoing;
     messages = λ number.
         subst (λ ms. IsPartOf (message ms number) w.made) (sym (map-append w.messages (map (sent_as group w.kept new.kept) out)))
-        (message-append (map (λ x. x.of.seen) w.messages) (map (λ x. x.of.seen) (map (sent_as group w.kept new.kept) out)) w.made s.sets.messages (sent_part w.made group w.kept new.kept part s.kept out) number);
+        (message-append (map (λ x. x.of.seen) w.messages) (map (λ x. x.of.seen) (map (sent_as group w.kept new.kept) out)) w.made s.sets.messages
+        (sent_part w.made group w.kept new.kept part s.kept out) number);
     own = s.sets.own;
     told = s.sets.told;
     no_reuse = s.sets.no_reuse;
@@ -101,7 +106,8 @@ sound_flushes w name s = record {
 pub sound_calls : (w : World) (name : ℕ) (c : Call) → IsSound w → IsSound (calls name c w)
 sound_calls w name (Put place value) s = sound_makes w name (put_at (w.seen name) name place value) s (put-new (w.seen name) name place value)
 sound_calls w name (Remove key) s = sound_makes w name (remove_at (w.seen name) key) s (erasure-new (w.seen name) name (ids (shown_within (w.seen name) key)))
-sound_calls w name (RemoveField place) s = sound_makes w name (remove_field_at (w.seen name) place) s (erasure-new (w.seen name) name (ids (Rattle.op_model.specs.Shown.shown (w.seen name) place)))
+sound_calls w name (RemoveField place) s = sound_makes w name (remove_field_at (w.seen name) place) s
+    (erasure-new (w.seen name) name (ids (Rattle.op_model.specs.Shown.shown (w.seen name) place)))
 sound_calls w name Clear s = sound_makes w name (clear_at (w.seen name)) s (erasure-new (w.seen name) name (ids (shown_anywhere (w.seen name))))
 sound_calls w name Flush s = sound_flushes w name s
 sound_calls w name (call.Ask peer) s = s
@@ -121,14 +127,16 @@ made_stays w name (Retry number) S part = part
 made_stays w name (Abandon number) S part = part
 made_stays w name Restart S part = part
 
-changed_part : (f : SessionValue → List Operation) (s : SessionValue) (x made : List Operation) → ((t : SessionValue) → IsPartOf (f t) made) → IsPartOf x made → (t : SessionValue) → IsPartOf (changed f s x t) made
+changed_part : (f : SessionValue → List Operation) (s : SessionValue) (x made : List Operation) → ((t : SessionValue) → IsPartOf (f t) made) → IsPartOf x made
+    → (t : SessionValue) → IsPartOf (changed f s x t) made
 changed_part f s x made all part t = step (same_session t s)
   where
     step : (b : Bool) → IsPartOf (cond b x (f t)) made
     step true = part
     step false = all t
 
-changed_snapshot : (f : SessionValue → Snapshot) (s : SessionValue) (x : Snapshot) (made : List Operation) → ((t : SessionValue) → IsPartOf (f t).seen made) → IsPartOf x.seen made → (t : SessionValue) → IsPartOf (changed f s x t).seen made
+changed_snapshot : (f : SessionValue → Snapshot) (s : SessionValue) (x : Snapshot) (made : List Operation) → ((t : SessionValue) → IsPartOf (f t).seen made)
+    → IsPartOf x.seen made → (t : SessionValue) → IsPartOf (changed f s x t).seen made
 changed_snapshot f s x made all part t = step (same_session t s)
   where
     step : (b : Bool) → IsPartOf (cond b x (f t)).seen made
@@ -142,26 +150,32 @@ first_part (Some k) before now made f g = f
 sound_keeps : (w : World) (name : ℕ) (old : Replica) (s : SessionValue) → IsSound w → IsSound (keeps name old s w)
 sound_keeps w name old t s = record {
   sets = s.sets;
-  kept = changed_part w.kept t (first_kept (kept_at old.kept t) (w.kept t) (w.seen name)) w.made s.kept (first_part (kept_at old.kept t) (w.kept t) (w.seen name) w.made (s.kept t) (s.sets.seen name));
+  kept = changed_part w.kept t (first_kept (kept_at old.kept t) (w.kept t) (w.seen name)) w.made s.kept
+      (first_part (kept_at old.kept t) (w.kept t) (w.seen name) w.made (s.kept t) (s.sets.seen name));
   accepted = s.accepted;
 }
 
-sound_ends : (w : World) (name : ℕ) (own : Rattle.sync_model.specs.Differ.Held) (of : Snapshot) (ts : List Rattle.sync_model.specs.Laws.Taking) → IsSound w → IsPartOf of.seen w.made → IsSound (ends name own of ts w)
+sound_ends : (w : World) (name : ℕ) (own : Rattle.sync_model.specs.Differ.Held) (of : Snapshot) (ts : List Rattle.sync_model.specs.Laws.Taking) → IsSound w
+    → IsPartOf of.seen w.made → IsSound (ends name own of ts w)
 sound_ends w name own of ts s part = record { sets = sound-learns (sets_of w) name of.seen s.sets part; kept = s.kept; accepted = s.accepted }
 
 either : (b : Bool) (u w : World) → IsSound u → IsSound w → IsSound (cond b u w)
 either true u w s t = s
 either false u w s t = t
 
-sound_takes : (w : World) (name : ℕ) (old : Replica) (mail : Mail) (of : Snapshot) (outcome : Outcome) → IsSound w → IsPartOf of.seen w.made → IsSound (takes name old mail of outcome w)
+sound_takes : (w : World) (name : ℕ) (old : Replica) (mail : Mail) (of : Snapshot) (outcome : Outcome) → IsSound w → IsPartOf of.seen w.made
+    → IsSound (takes name old mail of outcome w)
 sound_takes w name old (Delta d) of outcome s part = either (is_joined outcome) (learns name of.seen w) w (sound_learns w name of.seen s part) s
 sound_takes w name old (Hello t seen) of outcome s part = either (is_sent outcome) (keeps name old t w) w (sound_keeps w name old t s) s
 sound_takes w name old (Opening t context root) of outcome s part =
-    either (is_done outcome) (ends name (own_of (open_at old.sessions t)) of [] w) (cond (is_sent outcome) (accepts t of w) w) (sound_ends w name (own_of (open_at old.sessions t)) of [] s part)
-    (either (is_sent outcome) (accepts t of w) w (record { sets = s.sets; kept = s.kept; accepted = changed_snapshot w.accepted t of w.made s.accepted part }) s)
+    either (is_done outcome) (ends name (own_of (open_at old.sessions t)) of [] w) (cond (is_sent outcome) (accepts t of w) w)
+    (sound_ends w name (own_of (open_at old.sessions t)) of [] s part)
+    (either (is_sent outcome) (accepts t of w) w
+    (record { sets = s.sets; kept = s.kept; accepted = changed_snapshot w.accepted t of w.made s.accepted part }) s)
 sound_takes w name old (Ask t prefix) of outcome s part = s
 sound_takes w name old (Page t sent) of outcome s part =
-    either (is_done outcome) (ends name (own_of (open_at old.sessions t)) (w.accepted t) (taking_of sent ∷ w.taken t) w) (cond (is_sent outcome) (takes_page t sent w) w)
+    either (is_done outcome) (ends name (own_of (open_at old.sessions t)) (w.accepted t) (taking_of sent ∷ w.taken t) w)
+    (cond (is_sent outcome) (takes_page t sent w) w)
     (sound_ends w name (own_of (open_at old.sessions t)) (w.accepted t) (taking_of sent ∷ w.taken t) s (s.accepted t))
     (either (is_sent outcome) (takes_page t sent w) w (record { sets = s.sets; kept = s.kept; accepted = s.accepted }) s)
 sound_takes w name old (Gone t) of outcome s part = s
@@ -171,12 +185,20 @@ sound_takes w name old (Gone t) of outcome s part = s
 sound_happens : (hash_of : List ℕ → ℕ) (w v : World) (e : Event) (answer : Answer) → Happens hash_of w e answer v → IsSound w → IsSound v
 sound_happens hash_of w v (Node name) answer (new, a, e) s =
     subst IsSound (sym e) (record {
-      sets = record { seen = s.sets.seen; outgoing = s.sets.outgoing; messages = s.sets.messages; own = s.sets.own; told = s.sets.told; no_reuse = s.sets.no_reuse };
+      sets = record {
+        seen = s.sets.seen;
+        outgoing = s.sets.outgoing;
+        messages = s.sets.messages;
+        own = s.sets.own;
+        told = s.sets.told;
+        no_reuse = s.sets.no_reuse;
+      };
       kept = s.kept;
       accepted = s.accepted;
     })
 sound_happens hash_of w v (At name c) answer (there, peer, (new, out, step, e)) s =
-    subst IsSound (sym e) (sound_goes (calls name c w) name new out (w.outgoing name) (sound_calls w name c s) (made_stays w name c (w.outgoing name) (s.sets.outgoing name)))
+    subst IsSound (sym e) (sound_goes (calls name c w) name new out (w.outgoing name) (sound_calls w name c s)
+    (made_stays w name c (w.outgoing name) (s.sets.outgoing name)))
 sound_happens hash_of w v (Deliver number name) answer (there, (m, is, (new, outcome, out, a, step, e))) s =
     let part : IsPartOf m.of.seen w.made = subst (λ S. IsPartOf S w.made) (carried w.messages number m is) (s.sets.messages number) in
     let u = takes name (w.replica name) m.mail m.of outcome w in

@@ -111,7 +111,11 @@ pub nothing_of : (puts : List Write) → IsOf puts (state [])
 nothing_of puts = erasure_of puts []
 
 pub write_of : (puts : List Write) (w : Write) → Contains puts w → IsOf puts (state (Wrote w ∷ []))
-write_of puts w there = record { is_finite = state_finite (Wrote w ∷ []); inside = state-inside (Wrote w ∷ []); named = λ place dot v e. by place dot v (has (observed (Wrote w ∷ [])) dot) (sym (at-state (Wrote w ∷ []) place dot) ∙ e) }
+write_of puts w there = record {
+  is_finite = state_finite (Wrote w ∷ []);
+  inside = state-inside (Wrote w ∷ []);
+  named = λ place dot v e. by place dot v (has (observed (Wrote w ∷ [])) dot) (sym (at-state (Wrote w ∷ []) place dot) ∙ e);
+}
   where
     is_it : (u : Write) → Contains (w ∷ []) u → w ≡ u
     is_it u h = only (In-Contains (w ∷ []) u h)
@@ -120,7 +124,8 @@ write_of puts w there = record { is_finite = state_finite (Wrote w ∷ []); insi
         only (inl e) = e
         only (inr h) = absurd h
 
-    by : (place : Place) (dot : Dot) (v : List ℕ) (b : Bool) → cond b None (value_under dot (filter (is_on place) (writes (Wrote w ∷ [])))) ≡ Some v → IsNamed puts dot (sha256 v)
+    by : (place : Place) (dot : Dot) (v : List ℕ) (b : Bool) → cond b None (value_under dot (filter (is_on place) (writes (Wrote w ∷ [])))) ≡ Some v
+        → IsNamed puts dot (sha256 v)
     by place dot v true e = absurd cc
     by place dot v false e =
         let under = found_under dot (filter (is_on place) (w ∷ [])) v e in
@@ -133,24 +138,29 @@ found_dot : (vs : ValuesValue) (d : DotValue) (v : List ℕ) → find dot_cmp d 
 found_dot [] d v e = absurd cc
 found_dot (x ∷ vs) d v e = step (eq_by_cmp dot_cmp d x.0) refl e (found_dot vs d v)
   where
-    step : (b : Bool) → eq_by_cmp dot_cmp d x.0 ≡ b → cond b (Some x.1) (find dot_cmp d vs) ≡ Some v → (find dot_cmp d vs ≡ Some v → In vs (d, v)) → In (x ∷ vs) (d, v)
+    step : (b : Bool) → eq_by_cmp dot_cmp d x.0 ≡ b → cond b (Some x.1) (find dot_cmp d vs) ≡ Some v → (find dot_cmp d vs ≡ Some v → In vs (d, v))
+        → In (x ∷ vs) (d, v)
     step true t s further = let dots = same_from_test d x.0 (sym (is_eq-dot_cmp d x.0) ∙ t) in let value = same_Some x.1 v s in inl (λ k. (sym dots k, value k))
     step false t s further = inr (further s)
 
 -- what stands at a field of a key and at a dot is there
-in_map : (m : Held) (key field : List ℕ) (d : DotValue) (v : List ℕ) → held_in (finite.get m key) field d ≡ Some v → (fs : FieldsValue) × (finite.get m key ≡ Some fs) × ((vs : ValuesValue) × In fs (field, vs) × In vs (d, v))
+in_map : (m : Held) (key field : List ℕ) (d : DotValue) (v : List ℕ) → held_in (finite.get m key) field d ≡ Some v → (fs : FieldsValue)
+    × (finite.get m key ≡ Some fs) × ((vs : ValuesValue) × In fs (field, vs) × In vs (d, v))
 in_map m key field d v e = by_key (finite.get m key) refl (sym (held_there (finite.get m key) field d) ∙ e)
   where
-    by_field : (fs : FieldsValue) (y : Option ValuesValue) → find bytes_cmp field fs ≡ y → find dot_cmp d (values_or_none y) ≡ Some v → (vs : ValuesValue) × In fs (field, vs) × In vs (d, v)
+    by_field : (fs : FieldsValue) (y : Option ValuesValue) → find bytes_cmp field fs ≡ y → find dot_cmp d (values_or_none y) ≡ Some v → (vs : ValuesValue)
+        × In fs (field, vs) × In vs (d, v)
     by_field fs None u r = absurd cc
     by_field fs (Some vs) u r = (vs, find_in field fs vs u, found_dot vs d v r)
 
-    by_key : (x : Option FieldsValue) → finite.get m key ≡ x → there x field d ≡ Some v → (fs : FieldsValue) × (finite.get m key ≡ Some fs) × ((vs : ValuesValue) × In fs (field, vs) × In vs (d, v))
+    by_key : (x : Option FieldsValue) → finite.get m key ≡ x → there x field d ≡ Some v → (fs : FieldsValue) × (finite.get m key ≡ Some fs)
+        × ((vs : ValuesValue) × In fs (field, vs) × In vs (d, v))
     by_key None t s = absurd cc
     by_key (Some fs) t s = (fs, t, by_field fs (find bytes_cmp field fs) refl s)
 
 -- what a map holds is such a state, where just these dots are known, each dot of the map among them, and each value has the name of what was put
-pub map_of_puts : (puts : List Write) (m : Held) (known : DotValue → Bool) (dots : List Dot) → ((dot : Dot) → known dot ≡ has dots dot) → EachHeld (λ d name. known d ≡ true) m → EachHeld (IsNamed puts) m → IsOf puts (held_state m known)
+pub map_of_puts : (puts : List Write) (m : Held) (known : DotValue → Bool) (dots : List Dot) → ((dot : Dot) → known dot ≡ has dots dot)
+    → EachHeld (λ d name. known d ≡ true) m → EachHeld (IsNamed puts) m → IsOf puts (held_state m known)
 map_of_puts puts m known dots just all named = record {
   is_finite = held_finite m known dots just;
   inside = λ place dot some.
@@ -166,7 +176,8 @@ module _ (puts : List Write) (m : Held) (known : DotValue → Bool) (is : IsHeld
   pub held_lawful : IsLawfulMap m
   held_lawful = map_lawful m is.of is.is_map
 
-  stands : (key : List ℕ) (fs : FieldsValue) → finite.get m key ≡ Some fs → (field : List ℕ) (vs : ValuesValue) → In fs (field, vs) → (d : Dot) (v : List ℕ) → In vs (d, v) → is.of.at (place_of key field) d ≡ Some v
+  stands : (key : List ℕ) (fs : FieldsValue) → finite.get m key ≡ Some fs → (field : List ℕ) (vs : ValuesValue) → In fs (field, vs) → (d : Dot) (v : List ℕ)
+      → In vs (d, v) → is.of.at (place_of key field) d ≡ Some v
   stands key fs e field vs h d v i =
       let order = is.is_map.ordered key fs e in
       let at_field = found bytes_cmp tied_same (λ f. same_tied f f refl) fs field vs order.ordered h in
@@ -187,7 +198,8 @@ module _ (puts : List Write) (m : Held) (known : DotValue → Bool) (is : IsHeld
   part_named : (key : List ℕ) (fs : FieldsValue) → finite.get m key ≡ Some fs → EachNamed (IsNamed puts) (named_fields fs)
   part_named key fs e f h n i =
       let field = In-mapped (λ (x : List ℕ × ValuesValue). (x.0, named_values x.1)) fs f h in
-      let value = In-mapped (λ (x : DotValue × List ℕ). (x.0, sha256 x.1)) field.0.1 n (subst (λ (x : NamesValue). In x n) (sym (ap (λ (x : List ℕ × NamesValue). x.1) field.2)) i) in
+      let value = In-mapped (λ (x : DotValue × List ℕ). (x.0, sha256 x.1)) field.0.1 n
+      (subst (λ (x : NamesValue). In x n) (sym (ap (λ (x : List ℕ × NamesValue). x.1) field.2)) i) in
       subst (λ (x : DotValue × List ℕ). IsNamed puts x.0 x.1) value.2 (held_named key fs e field.0 field.1 value.0 value.1)
 
   pub page_named : (hash_of : List ℕ → ℕ) (p : List ℕ) (page : PageValue) → page_at hash_of m p ≡ Some page → EachEntry (IsNamed puts) (entries_of page)
@@ -200,7 +212,8 @@ module _ (puts : List Write) (m : Held) (known : DotValue → Bool) (is : IsHeld
       step (Parts less cs same are values) x h = absurd (subst (λ (y : PageValue). In (entries_of y) x) same h)
 
 -- two such maps have one value under a dot, unless values of theirs clash
-pub one_value : (puts : List Write) → AreOne puts → (own theirs : Held) (known context : DotValue → Bool) → IsHeldOf puts own known → IsHeldOf puts theirs context
+pub one_value : (puts : List Write) → AreOne puts → (own theirs : Held) (known context : DotValue → Bool) → IsHeldOf puts own known
+    → IsHeldOf puts theirs context
     → (hash_of : List ℕ → ℕ) (ts : List Taking) → NoClash hash_of own theirs ts → OneValue own theirs
 one_value puts one own theirs known context mine yours hash_of ts clean key gs e field vs h d o v held i =
     let a = mine.is_of.named (place_of key field) d o (sym (mine.is_map.at (place_of key field) d) ∙ held) in

@@ -35,7 +35,8 @@ pub counted : (P : Dot → Type 0) (ds : List Dot) (n : ℕ) → Counts P n → 
 counted P ds n c all =
     c.number
     ∙ length-from_keys same_dot_equivalence c.dots ds c.apart
-    (λ q. sym (has-is_member c.dots q) ∙ both_ways (has c.dots q) (has ds q) (λ h. (all q).1 ((c.just q).0 h)) (λ h. (c.just q).1 ((all q).0 h)) ∙ has-is_member ds q)
+    (λ q. sym (has-is_member c.dots q) ∙ both_ways (has c.dots q) (has ds q) (λ h. (all q).1 ((c.just q).0 h)) (λ h. (c.just q).1 ((all q).0 h))
+    ∙ has-is_member ds q)
 
 pub counts_one : (P : Dot → Type 0) (n m : ℕ) → Counts P n → Counts P m → n ≡ m
 counts_one P n m c d = counted P d.dots n c d.just ∙ sym (counted P d.dots m d d.just)

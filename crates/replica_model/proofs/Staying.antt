@@ -30,13 +30,15 @@ stays_without s os o h apart = in_filter (λ x. not (same_session x.session s)) 
 
 stays_advanced : (next : Open) (os : List Open) (o : Open) → Contains os o → (o.session ≡ next.session → ⊥) → Contains (advanced next os) o
 stays_advanced next os o h apart =
-    subst (λ b. Contains (advanced next os) (cond b next o)) (told_apart o.session next.session apart) (in_map (λ x. cond (same_session x.session next.session) next x) os o h)
+    subst (λ b. Contains (advanced next os) (cond b next o)) (told_apart o.session next.session apart)
+    (in_map (λ x. cond (same_session x.session next.session) next x) os o h)
 
 found_number : (os : List Open) (number : ℕ) (o : Open) → open_numbered os number ≡ Some o → o.session.number ≡ number
 found_number [] number o e = absurd cc
 found_number (x ∷ os) number o e = by (x.session.number == number) refl e (found_number os number o)
   where
-    by : (b : Bool) → (x.session.number == number) ≡ b → cond b (Some x) (open_numbered os number) ≡ Some o → (open_numbered os number ≡ Some o → o.session.number ≡ number) → o.session.number ≡ number
+    by : (b : Bool) → (x.session.number == number) ≡ b → cond b (Some x) (open_numbered os number) ≡ Some o
+        → (open_numbered os number ≡ Some o → o.session.number ≡ number) → o.session.number ≡ number
     by true same here rest = let one : x ≡ o = cc in ap (λ (y : Open). y.session.number) (sym one) ∙ eqb-true x.session.number number same
     by false other there rest = rest there
 
@@ -55,20 +57,26 @@ module _ (hash_of : List ℕ → ℕ) (own : Held) (r : Replica) (o : Open) (the
     kept = λ s seen here none _. there;
     gone = λ s p _. there;
     page = λ s p k page _. there;
-    opening_done = λ s c root x f found first took complete apart. stays_without x.session r.sessions o there (apart_from s x.session (found_open r.sessions s x found).1 apart);
-    opening_sent = λ s c root x f found first took apart. stays_advanced _ r.sessions o there (apart_from s x.session (found_open r.sessions s x found).1 apart);
-    page_done = λ s sent x a f found accepted took complete apart. stays_without x.session r.sessions o there (apart_from s x.session (found_open r.sessions s x found).1 apart);
-    page_sent = λ s sent x a f found accepted took apart. stays_advanced _ r.sessions o there (apart_from s x.session (found_open r.sessions s x found).1 apart);
+    opening_done = λ s c root x f found first took complete apart. stays_without x.session r.sessions o there
+        (apart_from s x.session (found_open r.sessions s x found).1 apart);
+    opening_sent = λ s c root x f found first took apart. stays_advanced _ r.sessions o there
+        (apart_from s x.session (found_open r.sessions s x found).1 apart);
+    page_done = λ s sent x a f found accepted took complete apart. stays_without x.session r.sessions o there
+        (apart_from s x.session (found_open r.sessions s x found).1 apart);
+    page_sent = λ s sent x a f found accepted took apart. stays_advanced _ r.sessions o there
+        (apart_from s x.session (found_open r.sessions s x found).1 apart);
     ended = λ s x found apart. stays_without x.session r.sessions o there (apart_from s x.session (found_open r.sessions s x found).1 apart);
   })
 
   same_sessions : (new changed : Replica) → new ≡ changed → Contains changed.sessions o → Contains new.sessions o
   same_sessions new changed is h = subst (λ (x : Replica). Contains x.sessions o) (sym is) h
 
-  abandon_leaves : (new : Replica) (number : ℕ) (x : Option Open) (answer : Answer) → open_numbered r.sessions number ≡ x → Abandons r x new answer → (number ≡ o.session.number → ⊥) → Contains new.sessions o
+  abandon_leaves : (new : Replica) (number : ℕ) (x : Option Open) (answer : Answer) → open_numbered r.sessions number ≡ x → Abandons r x new answer
+      → (number ≡ o.session.number → ⊥) → Contains new.sessions o
   abandon_leaves new number None answer e (n, a) apart = same_sessions new r n there
   abandon_leaves new number (Some x) answer e (n, a) apart =
-      same_sessions new _ n (stays_without x.session r.sessions o there (λ same. apart (sym (found_number r.sessions number x e) ∙ ap (λ (s : SessionValue). s.number) (sym same))))
+      same_sessions new _ n (stays_without x.session r.sessions o there
+      (λ same. apart (sym (found_number r.sessions number x e) ∙ ap (λ (s : SessionValue). s.number) (sym same))))
 
   call_leaves : (new : Replica) (c : Call) (answer : Answer) (out : List Mail) → IsCall r c new answer out → (IsOfOpen o (Do c) → ⊥) → Contains new.sessions o
   call_leaves new (Put place value) answer out (x, put, few, n, a, z) apart = same_sessions new _ n there
@@ -106,7 +114,8 @@ module _ (hash_of : List ℕ → ℕ) (own : Held) (r : Replica) (k : Kept) wher
     ended = λ s x found h. inl h;
   })
     where
-      by : (s : SessionValue) (seen : _) → kept_at r.kept s ≡ None → Contains r.kept k ⊎ (k ≡ snapshot own r s seen) → Contains r.kept k ⊎ IsNewFor r (Take (Hello s seen)) k
+      by : (s : SessionValue) (seen : _) → kept_at r.kept s ≡ None → Contains r.kept k ⊎ (k ≡ snapshot own r s seen) → Contains r.kept k
+          ⊎ IsNewFor r (Take (Hello s seen)) k
       by s seen none (inl h) = inl h
       by s seen none (inr e) = inr (ap (λ (x : Kept). x.session) e, none)
 
@@ -114,7 +123,8 @@ module _ (hash_of : List ℕ → ℕ) (own : Held) (r : Replica) (k : Kept) wher
 
 -- where one more is kept, each stays but the oldest of eight
 KeptOrOldest : List Kept → Kept → Kept → Type 0
-KeptOrOldest ks ninth k = Contains (keeping ninth ks) k ⊎ ((LIMIT ≤ length ks) × ((others : List Kept) × (ks ≡ k ∷ others) × (keeping ninth ks ≡ others ++ ninth ∷ [])))
+KeptOrOldest ks ninth k = Contains (keeping ninth ks) k
+    ⊎ ((LIMIT ≤ length ks) × ((others : List Kept) × (ks ≡ k ∷ others) × (keeping ninth ks ≡ others ++ ninth ∷ [])))
 
 kept_or_oldest : (ks : List Kept) (ninth k : Kept) → Contains ks k → KeptOrOldest ks ninth k
 unfolding KeptOrOldest
@@ -150,7 +160,8 @@ module _ (hash_of : List ℕ → ℕ) (own : Held) (r : Replica) (k : Kept) (the
       by : (s : SessionValue) (seen : _) → kept_at r.kept s ≡ None → KeptOrOldest r.kept (snapshot own r s seen) k
           → Contains (keeps r (snapshot own r s seen)).kept k ⊎ IsDropped r (keeps r (snapshot own r s seen)) (Take (Hello s seen)) k
       by s seen none (inl h) = inl h
-      by s seen none (inr (full, (others, oldest, newest))) = inr (record { full = full; others = others; oldest = oldest; ninth = snapshot own r s seen; is_new = (refl, none); newest = newest })
+      by s seen none (inr (full, (others, oldest, newest))) =
+          inr (record { full = full; others = others; oldest = oldest; ninth = snapshot own r s seen; is_new = (refl, none); newest = newest })
 
 pub snapshots_stay : SnapshotsStay
 snapshots_stay hash_of old new (Do c) answer out is k h = inl (call_kept old new c answer out is k h)

@@ -17,12 +17,15 @@ use Rattle.sync_model.specs.Fetch as fetch
 use Rattle.sync_model.specs.Laws.{Taking, Fetched}
 use Rattle.replica_model.specs.Mail.{Mail, Delta, Hello, Opening, Ask, Page, Gone}
 use Rattle.replica_model.specs.Replica.{Replica, Open, Accepted, Kept, open_at, kept_at, joins, advances, closes, keeps}
-use Rattle.replica_model.specs.Delivery.{Turn, turn, ignored, Joined, Sent, Done, Mismatch, Ended, asks_for, asks_of, fetching, opening_of, page_for, child_prefixes, delivered}
+use Rattle.replica_model.specs.Delivery.{Turn, turn, ignored, Joined, Sent, Done, Mismatch, Ended, asks_for, asks_of, fetching, opening_of, page_for}
+use Rattle.replica_model.specs.Delivery.{child_prefixes, delivered}
 use Rattle.replica_model.specs.World.{World, Snapshot, changed, first_kept, takes, taking_of, snapshot_with, map_of_kept}
-use Rattle.replica_model.proofs.Found.{askers_apart, answerers_apart, found_open, found_kept, none_kept, in_advanced, in_without, in_one, in_keeping, kept_new, changed_here, changed_elsewhere, changed_to_same}
+use Rattle.replica_model.proofs.Found.{askers_apart, answerers_apart, found_open, found_kept, none_kept, in_advanced, in_without, in_one, in_keeping, kept_new}
+use Rattle.replica_model.proofs.Found.{changed_here, changed_elsewhere, changed_to_same}
 use Rattle.replica_model.proofs.Rows.{snapshot, each_row}
 
-module _ (hash_of : List ℕ → ℕ) (Snap : SessionValue → List Operation → Held → (DotValue → Bool) → Type 0) (Asked : ℕ → SessionValue → Held → (DotValue → Bool) → Type 0) (Sends : MapState → List Operation → Type 0) where
+module _ (hash_of : List ℕ → ℕ) (Snap : SessionValue → List Operation → Held → (DotValue → Bool) → Type 0)
+    (Asked : ℕ → SessionValue → Held → (DotValue → Bool) → Type 0) (Sends : MapState → List Operation → Type 0) where
   pub record KeptTie (kept : SessionValue → List Operation) (name : ℕ) (k : Kept) : Type 0 where
     pub answerer : k.session.answerer ≡ name
     pub snap : Snap k.session (kept k.session) k.map k.context
@@ -59,7 +62,8 @@ module _ (hash_of : List ℕ → ℕ) (Snap : SessionValue → List Operation �
   kept_stays : (f g : SessionValue → List Operation) (name : ℕ) (k : Kept) → g k.session ≡ f k.session → KeptTie f name k → KeptTie g name k
   kept_stays f g name k e t = record { answerer = t.answerer; snap = subst (λ S. Snap k.session S k.map k.context) (sym e) t.snap }
 
-  open_stays : (a b : SessionValue → Snapshot) (t u : SessionValue → List Taking) (name : ℕ) (o : Open) → b o.session ≡ a o.session → u o.session ≡ t o.session → SessionTie a t name o → SessionTie b u name o
+  open_stays : (a b : SessionValue → Snapshot) (t u : SessionValue → List Taking) (name : ℕ) (o : Open) → b o.session ≡ a o.session → u o.session ≡ t o.session
+      → SessionTie a t name o → SessionTie b u name o
   open_stays a b t u name o e f tie = record {
     asker = tie.asker;
     asked = tie.asked;
@@ -70,7 +74,8 @@ module _ (hash_of : List ℕ → ℕ) (Snap : SessionValue → List Operation �
     );
   }
 
-  module _ (w : World) (name : ℕ) (named : (w.replica name).name ≡ name) (kept : (n : ℕ) → AllKept w.kept n (w.replica n)) (open_ones : (n : ℕ) → AllOpen w.accepted w.taken n (w.replica n))
+  module _ (w : World) (name : ℕ) (named : (w.replica name).name ≡ name) (kept : (n : ℕ) → AllKept w.kept n (w.replica n))
+      (open_ones : (n : ℕ) → AllOpen w.accepted w.taken n (w.replica n))
       (own : Held) where
     abbrev pub r : Replica
     r = w.replica name
@@ -81,12 +86,14 @@ module _ (hash_of : List ℕ → ℕ) (Snap : SessionValue → List Operation �
       pub kept_here : AllKept (takes name (w.replica name) mail of t.outcome w).kept name t.new
       pub kept_there : (n : ℕ) → n ≢ name → AllKept (takes name (w.replica name) mail of t.outcome w).kept n (w.replica n)
       pub open_here : AllOpen (takes name (w.replica name) mail of t.outcome w).accepted (takes name (w.replica name) mail of t.outcome w).taken name t.new
-      pub open_there : (n : ℕ) → n ≢ name → AllOpen (takes name (w.replica name) mail of t.outcome w).accepted (takes name (w.replica name) mail of t.outcome w).taken n (w.replica n)
+      pub open_there : (n : ℕ) → n ≢ name → AllOpen (takes name (w.replica name) mail of t.outcome w).accepted
+          (takes name (w.replica name) mail of t.outcome w).taken n (w.replica n)
       pub replies : AllSent [] (takes name (w.replica name) mail of t.outcome w).kept t.new.kept t.replies
 
     -- where the message is the hello of a session for this replica, which keeps none for it, what the replica is now is a snapshot for it
     abbrev pub IsFresh : Mail → Type 0
-    IsFresh mail = (s : SessionValue) (seen : DotValue → Bool) → mail ≡ Hello s seen → s.answerer ≡ name → kept_at (w.replica name).kept s ≡ None → Snap s (w.seen name) own (w.replica name).live.has
+    IsFresh mail = (s : SessionValue) (seen : DotValue → Bool) → mail ≡ Hello s seen → s.answerer ≡ name → kept_at (w.replica name).kept s ≡ None
+        → Snap s (w.seen name) own (w.replica name).live.has
 
     abbrev pub Holds : Mail → Turn → Type 0
     Holds mail t = (of : Snapshot) → MailTie mail of → IsFresh mail → GoesOn mail of t
@@ -95,56 +102,188 @@ module _ (hash_of : List ℕ → ℕ) (Snap : SessionValue → List Operation �
     nothing_sent f ks mail h = nothing_in mail h
 
     unmoved : (mail : Mail) (of : Snapshot) → GoesOn mail of (ignored r)
-    unmoved (Delta d) of = record { name_stays = named; kept_here = kept name; kept_there = λ n a. kept n; open_here = open_ones name; open_there = λ n a. open_ones n; replies = nothing_sent w.kept r.kept }
-    unmoved (Hello s seen) of = record { name_stays = named; kept_here = kept name; kept_there = λ n a. kept n; open_here = open_ones name; open_there = λ n a. open_ones n; replies = nothing_sent w.kept r.kept }
-    unmoved (Opening s c root) of = record { name_stays = named; kept_here = kept name; kept_there = λ n a. kept n; open_here = open_ones name; open_there = λ n a. open_ones n; replies = nothing_sent w.kept r.kept }
-    unmoved (Ask s p) of = record { name_stays = named; kept_here = kept name; kept_there = λ n a. kept n; open_here = open_ones name; open_there = λ n a. open_ones n; replies = nothing_sent w.kept r.kept }
-    unmoved (Page s p) of = record { name_stays = named; kept_here = kept name; kept_there = λ n a. kept n; open_here = open_ones name; open_there = λ n a. open_ones n; replies = nothing_sent w.kept r.kept }
-    unmoved (Gone s) of = record { name_stays = named; kept_here = kept name; kept_there = λ n a. kept n; open_here = open_ones name; open_there = λ n a. open_ones n; replies = nothing_sent w.kept r.kept }
+    unmoved (Delta d) of = record {
+      name_stays = named;
+      kept_here = kept name;
+      kept_there = λ n a. kept n;
+      open_here = open_ones name;
+      open_there = λ n a. open_ones n;
+      replies = nothing_sent w.kept r.kept;
+    }
+    unmoved (Hello s seen) of = record {
+      name_stays = named;
+      kept_here = kept name;
+      kept_there = λ n a. kept n;
+      open_here = open_ones name;
+      open_there = λ n a. open_ones n;
+      replies = nothing_sent w.kept r.kept;
+    }
+    unmoved (Opening s c root) of = record {
+      name_stays = named;
+      kept_here = kept name;
+      kept_there = λ n a. kept n;
+      open_here = open_ones name;
+      open_there = λ n a. open_ones n;
+      replies = nothing_sent w.kept r.kept;
+    }
+    unmoved (Ask s p) of = record {
+      name_stays = named;
+      kept_here = kept name;
+      kept_there = λ n a. kept n;
+      open_here = open_ones name;
+      open_there = λ n a. open_ones n;
+      replies = nothing_sent w.kept r.kept;
+    }
+    unmoved (Page s p) of = record {
+      name_stays = named;
+      kept_here = kept name;
+      kept_there = λ n a. kept n;
+      open_here = open_ones name;
+      open_there = λ n a. open_ones n;
+      replies = nothing_sent w.kept r.kept;
+    }
+    unmoved (Gone s) of = record {
+      name_stays = named;
+      kept_here = kept name;
+      kept_there = λ n a. kept n;
+      open_here = open_ones name;
+      open_there = λ n a. open_ones n;
+      replies = nothing_sent w.kept r.kept;
+    }
 
     mismatched : (mail : Mail) (of : Snapshot) → GoesOn mail of (turn r Mismatch [])
-    mismatched (Delta d) of = record { name_stays = named; kept_here = kept name; kept_there = λ n a. kept n; open_here = open_ones name; open_there = λ n a. open_ones n; replies = nothing_sent w.kept r.kept }
-    mismatched (Hello s seen) of = record { name_stays = named; kept_here = kept name; kept_there = λ n a. kept n; open_here = open_ones name; open_there = λ n a. open_ones n; replies = nothing_sent w.kept r.kept }
-    mismatched (Opening s c root) of = record { name_stays = named; kept_here = kept name; kept_there = λ n a. kept n; open_here = open_ones name; open_there = λ n a. open_ones n; replies = nothing_sent w.kept r.kept }
-    mismatched (Ask s p) of = record { name_stays = named; kept_here = kept name; kept_there = λ n a. kept n; open_here = open_ones name; open_there = λ n a. open_ones n; replies = nothing_sent w.kept r.kept }
-    mismatched (Page s p) of = record { name_stays = named; kept_here = kept name; kept_there = λ n a. kept n; open_here = open_ones name; open_there = λ n a. open_ones n; replies = nothing_sent w.kept r.kept }
-    mismatched (Gone s) of = record { name_stays = named; kept_here = kept name; kept_there = λ n a. kept n; open_here = open_ones name; open_there = λ n a. open_ones n; replies = nothing_sent w.kept r.kept }
+    mismatched (Delta d) of = record {
+      name_stays = named;
+      kept_here = kept name;
+      kept_there = λ n a. kept n;
+      open_here = open_ones name;
+      open_there = λ n a. open_ones n;
+      replies = nothing_sent w.kept r.kept;
+    }
+    mismatched (Hello s seen) of = record {
+      name_stays = named;
+      kept_here = kept name;
+      kept_there = λ n a. kept n;
+      open_here = open_ones name;
+      open_there = λ n a. open_ones n;
+      replies = nothing_sent w.kept r.kept;
+    }
+    mismatched (Opening s c root) of = record {
+      name_stays = named;
+      kept_here = kept name;
+      kept_there = λ n a. kept n;
+      open_here = open_ones name;
+      open_there = λ n a. open_ones n;
+      replies = nothing_sent w.kept r.kept;
+    }
+    mismatched (Ask s p) of = record {
+      name_stays = named;
+      kept_here = kept name;
+      kept_there = λ n a. kept n;
+      open_here = open_ones name;
+      open_there = λ n a. open_ones n;
+      replies = nothing_sent w.kept r.kept;
+    }
+    mismatched (Page s p) of = record {
+      name_stays = named;
+      kept_here = kept name;
+      kept_there = λ n a. kept n;
+      open_here = open_ones name;
+      open_there = λ n a. open_ones n;
+      replies = nothing_sent w.kept r.kept;
+    }
+    mismatched (Gone s) of = record {
+      name_stays = named;
+      kept_here = kept name;
+      kept_there = λ n a. kept n;
+      open_here = open_ones name;
+      open_there = λ n a. open_ones n;
+      replies = nothing_sent w.kept r.kept;
+    }
 
     -- a delta, an ask that is answered, and a session that closes
     joined : (d : MapState) (of : Snapshot) → GoesOn (Delta d) of (turn (joins r d) Joined [])
-    joined d of = record { name_stays = named; kept_here = kept name; kept_there = λ n a. kept n; open_here = open_ones name; open_there = λ n a. open_ones n; replies = nothing_sent w.kept r.kept }
+    joined d of = record {
+      name_stays = named;
+      kept_here = kept name;
+      kept_there = λ n a. kept n;
+      open_here = open_ones name;
+      open_there = λ n a. open_ones n;
+      replies = nothing_sent w.kept r.kept;
+    }
 
     no_tie : (f : SessionValue → List Operation) (ks : List Kept) (x : Mail) → MailTie x (snapshot_with [] f ks x) → AllSent [] f ks (x ∷ [])
     no_tie f ks x tie mail h = subst (λ y. MailTie y (snapshot_with [] f ks y)) (sym (in_one x mail h)) tie
 
     told_gone : (s : SessionValue) (p : List ℕ) (of : Snapshot) → GoesOn (Ask s p) of (turn r Sent (Gone s ∷ []))
-    told_gone s p of = record { name_stays = named; kept_here = kept name; kept_there = λ n a. kept n; open_here = open_ones name; open_there = λ n a. open_ones n; replies = no_tie w.kept r.kept (Gone s) tt }
+    told_gone s p of = record {
+      name_stays = named;
+      kept_here = kept name;
+      kept_there = λ n a. kept n;
+      open_here = open_ones name;
+      open_there = λ n a. open_ones n;
+      replies = no_tie w.kept r.kept (Gone s) tt;
+    }
 
-    told_page : (s : SessionValue) (p : List ℕ) (k : Kept) (page : PageValue) (of : Snapshot) → GoesOn (Ask s p) of (turn r Sent (page_for hash_of s k p page ∷ []))
-    told_page s p k page of = record { name_stays = named; kept_here = kept name; kept_there = λ n a. kept n; open_here = open_ones name; open_there = λ n a. open_ones n; replies = no_tie w.kept r.kept (page_for hash_of s k p page) tt }
+    told_page : (s : SessionValue) (p : List ℕ) (k : Kept) (page : PageValue) (of : Snapshot)
+        → GoesOn (Ask s p) of (turn r Sent (page_for hash_of s k p page ∷ []))
+    told_page s p k page of = record {
+      name_stays = named;
+      kept_here = kept name;
+      kept_there = λ n a. kept n;
+      open_here = open_ones name;
+      open_there = λ n a. open_ones n;
+      replies = no_tie w.kept r.kept (page_for hash_of s k p page) tt;
+    }
 
     open_left : (s : SessionValue) (o : Open) → Contains (closes r s).sessions o → SessionTie w.accepted w.taken name o
     open_left s o h = open_ones name o (in_without s r.sessions o h)
 
-    opening_closes : (s : SessionValue) (c : DotValue → Bool) (root : Option (List ℕ)) (o : Open) (f : Fetch) (of : Snapshot) → GoesOn (Opening s c root) of (turn (closes (joins r (held_state f.built c)) o.session) Done [])
-    opening_closes s c root o f of = record { name_stays = named; kept_here = kept name; kept_there = λ n a. kept n; open_here = open_left o.session; open_there = λ n a. open_ones n; replies = nothing_sent w.kept r.kept }
+    opening_closes : (s : SessionValue) (c : DotValue → Bool) (root : Option (List ℕ)) (o : Open) (f : Fetch) (of : Snapshot)
+        → GoesOn (Opening s c root) of (turn (closes (joins r (held_state f.built c)) o.session) Done [])
+    opening_closes s c root o f of = record {
+      name_stays = named;
+      kept_here = kept name;
+      kept_there = λ n a. kept n;
+      open_here = open_left o.session;
+      open_there = λ n a. open_ones n;
+      replies = nothing_sent w.kept r.kept;
+    }
 
-    page_closes : (s : SessionValue) (sent : SentValue) (o : Open) (a : Accepted) (f : Fetch) (of : Snapshot) → GoesOn (Page s sent) of (turn (closes (joins r (held_state f.built a.context)) o.session) Done [])
-    page_closes s sent o a f of = record { name_stays = named; kept_here = kept name; kept_there = λ n a. kept n; open_here = open_left o.session; open_there = λ n a. open_ones n; replies = nothing_sent w.kept r.kept }
+    page_closes : (s : SessionValue) (sent : SentValue) (o : Open) (a : Accepted) (f : Fetch) (of : Snapshot)
+        → GoesOn (Page s sent) of (turn (closes (joins r (held_state f.built a.context)) o.session) Done [])
+    page_closes s sent o a f of = record {
+      name_stays = named;
+      kept_here = kept name;
+      kept_there = λ n a. kept n;
+      open_here = open_left o.session;
+      open_there = λ n a. open_ones n;
+      replies = nothing_sent w.kept r.kept;
+    }
 
     gone_closes : (s : SessionValue) (o : Open) (of : Snapshot) → GoesOn (Gone s) of (turn (closes r o.session) Ended [])
-    gone_closes s o of = record { name_stays = named; kept_here = kept name; kept_there = λ n a. kept n; open_here = open_left o.session; open_there = λ n a. open_ones n; replies = nothing_sent w.kept r.kept }
+    gone_closes s o of = record {
+      name_stays = named;
+      kept_here = kept name;
+      kept_there = λ n a. kept n;
+      open_here = open_left o.session;
+      open_there = λ n a. open_ones n;
+      replies = nothing_sent w.kept r.kept;
+    }
 
     -- a hello
-    opening_tie : (f : SessionValue → List Operation) (ks : List Kept) (k : Kept) → kept_at ks k.session ≡ Some k → Snap k.session (f k.session) k.map k.context → MailTie (opening_of hash_of k) (snapshot_with [] f ks (opening_of hash_of k))
+    opening_tie : (f : SessionValue → List Operation) (ks : List Kept) (k : Kept) → kept_at ks k.session ≡ Some k → Snap k.session (f k.session) k.map k.context
+        → MailTie (opening_of hash_of k) (snapshot_with [] f ks (opening_of hash_of k))
     opening_tie f ks k e snap =
         let same : k.map ≡ map_of_kept (kept_at ks k.session) = sym (ap map_of_kept e) in
         (subst (λ m. Snap k.session (f k.session) m k.context) same snap, ap (λ m. digest_at hash_of m []) same)
 
-    hello_again : (s : SessionValue) (seen : DotValue → Bool) (k : Kept) → kept_at r.kept s ≡ Some k → (of : Snapshot) → GoesOn (Hello s seen) of (turn r Sent (opening_of hash_of k ∷ []))
+    hello_again : (s : SessionValue) (seen : DotValue → Bool) (k : Kept) → kept_at r.kept s ≡ Some k → (of : Snapshot)
+        → GoesOn (Hello s seen) of (turn r Sent (opening_of hash_of k ∷ []))
     hello_again s seen k e of =
         let x = first_kept (kept_at r.kept s) (w.kept s) (w.seen name) in
-        let stays : (t : SessionValue) → changed w.kept s x t ≡ w.kept t = changed_to_same w.kept s x (sym (ap (λ o. first_kept o (w.kept s) (w.seen name)) e)) in
+        let stays : (t : SessionValue) → changed w.kept s x t ≡ w.kept t =
+        changed_to_same w.kept s x (sym (ap (λ o. first_kept o (w.kept s) (w.seen name)) e)) in
         let found = found_kept r.kept s k e in
         record {
           name_stays = named;
@@ -153,7 +292,8 @@ module _ (hash_of : List ℕ → ℕ) (Snap : SessionValue → List Operation �
           open_here = open_ones name;
           open_there = λ n a. open_ones n;
           replies = no_tie (changed w.kept s x) r.kept (opening_of hash_of k)
-              (opening_tie (changed w.kept s x) r.kept k (ap (kept_at r.kept) found.1 ∙ e) (kept_stays w.kept (changed w.kept s x) name k (stays k.session) (kept name k found.0)).snap);
+              (opening_tie (changed w.kept s x) r.kept k (ap (kept_at r.kept) found.1 ∙ e)
+              (kept_stays w.kept (changed w.kept s x) name k (stays k.session) (kept name k found.0)).snap);
         }
 
     hello_kept : (s : SessionValue) (seen : DotValue → Bool) → s.answerer ≡ r.name → kept_at r.kept s ≡ None → IsFresh (Hello s seen) → (of : Snapshot) →
@@ -172,11 +312,14 @@ module _ (hash_of : List ℕ → ℕ) (Snap : SessionValue → List Operation �
               (changed_elsewhere w.kept s x j.session (answerers_apart j.session s (λ e. a (sym (kept n j h).answerer ∙ e ∙ here ∙ named)))) (kept n j h);
           open_here = open_ones name;
           open_there = λ n a. open_ones n;
-          replies = no_tie (changed w.kept s x) (keeps r k).kept (opening_of hash_of k) (opening_tie (changed w.kept s x) (keeps r k).kept k (kept_new r.kept k s none refl) snap);
+          replies = no_tie (changed w.kept s x) (keeps r k).kept (opening_of hash_of k)
+              (opening_tie (changed w.kept s x) (keeps r k).kept k (kept_new r.kept k s none refl) snap);
         }
       where
-        old_or_new : (x : List Operation) (k : Kept) → KeptTie (changed w.kept s x) name k → (j : Kept) → kept_at r.kept s ≡ None → Contains r.kept j ⊎ (j ≡ k) → KeptTie (changed w.kept s x) name j
-        old_or_new x k tie j e (inl there) = kept_stays w.kept (changed w.kept s x) name j (changed_elsewhere w.kept s x j.session (none_kept r.kept s j e there)) (kept name j there)
+        old_or_new : (x : List Operation) (k : Kept) → KeptTie (changed w.kept s x) name k → (j : Kept) → kept_at r.kept s ≡ None → Contains r.kept j ⊎ (j ≡ k)
+            → KeptTie (changed w.kept s x) name j
+        old_or_new x k tie j e (inl there) = kept_stays w.kept (changed w.kept s x) name j
+            (changed_elsewhere w.kept s x j.session (none_kept r.kept s j e there)) (kept name j there)
         old_or_new x k tie j e (inr new) = subst (KeptTie (changed w.kept s x) name) (sym new) tie
 
     -- a session that goes on
@@ -189,7 +332,8 @@ module _ (hash_of : List ℕ → ℕ) (Snap : SessionValue → List Operation �
     accepted_is a x P e p = let one : a ≡ x = cc in subst P one p
 
     opening_goes : (s : SessionValue) (c : DotValue → Bool) (root : Option (List ℕ)) (o : Open) (f : Fetch) → open_at r.sessions s ≡ Some o →
-        take_opening hash_of o.own o.seen c root ≡ fetch.Took f → (of : Snapshot) → MailTie (Opening s c root) of → GoesOn (Opening s c root) of (turn (advances r (fetching o c f)) Sent (asks_of o.session f))
+        take_opening hash_of o.own o.seen c root ≡ fetch.Took f → (of : Snapshot) → MailTie (Opening s c root) of
+        → GoesOn (Opening s c root) of (turn (advances r (fetching o c f)) Sent (asks_of o.session f))
     opening_goes s c root o f there took of tie =
         let found = found_open r.sessions s o there in
         let old = open_ones name o found.0 in
@@ -203,11 +347,13 @@ module _ (hash_of : List ℕ → ℕ) (Snap : SessionValue → List Operation �
         subst (λ (x : Snapshot). Snap o.session x.seen x.map c) (sym now) (subst (λ u. Snap u of.seen of.map c) (sym found.1) tie.0) in
         let got : Fetched hash_of o.own o.seen c (digest_at hash_of (a2 o.session).map []) (t2 o.session) f =
         subst (λ (x : Snapshot). Fetched hash_of o.own o.seen c (digest_at hash_of x.map []) (t2 o.session) f) (sym now)
-        (subst (λ ts. Fetched hash_of o.own o.seen c (digest_at hash_of of.map []) ts f) (sym none) (subst (λ d. take_opening hash_of o.own o.seen c d ≡ fetch.Took f) tie.1 took)) in
+        (subst (λ ts. Fetched hash_of o.own o.seen c (digest_at hash_of of.map []) ts f) (sym none)
+        (subst (λ d. take_opening hash_of o.own o.seen c d ≡ fetch.Took f) tie.1 took)) in
         let tied : SessionTie a2 t2 name next = record {
           asker = old.asker;
           asked = old.asked;
-          fetched = λ x is. accepted_is a x (λ y. Snap o.session (a2 o.session).seen (a2 o.session).map y.context × Fetched hash_of o.own o.seen y.context (digest_at hash_of (a2 o.session).map []) (t2 o.session) y.fetch) is (snap, got);
+          fetched = λ x is. accepted_is a x (λ y. Snap o.session (a2 o.session).seen (a2 o.session).map y.context
+              × Fetched hash_of o.own o.seen y.context (digest_at hash_of (a2 o.session).map []) (t2 o.session) y.fetch) is (snap, got);
         } in
         record {
           name_stays = named;
@@ -221,17 +367,21 @@ module _ (hash_of : List ℕ → ℕ) (Snap : SessionValue → List Operation �
         asks_tie : (g : SessionValue → List Operation) (ks : List Kept) (u : SessionValue) (f : Fetch) → AllSent [] g ks (asks_of u f)
         asks_tie g ks u f mail h = ask_tie g ks u _ mail h
 
-        went : (next : Open) → SessionTie (changed w.accepted s of) (changed w.taken s []) name next → (x : Open) → (x ≡ next) ⊎ (Contains r.sessions x × (same_session x.session next.session ≡ false)) →
+        went : (next : Open) → SessionTie (changed w.accepted s of) (changed w.taken s []) name next → (x : Open) → (x ≡ next)
+            ⊎ (Contains r.sessions x × (same_session x.session next.session ≡ false)) →
             same_session x.session next.session ≡ same_session x.session s → SessionTie (changed w.accepted s of) (changed w.taken s []) name x
         went next tied x (inl e) same = subst (SessionTie (changed w.accepted s of) (changed w.taken s []) name) (sym e) tied
         went next tied x (inr (there, apart)) same =
             let off : same_session x.session s ≡ false = sym same ∙ apart in
-            open_stays w.accepted (changed w.accepted s of) w.taken (changed w.taken s []) name x (changed_elsewhere w.accepted s of x.session off) (changed_elsewhere w.taken s [] x.session off) (open_ones name x there)
+            open_stays w.accepted (changed w.accepted s of) w.taken (changed w.taken s []) name x (changed_elsewhere w.accepted s of x.session off)
+            (changed_elsewhere w.taken s [] x.session off) (open_ones name x there)
 
-        other : (x : Open) (n : ℕ) → n ≢ name → SessionTie w.accepted w.taken n x → s.asker ≡ name → SessionTie (changed w.accepted s of) (changed w.taken s []) n x
+        other : (x : Open) (n : ℕ) → n ≢ name → SessionTie w.accepted w.taken n x → s.asker ≡ name
+            → SessionTie (changed w.accepted s of) (changed w.taken s []) n x
         other x n apart tie here =
             let off : same_session x.session s ≡ false = askers_apart x.session s (λ e. apart (sym tie.asker ∙ e ∙ here)) in
-            open_stays w.accepted (changed w.accepted s of) w.taken (changed w.taken s []) n x (changed_elsewhere w.accepted s of x.session off) (changed_elsewhere w.taken s [] x.session off) tie
+            open_stays w.accepted (changed w.accepted s of) w.taken (changed w.taken s []) n x (changed_elsewhere w.accepted s of x.session off)
+            (changed_elsewhere w.taken s [] x.session off) tie
 
     page_goes : (s : SessionValue) (sent : SentValue) (o : Open) (a : Accepted) (f : Fetch) → open_at r.sessions s ≡ Some o → o.accepted ≡ Some a →
         take_page hash_of o.own o.seen a.context a.fetch sent.prefix sent.page sent.values ≡ fetch.Took f → (of : Snapshot) →
@@ -252,7 +402,8 @@ module _ (hash_of : List ℕ → ℕ) (Snap : SessionValue → List Operation �
         let tied : SessionTie w.accepted t2 name next = record {
           asker = old.asker;
           asked = old.asked;
-          fetched = λ x is. accepted_is b x (λ y. Snap o.session (w.accepted o.session).seen (w.accepted o.session).map y.context × Fetched hash_of o.own o.seen y.context (digest_at hash_of (w.accepted o.session).map []) (t2 o.session) y.fetch) is (taken_before.0, got);
+          fetched = λ x is. accepted_is b x (λ y. Snap o.session (w.accepted o.session).seen (w.accepted o.session).map y.context
+              × Fetched hash_of o.own o.seen y.context (digest_at hash_of (w.accepted o.session).map []) (t2 o.session) y.fetch) is (taken_before.0, got);
         } in
         record {
           name_stays = named;
@@ -263,17 +414,21 @@ module _ (hash_of : List ℕ → ℕ) (Snap : SessionValue → List Operation �
           replies = ask_tie w.kept r.kept o.session (child_prefixes hash_of o sent);
         }
       where
-        went : (next : Open) → SessionTie w.accepted (changed w.taken s (taking_of sent ∷ w.taken s)) name next → (x : Open) → (x ≡ next) ⊎ (Contains r.sessions x × (same_session x.session next.session ≡ false)) →
+        went : (next : Open) → SessionTie w.accepted (changed w.taken s (taking_of sent ∷ w.taken s)) name next → (x : Open) → (x ≡ next)
+            ⊎ (Contains r.sessions x × (same_session x.session next.session ≡ false)) →
             same_session x.session next.session ≡ same_session x.session s → SessionTie w.accepted (changed w.taken s (taking_of sent ∷ w.taken s)) name x
         went next tied x (inl e) same = subst (SessionTie w.accepted (changed w.taken s (taking_of sent ∷ w.taken s)) name) (sym e) tied
         went next tied x (inr (there, apart)) same =
             let off : same_session x.session s ≡ false = sym same ∙ apart in
-            open_stays w.accepted w.accepted w.taken (changed w.taken s (taking_of sent ∷ w.taken s)) name x refl (changed_elsewhere w.taken s (taking_of sent ∷ w.taken s) x.session off) (open_ones name x there)
+            open_stays w.accepted w.accepted w.taken (changed w.taken s (taking_of sent ∷ w.taken s)) name x refl
+            (changed_elsewhere w.taken s (taking_of sent ∷ w.taken s) x.session off) (open_ones name x there)
 
-        other : (x : Open) (n : ℕ) → n ≢ name → SessionTie w.accepted w.taken n x → s.asker ≡ name → SessionTie w.accepted (changed w.taken s (taking_of sent ∷ w.taken s)) n x
+        other : (x : Open) (n : ℕ) → n ≢ name → SessionTie w.accepted w.taken n x → s.asker ≡ name
+            → SessionTie w.accepted (changed w.taken s (taking_of sent ∷ w.taken s)) n x
         other x n apart tie here =
             let off : same_session x.session s ≡ false = askers_apart x.session s (λ e. apart (sym tie.asker ∙ e ∙ here)) in
-            open_stays w.accepted w.accepted w.taken (changed w.taken s (taking_of sent ∷ w.taken s)) n x refl (changed_elsewhere w.taken s (taking_of sent ∷ w.taken s) x.session off) tie
+            open_stays w.accepted w.accepted w.taken (changed w.taken s (taking_of sent ∷ w.taken s)) n x refl
+            (changed_elsewhere w.taken s (taking_of sent ∷ w.taken s) x.session off) tie
 
     -- so does each delivery
     pub delivery_goes : (mail : Mail) (of : Snapshot) → MailTie mail of → IsFresh mail → GoesOn mail of (delivered hash_of own r mail)

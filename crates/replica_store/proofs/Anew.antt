@@ -20,7 +20,8 @@ module _ (xs ys : List (List ℕ)) (r : Replica) (a b c : List ℕ) (is : IsRebu
   -- with the three beside the others
   all : IsRebuilt (a ∷ b ∷ c ∷ xs) r
   all =
-      let one : IsRebuilt (c ∷ xs) r = subst (λ live. IsRebuilt (c ∷ xs) (record r { live = live })) (join_above r.live r.live (below_itself r.live)) (rebuilt_delta c xs r r.live told.changed is) in
+      let one : IsRebuilt (c ∷ xs) r = subst (λ live. IsRebuilt (c ∷ xs) (record r { live = live })) (join_above r.live r.live (below_itself r.live))
+      (rebuilt_delta c xs r r.live told.changed is) in
       let two : IsRebuilt (b ∷ c ∷ xs) r = rebuilt_number b (c ∷ xs) r r.opened told.opened (omega arith) one in
       rebuilt_name a (b ∷ c ∷ xs) r told.named two
 

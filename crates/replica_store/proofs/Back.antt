@@ -12,7 +12,8 @@ use Rattle.replica_store.specs.Rebuilt.{IsRebuilt, IsKeptAs}
 use Rattle.replica_store.specs.Reading.{IsTold, HasJoined}
 use Rattle.replica_store.proofs.Rebuilt.{nothing_below, rebuilt_any, rebuilt_first}
 
-pub rebuilt_from : (ss : List (List ℕ)) (name number : ℕ) (first new : Replica) → IsTold name ss true number → first ≡ record (fresh name) { opened = number } → HasJoined ss first new → IsRebuilt ss new
+pub rebuilt_from : (ss : List (List ℕ)) (name number : ℕ) (first new : Replica) → IsTold name ss true number → first ≡ record (fresh name) { opened = number }
+    → HasJoined ss first new → IsRebuilt ss new
 rebuilt_from ss name number first new told begins joined =
     let r : Replica = record (fresh name) { live = new.live; opened = number } in
     let is : new ≡ r = joined.rest ∙ ap (λ (f : Replica). record f { live = new.live }) begins in
@@ -43,7 +44,8 @@ kept_as held found r moved is = inl (rebuilt_any found held r (IsPermutation-sym
 
 pub keeps_as : (old new : Trees) (found : List (List ℕ)) (r : Replica) → IsPermutation (strings old) found → new ≡ old → IsRebuilt found r → Keeps new r
 keeps_as old new found r moved same is =
-    let there : IsRebuilt (strings new) r = subst (λ db. IsRebuilt (strings db) r) (sym same) (rebuilt_any found (strings old) r (IsPermutation-sym (strings old) found moved) is) in
+    let there : IsRebuilt (strings new) r = subst (λ db. IsRebuilt (strings db) r) (sym same)
+    (rebuilt_any found (strings old) r (IsPermutation-sym (strings old) found moved) is) in
     subst (IsRebuilt (strings new)) (sym (restarts_rebuilt (strings new) r there)) there
 
 -- with no string yet
@@ -62,5 +64,6 @@ fresh_as held name r none is = inr (none, is ∙ ap fresh (sym (ap (λ (f : Repl
 pub fresh_kept : (first old new : Trees) (name : ℕ) (r : Replica) → strings first ≡ [] → old ≡ first → GainsName old new name → r ≡ fresh name → Keeps new r
 fresh_kept first old new name r none same gains is =
     let held : strings old ≡ [] = ap strings same ∙ none in
-    let there : IsRebuilt (strings new) (fresh name) = rebuilt_any (gains.0 ∷ []) (strings new) (fresh name) (subst (λ ss. IsPermutation (gains.0 ∷ ss) (strings new)) held gains.2) (rebuilt_first gains.0 name gains.1) in
+    let there : IsRebuilt (strings new) (fresh name) = rebuilt_any (gains.0 ∷ []) (strings new) (fresh name)
+    (subst (λ ss. IsPermutation (gains.0 ∷ ss) (strings new)) held gains.2) (rebuilt_first gains.0 name gains.1) in
     subst (λ (x : Replica). IsRebuilt (strings new) (restarts x)) (sym is) there

@@ -1,5 +1,6 @@
 -- What an own write and the flush of it come to.
-use Rattle.std.proofs.Common.{◌≡◌, ◌⊎◌, inl, inr, ℕ, ◌≤◌, Bool, true, false, ◌||◌, Option, Some, None, List, [], ◌∷◌, ◌++◌, map, refl, sym, ap, subst, ◌∙◌, arith}
+use Rattle.std.proofs.Common.{◌≡◌, ◌⊎◌, inl, inr, ℕ, ◌≤◌, Bool, true, false, ◌||◌, Option, Some, None, List, [], ◌∷◌, ◌++◌, map, refl, sym, ap, subst, ◌∙◌}
+use Rattle.std.proofs.Common.{arith}
 use Rattle.causal_context.specs.Context.{HasNone}
 use Rattle.causal_join.specs.OrMap.{OrMapValue, or_map_at, or_map_state, path_of}
 use Rattle.dot_store.specs.Store.{HasNothing}
@@ -11,7 +12,8 @@ use Rattle.op_model.specs.State.{Same, join, joined}
 use Rattle.op_model.proofs.Dots.{same_dot-self}
 use Rattle.replica_model.specs.Mail.{Mail, Delta}
 use Rattle.replica_model.specs.Replica.{Replica, makes, flushed, restarts}
-use Rattle.replica_model.specs.Step.{Call, Put, Remove, RemoveField, Clear, Flush, Ask, Retry, Abandon, Restart, Do, Answer, Nothing, KnowsNone, Removes, IsCall}
+use Rattle.replica_model.specs.Step.{Call, Put, Remove, RemoveField, Clear, Flush, Ask, Retry, Abandon, Restart, Do, Answer, Nothing, KnowsNone, Removes}
+use Rattle.replica_model.specs.Step.{IsCall}
 use Rattle.replica_model.proofs.States.{same_is}
 use Rattle.replica_store.specs.Behind.{IsBehind}
 use Rattle.replica_store.specs.Systems.{IsWrite}
@@ -36,7 +38,11 @@ removal P old new answer out h = record { delta = state (erasure h.0); is = h.2;
     none (d ∷ ds) knows = absurd (let e = knows d in let f = same_dot-self d in cc)
 
 put_made : (old new : Replica) (place : _) (value : List ℕ) (answer : Answer) → IsCall old (Put place value) new answer [] → Made old new
-put_made old new place value answer h = record { delta = state (Wrote h.0 ∷ []); is = h.3; nothing = λ knows. absurd (let e = knows h.0.id in let f = same_dot-self h.0.id in cc) }
+put_made old new place value answer h = record {
+  delta = state (Wrote h.0 ∷ []);
+  is = h.3;
+  nothing = λ knows. absurd (let e = knows h.0.id in let f = same_dot-self h.0.id in cc);
+}
 
 remove_made : (old new : Replica) (key : List ℕ) (answer : Answer) → IsCall old (Remove key) new answer [] → Made old new
 remove_made old new key answer h = removal _ old new answer [] h
@@ -94,7 +100,10 @@ behind old mid sent made =
 pub behind_none : (r : Replica) → r.group ≡ state [] → IsBehind r r
 behind_none r sent = record {
   sent = sent;
-  is = λ i. restarts (record r { live = (sym (join_none r.live) ∙ ap (join greater r.live) (sym sent)) i; group = (sym (join_none r.group) ∙ ap (join greater r.group) (sym sent)) i });
+  is = λ i. restarts (record r {
+    live = (sym (join_none r.live) ∙ ap (join greater r.live) (sym sent)) i;
+    group = (sym (join_none r.group) ∙ ap (join greater r.group) (sym sent)) i;
+  });
   nothing = λ knows. sent;
 }
 
@@ -117,34 +126,43 @@ behind_more kept mid new behind made =
 
 -- the writes, one after the other
 module _ {Hash W A : Type 0} (hash_of : Hash → List ℕ → ℕ) (call : W → Call) (answered : A → Answer) where
-  pub all_more : (old mid new : ReplicaValue Hash) (calls : List Call) (answers : List Answer) (one : Call) (answer : Answer) → MakesAll hash_of old mid calls answers → Steps hash_of mid new (Do one) answer []
+  pub all_more : (old mid new : ReplicaValue Hash) (calls : List Call) (answers : List Answer) (one : Call) (answer : Answer)
+      → MakesAll hash_of old mid calls answers → Steps hash_of mid new (Do one) answer []
       → MakesAll hash_of old new (calls ++ one ∷ []) (answers ++ answer ∷ [])
   all_more old mid new [] [] one answer all step = (new, subst (λ m. Steps hash_of m new (Do one) answer []) all step, refl)
   all_more old mid new [] (a ∷ answers) one answer all step = absurd all
   all_more old mid new (c ∷ calls) [] one answer all step = absurd all
   all_more old mid new (c ∷ calls) (a ∷ answers) one answer all step = (all.0, all.1, all_more all.0 mid new calls answers one answer all.2 step)
 
-  pub behind_all : ((write : W) → IsWrite (call write)) → (kept : Replica) (old new : ReplicaValue Hash) (writes : List W) (answers : List A) → IsBehind kept (meaning old)
+  pub behind_all : ((write : W) → IsWrite (call write)) → (kept : Replica) (old new : ReplicaValue Hash) (writes : List W) (answers : List A)
+      → IsBehind kept (meaning old)
       → MakesAll hash_of old new (map call writes) (map answered answers) → IsBehind kept (meaning new)
   behind_all are kept old new [] [] behind all = subst (λ r. IsBehind kept (meaning r)) (sym all) behind
   behind_all are kept old new [] (a ∷ answers) behind all = absurd all
   behind_all are kept old new (w ∷ writes) [] behind all = absurd all
   behind_all are kept old new (w ∷ writes) (a ∷ answers) behind all =
-      behind_all are kept all.0 new writes answers (behind_more kept (meaning old) (meaning all.0) behind (write_made (meaning old) (meaning all.0) (call w) (answered a) (are w) all.1.step)) all.2
+      behind_all are kept all.0 new writes answers (behind_more kept (meaning old) (meaning all.0) behind
+      (write_made (meaning old) (meaning all.0) (call w) (answered a) (are w) all.1.step)) all.2
 
 -- the flush sends the one delta, or there was none to send
 pub flush_sends : (kept mid new : Replica) (answer : Answer) (out : List Mail) → IsBehind kept mid → IsCall mid Flush new answer out
-    → ((out ≡ []) × (restarts new ≡ restarts kept)) ⊎ ((out ≡ Delta mid.group ∷ []) × (restarts new ≡ record (restarts kept) { live = join greater kept.live mid.group }))
+    → ((out ≡ []) × (restarts new ≡ restarts kept)) ⊎ ((out ≡ Delta mid.group ∷ [])
+    × (restarts new ≡ record (restarts kept) { live = join greater kept.live mid.group }))
 flush_sends kept mid new answer out behind h = elim h.1 [
   | inl none ↦ (
       let group = behind.nothing none.0 in
       inl (
         none.2,
-        ap restarts none.1 ∙ behind.is ∙ (λ i. restarts (record kept { live = (ap (join greater kept.live) group ∙ join_none kept.live) i; group = (ap (join greater kept.group) group ∙ join_none kept.group) i })),
+        ap restarts none.1 ∙ behind.is
+            ∙ (λ i. restarts (record kept {
+              live = (ap (join greater kept.live) group ∙ join_none kept.live) i;
+              group = (ap (join greater kept.group) group ∙ join_none kept.group) i;
+            })),
       ))
   | inr some ↦ inr (
     some.2,
-    ap restarts some.1 ∙ (λ i. record (behind.is i) { group = state [] }) ∙ (λ i. record (restarts kept) { live = join greater kept.live mid.group; group = sym behind.sent i }),
+    ap restarts some.1 ∙ (λ i. record (behind.is i) { group = state [] })
+        ∙ (λ i. record (restarts kept) { live = join greater kept.live mid.group; group = sym behind.sent i }),
   )
 ]
 

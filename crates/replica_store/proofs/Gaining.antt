@@ -41,15 +41,23 @@ mail_delta (Page s p) d e = absurd (let f = ap is_delta e in cc)
 mail_delta (Gone s) d e = absurd (let f = ap is_delta e in cc)
 
 module _ (old new : Trees) (r t : Replica) (kept : Keeps old r) where
-  pub gains_delta : (m : MessageValue) (d : MapState) → mail_of m ≡ mail.Delta d → GainsMessage old new m → restarts t ≡ record (restarts r) { live = join greater r.live d } → Keeps new t
+  pub gains_delta : (m : MessageValue) (d : MapState) → mail_of m ≡ mail.Delta d → GainsMessage old new m
+      → restarts t ≡ record (restarts r) { live = join greater r.live d } → Keeps new t
   gains_delta m d means gains is =
       let pair = mail_delta m d means in
-      let says : SaysDelta (CHANGED ∷ gains.0) d = record { bytes = gains.0; pair = pair.0; spelled = subst (Spells gains.0) pair.1 gains.1; means = pair.2; is = refl } in
+      let says : SaysDelta (CHANGED ∷ gains.0) d = record {
+        bytes = gains.0;
+        pair = pair.0;
+        spelled = subst (Spells gains.0) pair.1 gains.1;
+        means = pair.2;
+        is = refl;
+      } in
       subst (IsRebuilt (strings new)) (sym is)
       (rebuilt_any ((CHANGED ∷ gains.0) ∷ strings old) (strings new) _ gains.2 (rebuilt_delta (CHANGED ∷ gains.0) (strings old) (restarts r) d says kept))
 
   -- all that is held now is a delta that leaves nothing of what was held before
-  pub gains_whole : (m : MessageValue) → mail_of m ≡ mail.Delta t.live → GainsMessage old new m → IsBelow r.live t.live → restarts t ≡ record (restarts r) { live = t.live } → Keeps new t
+  pub gains_whole : (m : MessageValue) → mail_of m ≡ mail.Delta t.live → GainsMessage old new m → IsBelow r.live t.live
+      → restarts t ≡ record (restarts r) { live = t.live } → Keeps new t
   gains_whole m means gains below is = gains_delta m t.live means gains (is ∙ ap (λ l. record (restarts r) { live = l }) (sym (join_above r.live t.live below)))
 
   pub gains_number : (n : ℕ) → GainsNumber old new n → r.opened ≤ n → restarts t ≡ record (restarts r) { opened = n } → Keeps new t
@@ -74,12 +82,16 @@ module _ (kept mid new : Replica) (answer : Answer) (old : Trees) (behind : IsBe
 
 -- what was taken in as a delta is kept at any moment, or what was before is; and so is what a synchronisation brought, of which all is kept
 module _ (before after : State) (old new : Replica) (m : MessageValue) where
-  pub delta_or_not : (HasCleanDisk before → IsReady before) → TookAs old (mail_of m) Joined new → Survives before after (λ db. GainsMessage before.now.trees db m) → HasCleanDisk after → Keeps before.now.trees old
+  pub delta_or_not : (HasCleanDisk before → IsReady before) → TookAs old (mail_of m) Joined new
+      → Survives before after (λ db. GainsMessage before.now.trees db m) → HasCleanDisk after → Keeps before.now.trees old
       → KeepsEither after old new
   delta_or_not ready took survives clean keeps =
-      gained before after old new _ (ready (was_clean before after _ survives clean)) keeps survives (λ db gains. gains_delta before.now.trees db old new keeps m took.0 took.1 gains took.2) clean
+      gained before after old new _ (ready (was_clean before after _ survives clean)) keeps survives
+      (λ db gains. gains_delta before.now.trees db old new keeps m took.0 took.1 gains took.2) clean
 
-  pub whole_or_not : (all : MessageValue) → (HasCleanDisk before → IsReady before) → TookAs old (mail_of m) Done new → mail_of all ≡ mail.Delta new.live → Survives before after (λ db. GainsMessage before.now.trees db all)
+  pub whole_or_not : (all : MessageValue) → (HasCleanDisk before → IsReady before) → TookAs old (mail_of m) Done new → mail_of all ≡ mail.Delta new.live
+      → Survives before after (λ db. GainsMessage before.now.trees db all)
       → HasCleanDisk after → Keeps before.now.trees old → KeepsEither after old new
   whole_or_not all ready took means survives clean keeps =
-      gained before after old new _ (ready (was_clean before after _ survives clean)) keeps survives (λ db gains. gains_whole before.now.trees db old new keeps all means gains took.1 took.0) clean
+      gained before after old new _ (ready (was_clean before after _ survives clean)) keeps survives
+      (λ db gains. gains_whole before.now.trees db old new keeps all means gains took.1 took.0) clean

@@ -1,5 +1,6 @@
 -- What a string more does to the replica that is rebuilt.
-use Rattle.std.proofs.Common.{◌≡◌, ◌⊎◌, inl, inr, ℕ, ◌≤◌, Bool, true, false, ◌||◌, Option, Some, None, List, [], ◌∷◌, refl, sym, ap, subst, ◌∙◌, arith, Contains}
+use Rattle.std.proofs.Common.{◌≡◌, ◌⊎◌, inl, inr, ℕ, ◌≤◌, Bool, true, false, ◌||◌, Option, Some, None, List, [], ◌∷◌, refl, sym, ap, subst, ◌∙◌, arith}
+use Rattle.std.proofs.Common.{Contains}
 use Rattle.std.specs.List.Sorted.{IsPermutation}
 use Rattle.std.proofs.lemmas.List.Sorted.{Contains-permutation, IsPermutation-sym}
 use Rattle.op_model.specs.Meaning.{MapState, greater, state}
@@ -41,7 +42,8 @@ join_above p q below = one_order p q ∙ same_is (join greater q p) q below
 
 -- ---- in whatever order
 
-module _ (xs ys : List (List ℕ)) (there : (string : List ℕ) → Contains xs string → Contains ys string) (back : (string : List ℕ) → Contains ys string → Contains xs string) where
+module _ (xs ys : List (List ℕ)) (there : (string : List ℕ) → Contains xs string → Contains ys string)
+    (back : (string : List ℕ) → Contains ys string → Contains xs string) where
   says_there : (e : Entry) → Says xs e → Says ys e
   says_there e says = (says.0, there says.0 says.1, says.2)
 
@@ -100,32 +102,39 @@ module _ (string : List ℕ) (strings : List (List ℕ)) where
 
   -- what is said is said by the new one or was said
   either : (e : Entry) → Says (string ∷ strings) e → IsEntry string e ⊎ Says strings e
-  either e says = elim (head_or_tail string strings says.0 says.1) [ inl new ↦ inl (subst (λ s. IsEntry s e) (sym new) says.2) | inr old ↦ inr (says.0, old, says.2) ]
+  either e says = elim (head_or_tail string strings says.0 says.1)
+      [ inl new ↦ inl (subst (λ s. IsEntry s e) (sym new) says.2) | inr old ↦ inr (says.0, old, says.2) ]
 
   apart : (k l : ℕ) (a b : List ℕ) → string ≡ k ∷ a → string ≡ l ∷ b → k ≡ l
   apart k l a b p q = one_kind string a b k l p q
 
-  pub rebuilt_delta : (r : Replica) (d : MapState) → SaysDelta string d → IsRebuilt strings r → IsRebuilt (string ∷ strings) (record r { live = join greater r.live d })
+  pub rebuilt_delta : (r : Replica) (d : MapState) → SaysDelta string d → IsRebuilt strings r
+      → IsRebuilt (string ∷ strings) (record r { live = join greater r.live d })
   rebuilt_delta r d says is = record {
     named = more (Named r.name) is.named;
-    alone = λ name named. elim (either (Named name) named) [ inl new ↦ absurd (omega (arith, apart NAMED CHANGED new.bytes says.bytes new.is says.is)) | inr old ↦ is.alone name old ];
+    alone = λ name named. elim (either (Named name) named)
+        [ inl new ↦ absurd (omega (arith, apart NAMED CHANGED new.bytes says.bytes new.is says.is)) | inr old ↦ is.alone name old ];
     above = λ e changed. elim (either (Changed e) changed) [
       | inl new ↦ subst (λ x. IsBelow x (join greater r.live d)) (one_state string d e says new) (below_other r.live d)
       | inr old ↦ below_below e r.live (join greater r.live d) (is.above e old) (below_join r.live d)
     ];
     least = λ p below. join_below r.live d p (is.least p (λ e old. below e (more (Changed e) old))) (below d (said (Changed d) says));
-    numbers = λ n opened. elim (either (Opened n) opened) [ inl new ↦ absurd (omega (arith, apart OPENED CHANGED new.bytes says.bytes new.is says.is)) | inr old ↦ is.numbers n old ];
+    numbers = λ n opened. elim (either (Opened n) opened)
+        [ inl new ↦ absurd (omega (arith, apart OPENED CHANGED new.bytes says.bytes new.is says.is)) | inr old ↦ is.numbers n old ];
     newest = elim is.newest [ inl none ↦ inl none | inr old ↦ inr (more (Opened r.opened) old) ];
     group = is.group;
     sessions = is.sessions;
     kept = is.kept;
   }
 
-  pub rebuilt_number : (r : Replica) (n : ℕ) → SaysNumber OPENED string n → r.opened ≤ n → IsRebuilt strings r → IsRebuilt (string ∷ strings) (record r { opened = n })
+  pub rebuilt_number : (r : Replica) (n : ℕ) → SaysNumber OPENED string n → r.opened ≤ n → IsRebuilt strings r
+      → IsRebuilt (string ∷ strings) (record r { opened = n })
   rebuilt_number r n says after is = record {
     named = more (Named r.name) is.named;
-    alone = λ name named. elim (either (Named name) named) [ inl new ↦ absurd (omega (arith, apart NAMED OPENED new.bytes says.bytes new.is says.is)) | inr old ↦ is.alone name old ];
-    above = λ e changed. elim (either (Changed e) changed) [ inl new ↦ absurd (omega (arith, apart CHANGED OPENED new.bytes says.bytes new.is says.is)) | inr old ↦ is.above e old ];
+    alone = λ name named. elim (either (Named name) named)
+        [ inl new ↦ absurd (omega (arith, apart NAMED OPENED new.bytes says.bytes new.is says.is)) | inr old ↦ is.alone name old ];
+    above = λ e changed. elim (either (Changed e) changed)
+        [ inl new ↦ absurd (omega (arith, apart CHANGED OPENED new.bytes says.bytes new.is says.is)) | inr old ↦ is.above e old ];
     least = λ p below. is.least p (λ e old. below e (more (Changed e) old));
     numbers = λ m opened. elim (either (Opened m) opened) [
       | inl new ↦ (let e = one_number OPENED string m n new says in omega (arith, e))
@@ -141,9 +150,11 @@ module _ (string : List ℕ) (strings : List (List ℕ)) where
   rebuilt_name r says is = record {
     named = more (Named r.name) is.named;
     alone = λ name named. elim (either (Named name) named) [ inl new ↦ one_number NAMED string name r.name new says | inr old ↦ is.alone name old ];
-    above = λ e changed. elim (either (Changed e) changed) [ inl new ↦ absurd (omega (arith, apart CHANGED NAMED new.bytes says.bytes new.is says.is)) | inr old ↦ is.above e old ];
+    above = λ e changed. elim (either (Changed e) changed)
+        [ inl new ↦ absurd (omega (arith, apart CHANGED NAMED new.bytes says.bytes new.is says.is)) | inr old ↦ is.above e old ];
     least = λ p below. is.least p (λ e old. below e (more (Changed e) old));
-    numbers = λ m opened. elim (either (Opened m) opened) [ inl new ↦ absurd (omega (arith, apart OPENED NAMED new.bytes says.bytes new.is says.is)) | inr old ↦ is.numbers m old ];
+    numbers = λ m opened. elim (either (Opened m) opened)
+        [ inl new ↦ absurd (omega (arith, apart OPENED NAMED new.bytes says.bytes new.is says.is)) | inr old ↦ is.numbers m old ];
     newest = elim is.newest [ inl none ↦ inl none | inr old ↦ inr (more (Opened r.opened) old) ];
     group = is.group;
     sessions = is.sessions;

@@ -14,7 +14,8 @@ pub unkept : (s : State) (r t : Replica) → IsReady s → Keeps s.now.trees r �
 unkept s r t ready kept db may = inl (subst (λ d. Keeps d r) (sym (ready.crash db may)) kept)
 
 -- a string more, or not
-pub gained : (old new : State) (r t : Replica) (P : Trees → Type 0) → IsReady old → Keeps old.now.trees r → Survives old new P → ((db : Trees) → P db → Keeps db t) → HasCleanDisk new → KeepsEither new r t
+pub gained : (old new : State) (r t : Replica) (P : Trees → Type 0) → IsReady old → Keeps old.now.trees r → Survives old new P
+    → ((db : Trees) → P db → Keeps db t) → HasCleanDisk new → KeepsEither new r t
 gained old new r t P ready kept survives gains clean db may = elim (survives.crash clean db may) [
   | inl was ↦ unkept old r t ready kept db was
   | inr more ↦ inr (gains db more)

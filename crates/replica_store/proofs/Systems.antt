@@ -7,11 +7,13 @@ use Rattle.replica_model.specs.Crashing.{System, Occurrence, Saving, Passing, Cr
 use Rattle.replica_model.specs.Delivery.{Outcome, Sent}
 use Rattle.replica_model.specs.Mail.{Mail}
 use Rattle.replica_model.specs.Replica.{Replica, restarts}
-use Rattle.replica_model.specs.Step.{Call, Put, Remove, RemoveField, Clear, Flush, Ask, Retry, Abandon, Restart, Do, Answer, Nothing, Made, Counted, Came, IsStep}
+use Rattle.replica_model.specs.Step.{Call, Put, Remove, RemoveField, Clear, Flush, Ask, Retry, Abandon, Restart, Do, Answer, Nothing, Made, Counted, Came}
+use Rattle.replica_model.specs.Step.{IsStep}
 use Rattle.replica_model.specs.World.{Event, Node, At, Deliver}
 use Rattle.replica_model.specs.Laws.{replica_of}
 use Rattle.replica_store.specs.Rebuilt.{IsRebuilt}
-use Rattle.replica_store.specs.Systems.{IsWrite, written, WritesAreSaved, CrashesComeBack, EventsAreSaved, EventsComeBack, AllAreSaved, AllComeBack, AreMade, all_written}
+use Rattle.replica_store.specs.Systems.{IsWrite, written, WritesAreSaved, CrashesComeBack, EventsAreSaved, EventsComeBack, AllAreSaved, AllComeBack, AreMade}
+use Rattle.replica_store.specs.Systems.{all_written}
 use Rattle.replica_store.proofs.Rebuilt.{one_rebuilt}
 
 put_there : {X : Type 0} (f : ℕ → X) (name : ℕ) (x : X) → put f name x name ≡ x
@@ -26,7 +28,8 @@ not_counted e = cc
 
 module _ (hash_of : List ℕ → ℕ) (s : System) (name : ℕ) (there : is_among s.nodes name ≡ true) where
   -- a write passes
-  passes : (call : Call) (mid : Replica) (answer : Answer) → IsWrite call → IsStep hash_of (s.replica name) (Do call) mid answer [] → Occurs hash_of s (Passing (At name call)) (goes hash_of s (At name call) mid [])
+  passes : (call : Call) (mid : Replica) (answer : Answer) → IsWrite call → IsStep hash_of (s.replica name) (Do call) mid answer []
+      → Occurs hash_of s (Passing (At name call)) (goes hash_of s (At name call) mid [])
   passes (Put place value) mid answer is step = (mid, answer, (there, refl, step), (λ e. not_made (sym step.4 ∙ e)), refl)
   passes (Remove key) mid answer is step = (mid, answer, (there, refl, step), (λ e. not_counted (sym step.3.2 ∙ e)), refl)
   passes (RemoveField place) mid answer is step = (mid, answer, (there, refl, step), (λ e. not_counted (sym step.3.2 ∙ e)), refl)
@@ -37,17 +40,24 @@ module _ (hash_of : List ℕ → ℕ) (s : System) (name : ℕ) (there : is_amon
   passes (Abandon number) mid answer is step = absurd is
   passes Restart mid answer is step = absurd is
 
-  module _ (call : Call) (mid new : Replica) (answer : Answer) (out : List Mail) (is : IsWrite call) (made : IsStep hash_of (s.replica name) (Do call) mid answer []) (sent : IsStep hash_of mid (Do Flush) new Nothing out) where
+  module _ (call : Call) (mid new : Replica) (answer : Answer) (out : List Mail) (is : IsWrite call)
+      (made : IsStep hash_of (s.replica name) (Do call) mid answer []) (sent : IsStep hash_of mid (Do Flush) new Nothing out) where
     abbrev after : System
     after = record (goes hash_of (goes hash_of s (At name call) mid []) (At name Flush) new out) { saved = put s.saved name new }
 
     saves : Occurs hash_of (goes hash_of s (At name call) mid []) (Saving (At name Flush)) after
     saves = (new, Nothing, out, (there, refl, subst (λ r. IsStep hash_of r (Do Flush) new Nothing out) (sym (put_there s.replica name mid)) sent), refl)
 
-    pub wrote : (t : System) × (Goes hash_of s (written name call) t × (t.replica name ≡ new) × (t.saved name ≡ new) × (t.messages ≡ s.messages ++ out)) × (t.nodes ≡ s.nodes)
+    pub wrote : (t : System) × (Goes hash_of s (written name call) t × (t.replica name ≡ new) × (t.saved name ≡ new) × (t.messages ≡ s.messages ++ out))
+        × (t.nodes ≡ s.nodes)
     wrote = (
       after,
-      ((goes hash_of s (At name call) mid [], passes call mid answer is made, (after, saves, refl)), put_there (put s.replica name mid) name new, put_there s.saved name new, ap (λ ms. ms ++ out) (append-nil s.messages)),
+      (
+        (goes hash_of s (At name call) mid [], passes call mid answer is made, (after, saves, refl)),
+        put_there (put s.replica name mid) name new,
+        put_there s.saved name new,
+        ap (λ ms. ms ++ out) (append-nil s.messages),
+      ),
       refl,
     )
 
@@ -83,7 +93,8 @@ crashes_come_back hash_of s name call mid new answer out strings back is there s
 
 -- ---- any event
 
-module _ (hash_of : List ℕ → ℕ) (s : System) (event : Event) (new : Replica) (answer : Answer) (out : List Mail) (does : Does hash_of s event new answer out) where
+module _ (hash_of : List ℕ → ℕ) (s : System) (event : Event) (new : Replica) (answer : Answer) (out : List Mail)
+    (does : Does hash_of s event new answer out) where
   abbrev saving : System
   saving = record (goes hash_of s event new out) { saved = put s.saved (replica_of event) new }
 
@@ -97,8 +108,13 @@ still_there hash_of s (At name call) new answer out does there = there
 still_there hash_of s (Deliver number name) new answer out does there = there
 
 pub events_are_saved : EventsAreSaved
-events_are_saved hash_of s event new answer out does =
-    (saving hash_of s event new answer out does, occurred hash_of s event new answer out does, put_there s.replica (replica_of event) new, put_there s.saved (replica_of event) new, refl)
+events_are_saved hash_of s event new answer out does = (
+  saving hash_of s event new answer out does,
+  occurred hash_of s event new answer out does,
+  put_there s.replica (replica_of event) new,
+  put_there s.saved (replica_of event) new,
+  refl,
+)
 
 pub events_come_back : EventsComeBack
 events_come_back hash_of s event new answer out strings back there saved does kept rebuilt = elim kept [
@@ -118,7 +134,8 @@ events_come_back hash_of s event new answer out strings back there saved does ke
 
 all_wrote : (hash_of : List ℕ → ℕ) (s : System) (name : ℕ) (calls : List Call) (answers : List Answer) (mid new : Replica) (out : List Mail)
     → is_among s.nodes name ≡ true → AreMade hash_of (s.replica name) calls answers mid → IsStep hash_of mid (Do Flush) new Nothing out
-    → (t : System) × (Goes hash_of s (all_written name calls) t × (t.replica name ≡ new) × (t.saved name ≡ new) × (t.messages ≡ s.messages ++ out)) × (t.nodes ≡ s.nodes)
+    → (t : System) × (Goes hash_of s (all_written name calls) t × (t.replica name ≡ new) × (t.saved name ≡ new) × (t.messages ≡ s.messages ++ out))
+    × (t.nodes ≡ s.nodes)
 all_wrote hash_of s name [] [] mid new out there made sent =
     let does : Does hash_of s (At name Flush) new Nothing out = (there, refl, subst (λ r. IsStep hash_of r (Do Flush) new Nothing out) made sent) in (
       saving hash_of s (At name Flush) new Nothing out does,
@@ -130,8 +147,17 @@ all_wrote hash_of s name (c ∷ calls) [] mid new out there made sent = absurd m
 all_wrote hash_of s name (c ∷ calls) (a ∷ answers) mid new out there made sent =
     let next = goes hash_of s (At name c) made.1.0 [] in
     let more = all_wrote hash_of next name calls answers mid new out there
-    (subst (λ r. AreMade hash_of r calls answers mid) (sym (put_there s.replica name made.1.0)) made.1.2) sent in
-    (more.0, ((next, passes hash_of s name there c made.1.0 a made.0 made.1.1, more.1.0), more.1.1, more.1.2, more.1.3 ∙ ap (λ ms. ms ++ out) (append-nil s.messages)), more.2)
+    (subst (λ r. AreMade hash_of r calls answers mid) (sym (put_there s.replica name made.1.0)) made.1.2) sent in (
+      more.0,
+      (
+        (next, passes hash_of s name there c made.1.0 a made.0 made.1.1, more.1.0),
+        more.1.1,
+        more.1.2,
+        more.1.3
+            ∙ ap (λ ms. ms ++ out) (append-nil s.messages),
+      ),
+      more.2,
+    )
 
 pub all_are_saved : AllAreSaved
 all_are_saved hash_of s name calls answers mid new out there made sent =

@@ -1,5 +1,6 @@
 -- One string more is read.
-use Rattle.std.proofs.Common.{◌≡◌, ◌⊎◌, inl, inr, ℕ, suc, ◌≤◌, ◌<◌, ◌+◌, map, take, length, get_or, Bool, true, false, IsTrue, List, [], ◌∷◌, ◌++◌, refl, sym, ap, subst, ◌∙◌, arith, Contains}
+use Rattle.std.proofs.Common.{◌≡◌, ◌⊎◌, inl, inr, ℕ, suc, ◌≤◌, ◌<◌, ◌+◌, map, take, length, get_or, Bool, true, false, IsTrue, List, [], ◌∷◌, ◌++◌, refl, sym}
+use Rattle.std.proofs.Common.{ap, subst, ◌∙◌, arith, Contains}
 use Rattle.std.proofs.Math.Seq.{take-suc}
 use Rattle.std.proofs.lemmas.List.{map-append}
 use Rattle.std.proofs.lemmas.List.Elements.{Contains-append_left, Contains-append_right, Contains-append_cases}
@@ -24,7 +25,8 @@ none_told name = record {
 }
 
 -- one more of a list was looked at
-pub taken_more : {X Y : Type 0} (f : X → Y) (xs : List X) (i : ℕ) (x : X) → i < length xs → x ≡ get_or xs i x → map f (take (i + 1) xs) ≡ map f (take i xs) ++ f x ∷ []
+pub taken_more : {X Y : Type 0} (f : X → Y) (xs : List X) (i : ℕ) (x : X) → i < length xs → x ≡ get_or xs i x
+    → map f (take (i + 1) xs) ≡ map f (take i xs) ++ f x ∷ []
 taken_more f xs i x within is =
     let next : i + 1 ≡ suc i = omega arith in
     ap (map f) (ap (λ n. take n xs) next ∙ take-suc xs i x within ∙ ap (λ y. take i xs ++ y ∷ []) (sym is)) ∙ map-append f (take i xs) (x ∷ [])
@@ -39,7 +41,11 @@ module _ (strings : List (List ℕ)) (string : List ℕ) where
   either : (e : Entry) → Says (strings ++ string ∷ []) e → IsEntry string e ⊎ Says strings e
   either e says = elim (Contains-append_cases strings (string ∷ []) says.0 says.1) [
     | inl old ↦ inr (says.0, old, says.2)
-    | inr new ↦ elim (head_or_tail string [] says.0 new) [ inl is ↦ inl (subst (λ s. IsEntry s e) (sym is) says.2) | inr none ↦ absurd (nothing_in says.0 none) ]
+    | inr new ↦ elim (head_or_tail string [] says.0 new) [
+      | inl is ↦ inl (subst (λ s. IsEntry s e) (sym is) says.2)
+      | inr none ↦ absurd
+          (nothing_in says.0 none)
+    ]
   ]
 
   module _ (name : ℕ) (is_named : Bool) (number : ℕ) (told : IsTold name strings is_named number) where
@@ -47,29 +53,42 @@ module _ (strings : List (List ℕ)) (string : List ℕ) where
     told_name says = record {
       named = λ is. last (Named name) says;
       alone = λ other named. elim (either (Named other) named) [ inl new ↦ one_number NAMED string other name new says | inr old ↦ told.alone other old ];
-      numbers = λ n opened. elim (either (Opened n) opened) [ inl new ↦ absurd (omega (arith, one_kind string new.bytes says.bytes OPENED NAMED new.is says.is)) | inr old ↦ told.numbers n old ];
+      numbers = λ n opened. elim (either (Opened n) opened)
+          [ inl new ↦ absurd (omega (arith, one_kind string new.bytes says.bytes OPENED NAMED new.is says.is)) | inr old ↦ told.numbers n old ];
       newest = elim told.newest [ inl none ↦ inl none | inr old ↦ inr (before (Opened number) old) ];
     }
 
-    pub told_number : (n most : ℕ) → SaysNumber OPENED string n → ((number ≤ n) × (most ≡ n)) ⊎ ((n ≤ number) × (most ≡ number)) → IsTold name (strings ++ string ∷ []) is_named most
+    pub told_number : (n most : ℕ) → SaysNumber OPENED string n → ((number ≤ n) × (most ≡ n)) ⊎ ((n ≤ number) × (most ≡ number))
+        → IsTold name (strings ++ string ∷ []) is_named most
     told_number n most says which = record {
       named = λ is. before (Named name) (told.named is);
-      alone = λ other named. elim (either (Named other) named) [ inl new ↦ absurd (omega (arith, one_kind string new.bytes says.bytes NAMED OPENED new.is says.is)) | inr old ↦ told.alone other old ];
+      alone = λ other named. elim (either (Named other) named)
+          [ inl new ↦ absurd (omega (arith, one_kind string new.bytes says.bytes NAMED OPENED new.is says.is)) | inr old ↦ told.alone other old ];
       numbers = λ m opened. elim (either (Opened m) opened) [
-        | inl new ↦ elim which [ inl up ↦ omega (arith, one_number OPENED string m n new says, up.0, up.1) | inr same ↦ omega (arith, one_number OPENED string m n new says, same.0, same.1) ]
+        | inl new ↦ elim which [
+          | inl up ↦ omega (arith, one_number OPENED string m n new says, up.0, up.1)
+          | inr same ↦ omega
+              (arith, one_number OPENED string m n new says, same.0, same.1)
+        ]
         | inr old ↦ elim which [ inl up ↦ omega (arith, told.numbers m old, up.0, up.1) | inr same ↦ omega (arith, told.numbers m old, same.0, same.1) ]
       ];
       newest = elim which [
         | inl up ↦ inr (subst (λ k. Says (strings ++ string ∷ []) (Opened k)) (sym up.1) (last (Opened n) says))
-        | inr same ↦ elim told.newest [ inl none ↦ inl (same.1 ∙ none) | inr old ↦ inr (subst (λ k. Says (strings ++ string ∷ []) (Opened k)) (sym same.1) (before (Opened number) old)) ]
+        | inr same ↦ elim told.newest [
+          | inl none ↦ inl (same.1 ∙ none)
+          | inr old ↦ inr
+              (subst (λ k. Says (strings ++ string ∷ []) (Opened k)) (sym same.1) (before (Opened number) old))
+        ]
       ];
     }
 
     pub told_delta : (bytes : List ℕ) → string ≡ CHANGED ∷ bytes → IsTold name (strings ++ string ∷ []) is_named number
     told_delta bytes says = record {
       named = λ is. before (Named name) (told.named is);
-      alone = λ other named. elim (either (Named other) named) [ inl new ↦ absurd (omega (arith, one_kind string new.bytes bytes NAMED CHANGED new.is says)) | inr old ↦ told.alone other old ];
-      numbers = λ m opened. elim (either (Opened m) opened) [ inl new ↦ absurd (omega (arith, one_kind string new.bytes bytes OPENED CHANGED new.is says)) | inr old ↦ told.numbers m old ];
+      alone = λ other named. elim (either (Named other) named)
+          [ inl new ↦ absurd (omega (arith, one_kind string new.bytes bytes NAMED CHANGED new.is says)) | inr old ↦ told.alone other old ];
+      numbers = λ m opened. elim (either (Opened m) opened)
+          [ inl new ↦ absurd (omega (arith, one_kind string new.bytes bytes OPENED CHANGED new.is says)) | inr old ↦ told.numbers m old ];
       newest = elim told.newest [ inl none ↦ inl none | inr old ↦ inr (before (Opened number) old) ];
     }
 
@@ -84,7 +103,8 @@ module _ (strings : List (List ℕ)) (string : List ℕ) where
             | inl this ↦ subst (λ x. IsBelow x new.live) (one_state string d e says this) (subst (IsBelow d) (sym live) (below_other old.live d))
             | inr there ↦ below_below e old.live new.live (joined.above e there) up
           ];
-          least = λ p below all. subst (λ x. IsBelow x p) (sym live) (join_below old.live d p (joined.least p below (λ e there. all e (before (Changed e) there))) (all d (last (Changed d) says)));
+          least = λ p below all. subst (λ x. IsBelow x p) (sym live)
+              (join_below old.live d p (joined.least p below (λ e there. all e (before (Changed e) there))) (all d (last (Changed d) says)));
           rest = is ∙ (λ i. record (joined.rest i) { live = sym live i });
         }
 
@@ -93,7 +113,8 @@ module _ (strings : List (List ℕ)) (string : List ℕ) where
         let live : new.live ≡ old.live = ap (λ (r : Replica). r.live) is in
         record {
           grows = subst (IsBelow first.live) (sym live) joined.grows;
-          above = λ e changed. elim (either (Changed e) changed) [ inl this ↦ absurd (none e this) | inr there ↦ subst (IsBelow e) (sym live) (joined.above e there) ];
+          above = λ e changed. elim (either (Changed e) changed)
+              [ inl this ↦ absurd (none e this) | inr there ↦ subst (IsBelow e) (sym live) (joined.above e there) ];
           least = λ p below all. subst (λ x. IsBelow x p) (sym live) (joined.least p below (λ e there. all e (before (Changed e) there)));
           rest = is ∙ joined.rest ∙ (λ i. record first { live = sym live i });
         }

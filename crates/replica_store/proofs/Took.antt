@@ -28,13 +28,16 @@ row hash_of own r = each_row hash_of own r (λ mail t. TookAs r mail t.outcome t
   ended = λ s o there. refl;
 })
 
-pub took : (hash_of : List ℕ → ℕ) (old : Replica) (mail : Mail) (new : Replica) (outcome : Outcome) (out : List Mail) → IsDelivery hash_of old mail new outcome out → TookAs old mail outcome new
+pub took : (hash_of : List ℕ → ℕ) (old : Replica) (mail : Mail) (new : Replica) (outcome : Outcome) (out : List Mail)
+    → IsDelivery hash_of old mail new outcome out → TookAs old mail outcome new
 took hash_of old mail new outcome out h = subst (λ (t : Turn). TookAs old mail t.outcome t.new) h.2 (row hash_of h.0 old mail)
 
-pub took_step : (hash_of : List ℕ → ℕ) (old : Replica) (mail : Mail) (new : Replica) (outcome : Outcome) (out : List Mail) → IsStep hash_of old (Take mail) new (Came outcome) out → TookAs old mail outcome new
+pub took_step : (hash_of : List ℕ → ℕ) (old : Replica) (mail : Mail) (new : Replica) (outcome : Outcome) (out : List Mail)
+    → IsStep hash_of old (Take mail) new (Came outcome) out → TookAs old mail outcome new
 took_step hash_of old mail new outcome out h = subst (λ o. TookAs old mail o new) (let e = sym h.1 in cc) (took hash_of old mail new h.0 out h.2)
 
-pub asked : (old new : Replica) (peer n : ℕ) (out : List Mail) → IsCall old (Ask peer) new (Numbered n) out → (old.opened ≤ n) × (restarts new ≡ record (restarts old) { opened = n })
+pub asked : (old new : Replica) (peer n : ℕ) (out : List Mail) → IsCall old (Ask peer) new (Numbered n) out → (old.opened ≤ n)
+    × (restarts new ≡ record (restarts old) { opened = n })
 asked old new peer n out h =
     let number : n ≡ old.opened + 1 = let e = h.5 in cc in
     (omega (arith, number), ap restarts h.4 ∙ ap (λ m. record (restarts old) { opened = m }) (sym number))

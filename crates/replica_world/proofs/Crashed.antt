@@ -1,5 +1,6 @@
 -- What is kept of replicas for when they crash, as more occurs.
-use Rattle.std.proofs.Common.{◌≡◌, ◌≢◌, ◌⊎◌, inl, inr, ◌≤◌, ℕ, ◌+◌, ◌==◌, ◌||◌, nat_lt, Bool, true, false, cond, List, [], ◌∷◌, ◌++◌, map, Option, Some, None, refl, sym, ap, ◌∙◌, subst, arith}
+use Rattle.std.proofs.Common.{◌≡◌, ◌≢◌, ◌⊎◌, inl, inr, ◌≤◌, ℕ, ◌+◌, ◌==◌, ◌||◌, nat_lt, Bool, true, false, cond, List, [], ◌∷◌, ◌++◌, map, Option, Some, None}
+use Rattle.std.proofs.Common.{refl, sym, ap, ◌∙◌, subst, arith}
 use Rattle.std.proofs.lemmas.Bool.Decides.{nat_tests}
 use Rattle.std.proofs.lemmas.List.{map-append}
 use Rattle.std.proofs.lemmas.Option.{same_Some}
@@ -15,7 +16,8 @@ use Rattle.replica_model.specs.Step.{Restart, Answer, Came}
 use Rattle.replica_model.specs.World.{World, Message, Event, Node, At, Deliver, is_node, nothing, Runs}
 use Rattle.replica_model.proofs.Crashing.{take_back}
 use Rattle.replica_model.proofs.Deciding.{worlds_one}
-use Rattle.replica_world.specs.Held.{Held, events_of, is_act, save_at, is_left, after, held_after, goes_further, is_saved_with, occurrence, held_by, held_in, saves_at, AreBefore, IsKept}
+use Rattle.replica_world.specs.Held.{Held, events_of, is_act, save_at, is_left, after, held_after, goes_further, is_saved_with, occurrence, held_by, held_in}
+use Rattle.replica_world.specs.Held.{saves_at, AreBefore, IsKept}
 use Rattle.replica_world.proofs.Held.{held_survives}
 use Rattle.replica_world.proofs.Systems.{Did}
 
@@ -27,7 +29,8 @@ none_some x e = absurd cc
 
 -- ---- one more occurs
 
-goes_more : (hash_of : List ℕ → ℕ) (s : System) (xs : List Occurrence) (u : System) (x : Occurrence) (t : System) → Goes hash_of s xs u → Occurs hash_of u x t → Goes hash_of s (xs ++ x ∷ []) t
+goes_more : (hash_of : List ℕ → ℕ) (s : System) (xs : List Occurrence) (u : System) (x : Occurrence) (t : System) → Goes hash_of s xs u → Occurs hash_of u x t
+    → Goes hash_of s (xs ++ x ∷ []) t
 goes_more hash_of s [] u x t is occurs = (t, subst (λ r. Occurs hash_of r x t) is occurs, refl)
 goes_more hash_of s (y ∷ xs) u x t (r, first, rest) occurs = (r, first, goes_more hash_of r xs u x t rest occurs)
 
@@ -44,7 +47,8 @@ pub events_after : (hs : List Held) (e : Event) (answer : Answer) (sends : Bool)
 events_after hs e answer sends = by (is_saved_with e answer sends)
   where
     by : (b : Bool) → events_of (after hs (cond b (Saving e) (Passing e))) ≡ events_of hs ++ e ∷ []
-    by true = map-append (λ (h : Held). h.event) (map (save_at (replica_of e)) hs) (record { event = e; is_saved = true } ∷ []) ∙ ap (λ es. es ++ e ∷ []) (saving_keeps (replica_of e) hs)
+    by true = map-append (λ (h : Held). h.event) (map (save_at (replica_of e)) hs) (record { event = e; is_saved = true } ∷ [])
+        ∙ ap (λ es. es ++ e ∷ []) (saving_keeps (replica_of e) hs)
     by false = map-append (λ (h : Held). h.event) hs (record { event = e; is_saved = false } ∷ [])
 
 -- ---- what is held, by how often replicas were saved
@@ -61,7 +65,8 @@ before_same : (saves now : ℕ → ℕ) → ((n : ℕ) → saves n ≤ now n) �
 before_same saves now more [] before = tt
 before_same saves now more (a ∷ rest) (first, before) = (omega (arith, first, more (replica_of a.0)), before_same saves now more rest before)
 
-before_on : (saves : ℕ → ℕ) (rows : List (Event × ℕ)) (a : Event × ℕ) → AreBefore saves rows → saves_at a.0 a.1 ≤ saves (replica_of a.0) → AreBefore saves (rows ++ a ∷ [])
+before_on : (saves : ℕ → ℕ) (rows : List (Event × ℕ)) (a : Event × ℕ) → AreBefore saves rows → saves_at a.0 a.1 ≤ saves (replica_of a.0)
+    → AreBefore saves (rows ++ a ∷ [])
 before_on saves [] a before last = (last, tt)
 before_on saves (b ∷ rest) a (first, before) last = (first, before_on saves rest a before last)
 
@@ -136,11 +141,14 @@ module _ (saves now : ℕ → ℕ) (name : ℕ) (once : (n : ℕ) → now n ≡ 
   is_left_by : (a : Event × ℕ) (b : Bool) → is_act name a.0 ≡ b → stays saves name a ≡ is_left name (held_by saves a)
   is_left_by a true is = left_bool (nat_lt a.1 (saves name)) (is_act name a.0) ∙ ap (λ m. nat_lt a.1 (saves m) || not (is_act name a.0)) (sym (act_of a.0 is))
   is_left_by a false is =
-      ap (λ b. not (b && not (nat_lt a.1 (saves name)))) is ∙ sym (or_true (nat_lt a.1 (saves (replica_of a.0)))) ∙ ap (λ b. nat_lt a.1 (saves (replica_of a.0)) || not b) (sym is)
+      ap (λ b. not (b && not (nat_lt a.1 (saves name)))) is ∙ sym (or_true (nat_lt a.1 (saves (replica_of a.0))))
+      ∙ ap (λ b. nat_lt a.1 (saves (replica_of a.0)) || not b) (sym is)
 
   -- one that stays is told to be saved as before
-  one_stays : (e : Event) (k : ℕ) → saves_at e k ≤ saves (replica_of e) → stays saves name (e, k) ≡ true → (b : Bool) → (replica_of e == name) ≡ b → nat_lt k (now (replica_of e)) ≡ nat_lt k (saves (replica_of e))
-  one_stays e k before left false is = flag (replica_of e) k (let least = plain e k in omega (arith, before, least)) false is ∙ or_false (nat_lt k (saves (replica_of e)))
+  one_stays : (e : Event) (k : ℕ) → saves_at e k ≤ saves (replica_of e) → stays saves name (e, k) ≡ true → (b : Bool) → (replica_of e == name) ≡ b
+      → nat_lt k (now (replica_of e)) ≡ nat_lt k (saves (replica_of e))
+  one_stays e k before left false is = flag (replica_of e) k (let least = plain e k in omega (arith, before, least)) false is
+      ∙ or_false (nat_lt k (saves (replica_of e)))
   one_stays (Node n) k before left true is =
       let less : nat_lt k (saves n) ≡ true = grind (arith, nat_tests) in
       let least : k ≤ saves n = omega (arith, before) in
@@ -165,10 +173,13 @@ module _ (saves now : ℕ → ℕ) (name : ℕ) (once : (n : ℕ) → now n ≡ 
   pub held_left : (rows : List (Event × ℕ)) → AreBefore saves rows → held_in now (filter (stays saves name) rows) ≡ filter (is_left name) (held_in saves rows)
   held_left [] before = refl
   held_left (a ∷ rest) (first, before) =
-      by (stays saves name a) refl (held_left rest before) ∙ ap (λ b. cond b (held_by saves a ∷ filter (is_left name) (held_in saves rest)) (filter (is_left name) (held_in saves rest))) (is_left_by a (is_act name a.0) refl)
+      by (stays saves name a) refl (held_left rest before)
+      ∙ ap (λ b. cond b (held_by saves a ∷ filter (is_left name) (held_in saves rest)) (filter (is_left name) (held_in saves rest)))
+      (is_left_by a (is_act name a.0) refl)
     where
       by : (b : Bool) → stays saves name a ≡ b → held_in now (filter (stays saves name) rest) ≡ filter (is_left name) (held_in saves rest)
-          → held_in now (cond b (a ∷ filter (stays saves name) rest) (filter (stays saves name) rest)) ≡ cond b (held_by saves a ∷ filter (is_left name) (held_in saves rest)) (filter (is_left name) (held_in saves rest))
+          → held_in now (cond b (a ∷ filter (stays saves name) rest) (filter (stays saves name) rest))
+          ≡ cond b (held_by saves a ∷ filter (is_left name) (held_in saves rest)) (filter (is_left name) (held_in saves rest))
       by true is same = λ i. record { event = a.0; is_saved = one_stays a.0 a.1 first is (replica_of a.0 == name) refl i } ∷ same i
       by false is same = same
 
@@ -195,8 +206,10 @@ module _ (hash_of : List ℕ → ℕ) where
     pub shown : (w : World) → Runs hash_of nothing (map (λ a. a.0) accepted) w → Shows w is.system
     shown w runs =
         let after_all = take_back hash_of is.occurred is.system is.goes in
-        let events : survivors is.occurred ≡ map (λ a. a.0) accepted = sym (held_survives is.occurred) ∙ ap events_of (sym is.holds) ∙ events_held saves accepted in
-        subst (λ u. Shows u is.system) (worlds_one hash_of (map (λ a. a.0) accepted) after_all.0 w (subst (λ es. Runs hash_of nothing es after_all.0) events after_all.1) runs) after_all.2
+        let events : survivors is.occurred ≡ map (λ a. a.0) accepted = sym (held_survives is.occurred) ∙ ap events_of (sym is.holds)
+        ∙ events_held saves accepted in
+        subst (λ u. Shows u is.system) (worlds_one hash_of (map (λ a. a.0) accepted) after_all.0 w
+        (subst (λ es. Runs hash_of nothing es after_all.0) events after_all.1) runs) after_all.2
 
     -- it is kept now what some are to come back from
     pub noted : (now : ℕ → ℕ) (later : ℕ → Option Replica) (w : World) → Shows w is.system → ((n : ℕ) → now n ≡ saves n)
@@ -211,31 +224,37 @@ module _ (hash_of : List ℕ → ℕ) where
       before = before_same saves now (λ n. let e = same n in omega (arith, e)) accepted is.before;
     }
       where
-        saved_by : (n : ℕ) (r : Replica) → later n ≡ Some r → (later n ≡ back n) ⊎ ((back n ≡ None) × (later n ≡ Some (restarts (w.replica n)))) → r ≡ restarts (is.system.saved n)
+        saved_by : (n : ℕ) (r : Replica) → later n ≡ Some r → (later n ≡ back n) ⊎ ((back n ≡ None) × (later n ≡ Some (restarts (w.replica n))))
+            → r ≡ restarts (is.system.saved n)
         saved_by n r found (inl stayed) = is.saved n r (sym stayed ∙ found)
         saved_by n r found (inr (none, some)) = same_Some _ _ (sym found ∙ some) ∙ ap restarts (shows.replica n ∙ sym (is.clean n none))
 
-        clean_by : (n : ℕ) → later n ≡ None → (later n ≡ back n) ⊎ ((back n ≡ None) × (later n ≡ Some (restarts (w.replica n)))) → is.system.saved n ≡ is.system.replica n
+        clean_by : (n : ℕ) → later n ≡ None → (later n ≡ back n) ⊎ ((back n ≡ None) × (later n ≡ Some (restarts (w.replica n))))
+            → is.system.saved n ≡ is.system.replica n
         clean_by n none (inl stayed) = is.clean n (sym stayed ∙ none)
         clean_by n none (inr (before, some)) = absurd (none_some _ (sym none ∙ some))
 
     -- a replica is saved, or comes back; and its system is this
-    module _ (now : ℕ → ℕ) (later : ℕ → Option Replica) (name : ℕ) (once : (n : ℕ) → (now n ≡ cond (n == name) (saves n + 1) (saves n)) × (later n ≡ cond (n == name) None (back n))) where
+    module _ (now : ℕ → ℕ) (later : ℕ → Option Replica) (name : ℕ)
+        (once : (n : ℕ) → (now n ≡ cond (n == name) (saves n + 1) (saves n)) × (later n ≡ cond (n == name) None (back n))) where
       by_saves : (n : ℕ) → now n ≡ cond (n == name) (saves n + 1) (saves n)
       by_saves n = (once n).0
 
-      saved_now : (t : System) (new : Replica) → ((n : ℕ) → t.saved n ≡ cond (n == name) new (is.system.saved n)) → (n : ℕ) (r : Replica) → later n ≡ Some r → r ≡ restarts (t.saved n)
+      saved_now : (t : System) (new : Replica) → ((n : ℕ) → t.saved n ≡ cond (n == name) new (is.system.saved n)) → (n : ℕ) (r : Replica) → later n ≡ Some r
+          → r ≡ restarts (t.saved n)
       saved_now t new saved n r found = by (n == name) ((once n).1) (saved n)
         where
           by : (b : Bool) → later n ≡ cond b None (back n) → t.saved n ≡ cond b new (is.system.saved n) → r ≡ restarts (t.saved n)
           by true none at = absurd (none_some r (sym none ∙ found))
           by false stayed at = is.saved n r (sym stayed ∙ found) ∙ ap restarts (sym at)
 
-      clean_now : (t : System) (new : Replica) → ((n : ℕ) → t.saved n ≡ cond (n == name) new (is.system.saved n)) → ((n : ℕ) → t.replica n ≡ cond (n == name) new (is.system.replica n))
+      clean_now : (t : System) (new : Replica) → ((n : ℕ) → t.saved n ≡ cond (n == name) new (is.system.saved n))
+          → ((n : ℕ) → t.replica n ≡ cond (n == name) new (is.system.replica n))
           → (n : ℕ) → later n ≡ None → t.saved n ≡ t.replica n
       clean_now t new saved replica n none = by (n == name) ((once n).1) (saved n) (replica n)
         where
-          by : (b : Bool) → later n ≡ cond b None (back n) → t.saved n ≡ cond b new (is.system.saved n) → t.replica n ≡ cond b new (is.system.replica n) → t.saved n ≡ t.replica n
+          by : (b : Bool) → later n ≡ cond b None (back n) → t.saved n ≡ cond b new (is.system.saved n) → t.replica n ≡ cond b new (is.system.replica n)
+              → t.saved n ≡ t.replica n
           by true gone at there = at ∙ sym there
           by false stayed at there = at ∙ is.clean n (sym stayed ∙ none) ∙ sym there
 
@@ -247,19 +266,23 @@ module _ (hash_of : List ℕ → ℕ) where
           ∙ ap (λ n. map (save_at n) (held_in saves accepted) ++ record { event = e; is_saved = true } ∷ []) (sym named)
         where
           last_flag : nat_lt (saves name) (now (replica_of e)) ≡ true
-          last_flag = ap (λ m. nat_lt (saves name) (now m)) named ∙ ap (nat_lt (saves name)) (here saves now name by_saves) ∙ less_next (saves name) (saves name) (omega arith)
+          last_flag = ap (λ m. nat_lt (saves name) (now m)) named ∙ ap (nat_lt (saves name)) (here saves now name by_saves)
+              ∙ less_next (saves name) (saves name) (omega arith)
 
-      pub kept_saving : (e : Event) (answer : Answer) (v : World) → replica_of e ≡ name → Did hash_of is.system e answer v → IsKept hash_of now later (accepted ++ (e, saves name) ∷ [])
+      pub kept_saving : (e : Event) (answer : Answer) (v : World) → replica_of e ≡ name → Did hash_of is.system e answer v
+          → IsKept hash_of now later (accepted ++ (e, saves name) ∷ [])
       kept_saving e answer v named did =
           let t : System = record (crashing.goes hash_of is.system e did.new did.out) { saved = put is.system.saved (replica_of e) did.new } in
-          let last : saves_at e (saves name) ≤ now (replica_of e) = let bound = next e (saves name) in let least = here saves now name by_saves in let at = ap now named in omega (arith, bound, least, at) in
+          let last : saves_at e (saves name) ≤ now (replica_of e) = let bound = next e (saves name) in let least = here saves now name by_saves in let at =
+          ap now named in omega (arith, bound, least, at) in
           record {
             occurred = is.occurred ++ Saving e ∷ [];
             system = t;
             goes = goes_more hash_of started is.occurred is.system (Saving e) t is.goes (did.new, answer, did.out, did.does, refl);
             holds = held_saving e named ∙ ap (λ hs. after hs (Saving e)) is.holds ∙ sym (held_more [] is.occurred (Saving e));
             saved = saved_now t did.new (λ n. ap (λ m. cond (n == m) did.new (is.system.saved n)) named);
-            clean = clean_now t did.new (λ n. ap (λ m. cond (n == m) did.new (is.system.saved n)) named) (λ n. ap (λ m. cond (n == m) did.new (is.system.replica n)) named);
+            clean = clean_now t did.new (λ n. ap (λ m. cond (n == m) did.new (is.system.saved n)) named)
+                (λ n. ap (λ m. cond (n == m) did.new (is.system.replica n)) named);
             before = before_on now accepted (e, saves name) (before_same saves now (more saves now name by_saves) accepted is.before) last;
           }
 
@@ -286,7 +309,10 @@ module _ (hash_of : List ℕ → ℕ) where
 
       -- ---- it crashes, and comes back
       back_again : System
-      back_again = record is.system { replica = put is.system.replica name (restarts (is.system.saved name)); saved = put is.system.saved name (restarts (is.system.saved name)) }
+      back_again = record is.system {
+        replica = put is.system.replica name (restarts (is.system.saved name));
+        saved = put is.system.saved name (restarts (is.system.saved name));
+      }
 
       pub held_crashes : held_in now (filter (stays saves name) accepted ++ (At name Restart, saves name) ∷ []) ≡ after (held_in saves accepted) (Crashes name)
       held_crashes =
@@ -314,7 +340,8 @@ module _ (hash_of : List ℕ → ℕ) where
           saved = saved_now back_again (restarts (is.system.saved name)) (λ n. refl);
           clean = clean_now back_again (restarts (is.system.saved name)) (λ n. refl) (λ n. refl);
           before = before_on now (filter (stays saves name) accepted) (At name Restart, saves name)
-              (before_filter now (stays saves name) accepted (before_same saves now (more saves now name by_saves) accepted is.before)) (more saves now name by_saves name);
+              (before_filter now (stays saves name) accepted (before_same saves now (more saves now name by_saves) accepted is.before))
+              (more saves now name by_saves name);
         }
 
         -- the world that it leads to is as before, but for this replica
@@ -355,12 +382,14 @@ module _ (hash_of : List ℕ → ℕ) where
     no_node (Deliver number name) answer sends k none = refl
 
     pub held_passing : (e : Event) → held_in saves (accepted ++ (e, saves (replica_of e)) ∷ []) ≡ after (held_in saves accepted) (Passing e)
-    held_passing e = map-append (held_by saves) accepted ((e, saves (replica_of e)) ∷ []) ∙ (λ i. held_in saves accepted ++ record { event = e; is_saved = last_flag i } ∷ [])
+    held_passing e = map-append (held_by saves) accepted ((e, saves (replica_of e)) ∷ [])
+        ∙ (λ i. held_in saves accepted ++ record { event = e; is_saved = last_flag i } ∷ [])
       where
         last_flag : nat_lt (saves (replica_of e)) (saves (replica_of e)) ≡ false
         last_flag = grind (arith, nat_tests)
 
-    pub kept_passing : (e : Event) (answer : Answer) (sends : Bool) (v : World) → is_saved_with e answer sends ≡ false → (did : Did hash_of is.system e answer v) → (sends ≡ false → did.out ≡ [])
+    pub kept_passing : (e : Event) (answer : Answer) (sends : Bool) (v : World) → is_saved_with e answer sends ≡ false
+        → (did : Did hash_of is.system e answer v) → (sends ≡ false → did.out ≡ [])
         → (r : Replica) → back (replica_of e) ≡ Some r → IsKept hash_of saves back (accepted ++ (e, saves (replica_of e)) ∷ [])
     kept_passing e answer sends v none did quiet r kept =
         let t : System = crashing.goes hash_of is.system e did.new [] in
@@ -373,7 +402,8 @@ module _ (hash_of : List ℕ → ℕ) where
           holds = held_passing e ∙ ap (λ hs. after hs (Passing e)) is.holds ∙ sym (held_more [] is.occurred (Passing e));
           saved = is.saved;
           clean = λ n gone. clean_by n gone (n == replica_of e) refl;
-          before = before_on saves accepted (e, saves (replica_of e)) is.before (let same = no_node e answer sends (saves (replica_of e)) none in omega (arith, same));
+          before = before_on saves accepted (e, saves (replica_of e)) is.before
+              (let same = no_node e answer sends (saves (replica_of e)) none in omega (arith, same));
         }
       where
         clean_by : (n : ℕ) → back n ≡ None → (b : Bool) → (n == replica_of e) ≡ b → is.system.saved n ≡ cond b did.new (is.system.replica n)

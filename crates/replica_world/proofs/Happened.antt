@@ -1,5 +1,6 @@
 -- Events of a world, one by one: over plain variables.
-use Rattle.std.proofs.Common.{◌≡◌, ◌≢◌, inl, inr, ℕ, ◌+◌, ◌-◌, ◌==◌, ◌||◌, nat_lt, zero, suc, Bool, true, false, cond, List, [], ◌∷◌, ◌++◌, map, length, Option, Some, None, is_some, Bor, IfSome, refl, sym, ap, ◌∙◌, subst, arith}
+use Rattle.std.proofs.Common.{◌≡◌, ◌≢◌, inl, inr, ℕ, ◌+◌, ◌-◌, ◌==◌, ◌||◌, nat_lt, zero, suc, Bool, true, false, cond, List, [], ◌∷◌, ◌++◌, map, length, Option}
+use Rattle.std.proofs.Common.{Some, None, is_some, Bor, IfSome, refl, sym, ap, ◌∙◌, subst, arith}
 use Rattle.std.proofs.lemmas.Bool.{cond-true}
 use Rattle.std.proofs.lemmas.Bool.Decides.{nat_tests}
 use Rattle.std.proofs.lemmas.List.{length-map}
@@ -34,8 +35,13 @@ use Rattle.replica_world.proofs.Spelt.{as_many, spelled_at, spelled_past, map_ba
 pub at_other : (name other : ℕ) → other ≢ name → is_at (nat_cmp name) other ≡ false
 at_other name other apart = grind (arith, nat_tests)
 
-pub replaces_from : {R : Type 0} (old new : BTreeMap ℕ R) (name : ℕ) (before after : R) → Some before ≡ get nat_cmp old name → Updates nat_cmp old new name (Some after) → Replaces old new name before after
-replaces_from old new name before after was updates = record { was = sym was; becomes = updates.1; others = λ other apart. updates.2 other (at_other name other apart) }
+pub replaces_from : {R : Type 0} (old new : BTreeMap ℕ R) (name : ℕ) (before after : R) → Some before ≡ get nat_cmp old name
+    → Updates nat_cmp old new name (Some after) → Replaces old new name before after
+replaces_from old new name before after was updates = record {
+  was = sym was;
+  becomes = updates.1;
+  others = λ other apart. updates.2 other (at_other name other apart);
+}
 
 pub absent_from : {X : Type 0} (o : Option X) → false ≡ is_some o → o ≡ None
 absent_from None is = refl
@@ -71,9 +77,11 @@ at_number xs n is =
     let same : suc n - 1 ≡ n = omega arith in
     is ∙ cond-true (nat_lt 0 (suc n)) (slice_get xs (suc n - 1)) None less ∙ ap (slice_get xs) same
 
-module _ {Hash : Type 0} (hash : Hash) (old new : BTreeMap ℕ (ReplicaValue Hash)) (messages : List (List ℕ)) (w : World) (keeps : Keeps hash old messages w) where
+module _ {Hash : Type 0} (hash : Hash) (old new : BTreeMap ℕ (ReplicaValue Hash)) (messages : List (List ℕ)) (w : World)
+    (keeps : Keeps hash old messages w) where
   -- a new replica
-  module _ (name : ℕ) (r : ReplicaValue Hash) (none : get nat_cmp old name ≡ None) (updates : Updates nat_cmp old new name (Some r)) (is_fresh : meaning r ≡ fresh name) (hashed : hash_in r ≡ hash) where
+  module _ (name : ℕ) (r : ReplicaValue Hash) (none : get nat_cmp old name ≡ None) (updates : Updates nat_cmp old new name (Some r))
+      (is_fresh : meaning r ≡ fresh name) (hashed : hash_in r ≡ hash) where
     abbrev v : World
     v = record w { nodes = w.nodes ++ name ∷ [] }
 
@@ -115,7 +123,8 @@ module _ {Hash : Type 0} (hash : Hash) (old new : BTreeMap ℕ (ReplicaValue Has
       },
     )
 
-module _ {Hash : Type 0} (hash : Hash) (replicas : BTreeMap ℕ (ReplicaValue Hash)) (messages : List (List ℕ)) (w : World) (keeps : Keeps hash replicas messages w) where
+module _ {Hash : Type 0} (hash : Hash) (replicas : BTreeMap ℕ (ReplicaValue Hash)) (messages : List (List ℕ)) (w : World)
+    (keeps : Keeps hash replicas messages w) where
   -- the message of a number
   pub found_message : (number : ℕ) (bytes : List ℕ) → Some bytes ≡ cond (nat_lt 0 number) (slice_get messages (number - 1)) None
       → (m : Message) × (message_at w.messages number ≡ Some m) × IsSpelled bytes m.mail
@@ -127,12 +136,14 @@ module _ {Hash : Type 0} (hash : Hash) (replicas : BTreeMap ℕ (ReplicaValue Ha
 
   pub no_message : (number : ℕ) → None ≡ cond (nat_lt 0 number) (slice_get messages (number - 1)) None → message_at w.messages number ≡ None
   no_message zero is = refl
-  no_message (suc n) is = map_past (λ (m : Message). m.mail) w.messages n (spelled_past messages (map (λ (m : Message). m.mail) w.messages) keeps.spelled n (sym (at_number messages n is)))
+  no_message (suc n) is = map_past (λ (m : Message). m.mail) w.messages n
+      (spelled_past messages (map (λ (m : Message). m.mail) w.messages) keeps.spelled n (sym (at_number messages n is)))
 
   pub count : length messages ≡ length w.messages
   count = as_many messages (map (λ (m : Message). m.mail) w.messages) keeps.spelled ∙ length-map w.messages (λ (m : Message). m.mail)
 
-module _ {Hash : Type 0} (hash_of : Hash → List ℕ → ℕ) (hash : Hash) (old : BTreeMap ℕ (ReplicaValue Hash)) (messages : List (List ℕ)) (past : List Event) (is : IsWorld hash_of hash old messages past) where
+module _ {Hash : Type 0} (hash_of : Hash → List ℕ → ℕ) (hash : Hash) (old : BTreeMap ℕ (ReplicaValue Hash)) (messages : List (List ℕ)) (past : List Event)
+    (is : IsWorld hash_of hash old messages past) where
   -- of any world after this past
   pub of_any : (P : World → Type 0) → P is.world → (w : World) → Runs (hash_of hash) nothing past w → P w
   of_any P now w runs = subst P (worlds_one (hash_of hash) past is.world w is.runs runs) now
@@ -146,7 +157,8 @@ module _ {Hash : Type 0} (hash_of : Hash → List ℕ → ℕ) (hash : Hash) (ol
         let after = makes is.world is.keeps in
         record { world = after.0; runs = goes_on (hash_of hash) past is.world after.0 e answer is.runs after.1; keeps = after.2 }
 
-    pub event_told : (answer : Answer) → Makes hash_of hash old messages e answer new more → (first end : ℕ) → first ≡ length messages + 1 → end ≡ length more + 1
+    pub event_told : (answer : Answer) → Makes hash_of hash old messages e answer new more → (first end : ℕ) → first ≡ length messages + 1
+        → end ≡ length more + 1
         → (w : World) → Runs (hash_of hash) nothing past w → IsTold (hash_of hash) past w e answer first end
     event_told answer makes first end from to w runs =
         let keeps = keeps_any w runs in
@@ -156,17 +168,20 @@ module _ {Hash : Type 0} (hash_of : Hash → List ℕ → ℕ) (hash : Hash) (ol
           happens = after.1;
           begins = from ∙ ap (λ n. n + 1) (count hash old messages w keeps);
           stops = to ∙ ap (λ n. n + 1) (count hash new more after.0 after.2);
-          ends = λ number name is done. ends_are (hash_of hash) past w after.0 number name runs answer (subst (λ x. Happens (hash_of hash) w x answer after.0) is after.1) done;
+          ends = λ number name is done. ends_are (hash_of hash) past w after.0 number name runs answer
+              (subst (λ x. Happens (hash_of hash) w x answer after.0) is after.1) done;
         }
 
     pub event_left : LeavesWorld hash old messages new more → IsWorld hash_of hash new more past
     event_left leaves = record { world = is.world; runs = is.runs; keeps = leaves is.world is.keeps }
 
-  pub event_refused : (e : Event) (refusal : Refusal) → IsRefusedEvent hash old messages e refusal → (w : World) → Runs (hash_of hash) nothing past w → IsRefusedIn w e refusal
+  pub event_refused : (e : Event) (refusal : Refusal) → IsRefusedEvent hash old messages e refusal → (w : World) → Runs (hash_of hash) nothing past w
+      → IsRefusedIn w e refusal
   event_refused e refusal refused w runs = refused w (keeps_any w runs)
 
   -- where there is no room for it, what was foreseen comes first
-  pub event_unkept : (e : Event) (told : Option Refusal) → ForetellsEvent hash old messages e told → (w : World) → Runs (hash_of hash) nothing past w → IsRefusedIn w e (unwrap_or told OutOfMemory)
+  pub event_unkept : (e : Event) (told : Option Refusal) → ForetellsEvent hash old messages e told → (w : World) → Runs (hash_of hash) nothing past w
+      → IsRefusedIn w e (unwrap_or told OutOfMemory)
   event_unkept e None unrefused w runs = inl (refl, unrefused w (keeps_any w runs))
   event_unkept e (Some refusal) refuses w runs = inr (refuses w (keeps_any w runs))
 
@@ -175,21 +190,29 @@ module _ {Hash : Type 0} (hash_of : Hash → List ℕ → ℕ) (hash : Hash) (ol
       → IfSome o (λ r. (w : World) → Runs (hash_of hash) nothing past w → (is_node w name ≡ true) × (meaning r.now ≡ w.replica name) × (hash_in r.now ≡ hash))
   replica_shown name None found = tt
   replica_shown name (Some r) found =
-      λ w runs. let keeps = keeps_any w runs in (sym (keeps.there name) ∙ ap is_some (sym found), keeps.means name r.now (sym found), keeps.hashed name r.now (sym found))
+      λ w runs. let keeps = keeps_any w runs in (
+        sym (keeps.there name) ∙ ap is_some (sym found),
+        keeps.means name r.now (sym found),
+        keeps.hashed name r.now (sym found),
+      )
 
-  pub replica_missing : (name : ℕ) (o : Option (Bor (ReplicaValue Hash))) → option_copied o ≡ get nat_cmp old name → IsNone o → (w : World) → Runs (hash_of hash) nothing past w → is_node w name ≡ false
+  pub replica_missing : (name : ℕ) (o : Option (Bor (ReplicaValue Hash))) → option_copied o ≡ get nat_cmp old name → IsNone o → (w : World)
+      → Runs (hash_of hash) nothing past w → is_node w name ≡ false
   replica_missing name None found none w runs = let keeps = keeps_any w runs in sym (keeps.there name) ∙ ap is_some (sym found)
   replica_missing name (Some r) found none w runs = absurd cc
 
   pub replica_holds : (name : ℕ) (o : Option (Bor (ReplicaValue Hash))) → option_copied o ≡ get nat_cmp old name
-      → IfSome o (λ r. (w : World) → Runs (hash_of hash) nothing past w → Unclashed (hash_of hash) w → ShowsOperations (hash_of hash) (meaning r.now).live (w.seen name))
+      → IfSome o (λ r. (w : World) → Runs (hash_of hash) nothing past w → Unclashed (hash_of hash) w
+      → ShowsOperations (hash_of hash) (meaning r.now).live (w.seen name))
   replica_holds name None found = tt
   replica_holds name (Some r) found =
       λ w runs unclashed. let keeps = keeps_any w runs in
-      subst (λ (q : Replica). ShowsOperations (hash_of hash) q.live (w.seen name)) (sym (keeps.means name r.now (sym found))) (worlds_show (hash_of hash) past w runs unclashed name)
+      subst (λ (q : Replica). ShowsOperations (hash_of hash) q.live (w.seen name)) (sym (keeps.means name r.now (sym found)))
+      (worlds_show (hash_of hash) past w runs unclashed name)
 
   pub replica_meant : (name : ℕ) (o : Option (Bor (ReplicaValue Hash))) → option_copied o ≡ get nat_cmp old name
-      → IfSome o (λ r. (w : World) → Runs (hash_of hash) nothing past w → Unclashed (hash_of hash) w → ((meaning r.now).live ≡ state (w.seen name)) × ((meaning r.now).group ≡ state (w.outgoing name)))
+      → IfSome o (λ r. (w : World) → Runs (hash_of hash) nothing past w → Unclashed (hash_of hash) w → ((meaning r.now).live ≡ state (w.seen name))
+      × ((meaning r.now).group ≡ state (w.outgoing name)))
   replica_meant name None found = tt
   replica_meant name (Some r) found =
       λ w runs unclashed. let is = (keeps_any w runs).means name r.now (sym found) in
@@ -216,7 +239,8 @@ module _ {Hash : Type 0} (hash_of : Hash → List ℕ → ℕ) (hash : Hash) (ol
 
 -- mail that is the mail of a message carries what that message does
 pub mail_carries : (hash_of : List ℕ → ℕ) (ms : List Message) (number : ℕ) (mail : Mail) → (m : Message) × (message_at ms number ≡ Some m) × (mail ≡ m.mail)
-    → (m : Message) × (message_at ms number ≡ Some m) × MeansMail hash_of m.mail m.of.seen → (m : Message) × (message_at ms number ≡ Some m) × MeansMail hash_of mail m.of.seen
+    → (m : Message) × (message_at ms number ≡ Some m) × MeansMail hash_of m.mail m.of.seen → (m : Message) × (message_at ms number ≡ Some m)
+    × MeansMail hash_of mail m.of.seen
 mail_carries hash_of ms number mail (m, at, is) (n, found, means) =
     let same : m ≡ n = same_Some _ _ (sym at ∙ found) in
     (n, found, subst (λ l. MeansMail hash_of l n.of.seen) (sym (is ∙ ap (λ (x : Message). x.mail) same)) means)

@@ -49,13 +49,15 @@ always true b = refl
 always false true = refl
 always false false = refl
 
-saved_one : (lost : ℕ → Bool) (n : ℕ) (s : Bool) (e : Event) → ((s || (replica_of e == n)) || not (may_go lost e)) ≡ (s || not (may_go (λ m. cond (m == n) false (lost m)) e))
+saved_one : (lost : ℕ → Bool) (n : ℕ) (s : Bool) (e : Event) → ((s || (replica_of e == n)) || not (may_go lost e))
+    ≡ (s || not (may_go (λ m. cond (m == n) false (lost m)) e))
 unfolding may_go
 saved_one lost n s (Node k) = always s (k == n)
 saved_one lost n s (At k c) = saved_bool s (k == n) (lost k)
 saved_one lost n s (Deliver number k) = saved_bool s (k == n) (lost k)
 
-when_saved : (lost : ℕ → Bool) (n : ℕ) (hs : List Held) → events_of (filter (stays lost) (map (save_at n) hs)) ≡ events_of (filter (stays (λ m. cond (m == n) false (lost m))) hs)
+when_saved : (lost : ℕ → Bool) (n : ℕ) (hs : List Held) → events_of (filter (stays lost) (map (save_at n) hs))
+    ≡ events_of (filter (stays (λ m. cond (m == n) false (lost m))) hs)
 unfolding stays
 when_saved lost n [] = refl
 when_saved lost n (h ∷ hs) =
@@ -73,21 +75,27 @@ twice : (s : Bool) → (s || true) ≡ ((s || true) && (s || true))
 twice true = refl
 twice false = refl
 
-crashed_one : (lost : ℕ → Bool) (n : ℕ) (s : Bool) (e : Event) → (s || not (may_go (λ m. cond (m == n) true (lost m)) e)) ≡ ((s || not (is_act n e)) && (s || not (may_go lost e)))
+crashed_one : (lost : ℕ → Bool) (n : ℕ) (s : Bool) (e : Event) → (s || not (may_go (λ m. cond (m == n) true (lost m)) e))
+    ≡ ((s || not (is_act n e)) && (s || not (may_go lost e)))
 unfolding may_go
 crashed_one lost n s (Node k) = twice s
 crashed_one lost n s (At k c) = crashed_bool s (k == n) (lost k)
 crashed_one lost n s (Deliver number k) = crashed_bool s (k == n) (lost k)
 
-when_crashed : (lost : ℕ → Bool) (n : ℕ) (hs : List Held) → events_of (filter (stays lost) (filter (is_left n) hs)) ≡ events_of (filter (stays (λ m. cond (m == n) true (lost m))) hs)
+when_crashed : (lost : ℕ → Bool) (n : ℕ) (hs : List Held) → events_of (filter (stays lost) (filter (is_left n) hs))
+    ≡ events_of (filter (stays (λ m. cond (m == n) true (lost m))) hs)
 unfolding stays
 when_crashed lost n [] = refl
 when_crashed lost n (h ∷ hs) = by (when_crashed lost n hs) (is_left n h) (sym (crashed_one lost n h.is_saved h.event))
   where
-    by : events_of (filter (stays lost) (filter (is_left n) hs)) ≡ events_of (filter (stays (λ m. cond (m == n) true (lost m))) hs) → (b : Bool) → (b && stays lost h) ≡ stays (λ m. cond (m == n) true (lost m)) h
-        → events_of (filter (stays lost) (cond b (h ∷ filter (is_left n) hs) (filter (is_left n) hs))) ≡ events_of (filter (stays (λ m. cond (m == n) true (lost m))) (h ∷ hs))
-    by rest true is = same_kept (stays lost h) (stays (λ m. cond (m == n) true (lost m)) h) is h h refl (filter (stays lost) (filter (is_left n) hs)) (filter (stays (λ m. cond (m == n) true (lost m))) hs) rest
-    by rest false is = rest ∙ ap (λ b. events_of (cond b (h ∷ filter (stays (λ m. cond (m == n) true (lost m))) hs) (filter (stays (λ m. cond (m == n) true (lost m))) hs))) is
+    by : events_of (filter (stays lost) (filter (is_left n) hs)) ≡ events_of (filter (stays (λ m. cond (m == n) true (lost m))) hs) → (b : Bool)
+        → (b && stays lost h) ≡ stays (λ m. cond (m == n) true (lost m)) h
+        → events_of (filter (stays lost) (cond b (h ∷ filter (is_left n) hs) (filter (is_left n) hs)))
+        ≡ events_of (filter (stays (λ m. cond (m == n) true (lost m))) (h ∷ hs))
+    by rest true is = same_kept (stays lost h) (stays (λ m. cond (m == n) true (lost m)) h) is h h refl (filter (stays lost) (filter (is_left n) hs))
+        (filter (stays (λ m. cond (m == n) true (lost m))) hs) rest
+    by rest false is = rest
+        ∙ ap (λ b. events_of (cond b (h ∷ filter (stays (λ m. cond (m == n) true (lost m))) hs) (filter (stays (λ m. cond (m == n) true (lost m))) hs))) is
 
 -- ---- whatever occurs
 
@@ -106,7 +114,8 @@ unless lost (Deliver number n) = by (lost n)
     by false = refl
 
 step : (lost : ℕ → Bool) (hs : List Held) (x : Occurrence) (xs : List Occurrence)
-    → events_of (filter (stays (λ m. is_lost lost m xs)) (after hs x)) ++ left lost xs ≡ events_of (filter (stays (λ m. is_lost lost m (x ∷ xs))) hs) ++ left lost (x ∷ xs)
+    → events_of (filter (stays (λ m. is_lost lost m xs)) (after hs x)) ++ left lost xs ≡ events_of (filter (stays (λ m. is_lost lost m (x ∷ xs))) hs)
+    ++ left lost (x ∷ xs)
 unfolding stays
 step lost hs (Saving e) xs =
     ap (λ es. es ++ left lost xs) (filter_on (stays (λ m. is_lost lost m xs)) (map (save_at (replica_of e)) hs) (record { event = e; is_saved = true } ∷ [])

@@ -1,5 +1,6 @@
 -- A world whose replicas are kept for when they crash, from one event to the next: over plain variables.
-use Rattle.std.proofs.Common.{◌≡◌, ◌⊎◌, inl, inr, ℕ, ◌+◌, ◌==◌, nat_lt, Bool, true, false, cond, List, [], ◌∷◌, ◌++◌, map, length, Option, Some, None, is_some, refl, sym, ap, ◌∙◌, subst, arith, length-append}
+use Rattle.std.proofs.Common.{◌≡◌, ◌⊎◌, inl, inr, ℕ, ◌+◌, ◌==◌, nat_lt, Bool, true, false, cond, List, [], ◌∷◌, ◌++◌, map, length, Option, Some, None, is_some}
+use Rattle.std.proofs.Common.{refl, sym, ap, ◌∙◌, subst, arith, length-append}
 use Rattle.std.proofs.lemmas.Bool.Decides.{nat_tests}
 use Rattle.std.proofs.lemmas.List.{length-map, map-append}
 use Rattle.std.specs.Prelude.{IsSome, not, filter, ◌&&◌}
@@ -22,7 +23,8 @@ use Rattle.replica_world.specs.Replaces.{Replaces}
 use Rattle.replica_world.specs.Spelled.{AreSpelled}
 use Rattle.replica_world.specs.declared.accepted.Accepted.{Accepted}
 use Rattle.replica_world.specs.declared.recovery.Recovery.{Recovery}
-use Rattle.replica_world.proofs.Crashed.{shown, noted, events_held, held_same, held_saving, kept_saving, held_passing, kept_passing, held_saves, kept_saved, held_crashes, kept_crashed, world_crashed, stays, events_after, saving_keeps}
+use Rattle.replica_world.proofs.Crashed.{shown, noted, events_held, held_same, held_saving, kept_saving, held_passing, kept_passing, held_saves, kept_saved}
+use Rattle.replica_world.proofs.Crashed.{held_crashes, kept_crashed, world_crashed, stays, events_after, saving_keeps}
 use Rattle.replica_world.proofs.Happened.{count, keeps_any, event_kept}
 use Rattle.replica_world.proofs.Kept.{keeps_at}
 use Rattle.replica_world.proofs.Systems.{Did, did}
@@ -42,11 +44,13 @@ events_by [] = refl
 events_by (a ∷ items) = ap (λ es. event_value a.event ∷ es) (events_by items)
 
 pub stay_by : {A : Type 0} (saves : ℕ → ℕ) (name : ℕ) (items : List (Accepted A))
-    → map accepted_value (filter (λ a. not (is_act name (event_value a.event) && not (nat_lt a.saves (saves name)))) items) ≡ filter (stays saves name) (map accepted_value items)
+    → map accepted_value (filter (λ a. not (is_act name (event_value a.event) && not (nat_lt a.saves (saves name)))) items)
+    ≡ filter (stays saves name) (map accepted_value items)
 stay_by saves name [] = refl
 stay_by saves name (a ∷ items) = by (not (is_act name (event_value a.event) && not (nat_lt a.saves (saves name)))) (stay_by saves name items)
   where
-    by : (b : Bool) → map accepted_value (filter (λ x. not (is_act name (event_value x.event) && not (nat_lt x.saves (saves name)))) items) ≡ filter (stays saves name) (map accepted_value items)
+    by : (b : Bool) → map accepted_value (filter (λ x. not (is_act name (event_value x.event) && not (nat_lt x.saves (saves name)))) items)
+        ≡ filter (stays saves name) (map accepted_value items)
         → map accepted_value (cond b (a ∷ filter (λ x. not (is_act name (event_value x.event) && not (nat_lt x.saves (saves name)))) items)
         (filter (λ x. not (is_act name (event_value x.event) && not (nat_lt x.saves (saves name)))) items))
         ≡ cond b (accepted_value a ∷ filter (stays saves name) (map accepted_value items)) (filter (stays saves name) (map accepted_value items))
@@ -63,29 +67,37 @@ none_made (x ∷ xs) m n is quiet =
     clash : true ≡ false → ⊥
     clash e = absurd cc
 
-module _ {Hash A : Type 0} (hash_of : Hash → List ℕ → ℕ) (hash : Hash) (replicas : BTreeMap ℕ (ReplicaValue Hash)) (messages : List (List ℕ)) (kept : BTreeMap ℕ (Recovery Hash A)) (items : List (Accepted A))
-    (world : IsWorld hash_of hash replicas messages (events_of (held_in (saves_in kept) (map accepted_value items)))) (lives : IsKept (hash_of hash) (saves_in kept) (back_in kept) (map accepted_value items)) where
+module _ {Hash A : Type 0} (hash_of : Hash → List ℕ → ℕ) (hash : Hash) (replicas : BTreeMap ℕ (ReplicaValue Hash)) (messages : List (List ℕ))
+    (kept : BTreeMap ℕ (Recovery Hash A)) (items : List (Accepted A))
+    (world : IsWorld hash_of hash replicas messages (events_of (held_in (saves_in kept) (map accepted_value items))))
+    (lives : IsKept (hash_of hash) (saves_in kept) (back_in kept) (map accepted_value items)) where
   rows : List (Event × ℕ)
   rows = map accepted_value items
 
   shows : Shows world.world lives.system
-  shows = shown (hash_of hash) (saves_in kept) (back_in kept) (map accepted_value items) lives world.world (subst (λ es. Runs (hash_of hash) nothing es world.world) (events_held (saves_in kept) (map accepted_value items)) world.runs)
+  shows = shown (hash_of hash) (saves_in kept) (back_in kept) (map accepted_value items) lives world.world
+      (subst (λ es. Runs (hash_of hash) nothing es world.world) (events_held (saves_in kept) (map accepted_value items)) world.runs)
 
   -- it is kept what some are to come back from
-  pub kept_noted : (now : BTreeMap ℕ (Recovery Hash A)) → Notes replicas kept now → IsKept (hash_of hash) (saves_in now) (back_in now) (map accepted_value items)
+  pub kept_noted : (now : BTreeMap ℕ (Recovery Hash A)) → Notes replicas kept now
+      → IsKept (hash_of hash) (saves_in now) (back_in now) (map accepted_value items)
   kept_noted now notes =
-      noted (hash_of hash) (saves_in kept) (back_in kept) (map accepted_value items) lives (saves_in now) (back_in now) world.world shows (λ n. (notes n).0) (λ n. by n (notes n).1)
+      noted (hash_of hash) (saves_in kept) (back_in kept) (map accepted_value items) lives (saves_in now) (back_in now) world.world shows (λ n. (notes n).0)
+      (λ n. by n (notes n).1)
     where
-      by : (n : ℕ) → (back_in now n ≡ back_in kept n) ⊎ ((back_in kept n ≡ None) × ((r : ReplicaValue Hash) × (get nat_cmp replicas n ≡ Some r) × (back_in now n ≡ Some (restarts (meaning r)))))
+      by : (n : ℕ) → (back_in now n ≡ back_in kept n)
+          ⊎ ((back_in kept n ≡ None) × ((r : ReplicaValue Hash) × (get nat_cmp replicas n ≡ Some r) × (back_in now n ≡ Some (restarts (meaning r)))))
           → (back_in now n ≡ back_in kept n) ⊎ ((back_in kept n ≡ None) × (back_in now n ≡ Some (restarts (world.world.replica n))))
       by n (inl same) = inl same
       by n (inr (none, (r, at, some))) = inr (none, some ∙ ap (λ q. Some (restarts q)) (world.keeps.means n r at))
 
-  pub held_noted : (now : BTreeMap ℕ (Recovery Hash A)) → Notes replicas kept now → held_in (saves_in now) (map accepted_value items) ≡ held_in (saves_in kept) (map accepted_value items)
+  pub held_noted : (now : BTreeMap ℕ (Recovery Hash A)) → Notes replicas kept now
+      → held_in (saves_in now) (map accepted_value items) ≡ held_in (saves_in kept) (map accepted_value items)
   held_noted now notes = held_same (saves_in kept) (saves_in now) (λ n. (notes n).0) (map accepted_value items)
 
   -- an event that happened
-  module _ (new : BTreeMap ℕ (ReplicaValue Hash)) (more : List (List ℕ)) (e : Event) (answer : Answer) (makes : Makes hash_of hash replicas messages e answer new more) (ready : IsReady replicas kept e) where
+  module _ (new : BTreeMap ℕ (ReplicaValue Hash)) (more : List (List ℕ)) (e : Event) (answer : Answer)
+      (makes : Makes hash_of hash replicas messages e answer new more) (ready : IsReady replicas kept e) where
     v : World
     v = (makes world.world world.keeps).0
 
@@ -107,7 +119,8 @@ module _ {Hash A : Type 0} (hash_of : Hash → List ℕ → ℕ) (hash : Hash) (
     pub has_place : HasPlace kept (replica_of e)
     has_place = ready_at (makes world.world world.keeps).0 (makes world.world world.keeps).1 ready
 
-    back_at : (x : Event) (sends : Bool) (u : World) → Happens (hash_of hash) world.world x answer u → IsReady replicas kept x → is_saved_with x answer sends ≡ false
+    back_at : (x : Event) (sends : Bool) (u : World) → Happens (hash_of hash) world.world x answer u → IsReady replicas kept x
+        → is_saved_with x answer sends ≡ false
         → (r : Replica) × (back_in kept (replica_of x) ≡ Some r)
     back_at (Node name) sends u happens is none = absurd cc
     back_at (At name c) sends u happens is none = some_of (back_in kept name) (is (here name happens.0)).1
@@ -120,7 +133,8 @@ module _ {Hash A : Type 0} (hash_of : Hash → List ℕ → ℕ) (hash : Hash) (
         let before : length messages ≡ length lives.system.messages =
         count hash replicas messages world.world world.keeps ∙ sym (length-map world.world.messages mails) ∙ ap length shows.messages in
         let now : length more ≡ length lives.system.messages + length did_so.out =
-        count hash new more (makes world.world world.keeps).0 (makes world.world world.keeps).2 ∙ sym (length-map (makes world.world world.keeps).0.messages mails) ∙ ap length did_so.shows.messages
+        count hash new more (makes world.world world.keeps).0 (makes world.world world.keeps).2
+        ∙ sym (length-map (makes world.world world.keeps).0.messages mails) ∙ ap length did_so.shows.messages
         ∙ length-append lives.system.messages did_so.out in
         none_made did_so.out (length messages) (length more) (now ∙ ap (λ n. n + length did_so.out) (sym before)) none
 
@@ -135,7 +149,8 @@ module _ {Hash A : Type 0} (hash_of : Hash → List ℕ → ℕ) (hash : Hash) (
           by : (b : Bool) → is_saved_with e answer sends ≡ b → Settles b kept later (replica_of e)
               → IsKept (hash_of hash) (saves_in later) (back_in later) (map accepted_value items ++ (e, saves_in kept (replica_of e)) ∷ [])
           by true is once =
-              kept_saving (hash_of hash) (saves_in kept) (back_in kept) (map accepted_value items) lives (saves_in later) (back_in later) (replica_of e) once e answer v refl did_so
+              kept_saving (hash_of hash) (saves_in kept) (back_in kept) (map accepted_value items) lives (saves_in later) (back_in later) (replica_of e)
+              once e answer v refl did_so
           by false is same =
               let kept_at = back_at e sends (makes world.world world.keeps).0 (makes world.world world.keeps).1 ready is in
               subst (λ m. IsKept (hash_of hash) (saves_in m) (back_in m) (map accepted_value items ++ (e, saves_in kept (replica_of e)) ∷ [])) (sym same)
@@ -148,8 +163,10 @@ module _ {Hash A : Type 0} (hash_of : Hash → List ℕ → ℕ) (hash : Hash) (
         where
           by : (b : Bool) → Settles b kept later (replica_of e)
               → held_in (saves_in later) (map accepted_value items ++ (e, saves_in kept (replica_of e)) ∷ [])
-              ≡ after (held_in (saves_in kept) (map accepted_value items)) (cond b (Rattle.replica_model.specs.Crashing.Saving e) (Rattle.replica_model.specs.Crashing.Passing e))
-          by true once = held_saving (hash_of hash) (saves_in kept) (back_in kept) (map accepted_value items) lives (saves_in later) (back_in later) (replica_of e) once e refl
+              ≡ after (held_in (saves_in kept) (map accepted_value items))
+              (cond b (Rattle.replica_model.specs.Crashing.Saving e) (Rattle.replica_model.specs.Crashing.Passing e))
+          by true once = held_saving (hash_of hash) (saves_in kept) (back_in kept) (map accepted_value items) lives (saves_in later) (back_in later)
+              (replica_of e) once e refl
           by false same = ap (λ m. held_in (saves_in m) (map accepted_value items ++ (e, saves_in kept (replica_of e)) ∷ [])) same
               ∙ held_passing (hash_of hash) (saves_in kept) (back_in kept) (map accepted_value items) lives e
 
@@ -170,38 +187,49 @@ module _ {Hash A : Type 0} (hash_of : Hash → List ℕ → ℕ) (hash : Hash) (
       there : is_among lives.system.nodes name ≡ true
       there = ap (λ ns. is_among ns name) (sym shows.nodes) ∙ sym (world.keeps.there name) ∙ ap is_some replaces.was
 
-      pub crash_lives : IsKept (hash_of hash) (saves_in later) (back_in later) (filter (stays (saves_in kept) name) (map accepted_value items) ++ (At name Restart, saves_in kept name) ∷ [])
+      pub crash_lives : IsKept (hash_of hash) (saves_in later) (back_in later)
+          (filter (stays (saves_in kept) name) (map accepted_value items) ++ (At name Restart, saves_in kept name) ∷ [])
       crash_lives = kept_crashed (hash_of hash) (saves_in kept) (back_in kept) (map accepted_value items) lives (saves_in later) (back_in later) name once there
 
       pub crash_world : hash_in after_it ≡ hash → back_in kept name ≡ Some (meaning after_it)
-          → IsWorld hash_of hash new messages (events_of (held_in (saves_in later) (filter (stays (saves_in kept) name) (map accepted_value items) ++ (At name Restart, saves_in kept name) ∷ [])))
+          → IsWorld hash_of hash new messages
+          (events_of (held_in (saves_in later) (filter (stays (saves_in kept) name) (map accepted_value items)
+          ++ (At name Restart, saves_in kept name) ∷ [])))
       crash_world hashed came =
           let w = world.world in
-          let told = world_crashed (hash_of hash) (saves_in kept) (back_in kept) (map accepted_value items) lives (saves_in later) (back_in later) name once there w shows in
+          let told = world_crashed (hash_of hash) (saves_in kept) (back_in kept) (map accepted_value items) lives (saves_in later) (back_in later)
+          name once there w shows in
           let means = lives.saved name (meaning after_it) came in
           record {
             world = told.0;
-            runs = subst (λ es. Runs (hash_of hash) nothing es told.0) (sym (events_held (saves_in later) (filter (stays (saves_in kept) name) (map accepted_value items) ++ (At name Restart, saves_in kept name) ∷ []))) told.1;
-            keeps = keeps_at hash replicas new messages messages w world.keeps name before after_it replaces (hashed ∙ sym (world.keeps.hashed name before replaces.was)) told.0 told.2
+            runs = subst (λ es. Runs (hash_of hash) nothing es told.0)
+                (sym (events_held (saves_in later) (filter (stays (saves_in kept) name) (map accepted_value items) ++ (At name Restart, saves_in kept name)
+                ∷ []))) told.1;
+            keeps = keeps_at hash replicas new messages messages w world.keeps name before after_it replaces
+                (hashed ∙ sym (world.keeps.hashed name before replaces.was)) told.0 told.2
                 (λ n. told.3 n ∙ ap (λ r. cond (n == name) r (w.replica n)) (sym means))
                 (subst (AreSpelled messages) (sym told.4) world.keeps.spelled);
           }
 
 -- ---- the invariant of a world as a whole
 
-abbrev pub IsAlive : {Hash A : Type 0} → (Hash → List ℕ → ℕ) → Hash → BTreeMap ℕ (ReplicaValue Hash) → List (List ℕ) → BTreeMap ℕ (Recovery Hash A) → List (Accepted A) → Type 0
+abbrev pub IsAlive : {Hash A : Type 0} → (Hash → List ℕ → ℕ) → Hash → BTreeMap ℕ (ReplicaValue Hash) → List (List ℕ) → BTreeMap ℕ (Recovery Hash A)
+    → List (Accepted A) → Type 0
 IsAlive hash_of hash replicas messages kept items =
-    IsWorld hash_of hash replicas messages (events_of (held_in (saves_in kept) (map accepted_value items))) × IsKept (hash_of hash) (saves_in kept) (back_in kept) (map accepted_value items)
+    IsWorld hash_of hash replicas messages (events_of (held_in (saves_in kept) (map accepted_value items)))
+    × IsKept (hash_of hash) (saves_in kept) (back_in kept) (map accepted_value items)
 
 abbrev pub seen : {Hash A : Type 0} → Hash → BTreeMap ℕ (Recovery Hash A) → List (Accepted A) → WorldValue Hash
 seen hash kept items = record { hash = hash; held = held_in (saves_in kept) (map accepted_value items) }
 
-module _ {Hash A : Type 0} (hash_of : Hash → List ℕ → ℕ) (hash : Hash) (replicas : BTreeMap ℕ (ReplicaValue Hash)) (messages : List (List ℕ)) (kept : BTreeMap ℕ (Recovery Hash A)) (items : List (Accepted A))
+module _ {Hash A : Type 0} (hash_of : Hash → List ℕ → ℕ) (hash : Hash) (replicas : BTreeMap ℕ (ReplicaValue Hash)) (messages : List (List ℕ))
+    (kept : BTreeMap ℕ (Recovery Hash A)) (items : List (Accepted A))
     (alive : IsAlive hash_of hash replicas messages kept items) where
   -- it is kept what some are to come back from
   pub alive_noted : (now : BTreeMap ℕ (Recovery Hash A)) → Notes replicas kept now → IsAlive hash_of hash replicas messages now items
   alive_noted now notes = (
-    subst (λ hs. IsWorld hash_of hash replicas messages (events_of hs)) (sym (held_noted hash_of hash replicas messages kept items alive.0 alive.1 now notes)) alive.0,
+    subst (λ hs. IsWorld hash_of hash replicas messages (events_of hs))
+        (sym (held_noted hash_of hash replicas messages kept items alive.0 alive.1 now notes)) alive.0,
     kept_noted hash_of hash replicas messages kept items alive.0 alive.1 now notes,
   )
 
@@ -218,31 +246,38 @@ module _ {Hash A : Type 0} (hash_of : Hash → List ℕ → ℕ) (hash : Hash) (
   pub alive_saved : (later : BTreeMap ℕ (Recovery Hash A)) (name : ℕ) → SavedOnce kept later name → IsAlive hash_of hash replicas messages later items
   alive_saved later name once = (
     subst (IsWorld hash_of hash replicas messages)
-        (sym (ap events_of (save_held hash_of hash replicas messages kept items alive.0 alive.1 later name once) ∙ saving_keeps name (held_in (saves_in kept) (map accepted_value items)))) alive.0,
+        (sym (ap events_of (save_held hash_of hash replicas messages kept items alive.0 alive.1 later name once)
+        ∙ saving_keeps name (held_in (saves_in kept) (map accepted_value items)))) alive.0,
     save_lives hash_of hash replicas messages kept items alive.0 alive.1 later name once,
   )
 
   pub seen_saved : (later : BTreeMap ℕ (Recovery Hash A)) (name : ℕ) → SavedOnce kept later name
       → seen hash later items ≡ record { hash = hash; held = after (seen hash kept items).held (Saves name) }
-  seen_saved later name once = ap (λ hs. record { hash = hash; held = hs }) (save_held hash_of hash replicas messages kept items alive.0 alive.1 later name once)
+  seen_saved later name once = ap (λ hs. record { hash = hash; held = hs })
+      (save_held hash_of hash replicas messages kept items alive.0 alive.1 later name once)
 
   -- an event that happened
-  module _ (new : BTreeMap ℕ (ReplicaValue Hash)) (more : List (List ℕ)) (e : Event) (answer : Answer) (makes : Makes hash_of hash replicas messages e answer new more) (ready : IsReady replicas kept e)
-      (later : BTreeMap ℕ (Recovery Hash A)) (settles : Settles (is_saved_with e answer (not (length messages + 1 == length more + 1))) kept later (replica_of e)) (a : Accepted A)
+  module _ (new : BTreeMap ℕ (ReplicaValue Hash)) (more : List (List ℕ)) (e : Event) (answer : Answer)
+      (makes : Makes hash_of hash replicas messages e answer new more) (ready : IsReady replicas kept e)
+      (later : BTreeMap ℕ (Recovery Hash A))
+      (settles : Settles (is_saved_with e answer (not (length messages + 1 == length more + 1))) kept later (replica_of e)) (a : Accepted A)
       (is : accepted_value a ≡ (e, saves_in kept (replica_of e))) where
     rows_now : map accepted_value (items ++ a ∷ []) ≡ map accepted_value items ++ (e, saves_in kept (replica_of e)) ∷ []
     rows_now = map-append accepted_value items (a ∷ []) ∙ ap (λ r. map accepted_value items ++ r ∷ []) is
 
     held_now : held_in (saves_in later) (map accepted_value (items ++ a ∷ []))
         ≡ after (held_in (saves_in kept) (map accepted_value items)) (occurrence e answer (not (length messages + 1 == length more + 1)))
-    held_now = ap (held_in (saves_in later)) rows_now ∙ event_held hash_of hash replicas messages kept items alive.0 alive.1 new more e answer makes ready later settles
+    held_now = ap (held_in (saves_in later)) rows_now ∙ event_held hash_of hash replicas messages kept items alive.0 alive.1 new more e answer makes ready
+        later settles
 
     pub alive_event : IsAlive hash_of hash new more later (items ++ a ∷ [])
     alive_event = (
       subst (IsWorld hash_of hash new more)
-          (sym (ap events_of held_now ∙ events_after (held_in (saves_in kept) (map accepted_value items)) e answer (not (length messages + 1 == length more + 1))))
+          (sym (ap events_of held_now ∙ events_after (held_in (saves_in kept) (map accepted_value items)) e answer
+          (not (length messages + 1 == length more + 1))))
           (event_kept hash_of hash replicas messages (events_of (held_in (saves_in kept) (map accepted_value items))) alive.0 new more e answer makes),
-      subst (IsKept (hash_of hash) (saves_in later) (back_in later)) (sym rows_now) (event_lives hash_of hash replicas messages kept items alive.0 alive.1 new more e answer makes ready later settles),
+      subst (IsKept (hash_of hash) (saves_in later) (back_in later)) (sym rows_now)
+          (event_lives hash_of hash replicas messages kept items alive.0 alive.1 new more e answer makes ready later settles),
     )
 
     pub seen_event : seen hash later (items ++ a ∷ [])
@@ -251,16 +286,20 @@ module _ {Hash A : Type 0} (hash_of : Hash → List ℕ → ℕ) (hash : Hash) (
 
   -- a replica that crashed, and is back
   module _ (later : BTreeMap ℕ (Recovery Hash A)) (name : ℕ) (once : SavedOnce kept later name) (left : List (Accepted A))
-      (is_left_of : left ≡ filter (λ x. not (is_act name (event_value x.event) && not (nat_lt x.saves (saves_in kept name)))) items) (a : Accepted A) (is : accepted_value a ≡ (At name Restart, saves_in kept name)) where
-    rows_left : map accepted_value (left ++ a ∷ []) ≡ filter (stays (saves_in kept) name) (map accepted_value items) ++ (At name Restart, saves_in kept name) ∷ []
+      (is_left_of : left ≡ filter (λ x. not (is_act name (event_value x.event) && not (nat_lt x.saves (saves_in kept name)))) items) (a : Accepted A)
+      (is : accepted_value a ≡ (At name Restart, saves_in kept name)) where
+    rows_left : map accepted_value (left ++ a ∷ []) ≡ filter (stays (saves_in kept) name) (map accepted_value items)
+        ++ (At name Restart, saves_in kept name) ∷ []
     rows_left = map-append accepted_value left (a ∷ []) ∙ (λ i. (ap (map accepted_value) is_left_of ∙ stay_by (saves_in kept) name items) i ++ is i ∷ [])
 
-    pub alive_crashed : (new : BTreeMap ℕ (ReplicaValue Hash)) (before after_it : ReplicaValue Hash) → Replaces replicas new name before after_it → hash_in after_it ≡ hash → back_in kept name ≡ Some (meaning after_it)
+    pub alive_crashed : (new : BTreeMap ℕ (ReplicaValue Hash)) (before after_it : ReplicaValue Hash) → Replaces replicas new name before after_it
+        → hash_in after_it ≡ hash → back_in kept name ≡ Some (meaning after_it)
         → IsAlive hash_of hash new messages later (left ++ a ∷ [])
     alive_crashed new before after_it replaces hashed came = (
       subst (λ rows. IsWorld hash_of hash new messages (events_of (held_in (saves_in later) rows))) (sym rows_left)
           (crash_world hash_of hash replicas messages kept items alive.0 alive.1 later name once new before after_it replaces hashed came),
-      subst (IsKept (hash_of hash) (saves_in later) (back_in later)) (sym rows_left) (crash_lives hash_of hash replicas messages kept items alive.0 alive.1 later name once new before after_it replaces),
+      subst (IsKept (hash_of hash) (saves_in later) (back_in later)) (sym rows_left)
+          (crash_lives hash_of hash replicas messages kept items alive.0 alive.1 later name once new before after_it replaces),
     )
 
     pub seen_crashed : seen hash later (left ++ a ∷ []) ≡ record { hash = hash; held = after (seen hash kept items).held (Crashes name) }

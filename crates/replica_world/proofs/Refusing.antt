@@ -52,14 +52,16 @@ module _ {Hash : Type 0} (hash : Hash) (old new : BTreeMap ℕ (ReplicaValue Has
   pub name_taken : (name : ℕ) → true ≡ is_some (get nat_cmp old name) → IsRefusedEvent hash old messages (Node name) NameTaken
   name_taken name found w keeps = inr (sym (keeps.there name) ∙ sym found, refl)
 
-  pub no_room : (name : ℕ) (refusal : Refusal) → false ≡ is_some (get nat_cmp old name) → refusal ≡ OutOfMemory → IsRefusedEvent hash old messages (Node name) refusal
+  pub no_room : (name : ℕ) (refusal : Refusal) → false ≡ is_some (get nat_cmp old name) → refusal ≡ OutOfMemory
+      → IsRefusedEvent hash old messages (Node name) refusal
   no_room name refusal free is w keeps = inl (is, node_unrefused w name (sym (keeps.there name) ∙ sym free))
 
   -- a call
   pub no_replica : (name : ℕ) (c : Call) → false ≡ is_some (get nat_cmp old name) → IsRefusedEvent hash old messages (At name c) UnknownReplica
   no_replica name c missing w keeps = inr (inl (sym (keeps.there name) ∙ sym missing, refl))
 
-  pub no_peer : (name : ℕ) (c : Call) → ((w : World) → Keeps hash old messages w → false ≡ has_peer w c) → IsRefusedEvent hash old messages (At name c) UnknownReplica
+  pub no_peer : (name : ℕ) (c : Call) → ((w : World) → Keeps hash old messages w → false ≡ has_peer w c)
+      → IsRefusedEvent hash old messages (At name c) UnknownReplica
   no_peer name c missing w keeps = by (bool_is (is_node w name))
     where
       by : (is_node w name ≡ true) ⊎ (is_node w name ≡ false) → IsRefusedIn w (At name c) UnknownReplica
@@ -69,22 +71,29 @@ module _ {Hash : Type 0} (hash : Hash) (old new : BTreeMap ℕ (ReplicaValue Has
   pub call_made : (hash_of : Hash → List ℕ → ℕ) (name : ℕ) (c : Call) (answer : Answer) → ((w : World) → Keeps hash old messages w → true ≡ has_peer w c)
       → (before after : ReplicaValue Hash) × Replaces old new name before after × MakesCall hash_of before after c answer messages more
       → Makes hash_of hash old messages (At name c) answer new more
-  call_made hash_of name c answer peer (before, after, replaces, called) w keeps = call_keeps hash old new messages more w keeps hash_of name before after replaces c answer (sym (peer w keeps)) called
+  call_made hash_of name c answer peer (before, after, replaces, called) w keeps =
+      call_keeps hash old new messages more w keeps hash_of name before after replaces c answer (sym (peer w keeps)) called
 
   pub call_refused : (name : ℕ) (c : Call) (refusal : Refusal) → ((w : World) → Keeps hash old messages w → true ≡ has_peer w c)
       → (before : ReplicaValue Hash) × (get nat_cmp old name ≡ Some before) × IsRefused before c refusal → IsRefusedEvent hash old messages (At name c) refusal
   call_refused name c refusal peer (before, was, inl (none, unrefused)) w keeps =
-      inl (none, call_unrefused w name c (sym (keeps.there name) ∙ ap is_some was) (sym (peer w keeps)) (subst (λ r. RefusesNothing r c) (keeps.means name before was) unrefused))
+      inl (
+        none,
+        call_unrefused w name c (sym (keeps.there name) ∙ ap is_some was) (sym (peer w keeps))
+            (subst (λ r. RefusesNothing r c) (keeps.means name before was) unrefused),
+      )
   call_refused name c refusal peer (before, was, inr refuses) w keeps =
       inr (inr (sym (keeps.there name) ∙ ap is_some was, inr (sym (peer w keeps), subst (λ r. Refuses r c refusal) (keeps.means name before was) refuses)))
 
   pub call_unmade : (name : ℕ) (c : Call) (refusal : Refusal) → ((w : World) → Keeps hash old messages w → true ≡ has_peer w c)
-      → ((get nat_cmp old name ≡ None) × (refusal ≡ UnknownReplica)) ⊎ ((before : ReplicaValue Hash) × (get nat_cmp old name ≡ Some before) × IsRefused before c refusal)
+      → ((get nat_cmp old name ≡ None) × (refusal ≡ UnknownReplica))
+      ⊎ ((before : ReplicaValue Hash) × (get nat_cmp old name ≡ Some before) × IsRefused before c refusal)
       → IsRefusedEvent hash old messages (At name c) refusal
   call_unmade name c refusal peer (inl (none, is)) w keeps = inr (inl (sym (keeps.there name) ∙ ap is_some none, is))
   call_unmade name c refusal peer (inr refused) w keeps = call_refused name c refusal peer refused w keeps
 
-  pub stayed : (name : ℕ) → (before after : ReplicaValue Hash) × Replaces old new name before after × Stays before after → more ≡ messages → LeavesWorld hash old messages new more
+  pub stayed : (name : ℕ) → (before after : ReplicaValue Hash) × Replaces old new name before after × Stays before after → more ≡ messages
+      → LeavesWorld hash old messages new more
   stayed name (before, after, replaces, stays) same w keeps = keeps_stayed hash old new messages more w keeps name before after replaces stays same
 
   pub left : (name : ℕ) → (new ≡ old) ⊎ ((before after : ReplicaValue Hash) × Replaces old new name before after × Stays before after) → more ≡ messages
@@ -101,7 +110,8 @@ module _ {Hash : Type 0} (hash : Hash) (old new : BTreeMap ℕ (ReplicaValue Has
   not_sent number name found missing w keeps = inr (inr (sym (keeps.there name) ∙ sym found, no_message hash old messages w keeps number missing, refl))
 
   -- a delivery is refused for want of memory alone
-  pub not_taken : (number name : ℕ) (bytes : List ℕ) (refusal : Refusal) → true ≡ is_some (get nat_cmp old name) → Some bytes ≡ cond (nat_lt 0 number) (slice_get messages (number - 1)) None
+  pub not_taken : (number name : ℕ) (bytes : List ℕ) (refusal : Refusal) → true ≡ is_some (get nat_cmp old name)
+      → Some bytes ≡ cond (nat_lt 0 number) (slice_get messages (number - 1)) None
       → refusal ≡ OutOfMemory → IsRefusedEvent hash old messages (Deliver number name) refusal
   not_taken number name bytes refusal here found is w keeps =
       let m = found_message hash old messages w keeps number bytes found in
@@ -115,7 +125,8 @@ module _ {Hash : Type 0} (hash : Hash) (old new : BTreeMap ℕ (ReplicaValue Has
       let m = found_message hash old messages w keeps number bytes found in
       not_taken number name bytes refusal here found (read m.0.mail m.2) w keeps
 
-  pub delivery_made : (hash_of : Hash → List ℕ → ℕ) (number name : ℕ) (bytes : List ℕ) (mail : Mail) (answer : Answer) → Some bytes ≡ cond (nat_lt 0 number) (slice_get messages (number - 1)) None
+  pub delivery_made : (hash_of : Hash → List ℕ → ℕ) (number name : ℕ) (bytes : List ℕ) (mail : Mail) (answer : Answer)
+      → Some bytes ≡ cond (nat_lt 0 number) (slice_get messages (number - 1)) None
       → ((spelled : Mail) → IsSpelled bytes spelled → mail ≡ spelled)
       → (before after : ReplicaValue Hash) × Replaces old new name before after × TakesMail hash_of before after mail answer messages more
       → Makes hash_of hash old messages (Deliver number name) answer new more
@@ -128,10 +139,12 @@ module _ {Hash : Type 0} (hash : Hash) (old new : BTreeMap ℕ (ReplicaValue Has
 
 -- of a put at any place, and of an ask of any peer
 module _ {A : Type 0} (r : Replica) (told : Option Refusal) {c : calls.Call A} where
-  pub put_foretold : ((place : Place) (value : List ℕ) → Foretells r (step.Put place value) told) → {key value : List ℕ} → c ≡ call.Put key value → Foretells r (call_value c) told
+  pub put_foretold : ((place : Place) (value : List ℕ) → Foretells r (step.Put place value) told) → {key value : List ℕ} → c ≡ call.Put key value
+      → Foretells r (call_value c) told
   put_foretold all {key} {value} is = subst (λ d. Foretells r (call_value d) told) (sym is) (all (plain key) value)
 
-  pub put_field_foretold : ((place : Place) (value : List ℕ) → Foretells r (step.Put place value) told) → {key field value : List ℕ} → c ≡ call.PutField key field value → Foretells r (call_value c) told
+  pub put_field_foretold : ((place : Place) (value : List ℕ) → Foretells r (step.Put place value) told) → {key field value : List ℕ}
+      → c ≡ call.PutField key field value → Foretells r (call_value c) told
   put_field_foretold all {key} {field} {value} is = subst (λ d. Foretells r (call_value d) told) (sym is) (all (place_of key field) value)
 
   pub ask_foretold : ((peer : ℕ) → Foretells r (step.Ask peer) told) → {peer : ℕ} → c ≡ call.Ask peer → Foretells r (call_value c) told
@@ -154,18 +167,21 @@ module _ {Hash : Type 0} (hash : Hash) (old : BTreeMap ℕ (ReplicaValue Hash)) 
   pub foretells_call : (name : ℕ) (c : Call) (before : ReplicaValue Hash) (told : Option Refusal) → get nat_cmp old name ≡ Some before
       → ((w : World) → Keeps hash old messages w → true ≡ has_peer w c) → Foretells (meaning before) c told → ForetellsEvent hash old messages (At name c) told
   foretells_call name c before None was peer unrefused w keeps =
-      call_unrefused w name c (sym (keeps.there name) ∙ ap is_some was) (sym (peer w keeps)) (subst (λ r. RefusesNothing r c) (keeps.means name before was) unrefused)
+      call_unrefused w name c (sym (keeps.there name) ∙ ap is_some was) (sym (peer w keeps))
+      (subst (λ r. RefusesNothing r c) (keeps.means name before was) unrefused)
   foretells_call name c before (Some refusal) was peer refuses w keeps =
       inr (sym (keeps.there name) ∙ ap is_some was, inr (sym (peer w keeps), subst (λ r. Refuses r c refusal) (keeps.means name before was) refuses))
 
-  pub foretells_not_there : (number name : ℕ) → false ≡ is_some (get nat_cmp old name) → ForetellsEvent hash old messages (Deliver number name) (Some UnknownReplica)
+  pub foretells_not_there : (number name : ℕ) → false ≡ is_some (get nat_cmp old name)
+      → ForetellsEvent hash old messages (Deliver number name) (Some UnknownReplica)
   foretells_not_there number name missing w keeps = inl (sym (keeps.there name) ∙ sym missing, refl)
 
   pub foretells_not_sent : (number name : ℕ) → true ≡ is_some (get nat_cmp old name) → None ≡ cond (nat_lt 0 number) (slice_get messages (number - 1)) None
       → ForetellsEvent hash old messages (Deliver number name) (Some UnknownMessage)
   foretells_not_sent number name found missing w keeps = inr (sym (keeps.there name) ∙ sym found, no_message hash old messages w keeps number missing, refl)
 
-  pub foretells_sent : (number name : ℕ) (bytes : List ℕ) → true ≡ is_some (get nat_cmp old name) → Some bytes ≡ cond (nat_lt 0 number) (slice_get messages (number - 1)) None
+  pub foretells_sent : (number name : ℕ) (bytes : List ℕ) → true ≡ is_some (get nat_cmp old name)
+      → Some bytes ≡ cond (nat_lt 0 number) (slice_get messages (number - 1)) None
       → ForetellsEvent hash old messages (Deliver number name) None
   foretells_sent number name bytes here found w keeps =
       let m = found_message hash old messages w keeps number bytes found in
@@ -184,7 +200,8 @@ no_peer_asked w (call.Retry number) no_ask = refl
 no_peer_asked w (call.Abandon number) no_ask = refl
 
 -- where the entries are as they were
-pub entries_stay : {Hash : Type 0} (hash : Hash) (old new : BTreeMap ℕ (ReplicaValue Hash)) (messages : List (List ℕ)) → new.entries ≡ old.entries → LeavesWorld hash old messages new messages
+pub entries_stay : {Hash : Type 0} (hash : Hash) (old new : BTreeMap ℕ (ReplicaValue Hash)) (messages : List (List ℕ)) → new.entries ≡ old.entries
+    → LeavesWorld hash old messages new messages
 entries_stay hash old new messages same w keeps =
     let at = λ (name : ℕ). ap (lookup (is_at (nat_cmp name))) same in
     record {
@@ -196,7 +213,8 @@ entries_stay hash old new messages same w keeps =
     }
 
 -- a world with nothing in it
-pub world_begins : {Hash : Type 0} (hash_of : Hash → List ℕ → ℕ) (hash : Hash) (replicas : BTreeMap ℕ (ReplicaValue Hash)) → replicas.entries ≡ [] → IsWorld hash_of hash replicas [] []
+pub world_begins : {Hash : Type 0} (hash_of : Hash → List ℕ → ℕ) (hash : Hash) (replicas : BTreeMap ℕ (ReplicaValue Hash)) → replicas.entries ≡ []
+    → IsWorld hash_of hash replicas [] []
 world_begins hash_of hash replicas empty =
     let none = λ (name : ℕ). ap (lookup (is_at (nat_cmp name))) empty in
     record {

@@ -32,10 +32,12 @@ on_err_both (Ok x) both first then = tt
 on_err_both (Err e) both first then = both first then
 
 -- an item that was pushed where there was room
-pub list_push : {E X D : Type 0} (old reserved new : List E) (e : E) (r : Result X D) (x : X) → reserved ≡ old → new ≡ cond (is_ok r) (reserved ++ e ∷ []) reserved → r ≡ Ok x → new ≡ old ++ e ∷ []
+pub list_push : {E X D : Type 0} (old reserved new : List E) (e : E) (r : Result X D) (x : X) → reserved ≡ old
+    → new ≡ cond (is_ok r) (reserved ++ e ∷ []) reserved → r ≡ Ok x → new ≡ old ++ e ∷ []
 list_push old reserved new e r x room pushed ok =
     pushed ∙ ap (λ (s : Result _ _). cond (is_ok s) (reserved ++ e ∷ []) reserved) ok ∙ ap (λ xs. xs ++ e ∷ []) room
 
-pub past_push : {E V X D : Type 0} (value : E → V) (old reserved new : List E) (e : E) (r : Result X D) (x : X) → reserved ≡ old → new ≡ cond (is_ok r) (reserved ++ e ∷ []) reserved → r ≡ Ok x
+pub past_push : {E V X D : Type 0} (value : E → V) (old reserved new : List E) (e : E) (r : Result X D) (x : X) → reserved ≡ old
+    → new ≡ cond (is_ok r) (reserved ++ e ∷ []) reserved → r ≡ Ok x
     → map value new ≡ map value old ++ value e ∷ []
 past_push value old reserved new e r x room pushed ok = ap (map value) (list_push old reserved new e r x room pushed ok) ∙ map-append value old (e ∷ [])

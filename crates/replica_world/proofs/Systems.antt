@@ -1,5 +1,6 @@
 -- An event of a world is one of the system that it shows.
-use Rattle.std.proofs.Common.{◌≡◌, ℕ, zero, suc, ◌==◌, Bool, true, false, cond, List, [], ◌∷◌, ◌++◌, map, Option, Some, None, refl, sym, ap, ◌∙◌, subst, arith, append-nil}
+use Rattle.std.proofs.Common.{◌≡◌, ℕ, zero, suc, ◌==◌, Bool, true, false, cond, List, [], ◌∷◌, ◌++◌, map, Option, Some, None, refl, sym, ap, ◌∙◌, subst, arith}
+use Rattle.std.proofs.Common.{append-nil}
 use Rattle.std.proofs.lemmas.Bool.Decides.{nat_tests}
 use Rattle.std.specs.List.{slice_get}
 use Rattle.std.specs.Option.{option_map}
@@ -53,7 +54,8 @@ module _ (hash_of : List ℕ → ℕ) (w : World) (s : System) (shows : Shows w 
   there : (name : ℕ) (b : Bool) → is_node w name ≡ b → is_among s.nodes name ≡ b
   there name b is = ap (λ ns. is_among ns name) (sym shows.nodes) ∙ is
 
-  stepped : (name : ℕ) (act : Act) (new : Replica) (answer : Answer) (out : List Mail) → IsStep hash_of (w.replica name) act new answer out → IsStep hash_of (s.replica name) act new answer out
+  stepped : (name : ℕ) (act : Act) (new : Replica) (answer : Answer) (out : List Mail) → IsStep hash_of (w.replica name) act new answer out
+      → IsStep hash_of (s.replica name) act new answer out
   stepped name act new answer out = subst (λ r. IsStep hash_of r act new answer out) (shows.replica name)
 
   node : (name : ℕ) (answer : Answer) (v : World) → Happens hash_of w (Node name) answer v → Did hash_of s (Node name) answer v
@@ -79,7 +81,8 @@ module _ (hash_of : List ℕ → ℕ) (w : World) (s : System) (shows : Shows w 
         shows = record {
           nodes = (same_calls w name c).1 ∙ shows.nodes;
           replica = λ n. ap (cond (n == name) new) (ap (λ f. f n) (same_after_calls hash_of w name c) ∙ shows.replica n);
-          messages = mails_more u.messages group u.kept new.kept out ∙ ap (λ ms. map (λ (x : Message). x.mail) ms ++ out) (same_calls w name c).0 ∙ ap (λ ms. ms ++ out) shows.messages;
+          messages = mails_more u.messages group u.kept new.kept out ∙ ap (λ ms. map (λ (x : Message). x.mail) ms ++ out) (same_calls w name c).0
+              ∙ ap (λ ms. ms ++ out) shows.messages;
         };
       })
 
@@ -90,9 +93,17 @@ module _ (hash_of : List ℕ → ℕ) (w : World) (s : System) (shows : Shows w 
       subst (Did hash_of s (Deliver number name) answer) (sym is) (record {
         new = new;
         out = out;
-        does = (there name true here, (m.mail, ap (λ ms. mail_at ms number) (sym shows.messages) ∙ mail_found w.messages number m found, stepped name (Take m.mail) new answer out step));
+        does = (
+          there name true here,
+          (
+            m.mail,
+            ap (λ ms. mail_at ms number) (sym shows.messages) ∙ mail_found w.messages number m found,
+            stepped name (Take m.mail) new answer out step,
+          ),
+        );
         shows = record {
-          nodes = left_as_is name (λ x. x.nodes) (λ x n. refl) (λ x o s. refl) (λ x s o. refl) (λ x s t. refl) (λ x o f t. refl) w was m.mail m.of outcome ∙ shows.nodes;
+          nodes = left_as_is name (λ x. x.nodes) (λ x n. refl) (λ x o s. refl) (λ x s o. refl) (λ x s t. refl) (λ x o f t. refl) w was m.mail m.of outcome
+              ∙ shows.nodes;
           replica = λ n. ap (cond (n == name) new) (ap (λ f. f n) (same_replicas w name was m.mail m.of outcome) ∙ shows.replica n);
           messages = mails_more u.messages [] u.kept new.kept out
               ∙ ap (λ ms. map (λ (x : Message). x.mail) ms ++ out) (same_messages w name was m.mail m.of outcome) ∙ ap (λ ms. ms ++ out) shows.messages;

@@ -23,7 +23,8 @@ module _ {R E : Type 0} (book : Book) (stands : R → List E → Type 0) where
       ⊎_elim (λ (t : (j ≡ seat) × (new ≡ v)). subst (λ (z : List E). IsPrefix z new) t.1 (prefix_self new))
       (λ (t : (j ≢ seat) × (get_elem? views j ≡ some v)). prefix_trans v old new (all j v t.1) longer) (at_set views seat j new v at)
 
-  pub publishes : (seat : ℕ) (v : List E) (p q : R × List E × Book) → IsPrefix p.1 q.1 → StandsIn book stands q → TurnsAt (Holds book stands) seat v p q (Shows book stands)
+  pub publishes : (seat : ℕ) (v : List E) (p q : R × List E × Book) → IsPrefix p.1 q.1 → StandsIn book stands q
+      → TurnsAt (Holds book stands) seat v p q (Shows book stands)
   publishes seat v p q longer in_it views h at = (
     q.1,
     (in_it, all_set views seat p.1 q.1 longer h.1),
@@ -31,7 +32,8 @@ module _ {R E : Type 0} (book : Book) (stands : R → List E → Type 0) where
   )
 
   -- what pends is published
-  pub publishes_due : (seat : ℕ) (v : List E) (p q d : R × List E × Book) → q ≡ d → IsPrefix p.1 d.1 → StandsIn book stands d → TurnsAt (Holds book stands) seat v p q (Shows book stands)
+  pub publishes_due : (seat : ℕ) (v : List E) (p q d : R × List E × Book) → q ≡ d → IsPrefix p.1 d.1 → StandsIn book stands d
+      → TurnsAt (Holds book stands) seat v p q (Shows book stands)
   publishes_due seat v p q d is longer in_it = publishes seat v p q (rw is longer) (rw is in_it)
 
   pub enters : (seat : ℕ) (v : List E) → Turns (Holds book stands) seat v (λ x. x) (Shows book stands)

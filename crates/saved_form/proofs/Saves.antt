@@ -2,7 +2,8 @@
 use Rattle.std.proofs.Common.{◌≡◌, ◌⊎◌, ℕ, List, [], ◌∷◌, ◌++◌, length, Result, Ok, Err, inl, inr, refl, sym, ap, subst, ◌∙◌, append_assoc}
 use Rattle.std.specs.Prelude.{MatchResult, IsErrOf}
 use Rattle.dots.specs.declared.refusal.Refusal.{Refusal}
-use Rattle.dots.specs.declared.refusal.Refusal.TheVariants.{OutOfMemory, TooLong, ReadOnly, NumbersSpent, SessionsFull, NotAMessage, NoPlace, NameTaken, UnknownReplica, UnknownMessage, BadLine, Input, Output}
+use Rattle.dots.specs.declared.refusal.Refusal.TheVariants.{OutOfMemory, TooLong, ReadOnly, NumbersSpent, SessionsFull, NotAMessage, NoPlace, NameTaken}
+use Rattle.dots.specs.declared.refusal.Refusal.TheVariants.{UnknownReplica, UnknownMessage, BadLine, Input, Output}
 use Rattle.causal_join.specs.OrMap.{OrMapValue}
 use Rattle.wire_form.specs.Parts.{IsName}
 use Rattle.wire_form.specs.Spelling.{number, IsNumber, Begins, HasNoSpelling}
@@ -46,7 +47,8 @@ no_message bytes s m p h =
 
 -- ---- what a reader answers
 
-pub read_both : (bytes : List ℕ) (name opened : ℕ) (first second : List ℕ) (live group : OrMapValue) → Begins head IsHead bytes (name, (opened, first)) second → SpellsDelta first live → SpellsDelta second group
+pub read_both : (bytes : List ℕ) (name opened : ℕ) (first second : List ℕ) (live group : OrMapValue) → Begins head IsHead bytes (name, (opened, first)) second
+    → SpellsDelta first live → SpellsDelta second group
     → SpellsSaved (VERSION ∷ SAVED ∷ bytes) (record { name = name; opened = opened; live = live; group = group })
 read_both bytes name opened first second live group h l g =
     record { first = first; second = second; fits = h.fits; live = l; group = g; spelling = ap (λ x. VERSION ∷ SAVED ∷ x) h.parts }
@@ -55,7 +57,8 @@ pub none_headless : (bytes : List ℕ) → HasNoSpelling head IsHead bytes → S
 none_headless bytes none s p = none (s.name, (s.opened, p.first)) p.second (record { fits = p.fits; parts = ap behind p.spelling })
 
 module _ (bytes : List ℕ) (name opened : ℕ) (first second : List ℕ) (h : Begins head IsHead bytes (name, (opened, first)) second) where
-  parts_are : (s : SavedValue) (p : SpellsSaved (VERSION ∷ SAVED ∷ bytes) s) → (head_of (name, (opened, first)) ≡ head_of (s.name, (s.opened, p.first))) × (second ≡ p.second)
+  parts_are : (s : SavedValue) (p : SpellsSaved (VERSION ∷ SAVED ∷ bytes) s) → (head_of (name, (opened, first)) ≡ head_of (s.name, (s.opened, p.first)))
+      × (second ≡ p.second)
   parts_are s p = head_unique (name, (opened, first)) (s.name, (s.opened, p.first)) second p.second h.fits p.fits (sym h.parts ∙ ap behind p.spelling)
 
   pub none_first : ((d : OrMapValue) → SpellsDelta first d → ⊥) → SpellsNothingSaved (VERSION ∷ SAVED ∷ bytes)
@@ -64,7 +67,8 @@ module _ (bytes : List ℕ) (name opened : ℕ) (first second : List ℕ) (h : B
   pub none_second : ((d : OrMapValue) → SpellsDelta second d → ⊥) → SpellsNothingSaved (VERSION ∷ SAVED ∷ bytes)
   none_second none s p = none s.group (subst (λ x. SpellsDelta x s.group) (sym (parts_are s p).1) p.group)
 
-pub reads_saved : {R : Type 0} (show : R → SavedValue) (bytes bytes' : List ℕ) (r : Result R Refusal) → bytes ≡ bytes' → ReadsAll show (SpellsSaved bytes') r → ReadsAll show (SpellsSaved bytes) r
+pub reads_saved : {R : Type 0} (show : R → SavedValue) (bytes bytes' : List ℕ) (r : Result R Refusal) → bytes ≡ bytes' → ReadsAll show (SpellsSaved bytes') r
+    → ReadsAll show (SpellsSaved bytes) r
 reads_saved show bytes bytes' r e h = subst (λ (b : List ℕ). ReadsAll show (SpellsSaved b) r) (sym e) h
 
 pub none_otherwise : (bytes : List ℕ) → ((rest : List ℕ) → bytes ≡ VERSION ∷ SAVED ∷ rest → ⊥) → SpellsNothingSaved bytes
@@ -86,24 +90,31 @@ only_memory P Input h p = absurd h
 only_memory P Output h p = absurd h
 
 -- what the bytes spell is what was read
-pub only_save : {R : Type 0} (show : R → SavedValue) (bytes : List ℕ) (r : Result R Refusal) → ReadsAll show (SpellsSaved bytes) r → (s : SavedValue) → SpellsSaved bytes s
+pub only_save : {R : Type 0} (show : R → SavedValue) (bytes : List ℕ) (r : Result R Refusal) → ReadsAll show (SpellsSaved bytes) r → (s : SavedValue)
+    → SpellsSaved bytes s
     → MatchResult r (λ x. show x ≡ s) (λ e. e ≡ OutOfMemory)
 only_save show bytes (Ok x) h s p = one_save bytes (show x) s h p
-only_save show bytes (Err e) h s p = only_memory (SpellsSaved bytes s) e (refuses_weaker (SpellsNothingSaved bytes) (SpellsSaved bytes s → ⊥) e (λ none. none s) h) p
+only_save show bytes (Err e) h s p = only_memory (SpellsSaved bytes s) e
+    (refuses_weaker (SpellsNothingSaved bytes) (SpellsSaved bytes s → ⊥) e (λ none. none s) h) p
 
 -- what a writer leaves, piece by piece
-pub save_written : (s : SavedValue) (first second : List ℕ) (a b c d e f : List ℕ) → IsName s.name → IsNumber s.opened → IsNumber (length first) → SpellsDelta first s.live → SpellsDelta second s.group
-    → a ≡ VERSION ∷ SAVED ∷ [] → b ≡ a ++ number s.name → c ≡ b ++ number s.opened → d ≡ c ++ number (length first) → e ≡ d ++ first → f ≡ e ++ second → SpellsSaved f s
+pub save_written : (s : SavedValue) (first second : List ℕ) (a b c d e f : List ℕ) → IsName s.name → IsNumber s.opened → IsNumber (length first)
+    → SpellsDelta first s.live → SpellsDelta second s.group
+    → a ≡ VERSION ∷ SAVED ∷ [] → b ≡ a ++ number s.name → c ≡ b ++ number s.opened → d ≡ c ++ number (length first) → e ≡ d ++ first → f ≡ e ++ second
+    → SpellsSaved f s
 save_written s first second a b c d e f name opened long live group ha hb hc hd he hf = record {
   first = first;
   second = second;
   fits = (name, (opened, long));
   live = live;
   group = group;
-  spelling = hf ∙ ap (λ x. x ++ second) (he ∙ ap (λ x. x ++ first) (hd ∙ ap (λ x. x ++ number (length first)) (hc ∙ ap (λ x. x ++ number s.opened) (hb ∙ ap (λ x. x ++ number s.name) ha)))) ∙ regroup;
+  spelling = hf ∙ ap (λ x. x ++ second)
+      (he ∙ ap (λ x. x ++ first) (hd ∙ ap (λ x. x ++ number (length first))
+      (hc ∙ ap (λ x. x ++ number s.opened) (hb ∙ ap (λ x. x ++ number s.name) ha)))) ∙ regroup;
 }
   where
-    regroup : ((((VERSION ∷ SAVED ∷ number s.name) ++ number s.opened) ++ number (length first)) ++ first) ++ second ≡ VERSION ∷ SAVED ∷ head (s.name, (s.opened, first)) ++ second
+    regroup : ((((VERSION ∷ SAVED ∷ number s.name) ++ number s.opened) ++ number (length first)) ++ first) ++ second ≡ VERSION ∷ SAVED
+        ∷ head (s.name, (s.opened, first)) ++ second
     regroup =
         ap (λ x. x ++ second)
         (append_assoc ((VERSION ∷ SAVED ∷ number s.name) ++ number s.opened) (number (length first)) first
@@ -113,6 +124,7 @@ is_err_of : {T : Type 0} (e : Refusal) → e ≡ NotAMessage → IsErrOf {T = T}
 is_err_of e is = ap Err is
 
 -- what is told of a delta that is not read
-pub delta_refused : {T : Type 0} (bytes : List ℕ) (e : Refusal) → (IsErrOf {T = T} (Err e) NotAMessage → SpellsNone bytes) → (e ≡ NotAMessage) ⊎ (e ≡ OutOfMemory) → RefusesReading ((d : OrMapValue) → SpellsDelta bytes d → ⊥) e
+pub delta_refused : {T : Type 0} (bytes : List ℕ) (e : Refusal) → (IsErrOf {T = T} (Err e) NotAMessage → SpellsNone bytes) → (e ≡ NotAMessage)
+    ⊎ (e ≡ OutOfMemory) → RefusesReading ((d : OrMapValue) → SpellsDelta bytes d → ⊥) e
 delta_refused bytes e none (inl is) = refuses_absent ((d : OrMapValue) → SpellsDelta bytes d → ⊥) e is (λ d h. none (is_err_of e is) (Delta d) h)
 delta_refused bytes e none (inr is) = refuses_memory ((d : OrMapValue) → SpellsDelta bytes d → ⊥) e is

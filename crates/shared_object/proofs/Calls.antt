@@ -1,5 +1,6 @@
 -- The calls of a place in a history and in its fronts, and their counts.
-use Rattle.std.proofs.Common.{◌≡◌, ◌≢◌, ℕ, ◌+◌, ◌≤◌, ◌==◌, Bool, true, false, List, [], ◌∷◌, ◌++◌, length, take, slice_index, replicate, zero, suc, refl, ap, sym, ◌∙◌, subst, arith, rules, length-append, eq-eqb}
+use Rattle.std.proofs.Common.{◌≡◌, ◌≢◌, ℕ, ◌+◌, ◌≤◌, ◌==◌, Bool, true, false, List, [], ◌∷◌, ◌++◌, length, take, slice_index, replicate, zero, suc, refl, ap}
+use Rattle.std.proofs.Common.{sym, ◌∙◌, subst, arith, rules, length-append, eq-eqb}
 use Rattle.std.proofs.lemmas.List.{append-nil, take-append-le, take_all}
 use Rattle.std.proofs.lemmas.List.Elements.{filter-append}
 use Rattle.std.proofs.lemmas.Bool.Decides.{nat_tests}
@@ -69,13 +70,19 @@ module _ {E : Type 0} (place : E → ℕ) where
           ap length (calls_same q xs e (λ s. other (sym s ∙ is))) ∙ (counted q ∙ sym (elsewhere q other))
 
   -- the calls of a client in its front are the first of those in all that goes on from it
-  pub calls_kept : (p : ℕ) (xs ys : List E) (n : ℕ) → IsPrefix xs ys → n ≤ length (calls_by place p xs) → take n (calls_by place p ys) ≡ take n (calls_by place p xs)
+  pub calls_kept : (p : ℕ) (xs ys : List E) (n : ℕ) → IsPrefix xs ys → n ≤ length (calls_by place p xs)
+      → take n (calls_by place p ys) ≡ take n (calls_by place p xs)
   calls_kept p xs ys n (rest, is) le =
-      ap (λ (zs : List E). take n (calls_by place p zs)) (sym is) ∙ (ap (take n) (calls-append p xs rest) ∙ take-append-le n (calls_by place p xs) (calls_by place p rest) le)
+      ap (λ (zs : List E). take n (calls_by place p zs)) (sym is)
+      ∙ (ap (take n) (calls-append p xs rest) ∙ take-append-le n (calls_by place p xs) (calls_by place p rest) le)
 
   pub calls_grow : (p : ℕ) (xs ys : List E) → IsPrefix xs ys → length (calls_by place p xs) ≤ length (calls_by place p ys)
   calls_grow p xs ys (rest, is) =
-      omega (arith, ap (λ (zs : List E). length (calls_by place p zs)) (sym is) ∙ (ap length (calls-append p xs rest) ∙ length-append (calls_by place p xs) (calls_by place p rest)))
+      omega (
+        arith,
+        ap (λ (zs : List E). length (calls_by place p zs)) (sym is)
+            ∙ (ap length (calls-append p xs rest) ∙ length-append (calls_by place p xs) (calls_by place p rest)),
+      )
 
   -- and where there are no more, they are all
   pub calls_own : (p : ℕ) (xs ys : List E) (n : ℕ) → IsPrefix xs ys → n ≤ length (calls_by place p xs) → length (calls_by place p ys) ≡ n

@@ -1,5 +1,6 @@
 -- Clients that are handed in beside those that were given back: over plain lists.
-use Rattle.std.proofs.Common.{◌≡◌, ◌⊎◌, ⊎_elim, inl, inr, ℕ, zero, suc, ◌+◌, ◌<◌, Bool, true, false, MatchBool, List, [], ◌∷◌, ◌++◌, length, Some, ap, sym, ◌∙◌, subst, arith, append_assoc}
+use Rattle.std.proofs.Common.{◌≡◌, ◌⊎◌, ⊎_elim, inl, inr, ℕ, zero, suc, ◌+◌, ◌<◌, Bool, true, false, MatchBool, List, [], ◌∷◌, ◌++◌, length, Some, ap, sym, ◌∙◌}
+use Rattle.std.proofs.Common.{subst, arith, append_assoc}
 use Rattle.std.specs.List.{slice_get}
 use Rattle.shared_object.specs.History.{Seat}
 use Rattle.shared_object.specs.Finishing.{AreOfAll, HasClient}
@@ -38,7 +39,8 @@ module _ {E : Type 0} (xs ys : List (Seat E)) (p : ℕ) where
   among_none first second h =
       ⊎_elim (λ k. first (k.0, h.1, k.1, h.3)) (λ k. second (k.0, h.1, k.1, h.3)) (in_either xs ys h.0 h.1 h.2)
 
-  pub among_either : ¬ HasClient xs p → (b : Bool) → MatchBool b (HasClient ys p) (¬ HasClient ys p) → MatchBool b (HasClient (xs ++ ys) p) (¬ HasClient (xs ++ ys) p)
+  pub among_either : ¬ HasClient xs p → (b : Bool) → MatchBool b (HasClient ys p) (¬ HasClient ys p)
+      → MatchBool b (HasClient (xs ++ ys) p) (¬ HasClient (xs ++ ys) p)
   among_either first true h = among_second h
   among_either first false h = among_none first h
 

@@ -1,5 +1,6 @@
 -- Clients that are met one after the other: over plain lists.
-use Rattle.std.proofs.Common.{◌≡◌, ◌≢◌, ℕ, zero, suc, ◌+◌, ◌<◌, ◌≤◌, ◌==◌, Bool, true, false, get_or, List, [], ◌∷◌, ◌++◌, take, drop, set, length, Some, refl, sym, ◌∙◌, ap, subst, arith}
+use Rattle.std.proofs.Common.{◌≡◌, ◌≢◌, ℕ, zero, suc, ◌+◌, ◌<◌, ◌≤◌, ◌==◌, Bool, true, false, get_or, List, [], ◌∷◌, ◌++◌, take, drop, set, length, Some, refl}
+use Rattle.std.proofs.Common.{sym, ◌∙◌, ap, subst, arith}
 use Rattle.std.specs.List.{slice_get}
 use Rattle.std.proofs.lemmas.List.{append-nil, take_all, drop_all}
 use Rattle.std.proofs.lemmas.Bool.Decides.{nat_tests}
@@ -27,7 +28,8 @@ module _ {X : Type 0} (old now : List X) (k : ℕ) (x : X) (here : slice_get now
   was a there = let both : Some a ≡ Some x = sym there ∙ (sym (rest k (omega arith)) ∙ here) in cc
 
   -- what holds of the first k and of the next holds of one more
-  pub own_more : (P : X → Type 0) → P x → ((i : ℕ) (a : X) → i < k → slice_get old i ≡ Some a → P a) → (i : ℕ) (a : X) → i < k + 1 → slice_get old i ≡ Some a → P a
+  pub own_more : (P : X → Type 0) → P x → ((i : ℕ) (a : X) → i < k → slice_get old i ≡ Some a → P a) → (i : ℕ) (a : X) → i < k + 1
+      → slice_get old i ≡ Some a → P a
   own_more P it before i a below there = go (i == k) refl
     where
       go : (b : Bool) → (i == k) ≡ b → P a

@@ -15,9 +15,16 @@ module _ {E : Type 0} (place : E → ℕ) where
   seen_more p n front now le pre = record { seat = refl; operations = refl; made = calls_kept place p front now n pre le; seen = pre }
 
   -- its call was accepted
-  pub accepted : (p n : ℕ) (front history : List E) (e : E) → n ≤ length (calls_by place p front) → IsPrefix front history → length (calls_by place p history) ≡ n
+  pub accepted : (p n : ℕ) (front history : List E) (e : E) → n ≤ length (calls_by place p front) → IsPrefix front history
+      → length (calls_by place p history) ≡ n
       → IsAccepted place (record { place = p; operations = n; front = front }) (record { place = p; operations = n + 1; front = history ++ e ∷ [] }) history e
-  accepted p n front history e le pre own = record { seen = pre; own = calls_own place p front history n pre le own; seat = refl; operations = refl; front = refl }
+  accepted p n front history e le pre own = record {
+    seen = pre;
+    own = calls_own place p front history n pre le own;
+    seat = refl;
+    operations = refl;
+    front = refl;
+  }
 
   -- its calls are all that its place has
   pub own_calls : (p n : ℕ) (front history : List E) → n ≤ length (calls_by place p front) → IsPrefix front history → length (calls_by place p history) ≡ n

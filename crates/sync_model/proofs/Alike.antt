@@ -1,5 +1,6 @@
 -- Where the digests of two maps are equal at a prefix and no two pages clash, each key there has the same names.
-use Rattle.std.proofs.Common.{◌≡◌, ℕ, zero, suc, ◌+◌, ◌-◌, ◌<◌, ◌≤◌, List, [], ◌∷◌, ◌++◌, length, get_or, true, Some, None, arith, refl, sym, ◌∙◌, ap, subst, eq-eqb}
+use Rattle.std.proofs.Common.{◌≡◌, ℕ, zero, suc, ◌+◌, ◌-◌, ◌<◌, ◌≤◌, List, [], ◌∷◌, ◌++◌, length, get_or, true, Some, None, arith, refl, sym, ◌∙◌, ap, subst}
+use Rattle.std.proofs.Common.{eq-eqb}
 use Rattle.std.specs.Prelude.{Option, ◌&&◌}
 use Rattle.std.specs.Option.{option_map}
 use Rattle.std.specs.FinMap as finite
@@ -46,15 +47,19 @@ module _ (hash_of : List ℕ → ℕ) (m : Held) (p : List ℕ) where
       has : (n : NamedValue) → names_at m key ≡ Some n → In (named_entries (walk_under hash_of p m)) (key, n)
       has n e =
           let held = some_named (finite.get m key) n e in
-          subst (λ x. In (named_entries (walk_under hash_of p m)) (key, x)) held.2 (In-map named_entry (walk_under hash_of p m) (key, held.0) (part_has hash_of m p key held.0 held.1 under))
+          subst (λ x. In (named_entries (walk_under hash_of p m)) (key, x)) held.2
+          (In-map named_entry (walk_under hash_of p m) (key, held.0) (part_has hash_of m p key held.0 held.1 under))
 
   -- so are those of a page that tells its entries
-  pub leaf_names : (page : PageValue) → page_at hash_of m p ≡ Some page → IsLeaf page → (key : List ℕ) → begins p (path hash_of key) ≡ true → find bytes_cmp key (entries_of page) ≡ names_at m key
+  pub leaf_names : (page : PageValue) → page_at hash_of m p ≡ Some page → IsLeaf page → (key : List ℕ) → begins p (path hash_of key) ≡ true
+      → find bytes_cmp key (entries_of page) ≡ names_at m key
   leaf_names page is leaf key under = step (paged hash_of m p)
     where
-      told : (es : List (List ℕ × FieldsValue)) (other : PageValue) → walk_under hash_of p m ≡ es → entries_of other ≡ named_entries es → page_at hash_of m p ≡ Some other → find bytes_cmp key (entries_of page) ≡ names_at m key
+      told : (es : List (List ℕ × FieldsValue)) (other : PageValue) → walk_under hash_of p m ≡ es → entries_of other ≡ named_entries es
+          → page_at hash_of m p ≡ Some other → find bytes_cmp key (entries_of page) ≡ names_at m key
       told es other e s t =
-          ap (λ q. find bytes_cmp key (entries_of q)) (same_Some page other (sym is ∙ t)) ∙ ap (find bytes_cmp key) (s ∙ ap named_entries (sym e)) ∙ walk_names key under
+          ap (λ q. find bytes_cmp key (entries_of q)) (same_Some page other (sym is ∙ t)) ∙ ap (find bytes_cmp key) (s ∙ ap named_entries (sym e))
+          ∙ walk_names key under
 
       step : Paged hash_of m p → find bytes_cmp key (entries_of page) ≡ names_at m key
       step (Past long e) = absurd (let none : None ≡ Some page = sym e ∙ is in cc)
@@ -82,7 +87,8 @@ module _ (hash_of : List ℕ → ℕ) (m : Held) (p : List ℕ) where
           some_apart e = absurd cc
 
   -- the children of a branch are the digests one index on
-  pub children_are : (cs : List (ℕ × List ℕ)) → page_at hash_of m p ≡ Some (Branch cs) → (length p < 7) × (cs ≡ present 0 32 (λ i. digest_at hash_of m (p ++ i ∷ [])))
+  pub children_are : (cs : List (ℕ × List ℕ)) → page_at hash_of m p ≡ Some (Branch cs) → (length p < 7)
+      × (cs ≡ present 0 32 (λ i. digest_at hash_of m (p ++ i ∷ [])))
   children_are cs is = step (paged hash_of m p)
     where
       children : PageValue → List (ℕ × List ℕ)
@@ -97,7 +103,8 @@ module _ (hash_of : List ℕ → ℕ) (m : Held) (p : List ℕ) where
         where
           same_kind : Branch cs ≡ OneKey (named_entry e) → ⊥
           same_kind q = cc
-      step (Several deep many t) = absurd (same_kind (walk_under hash_of p m) (same_Some (Branch cs) (Keys (named_entries (walk_under hash_of p m))) (sym is ∙ t)))
+      step (Several deep many t) =
+          absurd (same_kind (walk_under hash_of p m) (same_Some (Branch cs) (Keys (named_entries (walk_under hash_of p m))) (sym is ∙ t)))
         where
           same_kind : (es : List (List ℕ × FieldsValue)) → Branch cs ≡ Keys (named_entries es) → ⊥
           same_kind es q = cc
@@ -120,14 +127,17 @@ module _ (hash_of : List ℕ → ℕ) (own theirs : Held)
       step (Some a) (Some b) x y s = ap Some (no_clash p p a b x y (same_Some (digest_of a) (digest_of b) s))
 
   -- so two branches that are one page have the same digests one index on
-  one_way : (m n : Held) (p : List ℕ) (cs : List (ℕ × List ℕ)) (i : ℕ) (d : List ℕ) → page_at hash_of m p ≡ Some (Branch cs) → page_at hash_of n p ≡ Some (Branch cs) → i < 32
+  one_way : (m n : Held) (p : List ℕ) (cs : List (ℕ × List ℕ)) (i : ℕ) (d : List ℕ) → page_at hash_of m p ≡ Some (Branch cs)
+      → page_at hash_of n p ≡ Some (Branch cs) → i < 32
       → digest_at hash_of m (p ++ i ∷ []) ≡ Some d → digest_at hash_of n (p ++ i ∷ []) ≡ Some d
   one_way m n p cs i d x y low e =
       let here = present_in 0 32 (λ i. digest_at hash_of m (p ++ i ∷ [])) i d (omega arith) (omega (arith, low)) e in
-      let same : present 0 32 (λ i. digest_at hash_of m (p ++ i ∷ [])) ≡ present 0 32 (λ i. digest_at hash_of n (p ++ i ∷ [])) = sym (children_are hash_of m p cs x).1 ∙ (children_are hash_of n p cs y).1 in
+      let same : present 0 32 (λ i. digest_at hash_of m (p ++ i ∷ [])) ≡ present 0 32 (λ i. digest_at hash_of n (p ++ i ∷ [])) =
+      sym (children_are hash_of m p cs x).1 ∙ (children_are hash_of n p cs y).1 in
       (in_present 0 32 (λ i. digest_at hash_of n (p ++ i ∷ [])) i d (subst (λ l. In l (i, d)) same here)).2
 
-  pub same_child : (p : List ℕ) (cs : List (ℕ × List ℕ)) (i : ℕ) → page_at hash_of own p ≡ Some (Branch cs) → page_at hash_of theirs p ≡ Some (Branch cs) → i < 32
+  pub same_child : (p : List ℕ) (cs : List (ℕ × List ℕ)) (i : ℕ) → page_at hash_of own p ≡ Some (Branch cs)
+      → page_at hash_of theirs p ≡ Some (Branch cs) → i < 32
       → digest_at hash_of own (p ++ i ∷ []) ≡ digest_at hash_of theirs (p ++ i ∷ [])
   same_child p cs i x y low = step (digest_at hash_of own (p ++ i ∷ [])) (digest_at hash_of theirs (p ++ i ∷ [])) refl refl
     where
@@ -150,7 +160,8 @@ module _ (hash_of : List ℕ → ℕ) (own theirs : Held)
       step (Some (Keys xs)) s = leaf (Keys xs) tt s
       step (Some (Branch cs)) s = branch cs s
 
-  by_page : (n : ℕ) (p : List ℕ) → length p + n ≡ 7 → page_at hash_of own p ≡ page_at hash_of theirs p → (key : List ℕ) → begins p (path hash_of key) ≡ true → names_at own key ≡ names_at theirs key
+  by_page : (n : ℕ) (p : List ℕ) → length p + n ≡ 7 → page_at hash_of own p ≡ page_at hash_of theirs p → (key : List ℕ) → begins p (path hash_of key) ≡ true
+      → names_at own key ≡ names_at theirs key
   by_page zero p depth e key under =
       by_kind p (omega (arith, depth)) e key under (λ cs s. let less = (children_are hash_of own p cs s).0 in absurd (omega (arith, less, depth)))
   by_page (suc n) p depth e key under =
@@ -159,8 +170,10 @@ module _ (hash_of : List ℕ → ℕ) (own theirs : Held)
       let less = (children_are hash_of own p cs s).0 in
       let next = get_or (path hash_of key) (length p) 0 in
       let long = length-further p next in
-      by_page n (p ++ next ∷ []) (omega (arith, long, depth)) (same_page (p ++ next ∷ []) (same_child p cs next s (sym e ∙ s) (next_below hash_of p key less))) key
+      by_page n (p ++ next ∷ []) (omega (arith, long, depth))
+      (same_page (p ++ next ∷ []) (same_child p cs next s (sym e ∙ s) (next_below hash_of p key less))) key
       (begins_further p (path hash_of key) next ∙ (λ t. under t && eq-eqb next next refl t)))
 
-  pub same_names : (p : List ℕ) → length p ≤ 7 → digest_at hash_of own p ≡ digest_at hash_of theirs p → (key : List ℕ) → begins p (path hash_of key) ≡ true → names_at own key ≡ names_at theirs key
+  pub same_names : (p : List ℕ) → length p ≤ 7 → digest_at hash_of own p ≡ digest_at hash_of theirs p → (key : List ℕ) → begins p (path hash_of key) ≡ true
+      → names_at own key ≡ names_at theirs key
   same_names p short e = by_page (7 - length p) p (omega (arith, short)) (same_page p e)

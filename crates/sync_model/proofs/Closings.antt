@@ -34,7 +34,8 @@ module _ (seen : DotValue → Bool) where
   abbrev kept : Option (List ℕ) → DotValue → Bool
   kept o d = not (seen d) || is_some o
 
-  find_kept : (held : DotValue → Option (List ℕ)) (vs : ValuesValue) (d : DotValue) → find dot_cmp d (without_ended seen held vs) ≡ cond (kept (held d) d) (find dot_cmp d vs) None
+  find_kept : (held : DotValue → Option (List ℕ)) (vs : ValuesValue) (d : DotValue)
+      → find dot_cmp d (without_ended seen held vs) ≡ cond (kept (held d) d) (find dot_cmp d vs) None
   find_kept held [] d = none_either (kept (held d) d)
   find_kept held (v ∷ vs) d = step (kept (held v.0) v.0) refl (eq_by_cmp dot_cmp d v.0) refl (find_kept held vs d)
     where
@@ -43,21 +44,26 @@ module _ (seen : DotValue → Bool) where
 
       step : (b : Bool) → kept (held v.0) v.0 ≡ b → (t : Bool) → eq_by_cmp dot_cmp d v.0 ≡ t
           → find dot_cmp d (without_ended seen held vs) ≡ cond (kept (held d) d) (find dot_cmp d vs) None
-          → find dot_cmp d (cond b (v ∷ without_ended seen held vs) (without_ended seen held vs)) ≡ cond (kept (held d) d) (cond t (Some v.1) (find dot_cmp d vs)) None
-      step true e true s rest = (λ k. cond (s k) (Some v.1) (find dot_cmp d (without_ended seen held vs))) ∙ (λ k. cond (sym (sym (same_test s) ∙ e) k) (Some v.1) None)
+          → find dot_cmp d (cond b (v ∷ without_ended seen held vs) (without_ended seen held vs))
+          ≡ cond (kept (held d) d) (cond t (Some v.1) (find dot_cmp d vs)) None
+      step true e true s rest = (λ k. cond (s k) (Some v.1) (find dot_cmp d (without_ended seen held vs)))
+          ∙ (λ k. cond (sym (sym (same_test s) ∙ e) k) (Some v.1) None)
       step true e false s rest = (λ k. cond (s k) (Some v.1) (find dot_cmp d (without_ended seen held vs))) ∙ rest
-      step false e true s rest = rest ∙ (λ k. cond ((sym (same_test s) ∙ e) k) (find dot_cmp d vs) None) ∙ (λ k. cond (sym (sym (same_test s) ∙ e) k) (Some v.1) None)
+      step false e true s rest = rest ∙ (λ k. cond ((sym (same_test s) ∙ e) k) (find dot_cmp d vs) None)
+          ∙ (λ k. cond (sym (sym (same_test s) ∙ e) k) (Some v.1) None)
       step false e false s rest = rest
 
   -- the values of a field are those of the field, where each field is there once
-  field_kept : (held : List ℕ → DotValue → Option (List ℕ)) (fs gs : FieldsValue) (f : List ℕ) → ((g : List ℕ) (vs : ValuesValue) → In gs (g, vs) → find bytes_cmp g fs ≡ Some vs)
+  field_kept : (held : List ℕ → DotValue → Option (List ℕ)) (fs gs : FieldsValue) (f : List ℕ)
+      → ((g : List ℕ) (vs : ValuesValue) → In gs (g, vs) → find bytes_cmp g fs ≡ Some vs)
       → values_of_field (open_fields seen held gs) f ≡ without_ended seen (held f) (values_of_field gs f)
   field_kept held fs [] f once = refl
   field_kept held fs ((g, vs) ∷ gs) f once =
       step (eq_by_cmp bytes_cmp f g) refl (without_ended seen (held g) vs) refl (field_kept held fs gs f (λ h ws i. once h ws (inr i)))
     where
       -- where the field is this one, what is further on at it is the same again
-      again : f ≡ g → without_ended seen (held g) vs ≡ [] → (o : Option ValuesValue) → find bytes_cmp f gs ≡ o → without_ended seen (held f) (values_or_none o) ≡ []
+      again : f ≡ g → without_ended seen (held g) vs ≡ [] → (o : Option ValuesValue) → find bytes_cmp f gs ≡ o
+          → without_ended seen (held f) (values_or_none o) ≡ []
       again e none None t = refl
       again e none (Some xs) t =
           let same = same_Some xs vs (sym (once f xs (inr (find_in f gs xs t))) ∙ ap (λ h. find bytes_cmp h fs) e ∙ once g vs (inl refl)) in
@@ -65,13 +71,15 @@ module _ (seen : DotValue → Bool) where
 
       step : (t : Bool) → eq_by_cmp bytes_cmp f g ≡ t → (ws : ValuesValue) → without_ended seen (held g) vs ≡ ws
           → values_of_field (open_fields seen held gs) f ≡ without_ended seen (held f) (values_of_field gs f)
-          → values_of_field (with_values g ws (open_fields seen held gs)) f ≡ without_ended seen (held f) (values_or_none (cond t (Some vs) (find bytes_cmp f gs)))
+          → values_of_field (with_values g ws (open_fields seen held gs)) f ≡ without_ended seen (held f)
+          (values_or_none (cond t (Some vs) (find bytes_cmp f gs)))
       step true e [] s rest =
           let same = tied_same f g e in
           rest ∙ again same s (find bytes_cmp f gs) refl ∙ sym (ap (λ h. without_ended seen (held h) vs) same ∙ s)
       step true e (w ∷ ws) s rest =
           let same = tied_same f g e in
-          ap (λ t. values_or_none (cond t (Some (w ∷ ws)) (find bytes_cmp f (open_fields seen held gs)))) e ∙ sym (ap (λ h. without_ended seen (held h) vs) same ∙ s)
+          ap (λ t. values_or_none (cond t (Some (w ∷ ws)) (find bytes_cmp f (open_fields seen held gs)))) e
+          ∙ sym (ap (λ h. without_ended seen (held h) vs) same ∙ s)
       step false e [] s rest = rest
       step false e (w ∷ ws) s rest = ap (λ t. values_or_none (cond t (Some (w ∷ ws)) (find bytes_cmp f (open_fields seen held gs)))) e ∙ rest
 
@@ -109,14 +117,17 @@ closing own theirs built seen opened live lawful is below = record {
       let o = held_in (finite.get own place.key) place.field d in
       let t = there (finite.get theirs place.key) place.field d in
       ap (λ b. joined greater (live.at place d) (live.has d) b (opened d))
-      (held_there (finite.get built place.key) place.field d ∙ ap (λ h. there h place.field d) (is place.key) ∙ opened_there seen (finite.get own place.key) (finite.get theirs place.key) (lawful place.key) place.field d)
+      (held_there (finite.get built place.key) place.field d ∙ ap (λ h. there h place.field d) (is place.key)
+      ∙ opened_there seen (finite.get own place.key) (finite.get theirs place.key) (lawful place.key) place.field d)
       ∙ by_dot place d o refl t (seen d) refl
       ∙ ap (λ b. joined greater (live.at place d) (live.has d) b (opened d)) (sym (held_there (finite.get theirs place.key) place.field d));
   has = λ d. refl;
 }
   where
-    by_dot : (place : Place) (d : DotValue) (o : Option (List ℕ)) → held_in (finite.get own place.key) place.field d ≡ o → (t : Option (List ℕ)) (b : Bool) → seen d ≡ b
-        → joined greater (live.at place d) (live.has d) (cond (not b || is_some o) t None) (opened d) ≡ joined greater (live.at place d) (live.has d) t (opened d)
+    by_dot : (place : Place) (d : DotValue) (o : Option (List ℕ)) → held_in (finite.get own place.key) place.field d ≡ o → (t : Option (List ℕ)) (b : Bool)
+        → seen d ≡ b
+        → joined greater (live.at place d) (live.has d) (cond (not b || is_some o) t None) (opened d)
+        ≡ joined greater (live.at place d) (live.has d) t (opened d)
     by_dot place d o e t false s = refl
     by_dot place d (Some v) e t true s = refl
     by_dot place d None e t true s =

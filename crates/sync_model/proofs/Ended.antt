@@ -74,7 +74,8 @@ module _ (S : List Operation) (once : NoReuse S) where
   state_is = record { at = λ place dot. is_map.at place dot; has = λ dot. refl }
 
   -- what stands at a dot of a key's field stands there in the state, and is known
-  stands_there : (key : List ℕ) (fs : FieldsValue) → finite.get (map_of S) key ≡ Some fs → (field : List ℕ) (vs : ValuesValue) → In fs (field, vs) → (d : Dot) (v : List ℕ) → In vs (d, v)
+  stands_there : (key : List ℕ) (fs : FieldsValue) → finite.get (map_of S) key ≡ Some fs → (field : List ℕ) (vs : ValuesValue) → In fs (field, vs)
+      → (d : Dot) (v : List ℕ) → In vs (d, v)
       → (state S).at (place_of key field) d ≡ Some v
   stands_there key fs e field vs h d v i =
       let order = is_map.ordered key fs e in
@@ -94,19 +95,23 @@ module _ (S : List Operation) (once : NoReuse S) where
 
 -- ---- a dot has one value
 
-written : (S : List Operation) (place : Place) (d : Dot) (x : List ℕ) → (state S).at place d ≡ Some x → (w : Write) × Contains (writes S) w × (w.id ≡ d) × (w.value ≡ x)
+written : (S : List Operation) (place : Place) (d : Dot) (x : List ℕ) → (state S).at place d ≡ Some x → (w : Write) × Contains (writes S) w × (w.id ≡ d)
+    × (w.value ≡ x)
 written S place d x e = step (has (observed S) d) (sym (at-state S place d) ∙ e)
   where
-    step : (b : Bool) → cond b None (value_under d (filter (is_on place) (writes S))) ≡ Some x → (w : Write) × Contains (writes S) w × (w.id ≡ d) × (w.value ≡ x)
+    step : (b : Bool) → cond b None (value_under d (filter (is_on place) (writes S))) ≡ Some x → (w : Write) × Contains (writes S) w × (w.id ≡ d)
+        × (w.value ≡ x)
     step true t = absurd cc
-    step false t = let there = found_under d (filter (is_on place) (writes S)) x t in (there.0, (from_filter (is_on place) (writes S) there.0 there.1).0, there.2, there.3)
+    step false t = let there = found_under d (filter (is_on place) (writes S)) x t in
+        (there.0, (from_filter (is_on place) (writes S) there.0 there.1).0, there.2, there.3)
 
 one_value_of : (S T : List Operation) → NoReuse (S ++ T) → OneValue (map_of S) (map_of T)
 one_value_of S T once key gs e field vs h d o v held i =
     let once_mine = NoReuse-part S (S ++ T) (left_part S T) once in
     let once_theirs = NoReuse-part T (S ++ T) (right_part S T) once in
     let mine = written S (place_of key field) d o (sym ((is_map S once_mine).at (place_of key field) d) ∙ held) in
-    let theirs = written T (place_of key field) d v (stands_there T once_theirs key gs e field vs (In-Contains gs (field, vs) h) d v (In-Contains vs (d, v) i)) in
+    let theirs = written T (place_of key field) d v (stands_there T once_theirs key gs e field vs (In-Contains gs (field, vs) h) d v
+    (In-Contains vs (d, v) i)) in
     let one = once.one_write mine.0 theirs.0 (in_writes_left S T mine.0 mine.1) (in_writes_right S T theirs.0 theirs.1) (mine.2 ∙ sym theirs.2) in
     sym mine.3 ∙ ap (λ (w : Write). w.value) one ∙ theirs.3
 
@@ -123,7 +128,8 @@ done hash_of asked opened seen ts f part once no_clash fetched none =
     same_same _ _ _ (joins_same greater (state seen) _ _ (state_is asked once_asked))
     (same_same _ _ _ (join-states seen asked (NoReuse-part (seen ++ asked) seen (part_both seen asked seen (itself_part seen) part) once_seen))
     (state-same (seen ++ asked) seen (record { there = part_both seen asked seen (itself_part seen) part; back = left_part seen asked }))) in
-    let closed = closing (map_of asked) (map_of opened) f.built (has (known asked)) (has (known opened)) (state seen) (lawful_of opened once_opened) (law.done none).0 below in
+    let closed = closing (map_of asked) (map_of opened) f.built (has (known asked)) (has (known opened)) (state seen) (lawful_of opened once_opened)
+    (law.done none).0 below in
     same_same _ _ _ closed (same_same _ _ _ (joins_same greater (state seen) _ _ (state_is opened once_opened)) (join-states seen opened once))
 
 pub goes_on : FetchGoesOn
@@ -131,7 +137,8 @@ unfolding root_digest
 goes_on hash_of asked opened ts f once no_clash fetched p d w =
     let once_asked = NoReuse-part asked (asked ++ opened) (left_part asked opened) once in
     let once_opened = NoReuse-part opened (asked ++ opened) (right_part asked opened) once in
-    let next = fitting hash_of (map_of asked) (map_of opened) (has (known asked)) (has (known opened)) ts f (lawful_of asked once_asked) no_clash (within_of opened once_opened) (one_value_of asked opened once) fetched p d w in (
+    let next = fitting hash_of (map_of asked) (map_of opened) (has (known asked)) (has (known opened)) ts f (lawful_of asked once_asked) no_clash
+    (within_of opened once_opened) (one_value_of asked opened once) fetched p d w in (
       record { prefix = p; page = next.0; sent = unknown_at (has (known asked)) hash_of (map_of opened) p },
       refl,
       next.1,
@@ -142,5 +149,6 @@ goes_on hash_of asked opened ts f once no_clash fetched p d w =
 pub opens : Opens
 unfolding root_digest
 opens hash_of asked opened once no_clash =
-    opening hash_of (map_of asked) (map_of opened) (has (known asked)) (has (known opened)) (lawful_of asked (NoReuse-part asked (asked ++ opened) (left_part asked opened) once)) no_clash
+    opening hash_of (map_of asked) (map_of opened) (has (known asked)) (has (known opened))
+    (lawful_of asked (NoReuse-part asked (asked ++ opened) (left_part asked opened) once)) no_clash
     (within_of opened (NoReuse-part opened (asked ++ opened) (right_part asked opened) once))

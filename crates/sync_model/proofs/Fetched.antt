@@ -1,6 +1,7 @@
 -- What is kept from page to page: just the prefixes are waited for where the maps differ, which were not taken and all above
 -- which were; a key below one of them is built as the asker held it, and any other as it is to be.
-use Rattle.std.proofs.Common.{◌≡◌, ◌≢◌, ◌⊎◌, inl, inr, ℕ, ◌<◌, ◌≤◌, List, [], ◌∷◌, ◌++◌, length, get_or, nat_eq, Bool, true, false, cond, not, Some, None, arith, refl, sym, ◌∙◌, ap, subst, eqb-true, eq-eqb}
+use Rattle.std.proofs.Common.{◌≡◌, ◌≢◌, ◌⊎◌, inl, inr, ℕ, ◌<◌, ◌≤◌, List, [], ◌∷◌, ◌++◌, length, get_or, nat_eq, Bool, true, false, cond, not, Some, None}
+use Rattle.std.proofs.Common.{arith, refl, sym, ◌∙◌, ap, subst, eqb-true, eq-eqb}
 use Rattle.std.specs.Prelude.{Option, ◌&&◌, ◌||◌}
 use Rattle.std.specs.Option.{option_map}
 use Rattle.std.specs.List.{list_any}
@@ -43,7 +44,8 @@ used_from (Some (xs, v ∷ sent)) es e = absurd cc
 -- ---- what is open of each entry
 
 module _ (seen : DotValue → Bool) (own : Held) where
-  open_has : (es : List (List ℕ × FieldsValue)) (key : List ℕ) (fs : FieldsValue) → In es (key, fs) → In (open_entries seen own es) (key, open_fields seen (held_in (finite.get own key)) fs)
+  open_has : (es : List (List ℕ × FieldsValue)) (key : List ℕ) (fs : FieldsValue) → In es (key, fs)
+      → In (open_entries seen own es) (key, open_fields seen (held_in (finite.get own key)) fs)
   open_has [] key fs h = absurd h
   open_has (e ∷ es) key fs (inl same) = inl (λ k. ((same k).0, open_fields seen (held_in (finite.get own (same k).0)) (same k).1))
   open_has (e ∷ es) key fs (inr h) = inr (open_has es key fs h)
@@ -105,7 +107,8 @@ index_there hash_of m p i d less e =
     by_key key fs h =
         let under = (part_found hash_of m q key fs h).1 in
         let split = sym (begins_further p (path hash_of key) i) ∙ under in
-        let same = eqb-true i (get_or (path hash_of key) (length p) 0) (right (begins p (path hash_of key)) (nat_eq i (get_or (path hash_of key) (length p) 0)) split) in
+        let same = eqb-true i (get_or (path hash_of key) (length p) 0)
+        (right (begins p (path hash_of key)) (nat_eq i (get_or (path hash_of key) (length p) 0)) split) in
         subst (λ n. n < 32) (sym same) (next_below hash_of p key less)
       where
         right : (a b : Bool) → a && b ≡ true → b ≡ true
@@ -145,14 +148,17 @@ module _ (hash_of : List ℕ → ℕ) (own theirs : Held) (seen opened : DotValu
     pub same_below : (p : List ℕ) → length p ≤ 7 → digest_at hash_of own p ≡ digest_at hash_of theirs p → (key : List ℕ) → begins p (path hash_of key) ≡ true
         → opened_at seen (finite.get own key) (finite.get theirs key) ≡ finite.get own key
     same_below p short e key under =
-        step (finite.get own key) (finite.get theirs key) refl refl (same_names hash_of own theirs (λ p q a b x y s. no_page_clash a b q (own_pages p a x) y s) p short e key under)
+        step (finite.get own key) (finite.get theirs key) refl refl
+        (same_names hash_of own theirs (λ p q a b x y s. no_page_clash a b q (own_pages p a x) y s) p short e key under)
       where
-        step : (a b : Option FieldsValue) → finite.get own key ≡ a → finite.get theirs key ≡ b → option_map named_fields a ≡ option_map named_fields b → opened_at seen a b ≡ a
+        step : (a b : Option FieldsValue) → finite.get own key ≡ a → finite.get theirs key ≡ b → option_map named_fields a ≡ option_map named_fields b
+            → opened_at seen a b ≡ a
         step None None x y s = refl
         step None (Some gs) x y s = absurd cc
         step (Some fs) None x y s = absurd cc
         step (Some fs) (Some gs) x y s =
-            let same = fields_same MetHere MetThere no_value_clash fs gs (own_met key fs x) (theirs_met key gs y) (same_Some (named_fields fs) (named_fields gs) s) in
+            let same = fields_same MetHere MetThere no_value_clash fs gs (own_met key fs x) (theirs_met key gs y)
+            (same_Some (named_fields fs) (named_fields gs) s) in
             ap (λ o. opened_at seen (Some fs) (Some o)) (sym same) ∙ own_open seen fs (lawful key fs x)
 
     -- a page of the promised digest is theirs
@@ -164,7 +170,8 @@ module _ (hash_of : List ℕ → ℕ) (own theirs : Held) (seen opened : DotValu
         step (Some b) s t = ap Some (sym (no_page_clash page b p met s (sym right ∙ sym (same_Some (digest_of b) d t))))
 
     -- one page taken
-    module _ (TakenAt : List ℕ → Type 0) (f g : Fetch) (p : List ℕ) (page : PageValue) (sent : List (List ℕ)) (met : MetPage page) (sent_met : EachSent MetHere sent)
+    module _ (TakenAt : List ℕ → Type 0) (f g : Fetch) (p : List ℕ) (page : PageValue) (sent : List (List ℕ)) (met : MetPage page)
+        (sent_met : EachSent MetHere sent)
         (kept : Kept TakenAt f) (s : Step hash_of own seen opened f p page sent g) where
       here : Waits hash_of own theirs TakenAt p s.digest
       here = kept.waits p s.digest s.waited
@@ -183,7 +190,8 @@ module _ (hash_of : List ℕ → ℕ) (own theirs : Held) (seen opened : DotValu
       leaf_filled is =
           let es = walk_under hash_of p theirs in
           let whole = used_from (fill_entries seen own (named_entries es) sent) s.made (ap (λ l. filled seen own l sent) (sym is) ∙ s.fill) in
-          let both = entries_filled MetHere MetThere no_value_clash seen own es sent s.made [] own_met (each_entry MetThere es (λ key fs h. theirs_met key fs (part_found hash_of theirs p key fs h).0)) sent_met whole in
+          let both = entries_filled MetHere MetThere no_value_clash seen own es sent s.made [] own_met
+          (each_entry MetThere es (λ key fs h. theirs_met key fs (part_found hash_of theirs p key fs h).0)) sent_met whole in
           (both.0, both.1 ∙ append-nil (unknown_in seen es))
 
       none_filled : (cs : List (ℕ × List ℕ)) → page ≡ Branch cs → (s.made ≡ []) × (sent ≡ [])
@@ -210,7 +218,8 @@ module _ (hash_of : List ℕ → ℕ) (own theirs : Held) (seen opened : DotValu
           step (Parts less cs is are missing) = absurd (subst (λ l. In l (key, gs)) (none_filled cs is).0 h)
 
       -- a child has a digest of theirs, and is one of a branch
-      child_from : (i : ℕ) (d : List ℕ) → In (children_of page) (i, d) → (length p < 7) × (digest_at hash_of theirs (p ++ i ∷ []) ≡ Some d) × IsBranchAt hash_of theirs p
+      child_from : (i : ℕ) (d : List ℕ) → In (children_of page) (i, d) → (length p < 7) × (digest_at hash_of theirs (p ++ i ∷ []) ≡ Some d)
+          × IsBranchAt hash_of theirs p
       child_from i d h = step what
         where
           step : Shown hash_of theirs p page → (length p < 7) × (digest_at hash_of theirs (p ++ i ∷ []) ≡ Some d) × IsBranchAt hash_of theirs p
@@ -226,9 +235,11 @@ module _ (hash_of : List ℕ → ℕ) (own theirs : Held) (seen opened : DotValu
           step (Leaf none is off missing) = absurd (off branch)
           step (Parts less cs is are missing) =
               subst (λ l. In l (i, d)) (sym (ap children_of is ∙ are))
-              (present_in 0 32 (λ i. digest_at hash_of theirs (p ++ i ∷ [])) i d (omega arith) (let low = index_there hash_of theirs p i d less e in omega (arith, low)) e)
+              (present_in 0 32 (λ i. digest_at hash_of theirs (p ++ i ∷ [])) i d (omega arith)
+              (let low = index_there hash_of theirs p i d less e in omega (arith, low)) e)
 
-      asked_from : (i : ℕ) (d : List ℕ) → In (to_ask hash_of own p (children_of page)) (i, d) → In (children_of page) (i, d) × (digest_at hash_of own (p ++ i ∷ []) ≢ Some d)
+      asked_from : (i : ℕ) (d : List ℕ) → In (to_ask hash_of own p (children_of page)) (i, d) → In (children_of page) (i, d)
+          × (digest_at hash_of own (p ++ i ∷ []) ≢ Some d)
       asked_from i d h =
           let both = In-filter (λ c. not (is_own hash_of own p c)) (children_of page) (i, d) h in
           (both.0, other_digest (digest_at hash_of own (p ++ i ∷ [])) d (turned (is_digest (digest_at hash_of own (p ++ i ∷ [])) d) both.1))
@@ -237,7 +248,8 @@ module _ (hash_of : List ℕ → ℕ) (own theirs : Held) (seen opened : DotValu
           turned true e = absurd cc
           turned false e = refl
 
-      asked_of : (i : ℕ) (d : List ℕ) → In (children_of page) (i, d) → digest_at hash_of own (p ++ i ∷ []) ≢ Some d → In (to_ask hash_of own p (children_of page)) (i, d)
+      asked_of : (i : ℕ) (d : List ℕ) → In (children_of page) (i, d) → digest_at hash_of own (p ++ i ∷ []) ≢ Some d
+          → In (to_ask hash_of own p (children_of page)) (i, d)
       asked_of i d h off =
           filter-In (λ c. not (is_own hash_of own p c)) (children_of page) (i, d) h (ap not (is_other (digest_at hash_of own (p ++ i ∷ [])) d off))
 
@@ -266,12 +278,15 @@ module _ (hash_of : List ℕ → ℕ) (own theirs : Held) (seen opened : DotValu
           let asked = asked_from i d h in
           let from = child_from i d asked.0 in (
             ((from.1, asked.1), λ q up. above q (above_further q p i up) from.2),
-            not_taken_then (p ++ i ∷ []) (λ t. here.1 (kept.closed p (p ++ i ∷ []) t (above_child p i))) (λ e. not_above_itself p (subst (IsAbove p) e (above_child p i))),
+            not_taken_then (p ++ i ∷ []) (λ t. here.1 (kept.closed p (p ++ i ∷ []) t (above_child p i)))
+                (λ e. not_above_itself p (subst (IsAbove p) e (above_child p i))),
             λ q up. taken q (above_further q p i up),
           )
         where
-          above : (q : List ℕ) → (q ≡ p) ⊎ IsAbove q p → IsBranchAt hash_of theirs p → IsBranchAt hash_of theirs q × ((d : List ℕ) × HasOther hash_of own theirs q d)
-          above q (inl same) branch = subst (λ r. IsBranchAt hash_of theirs r × ((d : List ℕ) × HasOther hash_of own theirs r d)) (sym same) (branch, (s.digest, here.0.0))
+          above : (q : List ℕ) → (q ≡ p) ⊎ IsAbove q p → IsBranchAt hash_of theirs p → IsBranchAt hash_of theirs q
+              × ((d : List ℕ) × HasOther hash_of own theirs q d)
+          above q (inl same) branch = subst (λ r. IsBranchAt hash_of theirs r × ((d : List ℕ) × HasOther hash_of own theirs r d)) (sym same)
+              (branch, (s.digest, here.0.0))
           above q (inr up) branch = here.0.1 q up
 
           taken : (q : List ℕ) → (q ≡ p) ⊎ IsAbove q p → TakenThen q
@@ -282,7 +297,8 @@ module _ (hash_of : List ℕ → ℕ) (own theirs : Held) (seen opened : DotValu
       waits_then q d e =
           step (from_children p (to_ask hash_of own p (children_of page)) (finite.remove f.waiting p) q d (sym (get_waiting q) ∙ e))
         where
-          step : ((i : ℕ) × In (to_ask hash_of own p (children_of page)) (i, d) × (q ≡ p ++ i ∷ [])) ⊎ (finite.get (finite.remove f.waiting p) q ≡ Some d) → Waits hash_of own theirs TakenThen q d
+          step : ((i : ℕ) × In (to_ask hash_of own p (children_of page)) (i, d) × (q ≡ p ++ i ∷ [])) ⊎ (finite.get (finite.remove f.waiting p) q ≡ Some d)
+              → Waits hash_of own theirs TakenThen q d
           step (inl h) = subst (λ r. Waits hash_of own theirs TakenThen r d) (sym h.2) (child_waits_there h.0 d h.1)
           step (inr h) =
               let old = other_waited q d h in
@@ -292,7 +308,8 @@ module _ (hash_of : List ℕ → ℕ) (own theirs : Held) (seen opened : DotValu
       -- what was not taken and is no child is looked up as before
       as_before : (q : List ℕ) → q ≢ p → ((i : ℕ) → q ≢ p ++ i ∷ []) → finite.get g.waiting q ≡ finite.get f.waiting q
       as_before q off none =
-          get_waiting q ∙ not_child p (to_ask hash_of own p (children_of page)) (finite.remove f.waiting p) q (λ i d h. none i) ∙ removed_elsewhere f.waiting p q off
+          get_waiting q ∙ not_child p (to_ask hash_of own p (children_of page)) (finite.remove f.waiting p) q (λ i d h. none i)
+          ∙ removed_elsewhere f.waiting p q off
 
       waited_then : (q d : List ℕ) → Waits hash_of own theirs TakenThen q d → finite.get g.waiting q ≡ Some d
       waited_then q d w = step (snoc q)
@@ -312,7 +329,8 @@ module _ (hash_of : List ℕ → ℕ) (own theirs : Held) (seen opened : DotValu
               let there = child_of i d branch (ap (digest_at hash_of theirs) (sym e) ∙ w.0.0.0) in
               let asked = asked_of i d there (λ t. w.0.0.1 (ap (digest_at hash_of own) e ∙ t)) in
               get_waiting q ∙ ap (finite.get (put_children p (to_ask hash_of own p (children_of page)) (finite.remove f.waiting p))) e
-              ∙ child_waits p (λ j. digest_at hash_of theirs (p ++ j ∷ [])) (to_ask hash_of own p (children_of page)) (finite.remove f.waiting p) i d (λ j x h. (child_from j x (asked_from j x h).0).1) asked
+              ∙ child_waits p (λ j. digest_at hash_of theirs (p ++ j ∷ [])) (to_ask hash_of own p (children_of page)) (finite.remove f.waiting p) i d
+              (λ j x h. (child_from j x (asked_from j x h).0).1) asked
 
           by_parent : (r : List ℕ) (i : ℕ) → q ≡ r ++ i ∷ [] → TakenAt r ⊎ (r ≡ p) → finite.get g.waiting q ≡ Some d
           by_parent r i e (inr same) = child i (e ∙ ap (λ l. l ++ i ∷ []) same)
@@ -342,14 +360,16 @@ module _ (hash_of : List ℕ → ℕ) (own theirs : Held) (seen opened : DotValu
       get_built : (key : List ℕ) → finite.get g.built key ≡ finite.get (put_entries s.made (finite.retain_keys f.built (stays hash_of p page))) key
       get_built key = ap (λ m. finite.get m key) s.built
 
-      retained : (key : List ℕ) (b : Bool) → stays hash_of p page key ≡ b → finite.get (finite.retain_keys f.built (stays hash_of p page)) key ≡ cond b (finite.get f.built key) None
+      retained : (key : List ℕ) (b : Bool) → stays hash_of p page key ≡ b → finite.get (finite.retain_keys f.built (stays hash_of p page)) key
+          ≡ cond b (finite.get f.built key) None
       retained key b e = if_stays f.built (stays hash_of p page) key ∙ ap (λ b. cond b (finite.get f.built key) None) e
 
       -- a key elsewhere stays
       elsewhere : (key : List ℕ) → begins p (path hash_of key) ≡ false → finite.get g.built key ≡ finite.get f.built key
       elsewhere key off =
           get_built key
-          ∙ no_entry s.made (finite.retain_keys f.built (stays hash_of p page)) key (λ gs h. let on : true ≡ false = sym (put_under key gs h) ∙ off in absurd cc)
+          ∙ no_entry s.made (finite.retain_keys f.built (stays hash_of p page)) key
+          (λ gs h. let on : true ≡ false = sym (put_under key gs h) ∙ off in absurd cc)
           ∙ retained key true (ap (λ b. not b || list_any (λ c. nat_eq c.0 (get_or (path hash_of key) (length p) 0)) (children_of page)) off)
 
       -- a key below stays where its index goes on, and where nothing is put
@@ -359,13 +379,15 @@ module _ (hash_of : List ℕ → ℕ) (own theirs : Held) (seen opened : DotValu
       on_path : (key : List ℕ) → begins p (path hash_of key) ≡ true → begins (p ++ next key ∷ []) (path hash_of key) ≡ true
       on_path key under = begins_further p (path hash_of key) (next key) ∙ (λ t. under t && eq-eqb (next key) (next key) refl t)
 
-      below_listed : (cs : List (ℕ × List ℕ)) → page ≡ Branch cs → (key : List ℕ) (d : List ℕ) → begins p (path hash_of key) ≡ true → In (children_of page) (next key, d) → finite.get g.built key ≡ finite.get f.built key
+      below_listed : (cs : List (ℕ × List ℕ)) → page ≡ Branch cs → (key : List ℕ) (d : List ℕ) → begins p (path hash_of key) ≡ true
+          → In (children_of page) (next key, d) → finite.get g.built key ≡ finite.get f.built key
       below_listed cs is key d under h =
           get_built key
           ∙ ap (λ es. finite.get (put_entries es (finite.retain_keys f.built (stays hash_of p page))) key) (none_filled cs is).0
           ∙ retained key true ((λ t. not (under t) || list_any (λ c. nat_eq c.0 (next key)) (children_of page)) ∙ listed (children_of page) (next key) d h)
 
-      below_unlisted : (cs : List (ℕ × List ℕ)) → page ≡ Branch cs → (key : List ℕ) → begins p (path hash_of key) ≡ true → ((d : List ℕ) → ¬ In (children_of page) (next key, d)) → finite.get g.built key ≡ None
+      below_unlisted : (cs : List (ℕ × List ℕ)) → page ≡ Branch cs → (key : List ℕ) → begins p (path hash_of key) ≡ true
+          → ((d : List ℕ) → ¬ In (children_of page) (next key, d)) → finite.get g.built key ≡ None
       below_unlisted cs is key under off =
           get_built key
           ∙ ap (λ es. finite.get (put_entries es (finite.retain_keys f.built (stays hash_of p page))) key) (none_filled cs is).0
@@ -386,11 +408,14 @@ module _ (hash_of : List ℕ → ℕ) (own theirs : Held) (seen opened : DotValu
           gone : finite.get left key ≡ None
           gone = retained key false ((λ t. not (under t) || list_any (λ c. nat_eq c.0 (next key)) (none t)))
 
-          each : (gs : FieldsValue) → In (open_entries seen own ws) (key, gs) → (fs : FieldsValue) × (finite.get theirs key ≡ Some fs) × (gs ≡ open_fields seen (held_in (finite.get own key)) fs)
+          each : (gs : FieldsValue) → In (open_entries seen own ws) (key, gs) → (fs : FieldsValue) × (finite.get theirs key ≡ Some fs)
+              × (gs ≡ open_fields seen (held_in (finite.get own key)) fs)
           each gs h = let from = open_from seen own ws key gs h in (from.0, (part_found hash_of theirs p key from.0 from.1).0, from.2)
 
-          by_theirs : (o : Option FieldsValue) → finite.get theirs key ≡ o → finite.get (put_entries (open_entries seen own ws) left) key ≡ opened_at seen (finite.get own key) o
-          by_theirs None e = no_entry (open_entries seen own ws) left key (λ gs h. let from = each gs h in let some : None ≡ Some from.0 = sym e ∙ from.1 in absurd cc) ∙ gone
+          by_theirs : (o : Option FieldsValue) → finite.get theirs key ≡ o → finite.get (put_entries (open_entries seen own ws) left) key
+              ≡ opened_at seen (finite.get own key) o
+          by_theirs None e = no_entry (open_entries seen own ws) left key (λ gs h. let from = each gs h in let some : None ≡ Some from.0 = sym e ∙ from.1 in
+              absurd cc) ∙ gone
           by_theirs (Some fs) e =
               one_entry (open_entries seen own ws) left key (open_fields seen (held_in (finite.get own key)) fs)
               (λ gs h. let from = each gs h in from.2 ∙ ap (open_fields seen (held_in (finite.get own key))) (same_Some from.0 fs (sym from.1 ∙ e)))
@@ -426,13 +451,15 @@ module _ (hash_of : List ℕ → ℕ) (own theirs : Held) (seen opened : DotValu
               let both = both_true (begins p (path hash_of key)) (nat_eq i (next key)) (sym (begins_further p (path hash_of key) i) ∙ b) in
               (both.0, eqb-true i (next key) both.1)
 
-          step : ((i : ℕ) × In (to_ask hash_of own p (children_of page)) (i, d) × (q ≡ p ++ i ∷ [])) ⊎ (finite.get (finite.remove f.waiting p) q ≡ Some d) → finite.get g.built key ≡ finite.get own key
+          step : ((i : ℕ) × In (to_ask hash_of own p (children_of page)) (i, d) × (q ≡ p ++ i ∷ [])) ⊎ (finite.get (finite.remove f.waiting p) q ≡ Some d)
+              → finite.get g.built key ≡ finite.get own key
           step (inl h) = let at = split h.0 (ap (λ r. begins r (path hash_of key)) (sym h.2) ∙ on) in child h.0 (asked_from h.0 d h.1).0 at.0 at.1
           step (inr h) =
               let old = other_waited q d h in
               elsewhere key (one_on_path q d key old.1 old.0 on) ∙ kept.own_below key q d old.1 on
 
-      opened_then : (key : List ℕ) → ((q d : List ℕ) → finite.get g.waiting q ≡ Some d → begins q (path hash_of key) ≡ true → ⊥) → finite.get g.built key ≡ opened_at seen (finite.get own key) (finite.get theirs key)
+      opened_then : (key : List ℕ) → ((q d : List ℕ) → finite.get g.waiting q ≡ Some d → begins q (path hash_of key) ≡ true → ⊥)
+          → finite.get g.built key ≡ opened_at seen (finite.get own key) (finite.get theirs key)
       opened_then key nothing = step (begins p (path hash_of key)) refl
         where
           -- elsewhere what waited still waits
@@ -440,10 +467,12 @@ module _ (hash_of : List ℕ → ℕ) (own theirs : Held) (seen opened : DotValu
           still off q d w on =
               nothing q d
               (as_before q (λ e. let turned : true ≡ false = sym on ∙ ap (λ r. begins r (path hash_of key)) e ∙ off in absurd cc)
-              (λ i e. let turned : true ≡ false && nat_eq i (get_or (path hash_of key) (length p) 0) = sym on ∙ ap (λ r. begins r (path hash_of key)) e ∙ begins_further p (path hash_of key) i ∙ ap (λ b. b && nat_eq i (get_or (path hash_of key) (length p) 0)) off in absurd cc)
+              (λ i e. let turned : true ≡ false && nat_eq i (get_or (path hash_of key) (length p) 0) = sym on ∙ ap (λ r. begins r (path hash_of key)) e
+              ∙ begins_further p (path hash_of key) i ∙ ap (λ b. b && nat_eq i (get_or (path hash_of key) (length p) 0)) off in absurd cc)
               ∙ w) on
 
-          branch : (cs : List (ℕ × List ℕ)) → page ≡ Branch cs → length p < 7 → begins p (path hash_of key) ≡ true → finite.get g.built key ≡ opened_at seen (finite.get own key) (finite.get theirs key)
+          branch : (cs : List (ℕ × List ℕ)) → page ≡ Branch cs → length p < 7 → begins p (path hash_of key) ≡ true
+              → finite.get g.built key ≡ opened_at seen (finite.get own key) (finite.get theirs key)
           branch cs is less under = by_digest (digest_at hash_of theirs (p ++ next key ∷ [])) refl
             where
               q : List ℕ
@@ -452,28 +481,35 @@ module _ (hash_of : List ℕ → ℕ) (own theirs : Held) (seen opened : DotValu
               short : length q ≤ 7
               short = let long = length-further p (next key) in omega (arith, long, less)
 
-              listed_same : (d : List ℕ) → digest_at hash_of theirs q ≡ Some d → In (children_of page) (next key, d) → finite.get g.built key ≡ opened_at seen (finite.get own key) (finite.get theirs key)
+              listed_same : (d : List ℕ) → digest_at hash_of theirs q ≡ Some d → In (children_of page) (next key, d)
+                  → finite.get g.built key ≡ opened_at seen (finite.get own key) (finite.get theirs key)
               listed_same d e h = by_own (is_digest (digest_at hash_of own q) d) refl
                 where
-                  by_own : (b : Bool) → is_digest (digest_at hash_of own q) d ≡ b → finite.get g.built key ≡ opened_at seen (finite.get own key) (finite.get theirs key)
+                  by_own : (b : Bool) → is_digest (digest_at hash_of own q) d ≡ b
+                      → finite.get g.built key ≡ opened_at seen (finite.get own key) (finite.get theirs key)
                   by_own true t =
                       below_listed cs is key d under h ∙ kept.own_below key p s.digest s.waited under
                       ∙ sym (same_below q short (own_digest (digest_at hash_of own q) d t ∙ sym e) key (on_path key under))
                   by_own false t =
-                      let waits = child_waits p (λ j. digest_at hash_of theirs (p ++ j ∷ [])) (to_ask hash_of own p (children_of page)) (finite.remove f.waiting p) (next key) d (λ j x h. (child_from j x (asked_from j x h).0).1) (asked_of (next key) d h (other_digest (digest_at hash_of own q) d t)) in
+                      let waits = child_waits p (λ j. digest_at hash_of theirs (p ++ j ∷ [])) (to_ask hash_of own p (children_of page))
+                      (finite.remove f.waiting p) (next key) d (λ j x h. (child_from j x (asked_from j x h).0).1)
+                      (asked_of (next key) d h (other_digest (digest_at hash_of own q) d t)) in
                       absurd (nothing q d (get_waiting q ∙ waits) (on_path key under))
 
-              by_digest : (o : Option (List ℕ)) → digest_at hash_of theirs q ≡ o → finite.get g.built key ≡ opened_at seen (finite.get own key) (finite.get theirs key)
+              by_digest : (o : Option (List ℕ)) → digest_at hash_of theirs q ≡ o
+                  → finite.get g.built key ≡ opened_at seen (finite.get own key) (finite.get theirs key)
               by_digest (Some d) e = listed_same d e (child_of (next key) d (cs, theirs_is ∙ ap Some is) e)
               by_digest None e =
                   below_unlisted cs is key under (λ d h. let some : None ≡ Some d = sym e ∙ (child_from (next key) d h).1 in absurd cc)
-                  ∙ ap (opened_at seen (finite.get own key)) (sym (none_there hash_of theirs q (no_digest (page_at hash_of theirs q) e) short key (on_path key under)))
+                  ∙ ap (opened_at seen (finite.get own key))
+                  (sym (none_there hash_of theirs q (no_digest (page_at hash_of theirs q) e) short key (on_path key under)))
                 where
                   no_digest : (o : Option PageValue) → option_map digest_of o ≡ None → o ≡ None
                   no_digest None e = refl
                   no_digest (Some b) e = absurd cc
 
-          by_page : Shown hash_of theirs p page → begins p (path hash_of key) ≡ true → finite.get g.built key ≡ opened_at seen (finite.get own key) (finite.get theirs key)
+          by_page : Shown hash_of theirs p page → begins p (path hash_of key) ≡ true
+              → finite.get g.built key ≡ opened_at seen (finite.get own key) (finite.get theirs key)
           by_page (Leaf none is off missing) under = leaf_built none is key under
           by_page (Parts less cs is are missing) under = branch cs is less under
 
@@ -482,4 +518,11 @@ module _ (hash_of : List ℕ → ℕ) (own theirs : Held) (seen opened : DotValu
           step false off = elsewhere key off ∙ kept.opened_else key (still off)
 
       pub kept_then : Kept TakenThen g
-      kept_then = record { waits = waits_then; waited = waited_then; closed = closed_then; differ = differ_then; own_below = own_below_then; opened_else = opened_then }
+      kept_then = record {
+        waits = waits_then;
+        waited = waited_then;
+        closed = closed_then;
+        differ = differ_then;
+        own_below = own_below_then;
+        opened_else = opened_then;
+      }

@@ -1,5 +1,6 @@
 -- The law of fetching: from the opening on, and over all pages taken.
-use Rattle.std.proofs.Common.{◌≡◌, ◌≢◌, ◌⊎◌, inl, inr, ℕ, zero, suc, ◌<◌, List, [], ◌∷◌, ◌++◌, length, Bool, true, false, cond, Some, None, arith, refl, sym, ◌∙◌, ap, subst}
+use Rattle.std.proofs.Common.{◌≡◌, ◌≢◌, ◌⊎◌, inl, inr, ℕ, zero, suc, ◌<◌, List, [], ◌∷◌, ◌++◌, length, Bool, true, false, cond, Some, None, arith, refl, sym}
+use Rattle.std.proofs.Common.{◌∙◌, ap, subst}
 use Rattle.std.specs.Prelude.{Option}
 use Rattle.std.specs.Option.{option_map}
 use Rattle.std.specs.List.{Contains}
@@ -37,11 +38,17 @@ nothing_above q up = let long = ap length up.2 in let more = length-append q (up
 module _ (P : List ℕ → Type 0) where
   each_value : (vs : ValuesValue) → ((d : DotValue) (v : List ℕ) → Contains vs (d, v) → P v) → EachValue P vs
   each_value [] all = tt
-  each_value (x ∷ vs) all = (all x.0 x.1 (Contains-In (x ∷ vs) x (inl refl)), each_value vs (λ d v h. all d v (Contains-In (x ∷ vs) (d, v) (inr (In-Contains vs (d, v) h)))))
+  each_value (x ∷ vs) all = (
+    all x.0 x.1 (Contains-In (x ∷ vs) x (inl refl)),
+    each_value vs (λ d v h. all d v (Contains-In (x ∷ vs) (d, v) (inr (In-Contains vs (d, v) h)))),
+  )
 
   each_field : (fs : FieldsValue) → ((field : List ℕ) (vs : ValuesValue) → Contains fs (field, vs) → EachValue P vs) → EachField P fs
   each_field [] all = tt
-  each_field (x ∷ fs) all = (all x.0 x.1 (Contains-In (x ∷ fs) x (inl refl)), each_field fs (λ f vs h. all f vs (Contains-In (x ∷ fs) (f, vs) (inr (In-Contains fs (f, vs) h)))))
+  each_field (x ∷ fs) all = (
+    all x.0 x.1 (Contains-In (x ∷ fs) x (inl refl)),
+    each_field fs (λ f vs h. all f vs (Contains-In (x ∷ fs) (f, vs) (inr (In-Contains fs (f, vs) h)))),
+  )
 
   each_sent : (vs : List (List ℕ)) → ((v : List ℕ) → Contains vs v → P v) → EachSent P vs
   each_sent [] all = tt
@@ -80,7 +87,8 @@ module _ (hash_of : List ℕ → ℕ) (own theirs : Held) (seen opened : DotValu
 
     -- an asker that waits for nothing, where the maps differ nowhere
     at_once : (f : Fetch) → f.waiting ≡ finite.empty → ((p d : List ℕ) → Differ hash_of own theirs p d → ⊥)
-        → ((key : List ℕ) → finite.get f.built key ≡ opened_at seen (finite.get own key) (finite.get theirs key)) → Kept hash_of own theirs seen opened None_taken f
+        → ((key : List ℕ) → finite.get f.built key ≡ opened_at seen (finite.get own key) (finite.get theirs key))
+        → Kept hash_of own theirs seen opened None_taken f
     at_once f none same built = record {
       waits = λ p d e. absurd (nothing p d e);
       waited = λ p d w. absurd (same p d w.0);
@@ -100,22 +108,26 @@ module _ (hash_of : List ℕ → ℕ) (own theirs : Held) (seen opened : DotValu
     kept_opening : (f : Fetch) → take_opening hash_of own seen opened (digest_at hash_of theirs []) ≡ Took f → Kept hash_of own theirs seen opened None_taken f
     kept_opening f e = by_root (digest_at hash_of theirs []) refl e
       where
-        empty : (g : Fetch) → g.waiting ≡ finite.empty → g.built ≡ finite.empty → Took g ≡ Took f → digest_at hash_of theirs [] ≡ None → Kept hash_of own theirs seen opened None_taken f
+        empty : (g : Fetch) → g.waiting ≡ finite.empty → g.built ≡ finite.empty → Took g ≡ Took f → digest_at hash_of theirs [] ≡ None
+            → Kept hash_of own theirs seen opened None_taken f
         empty g w b t none =
             let same = same_fetch g f t in
             at_once f (sym (ap (λ (f : Fetch). f.waiting) same) ∙ w) (no_root none)
             (λ key. ap (λ m. finite.get m key) (sym (ap (λ (f : Fetch). f.built) same) ∙ b) ∙ get-empty bytes_cmp key
             ∙ ap (opened_at seen (finite.get own key)) (sym (none_there hash_of theirs [] (no_digest (page_at hash_of theirs []) none) (omega arith) key refl)))
 
-        own_kept : (g : Fetch) (d : List ℕ) → g.waiting ≡ finite.empty → g.built ≡ own → Took g ≡ Took f → digest_at hash_of theirs [] ≡ Some d → digest_at hash_of own [] ≡ Some d → Kept hash_of own theirs seen opened None_taken f
+        own_kept : (g : Fetch) (d : List ℕ) → g.waiting ≡ finite.empty → g.built ≡ own → Took g ≡ Took f → digest_at hash_of theirs [] ≡ Some d
+            → digest_at hash_of own [] ≡ Some d → Kept hash_of own theirs seen opened None_taken f
         own_kept g d w b t there here =
             let same = same_fetch g f t in
             at_once f (sym (ap (λ (f : Fetch). f.waiting) same) ∙ w) (same_root (here ∙ sym there))
             (λ key. ap (λ m. finite.get m key) (sym (ap (λ (f : Fetch). f.built) same) ∙ b)
-            ∙ sym (same_below hash_of own theirs seen opened (MetPage hash_of own theirs ts) (MetValue hash_of own theirs ts) (MetValue hash_of own theirs ts) own_page page_clash no_clash.values own_values their_values lawful
+            ∙ sym (same_below hash_of own theirs seen opened (MetPage hash_of own theirs ts) (MetValue hash_of own theirs ts) (MetValue hash_of own theirs ts)
+            own_page page_clash no_clash.values own_values their_values lawful
             [] (omega arith) (here ∙ sym there) key refl))
 
-        asked : (g : Fetch) (d : List ℕ) → g.waiting ≡ finite.insert finite.empty [] d → g.built ≡ own → Took g ≡ Took f → digest_at hash_of theirs [] ≡ Some d → digest_at hash_of own [] ≢ Some d → Kept hash_of own theirs seen opened None_taken f
+        asked : (g : Fetch) (d : List ℕ) → g.waiting ≡ finite.insert finite.empty [] d → g.built ≡ own → Took g ≡ Took f → digest_at hash_of theirs [] ≡ Some d
+            → digest_at hash_of own [] ≢ Some d → Kept hash_of own theirs seen opened None_taken f
         asked g d w b t there off = record {
           waits = λ p c e. waits p c (at p c e);
           waited = λ p c w. waited p c w;
@@ -157,13 +169,16 @@ module _ (hash_of : List ℕ → ℕ) (own theirs : Held) (seen opened : DotValu
             waited (i ∷ p) c w = absurd (w.2 [] (i, p, refl))
 
         by_own : (d : List ℕ) → digest_at hash_of theirs [] ≡ Some d → (b c : Bool) → is_digest (digest_at hash_of own []) d ≡ b
-            → cond b (cond c (Took (record { waiting = finite.empty; built = own })) Mismatch) (Took (record { waiting = finite.insert finite.empty [] d; built = own })) ≡ Took f
+            → cond b (cond c (Took (record { waiting = finite.empty; built = own })) Mismatch)
+            (Took (record { waiting = finite.insert finite.empty [] d; built = own })) ≡ Took f
             → Kept hash_of own theirs seen opened None_taken f
         by_own d there true true s t = own_kept (record { waiting = finite.empty; built = own }) d refl refl t there (own_digest (digest_at hash_of own []) d s)
         by_own d there true false s t = absurd (refused f t)
-        by_own d there false c s t = asked (record { waiting = finite.insert finite.empty [] d; built = own }) d refl refl t there (other_digest (digest_at hash_of own []) d s)
+        by_own d there false c s t = asked (record { waiting = finite.insert finite.empty [] d; built = own }) d refl refl t there
+            (other_digest (digest_at hash_of own []) d s)
 
-        by_root : (o : Option (List ℕ)) → digest_at hash_of theirs [] ≡ o → take_opening hash_of own seen opened o ≡ Took f → Kept hash_of own theirs seen opened None_taken f
+        by_root : (o : Option (List ℕ)) → digest_at hash_of theirs [] ≡ o → take_opening hash_of own seen opened o ≡ Took f
+            → Kept hash_of own theirs seen opened None_taken f
         by_root None s t = empty (record { waiting = finite.empty; built = finite.empty }) refl refl t s
         by_root (Some d) s t = by_own d s (is_digest (digest_at hash_of own []) d) (within opened (walk_under hash_of [] own)) refl t
 
@@ -178,28 +193,37 @@ module _ (hash_of : List ℕ → ℕ) (own theirs : Held) (seen opened : DotValu
     met_sent : (t : Taking) → Contains ts t → EachSent (MetValue hash_of own theirs ts) t.sent
     met_sent t h = each_sent (MetValue hash_of own theirs ts) t.sent (λ v g. inr (t, h, g))
 
-    pub kept_pages : (older : List Taking) (f : Fetch) → Among older → Fetched hash_of own seen opened (digest_at hash_of theirs []) older f → Kept hash_of own theirs seen opened (TakenAt older) f
+    pub kept_pages : (older : List Taking) (f : Fetch) → Among older → Fetched hash_of own seen opened (digest_at hash_of theirs []) older f
+        → Kept hash_of own theirs seen opened (TakenAt older) f
     kept_pages [] f among e = kept_opening f e
     kept_pages (t ∷ older) f among (g, before, e) =
-        kept_then hash_of own theirs seen opened (MetPage hash_of own theirs ts) (MetValue hash_of own theirs ts) (MetValue hash_of own theirs ts) own_page page_clash no_clash.values own_values their_values lawful
-        (TakenAt older) g f t.prefix t.page t.sent (met_page t (among t (inl refl))) (met_sent t (among t (inl refl))) (kept_pages older g (λ u h. among u (inr h)) before) (stepped hash_of own seen opened g f t.prefix t.page t.sent e)
+        kept_then hash_of own theirs seen opened (MetPage hash_of own theirs ts) (MetValue hash_of own theirs ts) (MetValue hash_of own theirs ts)
+        own_page page_clash no_clash.values own_values their_values lawful
+        (TakenAt older) g f t.prefix t.page t.sent (met_page t (among t (inl refl))) (met_sent t (among t (inl refl)))
+        (kept_pages older g (λ u h. among u (inr h)) before) (stepped hash_of own seen opened g f t.prefix t.page t.sent e)
 
     abbrev IsTheirs : Taking → Type 0
     IsTheirs t = (page_at hash_of theirs t.prefix ≡ Some t.page) × (t.sent ≡ unknown_at seen hash_of theirs t.prefix)
 
-    each_theirs : (older : List Taking) (f : Fetch) → Among older → Fetched hash_of own seen opened (digest_at hash_of theirs []) older f → (t : Taking) → In older t → IsTheirs t
+    each_theirs : (older : List Taking) (f : Fetch) → Among older → Fetched hash_of own seen opened (digest_at hash_of theirs []) older f → (t : Taking)
+        → In older t → IsTheirs t
     each_theirs [] f among e t h = absurd h
     each_theirs (u ∷ older) f among (g, before, e) t (inl same) =
         subst IsTheirs same (
-          theirs_is hash_of own theirs seen opened (MetPage hash_of own theirs ts) (MetValue hash_of own theirs ts) (MetValue hash_of own theirs ts) own_page page_clash no_clash.values own_values their_values lawful
-              (TakenAt older) g f u.prefix u.page u.sent (met_page u (among u (inl refl))) (met_sent u (among u (inl refl))) (kept_pages older g (λ v h. among v (inr h)) before) (stepped hash_of own seen opened g f u.prefix u.page u.sent e),
-          sent_is hash_of own theirs seen opened (MetPage hash_of own theirs ts) (MetValue hash_of own theirs ts) (MetValue hash_of own theirs ts) own_page page_clash no_clash.values own_values their_values lawful
-              (TakenAt older) g f u.prefix u.page u.sent (met_page u (among u (inl refl))) (met_sent u (among u (inl refl))) (kept_pages older g (λ v h. among v (inr h)) before) (stepped hash_of own seen opened g f u.prefix u.page u.sent e),
+          theirs_is hash_of own theirs seen opened (MetPage hash_of own theirs ts) (MetValue hash_of own theirs ts) (MetValue hash_of own theirs ts)
+              own_page page_clash no_clash.values own_values their_values lawful
+              (TakenAt older) g f u.prefix u.page u.sent (met_page u (among u (inl refl))) (met_sent u (among u (inl refl)))
+              (kept_pages older g (λ v h. among v (inr h)) before) (stepped hash_of own seen opened g f u.prefix u.page u.sent e),
+          sent_is hash_of own theirs seen opened (MetPage hash_of own theirs ts) (MetValue hash_of own theirs ts) (MetValue hash_of own theirs ts)
+              own_page page_clash no_clash.values own_values their_values lawful
+              (TakenAt older) g f u.prefix u.page u.sent (met_page u (among u (inl refl))) (met_sent u (among u (inl refl)))
+              (kept_pages older g (λ v h. among v (inr h)) before) (stepped hash_of own seen opened g f u.prefix u.page u.sent e),
         )
     each_theirs (u ∷ older) f among (g, before, e) t (inr h) = each_theirs older g (λ v h. among v (inr h)) before t h
 
     -- none is taken twice
-    taken_once : (newer older : List Taking) (f : Fetch) (t : Taking) → Among (newer ++ t ∷ older) → Fetched hash_of own seen opened (digest_at hash_of theirs []) (newer ++ t ∷ older) f → ¬ TakenAt older t.prefix
+    taken_once : (newer older : List Taking) (f : Fetch) (t : Taking) → Among (newer ++ t ∷ older)
+        → Fetched hash_of own seen opened (digest_at hash_of theirs []) (newer ++ t ∷ older) f → ¬ TakenAt older t.prefix
     taken_once [] older f t among (g, before, e) =
         let step = stepped hash_of own seen opened g f t.prefix t.page t.sent e in
         ((kept_pages older g (λ v h. among v (inr h)) before).waits t.prefix step.digest step.waited).1
@@ -220,7 +244,8 @@ module _ (hash_of : List ℕ → ℕ) (own theirs : Held) (seen opened : DotValu
             neither a b (inl h) = a h
             neither a b (inr h) = b h
 
-    all_taken : (f : Fetch) → Kept hash_of own theirs seen opened (TakenAt ts) f → ((p : List ℕ) → finite.get f.waiting p ≡ None) → (n : ℕ) (p : List ℕ) → length p < n → (d : List ℕ) → Differ hash_of own theirs p d → TakenAt ts p
+    all_taken : (f : Fetch) → Kept hash_of own theirs seen opened (TakenAt ts) f → ((p : List ℕ) → finite.get f.waiting p ≡ None) → (n : ℕ) (p : List ℕ)
+        → length p < n → (d : List ℕ) → Differ hash_of own theirs p d → TakenAt ts p
     all_taken f kept none zero p less d differ = absurd (omega (arith, less))
     all_taken f kept none (suc n) p less d differ =
         step (taken_or_not ts p) (λ q up. all_taken f kept none n q (shorter q up) ((differ.1 q up).1).0 (above q up))
@@ -241,7 +266,8 @@ fetching hash_of own theirs seen opened ts f lawful no_clash e =
     record {
       theirs_taken = λ t h. each_theirs hash_of own theirs seen opened lawful ts no_clash ts f (λ t h. Contains-In ts t h) e t (In-Contains ts t h);
       waits = λ p d. (kept.waits p d, kept.waited p d);
-      once = λ t older newer is. taken_once hash_of own theirs seen opened lawful ts no_clash newer older f t (λ u h. Contains-In ts u (subst (λ l. In l u) (sym is) h)) (subst (λ l. Fetched hash_of own seen opened (digest_at hash_of theirs []) l f) is e);
+      once = λ t older newer is. taken_once hash_of own theirs seen opened lawful ts no_clash newer older f t
+          (λ u h. Contains-In ts u (subst (λ l. In l u) (sym is) h)) (subst (λ l. Fetched hash_of own seen opened (digest_at hash_of theirs []) l f) is e);
       done = λ none. (
         (λ key. kept.opened_else key (λ p d w on. let some : None ≡ Some d = sym (none p) ∙ w in absurd cc)),
         (λ p d differ. all_taken hash_of own theirs seen opened lawful ts no_clash f kept none (suc (length p)) p (omega arith) d differ),

@@ -19,7 +19,8 @@ use Rattle.prefix_digest.specs.Values.{unknown_in, unknown_at}
 use Rattle.prefix_digest.proofs.UnknownValues.{values_of_one, values_of_list, values_of_branch}
 use Rattle.sync_model.specs.Filled.{filled}
 use Rattle.sync_model.specs.Differ.{Held, IsBranchAt}
-use Rattle.sync_model.specs.Fetch.{Fetch, Taken, Ignored, Mismatch, Took, entries_of, children_of, to_ask, fits, stays, put_children, put_entries, took, promised, take_page}
+use Rattle.sync_model.specs.Fetch.{Fetch, Taken, Ignored, Mismatch, Took, entries_of, children_of, to_ask, fits, stays, put_children, put_entries, took}
+use Rattle.sync_model.specs.Fetch.{promised, take_page}
 use Rattle.sync_model.proofs.Paged.{Paged, Past, Nothing, One, Several, Parted, paged}
 
 -- ---- what a step was made of
@@ -53,20 +54,31 @@ module _ (hash_of : List ℕ → ℕ) (own : Held) (seen opened : DotValue → B
     pub waiting : g.waiting ≡ put_children p (to_ask hash_of own p (children_of page)) (finite.remove f.waiting p)
     pub built : g.built ≡ put_entries made (finite.retain_keys f.built (stays hash_of p page))
 
-  pub stepped : (f g : Fetch) (p : List ℕ) (page : PageValue) (sent : List (List ℕ)) → take_page hash_of own seen opened f p page sent ≡ Took g → Step f p page sent g
+  pub stepped : (f g : Fetch) (p : List ℕ) (page : PageValue) (sent : List (List ℕ)) → take_page hash_of own seen opened f p page sent ≡ Took g
+      → Step f p page sent g
   stepped f g p page sent e = by_digest (finite.get f.waiting p) refl e
     where
-      by_entries : (d : List ℕ) → finite.get f.waiting p ≡ Some d → d ≡ digest_of page → (o : Option (List (List ℕ × FieldsValue))) → filled seen own (entries_of page) sent ≡ o
+      by_entries : (d : List ℕ) → finite.get f.waiting p ≡ Some d → d ≡ digest_of page → (o : Option (List (List ℕ × FieldsValue)))
+          → filled seen own (entries_of page) sent ≡ o
           → took hash_of own seen opened f p page o ≡ Took g → Step f p page sent g
       by_entries d w r None s t = absurd (refused g t)
       by_entries d w r (Some es) s t =
           let same = same_fetch _ g t in
-          record { digest = d; waited = w; right = r; made = es; fill = s; waiting = sym (ap (λ (f : Fetch). f.waiting) same); built = sym (ap (λ (f : Fetch). f.built) same) }
+          record {
+            digest = d;
+            waited = w;
+            right = r;
+            made = es;
+            fill = s;
+            waiting = sym (ap (λ (f : Fetch). f.waiting) same);
+            built = sym (ap (λ (f : Fetch). f.built) same);
+          }
 
       by_test : (d : List ℕ) → finite.get f.waiting p ≡ Some d → (b : Bool) → bytes_eq d (digest_of page) && fits hash_of own opened p page ≡ b
           → cond b (took hash_of own seen opened f p page (filled seen own (entries_of page) sent)) Mismatch ≡ Took g → Step f p page sent g
       by_test d w true s t =
-          by_entries d w ((bytes_eq-Decides d (digest_of page)).0 (both_true (bytes_eq d (digest_of page)) (fits hash_of own opened p page) s).0) (filled seen own (entries_of page) sent) refl t
+          by_entries d w ((bytes_eq-Decides d (digest_of page)).0 (both_true (bytes_eq d (digest_of page)) (fits hash_of own opened p page) s).0)
+          (filled seen own (entries_of page) sent) refl t
       by_test d w false s t = absurd (refused g t)
 
       by_digest : (o : Option (List ℕ)) → finite.get f.waiting p ≡ o → promised hash_of own seen opened f p page sent o ≡ Took g → Step f p page sent g
@@ -102,7 +114,8 @@ module _ (hash_of : List ℕ → ℕ) (theirs : Held) (p : List ℕ) where
   pub shown : (page : PageValue) → page_at hash_of theirs p ≡ Some page → Shown page
   shown page is = step (paged hash_of theirs p)
     where
-      leaf : (other : PageValue) → page_at hash_of theirs p ≡ Some other → children_of other ≡ [] → entries_of other ≡ named_entries (walk_under hash_of p theirs) → ((cs : List (ℕ × List ℕ)) → other ≡ Branch cs → ⊥)
+      leaf : (other : PageValue) → page_at hash_of theirs p ≡ Some other → children_of other ≡ []
+          → entries_of other ≡ named_entries (walk_under hash_of p theirs) → ((cs : List (ℕ × List ℕ)) → other ≡ Branch cs → ⊥)
           → ((seen : DotValue → Bool) → unknown_at seen hash_of theirs p ≡ unknown_in seen (walk_under hash_of p theirs)) → Shown page
       leaf other t none es off sent =
           let same = same_Some page other (sym is ∙ t) in
@@ -111,6 +124,9 @@ module _ (hash_of : List ℕ → ℕ) (theirs : Held) (p : List ℕ) where
       step : Paged hash_of theirs p → Shown page
       step (Past long e) = absurd (let none : None ≡ Some page = sym e ∙ is in cc)
       step (Nothing short none e) = absurd (let none : None ≡ Some page = sym e ∙ is in cc)
-      step (One short e one t) = leaf (OneKey (named_entry e)) t refl (ap named_entries (sym one)) (one_is_none (named_entry e)) (λ seen. values_of_one seen hash_of theirs p e.0 e.1 short one)
-      step (Several deep many t) = leaf (Keys (named_entries (walk_under hash_of p theirs))) t refl refl (keys_are_none (named_entries (walk_under hash_of p theirs))) (λ seen. values_of_list seen hash_of theirs p deep many)
-      step (Parted less many t) = Parts less (present 0 32 (λ i. digest_at hash_of theirs (p ++ i ∷ []))) (same_Some page _ (sym is ∙ t)) refl (λ seen. values_of_branch seen hash_of theirs p less many)
+      step (One short e one t) = leaf (OneKey (named_entry e)) t refl (ap named_entries (sym one)) (one_is_none (named_entry e))
+          (λ seen. values_of_one seen hash_of theirs p e.0 e.1 short one)
+      step (Several deep many t) = leaf (Keys (named_entries (walk_under hash_of p theirs))) t refl refl
+          (keys_are_none (named_entries (walk_under hash_of p theirs))) (λ seen. values_of_list seen hash_of theirs p deep many)
+      step (Parted less many t) = Parts less (present 0 32 (λ i. digest_at hash_of theirs (p ++ i ∷ []))) (same_Some page _ (sym is ∙ t)) refl
+          (λ seen. values_of_branch seen hash_of theirs p less many)

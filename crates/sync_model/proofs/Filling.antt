@@ -76,7 +76,8 @@ module _ (P : List ℕ → Type 0) where
       step true further = all.0
       step false further = further
 
-  held_met : (o : Option FieldsValue) → ((fs : FieldsValue) → o ≡ Some fs → EachField fs) → (f : List ℕ) (d : DotValue) (v : List ℕ) → held_in o f d ≡ Some v → P v
+  held_met : (o : Option FieldsValue) → ((fs : FieldsValue) → o ≡ Some fs → EachField fs) → (f : List ℕ) (d : DotValue) (v : List ℕ)
+      → held_in o f d ≡ Some v → P v
   held_met None all f d v e = absurd (let none : None ≡ Some v = sym (held_there None f d) ∙ e in cc)
   held_met (Some fs) all f d v e = value_found (values_of_field fs f) d v (field_found fs f (all fs refl)) (sym (held_there (Some fs) f d) ∙ e)
 
@@ -109,27 +110,32 @@ module _ (MetHere MetThere : List ℕ → Type 0) (no_clash : (a b : List ℕ) �
 
     -- one value is left out, is the own one, or is sent
     ended : (d : DotValue) (v : List ℕ) (held : DotValue → Option (List ℕ)) (vs made : ValuesValue) (sent rest : List (List ℕ)) → seen d ≡ true → held d ≡ None
-        → IsFilled made (without_ended seen held vs) sent (unknown_in_values seen vs) rest → IsFilled made (without_ended seen held ((d, v) ∷ vs)) sent (unknown_in_values seen ((d, v) ∷ vs)) rest
+        → IsFilled made (without_ended seen held vs) sent (unknown_in_values seen vs) rest
+        → IsFilled made (without_ended seen held ((d, v) ∷ vs)) sent (unknown_in_values seen ((d, v) ∷ vs)) rest
     ended d v held vs made sent rest s none h = (
       h.0 ∙ (λ t. cond (not (sym s t) || is_some (sym none t)) ((d, v) ∷ without_ended seen held vs) (without_ended seen held vs)),
       h.1 ∙ (λ t. map (λ v. v.1) (cond (not (sym s t)) ((d, v) ∷ filter (λ v. not (seen v.0)) vs) (filter (λ v. not (seen v.0)) vs)) ++ rest),
     )
 
-    kept : (d : DotValue) (v o : List ℕ) (held : DotValue → Option (List ℕ)) (vs made : ValuesValue) (sent rest : List (List ℕ)) → seen d ≡ true → held d ≡ Some o → o ≡ v
-        → IsFilled made (without_ended seen held vs) sent (unknown_in_values seen vs) rest → IsFilled ((d, o) ∷ made) (without_ended seen held ((d, v) ∷ vs)) sent (unknown_in_values seen ((d, v) ∷ vs)) rest
+    kept : (d : DotValue) (v o : List ℕ) (held : DotValue → Option (List ℕ)) (vs made : ValuesValue) (sent rest : List (List ℕ)) → seen d ≡ true
+        → held d ≡ Some o → o ≡ v
+        → IsFilled made (without_ended seen held vs) sent (unknown_in_values seen vs) rest
+        → IsFilled ((d, o) ∷ made) (without_ended seen held ((d, v) ∷ vs)) sent (unknown_in_values seen ((d, v) ∷ vs)) rest
     kept d v o held vs made sent rest s some same h = (
       (λ t. (d, same t) ∷ h.0 t) ∙ (λ t. cond (not (sym s t) || is_some (sym some t)) ((d, v) ∷ without_ended seen held vs) (without_ended seen held vs)),
       h.1 ∙ (λ t. map (λ v. v.1) (cond (not (sym s t)) ((d, v) ∷ filter (λ v. not (seen v.0)) vs) (filter (λ v. not (seen v.0)) vs)) ++ rest),
     )
 
     fresh : (d : DotValue) (v o : List ℕ) (held : DotValue → Option (List ℕ)) (vs made : ValuesValue) (sent rest : List (List ℕ)) → seen d ≡ false → o ≡ v
-        → IsFilled made (without_ended seen held vs) sent (unknown_in_values seen vs) rest → IsFilled ((d, o) ∷ made) (without_ended seen held ((d, v) ∷ vs)) (o ∷ sent) (unknown_in_values seen ((d, v) ∷ vs)) rest
+        → IsFilled made (without_ended seen held vs) sent (unknown_in_values seen vs) rest
+        → IsFilled ((d, o) ∷ made) (without_ended seen held ((d, v) ∷ vs)) (o ∷ sent) (unknown_in_values seen ((d, v) ∷ vs)) rest
     fresh d v o held vs made sent rest s same h = (
       (λ t. (d, same t) ∷ h.0 t) ∙ (λ t. cond (not (sym s t) || is_some (held d)) ((d, v) ∷ without_ended seen held vs) (without_ended seen held vs)),
       (λ t. same t ∷ h.1 t) ∙ (λ t. map (λ v. v.1) (cond (not (sym s t)) ((d, v) ∷ filter (λ v. not (seen v.0)) vs) (filter (λ v. not (seen v.0)) vs)) ++ rest),
     )
 
-    pub values_filled : (held : DotValue → Option (List ℕ)) (vs : ValuesValue) (sent : List (List ℕ)) (made : ValuesValue) (rest : List (List ℕ)) → MetAt MetHere held → EachValue MetThere vs → EachSent MetHere sent
+    pub values_filled : (held : DotValue → Option (List ℕ)) (vs : ValuesValue) (sent : List (List ℕ)) (made : ValuesValue) (rest : List (List ℕ))
+        → MetAt MetHere held → EachValue MetThere vs → EachSent MetHere sent
         → fill_values seen held (named_values vs) sent ≡ Some (made, rest) → IsFilled made (without_ended seen held vs) sent (unknown_in_values seen vs) rest
     values_filled held [] sent made rest own_met met sent_met e =
         let both = same_Some ([], sent) (made, rest) e in
@@ -138,9 +144,11 @@ module _ (MetHere MetThere : List ℕ → Type 0) (no_clash : (a b : List ℕ) �
         step (seen d) (held d) refl refl e (λ sent made. values_filled held vs sent made rest own_met met.1)
       where
         Further : Type 0
-        Further = (sent : List (List ℕ)) (made : ValuesValue) → EachSent MetHere sent → fill_values seen held (named_values vs) sent ≡ Some (made, rest) → IsFilled made (without_ended seen held vs) sent (unknown_in_values seen vs) rest
+        Further = (sent : List (List ℕ)) (made : ValuesValue) → EachSent MetHere sent → fill_values seen held (named_values vs) sent ≡ Some (made, rest)
+            → IsFilled made (without_ended seen held vs) sent (unknown_in_values seen vs) rest
 
-        unseen : (sent : List (List ℕ)) → EachSent MetHere sent → seen d ≡ false → fill_unseen d (sha256 v) (fill_values seen held (named_values vs)) sent ≡ Some (made, rest) → Further
+        unseen : (sent : List (List ℕ)) → EachSent MetHere sent → seen d ≡ false
+            → fill_unseen d (sha256 v) (fill_values seen held (named_values vs)) sent ≡ Some (made, rest) → Further
             → IsFilled made (without_ended seen held ((d, v) ∷ vs)) sent (unknown_in_values seen ((d, v) ∷ vs)) rest
         unseen [] m s f further = absurd cc
         unseen (o ∷ sent) m s f further =
@@ -150,7 +158,8 @@ module _ (MetHere MetThere : List ℕ → Type 0) (no_clash : (a b : List ℕ) �
             (fresh d v o held vs from.1.0 sent rest s same (further sent from.1.0 m.1 from.1.1))
 
         step : (b : Bool) (there : Option (List ℕ)) → seen d ≡ b → held d ≡ there
-            → cond b (fill_seen d (sha256 v) there (fill_values seen held (named_values vs)) sent) (fill_unseen d (sha256 v) (fill_values seen held (named_values vs)) sent) ≡ Some (made, rest) → Further
+            → cond b (fill_seen d (sha256 v) there (fill_values seen held (named_values vs)) sent)
+            (fill_unseen d (sha256 v) (fill_values seen held (named_values vs)) sent) ≡ Some (made, rest) → Further
             → IsFilled made (without_ended seen held ((d, v) ∷ vs)) sent (unknown_in_values seen ((d, v) ∷ vs)) rest
         step true None s t f further = ended d v held vs made sent rest s t (further sent made sent_met f)
         step true (Some o) s t f further =
@@ -162,7 +171,8 @@ module _ (MetHere MetThere : List ℕ → Type 0) (no_clash : (a b : List ℕ) �
 
     -- ---- fields, and entries
 
-    then_from : {X Y Z : Type 0} (f : X → Y → Z) (m : Made X) (rest_of : List (List ℕ) → Made Y) (join : Made X → Made Z) → join None ≡ None → ((x : X) (left : List (List ℕ)) → join (Some (x, left)) ≡ made_map (f x) (rest_of left))
+    then_from : {X Y Z : Type 0} (f : X → Y → Z) (m : Made X) (rest_of : List (List ℕ) → Made Y) (join : Made X → Made Z) → join None ≡ None
+        → ((x : X) (left : List (List ℕ)) → join (Some (x, left)) ≡ made_map (f x) (rest_of left))
         → (z : Z) (rest : List (List ℕ)) → join m ≡ Some (z, rest)
         → (x : X) × (left : List (List ℕ)) × (y : Y) × (m ≡ Some (x, left)) × (rest_of left ≡ Some (y, rest)) × (z ≡ f x y)
     then_from f None rest_of join n s z rest e = absurd (let none : None ≡ Some (z, rest) = sym n ∙ e in cc)
@@ -170,27 +180,31 @@ module _ (MetHere MetThere : List ℕ → Type 0) (no_clash : (a b : List ℕ) �
         let from = mapped_from (f x) (rest_of left) z rest (sym (s x left) ∙ e) in
         (x, left, from.0, refl, from.1, from.2)
 
-    pub fields_filled : (held : List ℕ → DotValue → Option (List ℕ)) (fs : FieldsValue) (sent : List (List ℕ)) (made : FieldsValue) (rest : List (List ℕ)) → ((field : List ℕ) → MetAt MetHere (held field)) → EachField MetThere fs → EachSent MetHere sent
+    pub fields_filled : (held : List ℕ → DotValue → Option (List ℕ)) (fs : FieldsValue) (sent : List (List ℕ)) (made : FieldsValue) (rest : List (List ℕ))
+        → ((field : List ℕ) → MetAt MetHere (held field)) → EachField MetThere fs → EachSent MetHere sent
         → fill_fields seen held (named_fields fs) sent ≡ Some (made, rest) → IsFilled made (open_fields seen held fs) sent (unknown_in_fields seen fs) rest
     fields_filled held [] sent made rest own_met met sent_met e =
         let both = same_Some ([], sent) (made, rest) e in
         (sym (ap (λ c. c.0) both), ap (λ c. c.1) both)
     fields_filled held ((f, vs) ∷ fs) sent made rest own_met met sent_met e =
-        let from = then_from (with_values f) (fill_values seen (held f) (named_values vs) sent) (fill_fields seen held (named_fields fs)) (then_fields f (fill_fields seen held (named_fields fs))) refl (λ x left. refl) made rest e in
+        let from = then_from (with_values f) (fill_values seen (held f) (named_values vs) sent) (fill_fields seen held (named_fields fs))
+        (then_fields f (fill_fields seen held (named_fields fs))) refl (λ x left. refl) made rest e in
         let here = values_filled (held f) vs sent from.0 from.1 (own_met f) met.0 sent_met from.3 in
         let further = fields_filled held fs from.1 from.2 rest own_met met.1 (left_met sent (unknown_in_values seen vs) from.1 here.1 sent_met) from.4 in (
           from.5 ∙ (λ t. with_values f (here.0 t) (further.0 t)),
           here.1 ∙ ap (λ l. unknown_in_values seen vs ++ l) further.1 ∙ sym (append_assoc (unknown_in_values seen vs) (unknown_in_fields seen fs) rest),
         )
 
-    pub entries_filled : (own : Held) (es : List (List ℕ × FieldsValue)) (sent : List (List ℕ)) (made : List (List ℕ × FieldsValue)) (rest : List (List ℕ)) → EachHeld MetHere own → EachEntry MetThere es → EachSent MetHere sent
+    pub entries_filled : (own : Held) (es : List (List ℕ × FieldsValue)) (sent : List (List ℕ)) (made : List (List ℕ × FieldsValue)) (rest : List (List ℕ))
+        → EachHeld MetHere own → EachEntry MetThere es → EachSent MetHere sent
         → fill_entries seen own (named_entries es) sent ≡ Some (made, rest) → IsFilled made (open_entries seen own es) sent (unknown_in seen es) rest
     entries_filled own [] sent made rest own_met met sent_met e =
         let both = same_Some ([], sent) (made, rest) e in
         (sym (ap (λ c. c.0) both), ap (λ c. c.1) both)
     entries_filled own ((k, fs) ∷ es) sent made rest own_met met sent_met e =
         let held = held_in (finite.get own k) in
-        let from = then_from (λ fs es. (k, fs) ∷ es) (fill_fields seen held (named_fields fs) sent) (fill_entries seen own (named_entries es)) (then_entries k (fill_entries seen own (named_entries es))) refl (λ x left. refl) made rest e in
+        let from = then_from (λ fs es. (k, fs) ∷ es) (fill_fields seen held (named_fields fs) sent) (fill_entries seen own (named_entries es))
+        (then_entries k (fill_entries seen own (named_entries es))) refl (λ x left. refl) made rest e in
         let here = fields_filled held fs sent from.0 from.1 (λ f d v. held_met MetHere (finite.get own k) (own_met k) f d v) met.0 sent_met from.3 in
         let further = entries_filled own es from.1 from.2 rest own_met met.1 (left_met sent (unknown_in_fields seen fs) from.1 here.1 sent_met) from.4 in (
           from.5 ∙ (λ t. (k, here.0 t) ∷ further.0 t),

@@ -29,10 +29,13 @@ use Rattle.sync_model.proofs.Fetched.{own_digest}
 use Rattle.sync_model.proofs.Fetches.{own_page, page_clash, kept_pages}
 use Rattle.sync_model.proofs.Fits.{and_true, fills, entries_fit, children_fit, kept_known, all_pass}
 
-module _ (hash_of : List ℕ → ℕ) (own theirs : Held) (seen opened : DotValue → Bool) (lawful : IsLawfulMap own) (ts : List Taking) (no_clash : NoClash hash_of own theirs ts) (known : KnowsEachDot opened theirs) where
-  same_below_names : (p : List ℕ) → length p ≤ 7 → digest_at hash_of own p ≡ digest_at hash_of theirs p → (key : List ℕ) → begins p (path hash_of key) ≡ true → names_at own key ≡ names_at theirs key
+module _ (hash_of : List ℕ → ℕ) (own theirs : Held) (seen opened : DotValue → Bool) (lawful : IsLawfulMap own) (ts : List Taking)
+    (no_clash : NoClash hash_of own theirs ts) (known : KnowsEachDot opened theirs) where
+  same_below_names : (p : List ℕ) → length p ≤ 7 → digest_at hash_of own p ≡ digest_at hash_of theirs p → (key : List ℕ) → begins p (path hash_of key) ≡ true
+      → names_at own key ≡ names_at theirs key
   same_below_names p short e key under =
-      same_names hash_of own theirs (λ p q a b x y s. page_clash hash_of own theirs seen opened lawful ts no_clash a b q (own_page hash_of own theirs seen opened lawful ts no_clash p a x) y s) p short e key under
+      same_names hash_of own theirs (λ p q a b x y s. page_clash hash_of own theirs seen opened lawful ts no_clash a b q
+      (own_page hash_of own theirs seen opened lawful ts no_clash p a x) y s) p short e key under
 
   module _ (p : List ℕ) (page : PageValue) (is : page_at hash_of theirs p ≡ Some page) where
     page_fits : fits hash_of own opened p page ≡ true
@@ -60,20 +63,28 @@ module _ (hash_of : List ℕ → ℕ) (own theirs : Held) (seen opened : DotValu
         ws : List (List ℕ × FieldsValue)
         ws = walk_under hash_of p theirs
 
-        one_there : (key : List ℕ) (gs : FieldsValue) → In ws (key, gs) → (field : List ℕ) (vs : ValuesValue) → In gs (field, vs) → (d : DotValue) (o v : List ℕ)
+        one_there : (key : List ℕ) (gs : FieldsValue) → In ws (key, gs) → (field : List ℕ) (vs : ValuesValue) → In gs (field, vs)
+            → (d : DotValue) (o v : List ℕ)
             → held_in (finite.get own key) field d ≡ Some o → In vs (d, v) → o ≡ v
-        one_there key gs h field vs g d o v e i = one key gs (part_found hash_of theirs p key gs h).0 field vs (Contains-In gs (field, vs) g) d o v e (Contains-In vs (d, v) i)
+        one_there key gs h field vs g d o v e i = one key gs (part_found hash_of theirs p key gs h).0 field vs (Contains-In gs (field, vs) g) d o v e
+            (Contains-In vs (d, v) i)
 
-        step : Shown hash_of theirs p page → (es : List (List ℕ × FieldsValue)) × (filled seen own (entries_of page) (unknown_at seen hash_of theirs p) ≡ Some es)
-        step (Leaf none es off missing) =
-            (open_entries seen own ws, ap (λ l. filled seen own l (unknown_at seen hash_of theirs p)) es ∙ ap (filled seen own (named_entries ws)) (missing seen) ∙ fills seen own ws one_there)
+        step : Shown hash_of theirs p page → (es : List (List ℕ × FieldsValue))
+            × (filled seen own (entries_of page) (unknown_at seen hash_of theirs p) ≡ Some es)
+        step (Leaf none es off missing) = (
+          open_entries seen own ws,
+          ap (λ l. filled seen own l (unknown_at seen hash_of theirs p)) es
+              ∙ ap (filled seen own (named_entries ws)) (missing seen) ∙ fills seen own ws one_there,
+        )
         step (Parts less cs same are missing) = ([], (λ k. filled seen own (entries_of (same k)) (missing seen k)))
 
-    page_taken : OneValue own theirs → (f : Fetch) (d : List ℕ) → finite.get f.waiting p ≡ Some d → digest_at hash_of theirs p ≡ Some d → (g : Fetch) × (take_page hash_of own seen opened f p page (unknown_at seen hash_of theirs p) ≡ Took g)
+    page_taken : OneValue own theirs → (f : Fetch) (d : List ℕ) → finite.get f.waiting p ≡ Some d → digest_at hash_of theirs p ≡ Some d → (g : Fetch)
+        × (take_page hash_of own seen opened f p page (unknown_at seen hash_of theirs p) ≡ Took g)
     page_taken one f d w there =
         let made = page_filled one in
         let right : d ≡ digest_of page = same_Some d (digest_of page) (sym there ∙ ap (option_map digest_of) is) in
-        let test : bytes_eq d (digest_of page) && fits hash_of own opened p page ≡ true = and_true (bytes_eq d (digest_of page)) (fits hash_of own opened p page) ((bytes_eq-Decides d (digest_of page)).1 right) page_fits in (
+        let test : bytes_eq d (digest_of page) && fits hash_of own opened p page ≡ true =
+        and_true (bytes_eq d (digest_of page)) (fits hash_of own opened p page) ((bytes_eq-Decides d (digest_of page)).1 right) page_fits in (
           _,
           ap (promised hash_of own seen opened f p page (unknown_at seen hash_of theirs p)) w
               ∙ ap (λ b. cond b (took hash_of own seen opened f p page (filled seen own (entries_of page) (unknown_at seen hash_of theirs p))) Mismatch) test
@@ -83,7 +94,8 @@ module _ (hash_of : List ℕ → ℕ) (own theirs : Held) (seen opened : DotValu
   page_there : (p d : List ℕ) → digest_at hash_of theirs p ≡ Some d → (page : PageValue) × (page_at hash_of theirs p ≡ Some page)
   page_there p d e = step (page_at hash_of theirs p) refl e
     where
-      step : (o : Option PageValue) → page_at hash_of theirs p ≡ o → option_map digest_of o ≡ Some d → (page : PageValue) × (page_at hash_of theirs p ≡ Some page)
+      step : (o : Option PageValue) → page_at hash_of theirs p ≡ o → option_map digest_of o ≡ Some d → (page : PageValue)
+          × (page_at hash_of theirs p ≡ Some page)
       step None s t = absurd cc
       step (Some page) s t = (page, s)
 
@@ -97,21 +109,26 @@ fitting hash_of own theirs seen opened ts f lawful no_clash known one fetched p 
 pub opening : (hash_of : List ℕ → ℕ) (own theirs : Held) (seen opened : DotValue → Bool) → Opening hash_of own theirs seen opened
 opening hash_of own theirs seen opened lawful no_clash known = by_root (digest_at hash_of theirs []) refl
   where
-    kept : (d : List ℕ) → digest_at hash_of theirs [] ≡ Some d → is_digest (digest_at hash_of own []) d ≡ true → within opened (walk_under hash_of [] own) ≡ true
+    kept : (d : List ℕ) → digest_at hash_of theirs [] ≡ Some d → is_digest (digest_at hash_of own []) d ≡ true
+        → within opened (walk_under hash_of [] own) ≡ true
     kept d there e =
         all_pass (λ x. within_fields opened x.1) (walk_under hash_of [] own) (λ x g.
         let found = part_found hash_of own [] x.0 x.1 g in
         let same = own_digest (digest_at hash_of own []) d e ∙ sym there in
-        kept_known hash_of own theirs seen opened known x.0 x.1 found.0 (same_below_names hash_of own theirs seen opened lawful [] no_clash known [] (omega arith) same x.0 refl))
+        kept_known hash_of own theirs seen opened known x.0 x.1 found.0
+        (same_below_names hash_of own theirs seen opened lawful [] no_clash known [] (omega arith) same x.0 refl))
 
-    by_own : (d : List ℕ) → digest_at hash_of theirs [] ≡ Some d → (b : Bool) → is_digest (digest_at hash_of own []) d ≡ b → (f : Fetch) × (take_opening hash_of own seen opened (Some d) ≡ Took f)
+    by_own : (d : List ℕ) → digest_at hash_of theirs [] ≡ Some d → (b : Bool) → is_digest (digest_at hash_of own []) d ≡ b → (f : Fetch)
+        × (take_opening hash_of own seen opened (Some d) ≡ Took f)
     by_own d there true e = (
       record { waiting = finite.empty; built = own },
-      (λ k. cond (e k) (cond (kept d there e k) (Took (record { waiting = finite.empty; built = own })) Mismatch) (Took (record { waiting = finite.insert finite.empty [] d; built = own }))),
+      (λ k. cond (e k) (cond (kept d there e k) (Took (record { waiting = finite.empty; built = own })) Mismatch)
+          (Took (record { waiting = finite.insert finite.empty [] d; built = own }))),
     )
     by_own d there false e = (
       record { waiting = finite.insert finite.empty [] d; built = own },
-      ap (λ b. cond b (cond (within opened (walk_under hash_of [] own)) (Took (record { waiting = finite.empty; built = own })) Mismatch) (Took (record { waiting = finite.insert finite.empty [] d; built = own }))) e,
+      ap (λ b. cond b (cond (within opened (walk_under hash_of [] own)) (Took (record { waiting = finite.empty; built = own })) Mismatch)
+          (Took (record { waiting = finite.insert finite.empty [] d; built = own }))) e,
     )
 
     by_root : (o : Option (List ℕ)) → digest_at hash_of theirs [] ≡ o → (f : Fetch) × (take_opening hash_of own seen opened o ≡ Took f)

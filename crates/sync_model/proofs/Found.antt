@@ -14,7 +14,8 @@ module _ {X : Type 0} where
   find_in q [] v e = absurd cc
   find_in q (x ∷ es) v e = step (eq_by_cmp bytes_cmp q x.0) refl e (find_in q es v)
     where
-      step : (b : Bool) → eq_by_cmp bytes_cmp q x.0 ≡ b → cond b (Some x.1) (find bytes_cmp q es) ≡ Some v → (find bytes_cmp q es ≡ Some v → In es (q, v)) → In (x ∷ es) (q, v)
+      step : (b : Bool) → eq_by_cmp bytes_cmp q x.0 ≡ b → cond b (Some x.1) (find bytes_cmp q es) ≡ Some v → (find bytes_cmp q es ≡ Some v → In es (q, v))
+          → In (x ∷ es) (q, v)
       step true t s further = let key = tied_same q x.0 t in let value = same_Some x.1 v s in inl (λ k. (sym key k, value k))
       step false t s further = inr (further s)
 
@@ -22,13 +23,16 @@ module _ {X : Type 0} where
   none_in q [] v e h = h
   none_in q (x ∷ es) v e h = step (eq_by_cmp bytes_cmp q x.0) refl e h (none_in q es v)
     where
-      step : (b : Bool) → eq_by_cmp bytes_cmp q x.0 ≡ b → cond b (Some x.1) (find bytes_cmp q es) ≡ None → In (x ∷ es) (q, v) → (find bytes_cmp q es ≡ None → In es (q, v) → ⊥) → ⊥
+      step : (b : Bool) → eq_by_cmp bytes_cmp q x.0 ≡ b → cond b (Some x.1) (find bytes_cmp q es) ≡ None → In (x ∷ es) (q, v)
+          → (find bytes_cmp q es ≡ None → In es (q, v) → ⊥) → ⊥
       step true t s h further = absurd cc
-      step false t s (inl same) further = absurd (let tied : eq_by_cmp bytes_cmp q x.0 ≡ true = same_tied q x.0 (sym (ap (λ c. c.0) same)) in let off : false ≡ true = sym t ∙ tied in cc)
+      step false t s (inl same) further =
+          absurd (let tied : eq_by_cmp bytes_cmp q x.0 ≡ true = same_tied q x.0 (sym (ap (λ c. c.0) same)) in let off : false ≡ true = sym t ∙ tied in cc)
       step false t s (inr rest) further = further s rest
 
   -- so a list that has just one map's entry at a key finds it
-  pub find_is : (q : List ℕ) (es : List (List ℕ × X)) (held : Option X) → ((v : X) → In es (q, v) → held ≡ Some v) → ((v : X) → held ≡ Some v → In es (q, v)) → find bytes_cmp q es ≡ held
+  pub find_is : (q : List ℕ) (es : List (List ℕ × X)) (held : Option X) → ((v : X) → In es (q, v) → held ≡ Some v) → ((v : X) → held ≡ Some v → In es (q, v))
+      → find bytes_cmp q es ≡ held
   find_is q es held each has = step (find bytes_cmp q es) held refl refl
     where
       step : (found held_there : Option X) → find bytes_cmp q es ≡ found → held ≡ held_there → found ≡ held_there

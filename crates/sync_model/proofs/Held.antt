@@ -41,6 +41,7 @@ unfolding at_values at_stores
 held_there None f d = refl
 held_there (Some fs) f d = step (find bytes_cmp f fs) (find_fields fs f)
   where
-    step : (o : Option ValuesValue) → o ≡ lookup (is_at (bytes_cmp f)) fs → held_by at_values (lookup (is_at (bytes_cmp f)) fs) tt d ≡ find dot_cmp d (values_or_none o)
+    step : (o : Option ValuesValue) → o ≡ lookup (is_at (bytes_cmp f)) fs → held_by at_values (lookup (is_at (bytes_cmp f)) fs) tt d
+        ≡ find dot_cmp d (values_or_none o)
     step None e = ap (λ l. held_by at_values l tt d) (sym e)
     step (Some vs) e = ap (λ l. held_by at_values l tt d) (sym e) ∙ sym (find_values vs d)

@@ -64,7 +64,8 @@ dot_tied d = (eq_by_cmp_equiv dot_cmp_total).refl d
 
 dot_there : (vs : ValuesValue) (d : DotValue) (v : List ℕ) → In vs (d, v) → is_some (find dot_cmp d vs) ≡ true
 dot_there [] d v h = absurd h
-dot_there (x ∷ vs) d v (inl e) = ap (λ c. is_some (cond (eq_by_cmp dot_cmp d (c.0)) (Some x.1) (find dot_cmp d vs))) e ∙ ap (λ b. is_some (cond b (Some x.1) (find dot_cmp d vs))) (dot_tied d)
+dot_there (x ∷ vs) d v (inl e) = ap (λ c. is_some (cond (eq_by_cmp dot_cmp d (c.0)) (Some x.1) (find dot_cmp d vs))) e
+    ∙ ap (λ b. is_some (cond b (Some x.1) (find dot_cmp d vs))) (dot_tied d)
 dot_there (x ∷ vs) d v (inr h) = step (eq_by_cmp dot_cmp d x.0) (dot_there vs d v h)
   where
     step : (b : Bool) → is_some (find dot_cmp d vs) ≡ true → is_some (cond b (Some x.1) (find dot_cmp d vs)) ≡ true
@@ -76,7 +77,8 @@ or_true true = refl
 or_true false = refl
 
 module _ (seen : DotValue → Bool) where
-  values_kept : (held : DotValue → Option (List ℕ)) (vs : ValuesValue) → ((d : DotValue) (v : List ℕ) → In vs (d, v) → is_some (held d) ≡ true) → without_ended seen held vs ≡ vs
+  values_kept : (held : DotValue → Option (List ℕ)) (vs : ValuesValue) → ((d : DotValue) (v : List ℕ) → In vs (d, v) → is_some (held d) ≡ true)
+      → without_ended seen held vs ≡ vs
   values_kept held [] among = refl
   values_kept held ((d, v) ∷ vs) among =
       ap (λ b. cond (not (seen d) || b) ((d, v) ∷ without_ended seen held vs) (without_ended seen held vs)) (among d v (inl refl))
@@ -87,11 +89,13 @@ module _ (seen : DotValue → Bool) where
   some_values field [] rest some = absurd (some refl)
   some_values field (v ∷ vs) rest some = refl
 
-  fields_kept : (own fs : FieldsValue) → ((f : List ℕ) (vs : ValuesValue) → In fs (f, vs) → (vs ≢ []) × (find bytes_cmp f own ≡ Some vs)) → open_fields seen (held_in (Some own)) fs ≡ fs
+  fields_kept : (own fs : FieldsValue) → ((f : List ℕ) (vs : ValuesValue) → In fs (f, vs) → (vs ≢ []) × (find bytes_cmp f own ≡ Some vs))
+      → open_fields seen (held_in (Some own)) fs ≡ fs
   fields_kept own [] among = refl
   fields_kept own ((f, vs) ∷ fs) among =
       let here = among f vs (inl refl) in
-      let kept = values_kept (held_in (Some own) f) vs (λ d v h. ap is_some (held_there (Some own) f d ∙ ap (λ o. find dot_cmp d (values_or_none o)) here.1) ∙ dot_there vs d v h) in
+      let kept = values_kept (held_in (Some own) f) vs (λ d v h. ap is_some (held_there (Some own) f d ∙ ap (λ o. find dot_cmp d (values_or_none o)) here.1)
+      ∙ dot_there vs d v h) in
       ap (λ l. with_values f l (open_fields seen (held_in (Some own)) fs)) kept
       ∙ some_values f vs (open_fields seen (held_in (Some own)) fs) here.0
       ∙ ap (λ l. (f, vs) ∷ l) (fields_kept own fs (λ g ws h. among g ws (inr h)))

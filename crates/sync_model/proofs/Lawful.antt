@@ -55,7 +55,8 @@ map_lawful m p is key fs e =
     record {
       some = λ none. is.filled key fs e (subst (λ l. HasNothing (fields_at l)) (sym none) nothing_held);
       each = λ f vs h. (
-        (λ none. In-All (λ v. ¬ HasNothing (at_values v)) (values_of fs) vs order.filled (In-map (λ x. x.1) fs (f, vs) (In-Contains fs (f, vs) h)) (subst (λ l. HasNothing (at_values l)) (sym none) no_value)),
+        (λ none. In-All (λ v. ¬ HasNothing (at_values v)) (values_of fs) vs order.filled (In-map (λ x. x.1) fs (f, vs) (In-Contains fs (f, vs) h))
+            (subst (λ l. HasNothing (at_values l)) (sym none) no_value)),
         found bytes_cmp tied_same (λ f. same_tied f f refl) fs f vs order.ordered (In-Contains fs (f, vs) h),
       );
     }

@@ -1,5 +1,6 @@
 -- What a list has, and what the part of a map's walk under a prefix has.
-use Rattle.std.proofs.Common.{◌≡◌, ◌⊎◌, inl, inr, ℕ, zero, suc, ◌<◌, List, [], ◌∷◌, map, length, get_or, Bool, true, false, cond, Some, arith, refl, sym, ◌∙◌, ap, subst}
+use Rattle.std.proofs.Common.{◌≡◌, ◌⊎◌, inl, inr, ℕ, zero, suc, ◌<◌, List, [], ◌∷◌, map, length, get_or, Bool, true, false, cond, Some, arith, refl, sym, ◌∙◌}
+use Rattle.std.proofs.Common.{ap, subst}
 use Rattle.std.specs.List.{All, Contains, filter}
 use Rattle.std.specs.FinMap as finite
 use Rattle.dots.specs.Bytes.{bytes_cmp}
@@ -63,7 +64,8 @@ In-mapped f (x ∷ xs) y (inr h) = let rest = In-mapped f xs y h in (rest.0, inr
 
 module _ {V : Type 0} (hash_of : List ℕ → ℕ) (m : finite.FinMap bytes_cmp V) (p : List ℕ) where
   pub part_has : (key : List ℕ) (v : V) → finite.get m key ≡ Some v → begins p (path hash_of key) ≡ true → In (walk_under hash_of p m) (key, v)
-  part_has key v e b = filter-In (λ e. begins p (path hash_of e.0)) (walk hash_of m) (key, v) (In-Contains (walk hash_of m) (key, v) (walk_has hash_of m key v e)) b
+  part_has key v e b = filter-In (λ e. begins p (path hash_of e.0)) (walk hash_of m) (key, v)
+      (In-Contains (walk hash_of m) (key, v) (walk_has hash_of m key v e)) b
 
   pub part_found : (key : List ℕ) (v : V) → In (walk_under hash_of p m) (key, v) → (finite.get m key ≡ Some v) × (begins p (path hash_of key) ≡ true)
   part_found key v h =

@@ -60,7 +60,8 @@ pub data Paged (hash_of : List ℕ → ℕ) (m : Held) (p : List ℕ) : Type 0 w
   Nothing : length p ≤ 7 → walk_under hash_of p m ≡ [] → page_at hash_of m p ≡ None → Paged hash_of m p
   One : length p ≤ 7 → (e : List ℕ × FieldsValue) → walk_under hash_of p m ≡ e ∷ [] → page_at hash_of m p ≡ Some (OneKey (named_entry e)) → Paged hash_of m p
   Several : length p ≡ 7 → 2 ≤ length (walk_under hash_of p m) → page_at hash_of m p ≡ Some (Keys (named_entries (walk_under hash_of p m))) → Paged hash_of m p
-  Parted : length p < 7 → 2 ≤ length (walk_under hash_of p m) → page_at hash_of m p ≡ Some (Branch (present 0 32 (λ i. digest_at hash_of m (p ++ i ∷ [])))) → Paged hash_of m p
+  Parted : length p < 7 → 2 ≤ length (walk_under hash_of p m) → page_at hash_of m p ≡ Some (Branch (present 0 32 (λ i. digest_at hash_of m (p ++ i ∷ []))))
+      → Paged hash_of m p
 
 module _ (hash_of : List ℕ → ℕ) (m : Held) (p : List ℕ) where
   by_walk : length p ≤ 7 → (es : List (List ℕ × FieldsValue)) → walk_under hash_of p m ≡ es → Paged hash_of m p

@@ -1,5 +1,6 @@
 -- Prefixes of one path: which of them begins which.
-use Rattle.std.proofs.Common.{◌≡◌, ◌⊎◌, inl, inr, ℕ, zero, suc, ◌<◌, List, [], ◌∷◌, ◌++◌, length, drop, get_or, Bool, true, false, cond, nat_eq, arith, refl, sym, ◌∙◌, ap, eqb-true, append_assoc}
+use Rattle.std.proofs.Common.{◌≡◌, ◌⊎◌, inl, inr, ℕ, zero, suc, ◌<◌, List, [], ◌∷◌, ◌++◌, length, drop, get_or, Bool, true, false, cond, nat_eq, arith, refl}
+use Rattle.std.proofs.Common.{sym, ◌∙◌, ap, eqb-true, append_assoc}
 use Rattle.std.proofs.lemmas.List.{length-append}
 use Rattle.std.specs.Prelude.{◌&&◌}
 use Rattle.hash_path.specs.Word.{word, begins}
@@ -17,7 +18,8 @@ begins_further [] w i = step (nat_eq i (get_or w 0 0))
     step : (b : Bool) → cond b true false ≡ b
     step true = refl
     step false = refl
-begins_further (j ∷ p) w i = step (nat_eq j (get_or w 0 0)) (begins_further p (drop 1 w) i ∙ ap (λ x. begins p (drop 1 w) && nat_eq i x) (drop_first (length p) w))
+begins_further (j ∷ p) w i = step (nat_eq j (get_or w 0 0)) (begins_further p (drop 1 w) i
+    ∙ ap (λ x. begins p (drop 1 w) && nat_eq i x) (drop_first (length p) w))
   where
     step : (b : Bool) → begins (p ++ i ∷ []) (drop 1 w) ≡ begins p (drop 1 w) && nat_eq i (get_or w (suc (length p)) 0)
         → cond b (begins (p ++ i ∷ []) (drop 1 w)) false ≡ cond b (begins p (drop 1 w)) false && nat_eq i (get_or w (suc (length p)) 0)
@@ -36,7 +38,8 @@ comparable (i ∷ p) (j ∷ q) w a b = step (nat_eq i (get_or w 0 0)) (nat_eq j 
     further e (inr (inl (k, rest, is))) = inr (inl (k, rest, (λ t. sym e t ∷ is t)))
     further e (inr (inr (k, rest, is))) = inr (inr (k, rest, (λ t. e t ∷ is t)))
 
-    step : (s t : Bool) → nat_eq i (get_or w 0 0) ≡ s → nat_eq j (get_or w 0 0) ≡ t → cond s (begins p (drop 1 w)) false ≡ true → cond t (begins q (drop 1 w)) false ≡ true
+    step : (s t : Bool) → nat_eq i (get_or w 0 0) ≡ s → nat_eq j (get_or w 0 0) ≡ t → cond s (begins p (drop 1 w)) false ≡ true
+        → cond t (begins q (drop 1 w)) false ≡ true
         → (begins p (drop 1 w) ≡ true → begins q (drop 1 w) ≡ true → (p ≡ q) ⊎ (IsAbove p q ⊎ IsAbove q p))
         → (i ∷ p ≡ j ∷ q) ⊎ (IsAbove (i ∷ p) (j ∷ q) ⊎ IsAbove (j ∷ q) (i ∷ p))
     step true true s t a b rest = further (eqb-true i (get_or w 0 0) s ∙ sym (eqb-true j (get_or w 0 0) t)) (rest a b)

@@ -43,9 +43,11 @@ module _ (p : List ℕ) where
       → ((i : ℕ) × In cs (i, d) × (q ≡ p ++ i ∷ [])) ⊎ (finite.get w q ≡ Some d)
   from_children [] w q d e = inr e
   from_children (c ∷ cs) w q d e =
-      step (eq_by_cmp bytes_cmp q (p ++ c.0 ∷ [])) refl (sym (get-insert nat_list_cmp_total (put_children p cs w) (p ++ c.0 ∷ []) c.1 q) ∙ e) (from_children cs w q d)
+      step (eq_by_cmp bytes_cmp q (p ++ c.0 ∷ [])) refl (sym (get-insert nat_list_cmp_total (put_children p cs w) (p ++ c.0 ∷ []) c.1 q) ∙ e)
+      (from_children cs w q d)
     where
-      behind : ((i : ℕ) × In cs (i, d) × (q ≡ p ++ i ∷ [])) ⊎ (finite.get w q ≡ Some d) → ((i : ℕ) × In (c ∷ cs) (i, d) × (q ≡ p ++ i ∷ [])) ⊎ (finite.get w q ≡ Some d)
+      behind : ((i : ℕ) × In cs (i, d) × (q ≡ p ++ i ∷ [])) ⊎ (finite.get w q ≡ Some d) → ((i : ℕ) × In (c ∷ cs) (i, d) × (q ≡ p ++ i ∷ []))
+          ⊎ (finite.get w q ≡ Some d)
       behind (inl h) = inl (h.0, inr h.1, h.2)
       behind (inr h) = inr h
 
@@ -56,23 +58,27 @@ module _ (p : List ℕ) where
       step false t s further = behind (further s)
 
   -- each child is waited for by its digest, where one index has one digest
-  pub child_waits : (told : ℕ → Option (List ℕ)) (cs : List (ℕ × List ℕ)) (w : Waiting) (i : ℕ) (d : List ℕ) → ((j : ℕ) (x : List ℕ) → In cs (j, x) → told j ≡ Some x) → In cs (i, d)
+  pub child_waits : (told : ℕ → Option (List ℕ)) (cs : List (ℕ × List ℕ)) (w : Waiting) (i : ℕ) (d : List ℕ)
+      → ((j : ℕ) (x : List ℕ) → In cs (j, x) → told j ≡ Some x) → In cs (i, d)
       → finite.get (put_children p cs w) (p ++ i ∷ []) ≡ Some d
   child_waits told [] w i d one h = absurd h
   child_waits told (c ∷ cs) w i d one h =
       get-insert nat_list_cmp_total (put_children p cs w) (p ++ c.0 ∷ []) c.1 (p ++ i ∷ [])
       ∙ step (eq_by_cmp bytes_cmp (p ++ i ∷ []) (p ++ c.0 ∷ [])) refl h (child_waits told cs w i d (λ j x g. one j x (inr g)))
     where
-      step : (b : Bool) → eq_by_cmp bytes_cmp (p ++ i ∷ []) (p ++ c.0 ∷ []) ≡ b → In (c ∷ cs) (i, d) → (In cs (i, d) → finite.get (put_children p cs w) (p ++ i ∷ []) ≡ Some d)
+      step : (b : Bool) → eq_by_cmp bytes_cmp (p ++ i ∷ []) (p ++ c.0 ∷ []) ≡ b → In (c ∷ cs) (i, d)
+          → (In cs (i, d) → finite.get (put_children p cs w) (p ++ i ∷ []) ≡ Some d)
           → cond b (Some c.1) (finite.get (put_children p cs w) (p ++ i ∷ [])) ≡ Some d
       step true t g further =
           let same = same_last p i c.0 (tied_same (p ++ i ∷ []) (p ++ c.0 ∷ []) t) in
           ap Some (same_Some c.1 d (sym (one c.0 c.1 (inl refl)) ∙ ap told (sym same) ∙ one i d g))
-      step false t (inl here) further = absurd (let on : true ≡ false = sym (same_tied (p ++ i ∷ []) (p ++ c.0 ∷ []) (ap (λ x. p ++ x ∷ []) (sym (ap (λ x. x.0) here)))) ∙ t in cc)
+      step false t (inl here) further =
+          absurd (let on : true ≡ false = sym (same_tied (p ++ i ∷ []) (p ++ c.0 ∷ []) (ap (λ x. p ++ x ∷ []) (sym (ap (λ x. x.0) here)))) ∙ t in cc)
       step false t (inr there) further = further there
 
   -- and what is no child is as it was
-  pub not_child : (cs : List (ℕ × List ℕ)) (w : Waiting) (q : List ℕ) → ((i : ℕ) (d : List ℕ) → In cs (i, d) → q ≢ p ++ i ∷ []) → finite.get (put_children p cs w) q ≡ finite.get w q
+  pub not_child : (cs : List (ℕ × List ℕ)) (w : Waiting) (q : List ℕ) → ((i : ℕ) (d : List ℕ) → In cs (i, d) → q ≢ p ++ i ∷ [])
+      → finite.get (put_children p cs w) q ≡ finite.get w q
   not_child [] w q off = refl
   not_child (c ∷ cs) w q off =
       get-insert nat_list_cmp_total (put_children p cs w) (p ++ c.0 ∷ []) c.1 q
@@ -86,12 +92,14 @@ fields_put key [] m q off = refl
 fields_put key (f ∷ fs) m q off = get-insert nat_list_cmp_total m key (f ∷ fs) q ∙ ap (λ b. cond b (Some (f ∷ fs)) (finite.get m q)) (apart q key off)
 
 -- a key of no entry is as it was
-pub no_entry : (es : List (List ℕ × FieldsValue)) (m : Held) (q : List ℕ) → ((fs : FieldsValue) → ¬ In es (q, fs)) → finite.get (put_entries es m) q ≡ finite.get m q
+pub no_entry : (es : List (List ℕ × FieldsValue)) (m : Held) (q : List ℕ) → ((fs : FieldsValue) → ¬ In es (q, fs))
+    → finite.get (put_entries es m) q ≡ finite.get m q
 no_entry [] m q off = refl
 no_entry (e ∷ es) m q off = fields_put e.0 e.1 (put_entries es m) q (λ s. off e.1 (inl (λ k. (sym s k, e.1)))) ∙ no_entry es m q (λ fs h. off fs (inr h))
 
 -- entries that hold nothing put nothing
-empty_entry : (es : List (List ℕ × FieldsValue)) (m : Held) (q : List ℕ) → ((gs : FieldsValue) → In es (q, gs) → gs ≡ []) → finite.get (put_entries es m) q ≡ finite.get m q
+empty_entry : (es : List (List ℕ × FieldsValue)) (m : Held) (q : List ℕ) → ((gs : FieldsValue) → In es (q, gs) → gs ≡ [])
+    → finite.get (put_entries es m) q ≡ finite.get m q
 empty_entry [] m q one = refl
 empty_entry (e ∷ es) m q one = step (eq_by_cmp bytes_cmp q e.0) refl ∙ empty_entry es m q (λ gs g. one gs (inr g))
   where
@@ -99,7 +107,8 @@ empty_entry (e ∷ es) m q one = step (eq_by_cmp bytes_cmp q e.0) refl ∙ empty
     step true t = let key = tied_same q e.0 t in ap (λ gs. finite.get (put_entry e.0 gs (put_entries es m)) q) (one e.1 (inl (λ k. (sym key k, e.1))))
     step false t = fields_put e.0 e.1 (put_entries es m) q (λ s. let on : true ≡ false = sym (same_tied q e.0 s) ∙ t in absurd cc)
 
-full_entry : (es : List (List ℕ × FieldsValue)) (m : Held) (q : List ℕ) (f : List ℕ × ValuesValue) (fs : FieldsValue) → ((gs : FieldsValue) → In es (q, gs) → gs ≡ f ∷ fs) → In es (q, f ∷ fs)
+full_entry : (es : List (List ℕ × FieldsValue)) (m : Held) (q : List ℕ) (f : List ℕ × ValuesValue) (fs : FieldsValue)
+    → ((gs : FieldsValue) → In es (q, gs) → gs ≡ f ∷ fs) → In es (q, f ∷ fs)
     → finite.get (put_entries es m) q ≡ Some (f ∷ fs)
 full_entry [] m q f fs one h = absurd h
 full_entry (e ∷ es) m q f fs one h = step (eq_by_cmp bytes_cmp q e.0) refl h (full_entry es m q f fs (λ gs g. one gs (inr g)))
@@ -111,10 +120,12 @@ full_entry (e ∷ es) m q f fs one h = step (eq_by_cmp bytes_cmp q e.0) refl h (
         ap (λ gs. finite.get (put_entry e.0 gs (put_entries es m)) q) (one e.1 (inl (λ k. (sym key k, e.1))))
         ∙ get-insert nat_list_cmp_total (put_entries es m) e.0 (f ∷ fs) q ∙ ap (λ b. cond b (Some (f ∷ fs)) (finite.get (put_entries es m) q)) t
     step false t (inl here) further = let on : true ≡ false = sym (same_tied q e.0 (sym (ap (λ x. x.0) here))) ∙ t in absurd cc
-    step false t (inr there) further = fields_put e.0 e.1 (put_entries es m) q (λ s. let on : true ≡ false = sym (same_tied q e.0 s) ∙ t in absurd cc) ∙ further there
+    step false t (inr there) further = fields_put e.0 e.1 (put_entries es m) q (λ s. let on : true ≡ false = sym (same_tied q e.0 s) ∙ t in absurd cc)
+        ∙ further there
 
 -- and that of an entry is what the entry says, where the key was not there
-pub one_entry : (es : List (List ℕ × FieldsValue)) (m : Held) (q : List ℕ) (fs : FieldsValue) → ((gs : FieldsValue) → In es (q, gs) → gs ≡ fs) → In es (q, fs) → finite.get m q ≡ None
+pub one_entry : (es : List (List ℕ × FieldsValue)) (m : Held) (q : List ℕ) (fs : FieldsValue) → ((gs : FieldsValue) → In es (q, gs) → gs ≡ fs) → In es (q, fs)
+    → finite.get m q ≡ None
     → finite.get (put_entries es m) q ≡ some_if_any fs
 one_entry es m q [] one h none = empty_entry es m q one ∙ none
 one_entry es m q (f ∷ fs) one h none = full_entry es m q f fs one h

@@ -30,7 +30,8 @@ apart_back s t off = step (same_session t s) refl
     step true e = absurd (let on : same_session s t ≡ true = subst (λ u. same_session u t ≡ true) (same_from t s e) (same_itself t) in cc)
 
 module _ {X : Type 0} (k : SessionValue) (v : X) (rest : List (SessionValue × X)) where
-  apart_from_later : (s : SessionValue) (es : List (SessionValue × X)) → AllByRecursion (λ y. same_session s y ≡ false) (keys_of (es ++ (k, v) ∷ rest)) → same_session s k ≡ false
+  apart_from_later : (s : SessionValue) (es : List (SessionValue × X)) → AllByRecursion (λ y. same_session s y ≡ false) (keys_of (es ++ (k, v) ∷ rest))
+      → same_session s k ≡ false
   apart_from_later s [] h = h.0
   apart_from_later s (e ∷ es) h = apart_from_later s es h.1
 
@@ -40,10 +41,12 @@ module _ {X : Type 0} (k : SessionValue) (v : X) (rest : List (SessionValue × X
   none_before (e ∷ es) d =
       ap (λ b. cond b (Some e.1) (lookup (same_session k) es)) (apart_back e.0 k (apart_from_later e.0 es d.0)) ∙ none_before es d.1
 
-  pub one_more : (all old new before : List (SessionValue × X)) (w : X) → IsDistinct same_session (keys_of all) → old ++ before ≡ all → before ≡ (k, v) ∷ rest → w ≡ v → new ≡ insert_entry same_session old k w
+  pub one_more : (all old new before : List (SessionValue × X)) (w : X) → IsDistinct same_session (keys_of all) → old ++ before ≡ all → before ≡ (k, v) ∷ rest
+      → w ≡ v → new ≡ insert_entry same_session old k w
       → new ++ rest ≡ all
   one_more all old new before w distinct was is same put =
       let split : old ++ (k, v) ∷ rest ≡ all = ap (λ l. old ++ l) (sym is) ∙ was in
       let none = none_before old (subst (λ l. IsDistinct same_session (keys_of l)) (sym split) distinct) in
-      let last : new ≡ old ++ (k, v) ∷ [] = put ∙ insert_entry-absent same_session k w old (absent_from_lookup (same_session k) old none) ∙ ap (λ x. old ++ (k, x) ∷ []) same in
+      let last : new ≡ old ++ (k, v) ∷ [] = put ∙ insert_entry-absent same_session k w old (absent_from_lookup (same_session k) old none)
+      ∙ ap (λ x. old ++ (k, x) ∷ []) same in
       ap (λ l. l ++ rest) last ∙ append_assoc old ((k, v) ∷ []) rest ∙ split

@@ -1,5 +1,6 @@
 -- The list of the snapshots that are kept: who is found in it, and how long it is.
-use Rattle.std.proofs.Common.{◌≡◌, ℕ, ◌+◌, ◌<◌, ◌≤◌, nat_lt, List, [], ◌∷◌, ◌++◌, length, Bool, true, false, cond, Some, None, arith, refl, sym, ◌∙◌, ap, subst, length-append}
+use Rattle.std.proofs.Common.{◌≡◌, ℕ, ◌+◌, ◌<◌, ◌≤◌, nat_lt, List, [], ◌∷◌, ◌++◌, length, Bool, true, false, cond, Some, None, arith, refl, sym, ◌∙◌, ap, subst}
+use Rattle.std.proofs.Common.{length-append}
 use Rattle.std.specs.Prelude.{Option, ◌&&◌}
 use Rattle.std.specs.List.{All, remove}
 use Rattle.std.specs.Map.{lookup}
@@ -8,7 +9,8 @@ use Rattle.std.proofs.lemmas.List.Elements.{All-nil, All-cons, All-tail, All-app
 use Rattle.wire_form.specs.Message.{MessageValue}
 use Rattle.wire_form.specs.Session.{SessionValue, same_session}
 use Rattle.sync_protocol.specs.Snapshot.{SnapshotValue, KeptValue}
-use Rattle.sync_protocol.specs.Answering.{LIMIT, snapshot_of, all_but_first, with_place, keeping, kept_with, kept_after, told_with, told_of, page_of, answer_with, answer_of}
+use Rattle.sync_protocol.specs.Answering.{LIMIT, snapshot_of, all_but_first, with_place, keeping, kept_with, kept_after, told_with, told_of, page_of}
+use Rattle.sync_protocol.specs.Answering.{answer_with, answer_of}
 
 pub same_itself : (s : SessionValue) → same_session s s ≡ true
 same_itself s = (λ i. eq-eqb s.asker s.asker refl i && (eq-eqb s.answerer s.answerer refl i && eq-eqb s.number s.number refl i))
@@ -21,7 +23,8 @@ module _ {K X : Type 0} (test : K → Bool) where
   lookup_behind [] fs none = refl
   lookup_behind (e ∷ es) fs none = step (test e.0) none (lookup_behind es fs)
     where
-      step : (b : Bool) → cond b (Some e.1) (lookup test es) ≡ None → (lookup test es ≡ None → lookup test (es ++ fs) ≡ lookup test fs) → cond b (Some e.1) (lookup test (es ++ fs)) ≡ lookup test fs
+      step : (b : Bool) → cond b (Some e.1) (lookup test es) ≡ None → (lookup test es ≡ None → lookup test (es ++ fs) ≡ lookup test fs)
+          → cond b (Some e.1) (lookup test (es ++ fs)) ≡ lookup test fs
       step true none further = absurd cc
       step false none further = further none
 
@@ -97,7 +100,8 @@ module _ {Hash : Type 0} where
 
     all_kept : (kept : KeptValue Hash) (s : SessionValue) (new : SnapshotValue Hash) → All (λ e. P e.1) kept → P new → All (λ e. P e.1) (keeping s new kept)
     all_kept kept s new all here =
-        All-append (λ e. P e.1) (with_place kept) ((s, new) ∷ []) (step (nat_lt (length kept) LIMIT)) (All-cons (λ e. P e.1) (s, new) [] here (All-nil (λ e. P e.1)))
+        All-append (λ e. P e.1) (with_place kept) ((s, new) ∷ []) (step (nat_lt (length kept) LIMIT))
+        (All-cons (λ e. P e.1) (s, new) [] here (All-nil (λ e. P e.1)))
       where
         step : (b : Bool) → All (λ e. P e.1) (cond b kept (all_but_first kept))
         step true = all
@@ -111,7 +115,8 @@ module _ {Hash : Type 0} where
         step true found further = let same : e.1 ≡ k = cc in subst P same (all 0 e (omega arith))
         step false found further = further found
 
-    pub all_after : (kept : KeptValue Hash) (s : SessionValue) (new : SnapshotValue Hash) → All (λ e. P e.1) kept → P new → All (λ e. P e.1) (kept_after kept s new) × P (told_of kept s new)
+    pub all_after : (kept : KeptValue Hash) (s : SessionValue) (new : SnapshotValue Hash) → All (λ e. P e.1) kept → P new
+        → All (λ e. P e.1) (kept_after kept s new) × P (told_of kept s new)
     all_after kept s new all here = step (snapshot_of kept s) refl
       where
         step : (o : Option (SnapshotValue Hash)) → snapshot_of kept s ≡ o → All (λ e. P e.1) (kept_with s new kept o) × P (told_with new o)
@@ -119,10 +124,12 @@ module _ {Hash : Type 0} where
         step (Some k) found = (all, found_has kept s k all found)
 
   -- what holds of the snapshot that is found holds of the one that is told of
-  pub told_is : (P : SnapshotValue Hash → Type 0) (kept : KeptValue Hash) (s : SessionValue) (new k : SnapshotValue Hash) → snapshot_of kept s ≡ Some k → P k → P (told_of kept s new)
+  pub told_is : (P : SnapshotValue Hash → Type 0) (kept : KeptValue Hash) (s : SessionValue) (new k : SnapshotValue Hash) → snapshot_of kept s ≡ Some k → P k
+      → P (told_of kept s new)
   told_is P kept s new k found h = subst P (sym (ap (told_with new) found)) h
 
   -- and what holds of its page, of the answer
-  pub answer_is : (hash_of : Hash → List ℕ → ℕ) (P : Option MessageValue → Type 0) (kept : KeptValue Hash) (s : SessionValue) (prefix : List ℕ) (k : SnapshotValue Hash) → snapshot_of kept s ≡ Some k
+  pub answer_is : (hash_of : Hash → List ℕ → ℕ) (P : Option MessageValue → Type 0) (kept : KeptValue Hash) (s : SessionValue) (prefix : List ℕ)
+      (k : SnapshotValue Hash) → snapshot_of kept s ≡ Some k
       → P (page_of hash_of s k prefix) → P (answer_of hash_of kept s prefix)
   answer_is hash_of P kept s prefix k found h = subst P (sym (ap (answer_with hash_of s prefix) found)) h

@@ -17,8 +17,10 @@ some_dot (v ∷ vs) filled = omega arith
 
 each_has : (fs : FieldsValue) → NoKeyIsEmpty at_values fs → AllByRecursion (λ f. 1 ≤ length f.1) (named_fields fs)
 each_has [] each = tt
-each_has (f ∷ fs) each =
-    (some_dot f.1 (All-head (λ vs. ¬ HasNothing (at_values vs)) f.1 (values_of fs) each), each_has fs (All-tail (λ vs. ¬ HasNothing (at_values vs)) f.1 (values_of fs) each))
+each_has (f ∷ fs) each = (
+  some_dot f.1 (All-head (λ vs. ¬ HasNothing (at_values vs)) f.1 (values_of fs) each),
+  each_has fs (All-tail (λ vs. ¬ HasNothing (at_values vs)) f.1 (values_of fs) each),
+)
 
 pub fields_filled : (fs : FieldsValue) → NoKeyIsEmpty at_values fs → ¬ HasNothing (fields_at fs) → IsFilled (named_fields fs)
 unfolding at_stores

@@ -1,5 +1,6 @@
 -- The keys of one hash stand by their bytes in the walk of a map, and the children that are present by their indices.
-use Rattle.std.proofs.Common.{◌≡◌, ℕ, zero, suc, ◌*◌, ◌^◌, ◌<◌, ◌≤◌, List, [], ◌∷◌, length, Bool, true, false, cond, T, Some, None, arith, refl, sym, ◌∙◌, ap, subst}
+use Rattle.std.proofs.Common.{◌≡◌, ℕ, zero, suc, ◌*◌, ◌^◌, ◌<◌, ◌≤◌, List, [], ◌∷◌, length, Bool, true, false, cond, T, Some, None, arith, refl, sym, ◌∙◌, ap}
+use Rattle.std.proofs.Common.{subst}
 use Rattle.std.specs.Prelude.{Option}
 use Rattle.std.specs.declared.cmp.Ordering.TheVariants.{Less, Equal}
 use Rattle.std.specs.Cmp.{nat_cmp_is}
@@ -26,7 +27,8 @@ use Rattle.hash_path.proofs.Parts.{HashedBy-by_path, begins-path}
 one_word : (height hash : ℕ) (k l : List ℕ) → bytes_cmp (word height hash k) (word height hash l) ≡ bytes_cmp k l
 one_word zero hash k l = ap (λ o. ordering_then o (bytes_cmp k l)) (sym (nat_cmp_is hash hash Equal refl))
 one_word (suc below) hash k l =
-    ap (λ o. ordering_then o (bytes_cmp (word below hash k) (word below hash l))) (sym (nat_cmp_is (digit below hash) (digit below hash) Equal refl)) ∙ one_word below hash k l
+    ap (λ o. ordering_then o (bytes_cmp (word below hash k) (word below hash l))) (sym (nat_cmp_is (digit below hash) (digit below hash) Equal refl))
+    ∙ one_word below hash k l
 
 module _ (f : List ℕ → ℕ) (bounded : (key : List ℕ) → f key < 2 ^ 32) (p : List ℕ) (deep : length p ≡ 7) where
   -- keys under a whole path have one hash
@@ -39,9 +41,11 @@ module _ (f : List ℕ → ℕ) (bounded : (key : List ℕ) → f key < 2 ^ 32) 
       let small_l : f l < 2 ^ (5 * 7) = let small = bounded l in omega (arith, small) in
       sym (mod-eq_of_lt small_k) ∙ same_bits 7 (f k) (f l) same ∙ mod-eq_of_lt small_l
 
-  below_here : (k l w : List ℕ) → w ≡ path f l → begins p (path f k) ≡ true → begins p (path f l) ≡ true → T (is_lt (bytes_cmp (path f k) w)) → bytes_cmp k l ≡ Less
+  below_here : (k l w : List ℕ) → w ≡ path f l → begins p (path f k) ≡ true → begins p (path f l) ≡ true → T (is_lt (bytes_cmp (path f k) w))
+      → bytes_cmp k l ≡ Less
   below_here k l w is a b less =
-      sym (one_word 7 (f k) k l) ∙ ap (λ h. bytes_cmp (path f k) (word 7 h l)) (one_hash k l a b) ∙ ap (bytes_cmp (path f k)) (sym is) ∙ less_from (bytes_cmp (path f k) w) less
+      sym (one_word 7 (f k) k l) ∙ ap (λ h. bytes_cmp (path f k) (word 7 h l)) (one_hash k l a b) ∙ ap (bytes_cmp (path f k)) (sym is)
+      ∙ less_from (bytes_cmp (path f k) w) less
 
   module _ {V : Type 0} where
     below_rest : (k w : List ℕ) (es : List (List ℕ × V)) → w ≡ path f k → begins p (path f k) ≡ true → HashedBy f es → T (below_all bytes_cmp w es)
@@ -59,7 +63,8 @@ module _ (f : List ℕ → ℕ) (bounded : (key : List ℕ) → f key < 2 ^ 32) 
             (below_here k (key_of e.0) e.0 hashed.0 here there (subst (λ v. T (is_lt (bytes_cmp v e.0))) is (first_below w e es below)), further)
         step false there further = further
 
-    rest_sorted : (es : List (List ℕ × V)) → HashedBy f es → T (is_sorted bytes_cmp es) → IsStrictlySortedBy bytes_cmp (keys_of (filter (λ e. begins p (path f e.0)) (by_key 7 es)))
+    rest_sorted : (es : List (List ℕ × V)) → HashedBy f es → T (is_sorted bytes_cmp es)
+        → IsStrictlySortedBy bytes_cmp (keys_of (filter (λ e. begins p (path f e.0)) (by_key 7 es)))
     unfolding IsStrictlySortedBy
     rest_sorted [] hashed sorted = tt
     rest_sorted (e ∷ es) hashed sorted =
@@ -68,7 +73,8 @@ module _ (f : List ℕ → ℕ) (bounded : (key : List ℕ) → f key < 2 ^ 32) 
         rest : List (List ℕ × V)
         rest = filter (λ e. begins p (path f e.0)) (by_key 7 es)
 
-        step : (b : Bool) → begins p (path f (key_of e.0)) ≡ b → IsStrictlySortedBy bytes_cmp (keys_of rest) → IsStrictlySortedBy bytes_cmp (keys_of (cond b ((key_of e.0, e.1) ∷ rest) rest))
+        step : (b : Bool) → begins p (path f (key_of e.0)) ≡ b → IsStrictlySortedBy bytes_cmp (keys_of rest)
+            → IsStrictlySortedBy bytes_cmp (keys_of (cond b ((key_of e.0, e.1) ∷ rest) rest))
         step true here further = (below_rest (key_of e.0) e.0 es hashed.0 here hashed.1 (first_sorted e es sorted), further)
         step false here further = further
 
@@ -83,7 +89,8 @@ module _ {M : Type 0} where
   above_all low i zero g less = tt
   above_all low i (suc n) g less = step (g i) (above_all low (suc i) n g (omega (arith, less)))
     where
-      step : (o : Option M) → AllByRecursion (λ y. nat_cmp low y ≡ Less) (keys_of (present (suc i) n g)) → AllByRecursion (λ y. nat_cmp low y ≡ Less) (keys_of (one_present i o (present (suc i) n g)))
+      step : (o : Option M) → AllByRecursion (λ y. nat_cmp low y ≡ Less) (keys_of (present (suc i) n g))
+          → AllByRecursion (λ y. nat_cmp low y ≡ Less) (keys_of (one_present i o (present (suc i) n g)))
       step None rest = rest
       step (Some x) rest = (is_less low i less, rest)
 
@@ -92,6 +99,7 @@ module _ {M : Type 0} where
   present_sorted i zero g = tt
   present_sorted i (suc n) g = step (g i) (present_sorted (suc i) n g)
     where
-      step : (o : Option M) → IsStrictlySortedBy nat_cmp (keys_of (present (suc i) n g)) → IsStrictlySortedBy nat_cmp (keys_of (one_present i o (present (suc i) n g)))
+      step : (o : Option M) → IsStrictlySortedBy nat_cmp (keys_of (present (suc i) n g))
+          → IsStrictlySortedBy nat_cmp (keys_of (one_present i o (present (suc i) n g)))
       step None rest = rest
       step (Some x) rest = (above_all i (suc i) n g (omega arith), rest)

@@ -1,5 +1,6 @@
 -- The page of a map at a prefix, with the values that are missing, is one that can be sent.
-use Rattle.std.proofs.Common.{◌≡◌, ◌⊎◌, inl, inr, ℕ, ◌^◌, ◌<◌, ◌≤◌, List, [], ◌∷◌, ◌++◌, length, get_or, Bool, true, Some, None, arith, refl, sym, ◌∙◌, ap, subst}
+use Rattle.std.proofs.Common.{◌≡◌, ◌⊎◌, inl, inr, ℕ, ◌^◌, ◌<◌, ◌≤◌, List, [], ◌∷◌, ◌++◌, length, get_or, Bool, true, Some, None, arith, refl, sym, ◌∙◌, ap}
+use Rattle.std.proofs.Common.{subst}
 use Rattle.std.specs.Prelude.{Option, ◌&&◌}
 use Rattle.std.specs.Option.{option_map}
 use Rattle.std.specs.List.{AllByRecursion}
@@ -47,7 +48,8 @@ module _ {X : Type 0} where
   first_in [] several = absurd (omega (arith, several))
   first_in (x ∷ xs) several = (x, inl refl)
 
-module _ (f : List ℕ → ℕ) (bounded : (key : List ℕ) → f key < 2 ^ 32) (m : Held) (filled : (key : List ℕ) (fs : FieldsValue) → finite.get m key ≡ Some fs → IsFilled (named_fields fs)) where
+module _ (f : List ℕ → ℕ) (bounded : (key : List ℕ) → f key < 2 ^ 32) (m : Held)
+    (filled : (key : List ℕ) (fs : FieldsValue) → finite.get m key ≡ Some fs → IsFilled (named_fields fs)) where
   -- each key of a page is filled
   entries_filled : (p : List ℕ) (e : EntryValue) → In (named_entries (walk_under f p m)) e → IsFilled e.1
   entries_filled p e h =
@@ -123,21 +125,27 @@ module _ (f : List ℕ → ℕ) (bounded : (key : List ℕ) → f key < 2 ^ 32) 
         step (Past long none) = none_sent page is none
         step (Nothing short empty none) = none_sent page is none
         step (One short e one at) =
-            of_page page (OneKey (named_entry e)) is at (record { stands = filled e.0 e.1 (part_found f m p e.0 e.1 (subst (λ es. In es e) (sym one) (inl refl))).0; carries = tt })
-        step (Several deep several at) = of_page page (Keys (named_entries (walk_under f p m))) is at (record { stands = keys_stand p deep several; carries = tt })
-        step (Parted less several at) = of_page page _ is at (record { stands = branch_stands p less several; carries = values_of_branch known f m p less several })
+            of_page page (OneKey (named_entry e)) is at
+            (record { stands = filled e.0 e.1 (part_found f m p e.0 e.1 (subst (λ es. In es e) (sym one) (inl refl))).0; carries = tt })
+        step (Several deep several at) = of_page page (Keys (named_entries (walk_under f p m))) is at
+            (record { stands = keys_stand p deep several; carries = tt })
+        step (Parted less several at) =
+            of_page page _ is at (record { stands = branch_stands p less several; carries = values_of_branch known f m p less several })
 
     -- the same of a map that is known to be that one, and of values and a page that are known to be these
     pub sendable : (n : Held) (values : List (List ℕ)) (page : PageValue) → n ≡ m → values ≡ unknown_at known f n p → Some page ≡ page_at f n p
         → CanBeSent (record { prefix = p; values = values; page = page })
     sendable n values page same are is =
-        subst (λ vs. CanBeSent (record { prefix = p; values = vs; page = page })) (sym (are ∙ ap (λ n. unknown_at known f n p) same)) (can_be_sent page (sym (is ∙ ap (λ n. page_at f n p) same)))
+        subst (λ vs. CanBeSent (record { prefix = p; values = vs; page = page })) (sym (are ∙ ap (λ n. unknown_at known f n p) same))
+        (can_be_sent page (sym (is ∙ ap (λ n. page_at f n p) same)))
 
 -- the message of the page of a snapshot's map, with the values that are missing, is the one that is answered
 module _ {Hash : Type 0} (hash_of : Hash → List ℕ → ℕ) (k : SnapshotValue Hash) (s : SessionValue) (prefix : List ℕ) where
   pub page_told : (hash : Hash) (n : Held) (values : List (List ℕ)) (page : PageValue) (message : MessageValue) → hash ≡ k.hash → n ≡ k.map
-      → message ≡ Page s (record { prefix = prefix; values = values; page = page }) → values ≡ unknown_at (has k.seen) (hash_of hash) n prefix → Some page ≡ page_at (hash_of hash) n prefix
+      → message ≡ Page s (record { prefix = prefix; values = values; page = page }) → values ≡ unknown_at (has k.seen) (hash_of hash) n prefix
+      → Some page ≡ page_at (hash_of hash) n prefix
       → Some message ≡ page_of hash_of s k prefix
   page_told hash n values page message same those said are is =
-      ap Some said ∙ ap (λ vs. Some (Page s (record { prefix = prefix; values = vs; page = page }))) (are ∙ (λ i. unknown_at (has k.seen) (hash_of (same i)) (those i) prefix))
+      ap Some said ∙ ap (λ vs. Some (Page s (record { prefix = prefix; values = vs; page = page })))
+      (are ∙ (λ i. unknown_at (has k.seen) (hash_of (same i)) (those i) prefix))
       ∙ ap (option_map (page_for hash_of s k prefix)) (is ∙ (λ i. page_at (hash_of (same i)) (those i) prefix))

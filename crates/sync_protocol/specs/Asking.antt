@@ -11,8 +11,8 @@ use Rattle.wire_form.specs.Session.{SessionValue}
 use Rattle.sync_model.specs.Differ.{Held}
 use Rattle.sync_model.specs.Fetch.{Fetch}
 use Rattle.sync_model.specs.Laws.{KnowsEachDot}
-use Rattle.page_taking.specs.Building.{BuiltValue, built_code, GoesOn}
-use Rattle.page_taking.specs.Taking.{FetchingValue, fetching_code, fetch_of}
+use Rattle.page_fetching.specs.Building.{BuiltValue, built_code, GoesOn}
+use Rattle.page_fetching.specs.Taking.{FetchingValue, fetching_code, fetch_of}
 use Rattle.sync_protocol.specs.Snapshot.{session_code}
 
 -- how far it is: it asked; it accepted an opening, which knows these dots, and fetches; all is there, under these dots; or it ended

@@ -2,9 +2,9 @@
 use Rattle.std.specs.Prelude.{map}
 use Rattle.wire_form.specs.Message.{message_of}
 use Rattle.sync_protocol.specs.Asking.{asker_state}
-use Rattle.page_taking.specs.Building.{BuiltValue, GoesOn}
-use Rattle.page_taking.specs.declared.taken.Taken.{Taken}
-use Rattle.page_taking.specs.declared.taken.Taken.TheVariants as page
+use Rattle.page_fetching.specs.Building.{BuiltValue, GoesOn}
+use Rattle.page_fetching.specs.declared.taken.Taken.{Taken}
+use Rattle.page_fetching.specs.declared.taken.Taken.TheVariants as page
 use Rattle.sync_protocol.specs.Turning as turning
 use Rattle.sync_protocol.specs.Turning.{StepValue, StateAndStep}
 use Rattle.sync_protocol.specs.declared.step.Step.{Step}

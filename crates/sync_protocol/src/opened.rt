@@ -1,6 +1,6 @@
 use causal_context::Context;
 use hash_path::PathHash;
-use page_taking::Built;
+use page_fetching::Built;
 use prefix_digest::FrozenMap;
 use std::alloc::{Allocator, Global};
 

@@ -1,6 +1,6 @@
 use causal_context::Context;
 use hash_path::PathHash;
-use page_taking::{Built, Fetching};
+use page_fetching::{Built, Fetching};
 use std::alloc::{Allocator, Global};
 
 // How far a session is at its asker.

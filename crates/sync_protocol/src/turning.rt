@@ -1,8 +1,8 @@
 // What an asker makes of a message.
 ghost use Rattle.std.specs.Prelude.{◌≡◌, ℕ, List, [], ◌∷◌, map, cond, Option, Some, IfOk, IsOkUnless};
-ghost use Rattle.page_taking.specs.Building.{GoesOn};
-ghost use Rattle.page_taking.specs.Taken.{taken_of, asked_of};
-ghost use Rattle.page_taking.specs.Taking.{fetch_of};
+ghost use Rattle.page_fetching.specs.Building.{GoesOn};
+ghost use Rattle.page_fetching.specs.Taken.{taken_of, asked_of};
+ghost use Rattle.page_fetching.specs.Taking.{fetch_of};
 ghost use Rattle.wire_form.specs.Message.{Ask, Hello, message_of};
 ghost use Rattle.sync_protocol.specs.Asking.{Asked, IsFrom, Waits, stage_with, asker_state, start};
 ghost use Rattle.sync_protocol.specs.Turning.{Ignored, again, goes_on, comes_to, opening_at, page_at_stage, gone_at};
@@ -17,7 +17,7 @@ use crate::turn::Turn;
 use causal_context::Context;
 use dots::Refusal;
 use hash_path::{PathHash, Prefix};
-use page_taking::{Fetching, Taken};
+use page_fetching::{Fetching, Taken};
 use std::alloc::Allocator;
 use wire_form::{Message, SentPage, Session};
 

@@ -1,5 +1,6 @@
 -- How the lines of a text, and what is given to them, go from one byte to the next: over plain variables.
-use Rattle.std.proofs.Common.{◌≡◌, ◌⊎◌, inl, inr, ℕ, ◌+◌, Bool, true, false, ◌==◌, ◌||◌, List, [], ◌∷◌, ◌++◌, refl, ap, sym, ◌∙◌, subst, append_assoc, take, drop, get_or, length, ◌<◌, arith, Option, Some, None, Result, Ok, Err, OnOk, OnErr}
+use Rattle.std.proofs.Common.{◌≡◌, ◌⊎◌, inl, inr, ℕ, ◌+◌, Bool, true, false, ◌==◌, ◌||◌, List, [], ◌∷◌, ◌++◌, refl, ap, sym, ◌∙◌, subst, append_assoc, take}
+use Rattle.std.proofs.Common.{drop, get_or, length, ◌<◌, arith, Option, Some, None, Result, Ok, Err, OnOk, OnErr}
 use Rattle.std.proofs.lemmas.List.{append-nil, take_more, take-append-drop}
 use Rattle.std.proofs.lemmas.Bool.Decides.{nat_tests}
 use Rattle.std.proofs.lemmas.Bool.{true≢false}
@@ -67,7 +68,8 @@ line_given : (old : Point) (more : List ℕ) (given : Given) → has_newline old
 line_given old more given h gives = subst (λ lines. Gives old.past old.number lines given) (sym (lines_of-line old.line more h)) gives
 
 -- an answer after which the trace goes on comes before what is given to the rest
-goes_first : (answer : LineAnswer) (number : ℕ) (Later : Given → Type 0) (later : Given) → TraceGoesOn answer → Later later → GivesFirst answer number Later (prepend (answer_text answer number) later)
+goes_first : (answer : LineAnswer) (number : ℕ) (Later : Given → Type 0) (later : Given) → TraceGoesOn answer → Later later
+    → GivesFirst answer number Later (prepend (answer_text answer number) later)
 goes_first Silent number Later later on is = is
 goes_first (Told text) number Later later on is = (later, is, refl)
 goes_first (Faulted refusal) number Later later on is = absurd on
@@ -81,7 +83,8 @@ Leads-answer old next answer h is on = record {
   goes_on = λ more later gives.
       let first = goes_first answer old.number (λ given. Gives next (old.number + 1) (lines_of more) given) later on gives in
       let given = prepend (answer_text answer old.number) later in
-      subst (λ bytes. Gives old.past old.number (lines_of bytes) given) (sym (append_assoc old.line (10 ∷ []) more)) (line_given old more given h (answer, next, is, first));
+      subst (λ bytes. Gives old.past old.number (lines_of bytes) given) (sym (append_assoc old.line (10 ∷ []) more))
+      (line_given old more given h (answer, next, is, first));
 }
 
 pub Stops-told : (old : Point) (next : Past) (answer : LineAnswer) (refusal : Refusal) → has_newline old.line ≡ false → Answers old.past old.line answer next
@@ -185,7 +188,8 @@ prepend-prepend : (first then : List ℕ) (given : Given) → prepend first (pre
 prepend-prepend first then given = ap (λ text. record { text = text; fault = given.fault }) (sym (append_assoc first then given.text))
 
 -- what comes after the whole lines of two pieces
-goes_further : (a b c : Point) (p q t u : List ℕ) (first : Leads a p t b) (then : Leads b q u c) (more : List ℕ) (later : Given) → Gives c.past c.number (lines_of more) later
+goes_further : (a b c : Point) (p q t u : List ℕ) (first : Leads a p t b) (then : Leads b q u c) (more : List ℕ) (later : Given)
+    → Gives c.past c.number (lines_of more) later
     → Gives a.past a.number (lines_of ((first.whole ++ then.whole) ++ more)) (prepend (t ++ u) later)
 goes_further a b c p q t u first then more later gives =
     let far = first.goes_on (then.whole ++ more) (prepend u later) (then.goes_on more later gives) in
@@ -204,7 +208,8 @@ Leads-trans a b c p q t u first then = record {
 -- what is given to more bytes, from the point that a piece led to
 pub given_at-Leads : (a b : Point) (p q t : List ℕ) (later : Given) → Leads a p t b → GivesAt b q later → GivesAt a (p ++ q) (prepend t later)
 given_at-Leads a b p q t later first gives =
-    subst (λ w. Gives a.past a.number (lines_of w) (prepend t later)) (sym (reads_on a.line p first.whole b.line q first.parts)) (first.goes_on (b.line ++ q) later gives)
+    subst (λ w. Gives a.past a.number (lines_of w) (prepend t later)) (sym (reads_on a.line p first.whole b.line q first.parts))
+    (first.goes_on (b.line ++ q) later gives)
 
 pub Stops-after : (a b : Point) (p q t u : List ℕ) (refusal : Refusal) → Leads a p t b → Stops b q u refusal → Stops a (p ++ q) (t ++ u) refusal
 Stops-after a b p q t u refusal first then = record {

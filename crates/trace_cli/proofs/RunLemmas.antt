@@ -1,12 +1,14 @@
 -- What was read and written from the start of a run, over plain variables: ro and rn are what the reader had and has
 -- left, wo and wn what the writer held and holds.
-use Rattle.std.proofs.Common.{◌≡◌, ◌≢◌, ◌⊎◌, inl, inr, ℕ, ◌+◌, ◌<◌, ◌≤◌, length, length-append, arith, true, false, Result, Ok, Err, IsErrOf, List, [], ◌++◌, Option, Some, None, IfSome, refl, ap, sym, ◌∙◌, subst, append_assoc}
+use Rattle.std.proofs.Common.{◌≡◌, ◌≢◌, ◌⊎◌, inl, inr, ℕ, ◌+◌, ◌<◌, ◌≤◌, length, length-append, arith, true, false, Result, Ok, Err, IsErrOf, List, [], ◌++◌}
+use Rattle.std.proofs.Common.{Option, Some, None, IfSome, refl, ap, sym, ◌∙◌, subst, append_assoc}
 use Rattle.std.proofs.lemmas.List.{append-nil}
 use Rattle.std.specs.Io.KnownBytes.{Appends, Consumes, Keeps, IsAtEnd}
 use Rattle.std.proofs.lemmas.Bool.{true≢false}
 use Rattle.dots.specs.Refusal.{number_of}
 use Rattle.dots.specs.declared.refusal.Refusal.{Refusal}
-use Rattle.dots.specs.declared.refusal.Refusal.TheVariants.{OutOfMemory, TooLong, ReadOnly, NumbersSpent, SessionsFull, NotAMessage, NoPlace, NameTaken, UnknownReplica, UnknownMessage, BadLine, Input, Output}
+use Rattle.dots.specs.declared.refusal.Refusal.TheVariants.{OutOfMemory, TooLong, ReadOnly, NumbersSpent, SessionsFull, NotAMessage, NoPlace, NameTaken}
+use Rattle.dots.specs.declared.refusal.Refusal.TheVariants.{UnknownReplica, UnknownMessage, BadLine, Input, Output}
 use Rattle.trace_cli.specs.declared.watched.Watched.{Watched}
 use Rattle.trace_cli.specs.Watched.{has_failed, has_gone_on, is_flushed}
 use Rattle.trace_cli.specs.Ends.{LeavesWriter}
@@ -24,8 +26,10 @@ abbrev pub Ran : Option (List ℕ) → Option (List ℕ) → Option (List ℕ) �
 Ran ro rn wo wn point = TakenBytes ro rn (λ read. Written wo wn (λ text. Leads start_point read text point))
 
 -- what is given to all that was read, by what is given at the point that it led to
-given-Leads : (read text : List ℕ) (point : Point) (later : Given) → Leads start_point read text point → GivesAt point [] later → IsGiven read (prepend text later)
-given-Leads read text point later led gives = subst (λ bytes. IsGiven bytes (prepend text later)) (append-nil read) (given_at-Leads start_point point read [] text later led gives)
+given-Leads : (read text : List ℕ) (point : Point) (later : Given) → Leads start_point read text point → GivesAt point [] later
+    → IsGiven read (prepend text later)
+given-Leads read text point later led gives = subst (λ bytes. IsGiven bytes (prepend text later)) (append-nil read)
+    (given_at-Leads start_point point read [] text later led gives)
 
 -- the whole lines of what led to a point were answered
 pub answered_at : (read text : List ℕ) (wo wn : Option (List ℕ)) (point : Point) → Leads start_point read text point → Appends wo wn text
@@ -50,9 +54,14 @@ Ran-answered ro rm rn wo wn point ran no_end kept =
     )
 
 -- at most n bytes were read, and then a piece
-pub Pieces-more : (ro rm rn : Option (List ℕ)) (piece : List ℕ) (n m : ℕ) → TakenBytes ro rm (λ read. length read ≤ n) → Consumes rm rn piece → n + length piece ≤ m
+pub Pieces-more : (ro rm rn : Option (List ℕ)) (piece : List ℕ) (n m : ℕ) → TakenBytes ro rm (λ read. length read ≤ n) → Consumes rm rn piece
+    → n + length piece ≤ m
     → TakenBytes ro rn (λ read. length read ≤ m)
-Pieces-more ro rm rn piece n m taken took within = (taken.0 ++ piece, Consumes-trans ro rm rn taken.0 piece taken.1 took, omega (arith, length-append taken.0 piece, taken.2))
+Pieces-more ro rm rn piece n m taken took within = (
+  taken.0 ++ piece,
+  Consumes-trans ro rm rn taken.0 piece taken.1 took,
+  omega (arith, length-append taken.0 piece, taken.2),
+)
 
 -- one more piece
 pub Ran-more : (ro rm rn wo wm wn : Option (List ℕ)) (mid new : Point) (piece : List ℕ) → Ran ro rm wo wm mid → Consumes rm rn piece
@@ -69,7 +78,8 @@ Ran-more ro rm rn wo wm wn mid new piece ran took then = (
 
 pub Ran-stops : (ro rm rn wo wm wn : Option (List ℕ)) (mid : Point) (piece : List ℕ) (refusal : Refusal) → Ran ro rm wo wm mid → Consumes rm rn piece
     → Written wm wn (λ text. Stops mid piece text refusal)
-    → TakenBytes ro rn (λ read. (given : Given) × IsGiven read given × Appends wo wn given.text × (given.fault ≡ Some refusal) × IfSome rn (λ rest. IsGiven (read ++ rest) given))
+    → TakenBytes ro rn (λ read. (given : Given) × IsGiven read given × Appends wo wn given.text × (given.fault ≡ Some refusal)
+    × IfSome rn (λ rest. IsGiven (read ++ rest) given))
 Ran-stops ro rm rn wo wm wn mid piece refusal ran took then =
     let read = ran.0 ++ piece in
     let text = ran.2.0 ++ then.0 in
@@ -101,13 +111,22 @@ Ran-begins ro rm rn wo wm wn mid piece ran took then =
       (
         text,
         Appends-trans wo wm wn ran.2.0 then.0 ran.2.1 then.1,
-        record { lines = begin.lines; rest = begin.rest; parts = begin.parts; whole = inl begin.ends; given = begin.given; gives = begin.gives; front = begin.front },
+        record {
+          lines = begin.lines;
+          rest = begin.rest;
+          parts = begin.parts;
+          whole = inl begin.ends;
+          given = begin.given;
+          gives = begin.gives;
+          front = begin.front;
+        },
       ),
     )
 
 -- the last line, after what was read
 finished : (wo wm wn : Option (List ℕ)) (read text : List ℕ) (mid : Point) (fault : Option Refusal) → Appends wo wm text → Leads start_point read text mid
-    → Written wm wn (λ last. GivesAt mid [] (record { text = last; fault = fault })) → (given : Given) × IsGiven read given × Appends wo wn given.text × (given.fault ≡ fault)
+    → Written wm wn (λ last. GivesAt mid [] (record { text = last; fault = fault })) → (given : Given) × IsGiven read given × Appends wo wn given.text
+    × (given.fault ≡ fault)
 finished wo wm wn read text mid fault wrote led then = (
   record { text = text ++ then.0; fault = fault },
   given-Leads read text mid (record { text = then.0; fault = fault }) led then.2,
@@ -124,7 +143,8 @@ Ran-finishes ro rm rn wo wm wn mid fault ran took then =
     (ran.0, subst P (append-nil ran.0) (Consumes-trans ro rm rn ran.0 [] ran.1 took), finished wo wm wn ran.0 ran.2.0 mid fault ran.2.1 ran.2.2 then)
 
 -- a whole input that was fed to a run of a trace from its start, and finished
-pub finished_all : {A : Type 0} (wo wm wn : Option (List ℕ)) (trace_run : TraceRun A) (input : List ℕ) (mid : Point) (fault : Option Refusal) → point_of trace_run ≡ start_point
+pub finished_all : {A : Type 0} (wo wm wn : Option (List ℕ)) (trace_run : TraceRun A) (input : List ℕ) (mid : Point) (fault : Option Refusal)
+    → point_of trace_run ≡ start_point
     → Written wo wm (λ text. Leads (point_of trace_run) input text mid) → Written wm wn (λ last. GivesAt mid [] (record { text = last; fault = fault }))
     → (given : Given) × IsGiven input given × Appends wo wn given.text
 finished_all wo wm wn trace_run input mid fault at_start fed then =
@@ -148,14 +168,18 @@ pub Ran-ends : (ro rm rn wo wm wn : Option (List ℕ)) (mid : Point) → Ran ro 
     → Written wm wn (λ text. GivesFront mid.past mid.number mid.line text) → TakenBytes ro rn (λ read. Written wo wn (λ text. IsGivenFront read text))
 Ran-ends ro rm rn wo wm wn mid ran took then =
     let read = ran.0 in
-    let P : List ℕ → Type 0 = λ bytes. Consumes ro rn bytes in
-    (read, subst P (append-nil read) (Consumes-trans ro rm rn read [] ran.1 took), (ran.2.0 ++ then.0, Appends-trans wo wm wn ran.2.0 then.0 ran.2.1 then.1, front_after read ran.2.0 then.0 mid ran.2.2 then.2))
+    let P : List ℕ → Type 0 = λ bytes. Consumes ro rn bytes in (
+      read,
+      subst P (append-nil read) (Consumes-trans ro rm rn read [] ran.1 took),
+      (ran.2.0 ++ then.0, Appends-trans wo wm wn ran.2.0 then.0 ran.2.1 then.1, front_after read ran.2.0 then.0 mid ran.2.2 then.2),
+    )
   where
     whole_after : (xs ys rest : List ℕ) → ends_line xs ≡ true → (ends_line ys ≡ true) ⊎ (rest ≡ []) → (ends_line (xs ++ ys) ≡ true) ⊎ (rest ≡ [])
     whole_after xs ys rest first (inl then) = inl (ends_line-append xs ys first then)
     whole_after xs ys rest first (inr none) = inr none
 
-    front_after : (read text last : List ℕ) (mid : Point) → Leads start_point read text mid → GivesFront mid.past mid.number mid.line last → IsGivenFront read (text ++ last)
+    front_after : (read text last : List ℕ) (mid : Point) → Leads start_point read text mid → GivesFront mid.past mid.number mid.line last
+        → IsGivenFront read (text ++ last)
     front_after read text last mid led front = record {
       lines = led.whole ++ front.lines;
       rest = front.rest;
@@ -167,10 +191,22 @@ Ran-ends ro rm rn wo wm wn mid ran took then =
     }
 
 -- nothing was read or written more
-pub Ran-kept : (ro rm rn wo wn : Option (List ℕ)) (point : Point) → Ran ro rm wo wn point → Keeps rm rn → TakenBytes ro rn (λ read. Written wo wn (λ text. IsGivenFront read text))
+pub Ran-kept : (ro rm rn wo wn : Option (List ℕ)) (point : Point) → Ran ro rm wo wn point → Keeps rm rn
+    → TakenBytes ro rn (λ read. Written wo wn (λ text. IsGivenFront read text))
 Ran-kept ro rm rn wo wn point ran kept =
-    Ran-ends ro rm rn wo wn wn point ran (Consumes-kept rm rn kept)
-    ([], Appends-nothing wn, record { lines = []; rest = point.line; parts = refl; whole = inl refl; given = nothing_given; gives = refl; front = record { rest = []; joined = refl } })
+    Ran-ends ro rm rn wo wn wn point ran (Consumes-kept rm rn kept) (
+      [],
+      Appends-nothing wn,
+      record {
+        lines = [];
+        rest = point.line;
+        parts = refl;
+        whole = inl refl;
+        given = nothing_given;
+        gives = refl;
+        front = record { rest = []; joined = refl };
+      },
+    )
 
 -- a fault in the whole input
 pub Stops-written : {A : Type 0} (wo wn : Option (List ℕ)) (trace_run : TraceRun A) (input : List ℕ) (refusal : Refusal) → point_of trace_run ≡ start_point
@@ -209,7 +245,8 @@ input_is_other {T = T} is = let e : 12 ≡ 13 = ap number is in omega (arith, e)
     number (Err refusal) = number_of refusal
 
 -- what an outcome tells of the writer that it leaves
-pub writer_failed : {W T : Type 0} (result : Result T Refusal) (writer : Watched W) → LeavesWriter result writer → has_failed writer ≡ true → IsErrOf result Output
+pub writer_failed : {W T : Type 0} (result : Result T Refusal) (writer : Watched W) → LeavesWriter result writer → has_failed writer ≡ true
+    → IsErrOf result Output
 writer_failed (Ok value) writer left failed = absurd (true≢false (sym failed ∙ left.no_failure))
 writer_failed {T = T} (Err refusal) writer left failed = by (by_output refusal)
   where
@@ -225,7 +262,8 @@ never_gone_on (Err refusal) writer left = by (by_output refusal)
     by (inl is) = (left.broken is).not_gone_on
     by (inr other) = (left.sound other).not_gone_on
 
-pub all_flushed : {W T : Type 0} (result : Result T Refusal) (writer : Watched W) → LeavesWriter result writer → has_failed writer ≡ false → is_flushed writer ≡ true
+pub all_flushed : {W T : Type 0} (result : Result T Refusal) (writer : Watched W) → LeavesWriter result writer → has_failed writer ≡ false
+    → is_flushed writer ≡ true
 all_flushed (Ok value) writer left sound = left.flushed
 all_flushed (Err refusal) writer left sound = by (by_output refusal)
   where

@@ -1,7 +1,9 @@
 -- What a status tells of the outcome that it stands for.
-use Rattle.std.proofs.Common.{◌≡◌, ◌≢◌, ◌≤◌, ◌⊎◌, inl, inr, ◌||◌, Bool, true, false, arith, refl, ap, Result, Ok, Err, OnOk, OnErr, IfErr, IsErrOf, Option, Some, None, IsSome}
+use Rattle.std.proofs.Common.{◌≡◌, ◌≢◌, ◌≤◌, ◌⊎◌, inl, inr, ◌||◌, Bool, true, false, arith, refl, ap, Result, Ok, Err, OnOk, OnErr, IfErr, IsErrOf, Option}
+use Rattle.std.proofs.Common.{Some, None, IsSome}
 use Rattle.dots.specs.declared.refusal.Refusal.{Refusal}
-use Rattle.dots.specs.declared.refusal.Refusal.TheVariants.{OutOfMemory, TooLong, ReadOnly, NumbersSpent, SessionsFull, NotAMessage, NoPlace, NameTaken, UnknownReplica, UnknownMessage, BadLine, Input, Output}
+use Rattle.dots.specs.declared.refusal.Refusal.TheVariants.{OutOfMemory, TooLong, ReadOnly, NumbersSpent, SessionsFull, NotAMessage, NoPlace, NameTaken}
+use Rattle.dots.specs.declared.refusal.Refusal.TheVariants.{UnknownReplica, UnknownMessage, BadLine, Input, Output}
 use Rattle.trace_words.specs.Fault.{is_fault, ends_run}
 use Rattle.trace_cli.specs.Status.{status_by, status_of}
 

@@ -1,5 +1,6 @@
 -- Writes and reads one after another, over plain variables.
-use Rattle.std.proofs.Common.{Bool, true, false, ◌≢◌, ◌==◌, ◌&&◌, ◌⊎◌, inl, inr, ◌≡◌, ℕ, List, [], ◌++◌, Option, Some, None, refl, ap, sym, ◌∙◌, append_assoc, take, ◌≤◌, length}
+use Rattle.std.proofs.Common.{Bool, true, false, ◌≢◌, ◌==◌, ◌&&◌, ◌⊎◌, inl, inr, ◌≡◌, ℕ, List, [], ◌++◌, Option, Some, None, refl, ap, sym, ◌∙◌, append_assoc}
+use Rattle.std.proofs.Common.{take, ◌≤◌, length}
 use Rattle.std.proofs.lemmas.List.{append-nil, take-append-drop}
 use Rattle.std.specs.Io.KnownBytes.{Appends, Consumes, Keeps}
 use Rattle.std.proofs.lemmas.Bool.Decides.{eqb_tells}
@@ -48,7 +49,8 @@ pub Written-more : (old mid new : Option (List ℕ)) (text done rest : List ℕ)
 Written-more old mid new text done rest count len first parts then within = (
   done ++ take count rest,
   Appends-trans old mid new done (take count rest) first then,
-  parts ∙ (ap (λ w. done ++ w) (sym (take-append-drop count rest) ∙ ap (λ w. take count rest ++ w) (sym (between_to_end rest count len within))) ∙ sym (append_assoc done (take count rest) (between count len rest))),
+  parts ∙ (ap (λ w. done ++ w) (sym (take-append-drop count rest) ∙ ap (λ w. take count rest ++ w) (sym (between_to_end rest count len within)))
+      ∙ sym (append_assoc done (take count rest) (between count len rest))),
 )
 
 -- the test that fails a write that took nothing, at one that took a byte

@@ -11,10 +11,12 @@ use Rattle.trace_cli.specs.Output.{Given, prepend, Gives, GivesFirst, answer_tex
 first_one : (answer : LineAnswer) (number : ℕ) (Later : Given → Type 0) → ((l l' : Given) → Later l → Later l' → l ≡ l')
     → (given given' : Given) → GivesFirst answer number Later given → GivesFirst answer number Later given' → given ≡ given'
 first_one Silent number Later one given given' first second = one given given' first second
-first_one (Told text) number Later one given given' (later, is, e) (later', is', e') = e ∙ ap (prepend (answer_text (Told text) number)) (one later later' is is') ∙ sym e'
+first_one (Told text) number Later one given given' (later, is, e) (later', is', e') = e
+    ∙ ap (prepend (answer_text (Told text) number)) (one later later' is is') ∙ sym e'
 first_one (Faulted refusal) number Later one given given' e e' = e ∙ sym e'
 
-gives_one : (past : Past) (number : ℕ) (lines : List (List ℕ)) (given given' : Given) → Gives past number lines given → Gives past number lines given' → given ≡ given'
+gives_one : (past : Past) (number : ℕ) (lines : List (List ℕ)) (given given' : Given) → Gives past number lines given → Gives past number lines given'
+    → given ≡ given'
 gives_one past number [] given given' e e' = e ∙ sym e'
 gives_one past number (line ∷ lines) given given' (answer, next, answers, first) (answer', next', answers', first') =
     let same = answers_one past line answer answer' next next' answers answers' in

@@ -1,5 +1,6 @@
 -- Numbers and texts as words: over plain variables.
-use Rattle.std.proofs.Common.{◌≡◌, ◌≢◌, ℕ, ◌+◌, ◌-◌, ◌*◌, ◌^◌, ◌<◌, ◌≤◌, ◌==◌, ◌&&◌, nat_lt, not, Bool, true, false, cond, List, [], ◌∷◌, length, zero, suc, IsSome, subst, Option, Some, None, IfSome, Result, Ok, Err, MatchResult, refl, ◌∙◌, ap, arith, rules}
+use Rattle.std.proofs.Common.{◌≡◌, ◌≢◌, ℕ, ◌+◌, ◌-◌, ◌*◌, ◌^◌, ◌<◌, ◌≤◌, ◌==◌, ◌&&◌, nat_lt, not, Bool, true, false, cond, List, [], ◌∷◌, length, zero, suc}
+use Rattle.std.proofs.Common.{IsSome, subst, Option, Some, None, IfSome, Result, Ok, Err, MatchResult, refl, ◌∙◌, ap, arith, rules}
 use Rattle.std.proofs.lemmas.Bool.Decides.{nat_tests}
 use Rattle.std.proofs.lemmas.Str.{IsUtf8-from_ascii}
 use Rattle.std.proofs.lemmas.Str.Parse.{IsDigitsTest, IsNumeralModel, FoldsDigits, numerals_by_fold, parse_digits}
@@ -61,7 +62,8 @@ fits (Ok x) v n h = let small : v < 2 ^ 64 = h.0.1 in let same : x ≡ v = h.1 i
 fits (Err e) v n h = let large : (v < 2 ^ 64) → ⊥ = λ small. h (n, small) in grind (arith, nat_tests)
 
 -- what `parse` gives for a numeral
-pub number_of-parse : {E : Type 0} (word text : List ℕ) (r : Result ℕ E) (o : Option ℕ) → is_numeral word ≡ true → text ≡ word → ParsesUnsigned 64 10 text r → o ≡ result_ok r → o ≡ numeral_value word
+pub number_of-parse : {E : Type 0} (word text : List ℕ) (r : Result ℕ E) (o : Option ℕ) → is_numeral word ≡ true → text ≡ word → ParsesUnsigned 64 10 text r
+    → o ≡ result_ok r → o ≡ numeral_value word
 number_of-parse word text r o h same p is =
     let parsed = rw same at p in
     is ∙ rw h (fits r (value_after 0 word) (numeral_nonempty word h) (parse_digits own 64 word r parsed (numeral_digits word h)))

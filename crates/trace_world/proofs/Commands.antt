@@ -39,7 +39,8 @@ tells_long P bytes refusal (inr (is, long)) = inr (inl (long, ap Refused is))
 pub store_holds : {T : Type 0} (at : T → Place → DotValue → Option (List ℕ)) (name : ℕ) (events : List Held) (meant : Replica) (r : Result T Refusal)
     → ((w : World) → Runs fnv1a nothing (events_of events) w → (is_node w name ≡ true) × (meant ≡ w.replica name))
     → IfOk r (λ store. at store ≡ meant.live.at)
-    → IfOk r (λ store. (w : World) → Runs fnv1a nothing (events_of events) w → (is_node w name ≡ true) × ((place : Place) (dot : DotValue) → at store place dot ≡ (w.replica name).live.at place dot))
+    → IfOk r (λ store. (w : World) → Runs fnv1a nothing (events_of events) w → (is_node w name ≡ true)
+    × ((place : Place) (dot : DotValue) → at store place dot ≡ (w.replica name).live.at place dot))
 store_holds at name events meant (Ok store) is holds = λ w runs. (
   (is w runs).0,
   λ place dot. ap (λ (f : Place → DotValue → Option (List ℕ)). f place dot) holds ∙ ap (λ (s : Replica). s.live.at place dot) (is w runs).1,
@@ -48,7 +49,8 @@ store_holds at name events meant (Err refusal) is holds = tt
 
 module _ {A : Type 0} where
   -- what follows from each way in which a command can come out
-  does_weaker : (P Q : CommandOutcome → Type 0) (old new : List Held) (r : Result (Vec ℕ A) Refusal) → ((o : CommandOutcome) → P o → Q o) → Does P old new r → Does Q old new r
+  does_weaker : (P Q : CommandOutcome → Type 0) (old new : List Held) (r : Result (Vec ℕ A) Refusal) → ((o : CommandOutcome) → P o → Q o) → Does P old new r
+      → Does Q old new r
   does_weaker P Q old new (Ok text) more (events, comes, is) = (events, more (Done text.items events) comes, is)
   does_weaker P Q old new (Err refusal) more (inl memory) = inl memory
   does_weaker P Q old new (Err refusal) more (inr (comes, same)) = inr (more (Refused refusal) comes, same)
@@ -60,7 +62,8 @@ module _ {A : Type 0} where
       does_weaker (In old P) (In old (λ w. at_replica w name (P w))) old new r (λ o comes w runs. inr (there w runs, comes w runs))
 
   -- with bytes that are not too long
-  pub does_with : (P : World → CommandOutcome → Type 0) (bytes : List ℕ) (old new : List Held) (r : Result (Vec ℕ A) Refusal) → nat_le (length bytes) MAX_LENGTH ≡ true
+  pub does_with : (P : World → CommandOutcome → Type 0) (bytes : List ℕ) (old new : List Held) (r : Result (Vec ℕ A) Refusal)
+      → nat_le (length bytes) MAX_LENGTH ≡ true
       → Does (In old P) old new r → Does (In old (λ w. with_bytes bytes (P w))) old new r
   does_with P bytes old new r short =
       does_weaker (In old P) (In old (λ w. with_bytes bytes (P w))) old new r (λ o comes w runs. inr (short, comes w runs))
@@ -76,7 +79,8 @@ module _ {A : Type 0} where
       inr ((λ w runs. inr ((is w runs).0, subst (λ (s : Replica). P s.live (Refused refusal)) (is w runs).1 tells)), refl)
 
   -- reads with bytes
-  pub tells_with : (P : CommandOutcome → Type 0) (bytes : List ℕ) (r : Result (Vec ℕ A) Refusal) → nat_le (length bytes) MAX_LENGTH ≡ true → TellsText P r → TellsText (with_bytes bytes P) r
+  pub tells_with : (P : CommandOutcome → Type 0) (bytes : List ℕ) (r : Result (Vec ℕ A) Refusal) → nat_le (length bytes) MAX_LENGTH ≡ true → TellsText P r
+      → TellsText (with_bytes bytes P) r
   tells_with P bytes (Ok text) short tells = inr (short, tells)
   tells_with P bytes (Err refusal) short (inl memory) = inl memory
   tells_with P bytes (Err refusal) short (inr tells) = inr (inr (short, tells))
@@ -106,7 +110,8 @@ long_of_three : (key field value : List ℕ) (P : CommandOutcome → Type 0) →
     → with_bytes key (with_bytes field (with_bytes value P)) (Refused TooLong)
 long_of_three key field value P long = by (bool_is (is_short key)) (bool_is (is_short field)) (bool_is (is_short value))
   where
-    by : (is_short key ≡ true) ⊎ (is_short key ≡ false) → (is_short field ≡ true) ⊎ (is_short field ≡ false) → (is_short value ≡ true) ⊎ (is_short value ≡ false)
+    by : (is_short key ≡ true) ⊎ (is_short key ≡ false) → (is_short field ≡ true) ⊎ (is_short field ≡ false) → (is_short value ≡ true)
+        ⊎ (is_short value ≡ false)
         → with_bytes key (with_bytes field (with_bytes value P)) (Refused TooLong)
     by (inr k) f v = inl (k, refl)
     by (inl k) (inr f) v = inr (k, inl (f, refl))
@@ -122,7 +127,8 @@ module _ (name : ℕ) (key field value : List ℕ) (c : step.Call) where
       → Does (In old (λ w. IsCall fnv1a w name c)) old new r → Does (In old with_three) old new r
   does_call old new r k f v =
       does_weaker (In old (λ w. IsCall fnv1a w name c)) (In old with_three) old new r
-      (λ o comes w runs. at_or_absent w name c (with_bytes key (with_bytes field (with_bytes value (IsCall fnv1a w name c)))) (λ o is. inr (k, inr (f, inr (v, is)))) o (comes w runs))
+      (λ o comes w runs. at_or_absent w name c (with_bytes key (with_bytes field (with_bytes value (IsCall fnv1a w name c))))
+      (λ o is. inr (k, inr (f, inr (v, is)))) o (comes w runs))
 
   -- or one that is not made, as a text is too long or the replica is not there
   pub does_no_call : (old : List Held) (told refusal : Refusal)
@@ -130,5 +136,12 @@ module _ (name : ℕ) (key field value : List ℕ) (c : step.Call) where
       → ((refusal ≡ told) × IsThere old name) ⊎ ((refusal ≡ UnknownReplica) × IsAbsent old name) → Does {A = ℕ} (In old with_three) old old (Err refusal)
   does_no_call old told refusal (inl memory) (inl (same, there)) = inl (same ∙ memory)
   does_no_call old told refusal (inr (is, long)) (inl (same, there)) =
-      inr ((λ w runs. inr (there w runs, subst (λ r. with_bytes key (with_bytes field (with_bytes value (IsCall fnv1a w name c))) (Refused r)) (sym (same ∙ is)) (long_of_three key field value (IsCall fnv1a w name c) long))), refl)
+      inr (
+        (λ w runs. inr (
+          there w runs,
+          subst (λ r. with_bytes key (with_bytes field (with_bytes value (IsCall fnv1a w name c))) (Refused r)) (sym (same ∙ is))
+              (long_of_three key field value (IsCall fnv1a w name c) long),
+        )),
+        refl,
+      )
   does_no_call old told refusal whatever (inr (is, absent)) = inr ((λ w runs. inl (absent w runs, ap Refused is)), refl)

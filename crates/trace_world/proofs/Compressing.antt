@@ -1,5 +1,6 @@
 -- The version vector and the cloud of a set of known dots are those of its context: over plain variables.
-use Rattle.std.proofs.Common.{◌≡◌, ◌≢◌, ℕ, zero, suc, ◌+◌, ◌<◌, ◌≤◌, ◌==◌, ◌&&◌, ◌||◌, nat_lt, nat_le, Bool, true, false, cond, List, [], ◌∷◌, Some, inl, inr, IsTrue, refl, sym, ap, ◌∙◌, arith}
+use Rattle.std.proofs.Common.{◌≡◌, ◌≢◌, ℕ, zero, suc, ◌+◌, ◌<◌, ◌≤◌, ◌==◌, ◌&&◌, ◌||◌, nat_lt, nat_le, Bool, true, false, cond, List, [], ◌∷◌, Some, inl, inr}
+use Rattle.std.proofs.Common.{IsTrue, refl, sym, ap, ◌∙◌, arith}
 use Rattle.std.proofs.lemmas.Bool.Decides.{nat_tests}
 use Rattle.std.proofs.lemmas.Bool.{cases_order}
 use Rattle.std.specs.declared.cmp.Ordering.{Ordering}
@@ -96,13 +97,15 @@ most_step dots name n m false is within all before =
 
 within-most : (dots : List DotValue) (name n m : ℕ) → m ≤ n → has_up_to dots name m ≡ true → m ≤ run_within dots name n
 within-most dots name zero m within all = within
-within-most dots name (suc n) m within all = most_step dots name n m (has_up_to dots name (suc n)) refl within all (λ inside. within-most dots name n m inside all)
+within-most dots name (suc n) m within all = most_step dots name n m (has_up_to dots name (suc n)) refl within all
+    (λ inside. within-most dots name n m inside all)
 
 stops_at : (dots : List DotValue) (name : ℕ) (b : Bool) → has dots (record { name = name; number = suc (run_of dots name) }) ≡ b → b ≡ false
 stops_at dots name false is = refl
 stops_at dots name true is =
     let run = run_of dots name in
-    let all : has_up_to dots name (suc run) ≡ true = both (has dots (record { name = name; number = suc run })) (has_up_to dots name run) is (within-all dots name (greatest_number name dots)) in
+    let all : has_up_to dots name (suc run) ≡ true = both (has dots (record { name = name; number = suc run })) (has_up_to dots name run) is
+    (within-all dots name (greatest_number name dots)) in
     let bound = greatest_number-above name dots (record { name = name; number = suc run }) (from_has dots (record { name = name; number = suc run }) is) refl in
     let most = within-most dots name (greatest_number name dots) (suc run) bound all in
     absurd (omega (arith, most))
@@ -112,7 +115,8 @@ run_is_top dots name = record {
   known = λ m first within. up_to-known dots name (run_of dots name) m (within-all dots name (greatest_number name dots)) first within;
   stops =
       let next : run_of dots name + 1 ≡ suc (run_of dots name) = omega arith in
-      ap (λ n. has dots (record { name = name; number = n })) next ∙ stops_at dots name (has dots (record { name = name; number = suc (run_of dots name) })) refl;
+      ap (λ n. has dots (record { name = name; number = n })) next
+      ∙ stops_at dots name (has dots (record { name = name; number = suc (run_of dots name) })) refl;
 }
 
 -- ordered lists with one more
@@ -163,16 +167,19 @@ dots_sorted [] = sorted_none dot_cmp
 dots_sorted (dot ∷ dots) = sorted_insert dot_cmp dot_cmp_total dot (in_order dots) (dots_sorted dots)
 
 -- the entries stand in the order of their names
-keys_above : (dots : List DotValue) (n k run : ℕ) (names : List ℕ) → nat_cmp n k ≡ Less → AllByRecursion (λ y. nat_cmp n y ≡ Less) (keys_of (run_entries dots names))
+keys_above : (dots : List DotValue) (n k run : ℕ) (names : List ℕ) → nat_cmp n k ≡ Less
+    → AllByRecursion (λ y. nat_cmp n y ≡ Less) (keys_of (run_entries dots names))
     → AllByRecursion (λ y. nat_cmp n y ≡ Less) (keys_of (with_entry k run (run_entries dots names)))
 keys_above dots n k zero names below all = all
 keys_above dots n k (suc run) names below all = (below, all)
 
-entries_above : (dots : List DotValue) (n : ℕ) (names : List ℕ) → AllByRecursion (λ y. nat_cmp n y ≡ Less) names → AllByRecursion (λ y. nat_cmp n y ≡ Less) (keys_of (run_entries dots names))
+entries_above : (dots : List DotValue) (n : ℕ) (names : List ℕ) → AllByRecursion (λ y. nat_cmp n y ≡ Less) names
+    → AllByRecursion (λ y. nat_cmp n y ≡ Less) (keys_of (run_entries dots names))
 entries_above dots n [] all = tt
 entries_above dots n (k ∷ names) all = keys_above dots n k (run_of dots k) names all.0 (entries_above dots n names all.1)
 
-entry_sorted : (dots : List DotValue) (k run : ℕ) (names : List ℕ) → IsStrictlySortedBy nat_cmp (k ∷ names) → IsStrictlySortedBy nat_cmp (keys_of (run_entries dots names))
+entry_sorted : (dots : List DotValue) (k run : ℕ) (names : List ℕ) → IsStrictlySortedBy nat_cmp (k ∷ names)
+    → IsStrictlySortedBy nat_cmp (keys_of (run_entries dots names))
     → IsStrictlySortedBy nat_cmp (keys_of (with_entry k run (run_entries dots names)))
 unfolding IsStrictlySortedBy
 entry_sorted dots k zero names sorted rest = rest
@@ -180,7 +187,8 @@ entry_sorted dots k (suc run) names sorted rest = (entries_above dots k names so
 
 entries_sorted : (dots : List DotValue) (names : List ℕ) → IsStrictlySortedBy nat_cmp names → IsStrictlySortedBy nat_cmp (keys_of (run_entries dots names))
 entries_sorted dots [] sorted = sorted_none nat_cmp
-entries_sorted dots (k ∷ names) sorted = entry_sorted dots k (run_of dots k) names sorted (entries_sorted dots names (sorted_tail nat_cmp nat_cmp_total k names sorted))
+entries_sorted dots (k ∷ names) sorted = entry_sorted dots k (run_of dots k) names sorted
+    (entries_sorted dots names (sorted_tail nat_cmp nat_cmp_total k names sorted))
 
 -- what is found at a name
 at_itself : (m n : ℕ) → is_at (nat_cmp m) n ≡ true → m ≡ n
@@ -211,8 +219,10 @@ found_entries dots name (k ∷ names) =
     found_entry dots name k names (is_at (nat_cmp name) k) (run_of dots k) refl refl before.0 before.1
 
 -- a name that has no dot here
-any_at : (name n k : ℕ) (ks more : List ℕ) (o : Ordering) → nat_cmp n k ≡ o → list_any (is_at (nat_cmp name)) more ≡ (is_at (nat_cmp name) n || list_any (is_at (nat_cmp name)) ks)
-    → list_any (is_at (nat_cmp name)) (match_ordering o (n ∷ k ∷ ks) (k ∷ ks) (k ∷ more)) ≡ (is_at (nat_cmp name) n || (is_at (nat_cmp name) k || list_any (is_at (nat_cmp name)) ks))
+any_at : (name n k : ℕ) (ks more : List ℕ) (o : Ordering) → nat_cmp n k ≡ o → list_any (is_at (nat_cmp name)) more
+    ≡ (is_at (nat_cmp name) n || list_any (is_at (nat_cmp name)) ks)
+    → list_any (is_at (nat_cmp name)) (match_ordering o (n ∷ k ∷ ks) (k ∷ ks) (k ∷ more))
+    ≡ (is_at (nat_cmp name) n || (is_at (nat_cmp name) k || list_any (is_at (nat_cmp name)) ks))
 any_at name n k ks more Less is rest = refl
 any_at name n k ks more Equal is rest =
     let same : n ≡ k = grind (arith, nat_tests) in
@@ -230,7 +240,8 @@ any_at name n k ks more Greater is rest =
     turned false true c = refl
     turned false false c = refl
 
-any_insert : (name n : ℕ) (ks : List ℕ) → list_any (is_at (nat_cmp name)) (insert_key nat_cmp ks n) ≡ (is_at (nat_cmp name) n || list_any (is_at (nat_cmp name)) ks)
+any_insert : (name n : ℕ) (ks : List ℕ) → list_any (is_at (nat_cmp name)) (insert_key nat_cmp ks n)
+    ≡ (is_at (nat_cmp name) n || list_any (is_at (nat_cmp name)) ks)
 any_insert name n [] = refl
 any_insert name n (k ∷ ks) = any_at name n k ks (insert_key nat_cmp ks n) (nat_cmp n k) refl (any_insert name n ks)
 
@@ -238,7 +249,8 @@ no_greatest : (name : ℕ) (dots : List DotValue) → list_any (is_at (nat_cmp n
 no_greatest name [] absent = refl
 no_greatest name (dot ∷ dots) absent =
     let either = sym (any_insert name dot.name (names_of dots)) ∙ absent in
-    let apart : (dot.name == name) ≡ false = not_at dot.name (or_first (is_at (nat_cmp name) dot.name) (list_any (is_at (nat_cmp name)) (names_of dots)) either) in
+    let apart : (dot.name == name) ≡ false =
+    not_at dot.name (or_first (is_at (nat_cmp name) dot.name) (list_any (is_at (nat_cmp name)) (names_of dots)) either) in
     rw apart (no_greatest name dots (or_second (is_at (nat_cmp name) dot.name) (list_any (is_at (nat_cmp name)) (names_of dots)) either))
   where
     not_at : (n : ℕ) → is_at (nat_cmp name) n ≡ false → (n == name) ≡ false
@@ -283,7 +295,8 @@ module _ (value : ContextValue) (canonical : IsCanonical value) (dots : List Dot
   vector_top : (name : ℕ) → IsTop (has dots) name (known_up_to value.vector name)
   unfolding context.has
   vector_top name = record {
-    known = λ m first within. sym (same (record { name = name; number = m })) ∙ below m (known_up_to value.vector name) (in_cloud value.cloud (record { name = name; number = m })) first within;
+    known = λ m first within. sym (same (record { name = name; number = m }))
+        ∙ below m (known_up_to value.vector name) (in_cloud value.cloud (record { name = name; number = m })) first within;
     stops =
         let d : DotValue = record { name = name; number = known_up_to value.vector name + 1 } in
         sym (same d) ∙ above (known_up_to value.vector name) (in_cloud value.cloud d) (λ there. let far = canonical.apart d there in omega (arith, far));
@@ -306,7 +319,8 @@ module _ (value : ContextValue) (canonical : IsCanonical value) (dots : List Dot
       by (in_cloud value.cloud d) (known_up_to value.vector d.name) (run_of dots d.name) (entry_is d.name) (canonical.apart d)
       ∙ ap (λ b. nat_lt (run_of dots d.name) d.number && b) (same d)
     where
-      by : (b : Bool) (top run : ℕ) → top ≡ run → (b ≡ true → top + 1 < d.number) → b ≡ (nat_lt run d.number && (nat_le 1 d.number && (nat_le d.number top || b)))
+      by : (b : Bool) (top run : ℕ) → top ≡ run → (b ≡ true → top + 1 < d.number)
+          → b ≡ (nat_lt run d.number && (nat_le 1 d.number && (nat_le d.number top || b)))
       by true top run is apart = let far = apart refl in grind (arith, nat_tests)
       by false top run is apart = go (nat_lt run d.number) refl
         where
@@ -317,7 +331,8 @@ module _ (value : ContextValue) (canonical : IsCanonical value) (dots : List Dot
   -- the vector and the cloud of a canonical form are those of its dots
   pub compressed_vector : value.vector ≡ vector_of dots
   compressed_vector =
-      vector_from_known value.vector (vector_of dots) canonical.names_ascend (entries_sorted dots (names_of dots) (names_sorted dots)) canonical.no_zero (no_zero-vector_of dots)
+      vector_from_known value.vector (vector_of dots) canonical.names_ascend (entries_sorted dots (names_of dots) (names_sorted dots)) canonical.no_zero
+      (no_zero-vector_of dots)
       (λ name. entry_is name ∙ sym (known-vector_of dots name))
 
   pub compressed_cloud : value.cloud ≡ cloud_of dots

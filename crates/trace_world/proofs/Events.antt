@@ -1,8 +1,10 @@
 -- Events that happened, and what is told of them: over plain variables.
-use Rattle.std.proofs.Common.{◌≡◌, ◌≢◌, ◌⊎◌, inl, inr, ℕ, ◌+◌, ◌-◌, ◌<◌, ◌≤◌, List, [], ◌∷◌, ◌++◌, length, drop, true, ◌==◌, refl, sym, ap, subst, ◌∙◌, arith, Result, Ok, Err, IfOk, IsOkUnless}
+use Rattle.std.proofs.Common.{◌≡◌, ◌≢◌, ◌⊎◌, inl, inr, ℕ, ◌+◌, ◌-◌, ◌<◌, ◌≤◌, List, [], ◌∷◌, ◌++◌, length, drop, true, ◌==◌, refl, sym, ap, subst, ◌∙◌, arith}
+use Rattle.std.proofs.Common.{Result, Ok, Err, IfOk, IsOkUnless}
 use Rattle.std.specs.declared.vec.Vec.{Vec}
 use Rattle.dots.specs.declared.refusal.Refusal.{Refusal}
-use Rattle.dots.specs.declared.refusal.Refusal.TheVariants.{OutOfMemory, TooLong, ReadOnly, NumbersSpent, SessionsFull, NotAMessage, NoPlace, NameTaken, UnknownReplica, UnknownMessage, BadLine, Input, Output}
+use Rattle.dots.specs.declared.refusal.Refusal.TheVariants.{OutOfMemory, TooLong, ReadOnly, NumbersSpent, SessionsFull, NotAMessage, NoPlace, NameTaken}
+use Rattle.dots.specs.declared.refusal.Refusal.TheVariants.{UnknownReplica, UnknownMessage, BadLine, Input, Output}
 use Rattle.dots.specs.Refusal.{number_of}
 use Rattle.hash_path.specs.Fnv1a.{fnv1a}
 use Rattle.std.specs.Prelude.{not, codes}
@@ -43,19 +45,22 @@ refuses_other refusal w e other (inl (memory, _)) = absurd (other memory)
 refuses_other refusal w e other (inr is) = is
 
 module _ (old new : List Held) (e : Event) where
-  module _ (answer : Answer) (first end : ℕ) (told : (w : World) → Runs fnv1a nothing (events_of old) w → IsTold fnv1a (events_of old) w e answer first end) where
+  module _ (answer : Answer) (first end : ℕ)
+      (told : (w : World) → Runs fnv1a nothing (events_of old) w → IsTold fnv1a (events_of old) w e answer first end) where
     -- what occurs
     abbrev x : Occurrence
     x = occurrence e answer (not (first == end))
 
     -- the event is told as its answer and the messages that it made say
     told_is : (text : List ℕ) → new ≡ after old (occurrence e answer (not (first == end)))
-        → ((v : World) → Runs fnv1a nothing (events_of new) v → 1 ≤ first → end ≡ length v.messages + 1 → text ≡ event_text e answer first (drop (first - 1) v.messages))
+        → ((v : World) → Runs fnv1a nothing (events_of new) v → 1 ≤ first → end ≡ length v.messages + 1
+        → text ≡ event_text e answer first (drop (first - 1) v.messages))
         → In old (λ w. IsEvent fnv1a w e) (Done text (occurrence e answer (not (first == end)) ∷ []))
     told_is text is says w runs =
         let t = told w runs in
         let grown : events_of new ≡ events_of old ++ e ∷ [] = ap events_of is ∙ events_after old e answer (not (first == end)) in
-        let runs_new : Runs fnv1a nothing (events_of new) t.after = subst (λ es. Runs fnv1a nothing es t.after) (sym grown) (goes_on fnv1a (events_of old) w t.after e answer runs t.happens) in
+        let runs_new : Runs fnv1a nothing (events_of new) t.after =
+        subst (λ es. Runs fnv1a nothing es t.after) (sym grown) (goes_on fnv1a (events_of old) w t.after e answer runs t.happens) in
         let begins : first ≡ length w.messages + 1 = t.begins in
         let from : first - 1 ≡ length w.messages = omega (arith, begins) in
         let said : text ≡ event_text e answer first (drop (first - 1) t.after.messages) = says t.after runs_new (omega (arith, begins)) t.stops in
@@ -63,7 +68,8 @@ module _ (old new : List Held) (e : Event) where
         inl (answer, t.after, t.happens, (λ i. Done (same i) (occurrence e answer (not (begins i == t.stops i)) ∷ [])))
 
     pub event_done : {A : Type 0} (r : Result (Vec ℕ A) Refusal) → new ≡ after old (occurrence e answer (not (first == end)))
-        → IfOk r (λ text. (v : World) → Runs fnv1a nothing (events_of new) v → 1 ≤ first → end ≡ length v.messages + 1 → text.items ≡ event_text e answer first (drop (first - 1) v.messages))
+        → IfOk r (λ text. (v : World) → Runs fnv1a nothing (events_of new) v → 1 ≤ first → end ≡ length v.messages + 1
+        → text.items ≡ event_text e answer first (drop (first - 1) v.messages))
         → IsOkUnless r OutOfMemory → Does (In old (λ w. IsEvent fnv1a w e)) old new r
     event_done (Ok text) is says err = (x ∷ [], told_is text.items is says, is)
     event_done (Err refusal) is says err = inl err
@@ -79,7 +85,8 @@ module _ (old new : List Held) (e : Event) where
 
 -- a replica is saved, or crashes
 module _ (old new : List Held) (name : ℕ) (x : Occurrence) where
-  pub occurs_done : {A : Type 0} (text : Vec ℕ A) → new ≡ after old x → ((w : World) → Runs fnv1a nothing (events_of old) w → is_node w name ≡ true) → text.items ≡ codes "ok"
+  pub occurs_done : {A : Type 0} (text : Vec ℕ A) → new ≡ after old x → ((w : World) → Runs fnv1a nothing (events_of old) w → is_node w name ≡ true)
+      → text.items ≡ codes "ok"
       → Does (In old (λ w. at_replica w name (λ o. o ≡ Done (codes "ok") (x ∷ [])))) old new (Ok text)
   occurs_done text is there said = (x ∷ [], (λ w runs. inr (there w runs, ap (λ t. Done t (x ∷ [])) said)), is)
 

@@ -28,11 +28,13 @@ answers_command past next (byte ∷ line) (Err refusal) answer h (inl memory) is
 answers_command past next (byte ∷ line) (Err refusal) answer h (inr (comes, same)) is other = (Refused refusal, comes, is, same)
 
 -- a command in the world of the events so far
-pub brings_line : {A : Type 0} (past next : Past) (w : World) (c : CommandValue) (found : Option CommandValue) (r : Result (Vec ℕ A) Refusal) → Runs fnv1a nothing (events_of past.held) w → Some c ≡ found
+pub brings_line : {A : Type 0} (past next : Past) (w : World) (c : CommandValue) (found : Option CommandValue) (r : Result (Vec ℕ A) Refusal)
+    → Runs fnv1a nothing (events_of past.held) w → Some c ≡ found
     → Brings (In past.held (λ w. Comes fnv1a w past.pins c)) past next r → Brings (LineComes past found) past next r
 brings_line past next w c found r runs is brings = subst (λ f. Brings (LineComes past f) past next r) is (by r brings)
   where
-    by : {A : Type 0} (r : Result (Vec ℕ A) Refusal) → Brings (In past.held (λ w. Comes fnv1a w past.pins c)) past next r → Brings (LineComes past (Some c)) past next r
+    by : {A : Type 0} (r : Result (Vec ℕ A) Refusal) → Brings (In past.held (λ w. Comes fnv1a w past.pins c)) past next r
+        → Brings (LineComes past (Some c)) past next r
     by (Ok text) (outcome, comes, told, after) = (outcome, (w, runs, comes w runs), told, after)
     by (Err refusal) (inl memory) = inl memory
     by (Err refusal) (inr (comes, same)) = inr ((w, runs, comes w runs), same)

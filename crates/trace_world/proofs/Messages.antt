@@ -1,5 +1,6 @@
 -- The messages that an event made, one after the other: over plain variables.
-use Rattle.std.proofs.Common.{◌≡◌, ℕ, zero, suc, ◌+◌, ◌-◌, ◌<◌, ◌≤◌, List, [], ◌∷◌, ◌++◌, length, drop, refl, sym, ap, ◌∙◌, arith, append_assoc, append-nil, Some}
+use Rattle.std.proofs.Common.{◌≡◌, ℕ, zero, suc, ◌+◌, ◌-◌, ◌<◌, ◌≤◌, List, [], ◌∷◌, ◌++◌, length, drop, refl, sym, ap, ◌∙◌, arith, append_assoc, append-nil}
+use Rattle.std.proofs.Common.{Some}
 use Rattle.std.specs.Prelude.{slice_get}
 use Rattle.replica_model.specs.World.{Message, message_at}
 use Rattle.trace_world.specs.Told.{messages_text, found_text, flush_text, sent_text}
@@ -23,9 +24,11 @@ one_more ms k mid new all within added is =
     let at = drop_at ms k within in
     let text = found_text (suc k) (Some at.0) in
     let rest = messages_text (suc (suc k)) (drop (suc k) ms) in
-    ap (λ t. t ++ rest) (added ∙ ap (λ o. mid ++ found_text (suc k) o) at.1) ∙ append_assoc mid text rest ∙ ap (λ xs. mid ++ messages_text (suc k) xs) (sym at.2) ∙ is
+    ap (λ t. t ++ rest) (added ∙ ap (λ o. mid ++ found_text (suc k) o) at.1) ∙ append_assoc mid text rest
+    ∙ ap (λ xs. mid ++ messages_text (suc k) xs) (sym at.2) ∙ is
 
-pub messages_more : (ms : List Message) (number end : ℕ) (mid new all : List ℕ) → 1 ≤ number → number < end → end ≡ length ms + 1 → new ≡ mid ++ found_text number (message_at ms number)
+pub messages_more : (ms : List Message) (number end : ℕ) (mid new all : List ℕ) → 1 ≤ number → number < end → end ≡ length ms + 1
+    → new ≡ mid ++ found_text number (message_at ms number)
     → mid ++ messages_text number (drop (number - 1) ms) ≡ all → new ++ messages_text (number + 1) (drop (number + 1 - 1) ms) ≡ all
 messages_more ms zero end mid new all from within is added told = absurd (omega (arith, from))
 messages_more ms (suc k) end mid new all from within is added told =
@@ -41,7 +44,8 @@ messages_end ms number end text all past is told =
     sym (append-nil text) ∙ ap (λ xs. text ++ messages_text number xs) (sym (drop_none ms (number - 1) (omega (arith, past, is)))) ∙ told
 
 -- a flush that made messages
-pub flushed_some : (ms : List Message) (first end : ℕ) (text : List ℕ) → 1 ≤ first → first < end → end ≡ length ms + 1 → text ≡ sent_text first (drop (first - 1) ms) → text ≡ flush_text first (drop (first - 1) ms)
+pub flushed_some : (ms : List Message) (first end : ℕ) (text : List ℕ) → 1 ≤ first → first < end → end ≡ length ms + 1
+    → text ≡ sent_text first (drop (first - 1) ms) → text ≡ flush_text first (drop (first - 1) ms)
 flushed_some ms first end text from within is said =
     let at = drop_at ms (first - 1) (omega (arith, from, within, is)) in
     said ∙ ap (sent_text first) at.2 ∙ ap (flush_text first) (sym at.2)

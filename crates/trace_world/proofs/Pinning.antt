@@ -1,5 +1,6 @@
 -- Pins: what a pin is, and that pins stay as more events come.
-use Rattle.std.specs.Prelude.{◌≡◌, ◌≢◌, ◌⊎◌, ◌+◌, ◌-◌, ℕ, zero, suc, true, cond, List, [], ◌∷◌, ◌++◌, map, length, refl, Option, Some, None, Result, Ok, Err, slice_get, nat_lt}
+use Rattle.std.specs.Prelude.{◌≡◌, ◌≢◌, ◌⊎◌, ◌+◌, ◌-◌, ℕ, zero, suc, true, cond, List, [], ◌∷◌, ◌++◌, map, length, refl, Option, Some, None, Result, Ok, Err}
+use Rattle.std.specs.Prelude.{slice_get, nat_lt}
 use Rattle.std.specs.Option.{option_map}
 use Rattle.std.proofs.lemmas.Option.{none-some, slice_get_within, get_or_from_slice_get}
 use Rattle.std.proofs.Common.{arith, ap, sym, ◌∙◌, inl, inr, subst}
@@ -17,7 +18,8 @@ use Rattle.op_model.specs.Meaning.{MapState}
 use Rattle.op_model.specs.Place.{Place, plain}
 use Rattle.replica_model.specs.World.{World, is_node, nothing, Runs}
 use Rattle.replica_world.specs.Held.{Held, events_of}
-use Rattle.trace_words.specs.Command.{CommandValue, Node, Put, Get, Flush, Deliver, Sync, Retry, Abandon, Remove, RemoveField, Clear, Fields, Show, Size, Context, Digest, Save, Crash, Look}
+use Rattle.trace_words.specs.Command.{CommandValue, Node, Put, Get, Flush, Deliver, Sync, Retry, Abandon, Remove, RemoveField, Clear, Fields, Show, Size}
+use Rattle.trace_words.specs.Command.{Context, Digest, Save, Crash, Look}
 use Rattle.trace_words.specs.Command as command
 use Rattle.trace_words.specs.Parsed.{command_value}
 use Rattle.trace_words.specs.Text.{pin_text}
@@ -83,7 +85,8 @@ module _ {A : Type 0} where
       inr ((λ w runs. world_only w (pins_of pins) c (Refused refusal) only (comes w runs)), ap (λ hs. past hs pins) same)
 
   -- a command that is no pin and no look
-  pub at_world_command : (given : parsed.Command A) → ((name : ℕ) → given ≡ parsed_command.Pin name → ⊥) → ((pin : ℕ) (key : Vec ℕ A) → given ≡ parsed_command.Look pin key → ⊥) → is_at_world (command_value given) ≡ true
+  pub at_world_command : (given : parsed.Command A) → ((name : ℕ) → given ≡ parsed_command.Pin name → ⊥)
+      → ((pin : ℕ) (key : Vec ℕ A) → given ≡ parsed_command.Look pin key → ⊥) → is_at_world (command_value given) ≡ true
   at_world_command (parsed_command.Node name) no_pin_is no_look = refl
   at_world_command (parsed_command.Put name key field value) no_pin_is no_look = refl
   at_world_command (parsed_command.Get name key field) no_pin_is no_look = refl
@@ -115,7 +118,8 @@ module _ {A : Type 0} where
   one_pin pin h (suc k) d l = absurd (omega (arith, l))
 
   -- one more pin
-  pub all_more : (held : List Held) (pins : List (Pin A)) (pin : Pin A) → AllPinned pins → pin.past.value ≡ held → ((w : World) × Runs fnv1a nothing (events_of held) w) → Holds held pin → AllPinned (pins ++ pin ∷ [])
+  pub all_more : (held : List Held) (pins : List (Pin A)) (pin : Pin A) → AllPinned pins → pin.past.value ≡ held
+      → ((w : World) × Runs fnv1a nothing (events_of held) w) → Holds held pin → AllPinned (pins ++ pin ∷ [])
   all_more held pins pin all value (w, runs) holds = All-append IsPinned pins (pin ∷ []) all
       (one_pin pin (record { world = w; runs = subst (λ hs. Runs fnv1a nothing (events_of hs) w) (sym value) runs; holds = (holds w runs).1 }))
 
@@ -123,9 +127,11 @@ module _ {A : Type 0} where
   length_pins [] = refl
   length_pins (pin ∷ pins) = ap suc (length_pins pins)
 
-  pub pin_done : (held : List Held) (pins new : List (Pin A)) (pin : Pin A) (text : Vec ℕ A) (number : ℕ) → pin.past.value ≡ held → Holds held pin → new ≡ pins ++ pin ∷ []
+  pub pin_done : (held : List Held) (pins new : List (Pin A)) (pin : Pin A) (text : Vec ℕ A) (number : ℕ) → pin.past.value ≡ held → Holds held pin
+      → new ≡ pins ++ pin ∷ []
       → text.items ≡ pin_text (number + 1) → number ≡ length pins
-      → Brings (In held (λ w. at_replica w pin.name (λ o. o ≡ Pinned (pin_text (length (pins_of pins) + 1)) pin.name))) (past held pins) (past held new) (Ok text)
+      → Brings (In held (λ w. at_replica w pin.name (λ o. o ≡ Pinned (pin_text (length (pins_of pins) + 1)) pin.name))) (past held pins)
+      (past held new) (Ok text)
   pin_done held pins new pin text number value holds is said numbered = (
     Pinned text.items pin.name,
     (λ w runs. inr ((holds w runs).0, ap (λ t. Pinned t pin.name) (said ∙ ap (λ n. pin_text (n + 1)) (numbered ∙ sym (length_pins pins))))),
@@ -135,7 +141,8 @@ module _ {A : Type 0} where
   )
 
   -- the pin of a number
-  found_pin : (pins : List (Pin A)) (n : ℕ) (pin : Pin A) → Some pin ≡ cond (nat_lt 0 n) (slice_get pins (n - 1)) None → pin_at (pins_of pins) n ≡ Some (pinned pin)
+  found_pin : (pins : List (Pin A)) (n : ℕ) (pin : Pin A) → Some pin ≡ cond (nat_lt 0 n) (slice_get pins (n - 1)) None
+      → pin_at (pins_of pins) n ≡ Some (pinned pin)
   found_pin pins zero pin is = absurd (none-some pin (sym is))
   found_pin pins (suc n) pin is = get_map pinned pins n ∙ ap (option_map pinned) (sym (at_number pins n is))
 
@@ -158,7 +165,8 @@ module _ {A : Type 0} where
   module _ (held : List Held) (pin : Pin A) (pinned_is : IsPinned pin) (key : List ℕ) where
     -- what a store tells is what the pin's replica told then
     looked : (o : CommandOutcome)
-        → ((live : MapState) → ((place : Place) (dot : DotValue) → (store_state pin.store).at place dot ≡ live.at place dot) → with_bytes key (ReadsValues (plain key) live) o)
+        → ((live : MapState) → ((place : Place) (dot : DotValue) → (store_state pin.store).at place dot ≡ live.at place dot)
+        → with_bytes key (ReadsValues (plain key) live) o)
         → LooksAt fnv1a (Some (pinned pin)) key o
     looked o tells = by (tells (pinned_is.world.replica pin.name).live pinned_is.holds)
       where
@@ -167,7 +175,8 @@ module _ {A : Type 0} where
         by (inr (short, reads)) = inr (short, (pinned_is.world, pinned_is.runs, reads))
 
     look_brings : (past : Past) (r : Result (Vec ℕ A) Refusal)
-        → ((live : MapState) → ((place : Place) (dot : DotValue) → (store_state pin.store).at place dot ≡ live.at place dot) → TellsText (with_bytes key (ReadsValues (plain key) live)) r)
+        → ((live : MapState) → ((place : Place) (dot : DotValue) → (store_state pin.store).at place dot ≡ live.at place dot)
+        → TellsText (with_bytes key (ReadsValues (plain key) live)) r)
         → Brings (In held (λ w. LooksAt fnv1a (Some (pinned pin)) key)) past past r
     look_brings past (Ok text) tells = (Done text.items [], (λ w runs. looked (Done text.items []) tells), refl, refl)
     look_brings past (Err refusal) tells = by (is_memory refusal)
@@ -182,8 +191,10 @@ module _ {A : Type 0} where
         by (inr other) = inr ((λ w runs. looked (Refused refusal) (λ live same. read other live same (tells live same))), refl)
 
   -- a look at a pin that is there
-  pub look_done : (held : List Held) (pins : List (Pin A)) (n : ℕ) (pin : Pin A) (key : List ℕ) (r : Result (Vec ℕ A) Refusal) → AllPinned pins → Some pin ≡ cond (nat_lt 0 n) (slice_get pins (n - 1)) None
-      → ((live : MapState) → ((place : Place) (dot : DotValue) → (store_state pin.store).at place dot ≡ live.at place dot) → TellsText (with_bytes key (ReadsValues (plain key) live)) r)
+  pub look_done : (held : List Held) (pins : List (Pin A)) (n : ℕ) (pin : Pin A) (key : List ℕ) (r : Result (Vec ℕ A) Refusal) → AllPinned pins
+      → Some pin ≡ cond (nat_lt 0 n) (slice_get pins (n - 1)) None
+      → ((live : MapState) → ((place : Place) (dot : DotValue) → (store_state pin.store).at place dot ≡ live.at place dot)
+      → TellsText (with_bytes key (ReadsValues (plain key) live)) r)
       → Brings (In held (λ w. LooksAt fnv1a (pin_at (pins_of pins) n) key)) (past held pins) (past held pins) r
   look_done held pins n pin key r all found tells =
       subst (λ p. Brings (In held (λ w. LooksAt fnv1a p key)) (past held pins) (past held pins) r) (sym (found_pin pins n pin found))

@@ -14,13 +14,15 @@ use Rattle.trace_world.specs.Does.{AddsEntries}
 use Rattle.trace_world.specs.Outcome.{Done, ReadsValues, ReadsFields, ReadsKeys}
 
 -- the values at a place
-pub values_told : (live : MapState) (place there : Place) (found told : List (List ℕ)) (text : List ℕ) → there ≡ place → Lists (Stands live there) found → told ≡ found → text ≡ values_text told
+pub values_told : (live : MapState) (place there : Place) (found told : List (List ℕ)) (text : List ℕ) → there ≡ place → Lists (Stands live there) found
+    → told ≡ found → text ≡ values_text told
     → ReadsValues place live (Done text [])
 values_told live place there found told text at lists same is =
     (found, subst (λ p. Lists (Stands live p) found) at lists, ap (λ t. Done t []) (is ∙ ap values_text same))
 
 -- of a store that holds what this state does
-pub stands_same : (p q : MapState) (place : Place) (found : List (List ℕ)) → ((place : Place) (dot : DotValue) → p.at place dot ≡ q.at place dot) → Lists (Stands p place) found → Lists (Stands q place) found
+pub stands_same : (p q : MapState) (place : Place) (found : List (List ℕ)) → ((place : Place) (dot : DotValue) → p.at place dot ≡ q.at place dot)
+    → Lists (Stands p place) found → Lists (Stands q place) found
 stands_same p q place found same lists = record {
   ascending = lists.ascending;
   just = λ value. (
@@ -31,7 +33,8 @@ stands_same p q place found same lists = record {
 
 entries_append : (xs ys : List (List ℕ × List (List ℕ))) → entries_text (xs ++ ys) ≡ entries_text xs ++ entries_text ys
 entries_append [] ys = refl
-entries_append (x ∷ xs) ys = ap (λ t. entry_text x.0 x.1 ++ t) (entries_append xs ys) ∙ sym (append_assoc (entry_text x.0 x.1) (entries_text xs) (entries_text ys))
+entries_append (x ∷ xs) ys = ap (λ t. entry_text x.0 x.1 ++ t) (entries_append xs ys)
+    ∙ sym (append_assoc (entry_text x.0 x.1) (entries_text xs) (entries_text ys))
 
 length_keys : (entries : List (List ℕ × List (List ℕ))) → length (keys_of entries) ≡ length entries
 length_keys [] = refl
@@ -50,8 +53,10 @@ module _ (P : List ℕ → List (List ℕ) → Type 0) where
     entries ++ (label, found) ∷ [],
     map-append (λ e. e.0) entries ((label, found) ∷ []) ∙ ap (λ ls. ls ++ label ∷ []) labelled,
     All-append {X = List ℕ × List (List ℕ)} (λ e. P e.0 e.1) entries ((label, found) ∷ []) all (one (label, found) has),
-    adds ∙ ap (λ t. mid ++ entry_text label t) same ∙ ap (λ t. t ++ entry_text label found) text ∙ append_assoc old (entries_text entries) (entry_text label found)
-        ∙ ap (λ t. old ++ (entries_text entries ++ t)) (sym (append-nil (entry_text label found))) ∙ ap (λ t. old ++ t) (sym (entries_append entries ((label, found) ∷ []))),
+    adds ∙ ap (λ t. mid ++ entry_text label t) same ∙ ap (λ t. t ++ entry_text label found) text
+        ∙ append_assoc old (entries_text entries) (entry_text label found)
+        ∙ ap (λ t. old ++ (entries_text entries ++ t)) (sym (append-nil (entry_text label found)))
+        ∙ ap (λ t. old ++ t) (sym (entries_append entries ((label, found) ∷ []))),
   )
     where
       one : (e : List ℕ × List (List ℕ)) → P e.0 e.1 → All {X = List ℕ × List (List ℕ)} (λ e. P e.0 e.1) (e ∷ [])
@@ -59,14 +64,16 @@ module _ (P : List ℕ → List (List ℕ) → Type 0) where
       one e h (suc k) d l = absurd (omega (arith, l))
 
 -- the fields of a key with their values
-pub fields_told : (live : MapState) (key key' : List ℕ) (fields : List (List ℕ)) (front text : List ℕ) → key' ≡ key → Lists (HoldsField live key') fields → front ≡ codes "fields " ++ decimal (length fields)
+pub fields_told : (live : MapState) (key key' : List ℕ) (fields : List (List ℕ)) (front text : List ℕ) → key' ≡ key → Lists (HoldsField live key') fields
+    → front ≡ codes "fields " ++ decimal (length fields)
     → AddsEntries (λ field. Lists (Stands live (place_of key' field))) fields front text → ReadsFields key live (Done text [])
 fields_told live key key' fields front text same lists begins (entries, labelled, all, is) =
     subst (λ k. ReadsFields k live (Done text [])) same (
       entries,
       subst (Lists (HoldsField live key')) (sym labelled) lists,
       all,
-      ap (λ t. Done t []) (is ∙ ap (λ t. t ++ entries_text entries) (begins ∙ ap (λ n. codes "fields " ++ decimal n) (ap length (sym labelled) ∙ length_keys entries))),
+      ap (λ t. Done t []) (is ∙ ap (λ t. t ++ entries_text entries)
+          (begins ∙ ap (λ n. codes "fields " ++ decimal n) (ap length (sym labelled) ∙ length_keys entries))),
     )
 
 -- all keys with their values
@@ -76,5 +83,6 @@ keys_told live keys front text lists begins (entries, labelled, all, is) = (
   entries,
   subst (Lists (HoldsKey live)) (sym labelled) lists,
   all,
-  ap (λ t. Done t []) (is ∙ ap (λ t. t ++ entries_text entries) (begins ∙ ap (λ n. codes "map " ++ decimal n) (ap length (sym labelled) ∙ length_keys entries))),
+  ap (λ t. Done t []) (is ∙ ap (λ t. t ++ entries_text entries)
+      (begins ∙ ap (λ n. codes "map " ++ decimal n) (ap length (sym labelled) ∙ length_keys entries))),
 )

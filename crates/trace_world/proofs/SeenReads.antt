@@ -20,10 +20,12 @@ use Rattle.replica_core.specs.Showing.{ShowsOperations}
 use Rattle.replica_world.proofs.Shown.{worlds_show}
 use Rattle.replica_model.proofs.Deciding.{worlds_one}
 use Rattle.replica_model.specs.World.{World, is_node, nothing, Runs}
-use Rattle.trace_words.specs.Command.{CommandValue, Node, Put, Get, Flush, Deliver, Sync, Retry, Abandon, Remove, RemoveField, Clear, Fields, Show, Size, Context, Pin, Digest, Save, Crash, Look}
+use Rattle.trace_words.specs.Command.{CommandValue, Node, Put, Get, Flush, Deliver, Sync, Retry, Abandon, Remove, RemoveField, Clear, Fields, Show, Size}
+use Rattle.trace_words.specs.Command.{Context, Pin, Digest, Save, Crash, Look}
 use Rattle.trace_words.specs.Text.{values_text, fields_text, map_text, size_text, context_text, digest_text}
 use Rattle.trace_world.specs.Laws.{ReadsAreSeen, LooksAreSeen}
-use Rattle.trace_world.specs.Outcome.{CommandOutcome, Refused, Done, ReadsValues, ReadsFields, ReadsKeys, ReadsSize, ReadsContext, ReadsDigest, at_replica, with_bytes, LooksAt, Comes}
+use Rattle.trace_world.specs.Outcome.{CommandOutcome, Refused, Done, ReadsValues, ReadsFields, ReadsKeys, ReadsSize, ReadsContext, ReadsDigest, at_replica}
+use Rattle.trace_world.specs.Outcome.{with_bytes, LooksAt, Comes}
 use Rattle.trace_world.specs.Seen.{if_there, if_short, entries_by, fields_seen, keys_seen, context_seen, read_of}
 use Rattle.trace_world.proofs.Compressing.{compressed_vector, compressed_cloud}
 
@@ -40,14 +42,16 @@ short_just bytes P told just o (inl (long, is)) = is ∙ sym (cond-false (nat_le
 short_just bytes P told just o (inr (short, comes)) = just o comes ∙ sym (cond-true (nat_le (length bytes) MAX_LENGTH) told (Refused TooLong) short)
 
 -- entries whose values are told by their labels
-entries_are : (at : List ℕ → List (List ℕ)) (entries : List (List ℕ × List (List ℕ))) → All (λ e. e.1 ≡ at e.0) entries → entries ≡ entries_by at (keys_of entries)
+entries_are : (at : List ℕ → List (List ℕ)) (entries : List (List ℕ × List (List ℕ))) → All (λ e. e.1 ≡ at e.0) entries
+    → entries ≡ entries_by at (keys_of entries)
 entries_are at [] all = refl
 entries_are at (e ∷ es) all =
     let rest = entries_are at es (All-tail (λ e. e.1 ≡ at e.0) e es all) in
     let first : e.1 ≡ at e.0 = all 0 e (omega arith) in
     (λ i. (e.0, first i) ∷ rest i)
 
-all_are : (P : List ℕ → List ℕ → Type 0) (at : List ℕ → List (List ℕ)) → ((label : List ℕ) (found : List (List ℕ)) → Lists (P label) found → found ≡ at label) → (entries : List (List ℕ × List (List ℕ)))
+all_are : (P : List ℕ → List ℕ → Type 0) (at : List ℕ → List (List ℕ)) → ((label : List ℕ) (found : List (List ℕ)) → Lists (P label) found → found ≡ at label)
+    → (entries : List (List ℕ × List (List ℕ)))
     → All (λ e. Lists (P e.0) e.1) entries → All (λ e. e.1 ≡ at e.0) entries
 all_are P at is [] all k d l = absurd (omega (arith, l))
 all_are P at is (e ∷ es) all k d l = all_map_here (all k d l)
@@ -63,13 +67,15 @@ module _ (live : MapState) (S : List Operation) (shows : ShowsOperations fnv1a l
   fields_just key o (entries, lists, all, is) =
       let labels = shows.fields key (keys_of entries) lists in
       let at : List ℕ → List (List ℕ) = λ field. values S (place_of key field) in
-      let same = entries_are at entries (all_are (λ field. Stands live (place_of key field)) at (λ field found there. shows.values (place_of key field) found there) entries all) in
+      let same = entries_are at entries (all_are (λ field. Stands live (place_of key field)) at
+      (λ field found there. shows.values (place_of key field) found there) entries all) in
       is ∙ ap (λ es. Done (fields_text es) []) (same ∙ ap (entries_by at) labels)
 
   keys_just : IsJust (ReadsKeys live) (Done (keys_seen S) [])
   keys_just o (entries, lists, all, is) =
       let labels = shows.keys (keys_of entries) lists in
-      let same = entries_are (values_of_key S) entries (all_are (StandsWithin live) (values_of_key S) (λ key found there. shows.values_of_key key found there) entries all) in
+      let same = entries_are (values_of_key S) entries (all_are (StandsWithin live) (values_of_key S) (λ key found there. shows.values_of_key key found there)
+      entries all) in
       is ∙ ap (λ es. Done (map_text es) []) (same ∙ ap (entries_by (values_of_key S)) labels)
 
   size_just : IsJust (ReadsSize live) (Done (size_text (size S)) [])
@@ -94,8 +100,10 @@ reads_seen events w runs clean pins c outcome told = by c
 
     by : (c : CommandValue) → read_of w c ≡ Some told → Comes fnv1a w pins c outcome → outcome ≡ told
     by (Get name key field) is comes =
-        there_just w name _ _ (short_just key _ _ (short_just field _ _ (values_just (w.replica name).live (w.seen name) (shown name) key field))) outcome comes ∙ same_Some _ _ is
-    by (Fields name key) is comes = there_just w name _ _ (short_just key _ _ (fields_just (w.replica name).live (w.seen name) (shown name) key)) outcome comes ∙ same_Some _ _ is
+        there_just w name _ _ (short_just key _ _ (short_just field _ _ (values_just (w.replica name).live (w.seen name) (shown name) key field))) outcome comes
+        ∙ same_Some _ _ is
+    by (Fields name key) is comes = there_just w name _ _ (short_just key _ _ (fields_just (w.replica name).live (w.seen name) (shown name) key)) outcome comes
+        ∙ same_Some _ _ is
     by (Show name) is comes = there_just w name _ _ (keys_just (w.replica name).live (w.seen name) (shown name)) outcome comes ∙ same_Some _ _ is
     by (Size name) is comes = there_just w name _ _ (size_just (w.replica name).live (w.seen name) (shown name)) outcome comes ∙ same_Some _ _ is
     by (Context name) is comes = there_just w name _ _ (context_just (w.replica name).live (w.seen name) (shown name)) outcome comes ∙ same_Some _ _ is
@@ -128,7 +136,8 @@ looks_seen w pins number key pin then there runs clean outcome comes =
     just : IsJust (λ o. (u : World) × Runs fnv1a nothing pin.events u × ReadsValues (plain key) (u.replica pin.name).live o) told
     just o (u, again, reads) =
         let same = worlds_one fnv1a pin.events u then again runs in
-        values_just (then.replica pin.name).live (then.seen pin.name) shown key [] o (subst (λ (x : World). ReadsValues (plain key) (x.replica pin.name).live o) same reads)
+        values_just (then.replica pin.name).live (then.seen pin.name) shown key [] o
+        (subst (λ (x : World). ReadsValues (plain key) (x.replica pin.name).live o) same reads)
 
     by : LooksAt fnv1a (Some pin) key outcome → outcome ≡ if_short key told
     by at = short_just key _ told just outcome at

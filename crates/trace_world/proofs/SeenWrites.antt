@@ -17,7 +17,8 @@ use Rattle.replica_model.specs.World.{World, Event, Happens, goes, calls, sent_a
 use Rattle.replica_model.specs.World as world
 use Rattle.wire_form.specs.Session.{SessionValue}
 use Rattle.replica_model.proofs.Answers.{calls_are_told}
-use Rattle.trace_words.specs.Command.{CommandValue, Node, Put, Get, Flush, Deliver, Sync, Retry, Abandon, Remove, RemoveField, Clear, Fields, Show, Size, Context, Pin, Digest, Save, Crash, Look}
+use Rattle.trace_words.specs.Command.{CommandValue, Node, Put, Get, Flush, Deliver, Sync, Retry, Abandon, Remove, RemoveField, Clear, Fields, Show, Size}
+use Rattle.trace_words.specs.Command.{Context, Pin, Digest, Save, Crash, Look}
 use Rattle.trace_words.specs.Text.{message_text}
 use Rattle.trace_words.specs.declared.kind.Kind.TheVariants.{Delta}
 use Rattle.trace_world.specs.Laws.{WritesAreSeen}
@@ -31,7 +32,8 @@ text_of (Done text events) = text
 text_of (Refused refusal) = []
 text_of (Pinned text name) = []
 
-at_done : (w : World) (name : ℕ) (P : CommandOutcome → Type 0) (text : List ℕ) (more : List Occurrence) → at_replica w name P (Done text more) → P (Done text more)
+at_done : (w : World) (name : ℕ) (P : CommandOutcome → Type 0) (text : List ℕ) (more : List Occurrence) → at_replica w name P (Done text more)
+    → P (Done text more)
 at_done w name P text more (inl (none, is)) = absurd cc
 at_done w name P text more (inr (there, comes)) = comes
 
@@ -39,12 +41,14 @@ bytes_done : (bytes : List ℕ) (P : CommandOutcome → Type 0) (text : List ℕ
 bytes_done bytes P text more (inl (long, is)) = absurd cc
 bytes_done bytes P text more (inr (short, comes)) = comes
 
-event_done : (w : World) (e : Event) (text : List ℕ) (more : List Occurrence) → IsEvent fnv1a w e (Done text more) → (answer : Answer) × (v : World) × Happens fnv1a w e answer v × (text ≡ happened_text e answer w v)
+event_done : (w : World) (e : Event) (text : List ℕ) (more : List Occurrence) → IsEvent fnv1a w e (Done text more) → (answer : Answer) × (v : World)
+    × Happens fnv1a w e answer v × (text ≡ happened_text e answer w v)
 event_done w e text more (inl (answer, v, happens, is)) = (answer, v, happens, ap text_of is)
 event_done w e text more (inr (refusal, refuses, is)) = absurd cc
 
 -- the text of a flush
-flush_is : (group : List Operation) (kept : SessionValue → List Operation) (ks : List Kept) (number : ℕ) (S : List Operation) → flush_text number (map (sent_as group kept ks) (flushed_by S)) ≡ flush_seen S number
+flush_is : (group : List Operation) (kept : SessionValue → List Operation) (ks : List Kept) (number : ℕ) (S : List Operation)
+    → flush_text number (map (sent_as group kept ks) (flushed_by S)) ≡ flush_seen S number
 flush_is group kept ks number [] = refl
 flush_is group kept ks number (o ∷ S) = ap (λ t. codes "sent" ++ t) (append-nil (message_text number Delta))
 
@@ -65,7 +69,8 @@ module _ (w : World) (name : ℕ) (told : IsToldBy fnv1a (w.replica name) name (
       let number = length w.messages + 1 in
       let suc_is : number ≡ suc (length w.messages) = omega arith in
       let made : drop (length w.messages) done.1.messages ≡ map sends (flushed_by (w.outgoing name)) =
-      ap (λ (v : World). drop (length w.messages) v.messages) gone.3 ∙ drop-append_seam w.messages (map sends gone.1) ∙ ap (map sends) (told.flushes gone.0 done.0 gone.1 gone.2) in
+      ap (λ (v : World). drop (length w.messages) v.messages) gone.3 ∙ drop-append_seam w.messages (map sends gone.1)
+      ∙ ap (map sends) (told.flushes gone.0 done.0 gone.1 gone.2) in
       done.3
       ∙ ap (λ a. told_text a number (drop (length w.messages) done.1.messages)) gone.2.0
       ∙ ap (flush_text number) made
@@ -98,7 +103,8 @@ writes_seen events w runs clean pins c text told more = by c
         let call = bytes_done field last text more
         (bytes_done key (with_bytes field last) text more
         (at_done w name (with_bytes key (with_bytes field last)) text more comes)) in
-        (call_is w name (tells name) text more (step.RemoveField (place_of key field)) (Counted (field_removed_at (w.seen name) (place_of key field))) refl call).1 ∙ same_Some _ _ is
+        (call_is w name (tells name) text more (step.RemoveField (place_of key field)) (Counted (field_removed_at (w.seen name) (place_of key field)))
+        refl call).1 ∙ same_Some _ _ is
     by (Clear name) is comes = (call_is w name (tells name) text more step.Clear (Counted (cleared_at (w.seen name))) refl comes).1 ∙ same_Some _ _ is
     by (Flush name) is comes = flush_told w name (tells name) text more comes ∙ same_Some _ _ is
     by (Node name) is comes = told_none text told is

@@ -24,11 +24,13 @@ use Rattle.replica_model.specs.World.{World, Event, nothing, RefusesEvent, Runs}
 use Rattle.replica_model.proofs.Deciding.{events_one, worlds_one, refused_not}
 use Rattle.std.specs.Prelude.{codes}
 use Rattle.replica_world.specs.Held.{events_of}
-use Rattle.trace_words.specs.Command.{CommandValue, Node, Put, Get, Flush, Deliver, Sync, Retry, Abandon, Remove, RemoveField, Clear, Fields, Show, Size, Context, Pin, Digest, Save, Crash, Look, command_of}
+use Rattle.trace_words.specs.Command.{CommandValue, Node, Put, Get, Flush, Deliver, Sync, Retry, Abandon, Remove, RemoveField, Clear, Fields, Show, Size}
+use Rattle.trace_words.specs.Command.{Context, Pin, Digest, Save, Crash, Look, command_of}
 use Rattle.trace_words.specs.Text.{values_text, fields_text, map_text, size_text, context_text, digest_text, pin_text}
 use Rattle.trace_world.specs.Laws.{AnswersAreOne}
 use Rattle.trace_world.specs.Line.{Past, LineComes, answer_by, past_by}
-use Rattle.trace_world.specs.Outcome.{CommandOutcome, Refused, Done, occurs, Pinned, PinValue, ReadsValues, ReadsFields, ReadsKeys, ReadsSize, ReadsContext, ReadsDigest, at_replica, with_bytes, pin_at, IsEvent, LooksAt, Comes}
+use Rattle.trace_world.specs.Outcome.{CommandOutcome, Refused, Done, occurs, Pinned, PinValue, ReadsValues, ReadsFields, ReadsKeys, ReadsSize, ReadsContext}
+use Rattle.trace_world.specs.Outcome.{ReadsDigest, at_replica, with_bytes, pin_at, IsEvent, LooksAt, Comes}
 use Rattle.trace_world.specs.Told.{happened_text}
 
 -- one outcome at most is as P says
@@ -36,10 +38,12 @@ abbrev IsOne : (CommandOutcome → Type 0) → Type 0
 IsOne P = (o o' : CommandOutcome) → P o → P o' → o ≡ o'
 
 pub lists_one : (P : List ℕ → Type 0) (xs ys : List (List ℕ)) → Lists P xs → Lists P ys → xs ≡ ys
-lists_one P xs ys first second = one_ascending xs ys first.ascending second.ascending (λ z there. (second.just z).1 ((first.just z).0 there)) (λ z there. (first.just z).1 ((second.just z).0 there))
+lists_one P xs ys first second = one_ascending xs ys first.ascending second.ascending (λ z there. (second.just z).1 ((first.just z).0 there))
+    (λ z there. (first.just z).1 ((second.just z).0 there))
 
 -- entries with the same labels, whose values are each a list of the same
-entries_one : (P : List ℕ → List ℕ → Type 0) (xs ys : List (List ℕ × List (List ℕ))) → keys_of xs ≡ keys_of ys → All (λ e. Lists (P e.0) e.1) xs → All (λ e. Lists (P e.0) e.1) ys → xs ≡ ys
+entries_one : (P : List ℕ → List ℕ → Type 0) (xs ys : List (List ℕ × List (List ℕ))) → keys_of xs ≡ keys_of ys → All (λ e. Lists (P e.0) e.1) xs
+    → All (λ e. Lists (P e.0) e.1) ys → xs ≡ ys
 entries_one P [] [] same first second = refl
 entries_one P [] (y ∷ ys) same first second = absurd cc
 entries_one P (x ∷ xs) [] same first second = absurd cc
@@ -58,7 +62,8 @@ entries_one P (x ∷ xs) (y ∷ ys) same first second =
     tail (l ∷ ls) = ls
 
 values_one : (place : Place) (live : MapState) → IsOne (ReadsValues place live)
-values_one place live o o' (found, lists, is) (found', lists', is') = is ∙ ap (λ f. Done (values_text f) []) (lists_one (Stands live place) found found' lists lists') ∙ sym is'
+values_one place live o o' (found, lists, is) (found', lists', is') = is
+    ∙ ap (λ f. Done (values_text f) []) (lists_one (Stands live place) found found' lists lists') ∙ sym is'
 
 fields_one : (key : List ℕ) (live : MapState) → IsOne (ReadsFields key live)
 fields_one key live o o' (entries, lists, all, is) (entries', lists', all', is') =
@@ -71,7 +76,8 @@ keys_one live o o' (entries, lists, all, is) (entries', lists', all', is') =
     is ∙ ap (λ es. Done (map_text es) []) (entries_one (StandsWithin live) entries entries' labels all all') ∙ sym is'
 
 size_one : (live : MapState) → IsOne (ReadsSize live)
-size_one live o o' (found, lists, is) (found', lists', is') = is ∙ ap (λ f. Done (size_text (length f)) []) (lists_one (HoldsKey live) found found' lists lists') ∙ sym is'
+size_one live o o' (found, lists, is) (found', lists', is') = is ∙ ap (λ f. Done (size_text (length f)) [])
+    (lists_one (HoldsKey live) found found' lists lists') ∙ sym is'
 
 context_one : (live : MapState) → IsOne (ReadsContext live)
 context_one live o o' (c, canonical, dots, is) (c', canonical', dots', is') =
@@ -79,7 +85,8 @@ context_one live o o' (c, canonical, dots, is) (c', canonical', dots', is') =
     is ∙ ap (λ (c : ContextValue). Done (context_text c.vector c.cloud) []) same ∙ sym is'
 
 digest_one : (live : MapState) → IsOne (ReadsDigest fnv1a live)
-digest_one live o o' (map, is_map, is) (map', is_map', is') = is ∙ ap (λ m. Done (digest_text (digest_at fnv1a m [])) []) (maps_one map map' live is_map is_map') ∙ sym is'
+digest_one live o o' (map, is_map, is) (map', is_map', is') = is ∙ ap (λ m. Done (digest_text (digest_at fnv1a m [])) [])
+    (maps_one map map' live is_map is_map') ∙ sym is'
 
 -- at a replica, and with bytes
 at_one : (w : World) (name : ℕ) (P : CommandOutcome → Type 0) → IsOne P → IsOne (at_replica w name P)
@@ -117,7 +124,8 @@ event_refused_one w (world.At name c) x y (inr (there, rest)) (inl (none, is)) =
 event_refused_one w (world.At name c) x y (inr (there, inl (none, is))) (inr (there', inl (none', is'))) = is ∙ sym is'
 event_refused_one w (world.At name c) x y (inr (there, inl (none, is))) (inr (there', inr (peer, refuses))) = absurd (false≢true (sym none ∙ peer))
 event_refused_one w (world.At name c) x y (inr (there, inr (peer, refuses))) (inr (there', inl (none, is))) = absurd (false≢true (sym none ∙ peer))
-event_refused_one w (world.At name c) x y (inr (there, inr (peer, refuses))) (inr (there', inr (peer', refuses'))) = refuses_one (w.replica name) c x y refuses refuses'
+event_refused_one w (world.At name c) x y (inr (there, inr (peer, refuses))) (inr (there', inr (peer', refuses'))) =
+    refuses_one (w.replica name) c x y refuses refuses'
 event_refused_one w (world.Deliver number name) x y (inl (none, is)) (inl (none', is')) = is ∙ sym is'
 event_refused_one w (world.Deliver number name) x y (inl (none, is)) (inr (there, absent, is')) = absurd (false≢true (sym none ∙ there))
 event_refused_one w (world.Deliver number name) x y (inr (there, none, is)) (inl (absent, is')) = absurd (false≢true (sym absent ∙ there))
@@ -129,7 +137,8 @@ event_one w e o o' (inl (answer, v, happens, is)) (inl (answer', v', happens', i
     is ∙ (λ i. Done (happened_text e (same.0 i) w (same.1 i)) (occurs e (same.0 i) w (same.1 i) ∷ [])) ∙ sym is'
 event_one w e o o' (inl (answer, v, happens, is)) (inr (refusal, refuses, is')) = absurd (refused_not fnv1a w v e answer refusal refuses happens)
 event_one w e o o' (inr (refusal, refuses, is)) (inl (answer, v, happens, is')) = absurd (refused_not fnv1a w v e answer refusal refuses happens)
-event_one w e o o' (inr (refusal, refuses, is)) (inr (refusal', refuses', is')) = is ∙ ap Refused (event_refused_one w e refusal refusal' refuses refuses') ∙ sym is'
+event_one w e o o' (inr (refusal, refuses, is)) (inr (refusal', refuses', is')) = is
+    ∙ ap Refused (event_refused_one w e refusal refusal' refuses refuses') ∙ sym is'
 
 call_one : (w : World) (name : ℕ) (c : step.Call) → IsOne (IsEvent fnv1a w (world.At name c))
 call_one w name c = event_one w (world.At name c)
@@ -137,7 +146,8 @@ call_one w name c = event_one w (world.At name c)
 -- a look at a pin
 look_one : (pin : Option PinValue) (key : List ℕ) → IsOne (LooksAt fnv1a pin key)
 look_one None key o o' is is' = is ∙ sym is'
-look_one (Some pin) key o o' is is' = with_one key (λ o. (w : World) × Runs fnv1a nothing pin.events w × ReadsValues (plain key) (w.replica pin.name).live o) one o o' is is'
+look_one (Some pin) key o o' is is' = with_one key (λ o. (w : World) × Runs fnv1a nothing pin.events w × ReadsValues (plain key) (w.replica pin.name).live o)
+    one o o' is is'
   where
     one : IsOne (λ o. (w : World) × Runs fnv1a nothing pin.events w × ReadsValues (plain key) (w.replica pin.name).live o)
     one o o' (w, runs, reads) (v, runs', reads') =
@@ -146,7 +156,8 @@ look_one (Some pin) key o o' is is' = with_one key (λ o. (w : World) × Runs fn
 
 comes_one : (w : World) (pins : List PinValue) (c : CommandValue) → IsOne (Comes fnv1a w pins c)
 comes_one w pins (Node name) o o' = event_one w (world.Node name) o o'
-comes_one w pins (Put name key field value) o o' = at_one w name _ (with_one key _ (with_one field _ (with_one value _ (call_one w name (step.Put (place_of key field) value))))) o o'
+comes_one w pins (Put name key field value) o o' =
+    at_one w name _ (with_one key _ (with_one field _ (with_one value _ (call_one w name (step.Put (place_of key field) value))))) o o'
 comes_one w pins (Get name key field) o o' = at_one w name _ (with_one key _ (with_one field _ (values_one (place_of key field) (w.replica name).live))) o o'
 comes_one w pins (Flush name) o o' = call_one w name step.Flush o o'
 comes_one w pins (Deliver number name) o o' = event_one w (world.Deliver number name) o o'
@@ -154,7 +165,8 @@ comes_one w pins (Sync name peer) o o' = call_one w name (step.Ask peer) o o'
 comes_one w pins (Retry name number) o o' = call_one w name (step.Retry number) o o'
 comes_one w pins (Abandon name number) o o' = call_one w name (step.Abandon number) o o'
 comes_one w pins (Remove name key) o o' = at_one w name _ (with_one key _ (call_one w name (step.Remove key))) o o'
-comes_one w pins (RemoveField name key field) o o' = at_one w name _ (with_one key _ (with_one field _ (call_one w name (step.RemoveField (place_of key field))))) o o'
+comes_one w pins (RemoveField name key field) o o' =
+    at_one w name _ (with_one key _ (with_one field _ (call_one w name (step.RemoveField (place_of key field))))) o o'
 comes_one w pins (Clear name) o o' = call_one w name step.Clear o o'
 comes_one w pins (Fields name key) o o' = at_one w name _ (with_one key _ (fields_one key (w.replica name).live)) o o'
 comes_one w pins (Show name) o o' = at_one w name _ (keys_one (w.replica name).live) o o'

@@ -35,8 +35,11 @@ module _ {S P H : Type 0} (at : S → P → DotValue → Option H) (m : finite.F
     -- one more copy, at its key and at the others
     pub copied_here : IsCopied at m new key
     copied_here w is =
-        let e : store ≡ w = cc in
-        (copy, updates key ∙ cond-true (is_at (bytes_cmp key) key) (Some copy) (get bytes_cmp old key) (same_tied key key refl), subst (λ s. HoldsSame (at copy) (at s)) e same)
+        let e : store ≡ w = cc in (
+          copy,
+          updates key ∙ cond-true (is_at (bytes_cmp key) key) (Some copy) (get bytes_cmp old key) (same_tied key key refl),
+          subst (λ s. HoldsSame (at copy) (at s)) e same,
+        )
 
     apart_at : (q : List ℕ) → eq_by_cmp bytes_cmp q key ≡ false → (b : Bool) → is_at (bytes_cmp key) q ≡ b → b ≡ false
     apart_at q apart true tied = absurd (false≢true (sym apart ∙ same_tied q key (sym (tied_same key q tied))))
@@ -44,8 +47,12 @@ module _ {S P H : Type 0} (at : S → P → DotValue → Option H) (m : finite.F
 
     pub copied_apart : (q : List ℕ) → eq_by_cmp bytes_cmp q key ≡ false → IsCopied at m old q → IsCopied at m new q
     copied_apart q apart was w is =
-        let before = was w is in
-        (before.0, updates q ∙ cond-false (is_at (bytes_cmp key) q) (Some copy) (get bytes_cmp old q) (apart_at q apart (is_at (bytes_cmp key) q) refl) ∙ before.1, before.2)
+        let before = was w is in (
+          before.0,
+          updates q ∙ cond-false (is_at (bytes_cmp key) q) (Some copy) (get bytes_cmp old q) (apart_at q apart (is_at (bytes_cmp key) q) refl)
+              ∙ before.1,
+          before.2,
+        )
 
     pub copied_only : AreOnlyCopies at m old → AreOnlyCopies at m new
     copied_only was q s is = go (is_at (bytes_cmp key) q) refl
@@ -60,12 +67,14 @@ module _ {S P H : Type 0} (at : S → P → DotValue → Option H) (m : finite.F
   module _ (copies : BTreeMap (List ℕ) S) (are : AreCopies at m copies) where
     -- no copy is empty, as no store is
     pub copies_filled : NoStoreIsEmpty at m → NoKeyIsEmpty at copies.entries
-    copies_filled filled = All-weaker (Contains (values_of copies.entries)) (λ s. ¬ HasNothing (at s)) each (values_of copies.entries) (All-contains_itself (values_of copies.entries))
+    copies_filled filled = All-weaker (Contains (values_of copies.entries)) (λ s. ¬ HasNothing (at s)) each (values_of copies.entries)
+        (All-contains_itself (values_of copies.entries))
       where
         each : (s : S) → Contains (values_of copies.entries) s → ¬ HasNothing (at s)
         each s in_it nothing =
             let entry = Contains-from_values_of copies.entries s in_it in
-            let found = lookup-from_Contains {eq = eq_by_cmp bytes_cmp} (eq_by_cmp_equiv nat_list_cmp_total) entry.0 s copies.entries (IsDistinct-from_sorted bytes_cmp (keys copies) are.ordered) entry.1 in
+            let found = lookup-from_Contains {eq = eq_by_cmp bytes_cmp} (eq_by_cmp_equiv nat_list_cmp_total) entry.0 s copies.entries
+            (IsDistinct-from_sorted bytes_cmp (keys copies) are.ordered) entry.1 in
             let store = are.only entry.0 s found in
             filled entry.0 store.0 store.1 (λ place d. sym (store.2 place d) ∙ nothing place d)
 
@@ -74,7 +83,8 @@ module _ {S P H : Type 0} (at : S → P → DotValue → Option H) (m : finite.F
     unfolding at_stores at_keys
     copies_hold hash q d = go (get bytes_cmp copies q.0) (finite.get m q.0) refl refl
       where
-        go : (found : Option S) (held : Option S) → get bytes_cmp copies q.0 ≡ found → finite.get m q.0 ≡ held → held_by at (get bytes_cmp copies q.0) q.1 d ≡ held_by at (finite.get m q.0) q.1 d
+        go : (found : Option S) (held : Option S) → get bytes_cmp copies q.0 ≡ found → finite.get m q.0 ≡ held
+            → held_by at (get bytes_cmp copies q.0) q.1 d ≡ held_by at (finite.get m q.0) q.1 d
         go (Some s) held is h =
             let store = are.only q.0 s is in
             ap (λ o. held_by at o q.1 d) is ∙ store.2 q.1 d ∙ ap (λ o. held_by at o q.1 d) (sym store.1)

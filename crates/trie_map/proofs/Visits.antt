@@ -40,7 +40,8 @@ module _ {V : Type 0} (m : finite.FinMap bytes_cmp V) where
   }
 
   -- the next entry is one of the map
-  pub visits_next : (rest more : List (List ℕ × V)) (k : List ℕ) (v : V) (Done : List ℕ → Type 0) → Visits rest Done → rest ≡ (k, v) ∷ more → finite.get m k ≡ Some v
+  pub visits_next : (rest more : List (List ℕ × V)) (k : List ℕ) (v : V) (Done : List ℕ → Type 0) → Visits rest Done → rest ≡ (k, v) ∷ more
+      → finite.get m k ≡ Some v
   visits_next rest more k v Done before is = before.left k v (subst (λ es. Among es (k, v)) (sym is) (inl refl))
 
   module _ (rest more : List (List ℕ × V)) (k : List ℕ) (v : V) (Done Then : List ℕ → Type 0) (before : Visits rest Done) (is : rest ≡ (k, v) ∷ more) where
@@ -53,7 +54,8 @@ module _ {V : Type 0} (m : finite.FinMap bytes_cmp V) where
       where
         step : (q : List ℕ) (w : V) (b : Bool) → eq_by_cmp bytes_cmp q k ≡ b → Among ((k, v) ∷ more) (q, w) ⊎ Done q → Among more (q, w) ⊎ Then q
         step q w true t h = inr (subst Then (sym (tied_same q k t)) here)
-        step q w false t h = ⊎_elim (λ there. ⊎_elim (λ e. absurd (cc (t, same_tied q k (sym (ap (λ x. x.0) e))))) (λ later. inl later) there) (λ was. inr (apart q t was)) h
+        step q w false t h = ⊎_elim (λ there. ⊎_elim (λ e. absurd (cc (t, same_tied q k (sym (ap (λ x. x.0) e))))) (λ later. inl later) there)
+            (λ was. inr (apart q t was)) h
 
   -- at the end each key was visited
   pub visits_all : (rest : List (List ℕ × V)) (Done : List ℕ → Type 0) → Visits rest Done → rest ≡ [] → (q : List ℕ) (v : V) → finite.get m q ≡ Some v → Done q
@@ -66,9 +68,11 @@ module _ {V : Type 0} (m : finite.FinMap bytes_cmp V) where
   reached_at : (P : V → Type 0) (k : List ℕ) (v : V) → finite.get m k ≡ Some v → P v → Reached P k
   reached_at P k v at here w is = let same : v ≡ w = cc in subst P same here
 
-  pub reached_more : (P Q : V → Type 0) (rest more : List (List ℕ × V)) (k : List ℕ) (v : V) → Visits rest (Reached P) → rest ≡ (k, v) ∷ more → ((w : V) → P w → Q w) → Q v → Visits more (Reached Q)
+  pub reached_more : (P Q : V → Type 0) (rest more : List (List ℕ × V)) (k : List ℕ) (v : V) → Visits rest (Reached P) → rest ≡ (k, v) ∷ more
+      → ((w : V) → P w → Q w) → Q v → Visits more (Reached Q)
   reached_more P Q rest more k v before is on here =
-      visits_more rest more k v (Reached P) (Reached Q) before is (reached_at Q k v (visits_next rest more k v (Reached P) before is) here) (λ q apart was w at. on w (was w at))
+      visits_more rest more k v (Reached P) (Reached Q) before is (reached_at Q k v (visits_next rest more k v (Reached P) before is) here)
+      (λ q apart was w at. on w (was w at))
 
   pub reached_all : (P : V → Type 0) (rest : List (List ℕ × V)) → Visits rest (Reached P) → rest ≡ [] → (q : List ℕ) (v : V) → finite.get m q ≡ Some v → P v
   reached_all P rest all is q v at = visits_all rest (Reached P) all is q v at v at

@@ -49,7 +49,8 @@ module _ (plain : Bool) (bytes : List ℕ) where
       body_is : (d : OrMapValue) → SpellsBody plain bytes d → (◌≡◌ {A = ContextValue × OrMapStoreValue} (c, s) (d.1, d.0)) × (end ≡ [])
       body_is d h =
           let read = pair_begins context IsContext (store plain) (IsStoreOf plain) bytes c rest s end first second in
-          pair_unique context IsContext (store plain) (IsStoreOf plain) context_unique (store_unique plain) (c, s) (d.1, d.0) end [] read.fits (h.lawful.context, record { lawful = h.lawful.store; form = h.form })
+          pair_unique context IsContext (store plain) (IsStoreOf plain) context_unique (store_unique plain) (c, s) (d.1, d.0) end [] read.fits
+          (h.lawful.context, record { lawful = h.lawful.store; form = h.form })
           (sym read.parts ∙ h.spelling ∙ sym (append-nil (context d.1 ++ store plain d.0)))
 
       pub no_body_end : false ≡ eqb (length end) 0 → (d : OrMapValue) → SpellsBody plain bytes d → ⊥
@@ -66,7 +67,8 @@ no_rest : (xs : List ℕ) → true ≡ eqb (length xs) 0 → xs ≡ []
 no_rest [] e = refl
 no_rest (x ∷ xs) e = absurd (omega (arith, eqb-true (length (x ∷ xs)) 0 (sym e)))
 
-pub body_spelled : (plain : Bool) (bytes : List ℕ) (c : ContextValue) (rest : List ℕ) (s : OrMapStoreValue) (end : List ℕ) (made : OrMapValue) → Begins context IsContext bytes c rest → Begins (store plain) (IsStoreOf plain) rest s end
+pub body_spelled : (plain : Bool) (bytes : List ℕ) (c : ContextValue) (rest : List ℕ) (s : OrMapStoreValue) (end : List ℕ) (made : OrMapValue)
+    → Begins context IsContext bytes c rest → Begins (store plain) (IsStoreOf plain) rest s end
     → true ≡ eqb (length end) 0 → made ≡ (s, c) → (¬ IsInside (state_of or_map_at (s, c)) → true ≡ false) → SpellsBody plain bytes made
 body_spelled plain bytes c rest s end made first second e is inside =
     let read = pair_begins context IsContext (store plain) (IsStoreOf plain) bytes c rest s end first second in
@@ -78,8 +80,10 @@ body_spelled plain bytes c rest s end made first second e is inside =
     })
 
 -- the pair of what was read, or none where its store is outside its context
-pub delta_read : (plain : Bool) (bytes : List ℕ) (c : ContextValue) (rest : List ℕ) (s : OrMapStoreValue) (end : List ℕ) → Begins context IsContext bytes c rest → Begins (store plain) (IsStoreOf plain) rest s end → true ≡ eqb (length end) 0
-    → (made : Option OrMapValue) → IfSome made (λ d. d ≡ (s, c)) → IsNone made ↔ ¬ IsInside (state_of or_map_at (s, c)) → ReadsAll (λ d. d) (SpellsBody plain bytes) (ok_or made NotAMessage)
+pub delta_read : (plain : Bool) (bytes : List ℕ) (c : ContextValue) (rest : List ℕ) (s : OrMapStoreValue) (end : List ℕ) → Begins context IsContext bytes c rest
+    → Begins (store plain) (IsStoreOf plain) rest s end → true ≡ eqb (length end) 0
+    → (made : Option OrMapValue) → IfSome made (λ d. d ≡ (s, c)) → IsNone made ↔ ¬ IsInside (state_of or_map_at (s, c))
+    → ReadsAll (λ d. d) (SpellsBody plain bytes) (ok_or made NotAMessage)
 delta_read plain bytes c rest s end first second e (Some made) is outside = body_spelled plain bytes c rest s end made first second e is outside.1
 delta_read plain bytes c rest s end first second e None is outside = no_body_inside plain bytes c rest first s end second (outside.0 refl)
 
@@ -92,7 +96,8 @@ one_body plain bytes d e p q =
     ap (λ (x : ContextValue × OrMapStoreValue). (x.1, x.0)) same.0
 
 -- a context and a store behind the version and the kind
-pub delta_written : (plain : Bool) (head mid bytes : List ℕ) (d : OrMapValue) → head ≡ version_of plain ∷ 1 ∷ [] → Appends context IsContext head mid d.1 → Appends (store plain) IsStore mid bytes d.0
+pub delta_written : (plain : Bool) (head mid bytes : List ℕ) (d : OrMapValue) → head ≡ version_of plain ∷ 1 ∷ [] → Appends context IsContext head mid d.1
+    → Appends (store plain) IsStore mid bytes d.0
     → IsInside (state_of or_map_at d) → is_plain_form d.0 ≡ plain → SpellsDelta bytes d
 delta_written plain head mid bytes d is p q inside form = record {
   lawful = record { context = p.fits; store = q.fits; inside = inside };

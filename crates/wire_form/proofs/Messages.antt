@@ -2,7 +2,8 @@
 use Rattle.std.proofs.Common.{◌≡◌, ℕ, Bool, Option, true, false, List, [], ◌∷◌, ◌++◌, Result, Ok, Err, refl, sym, ap, subst, ◌∙◌, arith, eqb, eq-eqb}
 use Rattle.std.specs.Prelude.{MatchResult}
 use Rattle.dots.specs.declared.refusal.Refusal.{Refusal}
-use Rattle.dots.specs.declared.refusal.Refusal.TheVariants.{OutOfMemory, TooLong, ReadOnly, NumbersSpent, SessionsFull, NotAMessage, NoPlace, NameTaken, UnknownReplica, UnknownMessage, BadLine, Input, Output}
+use Rattle.dots.specs.declared.refusal.Refusal.TheVariants.{OutOfMemory, TooLong, ReadOnly, NumbersSpent, SessionsFull, NotAMessage, NoPlace, NameTaken}
+use Rattle.dots.specs.declared.refusal.Refusal.TheVariants.{UnknownReplica, UnknownMessage, BadLine, Input, Output}
 use Rattle.causal_context.specs.Context.{ContextValue}
 use Rattle.causal_join.specs.OrMap.{OrMapValue}
 use Rattle.wire_form.specs.Spelling.{IsWhole, Begins, HasNoSpelling}
@@ -11,7 +12,8 @@ use Rattle.wire_form.specs.Store.{is_plain_form, store}
 use Rattle.wire_form.specs.Session.{SessionValue, session, IsSession}
 use Rattle.wire_form.specs.Prefix.{prefix, IsPrefix}
 use Rattle.wire_form.specs.Sent.{SentValue, sent, IsSent}
-use Rattle.wire_form.specs.Message.{MessageValue, Delta, Hello, Opening, Ask, Page, Gone, version_of, opening, IsOpening, empty_spelling, IsNothing, SpellsBody, SpellsDelta, SpellsIn, Spells, SpellsNone}
+use Rattle.wire_form.specs.Message.{MessageValue, Delta, Hello, Opening, Ask, Page, Gone, version_of, opening, IsOpening, empty_spelling, IsNothing, SpellsBody}
+use Rattle.wire_form.specs.Message.{SpellsDelta, SpellsIn, Spells, SpellsNone}
 use Rattle.wire_form.specs.Reading.{RefusesReading, ReadsAll}
 use Rattle.wire_form.specs.Writing.{Appends}
 use Rattle.wire_form.proofs.Reading.{refuses_weaker}
@@ -68,7 +70,8 @@ module _ {V : Type 0} (k : ℕ) (spell : V → List ℕ) (Fits : V → Type 0) w
   abbrev pub SpellsNoneIn : List ℕ → Type 0
   SpellsNoneIn bytes = (s : SessionValue) (v : V) → SpellsIn k spell Fits bytes s v → ⊥
 
-  pub in_spelled : (bytes : List ℕ) (s : SessionValue) (rest : List ℕ) (v : V) → Begins session IsSession bytes s rest → IsWhole spell Fits rest v → SpellsIn k spell Fits (3 ∷ k ∷ bytes) s v
+  pub in_spelled : (bytes : List ℕ) (s : SessionValue) (rest : List ℕ) (v : V) → Begins session IsSession bytes s rest → IsWhole spell Fits rest v
+      → SpellsIn k spell Fits (3 ∷ k ∷ bytes) s v
   in_spelled bytes s rest v first h = record {
     asked = first.fits;
     fits = h.fits;
@@ -78,19 +81,22 @@ module _ {V : Type 0} (k : ℕ) (spell : V → List ℕ) (Fits : V → Type 0) w
   pub none_in_session : (bytes : List ℕ) → HasNoSpelling session IsSession bytes → SpellsNoneIn (3 ∷ k ∷ bytes)
   none_in_session bytes none s v h = none s (spell v) (record { fits = h.asked; parts = ap body_in h.spelling })
 
-  pub none_in_said : (bytes : List ℕ) (s : SessionValue) (rest : List ℕ) → Begins session IsSession bytes s rest → ((v : V) → IsWhole spell Fits rest v → ⊥) → SpellsNoneIn (3 ∷ k ∷ bytes)
+  pub none_in_said : (bytes : List ℕ) (s : SessionValue) (rest : List ℕ) → Begins session IsSession bytes s rest → ((v : V) → IsWhole spell Fits rest v → ⊥)
+      → SpellsNoneIn (3 ∷ k ∷ bytes)
   none_in_said bytes s rest first none t v h =
       let same = session_unique s t rest (spell v) first.fits h.asked (sym first.parts ∙ ap body_in h.spelling) in
       none v (record { fits = h.fits; spelling = same.1 })
 
-  one_in : IsOneWhole spell Fits → (bytes : List ℕ) (s t : SessionValue) (v w : V) → SpellsIn k spell Fits bytes s v → SpellsIn k spell Fits bytes t w → ◌≡◌ {A = SessionValue × V} (s, v) (t, w)
+  one_in : IsOneWhole spell Fits → (bytes : List ℕ) (s t : SessionValue) (v w : V) → SpellsIn k spell Fits bytes s v → SpellsIn k spell Fits bytes t w
+      → ◌≡◌ {A = SessionValue × V} (s, v) (t, w)
   one_in one bytes s t v w p q =
       let both = session_unique s t (spell v) (spell w) p.asked q.asked (ap body_in (sym p.spelling ∙ q.spelling)) in
       let said = one (spell v) v w (record { fits = p.fits; spelling = refl }) (record { fits = q.fits; spelling = both.1 }) in
       λ i. (both.0 i, said i)
 
   -- what was written behind the session
-  pub in_written : (head bytes : List ℕ) (s : SessionValue) (v : V) → Appends session IsSession (3 ∷ k ∷ []) head s → Appends spell Fits head bytes v → SpellsIn k spell Fits bytes s v
+  pub in_written : (head bytes : List ℕ) (s : SessionValue) (v : V) → Appends session IsSession (3 ∷ k ∷ []) head s → Appends spell Fits head bytes v
+      → SpellsIn k spell Fits bytes s v
   in_written head bytes s v p q = record { asked = p.fits; fits = q.fits; spelling = q.parts ∙ ap (λ (t : List ℕ). t ++ spell v) p.parts }
 
   -- and of another kind it is no message
@@ -98,7 +104,8 @@ module _ {V : Type 0} (k : ℕ) (spell : V → List ℕ) (Fits : V → Type 0) w
   other_kind l bytes s v differ h = two_kinds (3 ∷ l ∷ bytes) bytes (session s ++ spell v) 3 3 l k differ refl h.spelling
 
 not_delta : (l : ℕ) (bytes : List ℕ) (d : OrMapValue) → eqb l 1 ≡ false → SpellsDelta (3 ∷ l ∷ bytes) d → ⊥
-not_delta l bytes d differ h = two_kinds (3 ∷ l ∷ bytes) bytes (context d.1 ++ store (is_plain_form d.0) d.0) 3 (version_of (is_plain_form d.0)) l 1 differ refl h.spelling
+not_delta l bytes d differ h = two_kinds (3 ∷ l ∷ bytes) bytes (context d.1 ++ store (is_plain_form d.0) d.0) 3 (version_of (is_plain_form d.0))
+    l 1 differ refl h.spelling
 
 pub no_hello : (bytes : List ℕ) → SpellsNoneIn 3 context IsContext (3 ∷ 3 ∷ bytes) → SpellsNone (3 ∷ 3 ∷ bytes)
 no_hello bytes none (Delta d) h = not_delta 3 bytes d refl h
@@ -150,7 +157,8 @@ no_delta plain bytes rest e none (Page s p) h = two_kinds bytes rest (session s 
 no_delta plain bytes rest e none (Gone s) h = two_kinds bytes rest (session s ++ empty_spelling tt) (version_of plain) 3 1 7 refl e h.spelling
 
 -- and other kinds are none
-pub no_kind : (k : ℕ) (bytes : List ℕ) → eqb k 1 ≡ false → eqb k 3 ≡ false → eqb k 4 ≡ false → eqb k 5 ≡ false → eqb k 6 ≡ false → eqb k 7 ≡ false → SpellsNone (3 ∷ k ∷ bytes)
+pub no_kind : (k : ℕ) (bytes : List ℕ) → eqb k 1 ≡ false → eqb k 3 ≡ false → eqb k 4 ≡ false → eqb k 5 ≡ false → eqb k 6 ≡ false → eqb k 7 ≡ false
+    → SpellsNone (3 ∷ k ∷ bytes)
 no_kind k bytes a b c d e f (Delta x) h = not_delta k bytes x a h
 no_kind k bytes a b c d e f (Hello s x) h = other_kind 3 context IsContext k bytes s x b h
 no_kind k bytes a b c d e f (Opening s x y) h = other_kind 4 opening IsOpening k bytes s (x, y) c h
@@ -161,10 +169,12 @@ no_kind k bytes a b c d e f (Gone s) h = other_kind 7 empty_spelling IsNothing k
 -- ---- messages
 
 -- what reads a message from its bytes
-pub reads_message : {R : Type 0} (show : R → MessageValue) (bytes bytes' : List ℕ) (r : Result R Refusal) → bytes ≡ bytes' → ReadsAll show (Spells bytes') r → ReadsAll show (Spells bytes) r
+pub reads_message : {R : Type 0} (show : R → MessageValue) (bytes bytes' : List ℕ) (r : Result R Refusal) → bytes ≡ bytes' → ReadsAll show (Spells bytes') r
+    → ReadsAll show (Spells bytes) r
 reads_message show bytes bytes' r e h = subst (λ (b : List ℕ). ReadsAll show (Spells b) r) (sym e) h
 
-pub no_message_head : (bytes : List ℕ) → ((rest : List ℕ) → bytes ≡ 1 ∷ 1 ∷ rest → ⊥) → ((kind : ℕ) (rest : List ℕ) → bytes ≡ 3 ∷ kind ∷ rest → ⊥) → SpellsNone bytes
+pub no_message_head : (bytes : List ℕ) → ((rest : List ℕ) → bytes ≡ 1 ∷ 1 ∷ rest → ⊥) → ((kind : ℕ) (rest : List ℕ) → bytes ≡ 3 ∷ kind ∷ rest → ⊥)
+    → SpellsNone bytes
 no_message_head bytes first second (Delta d) h = by_form (is_plain_form d.0) (h.spelling)
   where
     by_form : (b : Bool) → bytes ≡ version_of b ∷ 1 ∷ context d.1 ++ store (is_plain_form d.0) d.0 → ⊥
@@ -177,13 +187,16 @@ no_message_head bytes first second (Page s p) h = second 6 (session s ++ sent p)
 no_message_head bytes first second (Gone s) h = second 7 (session s ++ empty_spelling tt) h.spelling
 
 -- a message that is not of the kind of another has other bytes
-no_two : {V W : Type 0} (k l : ℕ) (spell : V → List ℕ) (Fits : V → Type 0) (spell' : W → List ℕ) (Fits' : W → Type 0) (bytes : List ℕ) (s t : SessionValue) (v : V) (w : W) → eqb k l ≡ false
+no_two : {V W : Type 0} (k l : ℕ) (spell : V → List ℕ) (Fits : V → Type 0) (spell' : W → List ℕ) (Fits' : W → Type 0) (bytes : List ℕ) (s t : SessionValue)
+    (v : V) (w : W) → eqb k l ≡ false
     → SpellsIn k spell Fits bytes s v → SpellsIn l spell' Fits' bytes t w → ⊥
-no_two k l spell Fits spell' Fits' bytes s t v w differ p q = two_kinds bytes (session s ++ spell v) (session t ++ spell' w) 3 3 k l differ p.spelling q.spelling
+no_two k l spell Fits spell' Fits' bytes s t v w differ p q = two_kinds bytes (session s ++ spell v) (session t ++ spell' w)
+    3 3 k l differ p.spelling q.spelling
 
 delta_and : {V : Type 0} (k : ℕ) (spell : V → List ℕ) (Fits : V → Type 0) (bytes : List ℕ) (d : OrMapValue) (s : SessionValue) (v : V) → eqb k 1 ≡ false
     → SpellsDelta bytes d → SpellsIn k spell Fits bytes s v → ⊥
-delta_and k spell Fits bytes d s v differ p q = two_kinds bytes (session s ++ spell v) (context d.1 ++ store (is_plain_form d.0) d.0) 3 (version_of (is_plain_form d.0)) k 1 differ q.spelling p.spelling
+delta_and k spell Fits bytes d s v differ p q = two_kinds bytes (session s ++ spell v) (context d.1 ++ store (is_plain_form d.0) d.0) 3
+    (version_of (is_plain_form d.0)) k 1 differ q.spelling p.spelling
 
 -- bytes spell one message at most
 pub one_message : (bytes : List ℕ) (m n : MessageValue) → Spells bytes m → Spells bytes n → m ≡ n
@@ -265,7 +278,8 @@ only_refusal P Input h p = absurd h
 only_refusal P Output h p = absurd h
 
 -- what the bytes spell is what was read
-pub only_message : {R : Type 0} (show : R → MessageValue) (bytes : List ℕ) (r : Result R Refusal) → ReadsAll show (Spells bytes) r → (m : MessageValue) → Spells bytes m
+pub only_message : {R : Type 0} (show : R → MessageValue) (bytes : List ℕ) (r : Result R Refusal) → ReadsAll show (Spells bytes) r → (m : MessageValue)
+    → Spells bytes m
     → MatchResult r (λ x. show x ≡ m) (λ e. e ≡ OutOfMemory)
 only_message show bytes (Ok x) h m p = one_message bytes (show x) m h p
 only_message show bytes (Err e) h m p = only_refusal (Spells bytes m) e (weaken e h) p

@@ -11,13 +11,17 @@ use Rattle.wire_form.specs.Parts.{text, IsText, dot_bytes, IsDot}
 use Rattle.wire_form.specs.Page.{NamesValue, NamedValue, digest, IsDigest, names, AreNames, named, AreNamed}
 use Rattle.wire_form.specs.Writing.{Appends}
 
-pub names_appended : (old now : List ℕ) (ns made : NamesValue) → Appends (counted (pair dot_bytes digest)) (AreCounted (IsPair IsDot IsDigest)) old now made → made ≡ ns
+pub names_appended : (old now : List ℕ) (ns made : NamesValue) → Appends (counted (pair dot_bytes digest)) (AreCounted (IsPair IsDot IsDigest)) old now made
+    → made ≡ ns
     → IsStrictlySortedBy dot_cmp (keys_of made) → Appends names AreNames old now ns
-names_appended old now ns made p e s = subst (λ (m : NamesValue). Appends names AreNames old now m) e (record { fits = record { each = p.fits; ascend = s }; parts = p.parts })
+names_appended old now ns made p e s = subst (λ (m : NamesValue). Appends names AreNames old now m) e
+    (record { fits = record { each = p.fits; ascend = s }; parts = p.parts })
 
-pub named_appended : (old now : List ℕ) (fs made : NamedValue) → Appends (counted (pair text names)) (AreCounted (IsPair IsText AreNames)) old now made → made ≡ fs
+pub named_appended : (old now : List ℕ) (fs made : NamedValue) → Appends (counted (pair text names)) (AreCounted (IsPair IsText AreNames)) old now made
+    → made ≡ fs
     → IsStrictlySortedBy bytes_cmp (keys_of made) → Appends named AreNamed old now fs
-named_appended old now fs made p e s = subst (λ (m : NamedValue). Appends named AreNamed old now m) e (record { fits = record { each = p.fits; ascend = s }; parts = p.parts })
+named_appended old now fs made p e s = subst (λ (m : NamedValue). Appends named AreNamed old now m) e
+    (record { fits = record { each = p.fits; ascend = s }; parts = p.parts })
 
 -- ---- items behind one another, with no count
 
@@ -36,16 +40,19 @@ module _ {X : Type 0} (item : X → List ℕ) (Item : X → Type 0) where
     parts = q.parts ∙ ap (λ (t : List ℕ). t ++ item x) p.parts ∙ flat_map_more item old xs x;
   }
 
-  pub next_behind : (old now new : List ℕ) (xs : List X) (i : ℕ) (x : X) → Appends (flat_map item) (AllByRecursion Item) old now (take i xs) → i < length xs → x ≡ get_or xs i x → Appends item Item now new x
+  pub next_behind : (old now new : List ℕ) (xs : List X) (i : ℕ) (x : X) → Appends (flat_map item) (AllByRecursion Item) old now (take i xs) → i < length xs
+      → x ≡ get_or xs i x → Appends item Item now new x
       → Appends (flat_map item) (AllByRecursion Item) old new (take (i + 1) xs)
   next_behind old now new xs i x p h is q =
       let e : take (i + 1) xs ≡ take i xs ++ x ∷ [] = take_more xs i x h ∙ ap (λ (y : X). take i xs ++ y ∷ []) (sym is) in
       subst (Appends (flat_map item) (AllByRecursion Item) old new) (sym e) (one_behind old now new (take i xs) x p q)
 
-  pub all_behind : (old now : List ℕ) (xs : List X) (i : ℕ) → Appends (flat_map item) (AllByRecursion Item) old now (take i xs) → length xs ≤ i → Appends (flat_map item) (AllByRecursion Item) old now xs
+  pub all_behind : (old now : List ℕ) (xs : List X) (i : ℕ) → Appends (flat_map item) (AllByRecursion Item) old now (take i xs) → length xs ≤ i
+      → Appends (flat_map item) (AllByRecursion Item) old now xs
   all_behind old now xs i p h = subst (Appends (flat_map item) (AllByRecursion Item) old now) (take_all i xs h) p
 
-  pub next_read : (old now new : List ℕ) (xs : List X) (i : ℕ) (d : X) → Appends (flat_map item) (AllByRecursion Item) old now (take i xs) → i < length xs → Appends item Item now new (get_or xs i d)
+  pub next_read : (old now new : List ℕ) (xs : List X) (i : ℕ) (d : X) → Appends (flat_map item) (AllByRecursion Item) old now (take i xs) → i < length xs
+      → Appends item Item now new (get_or xs i d)
       → Appends (flat_map item) (AllByRecursion Item) old new (take (i + 1) xs)
   next_read old now new xs i d p h q =
       subst (Appends (flat_map item) (AllByRecursion Item) old new) (sym (take_more xs i d h)) (one_behind old now new (take i xs) (get_or xs i d) p q)

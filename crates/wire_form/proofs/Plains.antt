@@ -30,7 +30,8 @@ not_plain s i e h is f = by_test (is_plain_form s) refl
     by_test true t = let sole = sole_at s i e h is t in absurd (cc (sole, f))
 
 -- the first of a store, and one key more
-pub plain_more : (s : OrMapStoreValue) (i : ℕ) (e : List ℕ × FieldsValue) → is_plain_form (take i s) ≡ true → i < length s → e ≡ get_or s i e → is_sole e.1 ≡ true → is_plain_form (take (i + 1) s) ≡ true
+pub plain_more : (s : OrMapStoreValue) (i : ℕ) (e : List ℕ × FieldsValue) → is_plain_form (take i s) ≡ true → i < length s → e ≡ get_or s i e
+    → is_sole e.1 ≡ true → is_plain_form (take (i + 1) s) ≡ true
 plain_more s i e t h is here =
     let more : take (i + 1) s ≡ take i s ++ e ∷ [] = take_more s i e h ∙ ap (λ (y : List ℕ × FieldsValue). take i s ++ y ∷ []) (sym is) in
     ap is_plain_form more ∙ is_plain-append (take i s) (e ∷ []) ∙ ap (λ (b : Bool). b && (is_sole e.1 && true)) t ∙ ap (λ (b : Bool). b && true) here

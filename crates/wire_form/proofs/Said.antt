@@ -57,10 +57,12 @@ one_page (OneKey e) (OneKey f) a b h =
     ap OneKey (one_whole entry IsEntry entry_unique (entry e) e f (record { fits = a; spelling = refl }) (record { fits = b; spelling = rest }))
 one_page (Keys es) (Keys fs) a b h =
     let rest : flat_map entry es ≡ flat_map entry fs = cc in
-    ap Keys (one_list entry IsEntry entry_starts entry_unique (flat_map entry es) es fs (record { fits = a; spelling = refl }) (record { fits = b; spelling = rest }))
+    ap Keys (one_list entry IsEntry entry_starts entry_unique (flat_map entry es) es fs (record { fits = a; spelling = refl })
+    (record { fits = b; spelling = rest }))
 one_page (Branch cs) (Branch ds) a b h =
     let rest : flat_map child cs ≡ flat_map child ds = cc in
-    ap Branch (one_list child IsChild child_starts child_unique (flat_map child cs) cs ds (record { fits = a; spelling = refl }) (record { fits = b; spelling = rest }))
+    ap Branch (one_list child IsChild child_starts child_unique (flat_map child cs) cs ds (record { fits = a; spelling = refl })
+    (record { fits = b; spelling = rest }))
 one_page (OneKey e) (Keys fs) a b h = absurd (cc h)
 one_page (OneKey e) (Branch ds) a b h = absurd (cc h)
 one_page (Keys es) (OneKey f) a b h = absurd (cc h)

@@ -46,33 +46,42 @@ no_asker bytes none =
     let two = none_first number IsNumber number IsNumber bytes none in
     no_numbers bytes (none_first (pair number number) (IsPair IsNumber IsNumber) number IsNumber bytes two)
 
-pub no_answerer : (bytes : List ℕ) (asker : ℕ) (rest : List ℕ) → Begins number IsNumber bytes asker rest → HasNoSpelling number IsNumber rest → HasNoSpelling session IsSession bytes
+pub no_answerer : (bytes : List ℕ) (asker : ℕ) (rest : List ℕ) → Begins number IsNumber bytes asker rest → HasNoSpelling number IsNumber rest
+    → HasNoSpelling session IsSession bytes
 no_answerer bytes asker rest read none =
     let two = none_second number IsNumber number IsNumber number_unique bytes asker rest read none in
     no_numbers bytes (none_first (pair number number) (IsPair IsNumber IsNumber) number IsNumber bytes two)
 
-pub no_session_number : (bytes : List ℕ) (asker : ℕ) (rest : List ℕ) (answerer : ℕ) (after : List ℕ) → Begins number IsNumber bytes asker rest → Begins number IsNumber rest answerer after
+pub no_session_number : (bytes : List ℕ) (asker : ℕ) (rest : List ℕ) (answerer : ℕ) (after : List ℕ) → Begins number IsNumber bytes asker rest
+    → Begins number IsNumber rest answerer after
     → HasNoSpelling number IsNumber after → HasNoSpelling session IsSession bytes
 no_session_number bytes asker rest answerer after first second none =
     let two = pair_begins number IsNumber number IsNumber bytes asker rest answerer after first second in
     no_numbers bytes (none_second (pair number number) (IsPair IsNumber IsNumber) number IsNumber two_unique bytes (asker, answerer) after two none)
 
-numbers_begin : (bytes : List ℕ) (asker : ℕ) (rest : List ℕ) (answerer : ℕ) (after : List ℕ) (n : ℕ) (end : List ℕ) → Begins number IsNumber bytes asker rest → Begins number IsNumber rest answerer after
+numbers_begin : (bytes : List ℕ) (asker : ℕ) (rest : List ℕ) (answerer : ℕ) (after : List ℕ) (n : ℕ) (end : List ℕ) → Begins number IsNumber bytes asker rest
+    → Begins number IsNumber rest answerer after
     → Begins number IsNumber after n end → Begins numbers AreNumbers bytes ((asker, answerer), n) end
 numbers_begin bytes asker rest answerer after n end first second third =
     let two = pair_begins number IsNumber number IsNumber bytes asker rest answerer after first second in
     pair_begins (pair number number) (IsPair IsNumber IsNumber) number IsNumber bytes (asker, answerer) after n end two third
 
 -- what was read is a session, where each number is from 1
-pub session_begins : (bytes : List ℕ) (asker : ℕ) (rest : List ℕ) (answerer : ℕ) (after : List ℕ) (n : ℕ) (end : List ℕ) (s : SessionValue) → Begins number IsNumber bytes asker rest
-    → Begins number IsNumber rest answerer after → Begins number IsNumber after n end → (1 ≤ asker) × (1 ≤ answerer) × (1 ≤ n) → s ≡ record { asker = asker; answerer = answerer; number = n }
+pub session_begins : (bytes : List ℕ) (asker : ℕ) (rest : List ℕ) (answerer : ℕ) (after : List ℕ) (n : ℕ) (end : List ℕ) (s : SessionValue)
+    → Begins number IsNumber bytes asker rest
+    → Begins number IsNumber rest answerer after → Begins number IsNumber after n end → (1 ≤ asker) × (1 ≤ answerer) × (1 ≤ n)
+    → s ≡ record { asker = asker; answerer = answerer; number = n }
     → Begins session IsSession bytes s end
 session_begins bytes asker rest answerer after n end s first second third ones is =
     subst (λ (t : SessionValue). Begins session IsSession bytes t end) (sym is)
-    (record { fits = ((ones.0, first.fits), (ones.1, second.fits), (ones.2, third.fits)); parts = (numbers_begin bytes asker rest answerer after n end first second third).parts })
+    (record {
+      fits = ((ones.0, first.fits), (ones.1, second.fits), (ones.2, third.fits));
+      parts = (numbers_begin bytes asker rest answerer after n end first second third).parts;
+    })
 
 -- and none, where one is 0
-pub no_session : (bytes : List ℕ) (asker : ℕ) (rest : List ℕ) (answerer : ℕ) (after : List ℕ) (n : ℕ) (end : List ℕ) → Begins number IsNumber bytes asker rest → Begins number IsNumber rest answerer after
+pub no_session : (bytes : List ℕ) (asker : ℕ) (rest : List ℕ) (answerer : ℕ) (after : List ℕ) (n : ℕ) (end : List ℕ) → Begins number IsNumber bytes asker rest
+    → Begins number IsNumber rest answerer after
     → Begins number IsNumber after n end → ((1 ≤ asker) × (1 ≤ answerer) × (1 ≤ n) → false ≡ true) → HasNoSpelling session IsSession bytes
 unfolding numbers_of
 no_session bytes asker rest answerer after n end first second third bad s behind h =
@@ -81,10 +90,12 @@ no_session bytes asker rest answerer after n end first second third bad s behind
     absurd (cc (bad (subst (λ (x : Numbers). (1 ≤ x.0.0) × (1 ≤ x.0.1) × (1 ≤ x.1)) (sym same.0) (h.fits.0.0, h.fits.1.0, h.fits.2.0))))
 
 -- three numbers behind what was there
-pub session_appends : (old first second new : List ℕ) (s : SessionValue) → Appends number IsName old first s.asker → Appends number IsName first second s.answerer
+pub session_appends : (old first second new : List ℕ) (s : SessionValue) → Appends number IsName old first s.asker
+    → Appends number IsName first second s.answerer
     → Appends number IsNumber second new s.number → 1 ≤ s.number → Appends session IsSession old new s
 session_appends old first second new s p q r one = record {
   fits = (p.fits, q.fits, (one, r.fits));
-  parts = r.parts ∙ ap (λ (t : List ℕ). t ++ number s.number) (q.parts ∙ ap (λ (t : List ℕ). t ++ number s.answerer) p.parts ∙ append_assoc old (number s.asker) (number s.answerer))
+  parts = r.parts ∙ ap (λ (t : List ℕ). t ++ number s.number) (q.parts ∙ ap (λ (t : List ℕ). t ++ number s.answerer) p.parts
+      ∙ append_assoc old (number s.asker) (number s.answerer))
       ∙ append_assoc old (number s.asker ++ number s.answerer) (number s.number);
 }

@@ -19,12 +19,14 @@ SpellsNoOpening bytes = (o : ContextValue × Option (List ℕ)) → IsWhole open
 pub no_opening_context : (bytes : List ℕ) → HasNoSpelling context IsContext bytes → SpellsNoOpening bytes
 no_opening_context bytes none o h = none o.0 (root o.1) (record { fits = h.fits.0; parts = h.spelling })
 
-pub no_opening_root : (bytes : List ℕ) (c : ContextValue) (rest : List ℕ) → Begins context IsContext bytes c rest → ((r : Option (List ℕ)) → IsWhole root IsRoot rest r → ⊥) → SpellsNoOpening bytes
+pub no_opening_root : (bytes : List ℕ) (c : ContextValue) (rest : List ℕ) → Begins context IsContext bytes c rest
+    → ((r : Option (List ℕ)) → IsWhole root IsRoot rest r → ⊥) → SpellsNoOpening bytes
 no_opening_root bytes c rest read none o h =
     let same = context_unique c o.0 rest (root o.1) read.fits h.fits.0 (sym read.parts ∙ h.spelling) in
     none o.1 (record { fits = h.fits.1; spelling = same.1 })
 
-pub opening_whole : (bytes : List ℕ) (c : ContextValue) (rest : List ℕ) (r : Option (List ℕ)) → Begins context IsContext bytes c rest → IsWhole root IsRoot rest r → IsWhole opening IsOpening bytes (c, r)
+pub opening_whole : (bytes : List ℕ) (c : ContextValue) (rest : List ℕ) (r : Option (List ℕ)) → Begins context IsContext bytes c rest
+    → IsWhole root IsRoot rest r → IsWhole opening IsOpening bytes (c, r)
 opening_whole bytes c rest r read h = record { fits = (read.fits, h.fits); spelling = read.parts ∙ ap (λ (t : List ℕ). context c ++ t) h.spelling }
 
 -- ---- pages as they are sent, behind their prefix
@@ -48,7 +50,8 @@ module _ (p bytes : List ℕ) (lawful : IsPrefix p) where
     pub no_sent_page : ((page : PageValue) → IsWhole spelled ArePartsOf rest page → ⊥) → SpellsNoSent (prefix p ++ bytes)
     no_sent_page none s h = none s.page (record { fits = h.fits.parts; spelling = (behind_values s h).1 })
 
-    pub no_sent : (page : PageValue) → IsWhole spelled ArePartsOf rest page → (CanBeSent (record { prefix = p; values = vs; page = page }) → false ≡ true) → SpellsNoSent (prefix p ++ bytes)
+    pub no_sent : (page : PageValue) → IsWhole spelled ArePartsOf rest page → (CanBeSent (record { prefix = p; values = vs; page = page }) → false ≡ true)
+        → SpellsNoSent (prefix p ++ bytes)
     no_sent page whole bad s h =
         let values = behind_values s h in
         let same : page ≡ s.page = one_page page s.page whole.fits h.fits.parts (sym whole.spelling ∙ values.1) in

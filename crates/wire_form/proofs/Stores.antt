@@ -41,39 +41,50 @@ pub store_unique : (plain : Bool) → IsUnique (store plain) (IsStoreOf plain)
 store_unique true v w a b p q e = plain_unique v w a b (plain_items v p) (plain_items w q) e
 store_unique false v w a b p q e = full_unique v w a b p.lawful.each q.lawful.each e
 
-pub plain_store_begins : (bytes : List ℕ) (s made : OrMapStoreValue) (rest : List ℕ) → Begins (counted (pair text sole)) (AreCounted (IsPair IsText AreSole)) bytes s rest
+pub plain_store_begins : (bytes : List ℕ) (s made : OrMapStoreValue) (rest : List ℕ)
+    → Begins (counted (pair text sole)) (AreCounted (IsPair IsText AreSole)) bytes s rest
     → IsStrictlySortedBy bytes_cmp (keys_of s) → NoKeyIsEmpty fields_at s → made ≡ s → Begins (store true) (IsStoreOf true) bytes made rest
 plain_store_begins bytes s made rest read ascend filled is =
     let each = sole_each s read.fits.1 in
     subst (λ (m : OrMapStoreValue). Begins (store true) (IsStoreOf true) bytes m rest) (sym is)
     (record { fits = record { lawful = record { each = (read.fits.0, each.0); ascend = ascend; filled = filled }; form = each.1 }; parts = read.parts })
 
-pub no_plain_items : (bytes : List ℕ) → HasNoSpelling (counted (pair text sole)) (AreCounted (IsPair IsText AreSole)) bytes → HasNoSpelling (store true) (IsStoreOf true) bytes
+pub no_plain_items : (bytes : List ℕ) → HasNoSpelling (counted (pair text sole)) (AreCounted (IsPair IsText AreSole)) bytes
+    → HasNoSpelling (store true) (IsStoreOf true) bytes
 no_plain_items bytes none s rest h = none s rest (record { fits = plain_items s h.fits; parts = h.parts })
 
-pub no_plain_store : (bytes : List ℕ) (s : OrMapStoreValue) (rest : List ℕ) → Begins (counted (pair text sole)) (AreCounted (IsPair IsText AreSole)) bytes s rest
+pub no_plain_store : (bytes : List ℕ) (s : OrMapStoreValue) (rest : List ℕ)
+    → Begins (counted (pair text sole)) (AreCounted (IsPair IsText AreSole)) bytes s rest
     → (IsStrictlySortedBy bytes_cmp (keys_of s) × NoKeyIsEmpty fields_at s → false ≡ true) → HasNoSpelling (store true) (IsStoreOf true) bytes
 no_plain_store bytes s rest read bad =
     none_lawful (counted (pair text sole)) (AreCounted (IsPair IsText AreSole)) (IsStoreOf true) plain_unique plain_items bytes s rest read
     (λ h. absurd (cc (bad (h.lawful.ascend, h.lawful.filled))))
 
-pub full_store_begins : (bytes : List ℕ) (s made : OrMapStoreValue) (rest : List ℕ) → Begins (counted (pair text fields_bytes)) (AreCounted (IsPair IsText AreFields)) bytes s rest
-    → IsStrictlySortedBy bytes_cmp (keys_of s) → NoKeyIsEmpty fields_at s → made ≡ s → is_plain_form made ≡ false → Begins (store false) (IsStoreOf false) bytes made rest
+pub full_store_begins : (bytes : List ℕ) (s made : OrMapStoreValue) (rest : List ℕ)
+    → Begins (counted (pair text fields_bytes)) (AreCounted (IsPair IsText AreFields)) bytes s rest
+    → IsStrictlySortedBy bytes_cmp (keys_of s) → NoKeyIsEmpty fields_at s → made ≡ s → is_plain_form made ≡ false
+    → Begins (store false) (IsStoreOf false) bytes made rest
 full_store_begins bytes s made rest read ascend filled is form =
     subst (λ (m : OrMapStoreValue). Begins (store false) (IsStoreOf false) bytes m rest) (sym is)
-    (record { fits = record { lawful = record { each = read.fits; ascend = ascend; filled = filled }; form = ap is_plain_form (sym is) ∙ form }; parts = read.parts })
+    (record {
+      fits = record { lawful = record { each = read.fits; ascend = ascend; filled = filled }; form = ap is_plain_form (sym is) ∙ form };
+      parts = read.parts;
+    })
 
-pub no_full_items : (bytes : List ℕ) → HasNoSpelling (counted (pair text fields_bytes)) (AreCounted (IsPair IsText AreFields)) bytes → HasNoSpelling (store false) (IsStoreOf false) bytes
+pub no_full_items : (bytes : List ℕ) → HasNoSpelling (counted (pair text fields_bytes)) (AreCounted (IsPair IsText AreFields)) bytes
+    → HasNoSpelling (store false) (IsStoreOf false) bytes
 no_full_items bytes none s rest h = none s rest (record { fits = h.fits.lawful.each; parts = h.parts })
 
-pub no_full_store : (bytes : List ℕ) (s : OrMapStoreValue) (rest : List ℕ) → Begins (counted (pair text fields_bytes)) (AreCounted (IsPair IsText AreFields)) bytes s rest
+pub no_full_store : (bytes : List ℕ) (s : OrMapStoreValue) (rest : List ℕ)
+    → Begins (counted (pair text fields_bytes)) (AreCounted (IsPair IsText AreFields)) bytes s rest
     → (IsStrictlySortedBy bytes_cmp (keys_of s) × NoKeyIsEmpty fields_at s → false ≡ true) → HasNoSpelling (store false) (IsStoreOf false) bytes
 no_full_store bytes s rest read bad =
     none_lawful (counted (pair text fields_bytes)) (AreCounted (IsPair IsText AreFields)) (IsStoreOf false) full_unique (λ v h. h.lawful.each) bytes s rest read
     (λ h. absurd (cc (bad (h.lawful.ascend, h.lawful.filled))))
 
 -- a plain store is not spelled by its fields
-pub no_fields_of_plain : (bytes : List ℕ) (s made : OrMapStoreValue) (rest : List ℕ) → Begins (counted (pair text fields_bytes)) (AreCounted (IsPair IsText AreFields)) bytes s rest
+pub no_fields_of_plain : (bytes : List ℕ) (s made : OrMapStoreValue) (rest : List ℕ)
+    → Begins (counted (pair text fields_bytes)) (AreCounted (IsPair IsText AreFields)) bytes s rest
     → made ≡ s → is_plain_form made ≡ true → HasNoSpelling (store false) (IsStoreOf false) bytes
 no_fields_of_plain bytes s made rest read is plain =
     none_lawful (counted (pair text fields_bytes)) (AreCounted (IsPair IsText AreFields)) (IsStoreOf false) full_unique (λ v h. h.lawful.each) bytes s rest read

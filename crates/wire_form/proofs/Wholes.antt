@@ -22,7 +22,8 @@ module _ {V : Type 0} (spell : V → List ℕ) (Fits : V → Type 0) where
   pub one_whole : IsUnique spell Fits → IsOneWhole
   one_whole unique bytes v w p q = (unique v w [] [] p.fits q.fits (append-nil (spell v) ∙ sym p.spelling ∙ q.spelling ∙ sym (append-nil (spell w)))).0
 
-  pub none_whole_end : IsUnique spell Fits → (bytes : List ℕ) (v : V) (rest : List ℕ) → Begins spell Fits bytes v rest → false ≡ eqb (length rest) 0 → (w : V) → IsWhole spell Fits bytes w → ⊥
+  pub none_whole_end : IsUnique spell Fits → (bytes : List ℕ) (v : V) (rest : List ℕ) → Begins spell Fits bytes v rest → false ≡ eqb (length rest) 0 → (w : V)
+      → IsWhole spell Fits bytes w → ⊥
   none_whole_end unique bytes v rest read more w h =
       let same = unique v w rest [] read.fits h.fits (sym read.parts ∙ h.spelling ∙ sym (append-nil (spell w))) in
       let nothing : eqb (length rest) 0 ≡ true = ap (λ (r : List ℕ). eqb (length r) 0) same.1 in
@@ -42,12 +43,14 @@ module _ {X : Type 0} (item : X → List ℕ) (Item : X → Type 0) where
   pub items_none : (bytes : List ℕ) → Begins (flat_map item) (AllByRecursion Item) bytes [] bytes
   items_none bytes = record { fits = tt; parts = refl }
 
-  pub items_more : (bytes : List ℕ) (xs : List X) (rest : List ℕ) (x : X) (after : List ℕ) → Begins (flat_map item) (AllByRecursion Item) bytes xs rest → Begins item Item rest x after
+  pub items_more : (bytes : List ℕ) (xs : List X) (rest : List ℕ) (x : X) (after : List ℕ) → Begins (flat_map item) (AllByRecursion Item) bytes xs rest
+      → Begins item Item rest x after
       → Begins (flat_map item) (AllByRecursion Item) bytes (xs ++ x ∷ []) after
   items_more bytes xs rest x after read here = record {
     fits = all_push xs x read.fits here.fits;
     parts = read.parts ∙ ap (λ (t : List ℕ). flat_map item xs ++ t) here.parts ∙ sym (append_assoc (flat_map item xs) (item x) after)
-        ∙ ap (λ (t : List ℕ). (flat_map item xs ++ t) ++ after) (sym (append-nil (item x))) ∙ ap (λ (t : List ℕ). t ++ after) (sym (flat_map-append item xs (x ∷ [])));
+        ∙ ap (λ (t : List ℕ). (flat_map item xs ++ t) ++ after) (sym (append-nil (item x)))
+        ∙ ap (λ (t : List ℕ). t ++ after) (sym (flat_map-append item xs (x ∷ [])));
   }
 
   module _ (starts : HasBytes item Item) where
@@ -57,7 +60,8 @@ module _ {X : Type 0} (item : X → List ℕ) (Item : X → Type 0) where
 
     module _ (one : IsUnique item Item) where
       -- what stands behind some first items, up to the end, begins with an item or is empty
-      begins_behind : (xs ys : List X) (rest : List ℕ) → AllByRecursion Item xs → AllByRecursion Item ys → flat_map item xs ++ rest ≡ flat_map item ys → 0 < length rest
+      begins_behind : (xs ys : List X) (rest : List ℕ) → AllByRecursion Item xs → AllByRecursion Item ys → flat_map item xs ++ rest ≡ flat_map item ys
+          → 0 < length rest
           → (y : X) × (more : List ℕ) × Begins item Item rest y more
       begins_behind [] [] rest p q e more = absurd (omega (arith, ap length e))
       begins_behind [] (y ∷ ys) rest p q e more = (y, flat_map item ys, record { fits = q.0; parts = e })
@@ -67,7 +71,8 @@ module _ {X : Type 0} (item : X → List ℕ) (Item : X → Type 0) where
           let first = one x y (flat_map item xs ++ rest) (flat_map item ys) p.0 q.0 (sym (append_assoc (item x) (flat_map item xs) rest) ∙ e) in
           begins_behind xs ys rest p.1 q.1 first.1 more
 
-      pub none_items : (bytes : List ℕ) (xs : List X) (rest : List ℕ) → Begins (flat_map item) (AllByRecursion Item) bytes xs rest → 0 < length rest → HasNoSpelling item Item rest
+      pub none_items : (bytes : List ℕ) (xs : List X) (rest : List ℕ) → Begins (flat_map item) (AllByRecursion Item) bytes xs rest → 0 < length rest
+          → HasNoSpelling item Item rest
           → (ys : List X) → IsWhole (flat_map item) (AllByRecursion Item) bytes ys → ⊥
       none_items bytes xs rest read more none ys h =
           let b = begins_behind xs ys rest read.fits h.fits (sym read.parts ∙ h.spelling) more in

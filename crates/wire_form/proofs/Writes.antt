@@ -26,7 +26,8 @@ pair_appends first First second Second old mid new x y p q = record {
   parts = q.parts ∙ ap (λ (t : List ℕ). t ++ second y) p.parts ∙ append_assoc old (first x) (second y);
 }
 
-pub text_appends : (old mid new bytes : List ℕ) → length bytes ≤ MAX_LENGTH → mid ≡ old ++ to_be_bytes w16 (length bytes) → new ≡ mid ++ bytes → Appends text IsText old new bytes
+pub text_appends : (old mid new bytes : List ℕ) → length bytes ≤ MAX_LENGTH → mid ≡ old ++ to_be_bytes w16 (length bytes) → new ≡ mid ++ bytes
+    → Appends text IsText old new bytes
 unfolding text
 text_appends old mid new bytes fits first second = record {
   fits = fits;
@@ -47,63 +48,79 @@ module _ {X : Type 0} (item : X → List ℕ) (Item : X → Type 0) where
   all-push [] x p q = (q, tt)
   all-push (y ∷ ys) x p q = (p.0, all-push ys x p.1 q)
 
-  pub one_written : (old now new : List ℕ) (count : ℕ) (xs : List X) (x : X) → WritesSo old now count xs → Appends item Item now new x → WritesSo old new count (xs ++ x ∷ [])
+  pub one_written : (old now new : List ℕ) (count : ℕ) (xs : List X) (x : X) → WritesSo old now count xs → Appends item Item now new x
+      → WritesSo old new count (xs ++ x ∷ [])
   one_written old now new count xs x p q = record {
     each = all-push xs x p.each q.fits;
     count_fits = p.count_fits;
     parts = q.parts ∙ ap (λ (t : List ℕ). t ++ item x) p.parts ∙ append_assoc old (number count ++ flat_map item xs) (item x)
-        ∙ ap (λ (t : List ℕ). old ++ t) (append_assoc (number count) (flat_map item xs) (item x) ∙ ap (λ (t : List ℕ). number count ++ t) (ap (λ (t : List ℕ). flat_map item xs ++ t) (sym (append-nil (item x))) ∙ sym (flat_map-append item xs (x ∷ []))));
+        ∙ ap (λ (t : List ℕ). old ++ t) (append_assoc (number count) (flat_map item xs) (item x)
+        ∙ ap (λ (t : List ℕ). number count ++ t) (ap (λ (t : List ℕ). flat_map item xs ++ t) (sym (append-nil (item x)))
+        ∙ sym (flat_map-append item xs (x ∷ []))));
   }
 
-  pub all_written : (old now : List ℕ) (count : ℕ) (xs all : List X) → WritesSo old now count xs → xs ≡ all → count ≡ length all → Appends (counted item) (AreCounted Item) old now all
+  pub all_written : (old now : List ℕ) (count : ℕ) (xs all : List X) → WritesSo old now count xs → xs ≡ all → count ≡ length all
+      → Appends (counted item) (AreCounted Item) old now all
   all_written old now count xs all p e n = record {
     fits = (subst IsNumber n p.count_fits, subst (AllByRecursion Item) e p.each);
     parts = p.parts ∙ ap (λ (k : ℕ). old ++ (number k ++ flat_map item xs)) n ∙ ap (λ (ys : List X). old ++ (number (length all) ++ flat_map item ys)) e;
   }
 
   -- the first of a list, and one more
-  pub next_written : (old now new : List ℕ) (count : ℕ) (xs : List X) (i : ℕ) (x : X) → WritesSo old now count (take i xs) → i < length xs → x ≡ get_or xs i x → Appends item Item now new x
+  pub next_written : (old now new : List ℕ) (count : ℕ) (xs : List X) (i : ℕ) (x : X) → WritesSo old now count (take i xs) → i < length xs → x ≡ get_or xs i x
+      → Appends item Item now new x
       → WritesSo old new count (take (i + 1) xs)
   next_written old now new count xs i x p h is q =
       let e : take (i + 1) xs ≡ take i xs ++ x ∷ [] = take_more xs i x h ∙ ap (λ (y : X). take i xs ++ y ∷ []) (sym is) in
       subst (WritesSo old new count) (sym e) (one_written old now new count (take i xs) x p q)
 
-  pub list_written : (old now : List ℕ) (xs : List X) (i : ℕ) → WritesSo old now (length xs) (take i xs) → length xs ≤ i → Appends (counted item) (AreCounted Item) old now xs
+  pub list_written : (old now : List ℕ) (xs : List X) (i : ℕ) → WritesSo old now (length xs) (take i xs) → length xs ≤ i
+      → Appends (counted item) (AreCounted Item) old now xs
   list_written old now xs i p h = all_written old now (length xs) (take i xs) xs p (take_all i xs h) refl
 
 -- ---- values, fields, stores and contexts
 
-pub values_appended : (old now : List ℕ) (vs made : ValuesValue) → Appends (counted (pair dot_bytes text)) (AreCounted (IsPair IsDot IsText)) old now made → made ≡ vs
+pub values_appended : (old now : List ℕ) (vs made : ValuesValue) → Appends (counted (pair dot_bytes text)) (AreCounted (IsPair IsDot IsText)) old now made
+    → made ≡ vs
     → IsStrictlySortedBy dot_cmp (keys_of made) → Appends values_bytes AreValues old now vs
-values_appended old now vs made p e s = subst (λ (m : ValuesValue). Appends values_bytes AreValues old now m) e (record { fits = record { each = p.fits; ascend = s }; parts = p.parts })
+values_appended old now vs made p e s = subst (λ (m : ValuesValue). Appends values_bytes AreValues old now m) e
+    (record { fits = record { each = p.fits; ascend = s }; parts = p.parts })
 
-pub fields_appended : (old now : List ℕ) (fs made : FieldsValue) → Appends (counted (pair text values_bytes)) (AreCounted (IsPair IsText AreValues)) old now made → made ≡ fs
+pub fields_appended : (old now : List ℕ) (fs made : FieldsValue) → Appends (counted (pair text values_bytes)) (AreCounted (IsPair IsText AreValues))
+    old now made → made ≡ fs
     → IsStrictlySortedBy bytes_cmp (keys_of made) → NoKeyIsEmpty at_values made → Appends fields_bytes AreFields old now fs
 fields_appended old now fs made p e ascend filled =
-    subst (λ (m : FieldsValue). Appends fields_bytes AreFields old now m) e (record { fits = record { each = p.fits; ascend = ascend; filled = filled }; parts = p.parts })
+    subst (λ (m : FieldsValue). Appends fields_bytes AreFields old now m) e
+    (record { fits = record { each = p.fits; ascend = ascend; filled = filled }; parts = p.parts })
 
 -- the values of the empty field, where it is alone
-sole_lawful : (fs : FieldsValue) → fs ≡ alone (first_values fs) → AreValues (first_values fs) → IsStrictlySortedBy bytes_cmp (keys_of fs) → NoKeyIsEmpty at_values fs → AreFields fs
+sole_lawful : (fs : FieldsValue) → fs ≡ alone (first_values fs) → AreValues (first_values fs) → IsStrictlySortedBy bytes_cmp (keys_of fs)
+    → NoKeyIsEmpty at_values fs → AreFields fs
 sole_lawful fs is lawful ascend filled =
     let each = subst (AreCounted (IsPair IsText AreValues)) (sym is) (omega arith, ((omega arith, lawful), tt)) in
     record { each = each; ascend = ascend; filled = filled }
 
-pub sole_appended : (old now : List ℕ) (fs : FieldsValue) (vs : ValuesValue) → is_sole fs ≡ true → IsStrictlySortedBy bytes_cmp (keys_of fs) → NoKeyIsEmpty at_values fs → vs ≡ first_values fs
+pub sole_appended : (old now : List ℕ) (fs : FieldsValue) (vs : ValuesValue) → is_sole fs ≡ true → IsStrictlySortedBy bytes_cmp (keys_of fs)
+    → NoKeyIsEmpty at_values fs → vs ≡ first_values fs
     → Appends values_bytes AreValues old now vs → Appends sole AreSole old now fs
 sole_appended old now fs vs t ascend filled is p =
     let written = subst (λ (ws : ValuesValue). Appends values_bytes AreValues old now ws) is p in
     record { fits = record { lawful = sole_lawful fs (sole_is fs t) written.fits ascend filled; form = t }; parts = written.parts }
 
-pub full_store_appended : (old now : List ℕ) (s made : OrMapStoreValue) → Appends (counted (pair text fields_bytes)) (AreCounted (IsPair IsText AreFields)) old now made → made ≡ s
+pub full_store_appended : (old now : List ℕ) (s made : OrMapStoreValue)
+    → Appends (counted (pair text fields_bytes)) (AreCounted (IsPair IsText AreFields)) old now made → made ≡ s
     → IsStrictlySortedBy bytes_cmp (keys_of made) → NoKeyIsEmpty fields_at made → Appends (store false) IsStore old now s
 full_store_appended old now s made p e ascend filled =
-    subst (λ (m : OrMapStoreValue). Appends (store false) IsStore old now m) e (record { fits = record { each = p.fits; ascend = ascend; filled = filled }; parts = p.parts })
+    subst (λ (m : OrMapStoreValue). Appends (store false) IsStore old now m) e
+    (record { fits = record { each = p.fits; ascend = ascend; filled = filled }; parts = p.parts })
 
-pub plain_store_appended : (old now : List ℕ) (s made : OrMapStoreValue) → Appends (counted (pair text sole)) (AreCounted (IsPair IsText AreSole)) old now made → made ≡ s
+pub plain_store_appended : (old now : List ℕ) (s made : OrMapStoreValue)
+    → Appends (counted (pair text sole)) (AreCounted (IsPair IsText AreSole)) old now made → made ≡ s
     → IsStrictlySortedBy bytes_cmp (keys_of made) → NoKeyIsEmpty fields_at made → Appends (store true) IsStore old now s
 plain_store_appended old now s made p e ascend filled =
     let each : AreCounted (IsPair IsText AreFields) made = (p.fits.0, (sole_each made p.fits.1).0) in
-    subst (λ (m : OrMapStoreValue). Appends (store true) IsStore old now m) e (record { fits = record { each = each; ascend = ascend; filled = filled }; parts = p.parts })
+    subst (λ (m : OrMapStoreValue). Appends (store true) IsStore old now m) e
+    (record { fits = record { each = each; ascend = ascend; filled = filled }; parts = p.parts })
 
 pub context_appended : (old mid new : List ℕ) (c : ContextValue) → Appends (counted entry) (AreCounted IsEntry) old mid c.vector → IsCanonical c
     → Appends (counted dot_bytes) (AreCounted IsDot) mid new c.cloud → Appends context IsContext old new c

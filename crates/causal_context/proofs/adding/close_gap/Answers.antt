@@ -14,7 +14,8 @@ returns-clause-ok g c =
     let end = c.run_end-end.result in
     let raised : (q : ℕ) → known_up_to new q ≡ cond (eqb c.args.dot.name q) end (known_up_to old q) =
     λ q. known_up_to-insert old new c.name.result end q (c.in_ok-insert.ensures.updates q) ∙ ap (λ n. cond (eqb n q) end (known_up_to old q)) c.name.ensures in
-    known-raised (known_up_to old) (known_up_to new) (in_cloud c.args.cloud.now) (in_cloud c.take_run.new.cloud) c.args.dot end c.requires.next c.run_end-end.ensures raised c.take_run.ensures.run
+    known-raised (known_up_to old) (known_up_to new) (in_cloud c.args.cloud.now) (in_cloud c.take_run.new.cloud)
+    c.args.dot end c.requires.next c.run_end-end.ensures raised c.take_run.ensures.run
 
 pub returns-clause-canonical : goal.returns-clause-canonical
 returns-clause-canonical g c =
@@ -24,7 +25,8 @@ returns-clause-canonical g c =
     let raised : (q : ℕ) → known_up_to new q ≡ cond (eqb c.args.dot.name q) end (known_up_to old q) =
     λ q. known_up_to-insert old new c.name.result end q (c.in_ok-insert.ensures.updates q) ∙ ap (λ n. cond (eqb n q) end (known_up_to old q)) c.name.ensures in
     record {
-      names_ascend = subst (Ascends nat_cmp) (sym c.in_ok-insert.ensures.ok) (ascends_insert nat_cmp nat_cmp_total old c.name.result end c.requires.canonical.names_ascend);
+      names_ascend = subst (Ascends nat_cmp) (sym c.in_ok-insert.ensures.ok)
+          (ascends_insert nat_cmp nat_cmp_total old c.name.result end c.requires.canonical.names_ascend);
       dots_ascend = c.take_run.ensures.ordered;
       no_zero = HasNoZero-insert old new c.name.result end (omega arith) c.in_ok-insert.ensures.updates c.requires.canonical.no_zero;
       apart = apart-raised (known_up_to old) (known_up_to new) (in_cloud c.args.cloud.now) (in_cloud c.take_run.new.cloud) c.args.dot end c.requires.next

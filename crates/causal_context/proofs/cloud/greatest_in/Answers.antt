@@ -12,15 +12,18 @@ same a b false r e is f = let bad : true ≡ false = sym is ∙ f in absurd (cc 
 
 pub returns-in_default : goal.returns-in_default
 returns-in_default g c =
-    greatest_from_none c.args.cloud.now c.args.name 18446744073709551615 c.dot_at.result c.dot_at.ensures (λ d h. let b = c.requires d h in omega arith) (rw c.in_default.is at c.last_up_to.ensures.none)
+    greatest_from_none c.args.cloud.now c.args.name 18446744073709551615 c.dot_at.result c.dot_at.ensures (λ d h. let b = c.requires d h in omega arith)
+    (rw c.in_default.is at c.last_up_to.ensures.none)
 
 pub returns-then-ne : goal.returns-then-ne
 returns-then-ne g c =
-    greatest_from_other c.args.cloud.now c.args.name 18446744073709551615 c.dot_at.result c.dot_at.ensures (λ d h. let b = c.requires d h in omega arith) c.in-Some.dot.now c.in-Some.ensures.last
+    greatest_from_other c.args.cloud.now c.args.name 18446744073709551615 c.dot_at.result c.dot_at.ensures (λ d h. let b = c.requires d h in omega arith)
+    c.in-Some.dot.now c.in-Some.ensures.last
     (λ e. apart c.name.result c.args.name c.ne.result c.ne.ensures c.if-ne.true (c.name.ensures ∙ e))
 
 pub returns : goal.returns
 returns g c =
     subst (IsGreatest c.args.name (in_cloud c.args.cloud.now)) (sym c.number.ensures.value)
-    (greatest_from_last c.args.cloud.now c.args.name 18446744073709551615 c.dot_at.result c.dot_at.ensures (λ d h. let b = c.requires d h in omega arith) c.in-Some.dot.now c.in-Some.ensures.last
+    (greatest_from_last c.args.cloud.now c.args.name 18446744073709551615 c.dot_at.result c.dot_at.ensures (λ d h. let b = c.requires d h in omega arith)
+    c.in-Some.dot.now c.in-Some.ensures.last
     (sym c.name.ensures ∙ same c.name.result c.args.name (eqb c.name.result c.args.name) c.ne.result refl c.ne.ensures c.if-ne.false))

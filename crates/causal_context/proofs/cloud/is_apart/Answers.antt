@@ -12,8 +12,10 @@ loop-dot-preserved g c =
     let x = c.dot-item.result in
     let entries = c.args.vector.now in
     let known : c.known_up_to.result ≡ known_up_to entries x.name = c.known_up_to.ensures ∙ ap (known_up_to entries) c.name.ensures in
-    subst (λ seen. (d : DotValue) → IsTrue (in_cloud seen d) → (known_up_to entries d.name + 1 < d.number) × (d.number < 2 ^ 64)) (sym (take_next ds c.loop-dot.dot-index x c.loop-dot-test.true c.dot-item.is))
-    (every_more (λ d. (known_up_to entries d.name + 1 < d.number) × (d.number < 2 ^ 64)) (take c.loop-dot.dot-index ds) x c.loop-dot.invariant (omega (arith, known), omega arith))
+    subst (λ seen. (d : DotValue) → IsTrue (in_cloud seen d) → (known_up_to entries d.name + 1 < d.number) × (d.number < 2 ^ 64))
+    (sym (take_next ds c.loop-dot.dot-index x c.loop-dot-test.true c.dot-item.is))
+    (every_more (λ d. (known_up_to entries d.name + 1 < d.number) × (d.number < 2 ^ 64)) (take c.loop-dot.dot-index ds) x c.loop-dot.invariant
+    (omega (arith, known), omega arith))
 
 pub returns-then-number-known_up_to-clause-apart : goal.returns-then-number-known_up_to-clause-apart
 returns-then-number-known_up_to-clause-apart g c =

@@ -16,14 +16,17 @@ pub returns-then-number-known_up_to-clause-taken : goal.returns-then-number-know
 returns-then-number-known_up_to-clause-taken g c =
     let entry = known_up_to c.args.vector.now in
     let at = ap entry c.name.ensures in
-    known-taken entry (in_cloud c.args.cloud.now) (in_cloud c.remove_between.new.self) c.args.dot (omega (arith, at)) (dot_taken c.args.dot c.args.cloud.now c.remove_between.new.self c.remove_between.ensures)
+    known-taken entry (in_cloud c.args.cloud.now) (in_cloud c.remove_between.new.self) c.args.dot (omega (arith, at))
+    (dot_taken c.args.dot c.args.cloud.now c.remove_between.new.self c.remove_between.ensures)
 
 pub returns-then-number-known_up_to-clause-canonical : goal.returns-then-number-known_up_to-clause-canonical
 returns-then-number-known_up_to-clause-canonical g c =
-    let kept = kept_from_taken c.args.dot (in_cloud c.args.cloud.now) (in_cloud c.remove_between.new.self) (dot_taken c.args.dot c.args.cloud.now c.remove_between.new.self c.remove_between.ensures) in
+    let kept = kept_from_taken c.args.dot (in_cloud c.args.cloud.now) (in_cloud c.remove_between.new.self)
+    (dot_taken c.args.dot c.args.cloud.now c.remove_between.new.self c.remove_between.ensures) in
     record {
       names_ascend = c.requires.canonical.names_ascend;
-      dots_ascend = subst (IsStrictlySortedBy dot_cmp) (sym c.remove_between.ensures) (IsStrictlySortedBy-filter dot_cmp _ c.args.cloud.now c.requires.canonical.dots_ascend);
+      dots_ascend = subst (IsStrictlySortedBy dot_cmp) (sym c.remove_between.ensures)
+          (IsStrictlySortedBy-filter dot_cmp _ c.args.cloud.now c.requires.canonical.dots_ascend);
       no_zero = c.requires.canonical.no_zero;
       apart = λ d h. c.requires.canonical.apart d (kept d h);
       bounded = λ d h. c.requires.canonical.bounded d (kept d h);
@@ -33,7 +36,8 @@ pub returns-clause-taken : goal.returns-clause-taken
 returns-clause-taken g c =
     let entry = known_up_to c.args.vector.now in
     let at = ap entry c.name.ensures in
-    known-lowered entry (known_up_to c.lower.new.vector) (in_cloud c.args.cloud.now) c.args.dot (omega arith) (entry_from_last entry (in_cloud c.args.cloud.now) c.args.dot (omega (arith, at)) c.requires.last)
+    known-lowered entry (known_up_to c.lower.new.vector) (in_cloud c.args.cloud.now) c.args.dot (omega arith)
+    (entry_from_last entry (in_cloud c.args.cloud.now) c.args.dot (omega (arith, at)) c.requires.last)
     c.requires.canonical.apart c.lower.ensures.lowered
 
 pub returns-clause-canonical : goal.returns-clause-canonical
@@ -44,7 +48,8 @@ returns-clause-canonical g c =
       names_ascend = c.lower.ensures.ascend;
       dots_ascend = c.requires.canonical.dots_ascend;
       no_zero = c.lower.ensures.no_zero;
-      apart = apart-lowered entry (known_up_to c.lower.new.vector) (in_cloud c.args.cloud.now) c.args.dot (entry_from_last entry (in_cloud c.args.cloud.now) c.args.dot (omega (arith, at)) c.requires.last)
+      apart = apart-lowered entry (known_up_to c.lower.new.vector) (in_cloud c.args.cloud.now) c.args.dot
+          (entry_from_last entry (in_cloud c.args.cloud.now) c.args.dot (omega (arith, at)) c.requires.last)
           c.requires.canonical.apart c.lower.ensures.lowered;
       bounded = c.requires.canonical.bounded;
     }

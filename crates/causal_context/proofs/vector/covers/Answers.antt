@@ -10,7 +10,8 @@ pub returns-then-number-known_up_to : goal.returns-then-number-known_up_to
 returns-then-number-known_up_to g c =
     let es = c.entries-name-items.result.now in
     let e = c.loop-name-item.result in
-    let there = known_from_found es e.0 e.1 (item_found nat_cmp nat_cmp_total es c.loop-name.name-index e c.entries-name-items.ensures.ordered c.loop-name-test.true c.loop-name-item.is) in
+    let there = known_from_found es e.0 e.1 (item_found nat_cmp nat_cmp_total es c.loop-name.name-index e c.entries-name-items.ensures.ordered
+    c.loop-name-test.true c.loop-name-item.is) in
     let here : known_up_to c.args.other.now e.0 ≡ e.1 = ap (λ l. known_up_to l e.0) (sym c.entries-name-items.ensures.all) ∙ there in
     (λ h. absurd (cc h), λ all. let below = all e.0 in absurd (omega (arith, here)))
 
@@ -20,7 +21,8 @@ loop-name-preserved g c = λ q.
     let e = c.loop-name-item.result in
     let mine = known_up_to c.args.vector.now in
     subst (λ seen. known_up_to seen q ≤ mine q) (sym (take_next es c.loop-name.name-index e c.loop-name-test.true c.loop-name-item.is))
-    (known_up_to-push_le (take c.loop-name.name-index es) e q (mine q) (c.loop-name.invariant q) (λ (at : e.0 ≡ q). let same = ap mine at in omega (arith, same)))
+    (known_up_to-push_le (take c.loop-name.name-index es) e q (mine q) (c.loop-name.invariant q)
+    (λ (at : e.0 ≡ q). let same = ap mine at in omega (arith, same)))
 
 pub returns : goal.returns
 returns g c =

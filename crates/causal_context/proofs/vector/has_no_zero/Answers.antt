@@ -11,8 +11,12 @@ pub returns-then-number-eq0 : goal.returns-then-number-eq0
 returns-then-number-eq0 g c =
     let es = c.entries-number-items.result.now in
     let e = c.loop-number-item.result in
-    let there = item_found nat_cmp nat_cmp_total es c.loop-number.number-index e c.entries-number-items.ensures.ordered c.loop-number-test.true c.loop-number-item.is in
-    (λ h. absurd (cc h), λ none. absurd (none e.0 (ap (λ l. value_at nat_cmp l e.0) (sym c.entries-number-items.ensures.all) ∙ there ∙ ap Some c.if-number-eq0.true)))
+    let there = item_found nat_cmp nat_cmp_total es c.loop-number.number-index e c.entries-number-items.ensures.ordered c.loop-number-test.true
+    c.loop-number-item.is in (
+      λ h. absurd (cc h),
+      λ none. absurd (none e.0 (ap (λ l. value_at nat_cmp l e.0) (sym c.entries-number-items.ensures.all) ∙ there
+          ∙ ap Some c.if-number-eq0.true)),
+    )
 
 pub loop-number-preserved : goal.loop-number-preserved
 loop-number-preserved g c =

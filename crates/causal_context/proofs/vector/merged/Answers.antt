@@ -22,11 +22,14 @@ loop-name-preserved g c =
     let new = c.insert.new.self in
     let updates = c.in_ok-insert.ensures.updates in
     let turn = c.in-Some.ensures.turn in
-    let here = walked_here nat_cmp mine yours (λ (q : ℕ). value_at nat_cmp old q ≡ None) (λ (q : ℕ). IsMergedAt mine yours old q) c.loop-name.merge.0 c.loop-name.merge.1 c.next.new.self.0 c.next.new.self.1 key x y
+    let here = walked_here nat_cmp mine yours (λ (q : ℕ). value_at nat_cmp old q ≡ None) (λ (q : ℕ). IsMergedAt mine yours old q)
+    c.loop-name.merge.0 c.loop-name.merge.1 c.next.new.self.0 c.next.new.self.1 key x y
     c.loop-name.invariant.walked turn in
-    let found : value_at nat_cmp new key ≡ Some number = put_here nat_cmp key (Some number) (value_at nat_cmp old) (value_at nat_cmp new) updates nat_cmp_total here.2 in
+    let found : value_at nat_cmp new key ≡ Some number = put_here nat_cmp key (Some number) (value_at nat_cmp old) (value_at nat_cmp new)
+    updates nat_cmp_total here.2 in
     record {
-      walked = walked_more nat_cmp mine yours exact_unsigned (λ (q : ℕ). value_at nat_cmp old q ≡ None) (λ (q : ℕ). IsMergedAt mine yours old q) (λ (q : ℕ). value_at nat_cmp new q ≡ None) (λ (q : ℕ). IsMergedAt mine yours new q)
+      walked = walked_more nat_cmp mine yours exact_unsigned (λ (q : ℕ). value_at nat_cmp old q ≡ None) (λ (q : ℕ). IsMergedAt mine yours old q)
+          (λ (q : ℕ). value_at nat_cmp new q ≡ None) (λ (q : ℕ). IsMergedAt mine yours new q)
           c.loop-name.merge.0 c.loop-name.merge.1 c.next.new.self.0 c.next.new.self.1 key x y c.loop-name.invariant.walked turn
           (merged_here mine yours new key number x y here.0 here.1 turn.somewhere c.greater_of.ensures found c.requires.mine c.requires.yours)
           (λ q apart e. put_apart nat_cmp key (Some number) (value_at nat_cmp old) (value_at nat_cmp new) updates q apart ∙ e)
@@ -36,7 +39,8 @@ loop-name-preserved g c =
 
 at_end : (g : given.Over) (c : goal.In_default g) → (q : ℕ) → IsMergedAt c.args.mine.now c.args.yours.now c.loop-name.both q
 at_end g c q =
-    walked_all nat_cmp c.args.mine.now c.args.yours.now (λ (q : ℕ). value_at nat_cmp c.loop-name.both q ≡ None) (λ (q : ℕ). IsMergedAt c.args.mine.now c.args.yours.now c.loop-name.both q)
+    walked_all nat_cmp c.args.mine.now c.args.yours.now (λ (q : ℕ). value_at nat_cmp c.loop-name.both q ≡ None)
+    (λ (q : ℕ). IsMergedAt c.args.mine.now c.args.yours.now c.loop-name.both q)
     c.loop-name.merge c.loop-name.invariant.walked c.in_default.ensures.end q (merged_nowhere c.args.mine.now c.args.yours.now c.loop-name.both q)
 
 pub returns-clause-ok : goal.returns-clause-ok

@@ -30,7 +30,8 @@ loop-fields-preserved g c =
     let key = c.in-Some.field-0-0.now in
     let fields = c.in-Some.fields.now in
     let added = c.in_ok-gather_fields.ensures.ok in
-    let there = visits_next map c.loop-fields.fields-iterator c.next.new.self key fields (Reached map Had) c.loop-fields.invariant.0 c.in-Some.ensures.steps in (
+    let there = visits_next map c.loop-fields.fields-iterator c.next.new.self key fields (Reached map Had)
+    c.loop-fields.invariant.0 c.in-Some.ensures.steps in (
       reached_more map Had Has c.loop-fields.fields-iterator c.next.new.self key fields c.loop-fields.invariant.0 c.in-Some.ensures.steps
           (λ w was d h. (added d).1 (inl (was d h))) (λ d h. (added d).1 (inr h)),
       λ d h. ⊎_elim (λ was. c.loop-fields.invariant.1 d was) (λ held. anywhere_of pair key fields there d held) ((added d).0 h),
@@ -39,5 +40,6 @@ loop-fields-preserved g c =
 pub returns-clause-ok : goal.returns-clause-ok
 returns-clause-ok g c =
     cleared c.args.live.now.0 c.loop-fields.dots.keys c.loop-fields.invariant.1
-    (reached_all c.args.live.now.0.0.1 (λ (fields : FieldsValue). (d : DotValue) → HoldsDot (fields_at fields) d → IsTrue (is_among c.loop-fields.dots.keys d)) c.loop-fields.fields-iterator
+    (reached_all c.args.live.now.0.0.1 (λ (fields : FieldsValue). (d : DotValue) → HoldsDot (fields_at fields) d → IsTrue (is_among c.loop-fields.dots.keys d))
+    c.loop-fields.fields-iterator
     c.loop-fields.invariant.0 c.in-None.ensures.steps.0)

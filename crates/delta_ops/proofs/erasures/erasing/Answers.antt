@@ -7,5 +7,8 @@ unwrap-delta-requires g c = there_from c.from_parts.result c.from_parts.ensures.
 
 pub returns-clause-ok : goal.returns-clause-ok
 returns-clause-ok g c =
-    let made = rw c.unwrap-delta.ensures at c.from_parts.ensures.pair in
-    (rw made (erasure_state _ _ c.args.dots.now.keys c.empty.ensures c.in_ok-context.ensures.ok), apart c.args.dots.now.keys c.len-number.ensures.ordered, c.len-number.ensures.len)
+    let made = rw c.unwrap-delta.ensures at c.from_parts.ensures.pair in (
+      rw made (erasure_state _ _ c.args.dots.now.keys c.empty.ensures c.in_ok-context.ensures.ok),
+      apart c.args.dots.now.keys c.len-number.ensures.ordered,
+      c.len-number.ensures.len,
+    )

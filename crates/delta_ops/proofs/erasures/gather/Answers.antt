@@ -14,4 +14,5 @@ pub returns-clause-ok : goal.returns-clause-ok
 returns-clause-ok g c d =
     c.loop-dot.invariant d ∙ ap (λ b. is_among c.args.dots.now.keys d || b)
     (ap (λ entries. is_among (map (λ entry. entry.0) entries) d)
-    (take_all c.loop-dot.dot-index c.entries-dot-items.result.now c.loop-dot-test.false ∙ c.entries-dot-items.ensures.rest) ∙ has-at_values c.args.standing.now d)
+    (take_all c.loop-dot.dot-index c.entries-dot-items.result.now c.loop-dot-test.false ∙ c.entries-dot-items.ensures.rest)
+    ∙ has-at_values c.args.standing.now d)

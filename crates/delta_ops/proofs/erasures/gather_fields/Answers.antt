@@ -6,7 +6,8 @@ use Rattle.delta_ops.proofs.erasures.gather_fields.Goals as goal
 
 pub loop-standing-preserved : goal.loop-standing-preserved
 loop-standing-preserved g c =
-    adds_store_at c.args.dots.now.keys c.loop-standing.dots.keys c.gather.new.dots.keys c.entries-standing-items.result.now c.loop-standing.standing-index c.loop-standing-item.result
+    adds_store_at c.args.dots.now.keys c.loop-standing.dots.keys c.gather.new.dots.keys c.entries-standing-items.result.now c.loop-standing.standing-index
+    c.loop-standing-item.result
     c.loop-standing-test.true c.loop-standing-item.is c.loop-standing.invariant c.in_ok-gather.ensures.ok
 
 pub returns-clause-ok : goal.returns-clause-ok

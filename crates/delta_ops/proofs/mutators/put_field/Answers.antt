@@ -13,7 +13,8 @@ use Rattle.delta_ops.proofs.mutators.put_field.Goals as goal
 
 pub unwrap-requires : goal.unwrap-requires
 unwrap-requires g c =
-    let delta : IsDelta (as_or_map c.args.live.now.0) (place_of c.args.key.now c.args.field.now) c.args.value.now c.in_ok-dot.dot c.in-Ok.store c.add.new.self = record {
+    let delta : IsDelta (as_or_map c.args.live.now.0) (place_of c.args.key.now c.args.field.now)
+    c.args.value.now c.in_ok-dot.dot c.in-Ok.store c.add.new.self = record {
       held = c.in-Ok.ensures.ok;
       known = λ d. c.in_default.ensures.ok d ∙ ap (λ b. same_dot c.in_ok-dot.dot d || b) (c.in_ok-context.ensures.ok d);
     } in
@@ -22,7 +23,8 @@ unwrap-requires g c =
 pub returns-in-Ok-clause-ok : goal.returns-in-Ok-clause-ok
 returns-in-Ok-clause-ok g c =
     let live = as_or_map c.args.live.now.0 in
-    let delta : IsDelta (as_or_map c.args.live.now.0) (place_of c.args.key.now c.args.field.now) c.args.value.now c.in_ok-dot.dot c.in-Ok.store c.add.new.self = record {
+    let delta : IsDelta (as_or_map c.args.live.now.0) (place_of c.args.key.now c.args.field.now)
+    c.args.value.now c.in_ok-dot.dot c.in-Ok.store c.add.new.self = record {
       held = c.in-Ok.ensures.ok;
       known = λ d. c.in_default.ensures.ok d ∙ ap (λ b. same_dot c.in_ok-dot.dot d || b) (c.in_ok-context.ensures.ok d);
     } in
@@ -40,6 +42,7 @@ returns-in_err-dot-clause-spent g c =
     let refusal = c.in_err-dot.field-0.0 in
     let made : Err refusal ≡ Err NumbersSpent = c.in_err-dot.ensures.value ∙ ap (λ dot. ok_or dot NumbersSpent) c.in_err-dot.ensures.ok_part in
     let told = err_from_is_err_and c.from_residual.result c.from_residual.ensures.1 in (
-      λ is. subst (λ context. IsGreatest c.args.name (has context) 18446744073709551615) c.context.ensures.value (c.next.ensures.spent.0 (sym c.in_err-dot.ensures.variant)),
+      λ is. subst (λ context. IsGreatest c.args.name (has context) 18446744073709551615) c.context.ensures.value
+          (c.next.ensures.spent.0 (sym c.in_err-dot.ensures.variant)),
       λ most. rw (told.1, told.2) (cc made),
     )

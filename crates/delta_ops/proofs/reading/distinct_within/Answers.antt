@@ -9,7 +9,8 @@ returns-in-len1-clause-ok g c =
 
 pub returns-in-len1-clause-entries : goal.returns-in-len1-clause-entries
 returns-in-len1-clause-entries g c =
-    entries_if c.distinct.result c.args.fields.now c.index-fields-0.result (omega (arith, c.in-len1.len_at_least, c.in-len1.len_below)) c.distinct.ensures.entries
+    entries_if c.distinct.result c.args.fields.now c.index-fields-0.result (omega (arith, c.in-len1.len_at_least, c.in-len1.len_below))
+    c.distinct.ensures.entries
 
 pub returns-clause-ok : goal.returns-clause-ok
 returns-clause-ok g c = rw c.in_ok-listed.ensures (gathered_first _ _ _ c.new-found.ensures.empty c.in_ok-gather_fields.ensures.ok)

@@ -9,7 +9,8 @@ use Rattle.delta_ops.proofs.reading.fields.Goals as goal
 
 pub returns-in-Some-clause-ascending : goal.returns-in-Some-clause-ascending
 returns-in-Some-clause-ascending g c =
-    IfOk-weaker c.copied_keys.result _ _ (λ found is. subst IsAscending (sym is) (ascends-from_sorted (keys_of c.entries.result.now) c.entries.ensures.ordered)) c.copied_keys.ensures.ok
+    IfOk-weaker c.copied_keys.result _ _ (λ found is. subst IsAscending (sym is) (ascends-from_sorted (keys_of c.entries.result.now) c.entries.ensures.ordered))
+    c.copied_keys.ensures.ok
 
 pub returns-in-Some-clause-held : goal.returns-in-Some-clause-held
 returns-in-Some-clause-held g c =

@@ -8,7 +8,8 @@ use Rattle.delta_ops.proofs.reading.gather_fields.Goals as goal
 
 pub loop-standing-preserved : goal.loop-standing-preserved
 loop-standing-preserved g c = (
-  more_field_at c.args.found.now.keys c.loop-standing.found.keys c.gather_values.new.found.keys c.args.fields.now c.loop-standing.standing-index c.loop-standing-item.result
+  more_field_at c.args.found.now.keys c.loop-standing.found.keys c.gather_values.new.found.keys c.args.fields.now c.loop-standing.standing-index
+      c.loop-standing-item.result
       c.loop-standing-test.true c.loop-standing-item.is c.loop-standing.invariant.0 c.in_ok-gather_values.ensures.ok,
   all_more_at (λ field. AreEntries field.1) c.args.fields.now c.loop-standing.standing-index c.loop-standing-item.result
       c.loop-standing-test.true c.loop-standing-item.is c.loop-standing.invariant.1 c.in_ok-gather_values.ensures.entries,

@@ -32,9 +32,11 @@ loop-key-preserved g c =
     let is : new ≡ insert_key bytes_cmp old key = c.in_ok-insert.ensures.keys ∙ ap (insert_key bytes_cmp old) c.in_ok-copy.ensures.ok in
     let there = visits_next map c.loop-key.key-iterator c.next.new.self key fields (Contains old) c.loop-key.invariant.0 c.in-Some.ensures.steps in
     let filled = subst (NoStoreIsEmpty fields_at) (c.frozen.ensures.map) c.frozen.ensures.filled key fields there in (
-      visits_more map c.loop-key.key-iterator c.next.new.self key fields (Contains old) (Contains new) c.loop-key.invariant.0 c.in-Some.ensures.steps (more_has old new key is) (λ q apart was. more_keeps old new key is q was),
+      visits_more map c.loop-key.key-iterator c.next.new.self key fields (Contains old) (Contains new) c.loop-key.invariant.0 c.in-Some.ensures.steps
+          (more_has old new key is) (λ q apart was. more_keeps old new key is q was),
       more_ascend old new key is c.loop-key.invariant.1,
-      λ q h. ⊎_elim (λ (e : q ≡ key). subst (HoldsKey (store_state c.args.store.now)) (sym e) (key_holds (c.args.store.now, no_dots) key fields there filled)) (λ was. c.loop-key.invariant.2 q was) (more_only old new key is q h),
+      λ q h. ⊎_elim (λ (e : q ≡ key). subst (HoldsKey (store_state c.args.store.now)) (sym e) (key_holds (c.args.store.now, no_dots) key fields there filled))
+          (λ was. c.loop-key.invariant.2 q was) (more_only old new key is q h),
     )
 
 pub returns-clause-ascending : goal.returns-clause-ascending
@@ -45,5 +47,6 @@ returns-clause-held g c = λ key.
     subst (λ keys. Contains keys key ↔ HoldsKey (store_state c.args.store.now) key) (sym c.in_ok-listed.ensures) (
       c.loop-key.invariant.2 key,
       λ h. let there = holds_fields (c.args.store.now, no_dots) key h in
-          visits_all c.args.store.now.1 c.loop-key.key-iterator (Contains c.loop-key.found.keys) c.loop-key.invariant.0 c.in-None.ensures.steps.0 key there.0 there.1,
+          visits_all c.args.store.now.1 c.loop-key.key-iterator (Contains c.loop-key.found.keys)
+          c.loop-key.invariant.0 c.in-None.ensures.steps.0 key there.0 there.1,
     )

@@ -7,4 +7,5 @@ use Rattle.delta_ops.proofs.reading.keys.Given as goal
 
 abbrev pub invariant-loop-key : goal.invariant-loop-key
 invariant-loop-key g l =
-    Visits l.store.1 l.key-iterator (Contains l.found.keys) × IsAscending l.found.keys × ((q : List ℕ) → Contains l.found.keys q → HoldsKey (store_state l.store) q)
+    Visits l.store.1 l.key-iterator (Contains l.found.keys) × IsAscending l.found.keys
+    × ((q : List ℕ) → Contains l.found.keys q → HoldsKey (store_state l.store) q)

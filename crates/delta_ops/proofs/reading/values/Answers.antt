@@ -13,5 +13,6 @@ pub returns-in-Some-clause-held : goal.returns-in-Some-clause-held
 returns-in-Some-clause-held g c =
     let place = place_of c.args.key.now c.args.field.now in
     let standing = c.in-Some.standing.now in
-    held_if c.distinct.result (λ v. v.items) (values_of standing) (AreEntries standing) (Stands (live_state (c.args.store.now, no_dots)) place) c.distinct.ensures.ok c.distinct.ensures.entries
+    held_if c.distinct.result (λ v. v.items) (values_of standing) (AreEntries standing) (Stands (live_state (c.args.store.now, no_dots)) place)
+    c.distinct.ensures.ok c.distinct.ensures.entries
     (λ are found gathered value. gathered_stand (as_or_map (c.args.store.now, no_dots)) place standing found c.in-Some.ensures.held are gathered value)

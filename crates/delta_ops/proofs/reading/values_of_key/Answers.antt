@@ -11,6 +11,8 @@ returns-in-Some-clause-ascending g c = ascending_if c.distinct_within.result (λ
 pub returns-in-Some-clause-held : goal.returns-in-Some-clause-held
 returns-in-Some-clause-held g c =
     let fields = c.entries.result.now in
-    held_if c.distinct_within.result (λ v. v.items) (values_in fields) (All (λ field. AreEntries field.1) fields) (StandsWithin (live_state (c.args.store.now, no_dots)) c.args.key.now)
+    held_if c.distinct_within.result (λ v. v.items) (values_in fields) (All (λ field. AreEntries field.1) fields)
+    (StandsWithin (live_state (c.args.store.now, no_dots)) c.args.key.now)
     c.distinct_within.ensures.ok c.distinct_within.ensures.entries
-    (λ all found gathered value. gathered_within (as_or_map (c.args.store.now, no_dots)) c.args.key.now c.in-Some.fields.now fields found c.in-Some.ensures.held c.entries.ensures.held c.entries.ensures.only all gathered value)
+    (λ all found gathered value. gathered_within (as_or_map (c.args.store.now, no_dots))
+    c.args.key.now c.in-Some.fields.now fields found c.in-Some.ensures.held c.entries.ensures.held c.entries.ensures.only all gathered value)

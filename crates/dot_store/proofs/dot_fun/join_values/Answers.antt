@@ -21,12 +21,15 @@ loop-dot-preserved g c =
     let old = value_at dot_cmp c.loop-dot.kept in
     let new = value_at dot_cmp c.put_some.new.list in
     let wanted = joined_value (ord_max g.V.Ord.cmp) (value_at dot_cmp mine) (has c.args.own.now) (value_at dot_cmp yours) (has c.args.theirs.now) in
-    let here = walked_here dot_cmp mine yours (λ (q : DotValue). old q ≡ None) (λ (q : DotValue). old q ≡ wanted q) c.loop-dot.merge.0 c.loop-dot.merge.1 c.next.new.self.0 c.next.new.self.1 key x y
+    let here = walked_here dot_cmp mine yours (λ (q : DotValue). old q ≡ None) (λ (q : DotValue). old q ≡ wanted q)
+    c.loop-dot.merge.0 c.loop-dot.merge.1 c.next.new.self.0 c.next.new.self.1 key x y
     c.loop-dot.invariant c.in-Some.ensures.turn in
     let updates = c.in_ok-put_some.ensures.updates in
-    walked_more dot_cmp mine yours dot_exact (λ (q : DotValue). old q ≡ None) (λ (q : DotValue). old q ≡ wanted q) (λ (q : DotValue). new q ≡ None) (λ (q : DotValue). new q ≡ wanted q)
+    walked_more dot_cmp mine yours dot_exact (λ (q : DotValue). old q ≡ None) (λ (q : DotValue). old q ≡ wanted q) (λ (q : DotValue). new q ≡ None)
+    (λ (q : DotValue). new q ≡ wanted q)
     c.loop-dot.merge.0 c.loop-dot.merge.1 c.next.new.self.0 c.next.new.self.1 key x y c.loop-dot.invariant c.in-Some.ensures.turn
     (put_here dot_cmp key c.in_ok-value.value old new updates dot_cmp_total here.2 ∙ c.in_ok-value.ensures.ok
-    ∙ joined_along (ord_max g.V.Ord.cmp) x (value_at dot_cmp mine key) y (value_at dot_cmp yours key) (has c.args.own.now key) (has c.args.theirs.now key) (sym here.0) (sym here.1))
+    ∙ joined_along (ord_max g.V.Ord.cmp) x (value_at dot_cmp mine key) y (value_at dot_cmp yours key) (has c.args.own.now key) (has c.args.theirs.now key)
+    (sym here.0) (sym here.1))
     (λ q apart e. put_apart dot_cmp key c.in_ok-value.value old new updates q apart ∙ e)
     (λ q apart e. put_apart dot_cmp key c.in_ok-value.value old new updates q apart ∙ e)

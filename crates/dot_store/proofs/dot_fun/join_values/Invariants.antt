@@ -10,7 +10,8 @@ use Rattle.dot_store.proofs.dot_fun.join_values.Given as goal
 abbrev pub invariant-loop-dot : goal.invariant-loop-dot
 invariant-loop-dot g l =
     Walked dot_cmp l.mine l.yours (λ q. value_at dot_cmp l.kept q ≡ None)
-    (λ q. value_at dot_cmp l.kept q ≡ joined_value (ord_max g.V.Ord.cmp) (value_at dot_cmp l.mine) (has l.own) (value_at dot_cmp l.yours) (has l.theirs) q) l.merge.0 l.merge.1
+    (λ q. value_at dot_cmp l.kept q ≡ joined_value (ord_max g.V.Ord.cmp) (value_at dot_cmp l.mine) (has l.own) (value_at dot_cmp l.yours) (has l.theirs) q)
+    l.merge.0 l.merge.1
 
 abbrev pub decreases-loop-dot : goal.decreases-loop-dot
 decreases-loop-dot g l = length l.merge.0 + length l.merge.1

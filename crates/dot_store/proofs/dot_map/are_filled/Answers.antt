@@ -7,12 +7,14 @@ use Rattle.dot_store.proofs.dot_map.are_filled.Goals as goal
 pub returns-then-is_empty-clause-filled : goal.returns-then-is_empty-clause-filled
 returns-then-is_empty-clause-filled g c = (
   λ t. absurd (cc t),
-  λ filled. absurd (each_item (λ s. HasNothing (g.S.DotStore.at s) → ⊥) c.args.stores.now c.loop-store.store-index c.loop-store-item.result filled c.loop-store-test.true c.loop-store-item.is (c.if-is_empty.ensures.nothing.0 refl)),
+  λ filled. absurd (each_item (λ s. HasNothing (g.S.DotStore.at s) → ⊥) c.args.stores.now c.loop-store.store-index c.loop-store-item.result filled
+      c.loop-store-test.true c.loop-store-item.is (c.if-is_empty.ensures.nothing.0 refl)),
 )
 
 pub loop-store-preserved : goal.loop-store-preserved
 loop-store-preserved g c =
-    items_more (λ e. (HasNothing (g.S.DotStore.at e.1) → ⊥) × g.S.DotStore.canonical e.1) c.args.stores.now c.loop-store.store-index c.loop-store-item.result c.loop-store-test.true c.loop-store-item.is c.loop-store.invariant
+    items_more (λ e. (HasNothing (g.S.DotStore.at e.1) → ⊥) × g.S.DotStore.canonical e.1)
+    c.args.stores.now c.loop-store.store-index c.loop-store-item.result c.loop-store-test.true c.loop-store-item.is c.loop-store.invariant
     (λ h. absurd (cc (c.if-is_empty.ensures.nothing.1 h)), c.if-is_empty.ensures.canonical)
 
 pub returns-clause-filled : goal.returns-clause-filled
@@ -22,4 +24,5 @@ returns-clause-filled g c = (
 )
 
 pub returns-clause-canonical : goal.returns-clause-canonical
-returns-clause-canonical g c = λ _. each_all g.S.DotStore.canonical c.args.stores.now (λ k e below. (c.loop-store.invariant k e (omega (arith, below, c.loop-store-test.false))).1)
+returns-clause-canonical g c = λ _. each_all g.S.DotStore.canonical c.args.stores.now
+    (λ k e below. (c.loop-store.invariant k e (omega (arith, below, c.loop-store-test.false))).1)

@@ -13,7 +13,8 @@ prove-unreachable-requires g c =
     let at = g.S.DotStore.at in
     let es = c.entries-entries.result.now in
     let filled : NoKeyIsEmpty at es = subst (NoKeyIsEmpty at) (sym c.entries-entries.ensures.all) c.requires in
-    let there = no_empty_copy at es c.loop-key.key-index c.loop-key-item.result c.in_ok-copy.copy filled c.loop-key-test.true c.loop-key-item.is c.in_ok-copy.ensures.ok in
+    let there = no_empty_copy at es c.loop-key.key-index c.loop-key-item.result c.in_ok-copy.copy filled c.loop-key-test.true c.loop-key-item.is
+    c.in_ok-copy.ensures.ok in
     there (c.is_empty.ensures.nothing.0 c.if-prove.true)
 
 pub loop-key-preserved : goal.loop-key-preserved
@@ -31,15 +32,18 @@ loop-key-preserved g c =
     let there = no_empty_copy at es i e copy filled c.loop-key-test.true c.loop-key-item.is same in
     let taken = take_insert cmp g.met.K.Ord.total es i e c.entries-entries.ensures.ordered c.loop-key-test.true c.loop-key-item.is in (
       λ q place d.
-          ap (λ o. held_by at o place d) (c.in_ok-insert.ensures.updates q ∙ ap (λ k. cond (is_eq (cmp k q)) (Some copy) (value_at cmp c.loop-key.copies q)) c.in_ok-copy-2.ensures.ok)
+          ap (λ o. held_by at o place d) (c.in_ok-insert.ensures.updates q
+          ∙ ap (λ k. cond (is_eq (cmp k q)) (Some copy) (value_at cmp c.loop-key.copies q)) c.in_ok-copy-2.ensures.ok)
           ∙ copied_by at (is_eq (cmp e.0 q)) e.1 copy (value_at cmp c.loop-key.copies q) (value_at cmp (take i es) q) same (c.loop-key.invariant.0 q) place d
           ∙ sym (ap (λ o. held_by at o place d) (ap (λ l. value_at cmp l q) taken ∙ lookup-insert_entry cmp g.met.K.Ord.total (take i es) e.0 q e.1)),
       each_put (λ s. HasNothing (at s) → ⊥) cmp c.loop-key.copies c.insert.new.self key copy c.loop-key.invariant.1 there c.in_ok-insert.ensures.ok,
-      each_put g.S.DotStore.canonical cmp c.loop-key.copies c.insert.new.self key copy c.loop-key.invariant.2 c.is_empty.ensures.canonical c.in_ok-insert.ensures.ok,
+      each_put g.S.DotStore.canonical cmp c.loop-key.copies c.insert.new.self key copy c.loop-key.invariant.2 c.is_empty.ensures.canonical
+          c.in_ok-insert.ensures.ok,
     )
 
 pub returns-clause-ok : goal.returns-clause-ok
 unfolding at_stores
 returns-clause-ok g c = λ q place d.
     c.loop-key.invariant.0 q place d
-    ∙ ap (λ l. held_by g.S.DotStore.at (value_at g.K.Ord.cmp l q) place d) (take_all c.entries-entries.result.now c.loop-key.key-index c.loop-key-test.false ∙ c.entries-entries.ensures.all)
+    ∙ ap (λ l. held_by g.S.DotStore.at (value_at g.K.Ord.cmp l q) place d) (take_all c.entries-entries.result.now c.loop-key.key-index c.loop-key-test.false
+    ∙ c.entries-entries.ensures.all)

@@ -11,7 +11,8 @@ returns-clause-ok g c =
     let cmp = g.K.Ord.cmp in
     λ key.
     subst
-    (λ l. HoldsSame (held_by at (value_at cmp l key)) (joined_store at g.S.DotStore.greater (value_at cmp c.args.mine.now key) (has c.args.own.now) (value_at cmp c.args.yours.now key) (has c.args.theirs.now)))
+    (λ l. HoldsSame (held_by at (value_at cmp l key)) (joined_store at g.S.DotStore.greater (value_at cmp c.args.mine.now key) (has c.args.own.now)
+    (value_at cmp c.args.yours.now key) (has c.args.theirs.now)))
     (sym c.replace.ensures.after) (c.in_ok-both.ensures.ok key)
 
 pub returns-clause-filled : goal.returns-clause-filled

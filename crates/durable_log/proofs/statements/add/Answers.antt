@@ -12,7 +12,8 @@ returns-clause-acknowledged g c clean =
     let was : HasCleanDisk old = omega (arith, c.execute.ensures.survives.clean) in
     let ready : IsReady old = c.requires was in
     kept old new c.args.string.now ready.schema ready.autocommit
-    (λ db is_open may. g.met.S.Store.settled c.execute.new.self.store db is_open may) c.execute.result (rw c.params-to_sql.ensures at (c.execute.ensures.runs clean))
+    (λ db is_open may. g.met.S.Store.settled c.execute.new.self.store db is_open may) c.execute.result
+    (rw c.params-to_sql.ensures at (c.execute.ensures.runs clean))
 
 pub returns-clause-any_moment : goal.returns-clause-any_moment
 returns-clause-any_moment g c =

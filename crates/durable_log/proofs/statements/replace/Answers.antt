@@ -63,23 +63,29 @@ came g c =
     let one = state g.S.Store c.insert.new.conn in
     let two = state g.S.Store c.insert-2.new.conn in
     let came_one = came_first start (news g c) one x (in_a x y z) c.insert.ensures.any_moment (λ clean. (c.in_ok-a.ensures.acknowledged clean).gains) in
-    let came_two = came_next start (news g c) one two y (in_b x y z) came_one c.insert-2.ensures.any_moment (λ clean. (c.in_ok-b.ensures.acknowledged clean).gains) in
-    came_next start (news g c) two (state g.S.Store c.insert-3.new.conn) z (in_c x y z) came_two c.insert-3.ensures.any_moment (λ clean. (c.in_ok-c.ensures.acknowledged clean).gains)
+    let came_two = came_next start (news g c) one two y (in_b x y z) came_one c.insert-2.ensures.any_moment
+    (λ clean. (c.in_ok-b.ensures.acknowledged clean).gains) in
+    came_next start (news g c) two (state g.S.Store c.insert-3.new.conn) z (in_c x y z) came_two c.insert-3.ensures.any_moment
+    (λ clean. (c.in_ok-c.ensures.acknowledged clean).gains)
 
 stands : (g : given.Over) (c : goal.After-delete_others g) → HasCleanDisk (state g.S.Store c.insert-3.new.conn)
     → IsAt (state g.S.Store c.insert-3.new.conn).now.trees (to_z w64 (of_z w64 c.in_ok-a.a)) c.args.first.now
     × IsAt (state g.S.Store c.insert-3.new.conn).now.trees (to_z w64 (of_z w64 c.in_ok-b.b)) c.args.second.now
     × IsAt (state g.S.Store c.insert-3.new.conn).now.trees (to_z w64 (of_z w64 c.in_ok-c.c)) c.args.third.now
 stands g c =
-    three_places (state g.S.Store c.insert.new.conn) (state g.S.Store c.insert-2.new.conn) (state g.S.Store c.insert-3.new.conn) c.args.first.now c.args.second.now c.args.third.now
+    three_places (state g.S.Store c.insert.new.conn) (state g.S.Store c.insert-2.new.conn) (state g.S.Store c.insert-3.new.conn)
+    c.args.first.now c.args.second.now c.args.third.now
     c.in_ok-a.a c.in_ok-b.b c.in_ok-c.c (to_z w64 (of_z w64 c.in_ok-a.a)) (to_z w64 (of_z w64 c.in_ok-b.b)) (to_z w64 (of_z w64 c.in_ok-c.c))
     (search (rules, to_z-of_z)) (search (rules, to_z-of_z)) (search (rules, to_z-of_z)) (λ clean. omega (arith, c.insert-2.ensures.any_moment.clean))
-    (λ clean. omega (arith, c.insert-3.ensures.any_moment.clean)) (λ clean. (c.in_ok-a.ensures.placed clean).0) c.in_ok-b.ensures.placed c.in_ok-c.ensures.placed
+    (λ clean. omega (arith, c.insert-3.ensures.any_moment.clean)) (λ clean. (c.in_ok-a.ensures.placed clean).0)
+    c.in_ok-b.ensures.placed c.in_ok-c.ensures.placed
 
 pub returns-clause-any_moment : goal.returns-clause-any_moment
 returns-clause-any_moment g c =
-    last_of (state g.S.Store c.args.conn.now) (state g.S.Store c.insert-3.new.conn) (state g.S.Store c.delete_others.new.conn) c.args.first.now c.args.second.now c.args.third.now
-    (to_z w64 (of_z w64 c.in_ok-a.a)) (to_z w64 (of_z w64 c.in_ok-b.b)) (to_z w64 (of_z w64 c.in_ok-c.c)) (came g c).1 (stands g c) (came g c).0 c.delete_others.ensures.any_moment
+    last_of (state g.S.Store c.args.conn.now) (state g.S.Store c.insert-3.new.conn) (state g.S.Store c.delete_others.new.conn)
+    c.args.first.now c.args.second.now c.args.third.now
+    (to_z w64 (of_z w64 c.in_ok-a.a)) (to_z w64 (of_z w64 c.in_ok-b.b)) (to_z w64 (of_z w64 c.in_ok-c.c)) (came g c).1 (stands g c)
+    (came g c).0 c.delete_others.ensures.any_moment
 
 pub returns-clause-replaced : goal.returns-clause-replaced
 returns-clause-replaced g c clean =
@@ -87,6 +93,7 @@ returns-clause-replaced g c clean =
     let was : HasCleanDisk (state g.S.Store c.insert-3.new.conn) = omega (arith, c.delete_others.ensures.any_moment.clean) in
     let there = stands g c was in
     ok_both (IsReady last) c.delete_others.result
-    (λ leaves. replaced (state g.S.Store c.args.conn.now).now.trees (state g.S.Store c.insert-3.new.conn).now.trees last.now.trees c.args.first.now c.args.second.now c.args.third.now
+    (λ leaves. replaced (state g.S.Store c.args.conn.now).now.trees (state g.S.Store c.insert-3.new.conn).now.trees last.now.trees c.args.first.now
+    c.args.second.now c.args.third.now
     (to_z w64 (of_z w64 c.in_ok-a.a)) (to_z w64 (of_z w64 c.in_ok-b.b)) (to_z w64 (of_z w64 c.in_ok-c.c)) ((came g c).1 was) there.0 there.1 there.2 leaves)
     (c.delete_others.ensures.left clean)

@@ -18,4 +18,5 @@ enter-requires g c = (
 pub returns-in-Some-clause-first : goal.returns-in-Some-clause-first
 returns-in-Some-clause-first g c =
     let seven : length c.args.rest.now.levels ≡ 7 = search rules in
-    root_first c.args.rest.now.height c.args.rest.now.list.now c.args.rest.now.levels c.requires.past.0 seven c.requires.past.1 c.args.rest.now.root c.take.new.self c.in-Some.slot _ _ (sym c.in-Some.ensures.value) c.in-Some.ensures.after c.enter.ensures.first
+    root_first c.args.rest.now.height c.args.rest.now.list.now c.args.rest.now.levels c.requires.past.0 seven c.requires.past.1 c.args.rest.now.root
+    c.take.new.self c.in-Some.slot _ _ (sym c.in-Some.ensures.value) c.in-Some.ensures.after c.enter.ensures.first

@@ -9,7 +9,8 @@ returns-in-Some g c =
     let found = c.in-Some.ensures.lookup in
     record {
       within = λ t. ltb-true c.args.at (length c.args.entries.now) (sym found.0);
-      same = λ h d. key_at c.args.at (c.args.hash ∷ c.args.key.now) c.in-Some.entry.now c.is_at.result c.args.entries.now d h found.1 (c.is_at.ensures ∙ ap (λ e. eq_by_cmp bytes_cmp (c.args.hash ∷ c.args.key.now) (e.hash ∷ e.key)) c.deref.ensures);
+      same = λ h d. key_at c.args.at (c.args.hash ∷ c.args.key.now) c.in-Some.entry.now c.is_at.result c.args.entries.now d h found.1
+          (c.is_at.ensures ∙ ap (λ e. eq_by_cmp bytes_cmp (c.args.hash ∷ c.args.key.now) (e.hash ∷ e.key)) c.deref.ensures);
     }
 
 pub returns-in-None : goal.returns-in-None

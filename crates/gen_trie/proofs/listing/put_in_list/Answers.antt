@@ -19,12 +19,14 @@ returns-then-has_key_of-clause-ok g c =
     list_set c.rank_of-at.result c.args.leaf c.args.entries.now.items
     (c.rank_of-at.ensures ∙ ap (λ es. rank w (listed es)) c.deref.ensures.value)
     (subst (λ es. c.rank_of-at.result < length es) c.deref-2.ensures.value within)
-    (λ d. subst (λ es. true ≡ eq_by_cmp bytes_cmp w (get_or (listed es) c.rank_of-at.result d).0) c.deref-2.ensures.value (c.if-has_key_of.ensures.same within d))
+    (λ d. subst (λ es. true ≡ eq_by_cmp bytes_cmp w (get_or (listed es) c.rank_of-at.result d).0) c.deref-2.ensures.value
+    (c.if-has_key_of.ensures.same within d))
 
 pub insert-requires : goal.insert-requires
 insert-requires g c =
     let w = c.args.leaf.value.hash ∷ c.args.leaf.value.key in
-    let room = list_room c.rank_of-at.result c.args.leaf.value c.args.entries.now.items (c.rank_of-at.ensures ∙ ap (λ es. rank w (listed es)) c.deref.ensures.value) in
+    let room = list_room c.rank_of-at.result c.args.leaf.value c.args.entries.now.items
+    (c.rank_of-at.ensures ∙ ap (λ es. rank w (listed es)) c.deref.ensures.value) in
     let len = c.args.entries.now.ok.0 in
     omega arith
 

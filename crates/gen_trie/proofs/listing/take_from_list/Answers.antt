@@ -10,7 +10,8 @@ returns-then-at-len g c =
     let less = c.if-at-len.true in
     let len = c.len.ensures in
     let count = c.args.entries.now.ok.0 in
-    list_cut c.place_of-at.result w c.args.entries.now.items c.remove.new.self.items c.requires (c.place_of-at.ensures ∙ ap (λ es. spot w (listed es)) c.deref.ensures.value)
+    list_cut c.place_of-at.result w c.args.entries.now.items c.remove.new.self.items c.requires
+    (c.place_of-at.ensures ∙ ap (λ es. spot w (listed es)) c.deref.ensures.value)
     (omega arith) c.remove.ensures.items
 
 pub returns-else-at-len : goal.returns-else-at-len

@@ -10,15 +10,18 @@ overflow_add-bitmap g c =
 
 pub returns-clause-ok : goal.returns-clause-ok
 returns-clause-ok g c =
-    (put_new_is c.args.below c.args.bitmap.now _ _ _ _ c.args.leaf c.args.slots.now.items _ c.requires.branch c.requires.seat c.requires.free c.in_ok-insert.ensures.items).0
+    (put_new_is c.args.below c.args.bitmap.now _ _ _ _ c.args.leaf c.args.slots.now.items _ c.requires.branch c.requires.seat c.requires.free
+    c.in_ok-insert.ensures.items).0
 
 pub returns-clause-branch : goal.returns-clause-branch
 returns-clause-branch g c =
-    (put_new_is c.args.below c.args.bitmap.now _ _ _ _ c.args.leaf c.args.slots.now.items _ c.requires.branch c.requires.seat c.requires.free c.in_ok-insert.ensures.items).1
+    (put_new_is c.args.below c.args.bitmap.now _ _ _ _ c.args.leaf c.args.slots.now.items _ c.requires.branch c.requires.seat c.requires.free
+    c.in_ok-insert.ensures.items).1
 
 pub returns-clause-fresh : goal.returns-clause-fresh
 returns-clause-fresh g c =
-    (put_new_is c.args.below c.args.bitmap.now _ _ _ _ c.args.leaf c.args.slots.now.items _ c.requires.branch c.requires.seat c.requires.free c.in_ok-insert.ensures.items).2
+    (put_new_is c.args.below c.args.bitmap.now _ _ _ _ c.args.leaf c.args.slots.now.items _ c.requires.branch c.requires.seat c.requires.free
+    c.in_ok-insert.ensures.items).2
 
 pub returns-clause-stamps : goal.returns-clause-stamps
 returns-clause-stamps g c = λ generation all.

@@ -12,7 +12,8 @@ returns-in-None-clause-ok g c = sym (cut_missing (word 7 c.args.hash c.args.key.
 
 pub returns-clause-is_root : goal.returns-clause-is_root
 returns-clause-is_root g c =
-    IsRoot-cut c.args.root.now c.take_root.new.root c.args.count.now (word 7 c.args.hash c.args.key.now) c.requires.is_root (ap is_some (sym c.in-Some.ensures.value)) c.in_ok-take_root.ensures.ok c.in_ok-take_root.ensures.stands
+    IsRoot-cut c.args.root.now c.take_root.new.root c.args.count.now (word 7 c.args.hash c.args.key.now) c.requires.is_root
+    (ap is_some (sym c.in-Some.ensures.value)) c.in_ok-take_root.ensures.ok c.in_ok-take_root.ensures.stands
 
 pub returns-clause-value : goal.returns-clause-value
 returns-clause-value g c =

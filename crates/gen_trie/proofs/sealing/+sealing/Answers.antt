@@ -13,11 +13,13 @@ seal_below-seal_slots-requires g t c κs within =
 
 pub seal_slots-returns-in_err-seal_slot-clause-same : goal.seal_slots-returns-in_err-seal_slot-clause-same
 seal_slots-returns-in_err-seal_slot-clause-same g t c =
-    (one_sealed c.args.below c.loop-at.at c.index_mut.result.now c.seal_slot.new.slot c.args.slots.now.items c.loop-at.slots.items (c.loop-at.invariant.0, c.loop-at.invariant.1, c.loop-at.invariant.2) c.index_mut.ensures.value c.seal_slot.ensures.same c.seal_slot.ensures.fits).0
+    (one_sealed c.args.below c.loop-at.at c.index_mut.result.now c.seal_slot.new.slot c.args.slots.now.items c.loop-at.slots.items
+    (c.loop-at.invariant.0, c.loop-at.invariant.1, c.loop-at.invariant.2) c.index_mut.ensures.value c.seal_slot.ensures.same c.seal_slot.ensures.fits).0
 
 pub seal_slots-returns-in_err-seal_slot-clause-fits : goal.seal_slots-returns-in_err-seal_slot-clause-fits
 seal_slots-returns-in_err-seal_slot-clause-fits g t c =
-    (one_sealed c.args.below c.loop-at.at c.index_mut.result.now c.seal_slot.new.slot c.args.slots.now.items c.loop-at.slots.items (c.loop-at.invariant.0, c.loop-at.invariant.1, c.loop-at.invariant.2) c.index_mut.ensures.value c.seal_slot.ensures.same c.seal_slot.ensures.fits).1
+    (one_sealed c.args.below c.loop-at.at c.index_mut.result.now c.seal_slot.new.slot c.args.slots.now.items c.loop-at.slots.items
+    (c.loop-at.invariant.0, c.loop-at.invariant.1, c.loop-at.invariant.2) c.index_mut.ensures.value c.seal_slot.ensures.same c.seal_slot.ensures.fits).1
 
 pub seal_slots-returns-in_err-seal_slot-clause-stamps : goal.seal_slots-returns-in_err-seal_slot-clause-stamps
 seal_slots-returns-in_err-seal_slot-clause-stamps g t c =
@@ -34,7 +36,8 @@ seal_slots-returns-clause-fits g t c = c.loop-at.invariant.1
 
 pub seal_slots-loop-at-preserved : goal.seal_slots-loop-at-preserved
 seal_slots-loop-at-preserved g t c =
-    let kept = one_sealed c.args.below c.loop-at.at c.index_mut.result.now c.seal_slot.new.slot c.args.slots.now.items c.loop-at.slots.items (c.loop-at.invariant.0, c.loop-at.invariant.1, c.loop-at.invariant.2) c.index_mut.ensures.value c.seal_slot.ensures.same c.seal_slot.ensures.fits in (
+    let kept = one_sealed c.args.below c.loop-at.at c.index_mut.result.now c.seal_slot.new.slot c.args.slots.now.items c.loop-at.slots.items
+    (c.loop-at.invariant.0, c.loop-at.invariant.1, c.loop-at.invariant.2) c.index_mut.ensures.value c.seal_slot.ensures.same c.seal_slot.ensures.fits in (
       kept.0,
       kept.1,
       kept.2,

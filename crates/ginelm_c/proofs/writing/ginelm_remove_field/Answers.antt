@@ -7,5 +7,7 @@ use Rattle.ginelm_c.proofs.writing.ginelm_remove_field.Goals as goal
 
 pub returns-clause-done : goal.returns-clause-done
 returns-clause-done c zero x y was is =
-    given_back (λ v w. Makes v w (Do (RemoveField (place_of c.args.key.now c.args.field.now))) (Counted c.remove_field.new.observed)) c.deref_mut.result.now _ x y
-    (ap Some c.deref_mut.ensures.value ∙ (sym c.in-Some.ensures.held ∙ was)) (sym c.give.ensures.held ∙ is) (done_so c.remove_field.result _ (c.told-answer.ensures.zero zero) c.remove_field.ensures.ok)
+    given_back (λ v w. Makes v w (Do (RemoveField (place_of c.args.key.now c.args.field.now))) (Counted c.remove_field.new.observed))
+    c.deref_mut.result.now _ x y
+    (ap Some c.deref_mut.ensures.value ∙ (sym c.in-Some.ensures.held ∙ was)) (sym c.give.ensures.held ∙ is)
+    (done_so c.remove_field.result _ (c.told-answer.ensures.zero zero) c.remove_field.ensures.ok)

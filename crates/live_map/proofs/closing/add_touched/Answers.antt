@@ -20,4 +20,5 @@ loop-key-preserved g c =
 
 pub returns-clause-there : goal.returns-clause-there
 returns-clause-there g c = λ q h.
-    given_some (finite.get c.args.touched.now.map q) h (λ v is. visits_all c.args.touched.now.map c.loop-key.key-iterator (λ k. IsTrue (has_key c.loop-key.keys k)) c.loop-key.invariant c.in-None.ensures.steps.0 q v is)
+    given_some (finite.get c.args.touched.now.map q) h (λ v is. visits_all c.args.touched.now.map c.loop-key.key-iterator
+    (λ k. IsTrue (has_key c.loop-key.keys k)) c.loop-key.invariant c.in-None.ensures.steps.0 q v is)

@@ -10,8 +10,10 @@ pub loop-name-preserved : goal.loop-name-preserved
 loop-name-preserved g c =
     let e = c.loop-name-item.result in
     let kept = c.in_ok-find_above.ensures.kept in (
-      items_more (λ e. (d : DotValue) (q : List ℕ) → d.name ≡ e.0 → known_up_to c.args.seen.now.vector e.0 < d.number → d.number ≤ e.1 → IsTrue (names c.args.index.now d q) → IsTrue (has_key c.find_above.new.keys q)) c.args.vector.now
-          c.loop-name.name-index e c.loop-name-test.true c.loop-name-item.is (λ k other below d q same low high h. kept q (c.loop-name.invariant.0 k other below d q same low high h))
+      items_more (λ e. (d : DotValue) (q : List ℕ) → d.name ≡ e.0 → known_up_to c.args.seen.now.vector e.0 < d.number → d.number ≤ e.1
+          → IsTrue (names c.args.index.now d q) → IsTrue (has_key c.find_above.new.keys q)) c.args.vector.now
+          c.loop-name.name-index e c.loop-name-test.true c.loop-name-item.is
+          (λ k other below d q same low high h. kept q (c.loop-name.invariant.0 k other below d q same low high h))
           (λ d q same low high h. c.in_ok-find_above.ensures.there d q same (subst (λ n. n < d.number) (sym c.entry.ensures) low) high h),
       λ q h. kept q (c.loop-name.invariant.1 q h),
     )

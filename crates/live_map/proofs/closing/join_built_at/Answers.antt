@@ -15,7 +15,8 @@ use Rattle.live_map.proofs.closing.join_built_at.Goals as goal
 pub loop-key-init : goal.loop-key-init
 loop-key-init g c = (
   passes_none c.into_iter-key-iterator.result c.into_iter-key-iterator.result
-      (IsJoinedAt g.S.DotStore.at g.S.DotStore.greater (at_keys g.S.DotStore.at c.args.mine.now) (has c.args.own.now) (at_keys g.S.DotStore.at (stores_of c.args.built.now)) (has c.args.theirs.now) c.args.draft.now.1) refl,
+      (IsJoinedAt g.S.DotStore.at g.S.DotStore.greater (at_keys g.S.DotStore.at c.args.mine.now) (has c.args.own.now)
+      (at_keys g.S.DotStore.at (stores_of c.args.built.now)) (has c.args.theirs.now) c.args.draft.now.1) refl,
   λ q. inl (held_where g.S.DotStore.at c.args.draft.now c.args.mine.now q c.requires),
   refl,
 )
@@ -52,5 +53,7 @@ loop-key-preserved g c =
 pub returns-clause-there : goal.returns-clause-there
 returns-clause-there g c = λ q h.
     passes_all c.into_iter-key-iterator.result c.loop-key.key-iterator
-    (IsJoinedAt g.S.DotStore.at g.S.DotStore.greater (at_keys g.S.DotStore.at c.args.mine.now) (has c.args.own.now) (at_keys g.S.DotStore.at (stores_of c.args.built.now)) (has c.args.theirs.now) c.loop-key.draft.1)
-    c.loop-key.invariant.0 c.in-None.ensures.steps.0 q (subst (λ keys. Among keys q) (sym c.into_iter-key-iterator.ensures.into_iter_gives.0) (among_exact bytes_cmp exact_bytes c.args.keys.now.keys q h))
+    (IsJoinedAt g.S.DotStore.at g.S.DotStore.greater (at_keys g.S.DotStore.at c.args.mine.now) (has c.args.own.now)
+    (at_keys g.S.DotStore.at (stores_of c.args.built.now)) (has c.args.theirs.now) c.loop-key.draft.1)
+    c.loop-key.invariant.0 c.in-None.ensures.steps.0 q (subst (λ keys. Among keys q) (sym c.into_iter-key-iterator.ensures.into_iter_gives.0)
+    (among_exact bytes_cmp exact_bytes c.args.keys.now.keys q h))

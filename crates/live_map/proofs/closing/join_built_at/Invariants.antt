@@ -9,6 +9,8 @@ use Rattle.live_map.proofs.closing.join_built_at.Given as goal
 abbrev pub invariant-loop-key : goal.invariant-loop-key
 invariant-loop-key g l =
     Passes l.initial.key-iterator l.key-iterator
-    (IsJoinedAt g.S.DotStore.at g.S.DotStore.greater (at_keys g.S.DotStore.at l.mine) (has l.own) (at_keys g.S.DotStore.at (stores_of l.built)) (has l.theirs) l.draft.1)
-    × ((q : List ℕ) → IsEitherAt g.S.DotStore.at g.S.DotStore.greater (at_keys g.S.DotStore.at l.mine) (has l.own) (at_keys g.S.DotStore.at (stores_of l.built)) (has l.theirs) l.draft.1 q)
+    (IsJoinedAt g.S.DotStore.at g.S.DotStore.greater (at_keys g.S.DotStore.at l.mine) (has l.own) (at_keys g.S.DotStore.at (stores_of l.built))
+    (has l.theirs) l.draft.1)
+    × ((q : List ℕ) → IsEitherAt g.S.DotStore.at g.S.DotStore.greater (at_keys g.S.DotStore.at l.mine) (has l.own) (at_keys g.S.DotStore.at (stores_of l.built))
+    (has l.theirs) l.draft.1 q)
     × (l.draft.0 ≡ l.fn.draft.0)

@@ -15,15 +15,18 @@ use Rattle.live_map.proofs.closing.name_keys.Goals as goal
 pub loop-key-init : goal.loop-key-init
 loop-key-init g c = (
   passes_none c.into_iter-key-iterator.result c.into_iter-key-iterator.result
-      (λ q. (place : _) (d : DotValue) → IsSome (at_keys g.S.DotStore.at (stores_of c.args.built.now) (q, place) d) → has c.args.known.now d ≡ false → IsTrue (names c.args.index.now d q)) refl,
+      (λ q. (place : _) (d : DotValue) → IsSome (at_keys g.S.DotStore.at (stores_of c.args.built.now) (q, place) d) → has c.args.known.now d ≡ false
+      → IsTrue (names c.args.index.now d q)) refl,
   λ d q h. h,
 )
 
 pub loop-key-preserved : goal.loop-key-preserved
 loop-key-preserved g c = (
   passes_more c.into_iter-key-iterator.result c.loop-key.key-iterator c.next.new.self c.in-Some.key.now
-      (λ q. (place : _) (d : DotValue) → IsSome (at_keys g.S.DotStore.at (stores_of c.args.built.now) (q, place) d) → has c.args.known.now d ≡ false → IsTrue (names c.loop-key.index d q))
-      (λ q. (place : _) (d : DotValue) → IsSome (at_keys g.S.DotStore.at (stores_of c.args.built.now) (q, place) d) → has c.args.known.now d ≡ false → IsTrue (names c.name_key.new.index d q))
+      (λ q. (place : _) (d : DotValue) → IsSome (at_keys g.S.DotStore.at (stores_of c.args.built.now) (q, place) d) → has c.args.known.now d ≡ false
+      → IsTrue (names c.loop-key.index d q))
+      (λ q. (place : _) (d : DotValue) → IsSome (at_keys g.S.DotStore.at (stores_of c.args.built.now) (q, place) d) → has c.args.known.now d ≡ false
+      → IsTrue (names c.name_key.new.index d q))
       c.loop-key.invariant.0 c.in-Some.ensures.steps
       c.in_ok-name_key.ensures.there
       (λ q was place d h fresh. c.in_ok-name_key.ensures.kept d q (was place d h fresh)),
@@ -33,5 +36,7 @@ loop-key-preserved g c = (
 pub returns-clause-there : goal.returns-clause-there
 returns-clause-there g c = λ q h.
     passes_all c.into_iter-key-iterator.result c.loop-key.key-iterator
-    (λ q. (place : _) (d : DotValue) → IsSome (at_keys g.S.DotStore.at (stores_of c.args.built.now) (q, place) d) → has c.args.known.now d ≡ false → IsTrue (names c.loop-key.index d q))
-    c.loop-key.invariant.0 c.in-None.ensures.steps.0 q (subst (λ keys. Among keys q) (sym c.into_iter-key-iterator.ensures.into_iter_gives.0) (among_exact bytes_cmp exact_bytes c.args.keys.now.keys q h))
+    (λ q. (place : _) (d : DotValue) → IsSome (at_keys g.S.DotStore.at (stores_of c.args.built.now) (q, place) d) → has c.args.known.now d ≡ false
+    → IsTrue (names c.loop-key.index d q))
+    c.loop-key.invariant.0 c.in-None.ensures.steps.0 q (subst (λ keys. Among keys q) (sym c.into_iter-key-iterator.ensures.into_iter_gives.0)
+    (among_exact bytes_cmp exact_bytes c.args.keys.now.keys q h))

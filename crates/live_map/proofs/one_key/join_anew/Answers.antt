@@ -11,7 +11,8 @@ returns-clause-ok g c =
     let at = g.S.DotStore.at in
     let yours = at_stores at bytes_cmp c.args.delta.now.0 in
     on_ok_weaker c.write_knowing.result
-    (λ written. made_written at g.S.DotStore.greater c.args.store.now (has c.args.context.now) yours (has c.args.delta.now.1) c.args.touched.now c.args.key.now c.requires.all c.requires.only c.write_knowing.new.store _ c.in_ok-made.ensures.ok written)
+    (λ written. made_written at g.S.DotStore.greater c.args.store.now (has c.args.context.now) yours (has c.args.delta.now.1)
+    c.args.touched.now c.args.key.now c.requires.all c.requires.only c.write_knowing.new.store _ c.in_ok-made.ensures.ok written)
     c.write_knowing.ensures.ok
 
 pub returns-clause-known : goal.returns-clause-known

@@ -15,12 +15,14 @@ returns-clause-ok g c =
     let key = c.args.key.now in
     let y = c.unwrap_or-yours.result.now in
     let holds : (place : _) (d : _) → at_stores at bytes_cmp c.args.delta.now.0 (key, place) d ≡ at y place d = λ place d.
-    ap (λ stores. at_stores at bytes_cmp stores (key, place) d) (sym c.store.ensures.value) ∙ c.get.ensures.held place d ∙ held_either at c.get.result _ c.empty-empty.ensures place d
+    ap (λ stores. at_stores at bytes_cmp stores (key, place) d) (sym c.store.ensures.value) ∙ c.get.ensures.held place d
+    ∙ held_either at c.get.result _ c.empty-empty.ensures place d
     ∙ ap (λ (b : Bor g.row.S.Denot). at b.now place d) (sym c.unwrap_or-yours.ensures) in
     IfOk-weaker c.joined_at.result _ _
     (λ made is. record {
       store = y;
       holds = holds;
-      joins = subst (λ context. IsJoinHere at g.S.DotStore.greater (finite.get c.args.mine.now.1 key) (has c.args.own.now) y (has context) made) c.context.ensures.value is;
+      joins = subst (λ context. IsJoinHere at g.S.DotStore.greater (finite.get c.args.mine.now.1 key) (has c.args.own.now) y (has context) made)
+          c.context.ensures.value is;
     })
     c.joined_at.ensures.ok

@@ -16,6 +16,7 @@ loop-dot-preserved g c =
           let here : IsGone at (dot, w.in_ok-copy.field-0) = subst (λ key. IsGone at (dot, key)) (sym w.in_ok-copy.ensures.ok)
           (λ place. not_standing _ _ (sym c.contains.ensures ∙ w.if-not-contains.true) (c.requires.standing place dot)) in
           subst (λ gone. All (IsGone at) gone.items) (sym w.gone-is)
-          (subst (All (IsGone at)) (sym w.in_ok-push.ensures.items) (All-push (IsGone at) c.loop-dot.gone.items (dot, w.in_ok-copy.field-0) c.loop-dot.invariant here))
+          (subst (All (IsGone at)) (sym w.in_ok-push.ensures.items)
+          (All-push (IsGone at) c.loop-dot.gone.items (dot, w.in_ok-copy.field-0) c.loop-dot.invariant here))
       | else-not-contains w ↦ subst (λ gone. All (IsGone at) gone.items) (sym w.gone-is) c.loop-dot.invariant
     ]

@@ -6,5 +6,6 @@ use Rattle.live_map.proofs.touching.add_vector.Given as goal
 
 abbrev pub invariant-loop-name : goal.invariant-loop-name
 invariant-loop-name g l =
-    ((k : ℕ) (e : _) → k < l.name-index → (d : DotValue) (q : List ℕ) → d.name ≡ (get_or l.vector k e).0 → 1 ≤ d.number → d.number ≤ (get_or l.vector k e).1 → IsTrue (names l.index d q) → IsTrue (has_key l.touched q))
+    ((k : ℕ) (e : _) → k < l.name-index → (d : DotValue) (q : List ℕ) → d.name ≡ (get_or l.vector k e).0 → 1 ≤ d.number → d.number ≤ (get_or l.vector k e).1
+    → IsTrue (names l.index d q) → IsTrue (has_key l.touched q))
     × ((q : List ℕ) → IsTrue (has_key l.fn.touched q) → IsTrue (has_key l.touched q))

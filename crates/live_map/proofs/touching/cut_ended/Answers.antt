@@ -12,6 +12,7 @@ loop-place-preserved g c =
     elim c.if-is_ended.branch [
       | then-is_ended w ↦
           let gone : IsGone (at c.args.store.now) place = c.requires.gone place (c.is_ended.ensures w.if-is_ended.true) in
-          subst (IsIndexed (at c.args.store.now)) (sym w.index-is) (indexed_cut (at c.args.store.now) c.loop-place.index w.remove.new.self place w.remove.ensures gone c.loop-place.invariant)
+          subst (IsIndexed (at c.args.store.now)) (sym w.index-is)
+          (indexed_cut (at c.args.store.now) c.loop-place.index w.remove.new.self place w.remove.ensures gone c.loop-place.invariant)
       | else-is_ended w ↦ subst (IsIndexed (at c.args.store.now)) (sym w.index-is) c.loop-place.invariant
     ]

@@ -14,7 +14,8 @@ returns g c = λ t.
     let key = c.args.key.now in
     let y = c.unwrap_or-store.result.now in
     let holds : (place : _) (d : _) → at_stores at bytes_cmp c.args.delta.now.0 (key, place) d ≡ at y place d = λ place d.
-    ap (λ stores. at_stores at bytes_cmp stores (key, place) d) (sym c.store.ensures.value) ∙ c.get.ensures.held place d ∙ held_either at c.get.result _ c.empty-empty.ensures place d
+    ap (λ stores. at_stores at bytes_cmp stores (key, place) d) (sym c.store.ensures.value) ∙ c.get.ensures.held place d
+    ∙ held_either at c.get.result _ c.empty-empty.ensures place d
     ∙ ap (λ (b : Bor g.row.S.Denot). at b.now place d) (sym c.unwrap_or-store.ensures) in (
       ap (λ x. has x c.args.dot) (sym c.context.ensures.value) ∙ sym c.contains.ensures ∙ c.if-not-contains.false,
       λ place. holds place c.args.dot ∙ c.contains-2.ensures.absent (not_true c.contains-2.result t) place,

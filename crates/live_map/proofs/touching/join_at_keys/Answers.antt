@@ -16,7 +16,8 @@ use Rattle.live_map.proofs.touching.join_at_keys.Goals as goal
 pub loop-key-init : goal.loop-key-init
 loop-key-init g c = (
   passes_none c.into_iter-key-iterator.result c.into_iter-key-iterator.result
-      (IsJoinedAt g.S.DotStore.at g.S.DotStore.greater (at_keys g.S.DotStore.at c.args.mine.now) (has c.args.own.now) (at_stores g.S.DotStore.at bytes_cmp c.args.delta.now.0) (has c.args.delta.now.1) c.args.draft.now.1) refl,
+      (IsJoinedAt g.S.DotStore.at g.S.DotStore.greater (at_keys g.S.DotStore.at c.args.mine.now) (has c.args.own.now)
+      (at_stores g.S.DotStore.at bytes_cmp c.args.delta.now.0) (has c.args.delta.now.1) c.args.draft.now.1) refl,
   λ q. inl (held_where g.S.DotStore.at c.args.draft.now c.args.mine.now q c.requires),
   refl,
 )
@@ -40,7 +41,8 @@ loop-key-preserved g c =
     subst (λ (b : Bor g.row.S.Denot). (place : _) (d : _) → mine (key, place) d ≡ at b.now place d) (sym c.unwrap_or-store.ensures)
     (holds_either at c.args.mine.now key c.get.result _ c.get.ensures.store c.empty-empty.ensures) in
     let yours_holds : (place : _) (d : _) → yours (key, place) d ≡ at y place d = λ place d.
-    ap (λ stores. at_stores at bytes_cmp stores (key, place) d) (sym c.store.ensures.value) ∙ c.get-in-loop-key.ensures.held place d ∙ held_either at c.get-in-loop-key.result _ c.empty-empty.ensures place d
+    ap (λ stores. at_stores at bytes_cmp stores (key, place) d) (sym c.store.ensures.value) ∙ c.get-in-loop-key.ensures.held place d
+    ∙ held_either at c.get-in-loop-key.result _ c.empty-empty.ensures place d
     ∙ ap (λ (b : Bor g.row.S.Denot). at b.now place d) (sym c.unwrap_or-other.ensures) in
     let step = subst (λ context. JoinsAt at greater old new key x own y (has context)) c.context.ensures.value c.in_ok-join_at.ensures.ok in (
       passes_more c.into_iter-key-iterator.result c.loop-key.key-iterator c.next.new.self key Was Is c.loop-key.invariant.0 c.in-Some.ensures.steps
@@ -53,5 +55,7 @@ loop-key-preserved g c =
 pub returns-clause-there : goal.returns-clause-there
 returns-clause-there g c = λ q h.
     passes_all c.into_iter-key-iterator.result c.loop-key.key-iterator
-    (IsJoinedAt g.S.DotStore.at g.S.DotStore.greater (at_keys g.S.DotStore.at c.args.mine.now) (has c.args.own.now) (at_stores g.S.DotStore.at bytes_cmp c.args.delta.now.0) (has c.args.delta.now.1) c.loop-key.draft.1)
-    c.loop-key.invariant.0 c.in-None.ensures.steps.0 q (subst (λ keys. Among keys q) (sym c.into_iter-key-iterator.ensures.into_iter_gives.0) (among_exact bytes_cmp exact_bytes c.args.keys.now.keys q h))
+    (IsJoinedAt g.S.DotStore.at g.S.DotStore.greater (at_keys g.S.DotStore.at c.args.mine.now) (has c.args.own.now)
+    (at_stores g.S.DotStore.at bytes_cmp c.args.delta.now.0) (has c.args.delta.now.1) c.loop-key.draft.1)
+    c.loop-key.invariant.0 c.in-None.ensures.steps.0 q (subst (λ keys. Among keys q) (sym c.into_iter-key-iterator.ensures.into_iter_gives.0)
+    (among_exact bytes_cmp exact_bytes c.args.keys.now.keys q h))

@@ -10,6 +10,8 @@ use Rattle.live_map.proofs.touching.join_at_keys.Given as goal
 abbrev pub invariant-loop-key : goal.invariant-loop-key
 invariant-loop-key g l =
     Passes l.initial.key-iterator l.key-iterator
-    (IsJoinedAt g.S.DotStore.at g.S.DotStore.greater (at_keys g.S.DotStore.at l.mine) (has l.own) (at_stores g.S.DotStore.at bytes_cmp l.delta.0) (has l.delta.1) l.draft.1)
-    × ((q : List ℕ) → IsEitherAt g.S.DotStore.at g.S.DotStore.greater (at_keys g.S.DotStore.at l.mine) (has l.own) (at_stores g.S.DotStore.at bytes_cmp l.delta.0) (has l.delta.1) l.draft.1 q)
+    (IsJoinedAt g.S.DotStore.at g.S.DotStore.greater (at_keys g.S.DotStore.at l.mine) (has l.own) (at_stores g.S.DotStore.at bytes_cmp l.delta.0)
+    (has l.delta.1) l.draft.1)
+    × ((q : List ℕ) → IsEitherAt g.S.DotStore.at g.S.DotStore.greater (at_keys g.S.DotStore.at l.mine) (has l.own)
+    (at_stores g.S.DotStore.at bytes_cmp l.delta.0) (has l.delta.1) l.draft.1 q)
     × (l.draft.0 ≡ l.fn.draft.0)

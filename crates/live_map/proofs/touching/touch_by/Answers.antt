@@ -23,7 +23,8 @@ returns-clause-ok g c =
     (λ there. record {
       held = λ q place d h.
           let found = c.entries.ensures.only q place d (subst (λ stores. IsSome (at_stores at bytes_cmp stores (q, place) d)) (sym c.store.ensures.value) h) in
-          let held = All-contains (λ (e : _ × _). IsTrue (has_key c.add_keys.new.touched e.0)) c.entries.result.now (q, found.0) c.in_ok-add_keys.ensures.there found.1 in
+          let held = All-contains (λ (e : _ × _). IsTrue (has_key c.add_keys.new.touched e.0)) c.entries.result.now (q, found.0)
+          c.in_ok-add_keys.ensures.there found.1 in
           c.add_cloud.ensures.kept q (c.in_ok-add_vector.ensures.kept q held);
       named = λ d q named mine known.
           by_known d (IsTrue (has_key keys q)) vector cloud

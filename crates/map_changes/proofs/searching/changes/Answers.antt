@@ -12,8 +12,11 @@ loop-preserved g c =
         | inl before ↦ c.loop.invariant.1 key before same
         | inr differs ↦ differs same
       ],
-      λ h no_clash. here.covers h no_clash (subst (Covers (g.H.PathHash.hash_of c.args.older.now.hash) c.args.older.now.map c.args.newer.now.map c.loop.found.keys) (sym c.as_slice.ensures.value) (c.loop.invariant.2 h no_clash)),
-      subst (λ d. AreLong d c.in_ok-level-2.level.items) (omega arith) (here.long c.loop.counter (subst (AreLong c.loop.counter) (sym c.as_slice.ensures.value) c.loop.invariant.3)),
+      λ h no_clash. here.covers h no_clash
+          (subst (Covers (g.H.PathHash.hash_of c.args.older.now.hash) c.args.older.now.map c.args.newer.now.map c.loop.found.keys)
+          (sym c.as_slice.ensures.value) (c.loop.invariant.2 h no_clash)),
+      subst (λ d. AreLong d c.in_ok-level-2.level.items) (omega arith)
+          (here.long c.loop.counter (subst (AreLong c.loop.counter) (sym c.as_slice.ensures.value) c.loop.invariant.3)),
     )
 
 pub returns-clause-all : goal.returns-clause-all
@@ -21,6 +24,7 @@ returns-clause-all g c = λ h no_clash key differs.
     let most : 8 ≤ c.loop.counter = c.loop-test.false in
     let end = c.loop.auto.counter-end in
     let past : c.loop.counter ≡ 8 = omega (arith, most, end) in
-    let found = none_past (g.H.PathHash.hash_of c.args.older.now.hash) c.args.older.now.map c.args.newer.now.map c.loop.found.keys c.loop.level.items (subst (λ d. AreLong d c.loop.level.items) past c.loop.invariant.3)
+    let found = none_past (g.H.PathHash.hash_of c.args.older.now.hash) c.args.older.now.map c.args.newer.now.map c.loop.found.keys c.loop.level.items
+    (subst (λ d. AreLong d c.loop.level.items) past c.loop.invariant.3)
     (c.loop.invariant.2 h no_clash) key differs in
     subst (λ keys. Contains keys key) (sym c.in_ok-listed.ensures) found

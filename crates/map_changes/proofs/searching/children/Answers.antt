@@ -19,10 +19,13 @@ loop-index-preserved g c =
     let hash_of = g.H.PathHash.hash_of c.args.older.now.hash in
     let older = c.args.older.now.map in
     let newer = c.args.newer.now.map in
-    let unchanged : c.match-child.next.items ≡ old → (c.args.older.now.hash ≡ c.args.newer.now.hash → digest_at hash_of older (p ++ index ∷ []) ≡ digest_at hash_of newer (p ++ index ∷ []))
-    → (c.args.older.now.hash ≡ c.args.newer.now.hash → AddsChildren hash_of older newer p (index + 1) c.match-child.next.items) × GoesBelow p c.args.next.now.items c.match-child.next.items =
+    let unchanged : c.match-child.next.items ≡ old → (c.args.older.now.hash ≡ c.args.newer.now.hash
+    → digest_at hash_of older (p ++ index ∷ []) ≡ digest_at hash_of newer (p ++ index ∷ []))
+    → (c.args.older.now.hash ≡ c.args.newer.now.hash → AddsChildren hash_of older newer p (index + 1) c.match-child.next.items)
+    × GoesBelow p c.args.next.now.items c.match-child.next.items =
     λ is same.
-    subst (λ items. (c.args.older.now.hash ≡ c.args.newer.now.hash → AddsChildren hash_of older newer p (index + 1) items) × GoesBelow p c.args.next.now.items items) (sym is) (
+    subst (λ items. (c.args.older.now.hash ≡ c.args.newer.now.hash → AddsChildren hash_of older newer p (index + 1) items)
+    × GoesBelow p c.args.next.now.items items) (sym is) (
       λ h i less. one_child hash_of older newer p index old old (c.loop-index.invariant.0 h) (λ q there. there) (inl (same h)) i (omega (arith, less)),
       c.loop-index.invariant.1,
     ) in
@@ -30,9 +33,11 @@ loop-index-preserved g c =
       | in-Some+then-ne+in_ok-push w ↦
           let is : c.match-child.next.items ≡ old ++ (p ++ index ∷ []) ∷ [] =
           ap (λ (v : Vec _ _). v.items) w.next-is ∙ w.in_ok-push.ensures.items ∙ ap (λ x. old ++ x ∷ []) w.in-Some.ensures in
-          subst (λ items. (c.args.older.now.hash ≡ c.args.newer.now.hash → AddsChildren hash_of older newer p (index + 1) items) × GoesBelow p c.args.next.now.items items) (sym is) (
+          subst (λ items. (c.args.older.now.hash ≡ c.args.newer.now.hash → AddsChildren hash_of older newer p (index + 1) items)
+          × GoesBelow p c.args.next.now.items items) (sym is) (
             λ h i less.
-                one_child hash_of older newer p index old (old ++ (p ++ index ∷ []) ∷ []) (c.loop-index.invariant.0 h) (λ q there. there_before p old (p ++ index ∷ []) q there)
+                one_child hash_of older newer p index old (old ++ (p ++ index ∷ []) ∷ []) (c.loop-index.invariant.0 h)
+                (λ q there. there_before p old (p ++ index ∷ []) q there)
                 (inr (there_last p old (p ++ index ∷ []))) i (omega (arith, less)),
             one_below p c.args.next.now.items old index c.requires c.loop-index.invariant.1,
           )
@@ -52,5 +57,6 @@ loop-index-preserved g c =
 pub returns-clause-covers : goal.returns-clause-covers
 returns-clause-covers g c = λ h no_clash.
     let most : 32 ≤ c.loop-index.index = c.loop-index-test.false in
-    all_children (g.H.PathHash.hash_of c.args.older.now.hash) c.args.older.now.map c.args.newer.now.map c.args.prefix c.loop-index.next.items [] c.requires no_clash
+    all_children (g.H.PathHash.hash_of c.args.older.now.hash) c.args.older.now.map c.args.newer.now.map c.args.prefix c.loop-index.next.items []
+    c.requires no_clash
     (λ i less. c.loop-index.invariant.0 h i (omega (arith, less, most)))

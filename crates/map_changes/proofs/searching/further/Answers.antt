@@ -24,10 +24,13 @@ loop-prefix-preserved g c =
     let here = c.in_ok-split.ensures in (
       finds_more older newer c.args.found.now.keys c.loop-prefix.found.keys c.split.new.found.keys c.loop-prefix.invariant.0 here.found,
       λ h no_clash.
-          subst (λ gone. GoneThrough hash_of older newer gone c.split.new.found.keys c.split.new.next.items) (sym (taken_one level index prefix c.loop-prefix-test.true c.prefix-item.is))
-          (one_gone hash_of older newer (take index level) prefix c.loop-prefix.found.keys c.split.new.found.keys c.loop-prefix.next.items c.split.new.next.items
+          subst (λ gone. GoneThrough hash_of older newer gone c.split.new.found.keys c.split.new.next.items)
+          (sym (taken_one level index prefix c.loop-prefix-test.true c.prefix-item.is))
+          (one_gone hash_of older newer (take index level) prefix c.loop-prefix.found.keys c.split.new.found.keys c.loop-prefix.next.items
+          c.split.new.next.items
           (c.loop-prefix.invariant.1 h no_clash) here.found here.below (here.covers h no_clash)),
-      one_longer level prefix c.loop-prefix.next.items c.split.new.next.items (index, c.loop-prefix-test.true, sym c.prefix-item.is) here.below c.loop-prefix.invariant.2,
+      one_longer level prefix c.loop-prefix.next.items c.split.new.next.items (index, c.loop-prefix-test.true, sym c.prefix-item.is)
+          here.below c.loop-prefix.invariant.2,
     )
 
 pub returns-clause-covers : goal.returns-clause-covers

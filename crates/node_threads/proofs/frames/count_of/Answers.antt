@@ -9,5 +9,7 @@ returns g c =
     let first = c.in_ok-first.first in
     let rest = c.in_ok-second.field-0 in
     let long : length rest ≡ 3 = search rules in
-    subst (λ (xs : List ℕ). Consumes (remaining c.args.input.now) (remaining c.rest_of.new.input) xs) (ap (λ xs. first ∷ xs) (of_three rest long) ∙ sym c.number_of.ensures)
-    (consumes_then (remaining c.args.input.now) (remaining c.first_of.new.input) (remaining c.rest_of.new.input) (first ∷ []) rest c.in_ok-first.ensures c.in_ok-second.ensures)
+    subst (λ (xs : List ℕ). Consumes (remaining c.args.input.now) (remaining c.rest_of.new.input) xs)
+    (ap (λ xs. first ∷ xs) (of_three rest long) ∙ sym c.number_of.ensures)
+    (consumes_then (remaining c.args.input.now) (remaining c.first_of.new.input) (remaining c.rest_of.new.input) (first ∷ [])
+    rest c.in_ok-first.ensures c.in_ok-second.ensures)

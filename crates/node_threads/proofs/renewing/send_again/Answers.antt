@@ -14,13 +14,15 @@ returns-clause-sent g c =
     let sent = c.send_all_again.ensures in
     let number : SessionValue → ℕ = λ s. s.number in
     let session : Open → SessionValue = λ o. o.session in
-    let numbers : map number c.deref.result.now ≡ map (λ o. number (session o)) r.sessions = ap (map number) (c.deref.ensures.value ∙ found.2.0) ∙ map-map number session r.sessions in (
+    let numbers : map number c.deref.result.now ≡ map (λ o. number (session o)) r.sessions = ap (map number) (c.deref.ensures.value ∙ found.2.0)
+    ∙ map-map number session r.sessions in (
       c.inspect.new.self,
       r,
       sent.0,
       c.in_ok-sessions.ensures.own,
       found.1,
-      subst (λ ns. AreSentAgain g.P.Post.receives g.P.Post.sends g.P.Post.rests g.K.Naming.first c.args.post.now c.send_all_again.new.post c.inspect.new.self c.send_all_again.new.client ns sent.0) numbers sent.1,
+      subst (λ ns. AreSentAgain g.P.Post.receives g.P.Post.sends g.P.Post.rests g.K.Naming.first c.args.post.now c.send_all_again.new.post c.inspect.new.self
+          c.send_all_again.new.client ns sent.0) numbers sent.1,
       sent.2,
       sent.3,
     )

@@ -31,20 +31,25 @@ loop-session-preserved g c =
     let more : map number (take (c.loop-session.session-index + 1) sessions) ≡ map number before ++ count ∷ [] = ap (map number) one_more ∙ named in
     elim c.match-send_one_again.branch [
       | in-Some w ↦
-          let counts = taken_counts (2 ^ 64 - 1) steps c.loop-session.refused c.loop-session.lost w.in-Some.count (c.loop-session.invariant.2, c.loop-session.invariant.3) in (
+          let counts = taken_counts (2 ^ 64 - 1) steps c.loop-session.refused c.loop-session.lost w.in-Some.count
+          (c.loop-session.invariant.2, c.loop-session.invariant.3) in (
             steps ++ Some w.in-Some.count ∷ [],
             subst (λ ns. AreSentAgain receives sends rests first c.args.post.now last c.args.client.now new ns (steps ++ Some w.in-Some.count ∷ [])) (sym more)
-                (again_more receives sends rests first count new c.args.post.now post last c.args.client.now old (map number before) steps w.in-Some.count c.loop-session.invariant.1 w.in-Some.ensures.sent),
+                (again_more receives sends rests first count new c.args.post.now post last c.args.client.now old (map number before)
+                steps w.in-Some.count c.loop-session.invariant.1 w.in-Some.ensures.sent),
             w.refused-is ∙ counts.0,
             w.lost-is ∙ w.saturating_add-lost.ensures ∙ counts.1,
           )
       | in-None w ↦
           let refused = w.in-None.ensures.refused refl in
-          let counts = passed_counts (2 ^ 64 - 1) steps c.loop-session.refused c.loop-session.lost 0 (c.loop-session.invariant.2, c.loop-session.invariant.3) in (
+          let counts = passed_counts (2 ^ 64 - 1) steps c.loop-session.refused c.loop-session.lost 0
+          (c.loop-session.invariant.2, c.loop-session.invariant.3) in (
             steps ++ None ∷ [],
             subst (λ ns. AreSentAgain receives sends rests first c.args.post.now last c.args.client.now new ns (steps ++ None ∷ [])) (sym more)
-                (subst (λ q. AreSentAgain receives sends rests first c.args.post.now q c.args.client.now new (map number before ++ count ∷ []) (steps ++ None ∷ [])) (sym refused.1)
-                (refused_more receives sends rests first count new c.args.post.now post c.args.client.now old (map number before) steps c.loop-session.invariant.1 refused.0)),
+                (subst (λ q. AreSentAgain receives sends rests first c.args.post.now q c.args.client.now new (map number before ++ count ∷ [])
+                (steps ++ None ∷ [])) (sym refused.1)
+                (refused_more receives sends rests first count new c.args.post.now post c.args.client.now old (map number before)
+                steps c.loop-session.invariant.1 refused.0)),
             w.refused-is ∙ w.saturating_add-refused.ensures ∙ counts.0,
             w.lost-is ∙ counts.1,
           )

@@ -10,5 +10,6 @@ returns-in-Ok-clause-taken g c = (
   _,
   c.in-Ok.told.replies.items,
   c.in-Ok.ensures.taken,
-  subst (λ replies. AreSent g.P.Post.receives g.P.Post.sends g.P.Post.rests c.args.post.now c.send_all-lost.new.post replies c.send_all-lost.result) c.deref.ensures.value c.send_all-lost.ensures,
+  subst (λ replies. AreSent g.P.Post.receives g.P.Post.sends g.P.Post.rests c.args.post.now c.send_all-lost.new.post replies c.send_all-lost.result)
+      c.deref.ensures.value c.send_all-lost.ensures,
 )

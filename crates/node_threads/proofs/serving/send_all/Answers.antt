@@ -22,14 +22,17 @@ loop-reply-preserved g c =
       | then-not-is_sent w ↦
           subst (AreSent receives sends rests first last (take (c.loop-reply.reply-index + 1) replies)) (sym w.lost-is)
           (subst (λ rs. AreSent receives sends rests first last rs (c.loop-reply.lost + 1)) (sym more)
-          (lost_more receives sends rests first c.loop-reply.post last before reply c.loop-reply.lost c.loop-reply.invariant (c.is_sent.ensures.lost w.if-not-is_sent.true)))
+          (lost_more receives sends rests first c.loop-reply.post last before reply c.loop-reply.lost c.loop-reply.invariant
+          (c.is_sent.ensures.lost w.if-not-is_sent.true)))
       | else-not-is_sent w ↦
           subst (AreSent receives sends rests first last (take (c.loop-reply.reply-index + 1) replies)) (sym w.lost-is)
           (subst (λ rs. AreSent receives sends rests first last rs c.loop-reply.lost) (sym more)
-          (sent_more receives sends rests first c.loop-reply.post last before reply c.loop-reply.lost c.loop-reply.invariant (c.is_sent.ensures.sent w.if-not-is_sent.false)))
+          (sent_more receives sends rests first c.loop-reply.post last before reply c.loop-reply.lost c.loop-reply.invariant
+          (c.is_sent.ensures.sent w.if-not-is_sent.false)))
     ]
 
 pub overflow_add-lost : goal.overflow_add-lost
 overflow_add-lost g c =
-    let few = few_lost g.P.Post.receives g.P.Post.sends g.P.Post.rests c.args.post.now c.loop-reply.post (take c.loop-reply.reply-index c.args.replies.now) c.loop-reply.lost c.loop-reply.invariant in
+    let few = few_lost g.P.Post.receives g.P.Post.sends g.P.Post.rests c.args.post.now c.loop-reply.post (take c.loop-reply.reply-index c.args.replies.now)
+    c.loop-reply.lost c.loop-reply.invariant in
     omega (arith, few, short c.loop-reply.reply-index c.args.replies.now, c.loop-reply-test.true, c.requires)

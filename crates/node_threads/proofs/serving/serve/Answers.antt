@@ -35,7 +35,8 @@ loop-preserved g c =
             c.loop.invariant.1,
             (
               steps ++ Some count ∷ [],
-              taken_more receives sends rests first last new c.args.post.now c.loop.post c.args.client.now old steps count c.loop.invariant.2.1 (bytes, mid, came, answered),
+              taken_more receives sends rests first last new c.args.post.now c.loop.post c.args.client.now old steps count c.loop.invariant.2.1
+                  (bytes, mid, came, answered),
               w.refused-is ∙ counts.0,
               w.lost-is ∙ w.saturating_add-lost.ensures ∙ counts.1,
             ),

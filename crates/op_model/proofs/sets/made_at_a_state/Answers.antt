@@ -1,4 +1,5 @@
-use Rattle.op_model.proofs.Making.{put_made, remove_made, field_remove_made, clear_made, put_dot, remove_count, field_remove_count, clear_count, put_there, remove_there, field_remove_there, clear_there}
+use Rattle.op_model.proofs.Making.{put_made, remove_made, field_remove_made, clear_made, put_dot, remove_count, field_remove_count, clear_count, put_there}
+use Rattle.op_model.proofs.Making.{remove_there, field_remove_there, clear_there}
 use Rattle.op_model.proofs.sets.made_at_a_state.Goals as goal
 
 pub returns-clause-put : goal.returns-clause-put

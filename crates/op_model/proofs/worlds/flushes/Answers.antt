@@ -12,7 +12,9 @@ pub returns-clause-empty : goal.returns-clause-empty
 returns-clause-empty c = λ events name p g means. group_empty events name p g means
 
 pub returns-clause-message : goal.returns-clause-message
-returns-clause-message c = λ events name some. messages_after events (Flush name) ∙ ap (λ more. (after events).messages ++ more) (sent-some ((after events).outgoing name) some)
+returns-clause-message c = λ events name some. messages_after events (Flush name)
+    ∙ ap (λ more. (after events).messages ++ more) (sent-some ((after events).outgoing name) some)
 
 pub returns-clause-no_message : goal.returns-clause-no_message
-returns-clause-no_message c = λ events name none. messages_after events (Flush name) ∙ ap (λ S. (after events).messages ++ group_messages S) none ∙ append-nil (after events).messages
+returns-clause-no_message c = λ events name none. messages_after events (Flush name) ∙ ap (λ S. (after events).messages ++ group_messages S) none
+    ∙ append-nil (after events).messages

@@ -7,7 +7,8 @@ pub returns-clause-values : goal.returns-clause-values
 returns-clause-values c = λ events name p g place found means. values_standing ((after events).seen name) place p found (seen-NoReuse events name) means.seen
 
 pub returns-clause-values_of_key : goal.returns-clause-values_of_key
-returns-clause-values_of_key c = λ events name p g key found means. values_of_key_standing ((after events).seen name) key p found (seen-NoReuse events name) means.seen
+returns-clause-values_of_key c = λ events name p g key found means. values_of_key_standing ((after events).seen name) key p found
+    (seen-NoReuse events name) means.seen
 
 pub returns-clause-fields : goal.returns-clause-fields
 returns-clause-fields c = λ events name p g key found means. fields_standing ((after events).seen name) key p found means.seen

@@ -7,7 +7,8 @@ use Rattle.ordered_list.proofs.ordered_list.place_of.Goals as goal
 pub returns-in-Some-clause-absent : goal.returns-in-Some-clause-absent
 returns-in-Some-clause-absent g c =
     let parts : c.args.entries.now ≡ c.in-Some.field-0-1.now ++ c.in-Some.last.now ∷ [] = c.in-Some.ensures.cases.0 in
-    let less : g.K.Ord.cmp c.in-Some.last.now.0 c.args.key.now ≡ Less = sym c.cmp.ensures ∙ less_from_test c.cmp.result (sym c.is_lt.ensures ∙ c.if-is_lt.true) in
+    let less : g.K.Ord.cmp c.in-Some.last.now.0 c.args.key.now ≡ Less = sym c.cmp.ensures
+    ∙ less_from_test c.cmp.result (sym c.is_lt.ensures ∙ c.if-is_lt.true) in
     let ascends = c.requires in
     rw parts (gap_at_end g.K.Ord.cmp g.met.K.Ord.total c.args.key.now c.in-Some.field-0-1.now c.in-Some.last.now (rw parts at ascends) less)
 

@@ -18,8 +18,10 @@ pub loop-field-preserved : goal.loop-field-preserved
 loop-field-preserved g c =
     let es : FieldsValue = c.entries-entries.result.now in
     let e = c.loop-field-item.result in
-    let key : TakesBytes c.loop-field.hasher c.feed_text.new.hasher (text e.0) = takes_same c.loop-field.hasher c.feed_text.new.hasher _ _ (ap text c.bytes.ensures.value) c.feed_text.ensures in
-    next_taken item c.args.hasher.now c.loop-field.hasher c.feed_values.new.hasher (number (length es)) es c.loop-field.field-index e c.loop-field.invariant c.loop-field-test.true c.loop-field-item.is
+    let key : TakesBytes c.loop-field.hasher c.feed_text.new.hasher (text e.0) =
+    takes_same c.loop-field.hasher c.feed_text.new.hasher _ _ (ap text c.bytes.ensures.value) c.feed_text.ensures in
+    next_taken item c.args.hasher.now c.loop-field.hasher c.feed_values.new.hasher (number (length es))
+    es c.loop-field.field-index e c.loop-field.invariant c.loop-field-test.true c.loop-field-item.is
     (takes_both c.loop-field.hasher c.feed_text.new.hasher c.feed_values.new.hasher (text e.0) (names (named_values e.1)) key c.feed_values.ensures)
 
 pub returns : goal.returns

@@ -8,4 +8,5 @@ use Rattle.prefix_digest.specs.Taking.{TakesBytes}
 use Rattle.prefix_digest.proofs.feeding.feed_fields.Given as goal
 
 abbrev pub invariant-loop-field : goal.invariant-loop-field
-invariant-loop-field g l = TakesBytes l.fn.hasher l.hasher (number (length l.entries) ++ flat_map (λ f. pair text names (f.0, named_values f.1)) (take l.field-index l.entries))
+invariant-loop-field g l = TakesBytes l.fn.hasher l.hasher (number (length l.entries)
+    ++ flat_map (λ f. pair text names (f.0, named_values f.1)) (take l.field-index l.entries))

@@ -20,8 +20,10 @@ pub loop-dot-preserved : goal.loop-dot-preserved
 loop-dot-preserved g c =
     let es : ValuesValue = c.entries-entries.result.now in
     let e = c.loop-dot-item.result in
-    let name : TakesBytes c.feed_dot.new.hasher c.update.new.self (sha256 e.1) = takes_same c.feed_dot.new.hasher c.update.new.self _ _ c.value_digest.ensures c.update.ensures in
-    next_taken item c.args.hasher.now c.loop-dot.hasher c.update.new.self (number (length es)) es c.loop-dot.dot-index e c.loop-dot.invariant c.loop-dot-test.true c.loop-dot-item.is
+    let name : TakesBytes c.feed_dot.new.hasher c.update.new.self (sha256 e.1) =
+    takes_same c.feed_dot.new.hasher c.update.new.self _ _ c.value_digest.ensures c.update.ensures in
+    next_taken item c.args.hasher.now c.loop-dot.hasher c.update.new.self (number (length es))
+    es c.loop-dot.dot-index e c.loop-dot.invariant c.loop-dot-test.true c.loop-dot-item.is
     (takes_both c.loop-dot.hasher c.feed_dot.new.hasher c.update.new.self (dot_bytes e.0) (sha256 e.1) c.feed_dot.ensures name)
 
 pub returns : goal.returns

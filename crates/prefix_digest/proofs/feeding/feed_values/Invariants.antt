@@ -8,4 +8,5 @@ use Rattle.prefix_digest.specs.Taking.{TakesBytes}
 use Rattle.prefix_digest.proofs.feeding.feed_values.Given as goal
 
 abbrev pub invariant-loop-dot : goal.invariant-loop-dot
-invariant-loop-dot g l = TakesBytes l.fn.hasher l.hasher (number (length l.entries) ++ flat_map (λ v. pair dot_bytes digest (v.0, sha256 v.1)) (take l.dot-index l.entries))
+invariant-loop-dot g l = TakesBytes l.fn.hasher l.hasher (number (length l.entries)
+    ++ flat_map (λ v. pair dot_bytes digest (v.0, sha256 v.1)) (take l.dot-index l.entries))

@@ -18,7 +18,8 @@ loop-field-preserved g c =
 pub unreachable-requires : goal.unreachable-requires
 unreachable-requires g c =
     let es = c.entries-entries.result.now in
-    let all : c.loop-field.named.items ≡ named_fields es = c.loop-field.invariant ∙ ap named_fields (take_all c.loop-field.field-index es c.loop-field-test.false) in
+    let all : c.loop-field.named.items ≡ named_fields es = c.loop-field.invariant
+    ∙ ap named_fields (take_all c.loop-field.field-index es c.loop-field-test.false) in
     let ascend = subst (IsStrictlySortedBy bytes_cmp) (sym (ap keys_of all ∙ keys_kept named_values es)) c.entries-entries.ensures.ordered in
     let both = c.in-None.ensures.ascend in
     let found = both.1 ascend in
@@ -26,4 +27,5 @@ unreachable-requires g c =
 
 pub returns-clause-ok : goal.returns-clause-ok
 returns-clause-ok g c =
-    c.in-Some.ensures.entries ∙ c.loop-field.invariant ∙ ap named_fields (take_all c.loop-field.field-index c.entries-entries.result.now c.loop-field-test.false ∙ c.entries-entries.ensures.rest)
+    c.in-Some.ensures.entries ∙ c.loop-field.invariant ∙ ap named_fields (take_all c.loop-field.field-index c.entries-entries.result.now c.loop-field-test.false
+    ∙ c.entries-entries.ensures.rest)

@@ -27,4 +27,5 @@ unreachable-requires g c =
 
 pub returns-clause-ok : goal.returns-clause-ok
 returns-clause-ok g c =
-    c.in-Some.ensures.values ∙ c.loop-dot.invariant ∙ ap named_values (take_all c.loop-dot.dot-index c.entries-entries.result.now c.loop-dot-test.false ∙ c.entries-entries.ensures.rest)
+    c.in-Some.ensures.values ∙ c.loop-dot.invariant ∙ ap named_values (take_all c.loop-dot.dot-index c.entries-entries.result.now c.loop-dot-test.false
+    ∙ c.entries-entries.ensures.rest)

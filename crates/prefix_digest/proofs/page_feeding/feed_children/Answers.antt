@@ -8,7 +8,8 @@ loop-index-init c = takes_none c.args.hasher.now
 
 pub loop-index-preserved : goal.loop-index-preserved
 loop-index-preserved c =
-    more_taken child c.args.hasher.now c.loop-index.hasher c.update-in-loop-index.new.self [] c.args.children.now c.loop-index.index-index _ c.loop-index.invariant c.loop-index-test.true
+    more_taken child c.args.hasher.now c.loop-index.hasher c.update-in-loop-index.new.self [] c.args.children.now c.loop-index.index-index _
+    c.loop-index.invariant c.loop-index-test.true
     (takes_both c.loop-index.hasher c.update.new.self c.update-in-loop-index.new.self _ _ c.update.ensures c.update-in-loop-index.ensures)
 
 pub returns : goal.returns

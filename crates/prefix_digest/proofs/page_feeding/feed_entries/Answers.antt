@@ -8,7 +8,8 @@ loop-key-init g c = takes_none c.args.hasher.now
 
 pub loop-key-preserved : goal.loop-key-preserved
 loop-key-preserved g c =
-    next_taken entry c.args.hasher.now c.loop-key.hasher c.feed_named_entry.new.hasher [] c.args.entries.now c.loop-key.key-index c.loop-key-item.result c.loop-key.invariant c.loop-key-test.true c.loop-key-item.is
+    next_taken entry c.args.hasher.now c.loop-key.hasher c.feed_named_entry.new.hasher [] c.args.entries.now c.loop-key.key-index c.loop-key-item.result
+    c.loop-key.invariant c.loop-key-test.true c.loop-key-item.is
     c.feed_named_entry.ensures
 
 pub returns : goal.returns

@@ -12,7 +12,8 @@ returns-in-Nothing-clause-ok g c =
 
 pub returns-in-OneKey-clause-ok : goal.returns-in-OneKey-clause-ok
 returns-in-OneKey-clause-ok g c =
-    let one = values_of_one (has c.args.known.now) (g.H.PathHash.hash_of c.args.frozen.now.hash) c.args.frozen.now.map c.args.prefix c.in-OneKey.field-0.now c.in-OneKey.field-1.now
+    let one = values_of_one (has c.args.known.now) (g.H.PathHash.hash_of c.args.frozen.now.hash)
+    c.args.frozen.now.map c.args.prefix c.in-OneKey.field-0.now c.in-OneKey.field-1.now
     (omega (arith, c.depth-depth.ensures.length, c.depth-depth.ensures.bound)) c.in-OneKey.ensures in
     IfOk-weaker c.unknown_values.result _ _ (λ values is. is ∙ sym one) c.unknown_values.ensures.ok
 

@@ -18,7 +18,8 @@ returns-in-Err-join_delta-clause-grouped g c =
 pub returns-clause-live : goal.returns-clause-live
 returns-clause-live g c =
     let pushed = c.in_ok-push.ensures.pushed in
-    let some : Some c.in-Some.newest.now ≡ Some c.args.delta = ap option_copied (sym c.in-Some.is) ∙ c.newest.ensures.value pushed.rest c.args.delta pushed.last in
+    let some : Some c.in-Some.newest.now ≡ Some c.args.delta = ap option_copied (sym c.in-Some.is)
+    ∙ c.newest.ensures.value pushed.rest c.args.delta pushed.last in
     let same : c.in-Some.newest.now ≡ c.args.delta = cc in
     subst (λ delta. live_state c.join_delta.new.self.0 ≡ join greater (live_state c.args.live.now.0) (or_map_state delta)) same
     (live_joined c.join_delta.new.self.0 c.args.live.now.0 c.in-Some.newest.now c.in_default-join_delta.ensures.ok)

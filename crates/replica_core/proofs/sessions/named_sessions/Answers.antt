@@ -11,7 +11,8 @@ loop-session-preserved g c =
     let within : at < length sessions = omega (arith, test) in
     c.in_ok-push.ensures.items ∙ ap (λ xs. xs ++ c.session.result ∷ []) c.loop-session.invariant
     ∙ ap (λ s. map (λ (a : AskerValue _). a.session) (take at sessions) ++ s ∷ []) (c.session.ensures ∙ ap (λ (a : AskerValue _). a.session) c.session-item.is)
-    ∙ sym (map-append (λ (a : AskerValue _). a.session) (take at sessions) _) ∙ ap (map (λ (a : AskerValue _). a.session)) (sym (take_more sessions at _ within))
+    ∙ sym (map-append (λ (a : AskerValue _). a.session) (take at sessions) _)
+    ∙ ap (map (λ (a : AskerValue _). a.session)) (sym (take_more sessions at _ within))
 
 pub returns-clause-ok : goal.returns-clause-ok
 returns-clause-ok g c =

@@ -12,7 +12,8 @@ returns-in-Ok-clause-kept g c clean keeps =
     let r = meaning c.args.replica.now in
     let before = log_state g.S.Store c.args.log.now in
     let after = log_state g.S.Store c.replace.new.self in
-    let told : TellAll r c.as_slice.result.now c.as_slice-2.result.now c.as_slice-3.result.now = rw (← c.as_slice.ensures.value, ← c.as_slice-2.ensures.value, ← c.as_slice-3.ensures.value) at c.in_ok-name.ensures.told in
+    let told : TellAll r c.as_slice.result.now c.as_slice-2.result.now c.as_slice-3.result.now =
+    rw (← c.as_slice.ensures.value, ← c.as_slice-2.ensures.value, ← c.as_slice-3.ensures.value) at c.in_ok-name.ensures.told in
     let both = c.in-Ok.ensures.replaced clean in
     replaced_kept before after r _ _ _ keeps told both.0 both.1
 
@@ -21,7 +22,8 @@ returns-in-Ok-clause-any_moment g c clean keeps =
     let r = meaning c.args.replica.now in
     let before = log_state g.S.Store c.args.log.now in
     let after = log_state g.S.Store c.replace.new.self in
-    let told : TellAll r c.as_slice.result.now c.as_slice-2.result.now c.as_slice-3.result.now = rw (← c.as_slice.ensures.value, ← c.as_slice-2.ensures.value, ← c.as_slice-3.ensures.value) at c.in_ok-name.ensures.told in
+    let told : TellAll r c.as_slice.result.now c.as_slice-2.result.now c.as_slice-3.result.now =
+    rw (← c.as_slice.ensures.value, ← c.as_slice-2.ensures.value, ← c.as_slice-3.ensures.value) at c.in_ok-name.ensures.told in
     let survives = c.replace.ensures.any_moment in
     let ready : IsReady before = c.is_failed.ensures.ready (c.is_failed.ensures.value ∙ c.requires) (was_clean before after _ survives clean) in
     between_always before after r _ _ _ keeps told ready survives clean
@@ -31,7 +33,8 @@ returns-clause-any_moment g c clean keeps =
     let r = meaning c.args.replica.now in
     let before = log_state g.S.Store c.args.log.now in
     let after = log_state g.S.Store c.replace.new.self in
-    let told : TellAll r c.as_slice.result.now c.as_slice-2.result.now c.as_slice-3.result.now = rw (← c.as_slice.ensures.value, ← c.as_slice-2.ensures.value, ← c.as_slice-3.ensures.value) at c.in_ok-name.ensures.told in
+    let told : TellAll r c.as_slice.result.now c.as_slice-2.result.now c.as_slice-3.result.now =
+    rw (← c.as_slice.ensures.value, ← c.as_slice-2.ensures.value, ← c.as_slice-3.ensures.value) at c.in_ok-name.ensures.told in
     let survives = c.replace.ensures.any_moment in
     let ready : IsReady before = c.is_failed.ensures.ready (c.is_failed.ensures.value ∙ c.requires) (was_clean before after _ survives clean) in
     between_always before after r _ _ _ keeps told ready survives clean

@@ -8,7 +8,8 @@ pub returns-clause-kept : goal.returns-clause-kept
 returns-clause-kept g c old new keeps above is clean =
     let before = log_state g.S.Store c.args.log.now in
     let after = log_state g.S.Store c.keep_opened.new.log in
-    on_ok c.keep_opened.result (λ both. kept_now after new both.0 (gains_number before.now.trees after.now.trees old new keeps c.args.number both.1 above is)) (c.keep_opened.ensures.kept clean)
+    on_ok c.keep_opened.result (λ both. kept_now after new both.0 (gains_number before.now.trees after.now.trees old new keeps c.args.number both.1 above is))
+    (c.keep_opened.ensures.kept clean)
 
 pub returns-clause-any_moment : goal.returns-clause-any_moment
 returns-clause-any_moment g c old new keeps above is clean =

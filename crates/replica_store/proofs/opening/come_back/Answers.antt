@@ -36,7 +36,8 @@ returns-clause-back g c clean =
     let was : HasCleanDisk read = was_clean read new _ c.keep_name.ensures.any_moment clean in
     let zero : vec_len c.in-Ok.strings ≡ 0 = eqb-true (vec_len c.in-Ok.strings) 0 (sym c.is_empty.ensures ∙ c.if-not-is_empty.false) in
     let none : length c.in-Ok.strings.items ≡ 0 = omega (arith, c.in-Ok.strings.ok.0, zero) in
-    fresh_as (strings old.now.trees) c.args.name (meaning c.new.result) (none_held (λ string. string.items) (strings old.now.trees) c.in-Ok.strings.items (c.in-Ok.ensures.strings was) none) c.new.ensures.fresh
+    fresh_as (strings old.now.trees) c.args.name (meaning c.new.result)
+    (none_held (λ string. string.items) (strings old.now.trees) c.in-Ok.strings.items (c.in-Ok.ensures.strings was) none) c.new.ensures.fresh
 
 pub returns-clause-kept : goal.returns-clause-kept
 returns-clause-kept g c clean =
@@ -49,4 +50,5 @@ returns-clause-kept g c clean =
     let none : length c.in-Ok.strings.items ≡ 0 = omega (arith, c.in-Ok.strings.ok.0, zero) in
     let same = c.in-Ok.ensures.same was in
     let held = none_held (λ string. string.items) (strings old.now.trees) c.in-Ok.strings.items (c.in-Ok.ensures.strings was) none in
-    fresh_kept old.now.trees read.now.trees new.now.trees c.args.name (meaning c.new.result) held (ap (λ (d : Database). d.trees) same.0.now_is) (c.in_ok-keep_name.ensures.kept clean).1 c.new.ensures.fresh
+    fresh_kept old.now.trees read.now.trees new.now.trees c.args.name (meaning c.new.result) held (ap (λ (d : Database). d.trees) same.0.now_is)
+    (c.in_ok-keep_name.ensures.kept clean).1 c.new.ensures.fresh

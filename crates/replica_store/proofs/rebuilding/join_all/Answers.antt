@@ -11,7 +11,8 @@ loop-string-preserved g c =
     let new = meaning c.join_string.new.replica in
     let string = c.as_slice.result.now in
     let before = map (λ string. string.items) (take c.loop-string.string-index c.args.strings.now) in
-    let more = taken_more (λ string. string.items) c.args.strings.now c.loop-string.string-index c.string-item.result c.loop-string-test.true c.string-item.is in
+    let more = taken_more (λ string. string.items) c.args.strings.now c.loop-string.string-index c.string-item.result c.loop-string-test.true
+    c.string-item.is in
     let joined : HasJoined (before ++ string ∷ []) first new = elim c.in_ok-join_string.ensures [
       | inl delta ↦ joined_delta before string first old new c.loop-string.invariant delta.0 delta.1 delta.2
       | inr none ↦ joined_none before string first old new c.loop-string.invariant none.0 none.1

@@ -12,8 +12,10 @@ use Rattle.replica_store.proofs.taking.keep_taken.Goals as goal
 
 pub returns-in_err-keep_message-in-Joined-clause-any_moment : goal.returns-in_err-keep_message-in-Joined-clause-any_moment
 returns-in_err-keep_message-in-Joined-clause-any_moment g c old h clean keeps =
-    delta_or_not (log_state g.S.Store c.args.log.now) (log_state g.S.Store c.keep_message.new.log) old (meaning c.args.replica.now) (message_of c.args.message.now)
-    (c.is_failed.ensures.ready (c.is_failed.ensures.value ∙ c.requires)) (subst (λ o. TookAs old (mail_of (message_of c.args.message.now)) (outcome_of o) (meaning c.args.replica.now)) c.in-Joined.is h)
+    delta_or_not (log_state g.S.Store c.args.log.now) (log_state g.S.Store c.keep_message.new.log) old (meaning c.args.replica.now)
+    (message_of c.args.message.now)
+    (c.is_failed.ensures.ready (c.is_failed.ensures.value ∙ c.requires))
+    (subst (λ o. TookAs old (mail_of (message_of c.args.message.now)) (outcome_of o) (meaning c.args.replica.now)) c.in-Joined.is h)
     c.keep_message.ensures.any_moment clean keeps
 
 pub returns-in_ok-keep_message-in-Joined-clause-kept : goal.returns-in_ok-keep_message-in-Joined-clause-kept
@@ -28,8 +30,10 @@ returns-in_ok-keep_message-in-Joined-clause-kept g c old h clean keeps =
 
 pub returns-in_ok-keep_message-in-Joined-clause-any_moment : goal.returns-in_ok-keep_message-in-Joined-clause-any_moment
 returns-in_ok-keep_message-in-Joined-clause-any_moment g c old h clean keeps =
-    delta_or_not (log_state g.S.Store c.args.log.now) (log_state g.S.Store c.keep_message.new.log) old (meaning c.args.replica.now) (message_of c.args.message.now)
-    (c.is_failed.ensures.ready (c.is_failed.ensures.value ∙ c.requires)) (subst (λ o. TookAs old (mail_of (message_of c.args.message.now)) (outcome_of o) (meaning c.args.replica.now)) c.in-Joined.is h)
+    delta_or_not (log_state g.S.Store c.args.log.now) (log_state g.S.Store c.keep_message.new.log) old (meaning c.args.replica.now)
+    (message_of c.args.message.now)
+    (c.is_failed.ensures.ready (c.is_failed.ensures.value ∙ c.requires))
+    (subst (λ o. TookAs old (mail_of (message_of c.args.message.now)) (outcome_of o) (meaning c.args.replica.now)) c.in-Joined.is h)
     c.keep_message.ensures.any_moment clean keeps
 
 pub returns-in-Ok-clause-kept : goal.returns-in-Ok-clause-kept
@@ -37,18 +41,24 @@ returns-in-Ok-clause-kept g c old h clean keeps =
     let new = meaning c.args.replica.now in
     let before = log_state g.S.Store c.args.log.now in
     let after = log_state g.S.Store c.keep_message-kept.new.log in
-    let took : TookAs old (mail_of (message_of c.args.message.now)) Done new = subst (λ o. TookAs old (mail_of (message_of c.args.message.now)) (outcome_of o) new) c.in-Done.is h in
+    let took : TookAs old (mail_of (message_of c.args.message.now)) Done new =
+    subst (λ o. TookAs old (mail_of (message_of c.args.message.now)) (outcome_of o) new) c.in-Done.is h in
     let both = c.in-Ok.ensures.kept clean in
-    kept_now after new both.0 (gains_whole before.now.trees after.now.trees old new keeps (message_of c.in_ok-all-in-Done.all) c.in_ok-all-in-Done.ensures.all both.1 took.1 took.0)
+    kept_now after new both.0 (gains_whole before.now.trees after.now.trees old new keeps (message_of c.in_ok-all-in-Done.all)
+    c.in_ok-all-in-Done.ensures.all both.1 took.1 took.0)
 
 pub returns-in-Ok-clause-any_moment : goal.returns-in-Ok-clause-any_moment
 returns-in-Ok-clause-any_moment g c old h clean keeps =
-    whole_or_not (log_state g.S.Store c.args.log.now) (log_state g.S.Store c.keep_message-kept.new.log) old (meaning c.args.replica.now) (message_of c.args.message.now) (message_of c.in_ok-all-in-Done.all)
-    (c.is_failed.ensures.ready (c.is_failed.ensures.value ∙ c.requires)) (subst (λ o. TookAs old (mail_of (message_of c.args.message.now)) (outcome_of o) (meaning c.args.replica.now)) c.in-Done.is h)
+    whole_or_not (log_state g.S.Store c.args.log.now) (log_state g.S.Store c.keep_message-kept.new.log) old (meaning c.args.replica.now)
+    (message_of c.args.message.now) (message_of c.in_ok-all-in-Done.all)
+    (c.is_failed.ensures.ready (c.is_failed.ensures.value ∙ c.requires))
+    (subst (λ o. TookAs old (mail_of (message_of c.args.message.now)) (outcome_of o) (meaning c.args.replica.now)) c.in-Done.is h)
     c.in_ok-all-in-Done.ensures.all c.keep_message-kept.ensures.any_moment clean keeps
 
 pub returns-in-Err-clause-any_moment : goal.returns-in-Err-clause-any_moment
 returns-in-Err-clause-any_moment g c old h clean keeps =
-    whole_or_not (log_state g.S.Store c.args.log.now) (log_state g.S.Store c.keep_message-kept.new.log) old (meaning c.args.replica.now) (message_of c.args.message.now) (message_of c.in_ok-all-in-Done.all)
-    (c.is_failed.ensures.ready (c.is_failed.ensures.value ∙ c.requires)) (subst (λ o. TookAs old (mail_of (message_of c.args.message.now)) (outcome_of o) (meaning c.args.replica.now)) c.in-Done.is h)
+    whole_or_not (log_state g.S.Store c.args.log.now) (log_state g.S.Store c.keep_message-kept.new.log) old (meaning c.args.replica.now)
+    (message_of c.args.message.now) (message_of c.in_ok-all-in-Done.all)
+    (c.is_failed.ensures.ready (c.is_failed.ensures.value ∙ c.requires))
+    (subst (λ o. TookAs old (mail_of (message_of c.args.message.now)) (outcome_of o) (meaning c.args.replica.now)) c.in-Done.is h)
     c.in_ok-all-in-Done.ensures.all c.keep_message-kept.ensures.any_moment clean keeps

@@ -23,7 +23,8 @@ returns-in-Ok-kept-clause-kept g c kept behind clean keeps =
     let mid = meaning c.args.replica.now in
     let new = meaning c.flush.new.self in
     let m = message_of c.in-Some.message in
-    let step : IsCall mid Flush new Nothing (mail_of m ∷ []) = subst (λ s. IsCall mid Flush new Nothing (mail_or_none s)) c.in-Some.is c.in-Ok.ensures.ok.step in
+    let step : IsCall mid Flush new Nothing (mail_of m ∷ []) = subst (λ s. IsCall mid Flush new Nothing (mail_or_none s))
+    c.in-Some.is c.in-Ok.ensures.ok.step in
     let after = log_state g.S.Store c.keep_message-kept.new.log in
     let both = c.in-Ok-kept.ensures.kept clean in
     kept_now after new both.0 (flushed_some kept mid new Nothing (log_state g.S.Store c.args.log.now).now.trees behind keeps m after.now.trees step both.1)
@@ -35,7 +36,8 @@ returns-in-Ok-kept-clause-any_moment g c kept behind clean keeps =
     let m = message_of c.in-Some.message in
     let before = log_state g.S.Store c.args.log.now in
     let after = log_state g.S.Store c.keep_message-kept.new.log in
-    let step : IsCall mid Flush new Nothing (mail_of m ∷ []) = subst (λ s. IsCall mid Flush new Nothing (mail_or_none s)) c.in-Some.is c.in-Ok.ensures.ok.step in
+    let step : IsCall mid Flush new Nothing (mail_of m ∷ []) = subst (λ s. IsCall mid Flush new Nothing (mail_or_none s))
+    c.in-Some.is c.in-Ok.ensures.ok.step in
     let survives = c.keep_message-kept.ensures.any_moment in
     let ready : IsReady before = c.is_failed.ensures.ready (c.is_failed.ensures.value ∙ c.requires) (was_clean before after _ survives clean) in
     gained before after kept new _ ready keeps survives (λ db gains. flushed_some kept mid new Nothing before.now.trees behind keeps m db step gains) clean
@@ -47,7 +49,8 @@ returns-in-Err-clause-any_moment g c kept behind clean keeps =
     let m = message_of c.in-Some.message in
     let before = log_state g.S.Store c.args.log.now in
     let after = log_state g.S.Store c.keep_message-kept.new.log in
-    let step : IsCall mid Flush new Nothing (mail_of m ∷ []) = subst (λ s. IsCall mid Flush new Nothing (mail_or_none s)) c.in-Some.is c.in-Ok.ensures.ok.step in
+    let step : IsCall mid Flush new Nothing (mail_of m ∷ []) = subst (λ s. IsCall mid Flush new Nothing (mail_or_none s))
+    c.in-Some.is c.in-Ok.ensures.ok.step in
     let survives = c.keep_message-kept.ensures.any_moment in
     let ready : IsReady before = c.is_failed.ensures.ready (c.is_failed.ensures.value ∙ c.requires) (was_clean before after _ survives clean) in
     gained before after kept new _ ready keeps survives (λ db gains. flushed_some kept mid new Nothing before.now.trees behind keeps m db step gains) clean

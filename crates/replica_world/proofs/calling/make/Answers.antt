@@ -9,4 +9,5 @@ pub returns-in-PutField-clause-ok : goal.returns-in-PutField-clause-ok
 returns-in-PutField-clause-ok g c = rw c.in-PutField.is (if_ok_weaker c.put_field.result (λ answer steps. ([], steps, inr (refl, refl))) c.put_field.ensures.ok)
 
 pub returns-in-RemoveField-clause-ok : goal.returns-in-RemoveField-clause-ok
-returns-in-RemoveField-clause-ok g c = rw c.in-RemoveField.is (if_ok_weaker c.remove_field.result (λ answer steps. ([], steps, inr (refl, refl))) c.remove_field.ensures.ok)
+returns-in-RemoveField-clause-ok g c = rw c.in-RemoveField.is
+    (if_ok_weaker c.remove_field.result (λ answer steps. ([], steps, inr (refl, refl))) c.remove_field.ensures.ok)

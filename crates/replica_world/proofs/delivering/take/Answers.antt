@@ -10,6 +10,7 @@ pub returns-in-Ok-clause-ok : goal.returns-in-Ok-clause-ok
 returns-in-Ok-clause-ok g c =
     let told = c.in-Ok.told in (
       map message_of told.replies.items,
-      step_of_messages g.H.PathHash.hash_of c.args.replica.now c.deliver_to.new.self (step.Take (mail_of (message_of c.args.message.now))) (step.Came (outcome_of told.outcome)) told.replies.items c.in-Ok.ensures.ok,
+      step_of_messages g.H.PathHash.hash_of c.args.replica.now c.deliver_to.new.self (step.Take (mail_of (message_of c.args.message.now)))
+          (step.Came (outcome_of told.outcome)) told.replies.items c.in-Ok.ensures.ok,
       c.in-Ok.ensures.posted,
     )

@@ -13,4 +13,5 @@ returns-in-Err-clause-unchanged g c messages = entries_stay c.args.hash c.args.r
 
 pub returns-in-Ok-clause-ok : goal.returns-in-Ok-clause-ok
 returns-in-Ok-clause-ok g c messages w keeps =
-    node_keeps c.args.hash c.args.replicas.now c.insert.new.self messages w keeps c.args.name c.new.result (absent_from _ c.if-contains_key.ensures) c.in-Ok.ensures.updates c.new.ensures.fresh c.new.ensures.hash g.H.PathHash.hash_of
+    node_keeps c.args.hash c.args.replicas.now c.insert.new.self messages w keeps c.args.name c.new.result (absent_from _ c.if-contains_key.ensures)
+    c.in-Ok.ensures.updates c.new.ensures.fresh c.new.ensures.hash g.H.PathHash.hash_of

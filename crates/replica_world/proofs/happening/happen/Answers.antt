@@ -22,7 +22,8 @@ pub returns-in-Deliver-clause-ok : goal.returns-in-Deliver-clause-ok
 returns-in-Deliver-clause-ok g c = rw c.in-Deliver.is (if_ok_weaker c.deliver_at.result (λ answer made. made c.args.hash) c.deliver_at.ensures.ok)
 
 pub returns-in-Deliver-clause-refused : goal.returns-in-Deliver-clause-refused
-returns-in-Deliver-clause-refused g c = rw c.in-Deliver.is (if_err_weaker c.deliver_at.result (λ refusal refused. refused c.args.hash) c.deliver_at.ensures.refused)
+returns-in-Deliver-clause-refused g c =
+    rw c.in-Deliver.is (if_err_weaker c.deliver_at.result (λ refusal refused. refused c.args.hash) c.deliver_at.ensures.refused)
 
 pub returns-in-Deliver-clause-unchanged : goal.returns-in-Deliver-clause-unchanged
 returns-in-Deliver-clause-unchanged g c = on_err_weaker c.deliver_at.result (λ leaves. leaves c.args.hash) c.deliver_at.ensures.unchanged
@@ -31,16 +32,19 @@ pub returns-in-Restart-clause-ok : goal.returns-in-Restart-clause-ok
 returns-in-Restart-clause-ok g c =
     rw c.in-Restart.is
     (if_ok_weaker c.restart_at.result
-    (λ answer told. rw told.0 (restart_made c.args.hash c.args.replicas.now c.restart_at.new.replicas c.args.posted.now c.in-Restart.name g.H.PathHash.hash_of told.1))
+    (λ answer told. rw told.0 (restart_made c.args.hash c.args.replicas.now c.restart_at.new.replicas c.args.posted.now c.in-Restart.name
+    g.H.PathHash.hash_of told.1))
     c.restart_at.ensures.ok)
 
 pub returns-in-Restart-clause-refused : goal.returns-in-Restart-clause-refused
 returns-in-Restart-clause-refused g c =
     rw c.in-Restart.is
     (if_err_weaker c.restart_at.result
-    (λ refusal told. restart_refused c.args.hash c.args.replicas.now c.restart_at.new.replicas c.args.posted.now c.in-Restart.name refusal told) c.restart_at.ensures.refused)
+    (λ refusal told. restart_refused c.args.hash c.args.replicas.now c.restart_at.new.replicas c.args.posted.now c.in-Restart.name refusal told)
+    c.restart_at.ensures.refused)
 
 pub returns-in-Restart-clause-unchanged : goal.returns-in-Restart-clause-unchanged
 returns-in-Restart-clause-unchanged g c =
     on_err_weaker c.restart_at.result
-    (λ stays. left c.args.hash c.args.replicas.now c.restart_at.new.replicas c.args.posted.now c.args.posted.now c.in-Restart.name stays refl) c.restart_at.ensures.unchanged
+    (λ stays. left c.args.hash c.args.replicas.now c.restart_at.new.replicas c.args.posted.now c.args.posted.now c.in-Restart.name stays refl)
+    c.restart_at.ensures.unchanged

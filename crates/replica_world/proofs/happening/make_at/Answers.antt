@@ -9,7 +9,13 @@ returns-in-Some-clause-ok g c =
     let was = c.in-Some.ensures.value in
     let updates = (c.get_mut.follows.holds c.make.new.replica).3 (subst IsSome was refl) in
     if_ok_weaker c.make.result
-    (λ answer called. (c.in-Some.replica.now, c.make.new.replica, replaces_from c.args.replicas.now (c.get_mut.follows.lender c.make.new.replica) c.args.name _ _ was updates, called))
+    (λ answer called. (
+      c.in-Some.replica.now,
+      c.make.new.replica,
+      replaces_from c.args.replicas.now (c.get_mut.follows.lender c.make.new.replica)
+          c.args.name _ _ was updates,
+      called,
+    ))
     c.make.ensures.ok
 
 pub returns-in-Some-clause-refused : goal.returns-in-Some-clause-refused
@@ -21,5 +27,11 @@ returns-in-Some-clause-unchanged g c =
     let was = c.in-Some.ensures.value in
     let updates = (c.get_mut.follows.holds c.make.new.replica).3 (subst IsSome was refl) in
     on_err_weaker c.make.result
-    (λ stays. inr (c.in-Some.replica.now, c.make.new.replica, replaces_from c.args.replicas.now (c.get_mut.follows.lender c.make.new.replica) c.args.name _ _ was updates, stays))
+    (λ stays. inr (
+      c.in-Some.replica.now,
+      c.make.new.replica,
+      replaces_from c.args.replicas.now (c.get_mut.follows.lender c.make.new.replica)
+          c.args.name _ _ was updates,
+      stays,
+    ))
     c.make.ensures.unchanged

@@ -11,7 +11,8 @@ loop-init g c = c.new-views.ensures.items
 
 pub loop-preserved : goal.loop-preserved
 loop-preserved g c =
-    c.in_ok-push.ensures.items ∙ ap (λ view. c.loop.views.items ++ view ∷ []) (c.new.ensures ∙ c.again.ensures ∙ c.requires) ∙ ap (λ views. views ++ [] ∷ []) c.loop.invariant ∙ replicate-append-replicate c.loop.counter 1 []
+    c.in_ok-push.ensures.items ∙ ap (λ view. c.loop.views.items ++ view ∷ []) (c.new.ensures ∙ c.again.ensures ∙ c.requires)
+    ∙ ap (λ views. views ++ [] ∷ []) c.loop.invariant ∙ replicate-append-replicate c.loop.counter 1 []
 
 pub returns-clause-views : goal.returns-clause-views
 returns-clause-views g c =

@@ -7,5 +7,6 @@ returns-then-bytes-lt8 c = no_number c.args.bytes.now c.if-bytes-lt8.true
 
 pub returns : goal.returns
 returns c =
-    number_begins c.args.bytes.now c.split_at.result.0.now c.split_at.result.1.now c.from_be_bytes-number.result (λ i. omega (arith, c.type_inv.bytes i)) c.if-bytes-lt8.false c.split_at.ensures.front c.split_at.ensures.back
+    number_begins c.args.bytes.now c.split_at.result.0.now c.split_at.result.1.now c.from_be_bytes-number.result (λ i. omega (arith, c.type_inv.bytes i))
+    c.if-bytes-lt8.false c.split_at.ensures.front c.split_at.ensures.back
     c.from_be_bytes-number.ensures

@@ -1,6 +1,7 @@
 use Rattle.std.proofs.Common.{Ok, Err, [], ap, arith, inr, length, ◌<◌, length-take, refl}
 use Rattle.std.proofs.lemmas.Result.{on_ok_weaker, on_err_weaker, IfErr-weaker}
-use Rattle.trace_cli.proofs.RunLemmas.{Ran-start, Ran-kept, Ran-answered, Ran-more, Ran-stops, Ran-begins, Ran-finishes, Ran-ends, Pieces-more, at_end, writer_failed, never_gone_on, all_flushed, input_is_other}
+use Rattle.trace_cli.proofs.RunLemmas.{Ran-start, Ran-kept, Ran-answered, Ran-more, Ran-stops, Ran-begins, Ran-finishes, Ran-ends, Pieces-more, at_end}
+use Rattle.trace_cli.proofs.RunLemmas.{writer_failed, never_gone_on, all_flushed, input_is_other}
 use Rattle.trace_cli.proofs.TurnLemmas.{Turned-start, Turned-read, Turned-more}
 use Rattle.trace_cli.proofs.StreamLemmas.{Keeps-itself, Consumes-nothing, Consumes-kept}
 use Rattle.trace_cli.specs.Lines.{has_newline}
@@ -75,7 +76,11 @@ calls-init g c =
       calls = c.requires.reader_is_new.no_calls;
       failed = c.requires.reader_is_new.no_failure;
       not_gone_on = c.requires.reader_is_new.not_gone_on;
-      sound = record { no_failure = c.requires.writer_is_new.no_failure; not_gone_on = c.requires.writer_is_new.not_gone_on; flushed = c.requires.writer_is_new.flushed };
+      sound = record {
+        no_failure = c.requires.writer_is_new.no_failure;
+        not_gone_on = c.requires.writer_is_new.not_gone_on;
+        flushed = c.requires.writer_is_new.flushed;
+      };
       pieces = ([], Consumes-nothing _, omega arith);
     }
 
@@ -87,7 +92,8 @@ returns-clause-front g c = Ran-kept _ _ _ _ _ _ c.calls.invariant.led (Keeps-its
 
 pub returns-in_default-clause-pieces : goal.returns-in_default-clause-pieces
 returns-in_default-clause-pieces g c =
-    Pieces-more _ _ _ [] _ _ c.calls.invariant.pieces (Consumes-kept _ _ c.in_default.ensures.bytes) (omega (arith, c.in_default.ensures.calls, c.calls.invariant.calls))
+    Pieces-more _ _ _ [] _ _ c.calls.invariant.pieces (Consumes-kept _ _ c.in_default.ensures.bytes)
+    (omega (arith, c.in_default.ensures.calls, c.calls.invariant.calls))
 
 pub returns-then-count-eq0-clause-pieces : goal.returns-then-count-eq0-clause-pieces
 returns-then-count-eq0-clause-pieces g c =
@@ -96,7 +102,8 @@ returns-then-count-eq0-clause-pieces g c =
 
 pub returns-in-Err-clause-pieces : goal.returns-in-Err-clause-pieces
 returns-in-Err-clause-pieces g c =
-    Pieces-more _ _ _ _ _ _ c.calls.invariant.pieces c.in-Ok.ensures.bytes.0 (omega (arith, length-take c.in-Ok.count c.read_beside.new.piece, c.in-Ok.ensures.calls, c.calls.invariant.calls))
+    Pieces-more _ _ _ _ _ _ c.calls.invariant.pieces c.in-Ok.ensures.bytes.0
+    (omega (arith, length-take c.in-Ok.count c.read_beside.new.piece, c.in-Ok.ensures.calls, c.calls.invariant.calls))
 
 pub returns-clause-pieces : goal.returns-clause-pieces
 returns-clause-pieces g c = Pieces-more _ _ _ [] _ _ c.calls.invariant.pieces (Consumes-nothing _) (omega (arith, c.calls.invariant.calls))
@@ -105,8 +112,10 @@ pub returns-then-count-eq0-clause-writer_failed : goal.returns-then-count-eq0-cl
 returns-then-count-eq0-clause-writer_failed g c = writer_failed c.finish-ended.result _ c.finish-ended.ensures.writer
 
 pub returns-then-count-eq0-clause-ended : goal.returns-then-count-eq0-clause-ended
-returns-then-count-eq0-clause-ended g c =
-    (rw (c.in-Ok.ensures.went_on, c.calls.invariant.not_gone_on, c.calls.invariant.failed) refl, never_gone_on c.finish-ended.result _ c.finish-ended.ensures.writer)
+returns-then-count-eq0-clause-ended g c = (
+  rw (c.in-Ok.ensures.went_on, c.calls.invariant.not_gone_on, c.calls.invariant.failed) refl,
+  never_gone_on c.finish-ended.result _ c.finish-ended.ensures.writer,
+)
 
 pub returns-then-count-eq0-clause-flushed : goal.returns-then-count-eq0-clause-flushed
 returns-then-count-eq0-clause-flushed g c = all_flushed c.finish-ended.result _ c.finish-ended.ensures.writer
@@ -116,8 +125,10 @@ returns-in-Err-clause-writer_failed g c =
     writer_failed {T = Unit {0}} (Err c.in-Err.refusal) _ c.in-Err.ensures.writer
 
 pub returns-in-Err-clause-ended : goal.returns-in-Err-clause-ended
-returns-in-Err-clause-ended g c =
-    (rw (c.in-Ok.ensures.went_on, c.calls.invariant.not_gone_on, c.calls.invariant.failed) refl, never_gone_on {T = Unit {0}} (Err c.in-Err.refusal) _ c.in-Err.ensures.writer)
+returns-in-Err-clause-ended g c = (
+  rw (c.in-Ok.ensures.went_on, c.calls.invariant.not_gone_on, c.calls.invariant.failed) refl,
+  never_gone_on {T = Unit {0}} (Err c.in-Err.refusal) _ c.in-Err.ensures.writer,
+)
 
 pub returns-in-Err-clause-flushed : goal.returns-in-Err-clause-flushed
 returns-in-Err-clause-flushed g c = all_flushed {T = Unit {0}} (Err c.in-Err.refusal) _ c.in-Err.ensures.writer

@@ -16,7 +16,11 @@ returns-then-eq g c = rw (told c.args.verb.now c.eq.ensures c.as_slice.ensures c
 
 pub returns-then-eq-2 : goal.returns-then-eq-2
 returns-then-eq-2 g c =
-    rw (told c.args.verb.now c.eq.ensures c.as_slice.ensures c.if-eq.false, told c.args.verb.now c.eq-2.ensures c.as_slice-2.ensures c.if-eq-2.true, ← c.in_ok-replica.ensures) refl
+    rw (
+      told c.args.verb.now c.eq.ensures c.as_slice.ensures c.if-eq.false,
+      told c.args.verb.now c.eq-2.ensures c.as_slice-2.ensures c.if-eq-2.true,
+      ← c.in_ok-replica.ensures,
+    ) refl
 
 pub returns : goal.returns
 returns g c =

@@ -15,32 +15,95 @@ pub returns-then-eq : goal.returns-then-eq
 returns-then-eq g c = rw (told c.args.verb.now c.eq.ensures c.as_slice.ensures c.if-eq.true, ← c.in_ok-replica.ensures) refl
 
 pub returns-then-eq-2 : goal.returns-then-eq-2
-returns-then-eq-2 g c = rw (told c.args.verb.now c.eq.ensures c.as_slice.ensures c.if-eq.false, told c.args.verb.now c.eq-2.ensures c.as_slice-2.ensures c.if-eq-2.true, ← c.in_ok-replica.ensures) refl
+returns-then-eq-2 g c = rw (
+  told c.args.verb.now c.eq.ensures c.as_slice.ensures c.if-eq.false,
+  told c.args.verb.now c.eq-2.ensures c.as_slice-2.ensures c.if-eq-2.true,
+  ← c.in_ok-replica.ensures,
+) refl
 
 pub returns-then-eq-3 : goal.returns-then-eq-3
-returns-then-eq-3 g c = rw (told c.args.verb.now c.eq.ensures c.as_slice.ensures c.if-eq.false, told c.args.verb.now c.eq-2.ensures c.as_slice-2.ensures c.if-eq-2.false, told c.args.verb.now c.eq-3.ensures c.as_slice-3.ensures c.if-eq-3.true, ← c.in_ok-replica.ensures) refl
+returns-then-eq-3 g c = rw (
+  told c.args.verb.now c.eq.ensures c.as_slice.ensures c.if-eq.false,
+  told c.args.verb.now c.eq-2.ensures c.as_slice-2.ensures c.if-eq-2.false,
+  told c.args.verb.now c.eq-3.ensures c.as_slice-3.ensures c.if-eq-3.true,
+  ← c.in_ok-replica.ensures,
+) refl
 
 pub returns-then-eq-4 : goal.returns-then-eq-4
-returns-then-eq-4 g c = rw (told c.args.verb.now c.eq.ensures c.as_slice.ensures c.if-eq.false, told c.args.verb.now c.eq-2.ensures c.as_slice-2.ensures c.if-eq-2.false, told c.args.verb.now c.eq-3.ensures c.as_slice-3.ensures c.if-eq-3.false, told c.args.verb.now c.eq-4.ensures c.as_slice-4.ensures c.if-eq-4.true, ← c.in_ok-replica.ensures) refl
+returns-then-eq-4 g c = rw (
+  told c.args.verb.now c.eq.ensures c.as_slice.ensures c.if-eq.false,
+  told c.args.verb.now c.eq-2.ensures c.as_slice-2.ensures c.if-eq-2.false,
+  told c.args.verb.now c.eq-3.ensures c.as_slice-3.ensures c.if-eq-3.false,
+  told c.args.verb.now c.eq-4.ensures c.as_slice-4.ensures c.if-eq-4.true,
+  ← c.in_ok-replica.ensures,
+) refl
 
 pub returns-then-eq-5 : goal.returns-then-eq-5
-returns-then-eq-5 g c = rw (told c.args.verb.now c.eq.ensures c.as_slice.ensures c.if-eq.false, told c.args.verb.now c.eq-2.ensures c.as_slice-2.ensures c.if-eq-2.false, told c.args.verb.now c.eq-3.ensures c.as_slice-3.ensures c.if-eq-3.false, told c.args.verb.now c.eq-4.ensures c.as_slice-4.ensures c.if-eq-4.false, told c.args.verb.now c.eq-5.ensures c.as_slice-5.ensures c.if-eq-5.true, ← c.in_ok-replica.ensures) refl
+returns-then-eq-5 g c = rw (
+  told c.args.verb.now c.eq.ensures c.as_slice.ensures c.if-eq.false,
+  told c.args.verb.now c.eq-2.ensures c.as_slice-2.ensures c.if-eq-2.false,
+  told c.args.verb.now c.eq-3.ensures c.as_slice-3.ensures c.if-eq-3.false,
+  told c.args.verb.now c.eq-4.ensures c.as_slice-4.ensures c.if-eq-4.false,
+  told c.args.verb.now c.eq-5.ensures c.as_slice-5.ensures c.if-eq-5.true,
+  ← c.in_ok-replica.ensures,
+) refl
 
 pub returns-then-eq-6 : goal.returns-then-eq-6
-returns-then-eq-6 g c = rw (told c.args.verb.now c.eq.ensures c.as_slice.ensures c.if-eq.false, told c.args.verb.now c.eq-2.ensures c.as_slice-2.ensures c.if-eq-2.false, told c.args.verb.now c.eq-3.ensures c.as_slice-3.ensures c.if-eq-3.false, told c.args.verb.now c.eq-4.ensures c.as_slice-4.ensures c.if-eq-4.false, told c.args.verb.now c.eq-5.ensures c.as_slice-5.ensures c.if-eq-5.false, told c.args.verb.now c.eq-6.ensures c.as_slice-6.ensures c.if-eq-6.true, ← c.in_ok-replica.ensures) refl
+returns-then-eq-6 g c = rw (
+  told c.args.verb.now c.eq.ensures c.as_slice.ensures c.if-eq.false,
+  told c.args.verb.now c.eq-2.ensures c.as_slice-2.ensures c.if-eq-2.false,
+  told c.args.verb.now c.eq-3.ensures c.as_slice-3.ensures c.if-eq-3.false,
+  told c.args.verb.now c.eq-4.ensures c.as_slice-4.ensures c.if-eq-4.false,
+  told c.args.verb.now c.eq-5.ensures c.as_slice-5.ensures c.if-eq-5.false,
+  told c.args.verb.now c.eq-6.ensures c.as_slice-6.ensures c.if-eq-6.true,
+  ← c.in_ok-replica.ensures,
+) refl
 
 pub returns-then-eq-7 : goal.returns-then-eq-7
-returns-then-eq-7 g c = rw (told c.args.verb.now c.eq.ensures c.as_slice.ensures c.if-eq.false, told c.args.verb.now c.eq-2.ensures c.as_slice-2.ensures c.if-eq-2.false, told c.args.verb.now c.eq-3.ensures c.as_slice-3.ensures c.if-eq-3.false, told c.args.verb.now c.eq-4.ensures c.as_slice-4.ensures c.if-eq-4.false, told c.args.verb.now c.eq-5.ensures c.as_slice-5.ensures c.if-eq-5.false, told c.args.verb.now c.eq-6.ensures c.as_slice-6.ensures c.if-eq-6.false, told c.args.verb.now c.eq-7.ensures c.as_slice-7.ensures c.if-eq-7.true, ← c.in_ok-replica.ensures) refl
+returns-then-eq-7 g c = rw (
+  told c.args.verb.now c.eq.ensures c.as_slice.ensures c.if-eq.false,
+  told c.args.verb.now c.eq-2.ensures c.as_slice-2.ensures c.if-eq-2.false,
+  told c.args.verb.now c.eq-3.ensures c.as_slice-3.ensures c.if-eq-3.false,
+  told c.args.verb.now c.eq-4.ensures c.as_slice-4.ensures c.if-eq-4.false,
+  told c.args.verb.now c.eq-5.ensures c.as_slice-5.ensures c.if-eq-5.false,
+  told c.args.verb.now c.eq-6.ensures c.as_slice-6.ensures c.if-eq-6.false,
+  told c.args.verb.now c.eq-7.ensures c.as_slice-7.ensures c.if-eq-7.true,
+  ← c.in_ok-replica.ensures,
+) refl
 
 pub returns-then-eq-8 : goal.returns-then-eq-8
-returns-then-eq-8 g c = rw (told c.args.verb.now c.eq.ensures c.as_slice.ensures c.if-eq.false, told c.args.verb.now c.eq-2.ensures c.as_slice-2.ensures c.if-eq-2.false, told c.args.verb.now c.eq-3.ensures c.as_slice-3.ensures c.if-eq-3.false, told c.args.verb.now c.eq-4.ensures c.as_slice-4.ensures c.if-eq-4.false, told c.args.verb.now c.eq-5.ensures c.as_slice-5.ensures c.if-eq-5.false, told c.args.verb.now c.eq-6.ensures c.as_slice-6.ensures c.if-eq-6.false, told c.args.verb.now c.eq-7.ensures c.as_slice-7.ensures c.if-eq-7.false, told c.args.verb.now c.eq-8.ensures c.as_slice-8.ensures c.if-eq-8.true, ← c.in_ok-replica.ensures) refl
+returns-then-eq-8 g c = rw (
+  told c.args.verb.now c.eq.ensures c.as_slice.ensures c.if-eq.false,
+  told c.args.verb.now c.eq-2.ensures c.as_slice-2.ensures c.if-eq-2.false,
+  told c.args.verb.now c.eq-3.ensures c.as_slice-3.ensures c.if-eq-3.false,
+  told c.args.verb.now c.eq-4.ensures c.as_slice-4.ensures c.if-eq-4.false,
+  told c.args.verb.now c.eq-5.ensures c.as_slice-5.ensures c.if-eq-5.false,
+  told c.args.verb.now c.eq-6.ensures c.as_slice-6.ensures c.if-eq-6.false,
+  told c.args.verb.now c.eq-7.ensures c.as_slice-7.ensures c.if-eq-7.false,
+  told c.args.verb.now c.eq-8.ensures c.as_slice-8.ensures c.if-eq-8.true,
+  ← c.in_ok-replica.ensures,
+) refl
 
 pub returns : goal.returns
-returns g c = rw (told c.args.verb.now c.eq.ensures c.as_slice.ensures c.if-eq.false, told c.args.verb.now c.eq-2.ensures c.as_slice-2.ensures c.if-eq-2.false, told c.args.verb.now c.eq-3.ensures c.as_slice-3.ensures c.if-eq-3.false, told c.args.verb.now c.eq-4.ensures c.as_slice-4.ensures c.if-eq-4.false, told c.args.verb.now c.eq-5.ensures c.as_slice-5.ensures c.if-eq-5.false, told c.args.verb.now c.eq-6.ensures c.as_slice-6.ensures c.if-eq-6.false, told c.args.verb.now c.eq-7.ensures c.as_slice-7.ensures c.if-eq-7.false, told c.args.verb.now c.eq-8.ensures c.as_slice-8.ensures c.if-eq-8.false) c.of_a_crash.ensures
+returns g c = rw (
+  told c.args.verb.now c.eq.ensures c.as_slice.ensures c.if-eq.false,
+  told c.args.verb.now c.eq-2.ensures c.as_slice-2.ensures c.if-eq-2.false,
+  told c.args.verb.now c.eq-3.ensures c.as_slice-3.ensures c.if-eq-3.false,
+  told c.args.verb.now c.eq-4.ensures c.as_slice-4.ensures c.if-eq-4.false,
+  told c.args.verb.now c.eq-5.ensures c.as_slice-5.ensures c.if-eq-5.false,
+  told c.args.verb.now c.eq-6.ensures c.as_slice-6.ensures c.if-eq-6.false,
+  told c.args.verb.now c.eq-7.ensures c.as_slice-7.ensures c.if-eq-7.false,
+  told c.args.verb.now c.eq-8.ensures c.as_slice-8.ensures c.if-eq-8.false,
+)
+    c.of_a_crash.ensures
 
 pub returns-in_err-replica : goal.returns-in_err-replica
 returns-in_err-replica g c =
     let is = bytes_eq c.args.verb.now in
     rw (c.from_residual.ensures, ← c.in_err-replica.ensures)
-    (none_else (is (codes "node")) (none_else (is (codes "flush")) (none_else (is (codes "clear")) (none_else (is (codes "show")) (none_else (is (codes "size")) (none_else (is (codes "context")) (none_else (is (codes "pin")) (none_else (is (codes "digest"))
+    (none_else (is (codes "node"))
+    (none_else (is (codes "flush"))
+    (none_else (is (codes "clear"))
+    (none_else (is (codes "show"))
+    (none_else (is (codes "size")) (none_else (is (codes "context")) (none_else (is (codes "pin")) (none_else (is (codes "digest"))
     (none_else (is (codes "save")) (none_else (is (codes "crash")) refl))))))))))

@@ -13,6 +13,7 @@ returns g c = λ live same.
     record { ascending = c.in_ok-found.ensures.ascending; just = rw c.empty.ensures at c.in_ok-found.ensures.held } in
     inr (
       c.in_ok-key.ensures.ok.1,
-      values_told live (plain c.args.key.now) (plain c.in_ok-key.key) c.in_ok-found.found.items c.as_slice.result.now c.in_ok-text.text.items (ap plain c.in_ok-key.ensures.ok.0)
+      values_told live (plain c.args.key.now) (plain c.in_ok-key.key) c.in_ok-found.found.items c.as_slice.result.now c.in_ok-text.text.items
+          (ap plain c.in_ok-key.ensures.ok.0)
           (stands_same state live (plain c.in_ok-key.key) c.in_ok-found.found.items same lists) c.as_slice.ensures.value c.in_ok-text.ensures.ok,
     )

@@ -18,11 +18,14 @@ loop-key-preserved g c =
     let P : List ℕ → List (List ℕ) → Type 0 = λ key. Lists (StandsWithin (meaning c.args.replica.now).live key) in
     let label : List ℕ = c.key-item.result in
     let added = rw c.bytes.ensures.value at c.in_ok-push_entry.ensures.ok in
-    subst (λ ls. AddsEntries P ls c.args.out.now.items c.push_entry.new.out.items) (sym (take_next c.args.keys.now c.loop-key.key-index label c.loop-key-test.true c.key-item.is))
-    (adds_more P (take c.loop-key.key-index c.args.keys.now) c.in_ok-found.found.items c.as_slice.result.now label c.args.out.now.items c.loop-key.out.items c.push_entry.new.out.items
+    subst (λ ls. AddsEntries P ls c.args.out.now.items c.push_entry.new.out.items)
+    (sym (take_next c.args.keys.now c.loop-key.key-index label c.loop-key-test.true c.key-item.is))
+    (adds_more P (take c.loop-key.key-index c.args.keys.now) c.in_ok-found.found.items c.as_slice.result.now label c.args.out.now.items c.loop-key.out.items
+    c.push_entry.new.out.items
     c.loop-key.invariant c.in_ok-found.ensures.ok c.as_slice.ensures.value added)
 
 pub returns-clause-ok : goal.returns-clause-ok
 returns-clause-ok g c =
     let P : List ℕ → List (List ℕ) → Type 0 = λ key. Lists (StandsWithin (meaning c.args.replica.now).live key) in
-    subst (λ ls. AddsEntries P ls c.args.out.now.items c.loop-key.out.items) (take_all c.loop-key.key-index c.args.keys.now c.loop-key-test.false) c.loop-key.invariant
+    subst (λ ls. AddsEntries P ls c.args.out.now.items c.loop-key.out.items) (take_all c.loop-key.key-index c.args.keys.now c.loop-key-test.false)
+    c.loop-key.invariant

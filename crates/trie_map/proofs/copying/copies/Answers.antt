@@ -9,7 +9,8 @@ pub loop-key-init : goal.loop-key-init
 loop-key-init g c = (
   visits_none c.args.map.now.1 (g.H.PathHash.hash_of c.frozen.result.now.hash) c.into_iter-key-iterator.result
       (IsCopied g.S.DotStore.at c.args.map.now.1 c.new-copies.result)
-      (c.into_iter-key-iterator.ensures.into_iter_gives ∙ c.iter-key-items.ensures ∙ ap (walk (g.H.PathHash.hash_of c.frozen.result.now.hash)) c.frozen.ensures.map),
+      (c.into_iter-key-iterator.ensures.into_iter_gives ∙ c.iter-key-items.ensures
+      ∙ ap (walk (g.H.PathHash.hash_of c.frozen.result.now.hash)) c.frozen.ensures.map),
   no_copies g.S.DotStore.at c.args.map.now.1 c.new-copies.result c.new-copies.ensures.empty,
   c.new-copies.ensures.ordered,
 )
@@ -32,7 +33,8 @@ loop-key-preserved g c =
 
 pub returns-clause-ok : goal.returns-clause-ok
 returns-clause-ok g c = record {
-  all = λ q s is. visits_all c.args.map.now.1 c.loop-key.key-iterator (IsCopied g.S.DotStore.at c.args.map.now.1 c.loop-key.copies) c.loop-key.invariant.0 c.in-None.ensures.steps.0 q s is s is;
+  all = λ q s is. visits_all c.args.map.now.1 c.loop-key.key-iterator (IsCopied g.S.DotStore.at c.args.map.now.1 c.loop-key.copies)
+      c.loop-key.invariant.0 c.in-None.ensures.steps.0 q s is s is;
   only = c.loop-key.invariant.1;
   ordered = c.loop-key.invariant.2;
 }

@@ -12,8 +12,10 @@ use Rattle.trie_map.proofs.joining.join_others.Goals as goal
 pub loop-key-init : goal.loop-key-init
 loop-key-init g c = (
   visits_none c.args.yours.now.1 (g.H.PathHash.hash_of c.frozen.result.now.hash) c.into_iter-key-iterator.result
-      (IsJoinedAt g.S.DotStore.at g.S.DotStore.greater (at_keys g.S.DotStore.at c.args.mine.now) (has c.args.own.now) (at_keys g.S.DotStore.at c.args.yours.now) (has c.args.theirs.now) c.args.draft.now.1)
-      (c.into_iter-key-iterator.ensures.into_iter_gives ∙ c.iter-key-items.ensures ∙ ap (walk (g.H.PathHash.hash_of c.frozen.result.now.hash)) c.frozen.ensures.map),
+      (IsJoinedAt g.S.DotStore.at g.S.DotStore.greater (at_keys g.S.DotStore.at c.args.mine.now) (has c.args.own.now) (at_keys g.S.DotStore.at c.args.yours.now)
+      (has c.args.theirs.now) c.args.draft.now.1)
+      (c.into_iter-key-iterator.ensures.into_iter_gives ∙ c.iter-key-items.ensures
+      ∙ ap (walk (g.H.PathHash.hash_of c.frozen.result.now.hash)) c.frozen.ensures.map),
   c.requires,
   refl,
 )
@@ -44,7 +46,8 @@ loop-key-preserved-in-Continue-1 g c =
           (joined_apart at greater mine own yours theirs old new key empty store mine_holds yours_holds before.either step),
       record {
         either = either_more at greater mine own yours theirs old new key empty store mine_holds yours_holds before.either step;
-        there = λ q s is. joined_kept at greater mine own yours theirs old new key empty store mine_holds yours_holds before.either step q (before.there q s is);
+        there = λ q s is. joined_kept at greater mine own yours theirs old new key empty store mine_holds yours_holds before.either step q
+            (before.there q s is);
       },
       c.in_ok-join_at.ensures.hash ∙ c.loop-key.invariant.2,
     )
@@ -69,6 +72,7 @@ returns-clause-ok g c = (
   record {
     either = c.loop-key.invariant.1.either;
     there = visits_all c.args.yours.now.1 c.loop-key.key-iterator
-        (IsJoinedAt g.S.DotStore.at g.S.DotStore.greater (at_keys g.S.DotStore.at c.args.mine.now) (has c.args.own.now) (at_keys g.S.DotStore.at c.args.yours.now) (has c.args.theirs.now) c.loop-key.draft.1) c.loop-key.invariant.0 c.in-None.ensures.steps.0;
+        (IsJoinedAt g.S.DotStore.at g.S.DotStore.greater (at_keys g.S.DotStore.at c.args.mine.now) (has c.args.own.now)
+        (at_keys g.S.DotStore.at c.args.yours.now) (has c.args.theirs.now) c.loop-key.draft.1) c.loop-key.invariant.0 c.in-None.ensures.steps.0;
   },
 )

@@ -11,8 +11,10 @@ use Rattle.trie_map.proofs.joining.join_own.Goals as goal
 pub loop-key-init : goal.loop-key-init
 loop-key-init g c = (
   visits_none c.args.mine.now.1 (g.H.PathHash.hash_of c.frozen.result.now.hash) c.into_iter-key-iterator.result
-      (IsJoinedAt g.S.DotStore.at g.S.DotStore.greater (at_keys g.S.DotStore.at c.args.mine.now) (has c.args.own.now) (at_keys g.S.DotStore.at c.args.yours.now) (has c.args.theirs.now) c.args.draft.now.1)
-      (c.into_iter-key-iterator.ensures.into_iter_gives ∙ c.iter-key-items.ensures ∙ ap (walk (g.H.PathHash.hash_of c.frozen.result.now.hash)) c.frozen.ensures.map),
+      (IsJoinedAt g.S.DotStore.at g.S.DotStore.greater (at_keys g.S.DotStore.at c.args.mine.now) (has c.args.own.now) (at_keys g.S.DotStore.at c.args.yours.now)
+      (has c.args.theirs.now) c.args.draft.now.1)
+      (c.into_iter-key-iterator.ensures.into_iter_gives ∙ c.iter-key-items.ensures
+      ∙ ap (walk (g.H.PathHash.hash_of c.frozen.result.now.hash)) c.frozen.ensures.map),
   λ q. inl (held_where g.S.DotStore.at c.args.draft.now c.args.mine.now q c.requires),
   refl,
 )
@@ -49,5 +51,6 @@ pub returns-clause-ok : goal.returns-clause-ok
 returns-clause-ok g c = record {
   either = c.loop-key.invariant.1;
   there = visits_all c.args.mine.now.1 c.loop-key.key-iterator
-      (IsJoinedAt g.S.DotStore.at g.S.DotStore.greater (at_keys g.S.DotStore.at c.args.mine.now) (has c.args.own.now) (at_keys g.S.DotStore.at c.args.yours.now) (has c.args.theirs.now) c.loop-key.draft.1) c.loop-key.invariant.0 c.in-None.ensures.steps.0;
+      (IsJoinedAt g.S.DotStore.at g.S.DotStore.greater (at_keys g.S.DotStore.at c.args.mine.now) (has c.args.own.now) (at_keys g.S.DotStore.at c.args.yours.now)
+      (has c.args.theirs.now) c.loop-key.draft.1) c.loop-key.invariant.0 c.in-None.ensures.steps.0;
 }

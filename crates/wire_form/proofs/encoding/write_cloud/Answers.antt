@@ -8,7 +8,8 @@ use Rattle.wire_form.proofs.encoding.write_cloud.Goals as goal
 pub loop-dot-preserved : goal.loop-dot-preserved
 loop-dot-preserved g c =
     let ds = c.cloud-dots.result.now in
-    next_written dot_bytes IsDot c.args.out.now.items c.loop-dot.out.items c.write_dot.new.out.items (length ds) ds c.loop-dot.dot-index c.dot-item.result c.loop-dot.invariant c.loop-dot-test.true c.dot-item.is c.in_ok-write_dot.ensures.ok
+    next_written dot_bytes IsDot c.args.out.now.items c.loop-dot.out.items c.write_dot.new.out.items (length ds)
+    ds c.loop-dot.dot-index c.dot-item.result c.loop-dot.invariant c.loop-dot-test.true c.dot-item.is c.in_ok-write_dot.ensures.ok
 
 pub returns-clause-ok : goal.returns-clause-ok
 returns-clause-ok g c =

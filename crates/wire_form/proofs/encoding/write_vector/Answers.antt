@@ -9,8 +9,10 @@ pub loop-name-preserved : goal.loop-name-preserved
 loop-name-preserved g c =
     let es = c.vector-entries.result.now in
     let e = c.loop-name-item.result in
-    next_written entry IsEntry c.args.out.now.items c.loop-name.out.items c.write_number-in-loop-name.new.out.items (length es) es c.loop-name.name-index e c.loop-name.invariant c.loop-name-test.true c.loop-name-item.is
-    (pair_appends number IsName number IsNumber c.loop-name.out.items c.write_name.new.out.items c.write_number-in-loop-name.new.out.items e.0 e.1 c.in_ok-write_name.ensures.ok c.in_ok-write_number-2.ensures.ok)
+    next_written entry IsEntry c.args.out.now.items c.loop-name.out.items c.write_number-in-loop-name.new.out.items (length es)
+    es c.loop-name.name-index e c.loop-name.invariant c.loop-name-test.true c.loop-name-item.is
+    (pair_appends number IsName number IsNumber c.loop-name.out.items c.write_name.new.out.items c.write_number-in-loop-name.new.out.items e.0 e.1
+    c.in_ok-write_name.ensures.ok c.in_ok-write_number-2.ensures.ok)
 
 pub returns-clause-ok : goal.returns-clause-ok
 returns-clause-ok g c =

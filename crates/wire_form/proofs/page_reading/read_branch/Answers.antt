@@ -11,4 +11,5 @@ pub returns-in_err-read_to_end : goal.returns-in_err-read_to_end
 returns-in_err-read_to_end g c =
     let p = err_from_is_err_and c.from_residual.result c.from_residual.ensures.1 in
     rw (p.1, p.2)
-    (refuses_weaker ((xs : List (ℕ × List ℕ)) → IsWhole (flat_map child) (AllByRecursion IsChild) c.args.bytes.now xs → ⊥) (SpellsNoPage (2 ∷ c.args.bytes.now)) c.in_err-read_to_end.field-0.0 (no_branch c.args.bytes.now) c.in_err-read_to_end.ensures)
+    (refuses_weaker ((xs : List (ℕ × List ℕ)) → IsWhole (flat_map child) (AllByRecursion IsChild) c.args.bytes.now xs → ⊥) (SpellsNoPage (2 ∷ c.args.bytes.now))
+    c.in_err-read_to_end.field-0.0 (no_branch c.args.bytes.now) c.in_err-read_to_end.ensures)

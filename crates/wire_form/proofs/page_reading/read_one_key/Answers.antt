@@ -10,7 +10,8 @@ pub returns-in_err-entry : goal.returns-in_err-entry
 returns-in_err-entry g c =
     let p = err_from_is_err_and c.from_residual.result c.from_residual.ensures.1 in
     rw (p.1, p.2)
-    (refuses_weaker (HasNoSpelling entry IsEntry c.args.bytes.now) (SpellsNoPage (0 ∷ c.args.bytes.now)) c.in_err-entry.field-0.0 (no_one_key c.args.bytes.now) c.in_err-entry.ensures)
+    (refuses_weaker (HasNoSpelling entry IsEntry c.args.bytes.now) (SpellsNoPage (0 ∷ c.args.bytes.now)) c.in_err-entry.field-0.0 (no_one_key c.args.bytes.now)
+    c.in_err-entry.ensures)
 
 pub returns-then-not-is_empty : goal.returns-then-not-is_empty
 returns-then-not-is_empty g c = no_one_key_end c.args.bytes.now c.in_ok-entry.entry c.in_ok-entry.rest.now c.in_ok-entry.ensures c.if-not-is_empty.ensures

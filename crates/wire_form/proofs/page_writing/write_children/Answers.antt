@@ -13,4 +13,5 @@ loop-index-preserved g c =
 
 pub returns-clause-ok : goal.returns-clause-ok
 returns-clause-ok g c =
-    all_behind child IsChild c.args.out.now.items c.loop-index.out.items c.args.children.now c.loop-index.index-index c.loop-index.invariant c.loop-index-test.false
+    all_behind child IsChild c.args.out.now.items c.loop-index.out.items c.args.children.now c.loop-index.index-index c.loop-index.invariant
+    c.loop-index-test.false

@@ -7,7 +7,8 @@ loop-key-init g c = none_behind entry IsEntry c.args.out.now.items
 
 pub loop-key-preserved : goal.loop-key-preserved
 loop-key-preserved g c =
-    next_behind entry IsEntry c.args.out.now.items c.loop-key.out.items c.write_entry.new.out.items c.args.entries.now c.loop-key.key-index c.loop-key-item.result
+    next_behind entry IsEntry c.args.out.now.items c.loop-key.out.items c.write_entry.new.out.items c.args.entries.now c.loop-key.key-index
+    c.loop-key-item.result
     c.loop-key.invariant c.loop-key-test.true c.loop-key-item.is c.in_ok-write_entry.ensures.ok
 
 pub returns-clause-ok : goal.returns-clause-ok

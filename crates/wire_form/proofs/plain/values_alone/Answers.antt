@@ -15,7 +15,8 @@ returns-clause-values g c =
     subst (λ (es : FieldsValue). IfSome c.values_in.result (λ values. values.now ≡ first_values es)) c.entries-entries.ensures.rest c.values_in.ensures.values
 
 pub returns-clause-ascend : goal.returns-clause-ascend
-returns-clause-ascend g c = subst (λ (es : FieldsValue). IsStrictlySortedBy bytes_cmp (keys_of es)) c.entries-entries.ensures.rest c.entries-entries.ensures.ordered
+returns-clause-ascend g c = subst (λ (es : FieldsValue). IsStrictlySortedBy bytes_cmp (keys_of es))
+    c.entries-entries.ensures.rest c.entries-entries.ensures.ordered
 
 pub returns-clause-filled : goal.returns-clause-filled
 returns-clause-filled g c = subst (λ (es : FieldsValue). NoKeyIsEmpty at_values es) c.entries-entries.ensures.rest c.entries-entries.ensures.filled

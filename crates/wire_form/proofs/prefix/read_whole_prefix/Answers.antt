@@ -7,4 +7,5 @@ use Rattle.wire_form.proofs.prefix.read_whole_prefix.Goals as goal
 
 pub returns-in-Err : goal.returns-in-Err
 returns-in-Err c =
-    refuses_weaker (HasNoSpelling prefix IsPrefix c.args.bytes.now) ((p : List ℕ) → IsWhole prefix IsPrefix c.args.bytes.now p → ⊥) c.in-Err.refusal (none_whole prefix IsPrefix c.args.bytes.now) c.in-Err.ensures
+    refuses_weaker (HasNoSpelling prefix IsPrefix c.args.bytes.now) ((p : List ℕ) → IsWhole prefix IsPrefix c.args.bytes.now p → ⊥) c.in-Err.refusal
+    (none_whole prefix IsPrefix c.args.bytes.now) c.in-Err.ensures

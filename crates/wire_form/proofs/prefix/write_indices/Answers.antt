@@ -10,7 +10,9 @@ loop-first-smaller g c = omega (arith, ap length c.in-Some.ensures.parts)
 
 pub loop-first-preserved : goal.loop-first-preserved
 loop-first-preserved g c =
-    index_written c.args.out.now.items c.loop-first.out.items c.push.new.self.items c.args.prefix c.loop-first.rest c.in-Some.first.1 c.in-Some.first.0 c.loop-first.invariant c.in-Some.ensures.parts c.in_ok-push.ensures.items
+    index_written c.args.out.now.items c.loop-first.out.items c.push.new.self.items c.args.prefix c.loop-first.rest c.in-Some.first.1 c.in-Some.first.0
+    c.loop-first.invariant c.in-Some.ensures.parts c.in_ok-push.ensures.items
 
 pub returns-clause-ok : goal.returns-clause-ok
-returns-clause-ok g c = indices_written c.args.out.now.items c.loop-first.out.items c.args.prefix c.loop-first.rest c.loop-first.invariant c.in_default.ensures.parts
+returns-clause-ok g c = indices_written c.args.out.now.items c.loop-first.out.items c.args.prefix c.loop-first.rest c.loop-first.invariant
+    c.in_default.ensures.parts

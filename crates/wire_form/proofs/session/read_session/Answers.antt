@@ -17,8 +17,10 @@ returns-in_err-number g c =
     let p = err_from_is_err_and c.from_residual-in_err-number.result c.from_residual-in_err-number.ensures.1 in
     rw (p.1, p.2)
     (refuses_weaker (HasNoSpelling number IsNumber c.in_ok-answerer.rest.now) (HasNoSpelling session IsSession c.args.bytes.now) c.in_err-number.field-0.0
-    (no_session_number c.args.bytes.now c.in_ok-asker.asker c.in_ok-asker.rest.now c.in_ok-answerer.answerer c.in_ok-answerer.rest.now c.in_ok-asker.ensures c.in_ok-answerer.ensures) c.in_err-number.ensures)
+    (no_session_number c.args.bytes.now c.in_ok-asker.asker c.in_ok-asker.rest.now c.in_ok-answerer.answerer c.in_ok-answerer.rest.now c.in_ok-asker.ensures
+    c.in_ok-answerer.ensures) c.in_err-number.ensures)
 
 pub returns-in-None : goal.returns-in-None
 returns-in-None g c =
-    no_session c.args.bytes.now c.in_ok-asker.asker c.in_ok-asker.rest.now c.in_ok-answerer.answerer c.in_ok-answerer.rest.now c.in_ok-number.number c.in_ok-number.rest.now c.in_ok-asker.ensures c.in_ok-answerer.ensures c.in_ok-number.ensures c.in-None.ensures.found.1
+    no_session c.args.bytes.now c.in_ok-asker.asker c.in_ok-asker.rest.now c.in_ok-answerer.answerer c.in_ok-answerer.rest.now c.in_ok-number.number
+    c.in_ok-number.rest.now c.in_ok-asker.ensures c.in_ok-answerer.ensures c.in_ok-number.ensures c.in-None.ensures.found.1

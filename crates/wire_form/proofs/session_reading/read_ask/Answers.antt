@@ -14,7 +14,8 @@ returns-in_err-read_whole_prefix-in-Ok g c =
     let rest = c.in-Ok.front.1.now in
     rw (p.1, p.2)
     (refuses_weaker ((v : List ℕ) → IsWhole prefix IsPrefix rest v → ⊥) (SpellsNone (3 ∷ 5 ∷ c.args.bytes.now)) c.in_err-read_whole_prefix-in-Ok.field-0.0
-    (λ none. no_ask c.args.bytes.now (none_in_said 5 prefix IsPrefix c.args.bytes.now c.in-Ok.front.0 rest c.in-Ok.ensures none)) c.in_err-read_whole_prefix-in-Ok.ensures)
+    (λ none. no_ask c.args.bytes.now (none_in_said 5 prefix IsPrefix c.args.bytes.now c.in-Ok.front.0 rest c.in-Ok.ensures none))
+    c.in_err-read_whole_prefix-in-Ok.ensures)
 
 pub returns-in-Err : goal.returns-in-Err
 returns-in-Err g c =

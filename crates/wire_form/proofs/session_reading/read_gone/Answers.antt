@@ -13,7 +13,8 @@ returns-in_err-read_nothing-in-Ok g c =
     let rest = c.in-Ok.front.1.now in
     rw (p.1, p.2)
     (refuses_weaker ((v : Unit {0}) → IsWhole empty_spelling IsNothing rest v → ⊥) (SpellsNone (3 ∷ 7 ∷ c.args.bytes.now)) c.in_err-read_nothing-in-Ok.field-0.0
-    (λ none. no_gone c.args.bytes.now (none_in_said 7 empty_spelling IsNothing c.args.bytes.now c.in-Ok.front.0 rest c.in-Ok.ensures none)) c.in_err-read_nothing-in-Ok.ensures)
+    (λ none. no_gone c.args.bytes.now (none_in_said 7 empty_spelling IsNothing c.args.bytes.now c.in-Ok.front.0 rest c.in-Ok.ensures none))
+    c.in_err-read_nothing-in-Ok.ensures)
 
 pub returns-in-Err : goal.returns-in-Err
 returns-in-Err g c =

@@ -15,7 +15,8 @@ returns-in_err-read_known-in-Ok g c =
     let rest = c.in-Ok.front.1.now in
     rw (p.1, p.2)
     (refuses_weaker ((v : ContextValue) → IsWhole context IsContext rest v → ⊥) (SpellsNone (3 ∷ 3 ∷ c.args.bytes.now)) c.in_err-read_known-in-Ok.field-0.0
-    (λ none. no_hello c.args.bytes.now (none_in_said 3 context IsContext c.args.bytes.now c.in-Ok.front.0 rest c.in-Ok.ensures none)) c.in_err-read_known-in-Ok.ensures)
+    (λ none. no_hello c.args.bytes.now (none_in_said 3 context IsContext c.args.bytes.now c.in-Ok.front.0 rest c.in-Ok.ensures none))
+    c.in_err-read_known-in-Ok.ensures)
 
 pub returns-in-Err : goal.returns-in-Err
 returns-in-Err g c =

@@ -13,8 +13,10 @@ returns-in_err-shown-in-Ok g c =
     let p = err_from_is_err_and c.from_residual.result c.from_residual.ensures.1 in
     let rest = c.in-Ok.front.1.now in
     rw (p.1, p.2)
-    (refuses_weaker ((v : ContextValue × Option (List ℕ)) → IsWhole opening IsOpening rest v → ⊥) (SpellsNone (3 ∷ 4 ∷ c.args.bytes.now)) c.in_err-shown-in-Ok.field-0.0
-    (λ none. no_opening c.args.bytes.now (none_in_said 4 opening IsOpening c.args.bytes.now c.in-Ok.front.0 rest c.in-Ok.ensures none)) c.in_err-shown-in-Ok.ensures)
+    (refuses_weaker ((v : ContextValue × Option (List ℕ)) → IsWhole opening IsOpening rest v → ⊥) (SpellsNone (3 ∷ 4 ∷ c.args.bytes.now))
+    c.in_err-shown-in-Ok.field-0.0
+    (λ none. no_opening c.args.bytes.now (none_in_said 4 opening IsOpening c.args.bytes.now c.in-Ok.front.0 rest c.in-Ok.ensures none))
+    c.in_err-shown-in-Ok.ensures)
 
 pub returns-in-Err : goal.returns-in-Err
 returns-in-Err g c =

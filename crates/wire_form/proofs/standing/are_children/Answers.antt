@@ -9,5 +9,7 @@ returns-then-have_indices c =
     ((λ sorted. (c.in-Some.ensures.0, some, within, c.is_ascending.ensures.0 sorted)), (λ stands. c.is_ascending.ensures.1 stands.3))
 
 pub returns-else-have_indices : goal.returns-else-have_indices
-returns-else-have_indices c =
-    ((λ never. absurd (cc (never, c.if-have_indices.false))), (λ stands. c.have_indices.ensures.1 (subst (λ n. AllByRecursion (λ child. child.0 ≤ n) c.args.children.now) (sym c.in-Some.ensures.1) stands.2)))
+returns-else-have_indices c = (
+  (λ never. absurd (cc (never, c.if-have_indices.false))),
+  (λ stands. c.have_indices.ensures.1 (subst (λ n. AllByRecursion (λ child. child.0 ≤ n) c.args.children.now) (sym c.in-Some.ensures.1) stands.2)),
+)

@@ -12,7 +12,8 @@ returns-then-not-is_filled g c =
 pub loop-fields-preserved : goal.loop-fields-preserved
 loop-fields-preserved g c =
     let test = c.if-not-is_filled.ensures in
-    all_more HasFields c.args.entries.now c.loop-fields.fields-index c.loop-fields-item.result c.loop-fields.invariant c.loop-fields-test.true c.loop-fields-item.is (met test)
+    all_more HasFields c.args.entries.now c.loop-fields.fields-index c.loop-fields-item.result c.loop-fields.invariant c.loop-fields-test.true
+    c.loop-fields-item.is (met test)
 
 pub returns : goal.returns
 returns g c = tested_all HasFields c.args.entries.now c.loop-fields.fields-index c.loop-fields.invariant c.loop-fields-test.false

@@ -12,7 +12,8 @@ returns-then-not-has_dot g c =
 pub loop-names-preserved : goal.loop-names-preserved
 loop-names-preserved g c =
     let test = c.if-not-has_dot.ensures in
-    all_more HasDot c.args.entries.now c.loop-names.names-index c.loop-names-item.result c.loop-names.invariant c.loop-names-test.true c.loop-names-item.is (met test)
+    all_more HasDot c.args.entries.now c.loop-names.names-index c.loop-names-item.result c.loop-names.invariant c.loop-names-test.true
+    c.loop-names-item.is (met test)
 
 pub returns : goal.returns
 returns g c = tested_all HasDot c.args.entries.now c.loop-names.names-index c.loop-names.invariant c.loop-names-test.false

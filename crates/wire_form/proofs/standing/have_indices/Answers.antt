@@ -7,11 +7,13 @@ loop-index-init c = tt
 
 pub returns-then-from-last : goal.returns-then-from-last
 returns-then-from-last c =
-    read_not (λ (x : ℕ × List ℕ). x.0 ≤ c.args.last) c.args.children.now c.loop-index.index-index (0, []) c.loop-index-test.true (λ h. omega (arith, c.from.ensures, c.if-from-last.true, h))
+    read_not (λ (x : ℕ × List ℕ). x.0 ≤ c.args.last) c.args.children.now c.loop-index.index-index (0, []) c.loop-index-test.true
+    (λ h. omega (arith, c.from.ensures, c.if-from-last.true, h))
 
 pub loop-index-preserved : goal.loop-index-preserved
 loop-index-preserved c =
-    read_more (λ (x : ℕ × List ℕ). x.0 ≤ c.args.last) c.args.children.now c.loop-index.index-index (0, []) c.loop-index.invariant c.loop-index-test.true (omega (arith, c.from.ensures, c.if-from-last.false))
+    read_more (λ (x : ℕ × List ℕ). x.0 ≤ c.args.last) c.args.children.now c.loop-index.index-index (0, []) c.loop-index.invariant c.loop-index-test.true
+    (omega (arith, c.from.ensures, c.if-from-last.false))
 
 pub returns : goal.returns
 returns c = tested_all (λ (x : ℕ × List ℕ). x.0 ≤ c.args.last) c.args.children.now c.loop-index.index-index c.loop-index.invariant c.loop-index-test.false

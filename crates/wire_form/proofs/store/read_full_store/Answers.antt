@@ -11,20 +11,23 @@ pub returns-in_err-entries : goal.returns-in_err-entries
 returns-in_err-entries g c =
     let p = err_from_is_err_and c.from_residual.result c.from_residual.ensures.1 in
     rw (p.1, p.2)
-    (refuses_weaker (HasNoSpelling (counted (pair text fields_bytes)) (AreCounted (IsPair IsText AreFields)) c.args.bytes.now) (HasNoSpelling (store false) (IsStoreOf false) c.args.bytes.now) c.in_err-entries.field-0.0
+    (refuses_weaker (HasNoSpelling (counted (pair text fields_bytes)) (AreCounted (IsPair IsText AreFields)) c.args.bytes.now)
+    (HasNoSpelling (store false) (IsStoreOf false) c.args.bytes.now) c.in_err-entries.field-0.0
     (no_full_items c.args.bytes.now) c.in_err-entries.ensures)
 
 pub returns-then-is_plain_store : goal.returns-then-is_plain_store
 returns-then-is_plain_store g c =
     let same = c.in-Some.ensures.stores in
-    no_fields_of_plain c.args.bytes.now c.in_ok-entries.entries.items c.in-Some.store c.in_ok-entries.rest.now c.in_ok-entries.ensures same (sym c.if-is_plain_store.ensures)
+    no_fields_of_plain c.args.bytes.now c.in_ok-entries.entries.items c.in-Some.store c.in_ok-entries.rest.now c.in_ok-entries.ensures same
+    (sym c.if-is_plain_store.ensures)
 
 pub returns-else-is_plain_store : goal.returns-else-is_plain_store
 returns-else-is_plain_store g c =
     let canonical = c.in-Some.ensures.canonical in
     let same = c.in-Some.ensures.stores in
     let both = canonical.0 refl in
-    full_store_begins c.args.bytes.now c.in_ok-entries.entries.items c.in-Some.store c.in_ok-entries.rest.now c.in_ok-entries.ensures both.0 both.1 same (sym c.if-is_plain_store.ensures)
+    full_store_begins c.args.bytes.now c.in_ok-entries.entries.items c.in-Some.store c.in_ok-entries.rest.now c.in_ok-entries.ensures both.0 both.1 same
+    (sym c.if-is_plain_store.ensures)
 
 pub returns-in-None : goal.returns-in-None
 returns-in-None g c =

@@ -7,4 +7,5 @@ loop-key-init g c = c.in_ok-entries.ensures.items
 
 pub loop-key-preserved : goal.loop-key-preserved
 loop-key-preserved g c =
-    c.in_ok-push.ensures.items ∙ ap (λ fields. c.loop-key.entries.items ++ (c.in-Some.key, fields) ∷ []) c.into_fields.ensures ∙ ap (λ entries. entries ++ (c.in-Some.key, c.in-Some.plain) ∷ []) c.loop-key.invariant
+    c.in_ok-push.ensures.items ∙ ap (λ fields. c.loop-key.entries.items ++ (c.in-Some.key, fields) ∷ []) c.into_fields.ensures
+    ∙ ap (λ entries. entries ++ (c.in-Some.key, c.in-Some.plain) ∷ []) c.loop-key.invariant

@@ -9,7 +9,8 @@ pub loop-dot-preserved : goal.loop-dot-preserved
 loop-dot-preserved g c =
     let ds = c.items-dot-items.result.now in
     let x = c.dot-item.result in
-    subst (λ seen. (d : DotValue) → has c.add.new.self d ≡ (has c.args.self.now d || in_cloud seen d)) (sym (take_next ds c.loop-dot.dot-index x c.loop-dot-test.true c.dot-item.is))
+    subst (λ seen. (d : DotValue) → has c.add.new.self d ≡ (has c.args.self.now d || in_cloud seen d))
+    (sym (take_next ds c.loop-dot.dot-index x c.loop-dot-test.true c.dot-item.is))
     (added_more (take c.loop-dot.dot-index ds) x (has c.args.self.now) (has c.loop-dot.self) (has c.add.new.self) c.in_ok-add.ensures.ok c.loop-dot.invariant)
 
 pub returns-clause-ok : goal.returns-clause-ok

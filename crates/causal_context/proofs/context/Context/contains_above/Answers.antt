@@ -31,7 +31,8 @@ returns-clause-above g c =
     let at = ap entry c.name.ensures in
     let above : DotValue = record { name = c.args.dot.name; number = c.args.dot.number + 1 } in
     let dot_of = λ (name number : ℕ). (let d : DotValue = record { name = name; number = number } in d) in
-    let is : c.dot_at.result ≡ above = c.dot_at.ensures ∙ ap (λ n. dot_of n (c.number-3.result + 1)) c.name-2.ensures ∙ ap (λ n. dot_of c.args.dot.name (n + 1)) c.number-3.ensures.value in
+    let is : c.dot_at.result ≡ above = c.dot_at.ensures ∙ ap (λ n. dot_of n (c.number-3.result + 1)) c.name-2.ensures
+    ∙ ap (λ n. dot_of c.args.dot.name (n + 1)) c.number-3.ensures.value in
     c.contains.ensures ∙ list_any-dot_cmp c.dot_at.result c.self.inside.cloud ∙ ap (in_cloud c.self.inside.cloud) is
     ∙ known_above entry (in_cloud c.self.inside.cloud) above (omega arith) (omega (arith, at)) ∙ ap (λ x. has x above) c.self.view_is
 

@@ -10,7 +10,8 @@ pub loop-dot-preserved : goal.loop-dot-preserved
 loop-dot-preserved g c =
     let ds = c.items-dot-items.result.now in
     let x = c.dot-item.result in
-    subst (λ seen. (d : DotValue) → IsTrue (in_cloud seen d) → IsTrue (has c.args.self.now d)) (sym (take_next ds c.loop-dot.dot-index x c.loop-dot-test.true c.dot-item.is))
+    subst (λ seen. (d : DotValue) → IsTrue (in_cloud seen d) → IsTrue (has c.args.self.now d))
+    (sym (take_next ds c.loop-dot.dot-index x c.loop-dot-test.true c.dot-item.is))
     (every_more (λ d. IsTrue (has c.args.self.now d)) (take c.loop-dot.dot-index ds) x c.loop-dot.invariant (sym c.if-not-contains.ensures))
 
 pub returns-then-not-contains : goal.returns-then-not-contains

@@ -7,6 +7,8 @@ pub returns : goal.returns
 unfolding has
 returns g c =
     let vector = c.self.inside.vector in
-    let found = greatest-known (known_up_to vector) (in_cloud c.self.inside.cloud) c.args.name c.greatest_in-above.result c.self.invariant.apart c.greatest_in-above.ensures in
+    let found = greatest-known (known_up_to vector) (in_cloud c.self.inside.cloud)
+    c.args.name c.greatest_in-above.result c.self.invariant.apart c.greatest_in-above.ensures in
     subst (λ x. IsGreatest c.args.name (has x) c.max.result) c.self.view_is
-    (subst (IsGreatest c.args.name (has (record { vector = vector; cloud = c.self.inside.cloud }))) (sym (c.max.ensures ∙ ap (λ n. max c.greatest_in-above.result n) c.known_up_to.ensures)) found)
+    (subst (IsGreatest c.args.name (has (record { vector = vector; cloud = c.self.inside.cloud })))
+    (sym (c.max.ensures ∙ ap (λ n. max c.greatest_in-above.result n) c.known_up_to.ensures)) found)

@@ -9,5 +9,6 @@ unfolding has
 returns g c =
     let other = c.args.other.now in
     subst (IsGrowth c.args.self.now other) (sym c.and.ensures)
-    (growth-both (has c.args.self.now) (has other) (is_known other.vector []) (in_cloud other.cloud) (has other) c.growth_by_vector-below.result c.growth_by_cloud-apart.result
+    (growth-both (has c.args.self.now) (has other) (is_known other.vector []) (in_cloud other.cloud) (has other)
+    c.growth_by_vector-below.result c.growth_by_cloud-apart.result
     (λ d h. split_parts d.number (known_up_to other.vector d.name) (in_cloud other.cloud d) h) c.growth_by_vector-below.ensures c.growth_by_cloud-apart.ensures)

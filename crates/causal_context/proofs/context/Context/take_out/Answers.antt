@@ -18,4 +18,5 @@ returns-clause-taken g c = λ d. c.take_from.ensures.taken d ∙ ap (λ x. has x
 
 pub returns-clause-restored : goal.returns-clause-restored
 returns-clause-restored g c = λ context canonical absent adds.
-    added_taken context c.args.self.now (record { vector = c.take_from.new.vector; cloud = c.take_from.new.cloud }) c.args.dot canonical c.take_from.ensures.canonical absent adds (returns-clause-taken g c)
+    added_taken context c.args.self.now (record { vector = c.take_from.new.vector; cloud = c.take_from.new.cloud })
+    c.args.dot canonical c.take_from.ensures.canonical absent adds (returns-clause-taken g c)

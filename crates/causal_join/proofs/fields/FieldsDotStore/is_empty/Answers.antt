@@ -12,4 +12,5 @@ pub returns-clause-nothing : goal.returns-clause-nothing
 returns-clause-nothing g c = subst (λ fields. IsTrue c.is_empty.result ↔ HasNothing (fields_at fields)) c.self.view_is c.is_empty.ensures.nothing
 
 pub returns-clause-canonical : goal.returns-clause-canonical
-returns-clause-canonical g c = subst (IsCanonicalMap at_values bytes_cmp (λ values. IsStrictlySortedBy dot_cmp (keys_of values))) c.self.view_is c.is_empty.ensures.canonical
+returns-clause-canonical g c = subst (IsCanonicalMap at_values bytes_cmp (λ values. IsStrictlySortedBy dot_cmp (keys_of values)))
+    c.self.view_is c.is_empty.ensures.canonical

@@ -9,15 +9,18 @@ loop-act-init g c = (c.into_iter-act-iterator.ensures.into_iter_gives.0, refl, r
 
 pub loop-act-preserved : goal.loop-act-preserved
 loop-act-preserved g c =
-    goes_on c.loop-act.yielded _ _ _ _ _ _ _ _ c.loop-act.invariant.0 c.in-Some.ensures.steps.0 c.loop-act.invariant.1 c.loop-act.invariant.2 (c.if-lacks_memory_for.ensures.done refl)
+    goes_on c.loop-act.yielded _ _ _ _ _ _ _ _ c.loop-act.invariant.0 c.in-Some.ensures.steps.0 c.loop-act.invariant.1 c.loop-act.invariant.2
+    (c.if-lacks_memory_for.ensures.done refl)
 
 pub returns-then-lacks_memory_for-clause-err : goal.returns-then-lacks_memory_for-clause-err
 returns-then-lacks_memory_for-clause-err g c =
-    stopped c.loop-act.yielded _ _ _ _ _ _ _ _ c.loop-act.invariant.0 c.in-Some.ensures.steps.0 c.loop-act.invariant.1 c.loop-act.invariant.2 (c.if-lacks_memory_for.ensures.same refl)
+    stopped c.loop-act.yielded _ _ _ _ _ _ _ _ c.loop-act.invariant.0 c.in-Some.ensures.steps.0 c.loop-act.invariant.1 c.loop-act.invariant.2
+    (c.if-lacks_memory_for.ensures.same refl)
 
 pub returns-then-lacks_memory_for-clause-each : goal.returns-then-lacks_memory_for-clause-each
 returns-then-lacks_memory_for-clause-each g c =
-    stopped_each c.loop-act.yielded _ _ _ _ _ _ _ _ c.loop-act.invariant.0 c.in-Some.ensures.steps.0 c.loop-act.invariant.1 c.loop-act.invariant.2 (c.if-lacks_memory_for.ensures.same refl)
+    stopped_each c.loop-act.yielded _ _ _ _ _ _ _ _ c.loop-act.invariant.0 c.in-Some.ensures.steps.0 c.loop-act.invariant.1 c.loop-act.invariant.2
+    (c.if-lacks_memory_for.ensures.same refl)
 
 pub returns-clause-each : goal.returns-clause-each
 returns-clause-each g c =
@@ -25,10 +28,12 @@ returns-clause-each g c =
     ended_each c.loop-act.yielded _ _ _ _ c.loop-act.invariant.0 none c.loop-act.invariant.1
 
 pub returns-then-lacks_memory_for-clause-others : goal.returns-then-lacks_memory_for-clause-others
-returns-then-lacks_memory_for-clause-others g c = others_stay c.loop-act.yielded c.loop-act.act-iterator.rest.items _ _ _ c.loop-act.invariant.0 (c.if-lacks_memory_for.ensures.same refl ∙ c.loop-act.invariant.1)
+returns-then-lacks_memory_for-clause-others g c = others_stay c.loop-act.yielded c.loop-act.act-iterator.rest.items _ _ _ c.loop-act.invariant.0
+    (c.if-lacks_memory_for.ensures.same refl ∙ c.loop-act.invariant.1)
 
 pub returns-then-lacks_memory_for-clause-read_only : goal.returns-then-lacks_memory_for-clause-read_only
-returns-then-lacks_memory_for-clause-read_only g c = marked_stay {A = g.row.A.Denot} c.loop-act.yielded _ _ (c.if-lacks_memory_for.ensures.same refl ∙ c.loop-act.invariant.1)
+returns-then-lacks_memory_for-clause-read_only g c = marked_stay {A = g.row.A.Denot} c.loop-act.yielded _ _
+    (c.if-lacks_memory_for.ensures.same refl ∙ c.loop-act.invariant.1)
 
 pub returns-clause-others : goal.returns-clause-others
 returns-clause-others g c = others_stay c.loop-act.yielded c.loop-act.act-iterator.rest.items _ _ _ c.loop-act.invariant.0 c.loop-act.invariant.1

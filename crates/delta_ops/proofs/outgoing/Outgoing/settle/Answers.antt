@@ -12,7 +12,13 @@ returns-clause-same g c =
     let log = c.self.inside.deltas.items in
     let whole = c.in_ok-group.group in
     log-settled log c.clear.new.self.items c.push.new.self.items c.in_ok-group-2.group whole c.args.self.now c.self.view_is
-    (subst (λ l. Same (or_map_state whole) (group_state (deltas_of l))) c.deref.ensures.value c.in_ok-group.ensures.ok) c.in_ok-group-2.ensures.ok c.clear.ensures.items (rw c.unwrap.ensures at c.push.ensures.items)
+    (subst (λ l. Same (or_map_state whole) (group_state (deltas_of l))) c.deref.ensures.value c.in_ok-group.ensures.ok)
+    c.in_ok-group-2.ensures.ok c.clear.ensures.items (rw c.unwrap.ensures at c.push.ensures.items)
 
 pub returns-then-len-max-clause-few : goal.returns-then-len-max-clause-few
-returns-then-len-max-clause-few g c = omega (arith, ap length c.self.view_is, length-map c.self.inside.deltas.items (λ delta. delta.value), c.self.inside.deltas.ok.0)
+returns-then-len-max-clause-few g c = omega (
+  arith,
+  ap length c.self.view_is,
+  length-map c.self.inside.deltas.items (λ delta. delta.value),
+  c.self.inside.deltas.ok.0,
+)

@@ -15,5 +15,6 @@ returns-clause-some g c = (
 
 pub returns-then-is_empty-clause-none : goal.returns-then-is_empty-clause-none
 returns-then-is_empty-clause-none g c = λ d.
-    let same = subst (λ group. Same (or_map_state c.in_ok-whole.whole) (group_state group)) (ap deltas_of c.deref.ensures.value ∙ c.self.view_is) c.in_ok-whole.ensures.ok in
+    let same = subst (λ group. Same (or_map_state c.in_ok-whole.whole) (group_state group)) (ap deltas_of c.deref.ensures.value ∙ c.self.view_is)
+    c.in_ok-whole.ensures.ok in
     sym (same.has d) ∙ subst (λ context. has context d ≡ false) c.context.ensures.value (c.if-is_empty.ensures.0 refl d)

@@ -17,5 +17,6 @@ returns-clause-held g c = λ place d v.
     let all : es ≡ c.args.self.now = c.entries.ensures.all ∙ c.self.view_is in
     let found = ap (λ l. at_values l place d) all in (
       λ h. Contains-from_lookup (same_key dot_cmp dot_exact) d v es (sym (at_values-found es place d) ∙ found ∙ h),
-      λ h. sym found ∙ at_values-found es place d ∙ lookup-from_Contains (eq_by_cmp_equiv dot_cmp_total) d v es (IsDistinct-from_sorted dot_cmp (keys_of es) c.entries.ensures.ordered) h,
+      λ h. sym found ∙ at_values-found es place d ∙ lookup-from_Contains (eq_by_cmp_equiv dot_cmp_total) d v es
+          (IsDistinct-from_sorted dot_cmp (keys_of es) c.entries.ensures.ordered) h,
     )

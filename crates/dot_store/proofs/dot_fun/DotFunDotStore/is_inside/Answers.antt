@@ -20,7 +20,8 @@ returns g c =
     let es = c.entries-dot-items.result.now in
     let all : es ≡ c.args.self.now = c.entries-dot-items.ensures.all ∙ c.self.view_is in (
       λ _ place d h.
-          (item_from_held (λ e. IsTrue (has c.args.context.now e.0)) es (λ k e below. c.loop-dot.invariant k e (omega (arith, below, c.loop-dot-test.false))) place d
+          (item_from_held (λ e. IsTrue (has c.args.context.now e.0)) es
+          (λ k e below. c.loop-dot.invariant k e (omega (arith, below, c.loop-dot-test.false))) place d
           (subst (λ l. IsSome (at_values l place d)) (sym all) h)).1,
       λ _. refl,
     )

@@ -15,5 +15,6 @@ returns-clause-ok g c =
     rw (← c.self.view_is, ← c.other.view_is)
     (λ place d.
     at_values-found c.in_ok-values.values place d ∙ c.in_ok-values.ensures.ok d
-    ∙ joined_along (ord_max g.V.Ord.cmp) (value_at dot_cmp mine d) (at_values mine place d) (value_at dot_cmp yours d) (at_values yours place d) (has c.args.own.now d) (has c.args.theirs.now d)
+    ∙ joined_along (ord_max g.V.Ord.cmp) (value_at dot_cmp mine d) (at_values mine place d) (value_at dot_cmp yours d) (at_values yours place d)
+    (has c.args.own.now d) (has c.args.theirs.now d)
     (sym (at_values-found mine place d)) (sym (at_values-found yours place d)))

@@ -10,7 +10,10 @@ unfolding at_stores
 invariant_of-self g c =
     let test = is_at (g.K.Ord.cmp c.args.key) in
     let es = c.self.inside.stores in
-    rw c.remove.ensures.entries (each_remove (λ s. HasNothing (g.S.DotStore.at s) → ⊥) test es c.self.invariant.0, each_remove g.S.DotStore.canonical test es c.self.invariant.1)
+    rw c.remove.ensures.entries (
+      each_remove (λ s. HasNothing (g.S.DotStore.at s) → ⊥) test es c.self.invariant.0,
+      each_remove g.S.DotStore.canonical test es c.self.invariant.1,
+    )
 
 pub invariant_of-self-2 : goal.invariant_of-self-2
 unfolding at_stores
@@ -20,7 +23,8 @@ invariant_of-self-2 g c =
     let fs = c.insert.new.self in (
       each_after_put (λ s. HasNothing (g.S.DotStore.at s) → ⊥) cmp c.insert.result es fs c.args.key c.args.store c.self.invariant.0
           (λ h. absurd (cc (sym c.if-is_empty.false ∙ c.is_empty-is_empty.ensures.nothing.1 h))) c.insert.ensures.ok c.insert.ensures.unchanged,
-      each_after_put g.S.DotStore.canonical cmp c.insert.result es fs c.args.key c.args.store c.self.invariant.1 c.is_empty-is_empty.ensures.canonical c.insert.ensures.ok c.insert.ensures.unchanged,
+      each_after_put g.S.DotStore.canonical cmp c.insert.result es fs c.args.key c.args.store c.self.invariant.1 c.is_empty-is_empty.ensures.canonical
+          c.insert.ensures.ok c.insert.ensures.unchanged,
     )
 
 pub returns-clause-nothing : goal.returns-clause-nothing

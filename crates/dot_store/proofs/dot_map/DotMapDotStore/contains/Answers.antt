@@ -12,7 +12,8 @@ returns-then-contains-clause-found g c = λ _.
     let es = c.entries-store-items.result.now in
     let all : es ≡ c.args.self.now = c.entries-store-items.ensures.all ∙ c.self.view_is in
     subst (λ l. HoldsDot (at_stores g.S.DotStore.at g.K.Ord.cmp l) c.args.dot) all
-    (holds_from_item g.S.DotStore.at g.K.Ord.cmp g.met.K.Ord.total es c.loop-store.store-index c.loop-store-item.result c.entries-store-items.ensures.ordered c.loop-store-test.true c.loop-store-item.is c.args.dot
+    (holds_from_item g.S.DotStore.at g.K.Ord.cmp g.met.K.Ord.total es c.loop-store.store-index c.loop-store-item.result c.entries-store-items.ensures.ordered
+    c.loop-store-test.true c.loop-store-item.is c.args.dot
     (c.if-contains.ensures.found refl))
 
 pub returns-then-contains-clause-absent : goal.returns-then-contains-clause-absent
@@ -21,7 +22,8 @@ returns-then-contains-clause-absent g c = λ answer. absurd (true≢false answer
 pub loop-store-preserved : goal.loop-store-preserved
 unfolding at_stores
 loop-store-preserved g c =
-    items_more (λ e. (place : _) → g.S.DotStore.at e.1 place c.args.dot ≡ None) c.entries-store-items.result.now c.loop-store.store-index c.loop-store-item.result c.loop-store-test.true c.loop-store-item.is
+    items_more (λ e. (place : _) → g.S.DotStore.at e.1 place c.args.dot ≡ None)
+    c.entries-store-items.result.now c.loop-store.store-index c.loop-store-item.result c.loop-store-test.true c.loop-store-item.is
     c.loop-store.invariant (c.if-contains.ensures.absent refl)
 
 pub returns-clause-absent : goal.returns-clause-absent
@@ -30,4 +32,5 @@ returns-clause-absent g c = λ _ place.
     let es = c.entries-store-items.result.now in
     let all : es ≡ c.args.self.now = c.entries-store-items.ensures.all ∙ c.self.view_is in
     ap (λ l. at_stores g.S.DotStore.at g.K.Ord.cmp l place c.args.dot) (sym all)
-    ∙ absent_from_items g.S.DotStore.at g.K.Ord.cmp g.met.K.Ord.total es c.args.dot (λ k e below. c.loop-store.invariant k e (omega (arith, below, c.loop-store-test.false))) place
+    ∙ absent_from_items g.S.DotStore.at g.K.Ord.cmp g.met.K.Ord.total es c.args.dot
+    (λ k e below. c.loop-store.invariant k e (omega (arith, below, c.loop-store-test.false))) place

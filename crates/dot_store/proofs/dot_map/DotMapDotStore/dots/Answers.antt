@@ -13,7 +13,8 @@ returns-clause-only g c =
     let cmp = g.K.Ord.cmp in
     let es = c.entries.result.now in
     let all : es ≡ c.args.self.now = c.entries.ensures.all ∙ c.self.view_is in
-    IfOk-weaker c.dots_of.result _ _ (λ dots only d h. subst (λ l. HoldsDot (at_stores at cmp l) d) all (held_of at cmp g.met.K.Ord.total es (has dots) c.entries.ensures.ordered only d h)) c.dots_of.ensures.only
+    IfOk-weaker c.dots_of.result _ _ (λ dots only d h. subst (λ l. HoldsDot (at_stores at cmp l) d) all
+    (held_of at cmp g.met.K.Ord.total es (has dots) c.entries.ensures.ordered only d h)) c.dots_of.ensures.only
 
 pub returns-clause-all : goal.returns-clause-all
 returns-clause-all g c =
@@ -21,4 +22,5 @@ returns-clause-all g c =
     let cmp = g.K.Ord.cmp in
     let es = c.entries.result.now in
     let all : es ≡ c.args.self.now = c.entries.ensures.all ∙ c.self.view_is in
-    IfOk-weaker c.dots_of.result _ _ (λ dots each place d h. all_held at cmp g.met.K.Ord.total es (has dots) each place d (subst (λ l. IsSome (at_stores at cmp l place d)) (sym all) h)) c.dots_of.ensures.all
+    IfOk-weaker c.dots_of.result _ _ (λ dots each place d h. all_held at cmp g.met.K.Ord.total es (has dots) each place d
+    (subst (λ l. IsSome (at_stores at cmp l place d)) (sym all) h)) c.dots_of.ensures.all

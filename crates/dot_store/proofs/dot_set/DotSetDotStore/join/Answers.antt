@@ -11,5 +11,6 @@ returns-clause-ok g c = λ place d.
     let mine = at_dots-at_values c.self.inside.dots c.args.self.now c.self.view_is place d in
     let yours = at_dots-at_values c.other.inside.dots c.args.other.now c.other.view_is place d in
     at_keys c.in_ok-dots.dots place d ∙ c.in_ok-dots.ensures.ok place d
-    ∙ joined_along greater_unit (at_values c.self.inside.dots place d) (at_dots c.args.self.now place d) (at_values c.other.inside.dots place d) (at_dots c.args.other.now place d) (has c.args.own.now d) (has c.args.theirs.now d)
+    ∙ joined_along greater_unit (at_values c.self.inside.dots place d) (at_dots c.args.self.now place d) (at_values c.other.inside.dots place d)
+    (at_dots c.args.other.now place d) (has c.args.own.now d) (has c.args.theirs.now d)
     (sym mine) (sym yours)

@@ -13,4 +13,5 @@ returns-in-Ok-clause-found g c =
     ok_then c.over.result (λ log begun clean.
     let both = begun clean in
     let opened = c.in-Ok.ensures.opened both.0 in
-    opened_as (image_at g.S.Start) (file_state c.in-Ok.conn) (log_state over_files log) opened.0 opened.1 (c.in-Ok.ensures.found both.0) both.1) c.over.ensures.found
+    opened_as (image_at g.S.Start) (file_state c.in-Ok.conn) (log_state over_files log) opened.0 opened.1 (c.in-Ok.ensures.found both.0) both.1)
+    c.over.ensures.found

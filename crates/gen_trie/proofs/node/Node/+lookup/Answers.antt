@@ -5,7 +5,8 @@ use Rattle.gen_trie.proofs.node.Node.+lookup.Goals as goal
 
 pub lookup-requires : goal.lookup-requires
 lookup-requires g t c κs within =
-    let sorted = look_sorted _ _ _ _ _ c.args.key.now _ (ap stands_for c.self.view_is) c.in-Branch.is c.self.invariant.0 _ _ c.in-Some-Many.node _ c.in-Some-Many.field-0-is c.deref.ensures c.in-Some-Many.ensures c.requires in
+    let sorted = look_sorted _ _ _ _ _ c.args.key.now _ (ap stands_for c.self.view_is)
+    c.in-Branch.is c.self.invariant.0 _ _ c.in-Some-Many.node _ c.in-Some-Many.field-0-is c.deref.ensures c.in-Some-Many.ensures c.requires in
     search (rules, sorted)
 
 pub returns-in-None-clause-value : goal.returns-in-None-clause-value
@@ -13,8 +14,10 @@ returns-in-None-clause-value g t c = look_none _ _ _ _ _ _ _ (ap stands_for c.se
 
 pub returns-in-Some-One-clause-value : goal.returns-in-Some-One-clause-value
 returns-in-Some-One-clause-value g t c =
-    look_one _ _ _ _ _ _ _ (ap stands_for c.self.view_is) c.in-Branch.is c.self.invariant.0 _ _ c.in-Some-One.entry _ _ c.in-Some-One.field-0-is refl c.in-Some-One.ensures c.entry_for.ensures.value
+    look_one _ _ _ _ _ _ _ (ap stands_for c.self.view_is) c.in-Branch.is c.self.invariant.0 _ _ c.in-Some-One.entry _ _ c.in-Some-One.field-0-is refl
+    c.in-Some-One.ensures c.entry_for.ensures.value
 
 pub returns-in-Some-Many-clause-value : goal.returns-in-Some-Many-clause-value
 returns-in-Some-Many-clause-value g t c =
-    look_many _ _ _ _ _ _ _ (ap stands_for c.self.view_is) c.in-Branch.is c.self.invariant.0 _ _ c.in-Some-Many.node _ _ c.in-Some-Many.field-0-is c.deref.ensures c.in-Some-Many.ensures c.lookup.ensures.value
+    look_many _ _ _ _ _ _ _ (ap stands_for c.self.view_is) c.in-Branch.is c.self.invariant.0 _ _ c.in-Some-Many.node _ _ c.in-Some-Many.field-0-is
+    c.deref.ensures c.in-Some-Many.ensures c.lookup.ensures.value

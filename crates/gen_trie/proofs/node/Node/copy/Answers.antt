@@ -8,7 +8,8 @@ use Rattle.gen_trie.proofs.node.Node.copy.Goals as goal
 
 pub invariant_of-result : goal.invariant_of-result
 invariant_of-result g c = (
-  same_branch c.in-Branch.below c.in-Branch.bitmap c.in-Branch.slots.items c.in_ok-slots-in-Branch.slots.items (subst IsCanonical c.in-Branch.is c.self.invariant.0)
+  same_branch c.in-Branch.below c.in-Branch.bitmap c.in-Branch.slots.items c.in_ok-slots-in-Branch.slots.items
+      (subst IsCanonical c.in-Branch.is c.self.invariant.0)
       (c.in_ok-slots-in-Branch.ensures.same c.in-Branch.below ∙ ap (children c.in-Branch.below) c.deref.ensures.value)
       (λ f. c.in_ok-slots-in-Branch.ensures.fits c.in-Branch.below (subst (All (StandsBelow c.in-Branch.below)) (sym c.deref.ensures.value) f)),
   tt,

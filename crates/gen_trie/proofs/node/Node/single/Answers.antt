@@ -8,7 +8,8 @@ pub invariant_of-result-2 : goal.invariant_of-result-2
 invariant_of-result-2 g c =
     let low : c.args.height - 1 ≤ 6 = omega arith in
     let up : c.args.height ≡ suc (c.args.height - 1) = omega arith in (
-      (single_is (c.args.height - 1) c.args.height c.digit_of-index.result c.args.entry c.new-slots.result.items c.push-2.new.self.items up low (c.digit_of-index.ensures.value ∙ ap (λ e. digit (c.args.height - 1) e.hash) c.deref.ensures) c.digit_of-index.ensures.bound
+      (single_is (c.args.height - 1) c.args.height c.digit_of-index.result c.args.entry c.new-slots.result.items c.push-2.new.self.items up low
+          (c.digit_of-index.ensures.value ∙ ap (λ e. digit (c.args.height - 1) e.hash) c.deref.ensures) c.digit_of-index.ensures.bound
           c.new-slots.ensures.items c.in_ok-push-2.ensures.items).0,
       tt,
       search rules,
@@ -19,5 +20,6 @@ returns-clause-ok g c =
     let low : c.args.height - 1 ≤ 6 = omega arith in
     let up : c.args.height ≡ suc (c.args.height - 1) = omega arith in
     ap (unsealed c.args.generation)
-    (single_is (c.args.height - 1) c.args.height c.digit_of-index.result c.args.entry c.new-slots.result.items c.push-2.new.self.items up low (c.digit_of-index.ensures.value ∙ ap (λ e. digit (c.args.height - 1) e.hash) c.deref.ensures) c.digit_of-index.ensures.bound
+    (single_is (c.args.height - 1) c.args.height c.digit_of-index.result c.args.entry c.new-slots.result.items c.push-2.new.self.items up low
+    (c.digit_of-index.ensures.value ∙ ap (λ e. digit (c.args.height - 1) e.hash) c.deref.ensures) c.digit_of-index.ensures.bound
     c.new-slots.ensures.items c.in_ok-push-2.ensures.items).1

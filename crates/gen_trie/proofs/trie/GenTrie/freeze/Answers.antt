@@ -9,7 +9,8 @@ returns-clause-ok g c = subst (λ trie. IfOk c.share.result (λ frozen. frozen �
 
 pub returns-clause-next : goal.returns-clause-next
 returns-clause-next g c =
-    subst (λ trie. OnOk c.share.result (c.share.new.self ≡ record trie { generation = generation_after trie.generation })) c.in_ok-seal.ensures.ok c.share.ensures.next
+    subst (λ trie. OnOk c.share.result (c.share.new.self ≡ record trie { generation = generation_after trie.generation }))
+    c.in_ok-seal.ensures.ok c.share.ensures.next
 
 pub returns-clause-same : goal.returns-clause-same
 returns-clause-same g c = err_so c.share.result (λ same. marked c.share.new.self c.args.self.now true (same ∙ c.in_ok-seal.ensures.ok)) c.share.ensures.same

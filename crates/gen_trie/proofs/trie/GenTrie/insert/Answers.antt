@@ -12,8 +12,10 @@ invariant_of-self g c =
     let f = g.H.PathHash.hash_of c.self.inside.hash in
     let hashed = c.hash-hash.ensures ∙ ap f c.bytes.ensures.value in (
       either_so c.insert_at.result
-          (λ is. IsTrie-put f c.self.inside.root c.insert_at.new.root c.self.inside.count c.insert_at.new.count c.hash-hash.result c.args.key c.args.value c.self.invariant.0 hashed c.insert_at.ensures.is_root is)
-          (λ same. IsTrie-same f c.self.inside.root c.insert_at.new.root c.self.inside.count c.insert_at.new.count c.self.invariant.0 c.insert_at.ensures.is_root same)
+          (λ is. IsTrie-put f c.self.inside.root c.insert_at.new.root c.self.inside.count c.insert_at.new.count c.hash-hash.result c.args.key c.args.value
+          c.self.invariant.0 hashed c.insert_at.ensures.is_root is)
+          (λ same. IsTrie-same f c.self.inside.root c.insert_at.new.root c.self.inside.count c.insert_at.new.count c.self.invariant.0
+          c.insert_at.ensures.is_root same)
           c.insert_at.ensures.ok c.insert_at.ensures.same,
       c.insert_at.ensures.stamp,
     )
@@ -23,7 +25,8 @@ returns-clause-ok g c =
     let f = g.H.PathHash.hash_of c.self.inside.hash in
     let hashed = c.hash-hash.ensures ∙ ap f c.bytes.ensures.value in
     ok_so c.insert_at.result
-    (λ is. ap (λ m. trie_shown c.self.inside.hash m c.self.inside.generation (root_sealed c.insert_at.new.root)) (insert_is f c.self.inside.root c.insert_at.new.root c.self.inside.count c.hash-hash.result c.args.key c.args.value c.self.invariant.0 hashed is)
+    (λ is. ap (λ m. trie_shown c.self.inside.hash m c.self.inside.generation (root_sealed c.insert_at.new.root))
+    (insert_is f c.self.inside.root c.insert_at.new.root c.self.inside.count c.hash-hash.result c.args.key c.args.value c.self.invariant.0 hashed is)
     ∙ ap (λ x. trie_shown x.hash (finite.insert x.map c.args.key c.args.value) x.generation (root_sealed c.insert_at.new.root)) c.self.view_is)
     c.insert_at.ensures.ok
 

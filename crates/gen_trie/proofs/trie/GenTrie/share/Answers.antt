@@ -4,7 +4,8 @@ use Rattle.gen_trie.proofs.trie.GenTrie.share.Goals as goal
 
 pub returns-clause-next : goal.returns-clause-next
 returns-clause-next g c =
-    let started : Shown g.row.H.Denot g.row.V.Denot → Shown g.row.H.Denot g.row.V.Denot = λ trie. record trie { generation = generation_after trie.generation } in
+    let started : Shown g.row.H.Denot g.row.V.Denot → Shown g.row.H.Denot g.row.V.Denot =
+    λ trie. record trie { generation = generation_after trie.generation } in
     ap (shown_of c.self.inside.hash c.self.inside.root) c.saturating_add-self-inside.ensures ∙ ap started c.self.view_is
 
 pub invariant_of-self : goal.invariant_of-self

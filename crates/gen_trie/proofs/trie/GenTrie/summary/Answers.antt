@@ -24,11 +24,14 @@ returns-in-Some-clause-summary g c =
 
 pub returns-in-None-clause-none : goal.returns-in-None-clause-none
 returns-in-None-clause-none g c =
-    subst (λ x. (◌≡◌ {A = Option g.row.M.Denot} None None) ↔ ((key : List ℕ) → indices (length c.args.prefix) (g.H.PathHash.hash_of x.hash key) ≡ c.args.prefix → finite.get x.map key ≡ None)) c.self.view_is
+    subst (λ x. (◌≡◌ {A = Option g.row.M.Denot} None None) ↔ ((key : List ℕ) → indices (length c.args.prefix) (g.H.PathHash.hash_of x.hash key) ≡ c.args.prefix
+    → finite.get x.map key ≡ None)) c.self.view_is
     (none_nowhere (g.H.PathHash.hash_of c.self.inside.hash) c.self.inside.root c.args.prefix c.in-None.is)
 
 pub returns-in-Some-clause-none : goal.returns-in-Some-clause-none
 returns-in-Some-clause-none g c =
-    subst (λ x. (c.summary_under.result ≡ None) ↔ ((key : List ℕ) → indices (length c.args.prefix) (g.H.PathHash.hash_of x.hash key) ≡ c.args.prefix → finite.get x.map key ≡ None)) c.self.view_is
-    (none_at g.M.Summary.calls (g.H.PathHash.hash_of c.self.inside.hash) c.self.inside.root c.self.inside.count c.self.invariant.0 c.args.prefix c.summary_under.result c.summary_under.ensures.short
+    subst (λ x. (c.summary_under.result ≡ None) ↔ ((key : List ℕ) → indices (length c.args.prefix) (g.H.PathHash.hash_of x.hash key) ≡ c.args.prefix
+    → finite.get x.map key ≡ None)) c.self.view_is
+    (none_at g.M.Summary.calls (g.H.PathHash.hash_of c.self.inside.hash) c.self.inside.root c.self.inside.count c.self.invariant.0 c.args.prefix
+    c.summary_under.result c.summary_under.ensures.short
     (c.summary_under.ensures.summary ∙ ap (λ root. summary_at g.M.Summary.calls c.args.prefix 7 (root_entries root)) (sym c.in-Some.is)))

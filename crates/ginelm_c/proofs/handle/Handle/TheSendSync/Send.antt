@@ -15,7 +15,10 @@ use Rattle.replica_core.proofs.Crossing.{object_send, frozen_send, fields_send, 
 use Rattle.ginelm_c.specs.contracts.handle.Handle.{the_row, the_type}
 
 held_send : IsSend held.the_row
-held_send = declared_send held.the_type (object_send, (texts.the_send, (search (frozen_send, fields_send, fields_sync, digests.the_send, digests.the_sync, hashes.the_send, sendable) depth 20, tt)))
+held_send = declared_send held.the_type (
+  object_send,
+  (texts.the_send, (search (frozen_send, fields_send, fields_sync, digests.the_send, digests.the_sync, hashes.the_send, sendable) depth 20, tt)),
+)
 
 pub send : IsSend the_row
 send = let ps : IsSend RawPtr = search sendable in

@@ -15,7 +15,11 @@ use Rattle.replica_core.proofs.Crossing.{map_send, fields_send, fields_sync}
 use Rattle.ginelm_c.specs.contracts.snapshot_handle.SnapshotHandle.{the_row, the_type}
 
 snapshot_send : IsSend snapshot.the_row
-snapshot_send = declared_send snapshot.the_type (search (map_send, fields_send, fields_sync, digests.the_send, digests.the_sync, hashes.the_send, sendable) depth 20, (texts.the_send, tt))
+snapshot_send = declared_send snapshot.the_type (
+  search (map_send, fields_send, fields_sync, digests.the_send, digests.the_sync, hashes.the_send, sendable)
+      depth 20,
+  (texts.the_send, tt),
+)
 
 pub send : IsSend the_row
 send = let ps : IsSend RawPtr = search sendable in

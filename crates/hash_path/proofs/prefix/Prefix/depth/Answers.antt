@@ -9,4 +9,5 @@ returns-clause-length c = rw (← c.self.view_is) (sym (length-indices c.self.in
 
 pub returns-clause-indices : goal.returns-clause-indices
 returns-clause-indices c =
-    subst (AreIndices 0) c.self.view_is (are_indices 0 c.self.inside.depth c.self.inside.bits (omega (arith, c.self.invariant.0)) (omega (arith, c.self.invariant.2)))
+    subst (AreIndices 0) c.self.view_is (are_indices 0 c.self.inside.depth c.self.inside.bits (omega (arith, c.self.invariant.0))
+    (omega (arith, c.self.invariant.2)))

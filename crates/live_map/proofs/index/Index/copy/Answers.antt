@@ -14,5 +14,6 @@ returns-clause-ok g c = λ d q named.
     let list = c.into_iter-dot-iterator.result in
     let is : list ≡ keys = c.into_iter-dot-iterator.ensures.into_iter_gives.0 in
     let member = among_exact place_cmp place_exact keys (d, q) (subst (λ places. IsTrue (names places d q)) (sym c.self.view_is) named) in
-    passes_all list c.loop-dot.dot-iterator (λ (place : PlaceValue). IsTrue (names c.loop-dot.copy place.0 place.1)) c.loop-dot.invariant c.in-None.ensures.steps.0 (d, q)
+    passes_all list c.loop-dot.dot-iterator (λ (place : PlaceValue). IsTrue (names c.loop-dot.copy place.0 place.1))
+    c.loop-dot.invariant c.in-None.ensures.steps.0 (d, q)
     (subst (λ xs. Among xs (d, q)) (sym is) member)

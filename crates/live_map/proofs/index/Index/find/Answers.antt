@@ -21,5 +21,6 @@ returns-clause-there g c = λ d q span named.
     let member = among_exact place_cmp place_exact keys (d, q) (subst (λ places. IsTrue (names places d q)) (sym c.self.view_is) named) in
     let in_range = range_contains-from_IsInRange place_total lo hi (d, q) (c.range_of.ensures.covers d q span) in
     let there = among_filter (range_contains place_cmp lo hi) keys (d, q) member in_range in
-    passes_all list c.loop-dot.dot-iterator (λ (place : PlaceValue). IsTrue (has_key c.loop-dot.touched place.1)) c.loop-dot.invariant.0 c.in-None.ensures.steps.0 (d, q)
+    passes_all list c.loop-dot.dot-iterator (λ (place : PlaceValue). IsTrue (has_key c.loop-dot.touched place.1))
+    c.loop-dot.invariant.0 c.in-None.ensures.steps.0 (d, q)
     (subst (λ xs. Among xs (d, q)) (sym is) there)

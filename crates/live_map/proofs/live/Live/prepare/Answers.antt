@@ -25,7 +25,8 @@ new-requires g c =
     (inside-has both.at (has c.in_ok-context.context) both.has known (inside-join g.S.DotStore.greater own theirs c.self.invariant.0 c.context.ensures.inside))
 
 pub returns-clause-hash : goal.returns-clause-hash
-returns-clause-hash g c = IfOk-weaker c.new.result _ _ (λ next is. ap (λ n. n.0.0) is ∙ c.in-Ok.ensures.hash ∙ ap (λ live. live.0.0.0) c.self.view_is) c.new.ensures.ok
+returns-clause-hash g c = IfOk-weaker c.new.result _ _ (λ next is. ap (λ n. n.0.0) is ∙ c.in-Ok.ensures.hash ∙ ap (λ live. live.0.0.0) c.self.view_is)
+    c.new.ensures.ok
 
 pub returns-clause-ok : goal.returns-clause-ok
 returns-clause-ok g c =
@@ -33,9 +34,11 @@ returns-clause-ok g c =
     let theirs = state_of (at_stores g.S.DotStore.at bytes_cmp) c.args.delta.now in
     let known : (d : DotValue) → has c.in_ok-context.context d ≡ has c.self.inside.context d || has c.args.delta.now.1 d = λ d.
     c.in_ok-context.ensures.ok d ∙ ap (λ x. has c.self.inside.context d || has x d) c.context.ensures.value in
-    let same = subst (λ live. Same (state_of at (c.in-Ok.store, c.in_ok-context.context)) (join g.S.DotStore.greater (state_of at live.0) theirs)) c.self.view_is
+    let same = subst (λ live. Same (state_of at (c.in-Ok.store, c.in_ok-context.context)) (join g.S.DotStore.greater (state_of at live.0) theirs))
+    c.self.view_is
     (record { at = c.in-Ok.ensures.ok; has = known }) in
-    IfOk-weaker c.new.result _ _ (λ next is. subst (λ n. Same (state_of at n) (join g.S.DotStore.greater (state_of at c.args.self.now.0) theirs)) (sym is) same) c.new.ensures.ok
+    IfOk-weaker c.new.result _ _ (λ next is. subst (λ n. Same (state_of at n) (join g.S.DotStore.greater (state_of at c.args.self.now.0) theirs)) (sym is) same)
+    c.new.ensures.ok
 
 pub returns-clause-fits : goal.returns-clause-fits
 returns-clause-fits g c =

@@ -14,11 +14,15 @@ pub loop-key-preserved : goal.loop-key-preserved
 loop-key-preserved g c =
     let e = c.key-item.result in
     let new = c.insert.new.self.keys in
-    items_more (λ k. IsTrue (has_key new k)) _ c.loop-key.key-index e c.loop-key-test.true c.key-item.is (λ k other below. c.in_ok-insert.ensures.updates.0 _ ∙ kept_by _ _ (c.loop-key.invariant k other below))
-    (subst (λ k. IsTrue (has_key new k)) c.in_ok-copy.ensures.ok (c.in_ok-insert.ensures.updates.0 c.in_ok-copy.field-0 ∙ ap (λ b. cond b true (has_key c.loop-key.set.keys c.in_ok-copy.field-0)) ((eq_by_cmp_equiv nat_list_cmp_total).refl c.in_ok-copy.field-0)))
+    items_more (λ k. IsTrue (has_key new k)) _ c.loop-key.key-index e c.loop-key-test.true c.key-item.is
+    (λ k other below. c.in_ok-insert.ensures.updates.0 _ ∙ kept_by _ _ (c.loop-key.invariant k other below))
+    (subst (λ k. IsTrue (has_key new k)) c.in_ok-copy.ensures.ok (c.in_ok-insert.ensures.updates.0 c.in_ok-copy.field-0
+    ∙ ap (λ b. cond b true (has_key c.loop-key.set.keys c.in_ok-copy.field-0)) ((eq_by_cmp_equiv nat_list_cmp_total).refl c.in_ok-copy.field-0)))
 
 pub returns-clause-ok : goal.returns-clause-ok
 returns-clause-ok g c = λ q h.
     let keys = c.self.inside.keys.items in
-    all_among (λ k. IsTrue (has_key c.loop-key.set.keys k)) c.deref-key-items.result.now (λ k e below. c.loop-key.invariant k e (omega (arith, below, c.loop-key-test.false))) q
-    (subst (λ ks. Among ks q) (sym c.deref-key-items.ensures.value) (among_exact bytes_cmp exact_bytes keys q (subst (λ ks. IsTrue (has_key ks q)) (sym c.self.view_is) h)))
+    all_among (λ k. IsTrue (has_key c.loop-key.set.keys k)) c.deref-key-items.result.now
+    (λ k e below. c.loop-key.invariant k e (omega (arith, below, c.loop-key-test.false))) q
+    (subst (λ ks. Among ks q) (sym c.deref-key-items.ensures.value)
+    (among_exact bytes_cmp exact_bytes keys q (subst (λ ks. IsTrue (has_key ks q)) (sym c.self.view_is) h)))

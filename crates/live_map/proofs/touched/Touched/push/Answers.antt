@@ -12,7 +12,8 @@ pub returns-clause-there : goal.returns-clause-there
 returns-clause-there g c =
     let key = c.args.key.now in
     subst (λ keys. IsTrue (has_key keys key)) (sym c.in_ok-push.ensures.items)
-    (any_pushed (λ k. is_eq (bytes_cmp key k)) c.self.inside.keys.items c.in_ok-copy.field-0 (ap (λ k. is_eq (bytes_cmp key k)) c.in_ok-copy.ensures.ok ∙ (eq_by_cmp_equiv nat_list_cmp_total).refl key))
+    (any_pushed (λ k. is_eq (bytes_cmp key k)) c.self.inside.keys.items c.in_ok-copy.field-0
+    (ap (λ k. is_eq (bytes_cmp key k)) c.in_ok-copy.ensures.ok ∙ (eq_by_cmp_equiv nat_list_cmp_total).refl key))
 
 pub returns-clause-kept : goal.returns-clause-kept
 returns-clause-kept g c = λ q h.

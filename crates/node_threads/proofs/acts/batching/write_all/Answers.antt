@@ -14,10 +14,12 @@ loop-write-preserved g c =
     let i = c.loop-write.write-index in
     let write = c.write-item.result in
     let wrote = c.loop-write.wrote.items in
-    let more : take (i + 1) writes ≡ take i writes ++ write ∷ [] = take_more writes i write c.loop-write-test.true ∙ ap (λ w. take i writes ++ w ∷ []) (sym c.write-item.is) in
+    let more : take (i + 1) writes ≡ take i writes ++ write ∷ [] = take_more writes i write c.loop-write-test.true
+    ∙ ap (λ w. take i writes ++ w ∷ []) (sym c.write-item.is) in
     record {
       runs =
-          λ place. wrote_more place (meaning c.args.replica.now) (meaning c.loop-write.replica) (meaning c.write_one.new.replica) (take i writes) (take (i + 1) writes) write wrote
+          λ place. wrote_more place (meaning c.args.replica.now) (meaning c.loop-write.replica) (meaning c.write_one.new.replica) (take i writes)
+          (take (i + 1) writes) write wrote
           c.put_into.new.list.items c.in-Ok.told (c.loop-write.invariant.runs place) c.in-Ok.ensures.ok more c.put_into.ensures.items;
       count = omega (arith, ap length c.put_into.ensures.items, length-append wrote (c.in-Ok.told ∷ []), c.loop-write.invariant.count);
       room = omega (arith, c.loop-write.invariant.room, c.put_into.ensures.capacity);
@@ -27,9 +29,11 @@ loop-write-preserved g c =
 pub returns-in-Err-clause-runs : goal.returns-in-Err-clause-runs
 returns-in-Err-clause-runs g c place =
     let answers = map answer_of c.loop-write.wrote.items in
-    let whole = subst (λ (n : ℕ). Runs fnv1a (meaning c.args.replica.now) (entries_of (made_at place (take n c.args.writes.now))) answers (meaning c.loop-write.replica))
+    let whole = subst (λ (n : ℕ). Runs fnv1a (meaning c.args.replica.now) (entries_of (made_at place (take n c.args.writes.now))) answers
+    (meaning c.loop-write.replica))
     (sym c.loop-write.invariant.count) (c.loop-write.invariant.runs place) in
-    subst (λ r. Runs fnv1a (meaning c.args.replica.now) (entries_of (made_at place (take (length c.loop-write.wrote.items) c.args.writes.now))) answers r) (sym c.in-Err.ensures.unchanged) whole
+    subst (λ r. Runs fnv1a (meaning c.args.replica.now) (entries_of (made_at place (take (length c.loop-write.wrote.items) c.args.writes.now))) answers r)
+    (sym c.in-Err.ensures.unchanged) whole
 
 pub returns-in-Err-clause-stopped : goal.returns-in-Err-clause-stopped
 returns-in-Err-clause-stopped g c =
@@ -38,11 +42,13 @@ returns-in-Err-clause-stopped g c =
     let write = c.write-item.result in (
       write,
       drop (i + 1) writes,
-      ap (λ (n : ℕ). drop n writes) c.loop-write.invariant.count ∙ (drop_more writes i write c.loop-write-test.true ∙ ap (λ w. w ∷ drop (i + 1) writes) (sym c.write-item.is)),
+      ap (λ (n : ℕ). drop n writes) c.loop-write.invariant.count
+          ∙ (drop_more writes i write c.loop-write-test.true ∙ ap (λ w. w ∷ drop (i + 1) writes) (sym c.write-item.is)),
       subst (λ r. IsRefusedAs r (call_of write) c.in-Err.refusal) (sym c.in-Err.ensures.unchanged) c.in-Err.ensures.refused,
     )
 
 pub returns-clause-runs : goal.returns-clause-runs
 returns-clause-runs g c place =
-    subst (λ (n : ℕ). Runs fnv1a (meaning c.args.replica.now) (entries_of (made_at place (take n c.args.writes.now))) (map answer_of c.loop-write.wrote.items) (meaning c.loop-write.replica))
+    subst (λ (n : ℕ). Runs fnv1a (meaning c.args.replica.now) (entries_of (made_at place (take n c.args.writes.now))) (map answer_of c.loop-write.wrote.items)
+    (meaning c.loop-write.replica))
     (sym c.loop-write.invariant.count) (c.loop-write.invariant.runs place)

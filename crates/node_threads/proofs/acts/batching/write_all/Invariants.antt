@@ -9,7 +9,8 @@ use Rattle.node_threads.proofs.acts.batching.write_all.Given as goal
 
 abbrev pub invariant-loop-write : goal.invariant-loop-write
 invariant-loop-write g l = record {
-  runs : (place : ℕ) → Runs fnv1a (meaning l.fn.replica) (entries_of (made_at place (take l.write-index l.writes))) (map answer_of l.wrote.items) (meaning l.replica);
+  runs : (place : ℕ) → Runs fnv1a (meaning l.fn.replica) (entries_of (made_at place (take l.write-index l.writes))) (map answer_of l.wrote.items)
+      (meaning l.replica);
   count : length l.wrote.items ≡ l.write-index;
   room : vec_capacity l.fn.room ≤ vec_capacity l.wrote;
 }

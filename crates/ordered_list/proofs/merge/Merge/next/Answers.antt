@@ -38,7 +38,8 @@ returns-in-None-Some-clause-turn g c =
     let cmp = g.K.Ord.cmp in
     let none = nil_from_length c.self.inside.mine.now c.in-None-Some.ensures.cases in
     rw (← c.self.view_is, c.in-None-Some.ensures'.cases.0, none)
-    (turn_yours cmp g.met.K.Ord.total c.in-None-Some.y.now c.in-None-Some.yours.now [] (subst (Ascends cmp) c.in-None-Some.ensures'.cases.0 c.self.invariant.1) tt)
+    (turn_yours cmp g.met.K.Ord.total c.in-None-Some.y.now c.in-None-Some.yours.now []
+    (subst (Ascends cmp) c.in-None-Some.ensures'.cases.0 c.self.invariant.1) tt)
 
 pub returns-in-Some-None-clause-turn : goal.returns-in-Some-None-clause-turn
 returns-in-Some-None-clause-turn g c =
@@ -75,4 +76,5 @@ returns-in-Greater-clause-turn g c =
     let yours = c.in-Some-Some.yours.now in
     rw (← c.self.view_is, c.in-Some-Some.ensures.cases.0, c.in-Some-Some.ensures'.cases.0)
     (turn_yours cmp g.met.K.Ord.total y yours (x ∷ mine) (subst (Ascends cmp) c.in-Some-Some.ensures'.cases.0 c.self.invariant.1)
-    (below_other cmp g.met.K.Ord.total y.0 x mine (less_from_greater cmp g.met.K.Ord.total x.0 y.0 (sym c.cmp.ensures ∙ c.in-Greater.is)) (subst (Ascends cmp) c.in-Some-Some.ensures.cases.0 c.self.invariant.0)))
+    (below_other cmp g.met.K.Ord.total y.0 x mine (less_from_greater cmp g.met.K.Ord.total x.0 y.0 (sym c.cmp.ensures ∙ c.in-Greater.is))
+    (subst (Ascends cmp) c.in-Some-Some.ensures.cases.0 c.self.invariant.0)))

@@ -11,10 +11,12 @@ index-requires g c =
 
 pub returns-in-Ok : goal.returns-in-Ok
 returns-in-Ok g c =
-    let found = found_there g.K.Ord.cmp c.args.key.now c.self.inside.items.items c.in-Ok.place c.index.result.now (rw c.deref.ensures.value at c.in-Ok.ensures.found) in
+    let found = found_there g.K.Ord.cmp c.args.key.now c.self.inside.items.items c.in-Ok.place c.index.result.now
+    (rw c.deref.ensures.value at c.in-Ok.ensures.found) in
     ap (λ e. Some e.1) c.index.ensures ∙ sym found ∙ ap (lookup (is_at (g.K.Ord.cmp c.args.key.now))) c.self.view_is
 
 pub returns-in-Err : goal.returns-in-Err
 returns-in-Err g c =
-    let missing = not_found_in_gap g.K.Ord.cmp g.met.K.Ord.total c.args.key.now c.self.inside.items.items c.in-Err.field-0 c.self.invariant (rw c.deref.ensures.value at c.in-Err.ensures.absent) in
+    let missing = not_found_in_gap g.K.Ord.cmp g.met.K.Ord.total c.args.key.now c.self.inside.items.items c.in-Err.field-0 c.self.invariant
+    (rw c.deref.ensures.value at c.in-Err.ensures.absent) in
     sym missing ∙ ap (lookup (is_at (g.K.Ord.cmp c.args.key.now))) c.self.view_is

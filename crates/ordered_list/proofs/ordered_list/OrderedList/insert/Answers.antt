@@ -19,30 +19,36 @@ insert_at-requires g c =
 pub returns-in-Ok-clause-ok : goal.returns-in-Ok-clause-ok
 returns-in-Ok-clause-ok g c =
     ap (λ e. set c.self.inside.items.items c.in-Ok.place (e.0, c.args.value)) c.index_mut.ensures.value
-    ∙ set_there g.K.Ord.cmp c.args.key c.self.inside.items.items c.in-Ok.place c.index_mut.result.now c.args.value (rw c.deref.ensures.value at c.in-Ok.ensures.found)
+    ∙ set_there g.K.Ord.cmp c.args.key c.self.inside.items.items c.in-Ok.place c.index_mut.result.now c.args.value
+    (rw c.deref.ensures.value at c.in-Ok.ensures.found)
     ∙ ap (λ es. insert_entry g.K.Ord.cmp es c.args.key c.args.value) c.self.view_is
 
 pub invariant_of-self : goal.invariant_of-self
 invariant_of-self g c =
     let after = ap (λ e. set c.self.inside.items.items c.in-Ok.place (e.0, c.args.value)) c.index_mut.ensures.value
-    ∙ set_there g.K.Ord.cmp c.args.key c.self.inside.items.items c.in-Ok.place c.index_mut.result.now c.args.value (rw c.deref.ensures.value at c.in-Ok.ensures.found) in
+    ∙ set_there g.K.Ord.cmp c.args.key c.self.inside.items.items c.in-Ok.place c.index_mut.result.now c.args.value
+    (rw c.deref.ensures.value at c.in-Ok.ensures.found) in
     subst (Ascends g.K.Ord.cmp) (sym after) (ascends_insert g.K.Ord.cmp g.met.K.Ord.total c.self.inside.items.items c.args.key c.args.value c.self.invariant)
 
 -- an insert at a gap, or one that was refused
-ascends_after : {P : Type 0} {E L : Type 0} (r : Result L E) (Q : P → Type 0) (old new there : P) → OnOk r (new ≡ there) → OnErr r (new ≡ old) → Q old → Q there → Q new
+ascends_after : {P : Type 0} {E L : Type 0} (r : Result L E) (Q : P → Type 0) (old new there : P) → OnOk r (new ≡ there) → OnErr r (new ≡ old) → Q old
+    → Q there → Q new
 ascends_after (Ok u) Q old new there ok err before after = subst Q (sym ok) after
 ascends_after (Err e) Q old new there ok err before after = subst Q (sym err) before
 
 pub invariant_of-self-in-Err : goal.invariant_of-self-in-Err
 invariant_of-self-in-Err g c =
-    let there = insert_there g.K.Ord.cmp c.args.key c.self.inside.items.items c.in-Err.place c.args.value (rw c.deref.ensures.value at c.in-Err.ensures.absent) in
-    ascends_after c.insert_at.result (Ascends g.K.Ord.cmp) c.self.inside.items.items c.insert_at.new.items.items (insert c.self.inside.items.items c.in-Err.place (c.args.key, c.args.value))
+    let there = insert_there g.K.Ord.cmp c.args.key c.self.inside.items.items c.in-Err.place c.args.value
+    (rw c.deref.ensures.value at c.in-Err.ensures.absent) in
+    ascends_after c.insert_at.result (Ascends g.K.Ord.cmp) c.self.inside.items.items c.insert_at.new.items.items
+    (insert c.self.inside.items.items c.in-Err.place (c.args.key, c.args.value))
     c.insert_at.ensures.ok c.insert_at.ensures.unchanged c.self.invariant
     (subst (Ascends g.K.Ord.cmp) (sym there) (ascends_insert g.K.Ord.cmp g.met.K.Ord.total c.self.inside.items.items c.args.key c.args.value c.self.invariant))
 
 pub returns-in-Err-clause-ok : goal.returns-in-Err-clause-ok
 returns-in-Err-clause-ok g c =
-    let there = insert_there g.K.Ord.cmp c.args.key c.self.inside.items.items c.in-Err.place c.args.value (rw c.deref.ensures.value at c.in-Err.ensures.absent) in
+    let there = insert_there g.K.Ord.cmp c.args.key c.self.inside.items.items c.in-Err.place c.args.value
+    (rw c.deref.ensures.value at c.in-Err.ensures.absent) in
     rw (← c.self.view_is, ← there) c.insert_at.ensures.ok
 
 pub returns-in-Ok-clause-updates : goal.returns-in-Ok-clause-updates
@@ -50,4 +56,5 @@ returns-in-Ok-clause-updates g c = updated_insert g.K.Ord.cmp g.met.K.Ord.total 
 
 pub returns-in-Err-clause-updates : goal.returns-in-Err-clause-updates
 returns-in-Err-clause-updates g c =
-    on_ok_weaker c.insert_at.result (updated_insert g.K.Ord.cmp g.met.K.Ord.total c.args.self.now c.insert_at.new.items.items c.args.key c.args.value) (returns-in-Err-clause-ok g c)
+    on_ok_weaker c.insert_at.result (updated_insert g.K.Ord.cmp g.met.K.Ord.total c.args.self.now c.insert_at.new.items.items c.args.key c.args.value)
+    (returns-in-Err-clause-ok g c)

@@ -11,8 +11,10 @@ remove-requires g c =
 
 pub invariant_of-self : goal.invariant_of-self
 invariant_of-self g c =
-    let after = c.remove.ensures.items ∙ remove_there g.K.Ord.cmp c.args.key.now c.self.inside.items.items c.in-Ok.place (rw c.deref.ensures.value at c.in-Ok.ensures.found) in
-    subst (Ascends g.K.Ord.cmp) (sym after) (ascends_remove g.K.Ord.cmp g.met.K.Ord.total (is_at (g.K.Ord.cmp c.args.key.now)) c.self.inside.items.items c.self.invariant)
+    let after = c.remove.ensures.items ∙ remove_there g.K.Ord.cmp c.args.key.now c.self.inside.items.items c.in-Ok.place
+    (rw c.deref.ensures.value at c.in-Ok.ensures.found) in
+    subst (Ascends g.K.Ord.cmp) (sym after) (ascends_remove g.K.Ord.cmp g.met.K.Ord.total (is_at (g.K.Ord.cmp c.args.key.now))
+    c.self.inside.items.items c.self.invariant)
 
 pub returns-in-Ok-clause-entries : goal.returns-in-Ok-clause-entries
 returns-in-Ok-clause-entries g c =
@@ -21,13 +23,16 @@ returns-in-Ok-clause-entries g c =
 
 pub returns-in_default-clause-entries : goal.returns-in_default-clause-entries
 returns-in_default-clause-entries g c =
-    let missing = not_found_in_gap g.K.Ord.cmp g.met.K.Ord.total c.args.key.now c.self.inside.items.items c.in_default.field-0 c.self.invariant (rw c.deref.ensures.value at c.in_default.ensures.absent) in
+    let missing = not_found_in_gap g.K.Ord.cmp g.met.K.Ord.total c.args.key.now c.self.inside.items.items c.in_default.field-0 c.self.invariant
+    (rw c.deref.ensures.value at c.in_default.ensures.absent) in
     rw (← c.self.view_is) (sym (remove_nothing g.K.Ord.cmp c.args.key.now c.self.inside.items.items missing))
 
 pub returns-in-Ok-clause-updates : goal.returns-in-Ok-clause-updates
 returns-in-Ok-clause-updates g c =
-    updated_remove g.K.Ord.cmp g.met.K.Ord.total c.args.self.now _ c.args.key.now (subst (Ascends g.K.Ord.cmp) c.self.view_is c.self.invariant) (returns-in-Ok-clause-entries g c)
+    updated_remove g.K.Ord.cmp g.met.K.Ord.total c.args.self.now _ c.args.key.now (subst (Ascends g.K.Ord.cmp) c.self.view_is c.self.invariant)
+    (returns-in-Ok-clause-entries g c)
 
 pub returns-in_default-clause-updates : goal.returns-in_default-clause-updates
 returns-in_default-clause-updates g c =
-    updated_remove g.K.Ord.cmp g.met.K.Ord.total c.args.self.now _ c.args.key.now (subst (Ascends g.K.Ord.cmp) c.self.view_is c.self.invariant) (returns-in_default-clause-entries g c)
+    updated_remove g.K.Ord.cmp g.met.K.Ord.total c.args.self.now _ c.args.key.now (subst (Ascends g.K.Ord.cmp) c.self.view_is c.self.invariant)
+    (returns-in_default-clause-entries g c)

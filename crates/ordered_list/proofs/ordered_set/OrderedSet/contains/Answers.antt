@@ -8,5 +8,6 @@ returns g c =
     let cmp = g.T.Ord.cmp in
     let items = c.self.inside.items.items in
     c.is_ok.ensures.value
-    ∙ among_from_place cmp g.met.T.Ord.total c.args.item.now items c.place_of.result c.self.invariant (rw c.deref.ensures.value at c.place_of.ensures.found) (rw c.deref.ensures.value at c.place_of.ensures.absent)
+    ∙ among_from_place cmp g.met.T.Ord.total c.args.item.now items c.place_of.result c.self.invariant (rw c.deref.ensures.value at c.place_of.ensures.found)
+    (rw c.deref.ensures.value at c.place_of.ensures.absent)
     ∙ ap (λ xs. is_among cmp xs c.args.item.now) c.self.view_is

@@ -12,16 +12,19 @@ insert_at-requires g c =
     omega (arith, within, c.deref.ensures.len)
 
 -- an insert at a gap, or one that was refused
-ascends_after : {P : Type 0} {E L : Type 0} (r : Result L E) (Q : P → Type 0) (old new there : P) → OnOk r (new ≡ there) → OnErr r (new ≡ old) → Q old → Q there → Q new
+ascends_after : {P : Type 0} {E L : Type 0} (r : Result L E) (Q : P → Type 0) (old new there : P) → OnOk r (new ≡ there) → OnErr r (new ≡ old) → Q old
+    → Q there → Q new
 ascends_after (Ok u) Q old new there ok err before after = subst Q (sym ok) after
 ascends_after (Err e) Q old new there ok err before after = subst Q (sym err) before
 
 pub invariant_of-self : goal.invariant_of-self
 invariant_of-self g c =
     let there = insert_item_there g.T.Ord.cmp c.args.item c.self.inside.items.items c.in-Err.place (rw c.deref.ensures.value at c.in-Err.ensures.absent) in
-    ascends_after c.insert_at.result (IsStrictlySortedBy g.T.Ord.cmp) c.self.inside.items.items c.insert_at.new.items.items (insert c.self.inside.items.items c.in-Err.place c.args.item)
+    ascends_after c.insert_at.result (IsStrictlySortedBy g.T.Ord.cmp) c.self.inside.items.items c.insert_at.new.items.items
+    (insert c.self.inside.items.items c.in-Err.place c.args.item)
     c.insert_at.ensures.ok c.insert_at.ensures.unchanged c.self.invariant
-    (subst (IsStrictlySortedBy g.T.Ord.cmp) (sym there) (ascends_insert_key g.T.Ord.cmp g.met.T.Ord.total c.self.inside.items.items c.args.item c.self.invariant))
+    (subst (IsStrictlySortedBy g.T.Ord.cmp) (sym there)
+    (ascends_insert_key g.T.Ord.cmp g.met.T.Ord.total c.self.inside.items.items c.args.item c.self.invariant))
 
 pub returns-in-Ok-clause-ok : goal.returns-in-Ok-clause-ok
 returns-in-Ok-clause-ok g c =
@@ -38,4 +41,5 @@ returns-in-Ok-clause-updates g c = updated_insert_key g.T.Ord.cmp g.met.T.Ord.to
 
 pub returns-in-Err-clause-updates : goal.returns-in-Err-clause-updates
 returns-in-Err-clause-updates g c =
-    on_ok_weaker c.insert_at.result (updated_insert_key g.T.Ord.cmp g.met.T.Ord.total c.args.self.now c.insert_at.new.items.items c.args.item) (returns-in-Err-clause-ok g c)
+    on_ok_weaker c.insert_at.result (updated_insert_key g.T.Ord.cmp g.met.T.Ord.total c.args.self.now c.insert_at.new.items.items c.args.item)
+    (returns-in-Err-clause-ok g c)

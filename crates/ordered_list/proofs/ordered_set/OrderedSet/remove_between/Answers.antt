@@ -7,7 +7,8 @@ use Rattle.ordered_list.specs.Items.{is_between}
 use Rattle.ordered_list.proofs.ordered_set.OrderedSet.remove_between.Given as given
 use Rattle.ordered_list.proofs.ordered_set.OrderedSet.remove_between.Goals as goal
 
-filtered : (g : given.Over) (c : goal.After-retain g) → c.retain.new.self.items ≡ filter (λ x. not (is_between g.T.Ord.cmp c.args.low.now c.args.high.now x)) c.self.inside.items.items
+filtered : (g : given.Over) (c : goal.After-retain g) → c.retain.new.self.items
+    ≡ filter (λ x. not (is_between g.T.Ord.cmp c.args.low.now c.args.high.now x)) c.self.inside.items.items
 filtered g c =
     filter_same _ (λ x. not (is_between g.T.Ord.cmp c.args.low.now c.args.high.now x)) _ (λ x b f' k. search (rules, of_calls)) _ _ c.retain.ensures.filtered
 

@@ -11,7 +11,8 @@ loop-item-init g c = λ q. rw (c.in_ok-both.ensures.ok, c.new-merge.ensures, c.i
 pub loop-item-preserved : goal.loop-item-preserved
 loop-item-preserved g c =
     let among = is_among g.T.Ord.cmp in
-    taken_more g.T.Ord.cmp g.met.T.Ord.total c.loop-item.both c.insert.new.self c.in-Some.item.now (λ q. among c.loop-item.merge.0 q || among c.loop-item.merge.1 q)
+    taken_more g.T.Ord.cmp g.met.T.Ord.total c.loop-item.both c.insert.new.self c.in-Some.item.now
+    (λ q. among c.loop-item.merge.0 q || among c.loop-item.merge.1 q)
     (λ q. among c.next.new.self.0 q || among c.next.new.self.1 q) (λ q. among c.args.self.now q || among c.args.other.now q)
     c.loop-item.invariant c.in-Some.ensures.turn.others c.in_ok-insert.ensures.updates
 

@@ -28,12 +28,17 @@ loop-entry-preserved g c =
     let key = c.bytes.ensures.value ∙ c.key.ensures ∙ ap (λ e. e.key) c.deref.ensures in
     let held = c.value.ensures ∙ ap (λ e. e.value) c.deref-in-loop-entry.ensures in
     let taken : TakesBytes c.loop-entry.hasher c.feed_entry.new.hasher (entry_bytes (shows c.entry-item.result)) =
-    takes_same c.loop-entry.hasher c.feed_entry.new.hasher _ (entry_bytes (shows c.entry-item.result)) (λ i. entry_bytes (key i, held i)) c.feed_entry.ensures in
-    subst (λ xs. Holds256 c.feed_entry.new.hasher (1 ∷ flat_map entry_bytes xs)) (sym (one_taken shows c.args.entries.now c.loop-entry.entry-index c.entry-item.result c.loop-entry-test.true c.entry-item.is))
-    (item_held entry_bytes c.loop-entry.hasher c.feed_entry.new.hasher (1 ∷ []) (map shows (take c.loop-entry.entry-index c.args.entries.now)) (shows c.entry-item.result) c.loop-entry.invariant taken)
+    takes_same c.loop-entry.hasher c.feed_entry.new.hasher _ (entry_bytes (shows c.entry-item.result)) (λ i. entry_bytes (key i, held i))
+    c.feed_entry.ensures in
+    subst (λ xs. Holds256 c.feed_entry.new.hasher (1 ∷ flat_map entry_bytes xs))
+    (sym (one_taken shows c.args.entries.now c.loop-entry.entry-index c.entry-item.result c.loop-entry-test.true c.entry-item.is))
+    (item_held entry_bytes c.loop-entry.hasher c.feed_entry.new.hasher (1 ∷ []) (map shows (take c.loop-entry.entry-index c.args.entries.now))
+    (shows c.entry-item.result) c.loop-entry.invariant taken)
 
 pub returns : goal.returns
 returns g c =
-    ap (λ d. record { digest = d }) (c.finalize.ensures (1 ∷ flat_map entry_bytes (map shows (take c.loop-entry.entry-index c.args.entries.now))) c.loop-entry.invariant)
-    ∙ ap (λ xs. record { digest = sha256 (1 ∷ flat_map entry_bytes (map shows xs)) }) (take_all c.loop-entry.entry-index c.args.entries.now c.loop-entry-test.false)
+    ap (λ d. record { digest = d }) (c.finalize.ensures (1 ∷ flat_map entry_bytes (map shows (take c.loop-entry.entry-index c.args.entries.now)))
+    c.loop-entry.invariant)
+    ∙ ap (λ xs. record { digest = sha256 (1 ∷ flat_map entry_bytes (map shows xs)) })
+    (take_all c.loop-entry.entry-index c.args.entries.now c.loop-entry-test.false)
     ∙ ap (λ l. record { digest = sha256 (1 ∷ l) }) (sym (flat_map-map entry named_entry (map shows c.args.entries.now)))

@@ -6,4 +6,5 @@ use Rattle.prefix_digest.specs.Page.{named_entry}
 use Rattle.prefix_digest.proofs.sha_summary.ShaSummarySummaryFields.list.Given as goal
 
 abbrev pub invariant-loop-entry : goal.invariant-loop-entry
-invariant-loop-entry g l = Holds256 l.hasher (1 ∷ flat_map (λ e. entry (named_entry e)) (map (λ e. (e.value.key, e.value.value)) (take l.entry-index l.entries)))
+invariant-loop-entry g l = Holds256 l.hasher (1 ∷ flat_map (λ e. entry (named_entry e))
+    (map (λ e. (e.value.key, e.value.value)) (take l.entry-index l.entries)))

@@ -8,7 +8,8 @@ use Rattle.replica_core.proofs.checkpoint.Checkpoint.pair.Goals as goal
 pub unwrap-requires : goal.unwrap-requires
 unwrap-requires g c =
     is_there c.from_parts.result c.from_parts.ensures.outside
-    (whole_inside (c.self.inside.store, c.self.inside.context) (c.in_ok-store.store, c.in-Ok.context) c.in_ok-store.ensures.ok c.in-Ok.ensures.equal c.self.invariant)
+    (whole_inside (c.self.inside.store, c.self.inside.context) (c.in_ok-store.store, c.in-Ok.context)
+    c.in_ok-store.ensures.ok c.in-Ok.ensures.equal c.self.invariant)
 
 pub returns-clause-ok : goal.returns-clause-ok
 returns-clause-ok g c =

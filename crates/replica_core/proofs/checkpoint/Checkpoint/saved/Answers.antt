@@ -12,7 +12,8 @@ returns-clause-ok g c =
     λ i. record {
       name = (view i).name;
       live = same_is (or_map_state c.in-Ok.live) (live_state c.args.self.now.pair) c.in-Ok.ensures.ok i;
-      group = (same_is (or_map_state c.in_ok-group.group) (group_state c.self.inside.group) c.in_ok-group.ensures.ok ∙ ap (λ (v : CheckpointValue _). group_state v.group) view) i;
+      group = (same_is (or_map_state c.in_ok-group.group) (group_state c.self.inside.group) c.in_ok-group.ensures.ok
+          ∙ ap (λ (v : CheckpointValue _). group_state v.group) view) i;
       opened = (view i).opened;
       sessions = [];
       kept = [];

@@ -9,7 +9,14 @@ use Rattle.replica_core.proofs.replica.Replica.abandon.Goals as goal
 
 pub returns-in_default : goal.returns-in_default
 returns-in_default g c =
-    let old : ReplicaValue _ = record { name = c.self.inside.name; live = c.self.inside.live; group = c.self.inside.group; opened = c.self.inside.opened; sessions = c.self.inside.sessions.items; kept = c.self.inside.answerer } in
+    let old : ReplicaValue _ = record {
+      name = c.self.inside.name;
+      live = c.self.inside.live;
+      group = c.self.inside.group;
+      opened = c.self.inside.opened;
+      sessions = c.self.inside.sessions.items;
+      kept = c.self.inside.answerer;
+    } in
     rw (← c.self.view_is) (abandon_missed g.H.PathHash.hash_of old c.args.number (rw c.deref.ensures.value at (c.in_default.ensures.none refl)))
 
 pub end-requires : goal.end-requires
@@ -20,5 +27,7 @@ end-requires g c =
 pub returns : goal.returns
 returns g c =
     let found = rw c.deref.ensures.value at c.in-Some.ensures.found in
-    let first = subst (λ (r : ReplicaValue _). IsFirstAt (λ (b : AskerValue _). b.session.number == c.args.number) r.sessions c.in-Some.place found.0) c.self.view_is found.1 in
-    abandon_found g.H.PathHash.hash_of c.args.self.now c.args.number c.in-Some.place found.0 first c.end.new.self (c.end.ensures.step found.0 first.0) c.end.ensures.hash
+    let first = subst (λ (r : ReplicaValue _). IsFirstAt (λ (b : AskerValue _). b.session.number == c.args.number) r.sessions c.in-Some.place found.0)
+    c.self.view_is found.1 in
+    abandon_found g.H.PathHash.hash_of c.args.self.now c.args.number c.in-Some.place found.0 first c.end.new.self (c.end.ensures.step found.0 first.0)
+    c.end.ensures.hash

@@ -16,18 +16,48 @@ replace-requires g c =
 
 pub invariant_of-self : goal.invariant_of-self
 invariant_of-self g c =
-    let old : ReplicaValue _ = record { name = c.self.inside.name; live = c.self.inside.live; group = c.self.inside.group; opened = c.self.inside.opened; sessions = c.self.inside.sessions.items; kept = c.self.inside.answerer } in
-    let new : ReplicaValue _ = record { name = c.self.inside.name; live = c.self.inside.live; group = c.self.inside.group; opened = c.self.inside.opened; sessions = c.replace.new.items.items; kept = c.self.inside.answerer } in
+    let old : ReplicaValue _ = record {
+      name = c.self.inside.name;
+      live = c.self.inside.live;
+      group = c.self.inside.group;
+      opened = c.self.inside.opened;
+      sessions = c.self.inside.sessions.items;
+      kept = c.self.inside.answerer;
+    } in
+    let new : ReplicaValue _ = record {
+      name = c.self.inside.name;
+      live = c.self.inside.live;
+      group = c.self.inside.group;
+      opened = c.self.inside.opened;
+      sessions = c.replace.new.items.items;
+      kept = c.self.inside.answerer;
+    } in
     let rest : StaysBut old new = record { name = refl; group = refl; opened = refl; kept = refl; hash = refl } in
     let there = ap (λ (r : ReplicaValue _). slice_get r.sessions c.args.place) c.self.view_is ∙ c.requires.1 in
-    let own = at_place (IsOwn g.H.PathHash.hash_of old.name (hash_in old) (live_state old.live.0)) old.sessions c.args.place c.requires.0 there c.self.invariant.own in
+    let own = at_place (IsOwn g.H.PathHash.hash_of old.name (hash_in old) (live_state old.live.0))
+    old.sessions c.args.place c.requires.0 there c.self.invariant.own in
     advanced_is g.H.PathHash.hash_of old new c.self.invariant rest c.args.place c.requires.0 there c.args.next c.requires.2 c.replace.ensures refl
     (own_next g.H.PathHash.hash_of old.name (hash_in old) (live_state old.live.0) c.requires.0 c.args.next own c.requires.2 c.requires.3 c.requires.4)
 
 pub returns-clause-step : goal.returns-clause-step
 returns-clause-step g c =
-    let old : ReplicaValue _ = record { name = c.self.inside.name; live = c.self.inside.live; group = c.self.inside.group; opened = c.self.inside.opened; sessions = c.self.inside.sessions.items; kept = c.self.inside.answerer } in
-    let new : ReplicaValue _ = record { name = c.self.inside.name; live = c.self.inside.live; group = c.self.inside.group; opened = c.self.inside.opened; sessions = c.replace.new.items.items; kept = c.self.inside.answerer } in
+    let old : ReplicaValue _ = record {
+      name = c.self.inside.name;
+      live = c.self.inside.live;
+      group = c.self.inside.group;
+      opened = c.self.inside.opened;
+      sessions = c.self.inside.sessions.items;
+      kept = c.self.inside.answerer;
+    } in
+    let new : ReplicaValue _ = record {
+      name = c.self.inside.name;
+      live = c.self.inside.live;
+      group = c.self.inside.group;
+      opened = c.self.inside.opened;
+      sessions = c.replace.new.items.items;
+      kept = c.self.inside.answerer;
+    } in
     let rest : StaysBut old new = record { name = refl; group = refl; opened = refl; kept = refl; hash = refl } in
     let there = ap (λ (r : ReplicaValue _). slice_get r.sessions c.args.place) c.self.view_is ∙ c.requires.1 in
-    rw (← c.self.view_is) (advanced_meaning g.H.PathHash.hash_of old new c.self.invariant rest c.args.place c.requires.0 there c.args.next c.requires.2 c.replace.ensures refl)
+    rw (← c.self.view_is) (advanced_meaning g.H.PathHash.hash_of old new c.self.invariant rest c.args.place c.requires.0 there c.args.next c.requires.2
+    c.replace.ensures refl)

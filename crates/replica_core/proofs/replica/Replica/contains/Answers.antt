@@ -12,4 +12,5 @@ returns g c =
     let pair = c.self.inside.live.0 in
     let is = mapped pair c.store.result.now c.store.ensures.value c.store.ensures.filled c.store.ensures.canonical in
     rw (← c.self.view_is) (contained pair.0.1 (live_state pair) is c.args.key.now c.is_some.result
-    (c.is_some.ensures ∙ copied_some c.get.result ∙ ap is_some c.get.ensures.store ∙ ap (λ (m : TrieMapValue _ FieldsValue). is_some (finite.get m.1 c.args.key.now)) c.store.ensures.value))
+    (c.is_some.ensures ∙ copied_some c.get.result ∙ ap is_some c.get.ensures.store
+    ∙ ap (λ (m : TrieMapValue _ FieldsValue). is_some (finite.get m.1 c.args.key.now)) c.store.ensures.value))

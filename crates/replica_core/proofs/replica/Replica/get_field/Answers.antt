@@ -10,6 +10,7 @@ pub returns-clause-ok : goal.returns-clause-ok
 returns-clause-ok g c =
     both_ok c.values.result
     (λ found ascending held.
-    let listed : Lists (Stands (store_state c.store.result.now) (place_of c.args.key.now c.args.field.now)) found.items = record { ascending = ascending; just = held } in
+    let listed : Lists (Stands (store_state c.store.result.now) (place_of c.args.key.now c.args.field.now)) found.items =
+    record { ascending = ascending; just = held } in
     rw (sym c.self.view_is) (rw c.store.ensures.value at listed))
     c.values.ensures.ascending c.values.ensures.held

@@ -18,7 +18,8 @@ use Rattle.replica_core.proofs.replica.Replica.join_opened.Goals as goal
 pub prepare_opened-requires-clause-below : goal.prepare_opened-requires-clause-below
 prepare_opened-requires-clause-below g c =
     below_pair c.args.opened.now.base.hash c.self.inside.live.0 c.args.opened.now.base.map c.args.opened.now.seen
-    (subst (λ (r : ReplicaValue _). IsBelow (closing.held_state c.args.opened.now.base.map (has c.args.opened.now.seen)) (meaning r).live) (sym c.self.view_is) c.requires.below)
+    (subst (λ (r : ReplicaValue _). IsBelow (closing.held_state c.args.opened.now.base.map (has c.args.opened.now.seen)) (meaning r).live) (sym c.self.view_is)
+    c.requires.below)
 
 pub prepare_opened-requires-clause-rest : goal.prepare_opened-requires-clause-rest
 prepare_opened-requires-clause-rest g c key none =
@@ -34,19 +35,52 @@ invariant_of-self g c = same_grown g.H.PathHash.hash_of _ _ c.self.invariant ref
 
 pub returns-in_err-next-clause-unchanged : goal.returns-in_err-next-clause-unchanged
 returns-in_err-next-clause-unchanged g c =
-    let old : ReplicaValue _ = record { name = c.self.inside.name; live = c.self.inside.live; group = c.self.inside.group; opened = c.self.inside.opened; sessions = c.self.inside.sessions.items; kept = c.self.inside.answerer } in
-    let new : ReplicaValue _ = record { name = c.self.inside.name; live = c.prepare_opened.new.self; group = c.self.inside.group; opened = c.self.inside.opened; sessions = c.self.inside.sessions.items; kept = c.self.inside.answerer } in
-    on_err c.from_residual.result (rw (← c.self.view_is) (meaning_by new (meaning old) refl (ap live_state c.in_err-next.ensures.unchanged) refl refl refl refl))
+    let old : ReplicaValue _ = record {
+      name = c.self.inside.name;
+      live = c.self.inside.live;
+      group = c.self.inside.group;
+      opened = c.self.inside.opened;
+      sessions = c.self.inside.sessions.items;
+      kept = c.self.inside.answerer;
+    } in
+    let new : ReplicaValue _ = record {
+      name = c.self.inside.name;
+      live = c.prepare_opened.new.self;
+      group = c.self.inside.group;
+      opened = c.self.inside.opened;
+      sessions = c.self.inside.sessions.items;
+      kept = c.self.inside.answerer;
+    } in
+    on_err c.from_residual.result
+    (rw (← c.self.view_is) (meaning_by new (meaning old) refl (ap live_state c.in_err-next.ensures.unchanged) refl refl refl refl))
 
 pub invariant_of-self-2 : goal.invariant_of-self-2
 invariant_of-self-2 g c =
-    joined_grown g.H.PathHash.hash_of _ _ (closing.held_state c.entries.result.now.map (has c.args.opened.now.context)) c.self.invariant refl refl refl refl (ap (λ p. p.0.0) c.commit.ensures ∙ c.in_ok-next.ensures.hash)
-    (ap live_state c.commit.ensures ∙ opened_joined c.entries.result.now.hash c.self.inside.live.0 c.entries.result.now.map c.args.opened.now.context c.in_ok-next.next c.in_ok-next.ensures.ok)
+    joined_grown g.H.PathHash.hash_of _ _ (closing.held_state c.entries.result.now.map (has c.args.opened.now.context)) c.self.invariant refl refl refl refl
+    (ap (λ p. p.0.0) c.commit.ensures ∙ c.in_ok-next.ensures.hash)
+    (ap live_state c.commit.ensures ∙ opened_joined c.entries.result.now.hash c.self.inside.live.0 c.entries.result.now.map c.args.opened.now.context
+    c.in_ok-next.next c.in_ok-next.ensures.ok)
 
 pub returns-clause-ok : goal.returns-clause-ok
 returns-clause-ok g c =
-    let old : ReplicaValue _ = record { name = c.self.inside.name; live = c.self.inside.live; group = c.self.inside.group; opened = c.self.inside.opened; sessions = c.self.inside.sessions.items; kept = c.self.inside.answerer } in
-    let new : ReplicaValue _ = record { name = c.self.inside.name; live = c.commit.new.self; group = c.self.inside.group; opened = c.self.inside.opened; sessions = c.self.inside.sessions.items; kept = c.self.inside.answerer } in
+    let old : ReplicaValue _ = record {
+      name = c.self.inside.name;
+      live = c.self.inside.live;
+      group = c.self.inside.group;
+      opened = c.self.inside.opened;
+      sessions = c.self.inside.sessions.items;
+      kept = c.self.inside.answerer;
+    } in
+    let new : ReplicaValue _ = record {
+      name = c.self.inside.name;
+      live = c.commit.new.self;
+      group = c.self.inside.group;
+      opened = c.self.inside.opened;
+      sessions = c.self.inside.sessions.items;
+      kept = c.self.inside.answerer;
+    } in
     rw (← c.self.view_is) (meaning_by new (joins (meaning old) (closing.held_state c.args.opened.now.built.entries (has c.args.opened.now.context))) refl
-    (ap live_state c.commit.ensures ∙ opened_joined c.entries.result.now.hash c.self.inside.live.0 c.entries.result.now.map c.args.opened.now.context c.in_ok-next.next c.in_ok-next.ensures.ok
-    ∙ ap (λ (m : Held). join greater (live_state c.self.inside.live.0) (closing.held_state m (has c.args.opened.now.context))) c.entries.ensures.map) refl refl refl refl)
+    (ap live_state c.commit.ensures ∙ opened_joined c.entries.result.now.hash c.self.inside.live.0 c.entries.result.now.map c.args.opened.now.context
+    c.in_ok-next.next c.in_ok-next.ensures.ok
+    ∙ ap (λ (m : Held). join greater (live_state c.self.inside.live.0) (closing.held_state m (has c.args.opened.now.context))) c.entries.ensures.map)
+    refl refl refl refl)

@@ -13,7 +13,8 @@ use Rattle.replica_core.proofs.replica.Replica.make.Goals as goal
 pub returns-then-is_empty-clause-ok : goal.returns-then-is_empty-clause-ok
 returns-then-is_empty-clause-ok g c =
     let none = rw c.context.ensures.value at (c.is_empty.ensures.0 c.if-is_empty.true) in
-    meaning_by c.args.self.now (makes (meaning c.args.self.now) (or_map_state c.args.delta)) refl (join-unknown (live_state c.args.self.now.live.0) c.args.delta c.context.ensures.inside none)
+    meaning_by c.args.self.now (makes (meaning c.args.self.now) (or_map_state c.args.delta)) refl
+    (join-unknown (live_state c.args.self.now.live.0) c.args.delta c.context.ensures.inside none)
     (join-unknown (group_state c.args.self.now.group) c.args.delta c.context.ensures.inside none) refl refl refl
 
 pub invariant_of-self : goal.invariant_of-self
@@ -25,16 +26,44 @@ invariant_of-self g c =
 
 pub returns-clause-ok : goal.returns-clause-ok
 returns-clause-ok g c =
-    let old : ReplicaValue _ = record { name = c.self.inside.name; live = c.self.inside.live; group = c.self.inside.group; opened = c.self.inside.opened; sessions = c.self.inside.sessions.items; kept = c.self.inside.answerer } in
-    let new : ReplicaValue _ = record { name = c.self.inside.name; live = c.make_in.new.live; group = c.make_in.new.group; opened = c.self.inside.opened; sessions = c.self.inside.sessions.items; kept = c.self.inside.answerer } in
+    let old : ReplicaValue _ = record {
+      name = c.self.inside.name;
+      live = c.self.inside.live;
+      group = c.self.inside.group;
+      opened = c.self.inside.opened;
+      sessions = c.self.inside.sessions.items;
+      kept = c.self.inside.answerer;
+    } in
+    let new : ReplicaValue _ = record {
+      name = c.self.inside.name;
+      live = c.make_in.new.live;
+      group = c.make_in.new.group;
+      opened = c.self.inside.opened;
+      sessions = c.self.inside.sessions.items;
+      kept = c.self.inside.answerer;
+    } in
     both_on_ok c.make_in.result
     (λ live group. rw (sym c.self.view_is) (meaning_by new (makes (meaning old) (or_map_state c.args.delta)) refl live group refl refl refl))
     c.make_in.ensures.live c.make_in.ensures.group
 
 pub returns-clause-unchanged : goal.returns-clause-unchanged
 returns-clause-unchanged g c =
-    let old : ReplicaValue _ = record { name = c.self.inside.name; live = c.self.inside.live; group = c.self.inside.group; opened = c.self.inside.opened; sessions = c.self.inside.sessions.items; kept = c.self.inside.answerer } in
-    let new : ReplicaValue _ = record { name = c.self.inside.name; live = c.make_in.new.live; group = c.make_in.new.group; opened = c.self.inside.opened; sessions = c.self.inside.sessions.items; kept = c.self.inside.answerer } in
+    let old : ReplicaValue _ = record {
+      name = c.self.inside.name;
+      live = c.self.inside.live;
+      group = c.self.inside.group;
+      opened = c.self.inside.opened;
+      sessions = c.self.inside.sessions.items;
+      kept = c.self.inside.answerer;
+    } in
+    let new : ReplicaValue _ = record {
+      name = c.self.inside.name;
+      live = c.make_in.new.live;
+      group = c.make_in.new.group;
+      opened = c.self.inside.opened;
+      sessions = c.self.inside.sessions.items;
+      kept = c.self.inside.answerer;
+    } in
     both_on_err c.make_in.result
     (λ kept group. rw (sym c.self.view_is) (meaning_by new (meaning old) refl (ap live_state kept) group refl refl refl))
     c.make_in.ensures.kept c.make_in.ensures.grouped

@@ -11,7 +11,15 @@ returns-in-Some-clause-refused g c = inr (c.in-Some.ensures (place_of c.args.key
 pub returns-in-Err-clause-refused : goal.returns-in-Err-clause-refused
 returns-in-Err-clause-refused g c =
     let none = rw (← c.self.view_is) at (c.in_default.ensures (place_of c.args.key.now c.args.field.now) c.args.value.now) in
-    rw (← c.self.view_is) (put_without_memory (record { name = c.self.inside.name; live = c.self.inside.live; group = c.self.inside.group; opened = c.self.inside.opened; sessions = c.self.inside.sessions.items; kept = c.self.inside.answerer })
+    rw (← c.self.view_is)
+    (put_without_memory (record {
+      name = c.self.inside.name;
+      live = c.self.inside.live;
+      group = c.self.inside.group;
+      opened = c.self.inside.opened;
+      sessions = c.self.inside.sessions.items;
+      kept = c.self.inside.answerer;
+    })
     (place_of c.args.key.now c.args.field.now) c.args.value.now c.in-Err.refusal none c.in-Err.ensures.err (λ e. c.in-Err.ensures.spent.0 (ap Err e)))
 
 pub returns-in-Ok-make-clause-ok : goal.returns-in-Ok-make-clause-ok

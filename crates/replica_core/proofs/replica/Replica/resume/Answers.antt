@@ -12,11 +12,25 @@ use Rattle.replica_core.proofs.replica.Replica.resume.Goals as goal
 
 pub invariant_of-result : goal.invariant_of-result
 invariant_of-result g c =
-    fresh_is g.H.PathHash.hash_of (record { name = c.args.saved.name; live = c.in-Ok.held; group = c.push.new.self; opened = c.args.saved.opened; sessions = c.new.result.items; kept = c.new-in-Ok.result }) c.new.ensures.items c.new-in-Ok.ensures
+    fresh_is g.H.PathHash.hash_of (record {
+      name = c.args.saved.name;
+      live = c.in-Ok.held;
+      group = c.push.new.self;
+      opened = c.args.saved.opened;
+      sessions = c.new.result.items;
+      kept = c.new-in-Ok.result;
+    }) c.new.ensures.items c.new-in-Ok.ensures
 
 pub returns-in-Ok-clause-ok : goal.returns-in-Ok-clause-ok
 returns-in-Ok-clause-ok g c =
-    let r : ReplicaValue _ = record { name = c.args.saved.name; live = c.in-Ok.held; group = c.push.new.self; opened = c.args.saved.opened; sessions = c.new.result.items; kept = c.new-in-Ok.result } in
+    let r : ReplicaValue _ = record {
+      name = c.args.saved.name;
+      live = c.in-Ok.held;
+      group = c.push.new.self;
+      opened = c.args.saved.opened;
+      sessions = c.new.result.items;
+      kept = c.new-in-Ok.result;
+    } in
     meaning_by r (restored c.args.saved) refl c.in-Ok.ensures.ok
     (same_is (group_state c.push.new.self) (join greater (group_state c.new-outgoing.result) (or_map_state c.args.saved.group)) c.in_default.ensures.ok
     ∙ ap (λ gs. join greater (group_state gs) (or_map_state c.args.saved.group)) c.new-outgoing.ensures

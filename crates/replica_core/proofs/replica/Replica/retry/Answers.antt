@@ -9,8 +9,16 @@ use Rattle.replica_core.proofs.replica.Replica.retry.Goals as goal
 
 pub returns-in_default-clause-ok : goal.returns-in_default-clause-ok
 returns-in_default-clause-ok g c =
-    let old : ReplicaValue _ = record { name = c.self.inside.name; live = c.self.inside.live; group = c.self.inside.group; opened = c.self.inside.opened; sessions = c.self.inside.sessions.items; kept = c.self.inside.answerer } in
-    rw (← c.self.view_is) (told_by g.H.PathHash.hash_of old old _ c.silent.result.outcome told.Ignored c.silent.result.replies.items c.silent.ensures.outcome c.silent.ensures.replies
+    let old : ReplicaValue _ = record {
+      name = c.self.inside.name;
+      live = c.self.inside.live;
+      group = c.self.inside.group;
+      opened = c.self.inside.opened;
+      sessions = c.self.inside.sessions.items;
+      kept = c.self.inside.answerer;
+    } in
+    rw (← c.self.view_is) (told_by g.H.PathHash.hash_of old old _ c.silent.result.outcome told.Ignored c.silent.result.replies.items c.silent.ensures.outcome
+    c.silent.ensures.replies
     (retry_missed g.H.PathHash.hash_of old c.args.number (rw c.deref.ensures.value at (c.in_default.ensures.none refl))))
 
 pub index-requires : goal.index-requires
@@ -20,7 +28,14 @@ index-requires g c =
 
 pub returns-clause-ok : goal.returns-clause-ok
 returns-clause-ok g c =
-    let old : ReplicaValue _ = record { name = c.self.inside.name; live = c.self.inside.live; group = c.self.inside.group; opened = c.self.inside.opened; sessions = c.self.inside.sessions.items; kept = c.self.inside.answerer } in
+    let old : ReplicaValue _ = record {
+      name = c.self.inside.name;
+      live = c.self.inside.live;
+      group = c.self.inside.group;
+      opened = c.self.inside.opened;
+      sessions = c.self.inside.sessions.items;
+      kept = c.self.inside.answerer;
+    } in
     let found = rw c.deref.ensures.value at c.in-Some.ensures.found in
     let here = c.index.ensures ∙ get_or_from_slice_get c.self.inside.sessions.items c.in-Some.place found.0 c.index.result.now found.1.0 in
     rw (← c.self.view_is) (retry_found g.H.PathHash.hash_of old c.args.number c.in-Some.place found.0 found.1 c.in_ok-replies.replies.items c.self.invariant

@@ -9,7 +9,8 @@ use Rattle.replica_core.proofs.replica.Replica.send.Goals as goal
 
 pub returns-clause-ok : goal.returns-clause-ok
 returns-clause-ok g c =
-    sent_turned (meaning c.args.self.now) (meaning c.advance.new.self) c.args.next (map message_of c.args.replies.items) c.advance.ensures.step c.requires.2.gives.is_open
+    sent_turned (meaning c.args.self.now) (meaning c.advance.new.self) c.args.next (map message_of c.args.replies.items)
+    c.advance.ensures.step c.requires.2.gives.is_open
     ∙ ap (turn (meaning c.advance.new.self) Sent) (sym (mails_are c.args.replies.items))
 
 pub advance-requires : goal.advance-requires

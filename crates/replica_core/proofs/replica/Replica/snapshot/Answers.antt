@@ -10,5 +10,6 @@ returns-clause-map g c =
     let live = c.self.inside.live.0 in
     let is = mapped live c.store.result.now c.store.ensures.value c.store.ensures.filled c.store.ensures.canonical in
     IfOk-weaker c.copy.result (λ frozen. frozen ≡ c.frozen.result.now) _
-    (λ frozen copied. rw (← c.self.view_is) (subst (λ m. IsMapOf m (live_state live)) (sym ((λ i. (copied i).map) ∙ c.frozen.ensures.map ∙ ap (λ s. s.1) c.store.ensures.value)) is))
+    (λ frozen copied. rw (← c.self.view_is) (subst (λ m. IsMapOf m (live_state live))
+    (sym ((λ i. (copied i).map) ∙ c.frozen.ensures.map ∙ ap (λ s. s.1) c.store.ensures.value)) is))
     c.copy.ensures.ok

@@ -11,28 +11,54 @@ use Rattle.replica_core.proofs.replica.Replica.take_ask.Goals as goal
 
 pub returns-then-ne-clause-ok : goal.returns-then-ne-clause-ok
 returns-then-ne-clause-ok g c =
-    let old : ReplicaValue _ = record { name = c.self.inside.name; live = c.self.inside.live; group = c.self.inside.group; opened = c.self.inside.opened; sessions = c.self.inside.sessions.items; kept = c.self.inside.answerer } in
+    let old : ReplicaValue _ = record {
+      name = c.self.inside.name;
+      live = c.self.inside.live;
+      group = c.self.inside.group;
+      opened = c.self.inside.opened;
+      sessions = c.self.inside.sessions.items;
+      kept = c.self.inside.answerer;
+    } in
     let is = mapped c.self.inside.live.0 c.store.result.now c.store.ensures.value c.store.ensures.filled c.store.ensures.canonical in
     let mail = Ask c.args.session c.args.prefix in
-    rw (← c.self.view_is) (told_by g.H.PathHash.hash_of old old (Take mail) c.silent.result.outcome told.Ignored c.silent.result.replies.items c.silent.ensures.outcome c.silent.ensures.replies
-    (ignored_came g.H.PathHash.hash_of old is mail (is_away c.answerer.result c.args.session.answerer old.name c.answerer.ensures c.ne.result c.ne.ensures c.if-ne.true)))
+    rw (← c.self.view_is) (told_by g.H.PathHash.hash_of old old (Take mail) c.silent.result.outcome told.Ignored c.silent.result.replies.items
+    c.silent.ensures.outcome c.silent.ensures.replies
+    (ignored_came g.H.PathHash.hash_of old is mail
+    (is_away c.answerer.result c.args.session.answerer old.name c.answerer.ensures c.ne.result c.ne.ensures c.if-ne.true)))
 
 pub returns-in_default-clause-ok : goal.returns-in_default-clause-ok
 returns-in_default-clause-ok g c =
-    let old : ReplicaValue _ = record { name = c.self.inside.name; live = c.self.inside.live; group = c.self.inside.group; opened = c.self.inside.opened; sessions = c.self.inside.sessions.items; kept = c.self.inside.answerer } in
+    let old : ReplicaValue _ = record {
+      name = c.self.inside.name;
+      live = c.self.inside.live;
+      group = c.self.inside.group;
+      opened = c.self.inside.opened;
+      sessions = c.self.inside.sessions.items;
+      kept = c.self.inside.answerer;
+    } in
     let is = mapped c.self.inside.live.0 c.store.result.now c.store.ensures.value c.store.ensures.filled c.store.ensures.canonical in
-    rw (← c.self.view_is) (told_by g.H.PathHash.hash_of old old (Take (Ask c.args.session c.args.prefix)) c.silent-in_default.result.outcome told.Ignored c.silent-in_default.result.replies.items
+    rw (← c.self.view_is) (told_by g.H.PathHash.hash_of old old (Take (Ask c.args.session c.args.prefix))
+    c.silent-in_default.result.outcome told.Ignored c.silent-in_default.result.replies.items
     c.silent-in_default.ensures.outcome c.silent-in_default.ensures.replies
     (ask_ignored g.H.PathHash.hash_of old is c.self.invariant c.args.session c.args.prefix (rw c.in_default.is at c.in_ok-answer.ensures.ok)))
 
 pub returns-clause-ok : goal.returns-clause-ok
 returns-clause-ok g c =
-    let old : ReplicaValue _ = record { name = c.self.inside.name; live = c.self.inside.live; group = c.self.inside.group; opened = c.self.inside.opened; sessions = c.self.inside.sessions.items; kept = c.self.inside.answerer } in
+    let old : ReplicaValue _ = record {
+      name = c.self.inside.name;
+      live = c.self.inside.live;
+      group = c.self.inside.group;
+      opened = c.self.inside.opened;
+      sessions = c.self.inside.sessions.items;
+      kept = c.self.inside.answerer;
+    } in
     let is = mapped c.self.inside.live.0 c.store.result.now c.store.ensures.value c.store.ensures.filled c.store.ensures.canonical in
-    rw (← c.self.view_is) (answered_by g.H.PathHash.hash_of old old (Take (Ask c.args.session c.args.prefix)) c.in_ok-told.told.outcome told.Sent c.in_ok-told.told.replies.items c.in_ok-told.ensures.outcome
+    rw (← c.self.view_is) (answered_by g.H.PathHash.hash_of old old (Take (Ask c.args.session c.args.prefix))
+    c.in_ok-told.told.outcome told.Sent c.in_ok-told.told.replies.items c.in_ok-told.ensures.outcome
     c.in-Some.answer c.in_ok-told.ensures.replies
     (ask_came g.H.PathHash.hash_of old is c.self.invariant c.args.session c.args.prefix (message_of c.in-Some.answer)
-    (is_here c.answerer.result c.args.session.answerer old.name c.answerer.ensures c.ne.result c.ne.ensures c.if-ne.false) (rw c.in-Some.is at c.in_ok-answer.ensures.ok)))
+    (is_here c.answerer.result c.args.session.answerer old.name c.answerer.ensures c.ne.result c.ne.ensures c.if-ne.false)
+    (rw c.in-Some.is at c.in_ok-answer.ensures.ok)))
 
 pub returns-then-ne-clause-posted : goal.returns-then-ne-clause-posted
 returns-then-ne-clause-posted g c = posted_none g.O.Outbox.gains c.args.outbox.now c.silent.result.replies.items c.silent.ensures.replies

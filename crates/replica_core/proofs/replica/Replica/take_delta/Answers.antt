@@ -19,8 +19,25 @@ invariant_of-self-2 g c =
 
 pub returns-clause-ok : goal.returns-clause-ok
 returns-clause-ok g c =
-    let old : ReplicaValue _ = record { name = c.self.inside.name; live = c.self.inside.live; group = c.self.inside.group; opened = c.self.inside.opened; sessions = c.self.inside.sessions.items; kept = c.self.inside.answerer } in
-    let new : ReplicaValue _ = record { name = c.self.inside.name; live = c.join_delta.new.self; group = c.self.inside.group; opened = c.self.inside.opened; sessions = c.self.inside.sessions.items; kept = c.self.inside.answerer } in
-    rw (← c.self.view_is) (delta_came g.H.PathHash.hash_of old (mapped c.self.inside.live.0 c.store.result.now c.store.ensures.value c.store.ensures.filled c.store.ensures.canonical) new (or_map_state c.args.delta.now)
-    (meaning_by new (joins (meaning old) (or_map_state c.args.delta.now)) refl (live_joined c.join_delta.new.self.0 c.self.inside.live.0 c.args.delta.now c.in_ok-join_delta.ensures.ok) refl refl refl refl)
+    let old : ReplicaValue _ = record {
+      name = c.self.inside.name;
+      live = c.self.inside.live;
+      group = c.self.inside.group;
+      opened = c.self.inside.opened;
+      sessions = c.self.inside.sessions.items;
+      kept = c.self.inside.answerer;
+    } in
+    let new : ReplicaValue _ = record {
+      name = c.self.inside.name;
+      live = c.join_delta.new.self;
+      group = c.self.inside.group;
+      opened = c.self.inside.opened;
+      sessions = c.self.inside.sessions.items;
+      kept = c.self.inside.answerer;
+    } in
+    rw (← c.self.view_is) (delta_came g.H.PathHash.hash_of old
+    (mapped c.self.inside.live.0 c.store.result.now c.store.ensures.value c.store.ensures.filled c.store.ensures.canonical) new
+    (or_map_state c.args.delta.now)
+    (meaning_by new (joins (meaning old) (or_map_state c.args.delta.now)) refl
+    (live_joined c.join_delta.new.self.0 c.self.inside.live.0 c.args.delta.now c.in_ok-join_delta.ensures.ok) refl refl refl refl)
     c.join_delta.ensures.hash)

@@ -24,10 +24,19 @@ use Rattle.replica_core.proofs.replica.Replica.take_opening.Goals as goal
 
 pub returns-in_default-clause-ok : goal.returns-in_default-clause-ok
 returns-in_default-clause-ok g c =
-    let old : ReplicaValue _ = record { name = c.self.inside.name; live = c.self.inside.live; group = c.self.inside.group; opened = c.self.inside.opened; sessions = c.self.inside.sessions.items; kept = c.self.inside.answerer } in
+    let old : ReplicaValue _ = record {
+      name = c.self.inside.name;
+      live = c.self.inside.live;
+      group = c.self.inside.group;
+      opened = c.self.inside.opened;
+      sessions = c.self.inside.sessions.items;
+      kept = c.self.inside.answerer;
+    } in
     let is = mapped c.self.inside.live.0 c.store.result.now c.store.ensures.value c.store.ensures.filled c.store.ensures.canonical in
-    rw (← c.self.view_is) (told_by g.H.PathHash.hash_of old old (Take (mail_of (message_of c.args.message.now))) c.silent.result.outcome told.Ignored c.silent.result.replies.items c.silent.ensures.outcome
-    c.silent.ensures.replies (no_opening g.H.PathHash.hash_of old is c.args.session (rw c.deref.ensures.value at (c.in_default.ensures.none refl)) (message_of c.args.message.now) c.requires.0 c.requires.1 c.requires.2))
+    rw (← c.self.view_is) (told_by g.H.PathHash.hash_of old old (Take (mail_of (message_of c.args.message.now)))
+    c.silent.result.outcome told.Ignored c.silent.result.replies.items c.silent.ensures.outcome
+    c.silent.ensures.replies (no_opening g.H.PathHash.hash_of old is c.args.session (rw c.deref.ensures.value at (c.in_default.ensures.none refl))
+    (message_of c.args.message.now) c.requires.0 c.requires.1 c.requires.2))
 
 pub index-requires : goal.index-requires
 index-requires g c =
@@ -37,13 +46,23 @@ index-requires g c =
 pub take_turn-requires : goal.take_turn-requires
 take_turn-requires g c =
     let found = rw c.deref.ensures.value at c.in-Some.ensures.found in
-    let old : ReplicaValue _ = record { name = c.self.inside.name; live = c.self.inside.live; group = c.self.inside.group; opened = c.self.inside.opened; sessions = c.self.inside.sessions.items; kept = c.self.inside.answerer } in
+    let old : ReplicaValue _ = record {
+      name = c.self.inside.name;
+      live = c.self.inside.live;
+      group = c.self.inside.group;
+      opened = c.self.inside.opened;
+      sessions = c.self.inside.sessions.items;
+      kept = c.self.inside.answerer;
+    } in
     let here = c.index.ensures ∙ get_or_from_slice_get c.self.inside.sessions.items c.in-Some.place found.0 c.index.result.now found.1.0 in (
       found.0,
       ap (λ (r : ReplicaValue _). Rattle.std.specs.List.slice_get r.sessions c.in-Some.place) (sym c.self.view_is) ∙ found.1.0,
-      opening_can g.H.PathHash.hash_of old c.self.invariant c.args.session c.in-Some.place found.0 found.1 c.in_ok-turn.turn.next (step_of c.in_ok-turn.turn.step)
-          (subst (λ (a : AskerValue _). IsFrom a c.in_ok-turn.turn.next) here c.in_ok-turn.ensures.from) (message_of c.args.message.now) c.requires.0 c.requires.1 c.requires.2
-          (c.in_ok-turn.ensures.ok ∙ ap (λ (a : AskerValue _). turning.on_opening (g.H.PathHash.hash_of a.hash) (asker_state a) (message_of c.args.message.now)) here),
+      opening_can g.H.PathHash.hash_of old c.self.invariant c.args.session c.in-Some.place found.0 found.1 c.in_ok-turn.turn.next
+          (step_of c.in_ok-turn.turn.step)
+          (subst (λ (a : AskerValue _). IsFrom a c.in_ok-turn.turn.next) here c.in_ok-turn.ensures.from) (message_of c.args.message.now)
+          c.requires.0 c.requires.1 c.requires.2
+          (c.in_ok-turn.ensures.ok
+          ∙ ap (λ (a : AskerValue _). turning.on_opening (g.H.PathHash.hash_of a.hash) (asker_state a) (message_of c.args.message.now)) here),
     )
 
 pub returns-clause-ok : goal.returns-clause-ok
@@ -51,12 +70,16 @@ returns-clause-ok g c =
     let found = rw c.deref.ensures.value at c.in-Some.ensures.found in
     let now = c.args.self.now in
     let here = c.index.ensures ∙ get_or_from_slice_get c.self.inside.sessions.items c.in-Some.place found.0 c.index.result.now found.1.0 in
-    let first = subst (λ (r : ReplicaValue _). IsFirstAt (λ (b : AskerValue _). same_session b.session c.args.session) r.sessions c.in-Some.place found.0) c.self.view_is found.1 in
+    let first = subst (λ (r : ReplicaValue _). IsFirstAt (λ (b : AskerValue _). same_session b.session c.args.session) r.sessions c.in-Some.place found.0)
+    c.self.view_is found.1 in
     let is = subst (IsReplica g.H.PathHash.hash_of) c.self.view_is c.self.invariant in
-    let map_is = subst (λ (r : ReplicaValue _). IsMapOf r.live.0.0.1 (live_state r.live.0)) c.self.view_is (mapped c.self.inside.live.0 c.store.result.now c.store.ensures.value c.store.ensures.filled c.store.ensures.canonical) in
+    let map_is = subst (λ (r : ReplicaValue _). IsMapOf r.live.0.0.1 (live_state r.live.0)) c.self.view_is
+    (mapped c.self.inside.live.0 c.store.result.now c.store.ensures.value c.store.ensures.filled c.store.ensures.canonical) in
     IfOk-weaker c.take_turn.result _ _
-    (λ told came. opening_stepped g.H.PathHash.hash_of now is c.args.session c.in-Some.place found.0 first c.in_ok-turn.turn.next (step_of c.in_ok-turn.turn.step)
-    (subst (λ (a : AskerValue _). IsFrom a c.in_ok-turn.turn.next) here c.in_ok-turn.ensures.from) (message_of c.args.message.now) c.requires.0 c.requires.1 c.requires.2
+    (λ told came. opening_stepped g.H.PathHash.hash_of now is c.args.session c.in-Some.place found.0 first c.in_ok-turn.turn.next
+    (step_of c.in_ok-turn.turn.step)
+    (subst (λ (a : AskerValue _). IsFrom a c.in_ok-turn.turn.next) here c.in_ok-turn.ensures.from) (message_of c.args.message.now)
+    c.requires.0 c.requires.1 c.requires.2
     (c.in_ok-turn.ensures.ok ∙ ap (λ (a : AskerValue _). turning.on_opening (g.H.PathHash.hash_of a.hash) (asker_state a) (message_of c.args.message.now)) here)
     map_is c.take_turn.new.self (outcome_of told.outcome) (mails_of told.replies.items) came c.take_turn.ensures.hash)
     c.take_turn.ensures.ok

@@ -9,7 +9,8 @@ use Rattle.replica_store.proofs.store.Store+FileStore+D+H.close_files.Goals as g
 
 pub returns-in-Ok : goal.returns-in-Ok
 returns-in-Ok g c = record {
-  held = subst (λ (v : StoreValue _ _). v.is_failed ≡ false → AreClean g.D.Disk c.in-Ok.files.log c.in-Ok.files.db → IsKeptIn g.D.Disk c.in-Ok.files (meaning v.replica)) c.self.view_is
+  held = subst (λ (v : StoreValue _ _). v.is_failed ≡ false → AreClean g.D.Disk c.in-Ok.files.log c.in-Ok.files.db
+      → IsKeptIn g.D.Disk c.in-Ok.files (meaning v.replica)) c.self.view_is
       (λ fresh clean.
       let holds = c.self.invariant fresh in
       let both = c.in-Ok.ensures.held holds.0 clean in

@@ -12,5 +12,6 @@ returns-clause-back g c clean = c.in_ok-replica.ensures.back clean
 
 pub returns-clause-kept : goal.returns-clause-kept
 returns-clause-kept g c clean =
-    kept_now (log_state g.S.Store c.come_back.new.log) (meaning c.in_ok-replica.replica) (c.is_failed.ensures.ready (c.is_failed.ensures.value ∙ c.in_ok-replica.ensures.stays) clean)
+    kept_now (log_state g.S.Store c.come_back.new.log) (meaning c.in_ok-replica.replica)
+    (c.is_failed.ensures.ready (c.is_failed.ensures.value ∙ c.in_ok-replica.ensures.stays) clean)
     (c.in_ok-replica.ensures.kept clean)

@@ -16,7 +16,8 @@ returns-in-Err-clause-any_moment g c fresh clean =
     let before = log_state g.S.Store c.self.inside.log in
     let holds = c.self.invariant c.if-self.false in
     subst (λ (v : StoreValue _ _). KeepsEither before (meaning v.replica) (meaning c.make_all.new.replica)) c.self.view_is
-    (unkept before (meaning c.self.inside.replica) (meaning c.make_all.new.replica) (c.is_failed.ensures.ready (c.is_failed.ensures.value ∙ holds.0) clean) (holds.1 clean))
+    (unkept before (meaning c.self.inside.replica) (meaning c.make_all.new.replica) (c.is_failed.ensures.ready (c.is_failed.ensures.value ∙ holds.0) clean)
+    (holds.1 clean))
 
 pub invariant_of-self-in-Ok-keep_flushed : goal.invariant_of-self-in-Ok-keep_flushed
 invariant_of-self-in-Ok-keep_flushed g c fresh =
@@ -26,7 +27,8 @@ invariant_of-self-in-Ok-keep_flushed g c fresh =
       λ clean.
           let keeps = holds.1 (c.keep_flushed.ensures.clean clean) in
           let behind : IsBehind old (meaning c.make_all.new.replica) =
-          behind_all g.H.PathHash.hash_of call_of answer_of is_write_of old c.self.inside.replica c.make_all.new.replica c.args.writes.now c.in-Ok.answers.items (behind_none old keeps.group) c.in-Ok.ensures in
+          behind_all g.H.PathHash.hash_of call_of answer_of is_write_of old c.self.inside.replica c.make_all.new.replica c.args.writes.now c.in-Ok.answers.items
+          (behind_none old keeps.group) c.in-Ok.ensures in
           (c.in-Ok-keep_flushed.ensures.kept old behind clean keeps).now,
     )
 
@@ -37,7 +39,8 @@ returns-in-Ok-keep_flushed-clause-ok g c =
       sent.1,
       record {
         mid = c.make_all.new.replica;
-        made = subst (λ (v : StoreValue _ _). MakesAll g.H.PathHash.hash_of v.replica c.make_all.new.replica (map call_of c.args.writes.now) (map answer_of c.in-Ok.answers.items)) c.self.view_is c.in-Ok.ensures;
+        made = subst (λ (v : StoreValue _ _). MakesAll g.H.PathHash.hash_of v.replica c.make_all.new.replica (map call_of c.args.writes.now)
+            (map answer_of c.in-Ok.answers.items)) c.self.view_is c.in-Ok.ensures;
         sent = sent.2;
       },
     )
@@ -47,7 +50,8 @@ returns-in-Ok-keep_flushed-clause-kept g c clean =
     let old = meaning c.self.inside.replica in
     let keeps = (c.self.invariant c.if-self.false).1 (c.keep_flushed.ensures.clean clean) in
     let behind : IsBehind old (meaning c.make_all.new.replica) =
-    behind_all g.H.PathHash.hash_of call_of answer_of is_write_of old c.self.inside.replica c.make_all.new.replica c.args.writes.now c.in-Ok.answers.items (behind_none old keeps.group) c.in-Ok.ensures in
+    behind_all g.H.PathHash.hash_of call_of answer_of is_write_of old c.self.inside.replica c.make_all.new.replica c.args.writes.now c.in-Ok.answers.items
+    (behind_none old keeps.group) c.in-Ok.ensures in
     c.in-Ok-keep_flushed.ensures.kept old behind clean keeps
 
 pub returns-in-Ok-keep_flushed-clause-any_moment : goal.returns-in-Ok-keep_flushed-clause-any_moment
@@ -56,8 +60,10 @@ returns-in-Ok-keep_flushed-clause-any_moment g c fresh clean =
     let after = log_state g.S.Store c.keep_flushed.new.log in
     let keeps = (c.self.invariant c.if-self.false).1 (c.keep_flushed.ensures.clean clean) in
     let behind : IsBehind old (meaning c.make_all.new.replica) =
-    behind_all g.H.PathHash.hash_of call_of answer_of is_write_of old c.self.inside.replica c.make_all.new.replica c.args.writes.now c.in-Ok.answers.items (behind_none old keeps.group) c.in-Ok.ensures in
-    subst (λ (v : StoreValue _ _). KeepsEither after (meaning v.replica) (meaning c.keep_flushed.new.replica)) c.self.view_is (c.keep_flushed.ensures.any_moment old behind clean keeps)
+    behind_all g.H.PathHash.hash_of call_of answer_of is_write_of old c.self.inside.replica c.make_all.new.replica c.args.writes.now c.in-Ok.answers.items
+    (behind_none old keeps.group) c.in-Ok.ensures in
+    subst (λ (v : StoreValue _ _). KeepsEither after (meaning v.replica) (meaning c.keep_flushed.new.replica)) c.self.view_is
+    (c.keep_flushed.ensures.any_moment old behind clean keeps)
 
 pub returns-in-Err-keep_flushed-clause-any_moment : goal.returns-in-Err-keep_flushed-clause-any_moment
 returns-in-Err-keep_flushed-clause-any_moment g c fresh clean =
@@ -65,5 +71,7 @@ returns-in-Err-keep_flushed-clause-any_moment g c fresh clean =
     let after = log_state g.S.Store c.keep_flushed.new.log in
     let keeps = (c.self.invariant c.if-self.false).1 (c.keep_flushed.ensures.clean clean) in
     let behind : IsBehind old (meaning c.make_all.new.replica) =
-    behind_all g.H.PathHash.hash_of call_of answer_of is_write_of old c.self.inside.replica c.make_all.new.replica c.args.writes.now c.in-Ok.answers.items (behind_none old keeps.group) c.in-Ok.ensures in
-    subst (λ (v : StoreValue _ _). KeepsEither after (meaning v.replica) (meaning c.keep_flushed.new.replica)) c.self.view_is (c.keep_flushed.ensures.any_moment old behind clean keeps)
+    behind_all g.H.PathHash.hash_of call_of answer_of is_write_of old c.self.inside.replica c.make_all.new.replica c.args.writes.now c.in-Ok.answers.items
+    (behind_none old keeps.group) c.in-Ok.ensures in
+    subst (λ (v : StoreValue _ _). KeepsEither after (meaning v.replica) (meaning c.keep_flushed.new.replica)) c.self.view_is
+    (c.keep_flushed.ensures.any_moment old behind clean keeps)

@@ -3,4 +3,5 @@ use Rattle.replica_world.proofs.Spelt.{posts}
 use Rattle.replica_world.proofs.posted.PostedOutbox.post.Goals as goal
 
 pub returns-clause-ok : goal.returns-clause-ok
-returns-clause-ok g c = rw (← c.self.view_is) (posts c.self.inside.messages.items c.push.new.self.items c.in_ok-bytes.bytes (message_of c.args.message.now) c.in_ok-push.ensures.items c.in_ok-bytes.ensures.ok)
+returns-clause-ok g c = rw (← c.self.view_is) (posts c.self.inside.messages.items c.push.new.self.items c.in_ok-bytes.bytes (message_of c.args.message.now)
+    c.in_ok-push.ensures.items c.in_ok-bytes.ensures.ok)

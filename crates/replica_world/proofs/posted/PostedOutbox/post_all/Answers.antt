@@ -5,4 +5,5 @@ use Rattle.replica_world.proofs.posted.PostedOutbox.post_all.Goals as goal
 
 pub returns-clause-ok : goal.returns-clause-ok
 returns-clause-ok g c =
-    rw (← c.self.view_is) (posts_all c.self.inside.messages.items c.append.new.self.items c.in_ok-spelled.spelled.items (map message_of c.args.messages.now) c.in_ok-append.ensures.items c.in_ok-spelled.ensures.ok)
+    rw (← c.self.view_is) (posts_all c.self.inside.messages.items c.append.new.self.items c.in_ok-spelled.spelled.items (map message_of c.args.messages.now)
+    c.in_ok-append.ensures.items c.in_ok-spelled.ensures.ok)

@@ -8,5 +8,6 @@ use Rattle.replica_world.proofs.world.World.context_at.Goals as goal
 
 pub returns-clause-ok : goal.returns-clause-ok
 returns-clause-ok g c =
-    shown_as (g.H.PathHash.hash_of c.args.self.now.hash) (past_of c.args.self.now) c.args.name (meaning c.in_ok-replica.replica.now).live c.in_ok-replica.ensures.ok (λ S. has c.context.result.now ≡ op.has (op.known S))
+    shown_as (g.H.PathHash.hash_of c.args.self.now.hash) (past_of c.args.self.now) c.args.name
+    (meaning c.in_ok-replica.replica.now).live c.in_ok-replica.ensures.ok (λ S. has c.context.result.now ≡ op.has (op.known S))
     (λ S shows. c.context.ensures ∙ shows.known)

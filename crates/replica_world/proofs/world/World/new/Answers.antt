@@ -11,7 +11,8 @@ pub invariant_of-result : goal.invariant_of-result
 invariant_of-result g c =
     rw (c.new-2.ensures, c.new-3.ensures.items) (
       world_begins g.H.PathHash.hash_of c.args.hash c.new.result c.new.ensures.empty,
-      kept_begins (g.H.PathHash.hash_of c.args.hash) (back_in c.new-4.result) (λ n. ap (λ es. back_of (lookup (is_at (nat_cmp n)) es)) c.new-4.ensures.empty) (saves_in c.new-4.result),
+      kept_begins (g.H.PathHash.hash_of c.args.hash) (back_in c.new-4.result) (λ n. ap (λ es. back_of (lookup (is_at (nat_cmp n)) es)) c.new-4.ensures.empty)
+          (saves_in c.new-4.result),
     )
 
 -- this hash, and no event

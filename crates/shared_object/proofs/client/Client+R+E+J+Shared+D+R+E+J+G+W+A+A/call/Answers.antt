@@ -18,7 +18,8 @@ invariant_of-self g c =
       refl,
       c.self.invariant.1,
       subst (λ (f : List _). c.self.inside.operations + 1 ≤ length (calls_by g.E.Placed.place c.self.inside.place f)) (sym ok.6)
-          (accepted_within g.E.Placed.place c.self.inside.place c.self.inside.operations ok.0 event (g.met.C.Update.placed c.args.update.now c.in-Ok.told.0 c.self.inside.place) ok.2),
+          (accepted_within g.E.Placed.place c.self.inside.place c.self.inside.operations ok.0 event
+          (g.met.C.Update.placed c.args.update.now c.in-Ok.told.0 c.self.inside.place) ok.2),
     )
 
 pub returns-in-Ok-clause-ok : goal.returns-in-Ok-clause-ok

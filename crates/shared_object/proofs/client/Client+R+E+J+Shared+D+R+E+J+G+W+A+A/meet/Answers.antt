@@ -10,7 +10,8 @@ returns-clause-own g c met =
     let same : front ≡ c.in-Some.view = ap seen_in (sym c.take.ensures.value ∙ c.in-Some.is) in
     let pre : IsPrefix front c.args.guarded.now = subst (λ (f : List _). IsPrefix front f) (c.meet-view.ensures.whole met)
     (subst (λ (f : List _). IsPrefix f c.meet-view.result.0) (sym same) c.meet-view.ensures.seen) in
-    rw (← c.self.view_is) (own_calls g.E.Placed.place c.self.inside.place c.self.inside.operations front c.args.guarded.now c.self.invariant.2 pre (c.meet-view.ensures.own met))
+    rw (← c.self.view_is) (own_calls g.E.Placed.place c.self.inside.place c.self.inside.operations front c.args.guarded.now c.self.invariant.2 pre
+    (c.meet-view.ensures.own met))
 
 pub returns-clause-not_called : goal.returns-clause-not_called
 returns-clause-not_called g c =

@@ -24,4 +24,5 @@ pub invariant_of-guarded-in-Err : goal.invariant_of-guarded-in-Err
 invariant_of-guarded-in-Err g c = (c.in-Err.ensures.unchanged c.self.inside.writer c.self.invariant.0, c.self.invariant.1, c.self.invariant.2)
 
 pub returns-in-Err-clause-refused : goal.returns-in-Err-clause-refused
-returns-in-Err-clause-refused g c = rw (← c.self.view_is) (inl (omega (arith, c.self.invariant.1), c.in-Err.ensures.refused c.self.inside.writer c.self.invariant.0))
+returns-in-Err-clause-refused g c =
+    rw (← c.self.view_is) (inl (omega (arith, c.self.invariant.1), c.in-Err.ensures.refused c.self.inside.writer c.self.invariant.0))

@@ -17,4 +17,5 @@ returns-in-Some-clause-ok g c =
     let s = c.args.session in
     let found : snapshot_of c.args.self.now s ≡ Some c.in-Some.snapshot.now =
     ap (λ kept. snapshot_of kept s) (sym c.self.view_is) ∙ sym c.get.ensures.value ∙ ap option_copied c.in-Some.is in
-    answer_is g.H.PathHash.hash_of (λ told. IfOk c.page.result (λ answer. option_map message_of answer ≡ told)) c.args.self.now s c.args.prefix c.in-Some.snapshot.now found c.page.ensures.ok
+    answer_is g.H.PathHash.hash_of (λ told. IfOk c.page.result (λ answer. option_map message_of answer ≡ told))
+    c.args.self.now s c.args.prefix c.in-Some.snapshot.now found c.page.ensures.ok

@@ -11,7 +11,8 @@ returns-in-Some-clause-opening g c =
     let found : snapshot_of c.args.self.now s ≡ Some c.in-Some.snapshot.now =
     ap (λ kept. snapshot_of kept s) (sym c.self.view_is) ∙ sym c.get.ensures.value ∙ ap option_copied c.in-Some.is in
     told_is (λ k. IfOk c.post_opening.result (λ m. message_of m ≡ opening_of g.H.PathHash.hash_of s k)) c.args.self.now s
-    (record { seen = c.args.seen.now; hash = c.args.store.now.0; map = c.args.store.now.1; context = c.args.context.now }) c.in-Some.snapshot.now found c.post_opening.ensures.opening
+    (record { seen = c.args.seen.now; hash = c.args.store.now.0; map = c.args.store.now.1; context = c.args.context.now })
+    c.in-Some.snapshot.now found c.post_opening.ensures.opening
 
 pub returns-in_err-reserve-clause-few : goal.returns-in_err-reserve-clause-few
 returns-in_err-reserve-clause-few g c = subst (λ kept. length kept ≤ LIMIT) (sym c.in_err-reserve.ensures.entries) c.self.invariant

@@ -19,13 +19,20 @@ unreachable-requires g c =
     let in_it = ap (λ m. finite.get m key) c.frozen-frozen.ensures.map ∙ there in
     fields_filled held (c.frozen-frozen.ensures.canonical key held in_it).filled (c.frozen-frozen.ensures.filled key held in_it) in
     c.in-None.ensures.unlawful.0 refl
-    (sendable (g.H.PathHash.hash_of hash) (g.H.PathHash.bounded hash) c.self.inside.store.1 filled (has c.self.inside.seen) c.args.prefix c.frozen-frozen.result.now.map c.in_ok-values.values.items
+    (sendable (g.H.PathHash.hash_of hash) (g.H.PathHash.bounded hash) c.self.inside.store.1 filled (has c.self.inside.seen)
+    c.args.prefix c.frozen-frozen.result.now.map c.in_ok-values.values.items
     (value_of c.in-Some.page) c.frozen-frozen.ensures.map c.in_ok-values.ensures.ok is)
 
 pub returns-clause-ok : goal.returns-clause-ok
 returns-clause-ok g c =
-    let k : SnapshotValue _ = record { seen = c.self.inside.seen; hash = c.self.inside.store.0; map = c.self.inside.store.1; context = c.self.inside.context } in
+    let k : SnapshotValue _ = record {
+      seen = c.self.inside.seen;
+      hash = c.self.inside.store.0;
+      map = c.self.inside.store.1;
+      context = c.self.inside.context;
+    } in
     let is = sym (ap (option_map value_of) c.in-Some.is) ∙ c.in_ok-page.ensures.ok in
-    page_told g.H.PathHash.hash_of k c.args.session c.args.prefix c.frozen-frozen.result.now.hash c.frozen-frozen.result.now.map c.in_ok-values.values.items (value_of c.in-Some.page)
+    page_told g.H.PathHash.hash_of k c.args.session c.args.prefix c.frozen-frozen.result.now.hash c.frozen-frozen.result.now.map c.in_ok-values.values.items
+    (value_of c.in-Some.page)
     (message_of c.in-Some-page.message) c.frozen-frozen.ensures.hash c.frozen-frozen.ensures.map c.in-Some-page.ensures.page c.in_ok-values.ensures.ok is
     ∙ ap (λ (v : SnapshotValue _). page_of g.H.PathHash.hash_of c.args.session v c.args.prefix) c.self.view_is

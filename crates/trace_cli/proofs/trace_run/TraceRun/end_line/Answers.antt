@@ -25,7 +25,8 @@ returns-in_err-write_reply-clause-front g c =
 pub returns-clause-ok : goal.returns-clause-ok
 returns-clause-ok g c =
     let is = rw c.as_slice.ensures.value at c.in_ok-reply.ensures.answer in
-    let led = Leads-answer (point_of c.args.self.now) c.carry_out.new.self (answer_of c.in_ok-reply.reply) c.requires.one_line is c.in_ok-write_reply.ensures.goes_on in (
+    let led = Leads-answer (point_of c.args.self.now) c.carry_out.new.self (answer_of c.in_ok-reply.reply)
+    c.requires.one_line is c.in_ok-write_reply.ensures.goes_on in (
       answer_text (answer_of c.in_ok-reply.reply) c.args.self.now.number,
       c.in_ok-write_reply.ensures.ok,
       rw c.clear.ensures.items led,

@@ -9,4 +9,5 @@ returns-then-is_empty-clause-answer g c = answers_nothing _ c.args.line.now c.if
 pub returns-clause-answer : goal.returns-clause-answer
 returns-clause-answer g c =
     IfOk-weaker c.reply_of.result _ _
-    (λ reply answered. answers_command c.args.self.now c.attempt-done.new.self c.args.line.now c.attempt-done.result (answer_of reply) c.if-is_empty.ensures c.attempt-done.ensures answered.0 answered.1) c.reply_of.ensures.answer
+    (λ reply answered. answers_command c.args.self.now c.attempt-done.new.self c.args.line.now c.attempt-done.result (answer_of reply)
+    c.if-is_empty.ensures c.attempt-done.ensures answered.0 answered.1) c.reply_of.ensures.answer

@@ -8,10 +8,12 @@ use Rattle.trace_world.proofs.teller.Teller.call.Goals as goal
 
 pub returns-in-Err : goal.returns-in-Err
 returns-in-Err g c =
-    rw (← c.self.view_is) (event_refused c.self.inside.world.held c.event.new.self.held (At c.args.name (call_value c.args.call)) c.in-Err.refusal (ap (λ (w : WorldValue Fnv1a). w.held) c.in-Err.ensures.unchanged) c.in-Err.ensures.refused)
+    rw (← c.self.view_is) (event_refused c.self.inside.world.held c.event.new.self.held (At c.args.name (call_value c.args.call)) c.in-Err.refusal
+    (ap (λ (w : WorldValue Fnv1a). w.held) c.in-Err.ensures.unchanged) c.in-Err.ensures.refused)
 
 pub returns : goal.returns
 returns g c =
     rw (← c.self.view_is)
-    (event_done c.self.inside.world.held c.event.new.self.held (At c.args.name (call_value c.args.call)) (answer_value c.in-Ok.told.answer) c.in-Ok.told.made.start c.in-Ok.told.made.end c.in-Ok.ensures.happened c.tell.result
+    (event_done c.self.inside.world.held c.event.new.self.held (At c.args.name (call_value c.args.call)) (answer_value c.in-Ok.told.answer)
+    c.in-Ok.told.made.start c.in-Ok.told.made.end c.in-Ok.ensures.happened c.tell.result
     (ap (λ (w : WorldValue Fnv1a). w.held) c.in-Ok.ensures.ok) c.tell.ensures.ok c.tell.ensures.err)

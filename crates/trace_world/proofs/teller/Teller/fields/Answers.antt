@@ -10,7 +10,8 @@ pub returns-in-Some : goal.returns-in-Some
 returns-in-Some g c =
     let P : MapState → CommandOutcome → Type 0 = λ live. with_bytes c.args.key.now (ReadsFields c.args.key.now live) in
     rw (← c.self.view_is)
-    (does_read P c.args.name c.self.inside.world.held (meaning c.in-Some.replica.now) c.read_fields.result (λ w runs. let is = c.in-Some.ensures.some w runs in (is.0, is.1)) c.read_fields.ensures)
+    (does_read P c.args.name c.self.inside.world.held (meaning c.in-Some.replica.now) c.read_fields.result
+    (λ w runs. let is = c.in-Some.ensures.some w runs in (is.0, is.1)) c.read_fields.ensures)
 
 pub returns-in-None : goal.returns-in-None
 returns-in-None g c =

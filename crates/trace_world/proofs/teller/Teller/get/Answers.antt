@@ -9,11 +9,14 @@ use Rattle.trace_world.proofs.teller.Teller.get.Goals as goal
 
 pub returns-in-Some : goal.returns-in-Some
 returns-in-Some g c =
-    let P : MapState → CommandOutcome → Type 0 = λ live. with_bytes c.args.key.now (with_bytes c.args.field.now (ReadsValues (place_of c.args.key.now c.args.field.now) live)) in
+    let P : MapState → CommandOutcome → Type 0 = λ live. with_bytes c.args.key.now
+    (with_bytes c.args.field.now (ReadsValues (place_of c.args.key.now c.args.field.now) live)) in
     rw (← c.self.view_is)
-    (does_read P c.args.name c.self.inside.world.held (meaning c.in-Some.replica.now) c.read_values.result (λ w runs. let is = c.in-Some.ensures.some w runs in (is.0, is.1)) c.read_values.ensures)
+    (does_read P c.args.name c.self.inside.world.held (meaning c.in-Some.replica.now) c.read_values.result
+    (λ w runs. let is = c.in-Some.ensures.some w runs in (is.0, is.1)) c.read_values.ensures)
 
 pub returns-in-None : goal.returns-in-None
 returns-in-None g c =
-    let P : World → CommandOutcome → Type 0 = λ w. with_bytes c.args.key.now (with_bytes c.args.field.now (ReadsValues (place_of c.args.key.now c.args.field.now) (w.replica c.args.name).live)) in
+    let P : World → CommandOutcome → Type 0 = λ w. with_bytes c.args.key.now
+    (with_bytes c.args.field.now (ReadsValues (place_of c.args.key.now c.args.field.now) (w.replica c.args.name).live)) in
     rw (← c.self.view_is) (does_absent P c.args.name c.self.inside.world.held (c.in-None.ensures.none refl))

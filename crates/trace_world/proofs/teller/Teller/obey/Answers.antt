@@ -25,7 +25,8 @@ pub returns-in-Remove : goal.returns-in-Remove
 returns-in-Remove g c = rw (c.in-Remove.is, ← c.as_slice-in-Remove.ensures.value) c.remove.ensures
 
 pub returns-in-RemoveField : goal.returns-in-RemoveField
-returns-in-RemoveField g c = rw (c.in-RemoveField.is, ← c.as_slice-in-RemoveField.ensures.value, ← c.as_slice-in-RemoveField-2.ensures.value) c.remove_field.ensures
+returns-in-RemoveField g c = rw (c.in-RemoveField.is, ← c.as_slice-in-RemoveField.ensures.value, ← c.as_slice-in-RemoveField-2.ensures.value)
+    c.remove_field.ensures
 
 pub returns-in-Fields : goal.returns-in-Fields
 returns-in-Fields g c = rw (c.in-Fields.is, ← c.as_slice-in-Fields.ensures.value) c.fields.ensures

@@ -18,11 +18,14 @@ returns-in_err-key g c =
     let p = err_from_is_err_and c.from_residual.result c.from_residual.ensures.1 in
     let made : World → CommandOutcome → Type 0 = λ w. IsCall fnv1a w c.args.name (step.Remove c.args.key.now) in
     let with_key : World → CommandOutcome → Type 0 = λ w. with_bytes c.args.key.now (made w) in
-    rw (p.1, p.2) (does_at {A = ℕ} with_key c.args.name c.args.self.now c.args.self.now (Err c.in_err-key.field-0.0) (c.has_replica.ensures.there c.if-not-has_replica.false) (does_long made c.args.key.now c.args.self.now c.in_err-key.field-0.0 c.in_err-key.ensures.err))
+    rw (p.1, p.2) (does_at {A = ℕ} with_key c.args.name c.args.self.now c.args.self.now (Err c.in_err-key.field-0.0)
+    (c.has_replica.ensures.there c.if-not-has_replica.false)
+    (does_long made c.args.key.now c.args.self.now c.in_err-key.field-0.0 c.in_err-key.ensures.err))
 
 pub returns : goal.returns
 returns g c =
     let called = rw (c.in_ok-key.ensures.ok.0) at c.call.ensures in
     let made : World → CommandOutcome → Type 0 = λ w. IsCall fnv1a w c.args.name (step.Remove c.args.key.now) in
     let with_key : World → CommandOutcome → Type 0 = λ w. with_bytes c.args.key.now (made w) in
-    does_at with_key c.args.name c.args.self.now c.call.new.self c.call.result (c.has_replica.ensures.there c.if-not-has_replica.false) (does_with made c.args.key.now c.args.self.now c.call.new.self c.call.result c.in_ok-key.ensures.ok.1 (called))
+    does_at with_key c.args.name c.args.self.now c.call.new.self c.call.result (c.has_replica.ensures.there c.if-not-has_replica.false)
+    (does_with made c.args.key.now c.args.self.now c.call.new.self c.call.result c.in_ok-key.ensures.ok.1 (called))

@@ -21,7 +21,9 @@ returns-in_err-key g c =
     let made : World → CommandOutcome → Type 0 = λ w. IsCall fnv1a w c.args.name (step.RemoveField (place_of c.args.key.now c.args.field.now)) in
     let with_field : World → CommandOutcome → Type 0 = λ w. with_bytes c.args.field.now (made w) in
     let with_key : World → CommandOutcome → Type 0 = λ w. with_bytes c.args.key.now (with_field w) in
-    rw (p.1, p.2) (does_at {A = ℕ} with_key c.args.name c.args.self.now c.args.self.now (Err c.in_err-key.field-0.0) (c.has_replica.ensures.there c.if-not-has_replica.false) (does_long with_field c.args.key.now c.args.self.now c.in_err-key.field-0.0 c.in_err-key.ensures.err))
+    rw (p.1, p.2) (does_at {A = ℕ} with_key c.args.name c.args.self.now c.args.self.now (Err c.in_err-key.field-0.0)
+    (c.has_replica.ensures.there c.if-not-has_replica.false)
+    (does_long with_field c.args.key.now c.args.self.now c.in_err-key.field-0.0 c.in_err-key.ensures.err))
 
 pub returns-in_err-field : goal.returns-in_err-field
 returns-in_err-field g c =
@@ -29,7 +31,10 @@ returns-in_err-field g c =
     let made : World → CommandOutcome → Type 0 = λ w. IsCall fnv1a w c.args.name (step.RemoveField (place_of c.args.key.now c.args.field.now)) in
     let with_field : World → CommandOutcome → Type 0 = λ w. with_bytes c.args.field.now (made w) in
     let with_key : World → CommandOutcome → Type 0 = λ w. with_bytes c.args.key.now (with_field w) in
-    rw (p.1, p.2) (does_at {A = ℕ} with_key c.args.name c.args.self.now c.args.self.now (Err c.in_err-field.field-0.0) (c.has_replica.ensures.there c.if-not-has_replica.false) (does_with {A = ℕ} with_field c.args.key.now c.args.self.now c.args.self.now (Err c.in_err-field.field-0.0) c.in_ok-key.ensures.ok.1 (does_long made c.args.field.now c.args.self.now c.in_err-field.field-0.0 c.in_err-field.ensures.err)))
+    rw (p.1, p.2) (does_at {A = ℕ} with_key c.args.name c.args.self.now c.args.self.now (Err c.in_err-field.field-0.0)
+    (c.has_replica.ensures.there c.if-not-has_replica.false)
+    (does_with {A = ℕ} with_field c.args.key.now c.args.self.now c.args.self.now (Err c.in_err-field.field-0.0) c.in_ok-key.ensures.ok.1
+    (does_long made c.args.field.now c.args.self.now c.in_err-field.field-0.0 c.in_err-field.ensures.err)))
 
 pub returns : goal.returns
 returns g c =
@@ -37,4 +42,6 @@ returns g c =
     let made : World → CommandOutcome → Type 0 = λ w. IsCall fnv1a w c.args.name (step.RemoveField (place_of c.args.key.now c.args.field.now)) in
     let with_field : World → CommandOutcome → Type 0 = λ w. with_bytes c.args.field.now (made w) in
     let with_key : World → CommandOutcome → Type 0 = λ w. with_bytes c.args.key.now (with_field w) in
-    does_at with_key c.args.name c.args.self.now c.call.new.self c.call.result (c.has_replica.ensures.there c.if-not-has_replica.false) (does_with with_field c.args.key.now c.args.self.now c.call.new.self c.call.result c.in_ok-key.ensures.ok.1 (does_with made c.args.field.now c.args.self.now c.call.new.self c.call.result c.in_ok-field.ensures.ok.1 (called)))
+    does_at with_key c.args.name c.args.self.now c.call.new.self c.call.result (c.has_replica.ensures.there c.if-not-has_replica.false)
+    (does_with with_field c.args.key.now c.args.self.now c.call.new.self c.call.result c.in_ok-key.ensures.ok.1
+    (does_with made c.args.field.now c.args.self.now c.call.new.self c.call.result c.in_ok-field.ensures.ok.1 (called)))

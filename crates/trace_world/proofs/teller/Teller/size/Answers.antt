@@ -7,7 +7,9 @@ use Rattle.trace_world.proofs.teller.Teller.size.Goals as goal
 pub returns-in-Some : goal.returns-in-Some
 returns-in-Some g c =
     rw (← c.self.view_is)
-    (does_read (ReadsSize) c.args.name c.self.inside.world.held (meaning c.in-Some.replica.now) c.read_size.result (λ w runs. let is = c.in-Some.ensures.some w runs in (is.0, is.1)) c.read_size.ensures)
+    (does_read (ReadsSize) c.args.name c.self.inside.world.held (meaning c.in-Some.replica.now) c.read_size.result
+    (λ w runs. let is = c.in-Some.ensures.some w runs in (is.0, is.1)) c.read_size.ensures)
 
 pub returns-in-None : goal.returns-in-None
-returns-in-None g c = rw (← c.self.view_is) (does_absent (λ w. (ReadsSize) (w.replica c.args.name).live) c.args.name c.self.inside.world.held (c.in-None.ensures.none refl))
+returns-in-None g c = rw (← c.self.view_is) (does_absent (λ w. (ReadsSize) (w.replica c.args.name).live) c.args.name c.self.inside.world.held
+    (c.in-None.ensures.none refl))

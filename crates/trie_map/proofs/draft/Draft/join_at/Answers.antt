@@ -8,20 +8,25 @@ use Rattle.trie_map.proofs.draft.Draft.join_at.Goals as goal
 
 pub returns-then-same-clause-ok : goal.returns-then-same-clause-ok
 returns-then-same-clause-ok g c =
-    joins_kept g.S.DotStore.at g.S.DotStore.greater c.args.mine.now (has c.args.own.now) c.args.yours.now (has c.args.theirs.now) c.in_ok-both.both c.in_ok-both.ensures.ok
+    joins_kept g.S.DotStore.at g.S.DotStore.greater c.args.mine.now (has c.args.own.now) c.args.yours.now (has c.args.theirs.now)
+    c.in_ok-both.both c.in_ok-both.ensures.ok
     c.args.self.now.1 c.args.key.now (c.if-same.ensures.0 refl)
 
 pub invariant_of-self-then-is_empty : goal.invariant_of-self-then-is_empty
 invariant_of-self-then-is_empty g c =
     let old = c.self.inside.entries.map in
     let new = c.remove.new.self.map in
-    let is = ap (λ t. t.map) c.in_ok-remove.ensures.ok in
-    (each_remove (λ s. HasNothing (g.S.DotStore.at s) → ⊥) old new c.args.key.now c.self.invariant.0 is, each_remove g.S.DotStore.canonical old new c.args.key.now c.self.invariant.1 is)
+    let is = ap (λ t. t.map) c.in_ok-remove.ensures.ok in (
+      each_remove (λ s. HasNothing (g.S.DotStore.at s) → ⊥) old new c.args.key.now c.self.invariant.0 is,
+      each_remove g.S.DotStore.canonical old new c.args.key.now c.self.invariant.1 is,
+    )
 
 pub returns-then-is_empty-clause-ok : goal.returns-then-is_empty-clause-ok
 returns-then-is_empty-clause-ok g c =
-    joins_cut g.S.DotStore.at g.S.DotStore.greater c.args.mine.now (has c.args.own.now) c.args.yours.now (has c.args.theirs.now) c.in_ok-both.both c.in_ok-both.ensures.ok
-    c.args.self.now.1 c.remove.new.self.map c.args.key.now (ap (λ t. t.map) c.in_ok-remove.ensures.ok ∙ ap (λ p. finite.remove p.1 c.args.key.now) c.self.view_is) (c.if-is_empty.ensures.nothing.0 refl)
+    joins_cut g.S.DotStore.at g.S.DotStore.greater c.args.mine.now (has c.args.own.now) c.args.yours.now (has c.args.theirs.now)
+    c.in_ok-both.both c.in_ok-both.ensures.ok
+    c.args.self.now.1 c.remove.new.self.map c.args.key.now (ap (λ t. t.map) c.in_ok-remove.ensures.ok
+    ∙ ap (λ p. finite.remove p.1 c.args.key.now) c.self.view_is) (c.if-is_empty.ensures.nothing.0 refl)
 
 pub invariant_of-self-in-Ok : goal.invariant_of-self-in-Ok
 invariant_of-self-in-Ok g c =
@@ -39,7 +44,8 @@ invariant_of-self-in-Ok g c =
 pub returns-in-Ok-clause-ok : goal.returns-in-Ok-clause-ok
 returns-in-Ok-clause-ok g c =
     on_ok_weaker c.insert.result
-    (λ e. joins_put g.S.DotStore.at g.S.DotStore.greater c.args.mine.now (has c.args.own.now) c.args.yours.now (has c.args.theirs.now) c.in_ok-both.both c.in_ok-both.ensures.ok
+    (λ e. joins_put g.S.DotStore.at g.S.DotStore.greater c.args.mine.now (has c.args.own.now) c.args.yours.now (has c.args.theirs.now)
+    c.in_ok-both.both c.in_ok-both.ensures.ok
     c.args.self.now.1 c.insert.new.self.map c.args.key.now
     (ap (λ t. t.map) e ∙ (λ i. finite.insert (c.self.view_is i).1 (c.in-Ok.ensures.ok i) c.in_ok-both.both)))
     c.insert.ensures.ok

@@ -14,7 +14,8 @@ returns-then-same-clause-ok g c =
     let holds : (place : _) (d : _) → held_by at o place d ≡ at mine place d =
     subst (λ (b : Bor g.row.S.Denot). (place : _) (d : _) → held_by at o place d ≡ at b.now place d) (sym c.unwrap_or-mine.ensures)
     (stands_here at o c.get.result _ c.get.ensures.store c.empty-empty.ensures) in
-    join_same at g.S.DotStore.greater (has c.args.own.now) c.args.yours.now (has c.args.theirs.now) g.met.S.DotStore.greater_idem o mine holds (c.if-same.ensures.0 refl)
+    join_same at g.S.DotStore.greater (has c.args.own.now) c.args.yours.now (has c.args.theirs.now) g.met.S.DotStore.greater_idem o mine holds
+    (c.if-same.ensures.0 refl)
 
 pub returns-then-same-2-clause-ok : goal.returns-then-same-2-clause-ok
 returns-then-same-2-clause-ok g c =
@@ -24,7 +25,8 @@ returns-then-same-2-clause-ok g c =
     let holds : (place : _) (d : _) → held_by at o place d ≡ at mine place d =
     subst (λ (b : Bor g.row.S.Denot). (place : _) (d : _) → held_by at o place d ≡ at b.now place d) (sym c.unwrap_or-mine.ensures)
     (stands_here at o c.get.result _ c.get.ensures.store c.empty-empty.ensures) in
-    join_none at g.S.DotStore.greater (has c.args.own.now) c.args.yours.now (has c.args.theirs.now) o mine c.in_ok-both.both holds c.in_ok-both.ensures.ok (c.if-same-2.ensures.0 refl)
+    join_none at g.S.DotStore.greater (has c.args.own.now) c.args.yours.now (has c.args.theirs.now) o mine c.in_ok-both.both holds c.in_ok-both.ensures.ok
+    (c.if-same-2.ensures.0 refl)
 
 pub returns-clause-ok : goal.returns-clause-ok
 returns-clause-ok g c =

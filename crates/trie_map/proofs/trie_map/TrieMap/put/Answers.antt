@@ -10,8 +10,10 @@ pub invariant_of-self-then-is_empty : goal.invariant_of-self-then-is_empty
 invariant_of-self-then-is_empty g c =
     let old = c.self.inside.entries.map in
     let new = c.remove.new.self.map in
-    let is = ap (λ t. t.map) c.in_ok-remove.ensures.ok in
-    (each_remove (λ s. HasNothing (g.S.DotStore.at s) → ⊥) old new c.args.key.now c.self.invariant.0 is, each_remove g.S.DotStore.canonical old new c.args.key.now c.self.invariant.1 is)
+    let is = ap (λ t. t.map) c.in_ok-remove.ensures.ok in (
+      each_remove (λ s. HasNothing (g.S.DotStore.at s) → ⊥) old new c.args.key.now c.self.invariant.0 is,
+      each_remove g.S.DotStore.canonical old new c.args.key.now c.self.invariant.1 is,
+    )
 
 pub returns-then-is_empty-clause-ok : goal.returns-then-is_empty-clause-ok
 returns-then-is_empty-clause-ok g c =

@@ -28,11 +28,13 @@ loop-store-preserved g c =
     let new = has c.in_ok-both.both in
     let key = c.in-Some.field-0-0.now in
     let store = c.in-Some.store.now in
-    let there = visits_next map.1 c.loop-store.store-iterator c.next.new.self key store (Reached map.1 Had) c.loop-store.invariant.0 c.in-Some.ensures.steps in (
+    let there = visits_next map.1 c.loop-store.store-iterator c.next.new.self key store (Reached map.1 Had)
+    c.loop-store.invariant.0 c.in-Some.ensures.steps in (
       reached_more map.1 Had Has c.loop-store.store-iterator c.next.new.self key store c.loop-store.invariant.0 c.in-Some.ensures.steps
           (λ s was d held. union_keeps mid more new c.in_ok-both.ensures.ok d (was d held))
           (union_adds mid more new c.in_ok-both.ensures.ok (λ d held. c.in_ok-more.ensures.all held.0 d held.1)),
-      λ d h. ⊎_elim (λ was. c.loop-store.invariant.1 d was) (λ held. holds_of at map key store there d held) (union_only mid more new c.in_ok-both.ensures.ok c.in_ok-more.ensures.only d h),
+      λ d h. ⊎_elim (λ was. c.loop-store.invariant.1 d was) (λ held. holds_of at map key store there d held)
+          (union_only mid more new c.in_ok-both.ensures.ok c.in_ok-more.ensures.only d h),
     )
 
 pub returns-clause-only : goal.returns-clause-only
@@ -43,5 +45,6 @@ returns-clause-all g c = λ place d h.
     let at = g.S.DotStore.at in
     let map = c.args.self.now in
     let there = store_of at map place d h in
-    reached_all map.1 (λ (s : g.row.S.Denot). (e : DotValue) → HoldsDot (at s) e → IsTrue (has c.loop-store.dots e)) c.loop-store.store-iterator c.loop-store.invariant.0 c.in-None.ensures.steps.0 place.0 there.0 there.1 d
+    reached_all map.1 (λ (s : g.row.S.Denot). (e : DotValue) → HoldsDot (at s) e → IsTrue (has c.loop-store.dots e))
+    c.loop-store.store-iterator c.loop-store.invariant.0 c.in-None.ensures.steps.0 place.0 there.0 there.1 d
     (place.1, there.2)

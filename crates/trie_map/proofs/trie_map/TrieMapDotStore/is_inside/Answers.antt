@@ -18,15 +18,18 @@ returns-then-not-is_inside g c =
     let at = g.S.DotStore.at in
     let map = c.args.self.now in
     let Inside = λ (s : g.row.S.Denot). (place : _) (d : DotValue) → IsSome (at s place d) → IsTrue (has c.args.context.now d) in
-    let there = visits_next map.1 c.loop-store.store-iterator c.next.new.self c.in-Some.field-0-0.now c.in-Some.store.now (Reached map.1 Inside) c.loop-store.invariant c.in-Some.ensures.steps in (
+    let there = visits_next map.1 c.loop-store.store-iterator c.next.new.self c.in-Some.field-0-0.now c.in-Some.store.now (Reached map.1 Inside)
+    c.loop-store.invariant c.in-Some.ensures.steps in (
       λ t. absurd (cc t),
-      λ inside. c.if-not-is_inside.ensures.1 (λ place d h. inside (c.in-Some.field-0-0.now, place) d (ap is_some (held_of at map c.in-Some.field-0-0.now c.in-Some.store.now there place d) ∙ h)),
+      λ inside. c.if-not-is_inside.ensures.1 (λ place d h. inside (c.in-Some.field-0-0.now, place) d
+          (ap is_some (held_of at map c.in-Some.field-0-0.now c.in-Some.store.now there place d) ∙ h)),
     )
 
 pub loop-store-preserved : goal.loop-store-preserved
 loop-store-preserved g c =
     let Inside = λ (s : g.row.S.Denot). (place : _) (d : DotValue) → IsSome (g.S.DotStore.at s place d) → IsTrue (has c.args.context.now d) in
-    reached_more c.args.self.now.1 Inside Inside c.loop-store.store-iterator c.next.new.self c.in-Some.field-0-0.now c.in-Some.store.now c.loop-store.invariant c.in-Some.ensures.steps (λ s was. was)
+    reached_more c.args.self.now.1 Inside Inside c.loop-store.store-iterator c.next.new.self c.in-Some.field-0-0.now c.in-Some.store.now c.loop-store.invariant
+    c.in-Some.ensures.steps (λ s was. was)
     (c.if-not-is_inside.ensures.0 refl)
 
 pub returns : goal.returns

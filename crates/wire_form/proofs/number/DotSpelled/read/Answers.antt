@@ -14,4 +14,5 @@ returns-in_err-number g c =
 
 pub returns-in-None : goal.returns-in-None
 returns-in-None g c =
-    no_dot c.args.bytes.now c.in_ok-name.name c.in_ok-name.rest.now c.in_ok-number.number c.in_ok-number.rest.now c.in_ok-name.ensures c.in_ok-number.ensures c.in-None.ensures.found.1
+    no_dot c.args.bytes.now c.in_ok-name.name c.in_ok-name.rest.now c.in_ok-number.number c.in_ok-number.rest.now c.in_ok-name.ensures c.in_ok-number.ensures
+    c.in-None.ensures.found.1

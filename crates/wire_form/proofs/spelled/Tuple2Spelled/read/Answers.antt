@@ -7,7 +7,8 @@ use Rattle.wire_form.proofs.spelled.Tuple2Spelled.read.Goals as goal
 -- src/spelled.rt
 pub returns : goal.returns
 returns g c =
-    pair_begins g.X.Spelled.spell g.X.Spelled.fits g.Y.Spelled.spell g.Y.Spelled.fits c.args.bytes.now c.in_ok-first.first c.in_ok-first.rest.now c.in_ok-second.second c.in_ok-second.rest.now
+    pair_begins g.X.Spelled.spell g.X.Spelled.fits g.Y.Spelled.spell g.Y.Spelled.fits c.args.bytes.now c.in_ok-first.first c.in_ok-first.rest.now
+    c.in_ok-second.second c.in_ok-second.rest.now
     c.in_ok-first.ensures c.in_ok-second.ensures
 
 pub returns-in_err-first : goal.returns-in_err-first
@@ -24,5 +25,6 @@ returns-in_err-second g c =
     rw (p.1, p.2)
     (refuses_weaker (HasNoSpelling g.Y.Spelled.spell g.Y.Spelled.fits c.in_ok-first.rest.now)
     (HasNoSpelling (pair g.X.Spelled.spell g.Y.Spelled.spell) (IsPair g.X.Spelled.fits g.Y.Spelled.fits) c.args.bytes.now) c.in_err-second.field-0.0
-    (none_second g.X.Spelled.spell g.X.Spelled.fits g.Y.Spelled.spell g.Y.Spelled.fits g.met.X.Spelled.unique c.args.bytes.now c.in_ok-first.first c.in_ok-first.rest.now c.in_ok-first.ensures)
+    (none_second g.X.Spelled.spell g.X.Spelled.fits g.Y.Spelled.spell g.Y.Spelled.fits g.met.X.Spelled.unique c.args.bytes.now c.in_ok-first.first
+    c.in_ok-first.rest.now c.in_ok-first.ensures)
     c.in_err-second.ensures)

@@ -10,13 +10,15 @@ pub returns-clause-after : goal.returns-clause-after
 returns-clause-after g c history place after =
     let it = c.args.self.now in
     let deed : Deed g.row.A.Denot = Abandon it.number in
-    after_step g.K.Naming.first history (meaning c.args.replica.now) (meaning c.abandon-reply.new.self) after place deed (Closed c.abandon-reply.result) [] c.abandon-reply.ensures.step
+    after_step g.K.Naming.first history (meaning c.args.replica.now) (meaning c.abandon-reply.new.self) after place deed (Closed c.abandon-reply.result)
+    [] c.abandon-reply.ensures.step
 
 pub returns-clause-root : goal.returns-clause-root
 returns-clause-root g c history place after =
     let it = c.args.self.now in
     let deed : Deed g.row.A.Denot = Abandon it.number in
-    stands_on g.K.Naming.first history (meaning c.args.replica.now) (meaning c.abandon-reply.new.self) after place deed (Closed c.abandon-reply.result) [] c.abandon-reply.ensures.step c.show-root.result.value c.show-root.ensures
+    stands_on g.K.Naming.first history (meaning c.args.replica.now) (meaning c.abandon-reply.new.self) after place deed (Closed c.abandon-reply.result)
+    [] c.abandon-reply.ensures.step c.show-root.result.value c.show-root.ensures
 
 -- what the replica answered
 pub returns-clause-answers : goal.returns-clause-answers

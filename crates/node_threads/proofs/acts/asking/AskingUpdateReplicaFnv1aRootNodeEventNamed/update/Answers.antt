@@ -13,13 +13,15 @@ pub returns-in-Ok-ask-clause-after : goal.returns-in-Ok-ask-clause-after
 returns-in-Ok-ask-clause-after g c history place after =
     let it = c.args.self.now in
     let deed : Deed g.row.A.Denot = Ask it.peer in
-    after_step g.K.Naming.first history (meaning c.args.replica.now) (meaning c.ask.new.self) after place deed (Numbered c.in-Ok-ask.reply.0) (mail_of (message_of c.in-Ok-ask.reply.1) ∷ []) c.in-Ok-ask.ensures.ok.step
+    after_step g.K.Naming.first history (meaning c.args.replica.now) (meaning c.ask.new.self) after place deed (Numbered c.in-Ok-ask.reply.0)
+    (mail_of (message_of c.in-Ok-ask.reply.1) ∷ []) c.in-Ok-ask.ensures.ok.step
 
 pub returns-in-Ok-ask-clause-root : goal.returns-in-Ok-ask-clause-root
 returns-in-Ok-ask-clause-root g c history place after =
     let it = c.args.self.now in
     let deed : Deed g.row.A.Denot = Ask it.peer in
-    stands_on g.K.Naming.first history (meaning c.args.replica.now) (meaning c.ask.new.self) after place deed (Numbered c.in-Ok-ask.reply.0) (mail_of (message_of c.in-Ok-ask.reply.1) ∷ []) c.in-Ok-ask.ensures.ok.step c.show-root.result.value c.show-root.ensures
+    stands_on g.K.Naming.first history (meaning c.args.replica.now) (meaning c.ask.new.self) after place deed (Numbered c.in-Ok-ask.reply.0)
+    (mail_of (message_of c.in-Ok-ask.reply.1) ∷ []) c.in-Ok-ask.ensures.ok.step c.show-root.result.value c.show-root.ensures
 
 pub returns-in-Some-clause-refused : goal.returns-in-Some-clause-refused
 returns-in-Some-clause-refused g c history after =
@@ -29,7 +31,8 @@ returns-in-Some-clause-refused g c history after =
 pub returns-in-Err-clause-refused : goal.returns-in-Err-clause-refused
 returns-in-Err-clause-refused g c history after =
     let it = c.args.self.now in
-    without_memory_after g.K.Naming.first history (meaning c.args.replica.now) (step.Ask it.peer) after c.in-Err.refusal c.in-Err.ensures (c.in_default.ensures it.peer)
+    without_memory_after g.K.Naming.first history (meaning c.args.replica.now) (step.Ask it.peer) after c.in-Err.refusal c.in-Err.ensures
+    (c.in_default.ensures it.peer)
 
 pub returns-in-Err-ask-clause-refused : goal.returns-in-Err-ask-clause-refused
 returns-in-Err-ask-clause-refused g c history after =

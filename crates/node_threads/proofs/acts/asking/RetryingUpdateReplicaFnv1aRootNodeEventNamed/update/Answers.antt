@@ -11,13 +11,16 @@ pub returns-clause-after : goal.returns-clause-after
 returns-clause-after g c history place after =
     let it = c.args.self.now in
     let deed : Deed g.row.A.Denot = Retry it.number in
-    after_step g.K.Naming.first history (meaning c.args.replica.now) (meaning c.args.replica.now) after place deed (Came (outcome_of c.in_ok-reply.reply.outcome)) (mails_of c.in_ok-reply.reply.replies.items) c.in_ok-reply.ensures.ok.step
+    after_step g.K.Naming.first history (meaning c.args.replica.now) (meaning c.args.replica.now) after place deed
+    (Came (outcome_of c.in_ok-reply.reply.outcome)) (mails_of c.in_ok-reply.reply.replies.items) c.in_ok-reply.ensures.ok.step
 
 pub returns-clause-root : goal.returns-clause-root
 returns-clause-root g c history place after =
     let it = c.args.self.now in
     let deed : Deed g.row.A.Denot = Retry it.number in
-    stands_on g.K.Naming.first history (meaning c.args.replica.now) (meaning c.args.replica.now) after place deed (Came (outcome_of c.in_ok-reply.reply.outcome)) (mails_of c.in_ok-reply.reply.replies.items) c.in_ok-reply.ensures.ok.step c.show-root.result.value c.show-root.ensures
+    stands_on g.K.Naming.first history (meaning c.args.replica.now) (meaning c.args.replica.now) after place deed
+    (Came (outcome_of c.in_ok-reply.reply.outcome)) (mails_of c.in_ok-reply.reply.replies.items)
+    c.in_ok-reply.ensures.ok.step c.show-root.result.value c.show-root.ensures
 
 -- what the replica answered
 pub returns-clause-answers : goal.returns-clause-answers

@@ -10,10 +10,12 @@ pub returns-clause-after : goal.returns-clause-after
 returns-clause-after g c history place after =
     let it = c.args.self.now in
     let deed : Deed g.row.A.Denot = Clear in
-    after_step g.K.Naming.first history (meaning c.args.replica.now) (meaning c.clear.new.self) after place deed (Counted c.in_ok-reply.reply) [] c.in_ok-reply.ensures.ok.step
+    after_step g.K.Naming.first history (meaning c.args.replica.now) (meaning c.clear.new.self) after place deed (Counted c.in_ok-reply.reply)
+    [] c.in_ok-reply.ensures.ok.step
 
 pub returns-clause-root : goal.returns-clause-root
 returns-clause-root g c history place after =
     let it = c.args.self.now in
     let deed : Deed g.row.A.Denot = Clear in
-    stands_on g.K.Naming.first history (meaning c.args.replica.now) (meaning c.clear.new.self) after place deed (Counted c.in_ok-reply.reply) [] c.in_ok-reply.ensures.ok.step c.show-root.result.value c.show-root.ensures
+    stands_on g.K.Naming.first history (meaning c.args.replica.now) (meaning c.clear.new.self) after place deed (Counted c.in_ok-reply.reply)
+    [] c.in_ok-reply.ensures.ok.step c.show-root.result.value c.show-root.ensures
