@@ -1,0 +1,57 @@
+// The keys of one hash at which two snapshots differ, where no node has its digest, and where all have.
+use crate::tests::made::{key_of, name, value_of};
+use dots::Key;
+use gen_trie::Frozen;
+use hash_path::SameHash;
+use map_changes::changes;
+use prefix_digest::FrozenMap;
+use replica_core::Replica;
+use std::alloc::Global;
+use std::panic::Expect;
+use std::process::Abort;
+
+// The map as it is, whose nodes have their digests.
+fn map_of(rt: &impl Abort, here: &mut Replica<SameHash>) -> FrozenMap<SameHash> {
+    here.seal().expect(rt, "memory");
+    here.snapshot().expect(rt, "memory")
+}
+
+// Whether these are the keys, in this order.
+fn are(found: &[Key], keys: &[&[u8]]) -> bool {
+    if found.len() != keys.len() {
+        return false;
+    }
+    for (one, other) in found.iter().zip(keys.iter()) {
+        if one.bytes() != *other {
+            return false;
+        }
+    }
+    true
+}
+
+fn put(rt: &impl Abort, alloc: Global, here: &mut Replica<SameHash>, number: u8, value: &[u8]) {
+    let key = key_of(rt, alloc, &[number]);
+    here.put(&key, &value_of(rt, alloc, value))
+        .expect(rt, "a put");
+}
+
+#[test]
+fn keys_of_one_hash_change_by_themselves(rt: HostRuntime) {
+    let alloc = rt.alloc();
+    let mut here = Replica::new(alloc, name(&rt, 1), SameHash(5));
+    for number in 0..40u8 {
+        put(&rt, alloc, &mut here, number, b"v");
+    }
+    let before = here.snapshot().expect(&rt, "memory");
+    here.remove(&key_of(&rt, alloc, &[3]))
+        .expect(&rt, "a remove");
+    put(&rt, alloc, &mut here, 9, b"w");
+    let after = here.snapshot().expect(&rt, "memory");
+    let found = changes(alloc, &before, &after).expect(&rt, "memory");
+    assert!(&rt; are(&found, &[&[3], &[9]]));
+    let sealed = map_of(&rt, &mut here);
+    let found = changes(alloc, &before, &sealed).expect(&rt, "memory");
+    assert!(&rt; are(&found, &[&[3], &[9]]));
+    let all = changes(alloc, &Frozen::new(alloc, SameHash(5)), &before).expect(&rt, "memory");
+    assert!(&rt; all.len() == 40);
+}
