@@ -1,7 +1,7 @@
 // What is taken of a replica stays as it was, whatever the replica writes: a store that it shares, its checkpoint, and a copy of it.
 use crate::tests::made::{key_of, put, replica};
-use dots::{Field, Value};
 use delta_ops::values;
+use dots::{Field, Value};
 use hash_path::Fnv1a;
 use replica_core::Replica;
 use std::alloc::Global;
