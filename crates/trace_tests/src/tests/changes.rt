@@ -29,27 +29,37 @@ fn are(found: &[Key], keys: &[&[u8]]) -> bool {
     true
 }
 
+// A replica whose keys all have one hash. It is in a box, as one that is a local is dear to prove.
+fn replica(rt: &impl Abort, alloc: Global) -> Box<Replica<SameHash>> {
+    let one = Replica::new(alloc, name(rt, 1), SameHash(5));
+    Box::new(alloc, one).expect(rt, "memory")
+}
+
 fn put(rt: &impl Abort, alloc: Global, here: &mut Replica<SameHash>, number: u8, value: &[u8]) {
     let key = key_of(rt, alloc, &[number]);
     here.put(&key, &value_of(rt, alloc, value))
         .expect(rt, "a put");
 }
 
+fn fill(rt: &impl Abort, alloc: Global, here: &mut Replica<SameHash>) {
+    for number in 0..40u8 {
+        put(rt, alloc, here, number, b"v");
+    }
+}
+
 #[test]
 fn keys_of_one_hash_change_by_themselves(rt: HostRuntime) {
     let alloc = rt.alloc();
-    let mut here = Replica::new(alloc, name(&rt, 1), SameHash(5));
-    for number in 0..40u8 {
-        put(&rt, alloc, &mut here, number, b"v");
-    }
+    let mut here = replica(&rt, alloc);
+    fill(&rt, alloc, &mut *here);
     let before = here.snapshot().expect(&rt, "memory");
     here.remove(&key_of(&rt, alloc, &[3]))
         .expect(&rt, "a remove");
-    put(&rt, alloc, &mut here, 9, b"w");
+    put(&rt, alloc, &mut *here, 9, b"w");
     let after = here.snapshot().expect(&rt, "memory");
     let found = changes(alloc, &before, &after).expect(&rt, "memory");
     assert!(&rt; are(&found, &[&[3], &[9]]));
-    let sealed = map_of(&rt, &mut here);
+    let sealed = map_of(&rt, &mut *here);
     let found = changes(alloc, &before, &sealed).expect(&rt, "memory");
     assert!(&rt; are(&found, &[&[3], &[9]]));
     let all = changes(alloc, &Frozen::new(alloc, SameHash(5)), &before).expect(&rt, "memory");

@@ -8,37 +8,61 @@ use std::alloc::Global;
 use std::panic::Expect;
 use std::process::Abort;
 
-// Whether the value is this one alone.
-fn is_alone(found: &[Value], wanted: &[u8]) -> bool {
+// A replica that put x on the key a.
+fn begun(rt: &impl Abort, alloc: Global) -> Box<Replica> {
+    let mut here = replica(rt, alloc, 1);
+    put(rt, alloc, &mut *here, b"a", b"x");
+    here
+}
+
+// Puts another value on the key, and one on another key.
+fn go_on(rt: &impl Abort, alloc: Global, here: &mut Replica) {
+    put(rt, alloc, here, b"a", b"y");
+    put(rt, alloc, here, b"late", b"1");
+}
+
+// Whether the value is x alone.
+fn is_x(found: &[Value]) -> bool {
     match found {
-        [one] => one.bytes() == wanted,
+        [one] => one.bytes() == b"x".as_slice(),
         _ => false,
     }
 }
 
-// Whether the replica has the value x on the key a, and nothing else.
+// Whether the replica has x on the key a, and no other key.
 fn has_x_alone(rt: &impl Abort, alloc: Global, here: &Replica) -> bool {
     let found = here.get(&key_of(rt, alloc, b"a")).expect(rt, "memory");
-    is_alone(&found, b"x") && here.size() == 1
+    is_x(&found) && here.size() == 1
 }
 
 #[test]
-fn what_was_taken_before_a_write_stays(rt: HostRuntime) {
+fn a_shared_store_stays(rt: HostRuntime) {
     let alloc = rt.alloc();
-    let mut here = replica(&rt, alloc, 1);
-    put(&rt, alloc, &mut *here, b"a", b"x");
+    let mut here = begun(&rt, alloc);
     let store = here.share().expect(&rt, "memory");
-    let checkpoint = here.checkpoint().expect(&rt, "memory");
-    let copy = here.copy().expect(&rt, "memory");
-    put(&rt, alloc, &mut *here, b"a", b"y");
-    put(&rt, alloc, &mut *here, b"late", b"1");
+    go_on(&rt, alloc, &mut *here);
     let key = key_of(&rt, alloc, b"a");
     let field = Field::new(alloc, b"").expect(&rt, "a field");
-    let shared = values(alloc, &store, &key, &field).expect(&rt, "memory");
-    assert!(&rt; is_alone(&shared, b"x"));
-    assert!(&rt; has_x_alone(&rt, alloc, &copy));
+    let found = values(alloc, &store, &key, &field).expect(&rt, "memory");
+    assert!(&rt; is_x(&found) && here.size() == 2);
+}
+
+#[test]
+fn a_checkpoint_stays(rt: HostRuntime) {
+    let alloc = rt.alloc();
+    let mut here = begun(&rt, alloc);
+    let checkpoint = here.checkpoint().expect(&rt, "memory");
+    go_on(&rt, alloc, &mut *here);
     let saved = checkpoint.saved(alloc).expect(&rt, "memory");
     let again = Replica::resume(alloc, Fnv1a, saved).expect(&rt, "memory");
-    assert!(&rt; has_x_alone(&rt, alloc, &again));
-    assert!(&rt; here.size() == 2);
+    assert!(&rt; has_x_alone(&rt, alloc, &again) && here.size() == 2);
+}
+
+#[test]
+fn a_copy_stays(rt: HostRuntime) {
+    let alloc = rt.alloc();
+    let mut here = begun(&rt, alloc);
+    let copy = here.copy().expect(&rt, "memory");
+    go_on(&rt, alloc, &mut *here);
+    assert!(&rt; has_x_alone(&rt, alloc, &copy) && here.size() == 2);
 }
