@@ -47,21 +47,36 @@ fn fill(rt: &impl Abort, alloc: Global, here: &mut Replica<SameHash>) {
     }
 }
 
+// Whether the two differ at just the keys 3 and 9.
+fn differ_at_3_and_9(
+    rt: &impl Abort,
+    alloc: Global,
+    before: &FrozenMap<SameHash>,
+    after: &FrozenMap<SameHash>,
+) -> bool {
+    let found = changes(alloc, before, after).expect(rt, "memory");
+    are(&found, &[&[3], &[9]])
+}
+
+// At how many keys the map differs from one that has none.
+fn count_of(rt: &impl Abort, alloc: Global, map: &FrozenMap<SameHash>) -> usize {
+    let none = Frozen::new(alloc, SameHash(5));
+    let found = changes(alloc, &none, map).expect(rt, "memory");
+    found.len()
+}
+
 #[test]
 fn keys_of_one_hash_change_by_themselves(rt: HostRuntime) {
     let alloc = rt.alloc();
     let mut here = replica(&rt, alloc);
     fill(&rt, alloc, &mut *here);
     let before = here.snapshot().expect(&rt, "memory");
-    here.remove(&key_of(&rt, alloc, &[3]))
-        .expect(&rt, "a remove");
+    let key = key_of(&rt, alloc, &[3]);
+    here.remove(&key).expect(&rt, "a remove");
     put(&rt, alloc, &mut *here, 9, b"w");
     let after = here.snapshot().expect(&rt, "memory");
-    let found = changes(alloc, &before, &after).expect(&rt, "memory");
-    assert!(&rt; are(&found, &[&[3], &[9]]));
     let sealed = map_of(&rt, &mut *here);
-    let found = changes(alloc, &before, &sealed).expect(&rt, "memory");
-    assert!(&rt; are(&found, &[&[3], &[9]]));
-    let all = changes(alloc, &Frozen::new(alloc, SameHash(5)), &before).expect(&rt, "memory");
-    assert!(&rt; all.len() == 40);
+    assert!(&rt; differ_at_3_and_9(&rt, alloc, &before, &after));
+    assert!(&rt; differ_at_3_and_9(&rt, alloc, &before, &sealed));
+    assert!(&rt; count_of(&rt, alloc, &before) == 40);
 }

@@ -32,37 +32,57 @@ fn is_x(found: &[Value]) -> bool {
 // Whether the replica has x on the key a, and no other key.
 fn has_x_alone(rt: &impl Abort, alloc: Global, here: &Replica) -> bool {
     let found = here.get(&key_of(rt, alloc, b"a")).expect(rt, "memory");
-    is_x(&found) && here.size() == 1
+    let is_there = is_x(&found);
+    let is_alone = here.size() == 1;
+    is_there && is_alone
+}
+
+// Whether a store that the replica shared before it went on has x on the key a.
+fn shares(rt: &impl Abort, alloc: Global, here: &mut Replica) -> bool {
+    let store = here.share().expect(rt, "memory");
+    go_on(rt, alloc, here);
+    let key = key_of(rt, alloc, b"a");
+    let field = Field::new(alloc, b"").expect(rt, "a field");
+    let found = values(alloc, &store, &key, &field).expect(rt, "memory");
+    is_x(&found)
+}
+
+// Whether what comes back from a checkpoint that was taken before the replica went on has x alone.
+fn comes_back(rt: &impl Abort, alloc: Global, here: &mut Replica) -> bool {
+    let checkpoint = here.checkpoint().expect(rt, "memory");
+    go_on(rt, alloc, here);
+    let saved = checkpoint.saved(alloc).expect(rt, "memory");
+    let again = Replica::resume(alloc, Fnv1a, saved).expect(rt, "memory");
+    has_x_alone(rt, alloc, &again)
+}
+
+// Whether a copy of the replica that was taken before it went on has x alone.
+fn copies(rt: &impl Abort, alloc: Global, here: &mut Replica) -> bool {
+    let copy = here.copy().expect(rt, "memory");
+    go_on(rt, alloc, here);
+    has_x_alone(rt, alloc, &copy)
 }
 
 #[test]
 fn a_shared_store_stays(rt: HostRuntime) {
-    let alloc = rt.alloc();
-    let mut here = begun(&rt, alloc);
-    let store = here.share().expect(&rt, "memory");
-    go_on(&rt, alloc, &mut *here);
-    let key = key_of(&rt, alloc, b"a");
-    let field = Field::new(alloc, b"").expect(&rt, "a field");
-    let found = values(alloc, &store, &key, &field).expect(&rt, "memory");
-    assert!(&rt; is_x(&found) && here.size() == 2);
+    let mut here = begun(&rt, rt.alloc());
+    let stays = shares(&rt, rt.alloc(), &mut *here);
+    let goes_on = here.size() == 2;
+    assert!(rt; stays && goes_on);
 }
 
 #[test]
 fn a_checkpoint_stays(rt: HostRuntime) {
-    let alloc = rt.alloc();
-    let mut here = begun(&rt, alloc);
-    let checkpoint = here.checkpoint().expect(&rt, "memory");
-    go_on(&rt, alloc, &mut *here);
-    let saved = checkpoint.saved(alloc).expect(&rt, "memory");
-    let again = Replica::resume(alloc, Fnv1a, saved).expect(&rt, "memory");
-    assert!(&rt; has_x_alone(&rt, alloc, &again) && here.size() == 2);
+    let mut here = begun(&rt, rt.alloc());
+    let stays = comes_back(&rt, rt.alloc(), &mut *here);
+    let goes_on = here.size() == 2;
+    assert!(rt; stays && goes_on);
 }
 
 #[test]
 fn a_copy_stays(rt: HostRuntime) {
-    let alloc = rt.alloc();
-    let mut here = begun(&rt, alloc);
-    let copy = here.copy().expect(&rt, "memory");
-    go_on(&rt, alloc, &mut *here);
-    assert!(&rt; has_x_alone(&rt, alloc, &copy) && here.size() == 2);
+    let mut here = begun(&rt, rt.alloc());
+    let stays = copies(&rt, rt.alloc(), &mut *here);
+    let goes_on = here.size() == 2;
+    assert!(rt; stays && goes_on);
 }
