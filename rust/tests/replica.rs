@@ -1,17 +1,11 @@
 //! Each call of a replica, its refusals, and threads.
 
+mod common;
+
+use common::{name, replica};
 use ginelm::{Error, Letter, Outcome, Replica, Session};
 use std::collections::VecDeque;
-use std::num::NonZeroU64;
 use std::thread;
-
-fn name(number: u64) -> NonZeroU64 {
-    NonZeroU64::new(number).unwrap()
-}
-
-fn replica(number: u64) -> Replica {
-    Replica::new(name(number)).unwrap()
-}
 
 // Brings what the answerer has seen to the asker.
 fn synchronise(asker: &mut Replica, answerer: &mut Replica) -> Outcome {

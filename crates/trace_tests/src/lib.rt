@@ -1,4 +1,4 @@
-// The tests of `trace_cli`, apart from it, so that they are proved without proving it again.
+// The tests of `trace_cli`, and of worlds and replicas below it, apart from them, so that they are proved without proving them again.
 #![tactic(auto)]
 
 #[cfg(test)]

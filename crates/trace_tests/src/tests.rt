@@ -1,10 +1,17 @@
-//! What no clause says: the worked traces with their exact text, the order of reads and writes, and failures in mid-stream.
+//! What no clause says: the worked traces with their exact text, the order of reads and writes, and failures in mid-stream; what random
+//! events of a world come to, and what is read of one; and what of a replica stands behind no call of other languages.
 
+mod changes;
 mod crashes;
 mod examples;
 mod faults;
 mod generated;
+mod kept;
+mod made;
+mod reads;
 mod refused;
 mod rows;
+mod sealing;
+mod storm;
 mod turns;
 mod watched;

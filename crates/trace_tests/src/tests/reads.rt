@@ -1,5 +1,5 @@
 // What is read of a replica of a world, and of one that is not there.
-use crate::made::{key_of, name, value_of};
+use crate::tests::made::{key_of, name, value_of};
 use dots::{Field, Key, Refusal};
 use hash_path::Fnv1a;
 use replica_world::{Call, Event, World};

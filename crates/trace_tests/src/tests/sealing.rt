@@ -1,5 +1,5 @@
 // Digests that the nodes of a replica's map keep: from a synchronisation on, and until the next write.
-use crate::made::{name, put, replica};
+use crate::tests::made::{name, put, replica};
 use replica_core::{Outcome, Replica};
 use std::alloc::Global;
 use std::panic::Expect;

@@ -1,6 +1,6 @@
 // Thousands of random events over four replicas. What came of them, and what the replicas show between them, goes into one sum, which is that of a
-// program that follows the definitions alone: `python3 crates/replica_tests/reference/storm.py`.
-use crate::made::{key_of, name, value_of};
+// program that follows the definitions alone: `python3 crates/trace_tests/reference/storm.py`.
+use crate::tests::made::{key_of, name, value_of};
 use dots::{Field, Key, Name, Refusal, Value};
 use hash_path::Fnv1a;
 use replica_core::Outcome;

@@ -1,24 +1,24 @@
-"""Writes src/session_bytes.rt, the same each time, from the definitions in docs/FORMATS.md: no store, no session, no step.
-`rt fmt` lays it out. Tests name a message by its number, so that the bytes stand in one constant for the prover. A map is a dictionary from keys to fields to dots to values; pages are those of the digests of traces."""
+"""Makes common/messages.rs, the messages that the tests of replicas compare, from the definitions in docs/FORMATS.md: no store, no session, no step.
+
+    python3 rust/tests/make_messages.py           writes the module
+    python3 rust/tests/make_messages.py --check   ends with status 1 where the module is not what would be written
+
+A map is a dictionary from keys to fields to dots to values; pages are those of the digests of traces."""
 import pathlib
 import sys
 from hashlib import sha256
 
 sys.dont_write_bytecode = True
-HERE = pathlib.Path(__file__).parent
-sys.path.append(str(HERE.parent.parent / "trace_tests" / "reference"))
+HERE = pathlib.Path(__file__).resolve().parent
+MODULE = HERE / "common" / "messages.rs"
+sys.path.append(str(HERE.parent.parent / "crates" / "trace_tests" / "reference"))
 from digest_of_map import number_of, page, path, text_of
 
-HEAD = "// Made by `python3 crates/replica_tests/reference/make_messages.py`, that is from the definitions and not from our program.\n\n"
-TABLE = """
-const MESSAGES: &[&[u8]] = &[
-{}];
-
-// The bytes of the message of this number, or none.
-pub(crate) fn bytes_of(message: usize) -> &'static [u8] {{
-    MESSAGES.get(message).copied().unwrap_or(&[])
-}}
+HEAD = """//! Messages as bytes. Made by `python3 rust/tests/make_messages.py`, that is from the definitions
+//! and not from our program.
 """
+# rustfmt lays an array out on one line where it has up to so many columns, and else fills lines up to as many.
+ONE_LINE, COLUMNS = 60, 99
 
 
 def context_of(known):
@@ -83,6 +83,11 @@ def sent_page(held, known, indices):
     return page_message(indices, values, spelled)
 
 
+def saved(name, opened, held, to_send):
+    """A save, of a replica that opened sessions up to a number."""
+    return b"\3\2" + number_of(name) + number_of(opened) + number_of(len(held)) + held + to_send
+
+
 def with_byte(message, place, byte):
     """The message with another byte at a place; the first place is 1."""
     assert message[place - 1] != byte
@@ -105,14 +110,15 @@ FIRST, SECOND = plain({b"a": {(2, 1): b"x"}}), plain({b"a": {(2, 2): b"y"}})
 BOTH = plain({b"a": {(1, 1): b"x", (2, 1): b"y"}})
 OWN = plain({b"a": {(1, 1): b"x"}})
 OTHER = plain({b"b": {(1, 1): b"x"}})
+X_DELTA = delta({1: 1}, {b"a": {(1, 1): b"x"}})
 UNDER_LAST = sent_page(UNDER, {2: 1}, (5, 15))
 A_AT_5, B_AT_5 = one_child(5, page_at(OWN, ())), one_child(5, page_at(OTHER, ()))
 
 MESSAGES = [
-    ("X_ON_A", "The delta of the write 1:1 of x on a.", delta({1: 1}, {b"a": {(1, 1): b"x"}})),
+    ("X_ON_A", "The delta of the write 1:1 of x on a.", X_DELTA),
     ("V_ON_EMPTY", "The delta of the write 2:1 of v on the empty key.", delta({2: 1}, {b"": {(2, 1): b"v"}})),
     ("NOTHING", "No message.", b""),
-    ("Z_ON_A", "The delta of the writes 2:1 of y and 2:2 of z on a, of which the second observed 1:1 and the first.", delta({1: 1, 2: 2}, {b"a": {(2, 2): b"z"}})),
+    ("Z_ON_A", "The delta of the writes 2:1 of y and 2:2 of z on a: the second observed 1:1 and the first.", delta({1: 1, 2: 2}, {b"a": {(2, 2): b"z"}})),
     ("X_REMOVED", "The delta of a remove that observed 1:1.", delta({1: 1}, {})),
     ("LAST_OF_1", "The delta that holds nothing and knows the last dot of replica 1.", b"\1\1" + number_of(0) + number_of(1) + number_of(1) + number_of(2**64 - 1) + number_of(0)),
     ("EMPTY_HELLO", "From replica 1, which knows no dot, to replica 2.", hello({})),
@@ -152,14 +158,34 @@ MESSAGES = [
     ("B_AT_5_KNOWN", "The same of a peer that knows 1:1.", opening({1: 1}, sha256(B_AT_5).digest())),
     ("B_AT_5_ROOT", "That root.", page_message((), [], B_AT_5)),
     ("B_AT_5_PAGE", "That child.", page_message((5,), [b"x"], page_at(OTHER, ()))),
+    ("SAVED", "A save of replica 1, which opened no session, wrote x on a, and is still to send that.", saved(1, 0, X_DELTA, X_DELTA)),
 ]
 
 
-def number_constant(number, name, words):
-    return f"// {words}\npub(crate) const {name}: usize = {number};\n"
+def laid_out(bytes_of_message):
+    """The bytes as an array, as rustfmt lays it out."""
+    numbers = [str(byte) for byte in bytes_of_message]
+    if len(", ".join(numbers)) + 2 <= ONE_LINE:
+        return f"[{', '.join(numbers)}]"
+    lines = [""]
+    for number in numbers:
+        if len(lines[-1]) + len(number) + 2 > COLUMNS - 4:
+            lines.append("")
+        lines[-1] += f" {number}," if lines[-1] else f"{number},"
+    return "[\n" + "".join(f"    {line}\n" for line in lines) + "]"
+
+
+def constant(name, words, message):
+    return f"\n/// {words}\npub const {name}: &[u8] = &{laid_out(message)};\n"
+
+
+def main():
+    text = HEAD + "".join(constant(*it) for it in MESSAGES)
+    if sys.argv[1:] != ["--check"]:
+        MODULE.write_text(text)
+    elif MODULE.read_text() != text:
+        sys.exit(f"{MODULE.relative_to(HERE.parent.parent)} is not what make_messages.py would write")
 
 
 if __name__ == "__main__":
-    numbers = "\n".join(number_constant(number, name, words) for number, (name, words, _) in enumerate(MESSAGES))
-    table = "".join(f"    // {name}\n    &[{', '.join(map(str, message))}],\n" for name, _, message in MESSAGES)
-    (HERE.parent / "src" / "session_bytes.rt").write_text(HEAD + numbers + TABLE.format(table))
+    main()

@@ -1,11 +1,8 @@
-"""Prints the sum of `src/events/storm.rt`, from the definitions: the random events are the same, and what comes of them is told by the program of the traces."""
-import pathlib
+"""Prints the sum of `src/tests/storm.rt`, from the definitions: the random events are the same, and what comes of them is told by the program of the traces."""
 import re
 import sys
 
 sys.dont_write_bytecode = True
-HERE = pathlib.Path(__file__).parent
-sys.path.append(str(HERE.parent.parent / "trace_tests" / "reference"))
 from sessions import Ask, Delta, Hello
 from text_of_trace import Fault, World, digest, shown
 

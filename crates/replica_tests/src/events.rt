@@ -1,3 +1,0 @@
-// Tests of worlds: what events come to, and what is read of them.
-mod reads;
-mod storm;
