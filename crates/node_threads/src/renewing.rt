@@ -20,7 +20,7 @@ use crate::serving::send_all;
 use dots::Refusal;
 use replica_core::Delivered;
 use shared_object::Gate;
-use std::alloc::Global;
+use std::alloc::Allocator;
 use std::sync::Wait;
 use wire_form::Session;
 
@@ -29,10 +29,10 @@ use wire_form::Session;
 ///
 /// Its only refusal is OutOfMemory, where there is no memory to tell which are open. It waits for its turn at the node and for the post, and takes a call for
 /// each that is open, at most eight.
-pub fn send_again<K: Naming, G: Gate + Drop, W: Wait + Drop, P: Post, T: Wait>(
+pub fn send_again<K: Naming, G: Gate + Drop, W: Wait + Drop, A: Allocator + Copy, P: Post, T: Wait>(
     rt: &T,
-    alloc: Global,
-    client: &mut Client<K, Lock<K, G, W>>,
+    alloc: A,
+    client: &mut Client<K, Lock<K, G, W, A>, A>,
     post: &mut P,
 ) -> Result<Resent, Refusal>
     ensures sent { IfOk result (λ told. (seat : Seat _) × (r : Replica) × (steps : List (Option ℕ)) × HasNotCalled (λ e. e.place) client.old seat × IsAfter K.first seat.front r
@@ -45,10 +45,10 @@ pub fn send_again<K: Naming, G: Gate + Drop, W: Wait + Drop, P: Post, T: Wait>(
 }
 
 // Has each of these synchronisations send again.
-fn send_all_again<K: Naming, G: Gate + Drop, W: Wait + Drop, P: Post, T: Wait>(
+fn send_all_again<K: Naming, G: Gate + Drop, W: Wait + Drop, A: Allocator + Copy, P: Post, T: Wait>(
     rt: &T,
-    alloc: Global,
-    client: &mut Client<K, Lock<K, G, W>>,
+    alloc: A,
+    client: &mut Client<K, Lock<K, G, W, A>, A>,
     sessions: &[Session],
     post: &mut P,
 ) -> Resent
@@ -66,10 +66,10 @@ fn send_all_again<K: Naming, G: Gate + Drop, W: Wait + Drop, P: Post, T: Wait>(
 }
 
 // Has the synchronisation of this number send again: how many of its messages are lost, or None where it is refused.
-fn send_one_again<K: Naming, G: Gate + Drop, W: Wait + Drop, P: Post, T: Wait>(
+fn send_one_again<K: Naming, G: Gate + Drop, W: Wait + Drop, A: Allocator + Copy, P: Post, T: Wait>(
     rt: &T,
-    alloc: Global,
-    client: &mut Client<K, Lock<K, G, W>>,
+    alloc: A,
+    client: &mut Client<K, Lock<K, G, W, A>, A>,
     number: u64,
     post: &mut P,
 ) -> Option<u64>
@@ -87,12 +87,12 @@ fn send_one_again<K: Naming, G: Gate + Drop, W: Wait + Drop, P: Post, T: Wait>(
 }
 
 // What the synchronisation of this number is to send again.
-fn retry<K: Naming, G: Gate + Drop, W: Wait + Drop, T: Wait>(
+fn retry<K: Naming, G: Gate + Drop, W: Wait + Drop, A: Allocator + Copy, T: Wait>(
     rt: &T,
-    alloc: Global,
-    client: &mut Client<K, Lock<K, G, W>>,
+    alloc: A,
+    client: &mut Client<K, Lock<K, G, W, A>, A>,
     number: u64,
-) -> Result<Delivered, Refusal>
+) -> Result<Delivered<A>, Refusal>
     ensures retried { IfOk result (λ told. IsRetried K.first number client.old client.new (Came (outcome_of told.outcome)) told.replies.items) }
     ensures not_made { OnErr result (HasNotCalled (λ e. e.place) client.old client.new) }
 {

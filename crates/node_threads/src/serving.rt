@@ -13,7 +13,7 @@ use crate::post::Post;
 use dots::Refusal;
 use replica_core::Delivered;
 use shared_object::Gate;
-use std::alloc::Global;
+use std::alloc::Allocator;
 use std::sync::Wait;
 use wire_form::{Message, decode, encode};
 
@@ -33,10 +33,10 @@ pub struct Served {
 ///
 /// It waits: for its turn at the node, and for the post. For each message it takes what decoding it, a call with it and encoding its
 /// replies take. It keeps none.
-pub fn serve<K: Naming, G: Gate + Drop, W: Wait + Drop, P: Post, T: Wait>(
+pub fn serve<K: Naming, G: Gate + Drop, W: Wait + Drop, A: Allocator + Copy, P: Post, T: Wait>(
     rt: &T,
-    alloc: Global,
-    client: &mut Client<K, Lock<K, G, W>>,
+    alloc: A,
+    client: &mut Client<K, Lock<K, G, W, A>, A>,
     post: &mut P,
 ) -> Served
     ensures took_in { TookIn (CanCome P.receives) client.old client.new }
@@ -63,10 +63,10 @@ pub fn serve<K: Naming, G: Gate + Drop, W: Wait + Drop, P: Post, T: Wait>(
 }
 
 // Takes the message in that the bytes spell, and sends the replies: how many of these are lost, or None where it is not taken in.
-fn answer<K: Naming, G: Gate + Drop, W: Wait + Drop, P: Post, T: Wait>(
+fn answer<K: Naming, G: Gate + Drop, W: Wait + Drop, A: Allocator + Copy, P: Post, T: Wait>(
     rt: &T,
-    alloc: Global,
-    client: &mut Client<K, Lock<K, G, W>>,
+    alloc: A,
+    client: &mut Client<K, Lock<K, G, W, A>, A>,
     bytes: &[u8],
     post: &mut P,
 ) -> Option<u64>
@@ -84,12 +84,12 @@ fn answer<K: Naming, G: Gate + Drop, W: Wait + Drop, P: Post, T: Wait>(
 }
 
 // Takes the message in that the bytes spell.
-fn take_in<K: Naming, G: Gate + Drop, W: Wait + Drop, T: Wait>(
+fn take_in<K: Naming, G: Gate + Drop, W: Wait + Drop, A: Allocator + Copy, T: Wait>(
     rt: &T,
-    alloc: Global,
-    client: &mut Client<K, Lock<K, G, W>>,
+    alloc: A,
+    client: &mut Client<K, Lock<K, G, W, A>, A>,
     bytes: &[u8],
-) -> Result<Delivered, Refusal>
+) -> Result<Delivered<A>, Refusal>
     ensures taken { IfOk result (λ told. IsTakenIn K.first bytes.now client.old client.new (Came (outcome_of told.outcome)) told.replies.items) }
     ensures not_made { OnErr result (HasNotCalled (λ e. e.place) client.old client.new) }
 {
@@ -100,12 +100,12 @@ fn take_in<K: Naming, G: Gate + Drop, W: Wait + Drop, T: Wait>(
 }
 
 // Takes this message in.
-fn deliver<K: Naming, G: Gate + Drop, W: Wait + Drop, T: Wait>(
+fn deliver<K: Naming, G: Gate + Drop, W: Wait + Drop, A: Allocator + Copy, T: Wait>(
     rt: &T,
-    alloc: Global,
-    client: &mut Client<K, Lock<K, G, W>>,
-    message: &Message,
-) -> Result<Delivered, Refusal>
+    alloc: A,
+    client: &mut Client<K, Lock<K, G, W, A>, A>,
+    message: &Message<A>,
+) -> Result<Delivered<A>, Refusal>
     ensures taken { IfOk result (λ told. Takes K.first message.now client.old client.new (Came (outcome_of told.outcome)) told.replies.items) }
     ensures not_made { OnErr result (HasNotCalled (λ e. e.place) client.old client.new) }
 {
@@ -116,10 +116,10 @@ fn deliver<K: Naming, G: Gate + Drop, W: Wait + Drop, T: Wait>(
 }
 
 // Sends each reply, and counts those that are lost.
-pub(crate) fn send_all<P: Post, T: Wait>(
+pub(crate) fn send_all<A: Allocator + Copy, P: Post, T: Wait>(
     rt: &T,
-    alloc: Global,
-    replies: &[Message],
+    alloc: A,
+    replies: &[Message<A>],
     post: &mut P,
 ) -> u64
     requires { length replies.now < 2 ^ 64 }
@@ -135,12 +135,17 @@ pub(crate) fn send_all<P: Post, T: Wait>(
 }
 
 // Sends a reply to the replica that it is for, where there is memory for its bytes. Whether it could be sent.
-fn is_sent<P: Post, T: Wait>(rt: &T, alloc: Global, reply: &Message, post: &mut P) -> bool
+fn is_sent<A: Allocator + Copy, P: Post, T: Wait>(
+    rt: &T,
+    alloc: A,
+    reply: &Message<A>,
+    post: &mut P,
+) -> bool
     ensures sent { IsTrue result → IsSent P.sends post.old post.new (message_of reply.now) }
     ensures lost { result ≡ false → IsLost P.rests post.old post.new }
 {
     match (reply.addressee(), encode(alloc, reply)) {
-        (Some(name), Ok(bytes)) => post.send(rt, name, bytes),
+        (Some(name), Ok(bytes)) => post.send(rt, name, &bytes),
         _ => false,
     }
 }

@@ -78,10 +78,12 @@ fn two_nodes_that_are_served_synchronise(rt: HostRuntime) {
     ];
     let of_peer = [(name(&rt, 1), another(&rt, &to_node))];
     let post = Channels {
+        alloc,
         inbox: &inbox,
         outboxes: &of_node,
     };
     let peer_post = Channels {
+        alloc,
         inbox: &peer_inbox,
         outboxes: &of_peer,
     };
@@ -222,6 +224,7 @@ fn served_by<R: Wait + Abort + Copy + Drop>(
     send(&rt, alloc, &to_node, letters);
     let open = stopped(&rt, to_node, is_stopped);
     let post = Channels {
+        alloc,
         inbox: &inbox,
         outboxes: &[],
     };
