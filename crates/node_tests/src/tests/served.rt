@@ -134,7 +134,9 @@ fn are_served<
     );
     let all = Served {
         delivered: 2,
+        not_messages: 0,
         refused: 0,
+        unsent: 0,
         lost: 0,
     };
     told == all && peer_told == all
@@ -188,8 +190,10 @@ const LETTERS: &[(&str, &[&[u8]], bool, Served)] = &[
         true,
         Served {
             delivered: 2,
-            refused: 1,
-            lost: 1,
+            not_messages: 1,
+            refused: 0,
+            unsent: 1,
+            lost: 0,
         },
     ),
     (
@@ -198,7 +202,9 @@ const LETTERS: &[(&str, &[&[u8]], bool, Served)] = &[
         false,
         Served {
             delivered: 2,
-            refused: 1,
+            not_messages: 1,
+            refused: 0,
+            unsent: 0,
             lost: 0,
         },
     ),

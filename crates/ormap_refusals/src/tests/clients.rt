@@ -169,10 +169,16 @@ fn sent_again<C: Caller, R: Wait>(
     client: &mut C,
     post: &mut Once,
 ) -> Result<Served, Refusal> {
-    let Resent { refused, lost } = client.send_again(rt, heap, post)?;
+    let Resent {
+        refused,
+        unsent,
+        lost,
+    } = client.send_again(rt, heap, post)?;
     Ok(Served {
         delivered: 1u64.saturating_sub(refused),
+        not_messages: 0,
         refused,
+        unsent,
         lost,
     })
 }
