@@ -1,80 +1,111 @@
 -- What goes out by a post, one reply and one message after the other.
-use Rattle.std.proofs.Common.{◌≡◌, ℕ, ◌+◌, ◌≤◌, min, List, [], ◌∷◌, ◌++◌, length, Option, Some, None, refl, sym, ap, subst, ◌∙◌, inl, inr, ⊎_elim, arith}
+use Rattle.std.proofs.Common.{◌≡◌, ◌⊎◌, ℕ, ◌+◌, ◌≤◌, min, List, [], ◌∷◌, ◌++◌, length, refl, sym, ap, subst, ◌∙◌, inl, inr, ⊎_elim, arith}
 use Rattle.node_threads.specs.declared.node_event.NodeEvent.{NodeEvent}
-use Rattle.node_threads.specs.Serving.{AreSent, IsLost, IsPassed, IsSent, IsTaken, Serves, lost_of, passed_of}
+use Rattle.node_threads.specs.Serving.{AreSent, Goes, IsPassed, IsSent, IsTaken, Serves, Turn, NoMessage, Refused, Taken, total}
 use Rattle.replica_model.specs.Replica.{Replica}
 use Rattle.shared_object.specs.History.{Seat}
-use Rattle.wire_form.specs.Message.{message_of}
+use Rattle.wire_form.specs.Message.{SpellsNone, message_of}
 use Rattle.wire_form.specs.declared.message.Message.{Message}
 
 module _ {P A : Type 0} (Receives : P → P → List ℕ → Type 0) (Sends : P → P → ℕ → List ℕ → Type 0) (Rests : P → P → Type 0) where
-  pub sent_more : (p q r : P) (replies : List (Message A)) (reply : Message A) (lost : ℕ) → AreSent Receives Sends Rests p q replies lost
-      → IsSent Sends q r (message_of reply)
-      → AreSent Receives Sends Rests p r (replies ++ reply ∷ []) lost
-  sent_more p q r [] reply lost h sent = (r, 0, inl (subst (λ x. IsSent Sends x r (message_of reply)) h.0 sent, h.1), (refl, refl))
-  sent_more p q r (x ∷ xs) reply lost h sent = (h.0, h.1, h.2, sent_more h.0 q r xs reply h.1 h.3 sent)
+  -- one more reply, of which this became
+  module _ (q r : P) (reply : Message A) where
+    pub sent_more : (p : P) (replies : List (Message A)) (unsent lost : ℕ) → AreSent Receives Sends Rests p q replies unsent lost
+        → IsSent Sends q r (message_of reply) → AreSent Receives Sends Rests p r (replies ++ reply ∷ []) unsent lost
+    sent_more p [] unsent lost h sent = (r, 0, 0, inl (subst (λ x. IsSent Sends x r (message_of reply)) h.0 sent, h.1, h.2), (refl, refl, refl))
+    sent_more p (x ∷ xs) unsent lost h sent = (h.0, h.1, h.2, h.3, sent_more h.0 xs h.1 h.2 h.4 sent)
 
-  pub lost_more : (p q r : P) (replies : List (Message A)) (reply : Message A) (lost : ℕ) → AreSent Receives Sends Rests p q replies lost → IsLost Rests q r
-      → AreSent Receives Sends Rests p r (replies ++ reply ∷ []) (lost + 1)
-  lost_more p q r [] reply lost h gone = (r, 0, inr (subst (λ x. IsLost Rests x r) h.0 gone, omega (arith, h.1)), (refl, refl))
-  lost_more p q r (x ∷ xs) reply lost h gone =
-      (h.0, h.1 + 1, ⊎_elim (λ s. inl (s.0, omega (arith, s.1))) (λ s. inr (s.0, omega (arith, s.1))) h.2, lost_more h.0 q r xs reply h.1 h.3 gone)
+    pub unsent_more : (p : P) (replies : List (Message A)) (unsent lost : ℕ) → AreSent Receives Sends Rests p q replies unsent lost
+        → Rests q r → AreSent Receives Sends Rests p r (replies ++ reply ∷ []) (unsent + 1) lost
+    unsent_more p [] unsent lost h rests = (r, 0, 0, inr (inl (subst (λ x. Rests x r) h.0 rests, omega (arith, h.1), h.2)), (refl, refl, refl))
+    unsent_more p (x ∷ xs) unsent lost h rests = (
+      h.0,
+      h.1 + 1,
+      h.2,
+      ⊎_elim (λ s. inl (s.0, omega (arith, s.1), s.2))
+          (⊎_elim (λ s. inr (inl (s.0, omega (arith, s.1), s.2))) (λ s. inr (inr (s.0, omega (arith, s.1), s.2)))) h.3,
+      unsent_more h.0 xs h.1 h.2 h.4 rests,
+    )
 
-  -- no more are lost than there are
-  pub few_lost : (p q : P) (replies : List (Message A)) (lost : ℕ) → AreSent Receives Sends Rests p q replies lost → lost ≤ length replies
-  few_lost p q [] lost h = omega (arith, h.1)
-  few_lost p q (x ∷ xs) lost h =
-      let rest : h.1 ≤ length xs = few_lost h.0 q xs h.1 h.3 in
-      ⊎_elim (λ s. omega (arith, rest, s.1)) (λ s. omega (arith, rest, s.1)) h.2
+    pub lost_more : (p : P) (replies : List (Message A)) (unsent lost : ℕ) → AreSent Receives Sends Rests p q replies unsent lost
+        → r ≡ q → AreSent Receives Sends Rests p r (replies ++ reply ∷ []) unsent (lost + 1)
+    lost_more p [] unsent lost h same = (r, 0, 0, inr (inr (same ∙ h.0, h.1, omega (arith, h.2))), (refl, refl, refl))
+    lost_more p (x ∷ xs) unsent lost h same = (
+      h.0,
+      h.1,
+      h.2 + 1,
+      ⊎_elim (λ s. inl (s.0, s.1, omega (arith, s.2)))
+          (⊎_elim (λ s. inr (inl (s.0, s.1, omega (arith, s.2)))) (λ s. inr (inr (s.0, s.1, omega (arith, s.2))))) h.3,
+      lost_more h.0 xs h.1 h.2 h.4 same,
+    )
+
+  -- no more stay behind than there are
+  pub few_missed : (p q : P) (replies : List (Message A)) (unsent lost : ℕ) → AreSent Receives Sends Rests p q replies unsent lost
+      → unsent + lost ≤ length replies
+  few_missed p q [] unsent lost h = omega (arith, h.1, h.2)
+  few_missed p q (x ∷ xs) unsent lost h =
+      let rest : h.1 + h.2 ≤ length xs = few_missed h.0 q xs h.1 h.2 h.4 in
+      ⊎_elim (λ s. omega (arith, rest, s.1, s.2)) (⊎_elim (λ s. omega (arith, rest, s.1, s.2)) (λ s. omega (arith, rest, s.1, s.2))) h.3
 
   module _ (first : Replica) (r : P) (new : Seat (NodeEvent A)) where
-    pub passed_more : (p q : P) (old seat : Seat (NodeEvent A)) (steps : List (Option ℕ)) → Serves Receives Sends Rests first p q old seat steps
-        → IsPassed Receives Sends Rests q r seat new
-        → Serves Receives Sends Rests first p r old new (steps ++ None ∷ [])
-    passed_more p q old seat [] h step =
-        (r, new, subst (λ x. IsPassed Receives Sends Rests x r old new) h.0 (subst (λ s. IsPassed Receives Sends Rests q r s new) h.1 step), (refl, refl))
-    passed_more p q old seat (None ∷ steps) h step = (h.0, h.1, h.2, passed_more h.0 q h.1 seat steps h.3 step)
-    passed_more p q old seat (Some lost ∷ steps) h step = (h.0, h.1, h.2, passed_more h.0 q h.1 seat steps h.3 step)
-
-    pub taken_more : (p q : P) (old seat : Seat (NodeEvent A)) (steps : List (Option ℕ)) (count : ℕ) → Serves Receives Sends Rests first p q old seat steps
-        → IsTaken Receives Sends Rests first q r seat new count
-        → Serves Receives Sends Rests first p r old new (steps ++ Some count ∷ [])
-    taken_more p q old seat [] count h step = (
+    pub no_message_more : (p q : P) (old seat : Seat (NodeEvent A)) (steps : List Turn) → Serves Receives Sends Rests first p q old seat steps
+        → IsPassed Receives Sends Rests SpellsNone q r seat new
+        → Serves Receives Sends Rests first p r old new (steps ++ NoMessage ∷ [])
+    no_message_more p q old seat [] h step = (
       r,
       new,
-      subst (λ x. IsTaken Receives Sends Rests first x r old new count) h.0
-          (subst (λ s. IsTaken Receives Sends Rests first q r s new count) h.1 step),
+      subst (λ x. IsPassed Receives Sends Rests SpellsNone x r old new) h.0
+          (subst (λ s. IsPassed Receives Sends Rests SpellsNone q r s new) h.1 step),
       (refl, refl),
     )
-    taken_more p q old seat (None ∷ steps) count h step = (h.0, h.1, h.2, taken_more h.0 q h.1 seat steps count h.3 step)
-    taken_more p q old seat (Some lost ∷ steps) count h step = (h.0, h.1, h.2, taken_more h.0 q h.1 seat steps count h.3 step)
+    no_message_more p q old seat (NoMessage ∷ steps) h step = (h.0, h.1, h.2, no_message_more h.0 q h.1 seat steps h.3 step)
+    no_message_more p q old seat (Refused ∷ steps) h step = (h.0, h.1, h.2, no_message_more h.0 q h.1 seat steps h.3 step)
+    no_message_more p q old seat (Taken n m ∷ steps) h step = (h.0, h.1, h.2, no_message_more h.0 q h.1 seat steps h.3 step)
+
+    pub refused_more : (p q : P) (old seat : Seat (NodeEvent A)) (steps : List Turn) → Serves Receives Sends Rests first p q old seat steps
+        → IsPassed Receives Sends Rests (λ bytes. Unit {0}) q r seat new
+        → Serves Receives Sends Rests first p r old new (steps ++ Refused ∷ [])
+    refused_more p q old seat [] h step = (
+      r,
+      new,
+      subst (λ x. IsPassed Receives Sends Rests (λ bytes. Unit {0}) x r old new) h.0
+          (subst (λ s. IsPassed Receives Sends Rests (λ bytes. Unit {0}) q r s new) h.1 step),
+      (refl, refl),
+    )
+    refused_more p q old seat (NoMessage ∷ steps) h step = (h.0, h.1, h.2, refused_more h.0 q h.1 seat steps h.3 step)
+    refused_more p q old seat (Refused ∷ steps) h step = (h.0, h.1, h.2, refused_more h.0 q h.1 seat steps h.3 step)
+    refused_more p q old seat (Taken n m ∷ steps) h step = (h.0, h.1, h.2, refused_more h.0 q h.1 seat steps h.3 step)
+
+    pub taken_more : (p q : P) (old seat : Seat (NodeEvent A)) (steps : List Turn) (unsent lost : ℕ)
+        → Serves Receives Sends Rests first p q old seat steps
+        → IsTaken Receives Sends Rests first q r seat new unsent lost
+        → Serves Receives Sends Rests first p r old new (steps ++ Taken unsent lost ∷ [])
+    taken_more p q old seat [] unsent lost h step = (
+      r,
+      new,
+      subst (λ x. IsTaken Receives Sends Rests first x r old new unsent lost) h.0
+          (subst (λ s. IsTaken Receives Sends Rests first q r s new unsent lost) h.1 step),
+      (refl, refl),
+    )
+    taken_more p q old seat (NoMessage ∷ steps) unsent lost h step = (h.0, h.1, h.2, taken_more h.0 q h.1 seat steps unsent lost h.3 step)
+    taken_more p q old seat (Refused ∷ steps) unsent lost h step = (h.0, h.1, h.2, taken_more h.0 q h.1 seat steps unsent lost h.3 step)
+    taken_more p q old seat (Taken n m ∷ steps) unsent lost h step = (h.0, h.1, h.2, taken_more h.0 q h.1 seat steps unsent lost h.3 step)
 
 -- ---- the numbers
-passed_end : (steps : List (Option ℕ)) (step : Option ℕ) → passed_of (steps ++ step ∷ []) ≡ passed_of steps + passed_of (step ∷ [])
-passed_end [] step = omega arith
-passed_end (None ∷ steps) step = omega (arith, passed_end steps step)
-passed_end (Some lost ∷ steps) step = passed_end steps step
 
-lost_end : (steps : List (Option ℕ)) (step : Option ℕ) → lost_of (steps ++ step ∷ []) ≡ lost_of steps + lost_of (step ∷ [])
-lost_end [] step = omega arith
-lost_end (None ∷ steps) step = lost_end steps step
-lost_end (Some lost ∷ steps) step = omega (arith, lost_end steps step)
+total_end : (of : Turn → ℕ) (steps : List Turn) (step : Turn) → total of (steps ++ step ∷ []) ≡ total of steps + of step
+total_end of [] step = omega arith
+total_end of (x ∷ steps) step = omega (arith, total_end of steps step)
 
 -- a number that stays at a limit goes on
 capped : (limit n k : ℕ) → min (min n limit + k) limit ≡ min (n + k) limit
 capped limit n k = omega arith
 
-pub passed_counts : (limit : ℕ) (steps : List (Option ℕ)) (refused lost count : ℕ) → (refused ≡ min (passed_of steps) limit)
-    × (lost ≡ min (lost_of steps) limit)
-    → (min (refused + 1) limit ≡ min (passed_of (steps ++ None ∷ [])) limit) × (lost ≡ min (lost_of (steps ++ None ∷ [])) limit)
-passed_counts limit steps refused lost count h = (
-  ap (λ n. min (n + 1) limit) h.0 ∙ (capped limit (passed_of steps) 1 ∙ ap (λ n. min n limit) (sym (passed_end steps None))),
-  h.1 ∙ ap (λ n. min n limit) (omega (arith, lost_end steps None)),
-)
+pub counts_on : (limit : ℕ) (of : Turn → ℕ) (steps : List Turn) (step : Turn) (count : ℕ) → count ≡ min (total of steps) limit
+    → min (count + of step) limit ≡ min (total of (steps ++ step ∷ [])) limit
+counts_on limit of steps step count h =
+    ap (λ n. min (n + of step) limit) h ∙ (capped limit (total of steps) (of step) ∙ ap (λ n. min n limit) (sym (total_end of steps step)))
 
-pub taken_counts : (limit : ℕ) (steps : List (Option ℕ)) (refused lost count : ℕ) → (refused ≡ min (passed_of steps) limit) × (lost ≡ min (lost_of steps) limit)
-    → (refused ≡ min (passed_of (steps ++ Some count ∷ [])) limit) × (min (lost + count) limit ≡ min (lost_of (steps ++ Some count ∷ [])) limit)
-taken_counts limit steps refused lost count h = (
-  h.0 ∙ ap (λ n. min n limit) (omega (arith, passed_end steps (Some count))),
-  ap (λ n. min (n + count) limit) h.1 ∙ (capped limit (lost_of steps) count ∙ ap (λ n. min n limit) (omega (arith, lost_end steps (Some count)))),
-)
+pub counts_none : (limit : ℕ) (of : Turn → ℕ) (steps : List Turn) (step : Turn) (count : ℕ) → of step ≡ 0 → count ≡ min (total of steps) limit
+    → count ≡ min (total of (steps ++ step ∷ [])) limit
+counts_none limit of steps step count none h = h ∙ ap (λ n. min n limit) (omega (arith, none, total_end of steps step))

@@ -1,9 +1,9 @@
 -- What a client does that has the open synchronisations of its node send again. Of this project.
-use Rattle.std.specs.Prelude.{◌≡◌, ℕ, List, [], ◌∷◌, Option, Some, None}
+use Rattle.std.specs.Prelude.{◌≡◌, ℕ, List, [], ◌∷◌}
 use Rattle.node_threads.specs.declared.deed.Deed.TheVariants.{Retry}
 use Rattle.node_threads.specs.declared.node_event.NodeEvent.{NodeEvent}
 use Rattle.node_threads.specs.History.{Replies}
-use Rattle.node_threads.specs.Serving.{AreSent}
+use Rattle.node_threads.specs.Serving.{AreSent, Turn, NoMessage, Refused, Taken}
 use Rattle.replica_core.specs.Stepping.{mails_of}
 use Rattle.replica_model.specs.Replica.{Replica}
 use Rattle.replica_model.specs.Step.{Answer}
@@ -20,17 +20,19 @@ IsRetried {A} first number old new answer replies =
 
 -- A post whose states follow on one another so: when bytes come in, when they are sent to the replica of a name, and when neither is so.
 module _ {P A : Type 0} (Receives : P → P → List ℕ → Type 0) (Sends : P → P → ℕ → List ℕ → Type 0) (Rests : P → P → Type 0) where
-  -- and these messages were sent, but for so many that are lost
-  abbrev pub IsSentAgain : Replica → ℕ → P → P → Seat (NodeEvent A) → Seat (NodeEvent A) → ℕ → Type 0
-  IsSentAgain first number p q old new lost =
-      (answer : Answer) × (replies : List (Message A)) × IsRetried first number old new answer replies × AreSent Receives Sends Rests p q replies lost
+  -- and these messages were sent, but for so many that the post did not send, and so many for which there was no memory
+  abbrev pub IsSentAgain : Replica → ℕ → P → P → Seat (NodeEvent A) → Seat (NodeEvent A) → ℕ → ℕ → Type 0
+  IsSentAgain first number p q old new unsent lost =
+      (answer : Answer) × (replies : List (Message A)) × IsRetried first number old new answer replies
+      × AreSent Receives Sends Rests p q replies unsent lost
 
-  -- one after the other, the synchronisations of these numbers were refused to send again (None), or so many of their messages are lost
-  abbrev pub AreSentAgain : Replica → P → P → Seat (NodeEvent A) → Seat (NodeEvent A) → List ℕ → List (Option ℕ) → Type 0
+  -- one after the other, the synchronisations of these numbers were refused to send again, or did so, but for so many messages
+  abbrev pub AreSentAgain : Replica → P → P → Seat (NodeEvent A) → Seat (NodeEvent A) → List ℕ → List Turn → Type 0
   AreSentAgain first p q old new [] [] = (q ≡ p) × (new ≡ old)
-  AreSentAgain first p q old new [] (told ∷ more) = ⊥
+  AreSentAgain first p q old new [] (turn ∷ more) = ⊥
   AreSentAgain first p q old new (number ∷ numbers) [] = ⊥
-  AreSentAgain first p q old new (number ∷ numbers) (None ∷ more) =
+  AreSentAgain first p q old new (number ∷ numbers) (NoMessage ∷ more) = ⊥
+  AreSentAgain first p q old new (number ∷ numbers) (Refused ∷ more) =
       (seat : Seat (NodeEvent A)) × HasNotCalled (λ e. e.place) old seat × AreSentAgain first p q seat new numbers more
-  AreSentAgain first p q old new (number ∷ numbers) (Some lost ∷ more) =
-      (mid : P) × (seat : Seat (NodeEvent A)) × IsSentAgain first number p mid old seat lost × AreSentAgain first mid q seat new numbers more
+  AreSentAgain first p q old new (number ∷ numbers) (Taken unsent lost ∷ more) =
+      (mid : P) × (seat : Seat (NodeEvent A)) × IsSentAgain first number p mid old seat unsent lost × AreSentAgain first mid q seat new numbers more

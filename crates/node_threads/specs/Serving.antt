@@ -1,5 +1,5 @@
 -- What a client does that serves a post: it takes in what comes, sends what is to be sent for it, and calls nothing else. Of this project.
-use Rattle.std.specs.Prelude.{◌≡◌, ◌⊎◌, ℕ, ◌+◌, List, [], ◌∷◌, ◌++◌, length, Option, Some, None}
+use Rattle.std.specs.Prelude.{◌≡◌, ◌⊎◌, ℕ, ◌+◌, List, [], ◌∷◌, ◌++◌, length, Some}
 use Rattle.std.specs.List.{All}
 use mathlib.Core.List.{IsPrefix}
 use Rattle.node_threads.specs.declared.deed.Deed.TheVariants.{Deliver}
@@ -10,7 +10,7 @@ use Rattle.replica_model.specs.Replica.{Replica}
 use Rattle.replica_model.specs.Step.{Answer}
 use Rattle.shared_object.specs.Calling.{HasNotCalled, IsAccepted}
 use Rattle.shared_object.specs.History.{Seat, made}
-use Rattle.wire_form.specs.Message.{MessageValue, Spells, addressee_of, message_of}
+use Rattle.wire_form.specs.Message.{MessageValue, Spells, SpellsNone, addressee_of, message_of}
 use Rattle.wire_form.specs.declared.message.Message.{Message}
 
 -- a message was taken in that bytes spell which came in
@@ -46,44 +46,70 @@ CanCome {P} Receives bytes = (p : P) × (q : P) × Receives p q bytes
 abbrev pub IsSent : {P : Type 0} → (P → P → ℕ → List ℕ → Type 0) → P → P → MessageValue → Type 0
 IsSent Sends p q reply = (name : ℕ) × (bytes : List ℕ) × (addressee_of reply ≡ Some name) × Spells bytes reply × Sends p q name bytes
 
--- A reply is lost: nothing went out, and nothing came in.
-abbrev pub IsLost : {P : Type 0} → (P → P → Type 0) → P → P → Type 0
-IsLost Rests p q = (q ≡ p) ⊎ Rests p q
+-- What became of bytes that came in: no message spells them, a message was refused, or it was taken in, and of the replies to it so many were not
+-- sent by the post, and for so many there was no memory.
+pub data Turn : Type 0 where
+  NoMessage Refused : Turn
+  Taken : ℕ → ℕ → Turn
+
+-- of a turn: whether it is of no message, or of one that was refused, how many of its replies were not sent, and how many are lost for want of memory
+pub not_messages : Turn → ℕ
+not_messages NoMessage = 1
+not_messages Refused = 0
+not_messages (Taken n m) = 0
+
+pub refused : Turn → ℕ
+refused NoMessage = 0
+refused Refused = 1
+refused (Taken n m) = 0
+
+pub unsent : Turn → ℕ
+unsent NoMessage = 0
+unsent Refused = 0
+unsent (Taken n m) = n
+
+pub lost : Turn → ℕ
+lost NoMessage = 0
+lost Refused = 0
+lost (Taken n m) = m
+
+-- such a number of all turns together
+abbrev pub total : (Turn → ℕ) → List Turn → ℕ
+total of [] = 0
+total of (turn ∷ turns) = of turn + total of turns
 
 -- A post whose states follow on one another so: when bytes come in, when they are sent to the replica of a name, and when neither is so.
 module _ {P A : Type 0} (Receives : P → P → List ℕ → Type 0) (Sends : P → P → ℕ → List ℕ → Type 0) (Rests : P → P → Type 0) where
-  -- these replies went out by it, in this order, but for so many that are lost
-  abbrev pub AreSent : P → P → List (Message A) → ℕ → Type 0
-  AreSent p q [] lost = (q ≡ p) × (lost ≡ 0)
-  AreSent p q (reply ∷ replies) lost =
-      (mid : P) × (rest : ℕ) × ((IsSent Sends p mid (message_of reply) × (lost ≡ rest)) ⊎ (IsLost Rests p mid × (lost ≡ 1 + rest))) × AreSent mid q replies rest
+  -- A reply went out by it, or the post did not send it, or there was no memory for it, and nothing became of the post: these numbers grow so.
+  abbrev pub Goes : P → P → MessageValue → ℕ → ℕ → ℕ → ℕ → Type 0
+  Goes p q reply unsent lost unsent' lost' =
+      (IsSent Sends p q reply × (unsent' ≡ unsent) × (lost' ≡ lost)) ⊎ ((Rests p q × (unsent' ≡ 1 + unsent) × (lost' ≡ lost))
+      ⊎ ((q ≡ p) × (unsent' ≡ unsent) × (lost' ≡ 1 + lost)))
 
-  -- the client took in what these bytes spell, and then what is to be sent for it was sent, but for so many replies that are lost
-  abbrev pub IsAnswered : Replica → List ℕ → P → P → Seat (NodeEvent A) → Seat (NodeEvent A) → ℕ → Type 0
-  IsAnswered first bytes p q old new lost = (answer : Answer) × (replies : List (Message A)) × IsTakenIn first bytes old new answer replies × AreSent p q replies lost
+  -- these replies went out by it, in this order, but for so many that the post did not send, and so many for which there was no memory
+  abbrev pub AreSent : P → P → List (Message A) → ℕ → ℕ → Type 0
+  AreSent p q [] unsent lost = (q ≡ p) × (unsent ≡ 0) × (lost ≡ 0)
+  AreSent p q (reply ∷ replies) unsent lost =
+      (mid : P) × (unsent' : ℕ) × (lost' : ℕ) × Goes p mid (message_of reply) unsent' lost' unsent lost × AreSent mid q replies unsent' lost'
+
+  -- the client took in what these bytes spell, and then what is to be sent for it was sent, but for so many replies
+  abbrev pub IsAnswered : Replica → List ℕ → P → P → Seat (NodeEvent A) → Seat (NodeEvent A) → ℕ → ℕ → Type 0
+  IsAnswered first bytes p q old new unsent lost =
+      (answer : Answer) × (replies : List (Message A)) × IsTakenIn first bytes old new answer replies × AreSent p q replies unsent lost
 
   -- bytes came in by it, and were answered so
-  abbrev pub IsTaken : Replica → P → P → Seat (NodeEvent A) → Seat (NodeEvent A) → ℕ → Type 0
-  IsTaken first p q old new lost = (bytes : List ℕ) × (mid : P) × Receives p mid bytes × IsAnswered first bytes mid q old new lost
+  abbrev pub IsTaken : Replica → P → P → Seat (NodeEvent A) → Seat (NodeEvent A) → ℕ → ℕ → Type 0
+  IsTaken first p q old new unsent lost = (bytes : List ℕ) × (mid : P) × Receives p mid bytes × IsAnswered first bytes mid q old new unsent lost
 
-  -- bytes came in by it, and the client called nothing
-  abbrev pub IsPassed : P → P → Seat (NodeEvent A) → Seat (NodeEvent A) → Type 0
-  IsPassed p q old new = (bytes : List ℕ) × Receives p q bytes × HasNotCalled (λ e. e.place) old new
+  -- such bytes came in by it, and the client called nothing
+  abbrev pub IsPassed : (List ℕ → Type 0) → P → P → Seat (NodeEvent A) → Seat (NodeEvent A) → Type 0
+  IsPassed Are p q old new = (bytes : List ℕ) × Receives p q bytes × Are bytes × HasNotCalled (λ e. e.place) old new
 
-  -- One after the other, bytes came in: each was passed (None), or it was taken in and so many of the replies to it are lost. What is sent for one is sent before the next
-  -- comes in.
-  abbrev pub Serves : Replica → P → P → Seat (NodeEvent A) → Seat (NodeEvent A) → List (Option ℕ) → Type 0
+  -- One after the other, bytes came in, and this became of them. What is sent for one is sent before the next comes in.
+  abbrev pub Serves : Replica → P → P → Seat (NodeEvent A) → Seat (NodeEvent A) → List Turn → Type 0
   Serves first p q old new [] = (q ≡ p) × (new ≡ old)
-  Serves first p q old new (None ∷ more) = (mid : P) × (seat : Seat (NodeEvent A)) × IsPassed p mid old seat × Serves first mid q seat new more
-  Serves first p q old new (Some lost ∷ more) = (mid : P) × (seat : Seat (NodeEvent A)) × IsTaken first p mid old seat lost × Serves first mid q seat new more
-
--- how many were passed, and how many replies are lost
-abbrev pub passed_of : List (Option ℕ) → ℕ
-passed_of [] = 0
-passed_of (None ∷ more) = 1 + passed_of more
-passed_of (Some lost ∷ more) = passed_of more
-
-abbrev pub lost_of : List (Option ℕ) → ℕ
-lost_of [] = 0
-lost_of (None ∷ more) = lost_of more
-lost_of (Some lost ∷ more) = lost + lost_of more
+  Serves first p q old new (NoMessage ∷ more) = (mid : P) × (seat : Seat (NodeEvent A)) × IsPassed SpellsNone p mid old seat × Serves first mid q seat new more
+  Serves first p q old new (Refused ∷ more) =
+      (mid : P) × (seat : Seat (NodeEvent A)) × IsPassed (λ bytes. Unit {0}) p mid old seat × Serves first mid q seat new more
+  Serves first p q old new (Taken unsent lost ∷ more) =
+      (mid : P) × (seat : Seat (NodeEvent A)) × IsTaken first p mid old seat unsent lost × Serves first mid q seat new more

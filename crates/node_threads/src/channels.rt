@@ -2,11 +2,14 @@ use crate::letter::Letter;
 use crate::post::Post;
 use crossbeam_channel::{Receiver, Sender};
 use dots::Name;
+use std::alloc::Global;
 use std::sync::Wait;
 
 /// An inbox, and the outboxes of other replicas, as channels between threads.
 #[derive(Clone, Copy, Drop)]
 pub struct Channels<'a> {
+    /// Where the bytes of a letter that goes out are kept until they are taken in.
+    pub alloc: Global,
     /// What comes in.
     pub inbox: &'a Receiver<Letter>,
     /// Where what is sent back goes, by whom it is for: of two for one replica the first counts. They are gone
@@ -29,10 +32,13 @@ impl<'a> Post for Channels<'a> {
         }
     }
 
-    fn send<T: Wait>(&mut self, rt: &T, to: Name, bytes: Vec<u8>) -> bool {
+    fn send<T: Wait>(&mut self, rt: &T, to: Name, bytes: &[u8]) -> bool {
         for (name, outbox) in self.outboxes {
             if *name == to {
-                return outbox.send(rt, Letter::Mail(bytes)).is_ok();
+                return match bytes.to_vec(self.alloc) {
+                    Ok(copy) => outbox.send(rt, Letter::Mail(copy)).is_ok(),
+                    Err(_) => false,
+                };
             }
         }
         false

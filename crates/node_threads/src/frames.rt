@@ -66,14 +66,14 @@ impl<I: Read + Drop, O: Write + Drop> Post for Frames<I, O> {
         }
     }
 
-    fn send<T: Wait>(&mut self, _rt: &T, to: Name, bytes: Vec<u8>) -> bool {
+    fn send<T: Wait>(&mut self, _rt: &T, to: Name, bytes: &[u8]) -> bool {
         if self.end.is_some() {
             return false;
         }
         let Some(head) = head_of(bytes.len(), self.longest) else {
             return false;
         };
-        match put_frame(&mut self.output, head, to, &bytes) {
+        match put_frame(&mut self.output, head, to, bytes) {
             Ok(()) => true,
             Err(_) => {
                 self.end = Some(FramesEnd::Refused(Refusal::Output));

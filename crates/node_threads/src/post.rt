@@ -4,7 +4,7 @@ use dots::Name;
 use std::sync::Wait;
 
 /// How a node that is served gets what is sent to it, and sends what it answers: `Channels`, or what else carries bytes.
-// Its bytes are of the global memory, as the toolchain makes no proof of an impl of such a trait for every allocator.
+// What comes in is of the global memory, as the toolchain makes no proof of an impl of such a trait for every allocator.
 pub trait Post {
     ghost use Rattle.std.specs.Prelude.{ℕ, List};
 
@@ -22,8 +22,8 @@ pub trait Post {
         ensures received { IfSome result (λ bytes. receives self.old self.new bytes.items) }
         ensures ended { IsNone result → rests self.old self.new };
 
-    /// Sends these bytes to a replica, for which it may wait. Whether they could be sent.
-    fn send<T: Wait>(&mut self, rt: &T, to: Name, bytes: Vec<u8>) -> bool
-        ensures sent { IsTrue result → sends self.old self.new to bytes.items }
+    /// Sends these bytes to a replica, for which it may wait. Whether they could be sent: not where there is no memory that it needs for it.
+    fn send<T: Wait>(&mut self, rt: &T, to: Name, bytes: &[u8]) -> bool
+        ensures sent { IsTrue result → sends self.old self.new to bytes.now }
         ensures unsent { result ≡ false → rests self.old self.new };
 }

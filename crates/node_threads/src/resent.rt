@@ -1,8 +1,10 @@
 /// What became of synchronisations that were to send again. Each number stays at 2^64 - 1.
 #[derive(Clone, Copy, Debug, PartialEq, Eq)]
 pub struct Resent {
-    /// Those for which there was no memory.
+    /// Those that were refused, for want of memory or of a number for one more event.
     pub refused: u64,
-    /// Messages that could not be sent, or for which there was no memory.
+    /// Messages that the post did not send.
+    pub unsent: u64,
+    /// Messages for which there was no memory.
     pub lost: u64,
 }

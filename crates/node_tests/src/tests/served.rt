@@ -78,10 +78,12 @@ fn two_nodes_that_are_served_synchronise(rt: HostRuntime) {
     ];
     let of_peer = [(name(&rt, 1), another(&rt, &to_node))];
     let post = Channels {
+        alloc,
         inbox: &inbox,
         outboxes: &of_node,
     };
     let peer_post = Channels {
+        alloc,
         inbox: &peer_inbox,
         outboxes: &of_peer,
     };
@@ -132,7 +134,9 @@ fn are_served<
     );
     let all = Served {
         delivered: 2,
+        not_messages: 0,
         refused: 0,
+        unsent: 0,
         lost: 0,
     };
     told == all && peer_told == all
@@ -186,8 +190,10 @@ const LETTERS: &[(&str, &[&[u8]], bool, Served)] = &[
         true,
         Served {
             delivered: 2,
-            refused: 1,
-            lost: 1,
+            not_messages: 1,
+            refused: 0,
+            unsent: 1,
+            lost: 0,
         },
     ),
     (
@@ -196,7 +202,9 @@ const LETTERS: &[(&str, &[&[u8]], bool, Served)] = &[
         false,
         Served {
             delivered: 2,
-            refused: 1,
+            not_messages: 1,
+            refused: 0,
+            unsent: 0,
             lost: 0,
         },
     ),
@@ -222,6 +230,7 @@ fn served_by<R: Wait + Abort + Copy + Drop>(
     send(&rt, alloc, &to_node, letters);
     let open = stopped(&rt, to_node, is_stopped);
     let post = Channels {
+        alloc,
         inbox: &inbox,
         outboxes: &[],
     };

@@ -35,6 +35,8 @@ enum Act {
 enum Task {
     Happen(Act),
     Read(What),
+    Save,
+    Crash,
 }
 
 // The event, of the replica 1, or 2 where a message comes.
@@ -96,6 +98,8 @@ impl<'r, A: Allocator + Copy, P: Abort> Trial for Happening<'r, A, P> {
         match self.task {
             Task::Happen(act) => happens(self.rt, self.heap, self.world, act),
             Task::Read(what) => read(self.heap, self.world, what),
+            Task::Save => self.world.save(name(self.rt, 1)),
+            Task::Crash => crash(self.rt, self.world),
         }
     }
 
@@ -115,6 +119,14 @@ fn happens<A: Allocator + Copy>(
     let event = event(rt, heap, act)?;
     world.event(event)?;
     wanted(before.checked_add(1) == Some(count(world).0))
+}
+
+// Crashes the replica 1, whose last put is gone then: a restart stands for it.
+fn crash<A: Allocator + Copy>(rt: &impl Abort, world: &mut Worlds<A>) -> Result<(), Refusal> {
+    let before = count(world);
+    world.crash(name(rt, 1))?;
+    wanted(count(world) == before)?;
+    wanted(world.size_at(name(rt, 1)) == Ok(41))
 }
 
 // Has the event happen, with memory enough.
@@ -217,6 +229,8 @@ const OTHERS: &[Row] = &[
         Some(4),
     ),
     ("a clear", Task::Happen(Act::Clear), Some(40)),
+    ("a save", Task::Save, Some(0)),
+    ("a crash", Task::Crash, Some(40)),
 ];
 
 const READS: &[Row] = &[

@@ -25,4 +25,5 @@ returns-clause-sent g c =
           c.send_all_again.new.client ns sent.0) numbers sent.1,
       sent.2,
       sent.3,
+      sent.4,
     )

@@ -1,10 +1,13 @@
-use Rattle.std.proofs.Common.{◌≡◌, ◌+◌, [], ◌∷◌, ◌++◌, take, ap, sym, subst, ◌∙◌, arith}
+use Rattle.std.proofs.Common.{◌≡◌, ◌+◌, [], ◌∷◌, ◌++◌, refl, take, ap, sym, subst, ◌∙◌, arith}
 use Rattle.std.proofs.lemmas.List.{take_more}
 use Rattle.node_threads.specs.Serving.{AreSent}
 use Rattle.node_threads.proofs.Inboxes.{short}
-use Rattle.node_threads.proofs.Posts.{sent_more, lost_more, few_lost}
-use Rattle.node_threads.proofs.serving.send_all.Goals.{then-not-is_sent, else-not-is_sent}
+use Rattle.node_threads.proofs.Posts.{sent_more, unsent_more, lost_more, few_missed}
+use Rattle.node_threads.proofs.serving.send_all.Goals.{in-Sent, in-Unsent, in-Lost}
 use Rattle.node_threads.proofs.serving.send_all.Goals as goal
+
+pub loop-reply-init : goal.loop-reply-init
+loop-reply-init g c = (refl, refl, refl)
 
 pub loop-reply-preserved : goal.loop-reply-preserved
 loop-reply-preserved g c =
@@ -15,24 +18,32 @@ loop-reply-preserved g c =
     let reply = c.reply-item.result in
     let before = take c.loop-reply.reply-index replies in
     let first = c.args.post.now in
-    let last = c.is_sent.new.post in
+    let mid = c.loop-reply.post in
+    let last = c.send.new.post in
+    let unsent = c.loop-reply.unsent in
+    let lost = c.loop-reply.lost in
     let more : take (c.loop-reply.reply-index + 1) replies ≡ before ++ reply ∷ [] =
     take_more replies c.loop-reply.reply-index reply c.loop-reply-test.true ∙ ap (λ x. before ++ x ∷ []) (sym c.reply-item.is) in
-    elim c.if-not-is_sent.branch [
-      | then-not-is_sent w ↦
-          subst (AreSent receives sends rests first last (take (c.loop-reply.reply-index + 1) replies)) (sym w.lost-is)
-          (subst (λ rs. AreSent receives sends rests first last rs (c.loop-reply.lost + 1)) (sym more)
-          (lost_more receives sends rests first c.loop-reply.post last before reply c.loop-reply.lost c.loop-reply.invariant
-          (c.is_sent.ensures.lost w.if-not-is_sent.true)))
-      | else-not-is_sent w ↦
-          subst (AreSent receives sends rests first last (take (c.loop-reply.reply-index + 1) replies)) (sym w.lost-is)
-          (subst (λ rs. AreSent receives sends rests first last rs c.loop-reply.lost) (sym more)
-          (sent_more receives sends rests first c.loop-reply.post last before reply c.loop-reply.lost c.loop-reply.invariant
-          (c.is_sent.ensures.sent w.if-not-is_sent.false)))
+    elim c.match-send.branch [
+      | in-Sent w ↦
+          subst (λ rs. AreSent receives sends rests first last rs unsent lost) (sym more)
+          (sent_more receives sends rests mid last reply first before unsent lost c.loop-reply.invariant (c.send.ensures.sent w.in-Sent.is))
+      | in-Unsent w ↦
+          subst (λ rs. AreSent receives sends rests first last rs (unsent + 1) lost) (sym more)
+          (unsent_more receives sends rests mid last reply first before unsent lost c.loop-reply.invariant (c.send.ensures.unsent w.in-Unsent.is))
+      | in-Lost w ↦
+          subst (λ rs. AreSent receives sends rests first last rs unsent (lost + 1)) (sym more)
+          (lost_more receives sends rests mid last reply first before unsent lost c.loop-reply.invariant (c.send.ensures.lost w.in-Lost.is))
     ]
+
+pub overflow_add-unsent : goal.overflow_add-unsent
+overflow_add-unsent g c =
+    let few = few_missed g.P.Post.receives g.P.Post.sends g.P.Post.rests c.args.post.now c.loop-reply.post (take c.loop-reply.reply-index c.args.replies.now)
+    c.loop-reply.unsent c.loop-reply.lost c.loop-reply.invariant in
+    omega (arith, few, short c.loop-reply.reply-index c.args.replies.now, c.loop-reply-test.true, c.requires)
 
 pub overflow_add-lost : goal.overflow_add-lost
 overflow_add-lost g c =
-    let few = few_lost g.P.Post.receives g.P.Post.sends g.P.Post.rests c.args.post.now c.loop-reply.post (take c.loop-reply.reply-index c.args.replies.now)
-    c.loop-reply.lost c.loop-reply.invariant in
+    let few = few_missed g.P.Post.receives g.P.Post.sends g.P.Post.rests c.args.post.now c.loop-reply.post (take c.loop-reply.reply-index c.args.replies.now)
+    c.loop-reply.unsent c.loop-reply.lost c.loop-reply.invariant in
     omega (arith, few, short c.loop-reply.reply-index c.args.replies.now, c.loop-reply-test.true, c.requires)

@@ -1,13 +1,13 @@
-use Rattle.std.proofs.Common.{[], ◌∷◌, ◌++◌, Some, None, ◌-◌, ◌^◌, refl, sym, subst, ◌∙◌, arith}
+use Rattle.std.proofs.Common.{[], ◌∷◌, ◌++◌, ◌-◌, ◌^◌, refl, sym, subst, ◌∙◌, arith}
 use Rattle.std.specs.Prelude.{IsSome}
-use Rattle.node_threads.specs.Serving.{CanCome, IsAnswered}
+use Rattle.node_threads.specs.Serving.{CanCome, IsAnswered, NoMessage, Refused, Taken, lost, not_messages, refused, unsent}
 use Rattle.node_threads.proofs.Inboxes.{took_as_nothing, took_nothing, took_one, took_then}
-use Rattle.node_threads.proofs.Posts.{passed_counts, passed_more, taken_counts, taken_more}
-use Rattle.node_threads.proofs.serving.serve.Goals.{in-Some-answer, in-None-answer, in-None, in-Some+in_default}
+use Rattle.node_threads.proofs.Posts.{counts_none, counts_on, no_message_more, refused_more, taken_more}
+use Rattle.node_threads.proofs.serving.serve.Goals.{in-Ok, in-NoMessage, in-Refused, in-None, in-Some+in_default}
 use Rattle.node_threads.proofs.serving.serve.Goals as goal
 
 pub loop-init : goal.loop-init
-loop-init g c = (took_nothing (CanCome g.P.Post.receives) c.args.client.now, c.operations-begun.ensures, ([], (refl, refl), refl, refl))
+loop-init g c = (took_nothing (CanCome g.P.Post.receives) c.args.client.now, c.operations-begun.ensures, ([], (refl, refl), refl, refl, refl, refl))
 
 pub loop-preserved : goal.loop-preserved
 loop-preserved g c =
@@ -16,44 +16,40 @@ loop-preserved g c =
     let rests = g.P.Post.rests in
     let first = g.K.Naming.first in
     let Comes = CanCome receives in
-    let bytes = c.in-Some-receive.bytes.items in
+    let bytes = c.in-Some.bytes.items in
+    let begun = c.args.post.now in
+    let before = c.loop.post in
     let mid = c.receive.new.self in
     let last = c.answer.new.post in
+    let oldest = c.args.client.now in
     let old = c.loop.client in
     let new = c.answer.new.client in
-    let steps = c.loop.invariant.2.0 in
-    let came : receives c.loop.post mid bytes = c.in-Some-receive.ensures.received in
+    let limit = 2 ^ 64 - 1 in
+    let told = c.loop.invariant.2 in
+    let steps = told.0 in
+    let came : receives before mid bytes = c.in-Some.ensures.received in
     elim c.match-answer.branch [
-      | in-Some-answer w ↦
-          let count = w.in-Some-answer.count in
-          let answered : IsAnswered receives sends rests first bytes mid last old new count =
-          subst (λ b. IsAnswered receives sends rests first b mid last old new count) c.deref.ensures.value w.in-Some-answer.ensures.taken in
-          let taken = answered.2 in
-          let counts = taken_counts (2 ^ 64 - 1) steps c.loop.refused c.loop.lost count (c.loop.invariant.2.2, c.loop.invariant.2.3) in (
-            took_then Comes c.args.client.now old new c.loop.invariant.0
-                (took_one Comes old new taken.1 _ taken.3 refl (taken.0, refl, (bytes, (c.loop.post, mid, came), taken.2))),
+      | in-Ok w ↦
+          let n = w.in-Ok.missed.unsent in
+          let m = w.in-Ok.missed.lost in
+          let turn = Taken n m in
+          let answered : IsAnswered receives sends rests first bytes mid last old new n m =
+          subst (λ b. IsAnswered receives sends rests first b mid last old new n m) c.deref.ensures.value w.in-Ok.ensures.taken in
+          let taken = answered.2 in (
+            took_then Comes oldest old new c.loop.invariant.0
+                (took_one Comes old new taken.1 _ taken.3 refl (taken.0, refl, (bytes, (before, mid, came), taken.2))),
             c.loop.invariant.1,
             (
-              steps ++ Some count ∷ [],
-              taken_more receives sends rests first last new c.args.post.now c.loop.post c.args.client.now old steps count c.loop.invariant.2.1
-                  (bytes, mid, came, answered),
-              w.refused-is ∙ counts.0,
-              w.lost-is ∙ w.saturating_add-lost.ensures ∙ counts.1,
+              steps ++ turn ∷ [],
+              taken_more receives sends rests first last new begun before oldest old steps n m told.1 (bytes, mid, came, answered),
+              w.not_messages-is ∙ counts_none limit not_messages steps turn c.loop.not_messages refl told.2,
+              w.refused-is ∙ counts_none limit refused steps turn c.loop.refused refl told.3,
+              w.unsent-is ∙ w.saturating_add-unsent.ensures ∙ counts_on limit unsent steps turn c.loop.unsent told.4,
+              w.lost-is ∙ w.saturating_add-lost.ensures ∙ counts_on limit lost steps turn c.loop.lost told.5,
             ),
           )
-      | in-None-answer w ↦
-          let passed = w.in-None-answer.ensures.passed refl in
-          let counts = passed_counts (2 ^ 64 - 1) steps c.loop.refused c.loop.lost 0 (c.loop.invariant.2.2, c.loop.invariant.2.3) in (
-            took_then Comes c.args.client.now old new c.loop.invariant.0 (took_as_nothing Comes old new passed.0),
-            c.loop.invariant.1,
-            (
-              steps ++ None ∷ [],
-              passed_more receives sends rests first last new c.args.post.now c.loop.post c.args.client.now old steps c.loop.invariant.2.1
-                  (bytes, subst (λ r. receives c.loop.post r bytes) (sym passed.1) came, passed.0),
-              w.refused-is ∙ w.saturating_add-refused.ensures ∙ counts.0,
-              w.lost-is ∙ counts.1,
-            ),
-          )
+      | in-NoMessage w ↦ Unit
+      | in-Refused w ↦ Unit
     ]
 
 pub overflow_sub-result : goal.overflow_sub-result
@@ -71,4 +67,5 @@ returns-clause-served g c =
       | in-None w ↦ absurd (cc (subst IsSome w.in-None.is c.next.ensures.steps))
       | in-Some+in_default w ↦ subst (g.P.Post.rests c.loop.post) (sym w.post-is) (w.in_default.ensures.ended refl)
     ] in
-    (c.loop.invariant.2.0, c.loop.post, c.loop.invariant.2.1, ends, c.loop.invariant.2.2, c.loop.invariant.2.3)
+    let told = c.loop.invariant.2 in
+    (told.0, c.loop.post, told.1, ends, told.2, told.3, told.4, told.5)
