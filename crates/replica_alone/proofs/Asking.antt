@@ -9,12 +9,11 @@ use Rattle.prefix_digest.specs.Page.{digest_at}
 use Rattle.sync_model.specs.Differ.{Held}
 use Rattle.sync_model.specs.Fetch.{Fetch, is_digest, within, take_opening, take_page}
 use Rattle.sync_model.specs.Fetch as fetch
-use Rattle.sync_model.specs.Laws.{NoClash, Fetched}
+use Rattle.sync_model.specs.Laws.{Fetched}
 use Rattle.sync_model.proofs.Lawful.{map_lawful}
-use Rattle.replica_model.specs.Alone.{Deed, Comes, Befalls, RunsAlone}
 use Rattle.replica_model.specs.Delivery.{Sent, Done, Turn, turn, ignored, is_complete, asks_of, asks_for, child_prefixes, went_on, opening_taken, page_taken}
 use Rattle.replica_model.specs.Delivery.{took_first, took_further, took_opening, took_page, taken, delivered}
-use Rattle.replica_model.specs.Differing.{AreChildren, asks_at}
+use Rattle.replica_model.specs.Differing.{asks_at}
 use Rattle.replica_model.specs.Mail.{Mail, Opening, Ask, Page, is_for}
 use Rattle.replica_model.specs.Replica.{Replica, Open, Accepted, open_at}
 use Rattle.replica_model.specs.SessionsAlone.{TookOpening}

@@ -1,5 +1,5 @@
 -- Deeds by the steps that they make, and what leaves the world as it is.
-use Rattle.std.proofs.Common.{◌≡◌, ◌≢◌, ℕ, ◌==◌, List, [], ◌∷◌, ◌++◌, cond, refl, sym, ap, ◌∙◌, subst}
+use Rattle.std.proofs.Common.{◌≡◌, ℕ, ◌==◌, List, [], cond, refl, sym, ap, ◌∙◌}
 use Rattle.std.proofs.lemmas.List.{append-nil}
 use Rattle.prefix_digest.specs.MapOf.{IsMapOf}
 use Rattle.sync_model.specs.Differ.{Held}

@@ -2,7 +2,6 @@
 use Rattle.std.proofs.Common.{◌≡◌, ◌⊎◌, inl, inr, ℕ, List, [], ◌∷◌, ◌++◌, map, Some, None, refl, sym, ap, ◌∙◌, subst, append_assoc, eq-eqb}
 use Rattle.std.specs.Prelude.{Contains, Bool}
 use Rattle.dots.specs.Dot.{DotValue}
-use Rattle.op_model.specs.Operation.{Operation}
 use Rattle.op_model.proofs.Members.{nothing_in}
 use Rattle.wire_form.specs.Page.{PageValue}
 use Rattle.wire_form.specs.Session.{SessionValue}

@@ -30,7 +30,7 @@ use Rattle.sync_model.proofs.Members.{In}
 use Rattle.wire_form.specs.Session.{SessionValue}
 use Rattle.replica_model.specs.Alone.{Deed, Calls, Comes, Befalls, RunsAlone}
 use Rattle.replica_model.specs.Delivery.{Turn, is_complete, delivered}
-use Rattle.replica_model.specs.Mail.{Mail, Delta, Opening}
+use Rattle.replica_model.specs.Mail.{Mail, Opening}
 use Rattle.replica_model.specs.Replica.{Replica, Open, Accepted, open_at, open_numbered, makes}
 use Rattle.replica_model.specs.SessionsAlone.{TookOpening}
 use Rattle.replica_model.specs.Step.{Call, Put, Remove, RemoveField, Clear, Flush, Ask, Retry, Abandon, Restart, Answer, Abandons, IsCall}

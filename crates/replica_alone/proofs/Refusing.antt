@@ -1,5 +1,5 @@
 -- What an open session of a replica by itself does not take.
-use Rattle.std.proofs.Common.{◌≡◌, ℕ, List, [], ◌∷◌, ◌++◌, map, Bool, true, false, Option, Some, None, cond, refl, sym, ap, ◌∙◌, eq-eqb}
+use Rattle.std.proofs.Common.{◌≡◌, ℕ, List, [], ◌∷◌, Bool, true, false, Option, Some, None, cond, refl, sym, ap, ◌∙◌, eq-eqb}
 use Rattle.std.specs.Prelude.{◌&&◌}
 use Rattle.std.specs.Str.{bytes_eq}
 use Rattle.std.specs.FinMap as finite
@@ -19,9 +19,9 @@ use Rattle.sync_model.proofs.Lawful.{map_lawful}
 use Rattle.replica_model.specs.Delivery.{Mismatch, Turn, turn, page_taken, took_further, took_page, delivered}
 use Rattle.replica_model.specs.Laws.{IsPageOf}
 use Rattle.replica_model.specs.Mail.{Page}
-use Rattle.replica_model.specs.Replica.{Open, Accepted, open_at}
+use Rattle.replica_model.specs.Replica.{Open, Accepted}
 use Rattle.replica_model.specs.Step.{Came}
-use Rattle.replica_model.specs.World.{World, taking_of, takes, goes}
+use Rattle.replica_model.specs.World.{taking_of, takes, goes}
 use Rattle.replica_model.proofs.Found.{found_open}
 use Rattle.replica_model.proofs.SessionsAlone.{tied}
 use Rattle.replica_model.proofs.Taking.{for_it}

@@ -1,6 +1,6 @@
 -- The headline of a replica by itself, where only what is taken says what it stands for: what is not taken changes nothing, and so the deeds without it lead
 -- to the same world.
-use Rattle.std.proofs.Common.{◌≡◌, ◌≢◌, ◌⊎◌, inl, inr, ℕ, List, [], ◌∷◌, ◌++◌, Bool, true, false, cond, refl, sym, ap, ◌∙◌, subst}
+use Rattle.std.proofs.Common.{◌≡◌, ℕ, List, [], ◌∷◌, ◌++◌, true, false, cond, refl, sym, ap, ◌∙◌, subst}
 use Rattle.op_model.specs.Operation.{Operation, NoReuse}
 use Rattle.wire_form.specs.Session.{SessionValue}
 use Rattle.sync_model.specs.Differ.{Held}
@@ -103,7 +103,7 @@ module _ (hash_of : List ℕ → ℕ) (name : ℕ) where
     deeds : List Deed
     runs : RunsAlone hash_of name w deeds v
     says : AllSay hash_of deeds
-    brings : brought deeds ≡ came
+    brought_is : brought deeds ≡ came
 
   without_comes : (w u v : World) (mail : Mail) (of : Snapshot) (answer : Answer) (came : List Operation) → Befalls hash_of name w (Comes mail of) answer u
       → (is_taken answer ≡ true → Says hash_of mail of) → Without u v came → Without w v (cond (is_taken answer) (brings mail of) [] ++ came)
@@ -116,7 +116,7 @@ module _ (hash_of : List ℕ → ℕ) (name : ℕ) where
             deeds = Comes mail (stands_for mail of) ∷ rest.deeds;
             runs = (answer, u, befalls_that hash_of name w u mail of answer befalls, rest.runs);
             says = (says_that hash_of mail of (says is), rest.says);
-            brings = ap (λ S. S ++ brought rest.deeds) (brings_that hash_of mail of) ∙ ap (λ S. brings mail of ++ S) rest.brings
+            brought_is = ap (λ S. S ++ brought rest.deeds) (brings_that hash_of mail of) ∙ ap (λ S. brings mail of ++ S) rest.brought_is
                 ∙ ap (λ b. cond b (brings mail of) [] ++ came) (sym is);
           }
 
@@ -127,7 +127,7 @@ module _ (hash_of : List ℕ → ℕ) (name : ℕ) where
             deeds = rest.deeds;
             runs = subst (λ x. RunsAlone hash_of name x rest.deeds v) same rest.runs;
             says = rest.says;
-            brings = rest.brings ∙ ap (λ b. cond b (brings mail of) [] ++ came) (sym is);
+            brought_is = rest.brought_is ∙ ap (λ b. cond b (brings mail of) [] ++ came) (sym is);
           }
 
       -- or it is a gone, which stands for nothing
@@ -139,7 +139,7 @@ module _ (hash_of : List ℕ → ℕ) (name : ℕ) where
             deeds = Comes (Gone s) no_snapshot ∷ rest.deeds;
             runs = (answer, u, here, rest.runs);
             says = (tt, rest.says);
-            brings = rest.brings ∙ ap (λ b. cond b (brings mail of) [] ++ came) (sym is);
+            brought_is = rest.brought_is ∙ ap (λ b. cond b (brings mail of) [] ++ came) (sym is);
           }
 
       by : CameNow hash_of name w mail of answer u → Without w v (cond (is_taken answer) (brings mail of) [] ++ came)
@@ -163,14 +163,14 @@ module _ (hash_of : List ℕ → ℕ) (name : ℕ) where
 
   without : (deeds : List Deed) (w v : World) (runs : RunsAlone hash_of name w deeds v) → TakenSay hash_of name deeds w v runs
       → Without w v (brought_taken hash_of name deeds w v runs)
-  without [] w v runs says = record { deeds = []; runs = runs; says = tt; brings = refl }
+  without [] w v runs says = record { deeds = []; runs = runs; says = tt; brought_is = refl }
   without (Calls c ∷ deeds) w v (answer, u, befalls, rest) says =
       let more = without deeds u v rest says in
-      record { deeds = Calls c ∷ more.deeds; runs = (answer, u, befalls, more.runs); says = more.says; brings = more.brings }
+      record { deeds = Calls c ∷ more.deeds; runs = (answer, u, befalls, more.runs); says = more.says; brought_is = more.brought_is }
   without (Comes mail of ∷ deeds) w v (answer, u, befalls, rest) (says, all) =
       without_comes w u v mail of answer (brought_taken hash_of name deeds u v rest) befalls says (without deeds u v rest all)
 
 pub headline_taken_alone : HeadlineTakenAlone
 headline_taken_alone hash_of name deeds w runs says once clean =
     let less = without hash_of name deeds nothing w runs says in
-    headline_alone hash_of name less.deeds w less.runs less.says (subst (λ S. NoReuse (w.made ++ S)) (sym less.brings) once) clean
+    headline_alone hash_of name less.deeds w less.runs less.says (subst (λ S. NoReuse (w.made ++ S)) (sym less.brought_is) once) clean

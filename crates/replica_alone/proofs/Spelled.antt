@@ -1,6 +1,6 @@
 -- A message that has bytes is finite: a context has finitely many dots, and a store finitely many places.
-use Rattle.std.proofs.Common.{◌≡◌, ◌⊎◌, inl, inr, ℕ, zero, suc, ◌+◌, ◌<◌, ◌≤◌, List, [], ◌∷◌, ◌++◌, map, Bool, true, false, cond, Option, Some, None, refl, sym}
-use Rattle.std.proofs.Common.{◌∙◌, ap, subst, arith, leb, ◌||◌, ◌&&◌, eqb-true}
+use Rattle.std.proofs.Common.{◌≡◌, ◌⊎◌, inl, inr, ℕ, zero, suc, ◌<◌, ◌≤◌, List, [], ◌∷◌, ◌++◌, map, Bool, true, false, cond, Option, Some, None, refl, sym}
+use Rattle.std.proofs.Common.{◌∙◌, subst, arith, leb, ◌||◌, eqb-true}
 use Rattle.std.specs.Prelude.{Contains, unwrap_or}
 use Rattle.std.specs.List.{filter}
 use Rattle.std.specs.Map.{lookup}
@@ -23,10 +23,10 @@ use Rattle.op_model.specs.Place.{Place, place_of}
 use Rattle.op_model.proofs.Dots.{in_has, from_has}
 use Rattle.op_model.proofs.Members.{at_head, in_tail, at_same, in_map, in_filter, from_filter}
 use Rattle.op_model.proofs.SameSets.{both_ways}
-use Rattle.sync_model.proofs.Members.{In, Contains-In, In-Contains}
-use Rattle.wire_form.specs.Message.{MessageValue, Delta, Hello, Opening, Ask, Page, Gone, Spells}
+use Rattle.sync_model.proofs.Members.{In, Contains-In}
+use Rattle.wire_form.specs.Message.{Delta, Hello, Opening, Ask, Page, Gone}
 use Rattle.replica_model.proofs.Built.{some_passes}
-use Rattle.replica_alone.specs.Finite.{KnowsFew, IsFiniteState, SpelledIsFinite}
+use Rattle.replica_alone.specs.Finite.{KnowsFew, SpelledIsFinite}
 
 -- ---- a test that passes at dots of some list alone
 

@@ -1,5 +1,5 @@
 -- A replica by itself has its limits, and each call of it and each delivery is carried out or refused. Of this project.
-use Rattle.std.specs.Prelude.{◌≡◌, ◌⊎◌, ℕ, List, [], ◌∷◌, Bool, Option, Some}
+use Rattle.std.specs.Prelude.{◌≡◌, ◌⊎◌, ℕ, List, [], ◌∷◌, Bool, Some}
 use Rattle.std.specs.List.{Contains}
 use Rattle.dots.specs.Dot.{DotValue}
 use Rattle.dots.specs.declared.dot.Dot.{Dot}

@@ -1,8 +1,7 @@
 -- The headline of a replica by itself, to which forged messages come besides: only a message that is taken has to say what it stands for. Of this project.
-use Rattle.std.specs.Prelude.{◌≡◌, ℕ, Bool, true, false, List, [], ◌∷◌, ◌++◌, Option, cond}
-use Rattle.dots.specs.Dot.{DotValue}
+use Rattle.std.specs.Prelude.{◌≡◌, ℕ, Bool, true, false, List, [], ◌∷◌, ◌++◌, cond}
 use Rattle.op_model.specs.Operation.{Operation, NoReuse}
-use Rattle.replica_model.specs.Alone.{Deed, Calls, Comes, Says, Befalls, RunsAlone, IsMeantAlone}
+use Rattle.replica_model.specs.Alone.{Deed, Calls, Comes, Says, RunsAlone, IsMeantAlone}
 use Rattle.replica_model.specs.Delivery.{Joined, Sent, Done}
 use Rattle.replica_model.specs.Mail.{Mail, Delta, Opening}
 use Rattle.replica_model.specs.Step.{Answer, Came}
