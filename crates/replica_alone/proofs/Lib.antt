@@ -1,0 +1,12 @@
+pub mod Deeds
+pub mod One
+pub mod Limits
+pub mod Kept
+pub mod Children
+pub mod Asking
+pub mod Taking
+pub mod Refusing
+pub mod Living
+pub mod Befalling
+pub mod Said
+pub mod Spelled

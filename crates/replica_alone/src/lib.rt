@@ -1,0 +1,21 @@
+// The laws of a replica by itself, to which messages come from anywhere: what the laws of worlds say of its sessions, its snapshots and its limits holds
+// of it too. No product code.
+// Offered to the crates above: that these laws hold.
+#![tactic(auto)]
+
+mod headline;
+mod sessions;
+mod snapshots;
+mod standing;
+
+pub use headline::what_a_replica_alone_does_not_take_may_say_anything;
+pub use sessions::{
+    sessions_of_a_replica_alone_ask_for_what_differs,
+    sessions_of_a_replica_alone_take_no_other_pages,
+    sessions_of_a_replica_alone_take_what_they_wait_for,
+};
+pub use snapshots::snapshots_of_a_replica_alone_are_what_it_was;
+pub use standing::{
+    deeds_of_a_replica_alone_are_one, each_deed_befalls_or_is_refused,
+    messages_with_bytes_are_finite, replicas_alone_stay_within_limits,
+};
