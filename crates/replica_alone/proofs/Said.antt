@@ -99,11 +99,11 @@ module _ (hash_of : List ℕ → ℕ) where
 -- ---- the deeds without what was not taken
 
 module _ (hash_of : List ℕ → ℕ) (name : ℕ) where
-  record Without (w v : World) (came : List Operation) : Type 0 where
-    deeds : List Deed
-    runs : RunsAlone hash_of name w deeds v
-    says : AllSay hash_of deeds
-    brought_is : brought deeds ≡ came
+  pub record Without (w v : World) (came : List Operation) : Type 0 where
+    pub deeds : List Deed
+    pub runs : RunsAlone hash_of name w deeds v
+    pub says : AllSay hash_of deeds
+    pub brought_is : brought deeds ≡ came
 
   without_comes : (w u v : World) (mail : Mail) (of : Snapshot) (answer : Answer) (came : List Operation) → Befalls hash_of name w (Comes mail of) answer u
       → (is_taken answer ≡ true → Says hash_of mail of) → Without u v came → Without w v (cond (is_taken answer) (brings mail of) [] ++ came)
@@ -161,7 +161,7 @@ module _ (hash_of : List ℕ → ℕ) (name : ℕ) where
           each Mismatch e l = left (ap is_taken e) (u_is Mismatch l (mismatch_stays name (w.replica name) mail of w))
           each Ended e (s, is) = gone s is (ap is_taken e)
 
-  without : (deeds : List Deed) (w v : World) (runs : RunsAlone hash_of name w deeds v) → TakenSay hash_of name deeds w v runs
+  pub without : (deeds : List Deed) (w v : World) (runs : RunsAlone hash_of name w deeds v) → TakenSay hash_of name deeds w v runs
       → Without w v (brought_taken hash_of name deeds w v runs)
   without [] w v runs says = record { deeds = []; runs = runs; says = tt; brought_is = refl }
   without (Calls c ∷ deeds) w v (answer, u, befalls, rest) says =

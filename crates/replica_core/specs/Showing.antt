@@ -9,7 +9,8 @@ use Rattle.prefix_digest.specs.MapOf.{IsMapOf, root_digest}
 use Rattle.prefix_digest.specs.Page.{digest_at}
 use Rattle.sync_model.specs.Differ.{Held}
 use Rattle.replica_core.specs.Reading.{Lists}
-use Rattle.replica_model.specs.Alone.{Deed, RunsAlone, AllSay, brought}
+use Rattle.replica_alone.specs.Said.{TakenSay, brought_taken}
+use Rattle.replica_model.specs.Alone.{Deed, RunsAlone}
 use Rattle.replica_model.specs.World.{World, nothing, Unclashed}
 
 -- what is read off this state is what these operations show: the values of each place and of each key over its fields, the fields of each key, the keys and their number,
@@ -23,8 +24,9 @@ pub record ShowsOperations (hash_of : List ℕ → ℕ) (live : MapState) (S : L
   pub known : live.has ≡ has (known S)
   pub digest : (map : Held) → IsMapOf map live → digest_at hash_of map [] ≡ root_digest hash_of S
 
--- of one replica by itself, to which messages come that say what they stand for: unless a dot was used twice by these and by what it made, or
--- pages or values that one of its sessions met clash
+-- of one replica by itself, to which messages come of which each that is taken says what it stands for: unless a dot was used twice by these and by
+-- what it made, or pages or values that one of its sessions met clash
 abbrev pub ShowsAlone : Type 0
-ShowsAlone = (hash_of : List ℕ → ℕ) (name : ℕ) (deeds : List Deed) (w : World) → RunsAlone hash_of name nothing deeds w → AllSay hash_of deeds
-    → NoReuse (w.made ++ brought deeds) → Unclashed hash_of w → ShowsOperations hash_of (w.replica name).live (w.seen name)
+ShowsAlone = (hash_of : List ℕ → ℕ) (name : ℕ) (deeds : List Deed) (w : World) (runs : RunsAlone hash_of name nothing deeds w)
+    → TakenSay hash_of name deeds nothing w runs → NoReuse (w.made ++ brought_taken hash_of name deeds nothing w runs) → Unclashed hash_of w
+    → ShowsOperations hash_of (w.replica name).live (w.seen name)

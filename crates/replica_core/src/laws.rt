@@ -61,8 +61,8 @@ pub fn what_is_built_is_known()
 {}
 
 /// What is read off a replica by itself, to which messages come from anywhere, is told by what it has seen alone: by what it made and by what
-/// these messages stand for, where each says what it stands for, no dot was used twice by all of these, and no two pages or values that one
-/// of its sessions met have one SHA-256.
+/// the messages stand for that it took, where each of these says what it stands for, no dot was used twice by all of them, and no two pages or
+/// values that one of its sessions met have one SHA-256. What it ignored, and what did not fit, may have said anything.
 pub fn a_replica_alone_shows_what_it_has_seen()
     ensures { ShowsAlone }
 {}
