@@ -2,9 +2,11 @@
 use Rattle.std.proofs.Common.{◌≡◌, ◌⊎◌, inl, inr, ℕ, List, [], ◌∷◌, ◌++◌, map, Some, None, refl, sym, ap, ◌∙◌, subst, append_assoc, eq-eqb}
 use Rattle.std.specs.Prelude.{Contains, Bool}
 use Rattle.dots.specs.Dot.{DotValue}
+use Rattle.op_model.specs.Operation.{Operation}
 use Rattle.op_model.proofs.Members.{nothing_in}
 use Rattle.wire_form.specs.Page.{PageValue}
 use Rattle.wire_form.specs.Session.{SessionValue}
+use Rattle.prefix_digest.specs.MapOf.{IsMapOf}
 use Rattle.prefix_digest.specs.Page.{page_at}
 use Rattle.sync_model.specs.Differ.{Held}
 use Rattle.replica_model.specs.Alone.{Deed, Calls, Comes, Befalls, RunsAlone}
@@ -20,7 +22,7 @@ use Rattle.replica_model.proofs.Found.{found_kept, in_keeping, none_kept, change
 use Rattle.replica_model.proofs.Rows.{snapshot, each_row}
 use Rattle.replica_model.proofs.SessionsAlone.{by_deeds, tied}
 use Rattle.replica_model.proofs.Taking.{for_it}
-use Rattle.replica_alone.specs.Kept.{IsKeptAlone, SnapshotsAreForAlone, TellsPagesAlone}
+use Rattle.replica_alone.specs.Kept.{IsTakenAlone, SnapshotsAreForAlone, TellsPagesAlone}
 use Rattle.replica_alone.proofs.Deeds.{CameNow, called_now, came_now}
 
 -- ---- what a delivery does to what is kept
@@ -121,23 +123,30 @@ kept_stays name Restart w = refl
 
 module _ (hash_of : List ℕ → ℕ) (name : ℕ) where
   abbrev AllKept : List Deed → World → Type 0
-  AllKept deeds w = (k : Kept) → Contains (w.replica name).kept k → IsKeptAlone hash_of name deeds w k
+  AllKept deeds w = (k : Kept) → Contains (w.replica name).kept k → IsTakenAlone hash_of name deeds k.session k.seen (w.kept k.session) k.map k.context
 
-  kept_more : (deeds : List Deed) (d : Deed) (w v : World) (k : Kept) → v.kept k.session ≡ w.kept k.session → IsKeptAlone hash_of name deeds w k
-      → IsKeptAlone hash_of name (deeds ++ d ∷ []) v k
-  kept_more deeds d w v k same t = record {
+  pub taken_more : (deeds : List Deed) (d : Deed) (s : SessionValue) (told : DotValue → Bool) (S : List Operation) (m : Held) (c : DotValue → Bool)
+      → IsTakenAlone hash_of name deeds s told S m c → IsTakenAlone hash_of name (deeds ++ d ∷ []) s told S m c
+  taken_more deeds d s told S m c t = record {
     answerer = t.answerer;
     front = t.front;
     of = t.of;
     later = t.later ++ d ∷ [];
-    split = ap (λ x. x ++ d ∷ []) t.split ∙ append_assoc t.front (Comes (Hello k.session k.seen) t.of ∷ t.later) (d ∷ []);
+    split = ap (λ x. x ++ d ∷ []) t.split ∙ append_assoc t.front (Comes (Hello s told) t.of ∷ t.later) (d ∷ []);
     before = t.before;
     runs = t.runs;
     none_kept = t.none_kept;
-    seen_then = same ∙ t.seen_then;
+    seen_then = t.seen_then;
     map_then = t.map_then;
     known_then = t.known_then;
   }
+
+  kept_more : (deeds : List Deed) (d : Deed) (w v : World) (k : Kept) → v.kept k.session ≡ w.kept k.session
+      → IsTakenAlone hash_of name deeds k.session k.seen (w.kept k.session) k.map k.context
+      → IsTakenAlone hash_of name (deeds ++ d ∷ []) k.session k.seen (v.kept k.session) k.map k.context
+  kept_more deeds d w v k same t =
+      subst (λ S. IsTakenAlone hash_of name (deeds ++ d ∷ []) k.session k.seen S k.map k.context) (sym same)
+      (taken_more deeds d k.session k.seen (w.kept k.session) k.map k.context t)
 
   kept_next : (deeds : List Deed) (w v : World) (d : Deed) (answer : Answer) → RunsAlone hash_of name nothing deeds w → AllKept deeds w
       → Befalls hash_of name w d answer v → AllKept (deeds ++ d ∷ []) v
@@ -148,7 +157,7 @@ module _ (hash_of : List ℕ → ℕ) (name : ℕ) where
       kept_more deeds (Calls c) w v k (ap (λ f. f k.session) same) (all k there)
   kept_next deeds w v (Comes mail of) answer runs all befalls k h = by (came_now hash_of name w v mail of answer befalls)
     where
-      by : CameNow hash_of name w mail of answer v → IsKeptAlone hash_of name (deeds ++ Comes mail of ∷ []) v k
+      by : CameNow hash_of name w mail of answer v → IsTakenAlone hash_of name (deeds ++ Comes mail of ∷ []) k.session k.seen (v.kept k.session) k.map k.context
       by d =
           either (subst (Keeps hash_of name w d.own mail) d.step (delivery_keeps hash_of name w d.own mail) of k
           (subst (λ (x : Replica). Contains x.kept k) d.here h))
@@ -157,7 +166,7 @@ module _ (hash_of : List ℕ → ℕ) (name : ℕ) where
           after = ap (λ (x : World). x.kept k.session) d.after
 
           either : WasKept hash_of name w d.own mail (turn d.new d.outcome d.out) of k ⊎ KeptNow hash_of name w d.own mail (turn d.new d.outcome d.out) of k
-              → IsKeptAlone hash_of name (deeds ++ Comes mail of ∷ []) v k
+              → IsTakenAlone hash_of name (deeds ++ Comes mail of ∷ []) k.session k.seen (v.kept k.session) k.map k.context
           either (inl was) = kept_more deeds (Comes mail of) w v k (after ∙ was.seen) (all k was.there)
           either (inr now) = record {
             answerer = now.answerer ∙ (tied hash_of name deeds w runs).named;
@@ -169,7 +178,7 @@ module _ (hash_of : List ℕ → ℕ) (name : ℕ) where
             runs = runs;
             none_kept = now.none;
             seen_then = after ∙ now.seen;
-            map_then = subst (λ m. Rattle.prefix_digest.specs.MapOf.IsMapOf m (w.replica name).live) (sym now.map) d.is_own;
+            map_then = subst (λ m. IsMapOf m (w.replica name).live) (sym now.map) d.is_own;
             known_then = now.context;
           }
 

@@ -2,6 +2,7 @@ pub mod Deeds
 pub mod One
 pub mod Limits
 pub mod Kept
+pub mod Openings
 pub mod Children
 pub mod Asking
 pub mod Taking

@@ -2,6 +2,10 @@
 -- to the same world.
 use Rattle.std.proofs.Common.{◌≡◌, ℕ, List, [], ◌∷◌, ◌++◌, true, false, cond, refl, sym, ap, ◌∙◌, subst}
 use Rattle.op_model.specs.Operation.{Operation, NoReuse}
+use Rattle.op_model.proofs.SameSets.{state-same}
+use Rattle.prefix_digest.specs.MapOf.{IsMapOf}
+use Rattle.prefix_digest.specs.Page.{digest_at}
+use Rattle.prefix_digest.proofs.MapsOf.{maps_one}
 use Rattle.wire_form.specs.Session.{SessionValue}
 use Rattle.sync_model.specs.Differ.{Held}
 use Rattle.replica_model.specs.Alone.{Deed, Calls, Comes, brought, Says, AllSay, Befalls, RunsAlone}
@@ -12,7 +16,8 @@ use Rattle.replica_model.specs.Step.{Answer, Came}
 use Rattle.replica_model.specs.World.{World, Snapshot, no_snapshot, nothing, takes, goes}
 use Rattle.replica_model.proofs.Alone.{headline_alone}
 use Rattle.replica_model.proofs.Rows.{each_row}
-use Rattle.replica_alone.specs.Said.{is_taken, brings, TakenSay, brought_taken, HeadlineTakenAlone}
+use Rattle.replica_model.proofs.States.{same_is}
+use Rattle.replica_alone.specs.Said.{is_taken, brings, TakenSay, brought_taken, HeadlineTakenAlone, SameSeenAlone}
 use Rattle.replica_alone.proofs.Deeds.{CameNow, came_now, as_it_was}
 
 -- ---- what a message that is not taken leaves
@@ -174,3 +179,10 @@ pub headline_taken_alone : HeadlineTakenAlone
 headline_taken_alone hash_of name deeds w runs says once clean =
     let less = without hash_of name deeds nothing w runs says in
     headline_alone hash_of name less.deeds w less.runs less.says (subst (λ S. NoReuse (w.made ++ S)) (sym less.brought_is) once) clean
+
+pub same_seen_alone : SameSeenAlone
+same_seen_alone hash_of a b w v m n same =
+    let live : (w.replica a).live ≡ (v.replica b).live = m.live ∙ same_is _ _ (state-same (w.seen a) (v.seen b) same) ∙ sym n.live in
+    let one : (x y : Held) → IsMapOf x (w.replica a).live → IsMapOf y (v.replica b).live → x ≡ y =
+    λ x y f g. maps_one x y (v.replica b).live (subst (IsMapOf x) live f) g in
+    record { live = live; one_map = one; digests = λ x y f g prefix. ap (λ z. digest_at hash_of z prefix) (one x y f g) }

@@ -18,6 +18,7 @@ use Rattle.replica_model.specs.World.{World, nothing}
 
 -- ---- limits
 
+-- at most eight own sessions are open and at most eight snapshots kept, and the sessions are numbered, whatever comes
 abbrev pub WithinLimitsAlone : Type 0
 WithinLimitsAlone = (hash_of : List ℕ → ℕ) (name : ℕ) (deeds : List Deed) (w : World) → RunsAlone hash_of name nothing deeds w
     → IsWithinLimits (w.replica name)
@@ -61,7 +62,8 @@ abbrev pub RefusesDeed : Replica → Deed → Refusal → Type 0
 RefusesDeed r (Calls c) refusal = Refuses r c refusal
 RefusesDeed r (Comes mail of) refusal = ⊥
 
--- After deeds whose messages were finite, forged ones among them, whatever clashed: each call and each delivery befalls the replica, or is refused.
+-- After deeds whose messages were finite, forged ones among them, whatever clashed: each deed befalls the replica, or is refused. The message of that deed
+-- itself may be any.
 abbrev pub BefallOrAreRefused : Type 0
 BefallOrAreRefused = (hash_of : List ℕ → ℕ) (name : ℕ) (deeds : List Deed) (w : World) → RunsAlone hash_of name nothing deeds w → CameFinite deeds
     → (d : Deed) → ((answer : Answer) × (v : World) × Befalls hash_of name w d answer v) ⊎ ((refusal : Refusal) × RefusesDeed (w.replica name) d refusal)

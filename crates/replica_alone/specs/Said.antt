@@ -1,8 +1,9 @@
 -- The headline of a replica by itself, to which forged messages come besides: only a message that is taken has to say what it stands for. Of this project.
 use Rattle.std.specs.Prelude.{◌≡◌, ℕ, Bool, true, false, List, [], ◌∷◌, ◌++◌, cond}
-use Rattle.op_model.specs.Operation.{Operation, NoReuse}
+use Rattle.op_model.specs.Operation.{Operation, NoReuse, IsSameSet}
 use Rattle.replica_model.specs.Alone.{Deed, Calls, Comes, Says, RunsAlone, IsMeantAlone}
 use Rattle.replica_model.specs.Delivery.{Joined, Sent, Done}
+use Rattle.replica_model.specs.Laws.{HoldTheSame}
 use Rattle.replica_model.specs.Mail.{Mail, Delta, Opening}
 use Rattle.replica_model.specs.Step.{Answer, Came}
 use Rattle.replica_model.specs.World.{World, Snapshot, nothing, Unclashed}
@@ -39,3 +40,8 @@ abbrev pub HeadlineTakenAlone : Type 0
 HeadlineTakenAlone = (hash_of : List ℕ → ℕ) (name : ℕ) (deeds : List Deed) (w : World) (runs : RunsAlone hash_of name nothing deeds w)
     → TakenSay hash_of name deeds nothing w runs → NoReuse (w.made ++ brought_taken hash_of name deeds nothing w runs) → Unclashed hash_of w
     → IsMeantAlone hash_of w name
+
+-- replicas by themselves that hold what they have seen, and have seen the same, hold the same
+abbrev pub SameSeenAlone : Type 0
+SameSeenAlone = (hash_of : List ℕ → ℕ) (a b : ℕ) (w v : World) → IsMeantAlone hash_of w a → IsMeantAlone hash_of v b
+    → IsSameSet (w.seen a) (v.seen b) → HoldTheSame hash_of (w.replica a) (v.replica b)

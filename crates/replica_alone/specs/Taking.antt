@@ -1,7 +1,6 @@
 -- What an open session of a replica by itself takes, and what it does not. Of this project.
 --
--- Each is told for any map with the root digest of the opening: a map stands in no message, so the sender may have had another one, but then two pages
--- of theirs have one SHA-256.
+-- No message has the map of its sender. So each law is told for any map with the root digest of the opening.
 use Rattle.std.specs.Prelude.{◌≡◌, ℕ, Bool, List, [], ◌∷◌, Some, None}
 use Rattle.std.specs.FinMap as finite
 use Rattle.dots.specs.Dot.{DotValue}
@@ -29,10 +28,10 @@ TakesOpeningsAlone = (hash_of : List ℕ → ℕ) (name : ℕ) (deeds : List Dee
     → (of : Snapshot) (answer : Answer) → Befalls hash_of name w (Comes (Opening s context (digest_at hash_of theirs [])) of) answer v
     → IsDoneElseSent answer ((p digest : List ℕ) → ¬ Differ hash_of o.own theirs p digest)
 
--- One that accepted an opening takes, at each prefix that it waits for, the page of each map that this opening can be of, with the values that it had not
--- seen: it is answered Done where nothing is waited for after it. And each such map has a page there. An opening can be of a map whose root digest it
--- has and whose dots it knows, where each dot that stands at one place of that map and of the own one has one value there; pages and values that
--- the session itself met do not clash with those of the map.
+-- One that accepted an opening, for each map that this can be the opening of: one with its root digest, whose dots it knows, and where a dot that
+-- stands at one place of that map and of the own one has one value there. Unless pages or values clash of the two maps and of what the session took:
+-- that map has a page at each prefix that the session waits for, and the page, with the values that the session had not seen, is taken, with Done where
+-- nothing is waited for after it.
 abbrev pub TakesPagesAlone : Type 0
 TakesPagesAlone = (hash_of : List ℕ → ℕ) (name : ℕ) (deeds : List Deed) (w : World) → RunsAlone hash_of name nothing deeds w
     → (s : SessionValue) (o : Open) (a : Accepted) → open_at (w.replica name).sessions s ≡ Some o → o.accepted ≡ Some a
@@ -43,8 +42,8 @@ TakesPagesAlone = (hash_of : List ℕ → ℕ) (name : ℕ) (deeds : List Deed) 
     Befalls hash_of name w (Comes (Page s sent) of) answer v
     → IsDoneElseSent answer ((q d : List ℕ) → ¬ Waits hash_of o.own theirs (TakenAt (taking_of sent ∷ w.taken s)) q d))
 
--- Any page but that of such a map at a prefix that an open session waits for is answered Mismatch, and leaves all as it is, unless pages or values clash
--- that the session itself met, with those of this page.
+-- For each map with the root digest of the opening that an open session accepted: any page but that of the map, at a prefix that the session waits for, is
+-- answered Mismatch and leaves all as it is, unless pages or values clash that the session itself met, with those of this page.
 abbrev pub OtherPagesMismatchAlone : Type 0
 OtherPagesMismatchAlone = (hash_of : List ℕ → ℕ) (name : ℕ) (deeds : List Deed) (w v : World) → RunsAlone hash_of name nothing deeds w
     → (s : SessionValue) (o : Open) (a : Accepted) → open_at (w.replica name).sessions s ≡ Some o → o.accepted ≡ Some a

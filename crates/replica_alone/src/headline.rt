@@ -1,5 +1,5 @@
 // What a replica by itself holds, whatever it is told besides.
-ghost use Rattle.replica_alone.specs.Said.{HeadlineTakenAlone};
+ghost use Rattle.replica_alone.specs.Said.{HeadlineTakenAlone, SameSeenAlone};
 
 /// A replica by itself, to which forged messages come besides. Where each message that was taken, by a join, by a session that went on or by one
 /// that ended with all, says what it stands for, no dot was used twice by the deltas and openings among these and by what the replica made, and no two
@@ -8,4 +8,9 @@ ghost use Rattle.replica_alone.specs.Said.{HeadlineTakenAlone};
 /// may have said anything.
 pub fn what_a_replica_alone_does_not_take_may_say_anything()
     ensures { HeadlineTakenAlone }
+{}
+
+/// And replicas by themselves that hold what they have seen hold the same where they have seen the same: one state, one map, and one digest at each prefix.
+pub fn replicas_alone_that_have_seen_the_same_hold_the_same()
+    ensures { SameSeenAlone }
 {}

@@ -8,7 +8,10 @@ mod sessions;
 mod snapshots;
 mod standing;
 
-pub use headline::what_a_replica_alone_does_not_take_may_say_anything;
+pub use headline::{
+    replicas_alone_that_have_seen_the_same_hold_the_same,
+    what_a_replica_alone_does_not_take_may_say_anything,
+};
 pub use sessions::{
     sessions_of_a_replica_alone_ask_for_what_differs,
     sessions_of_a_replica_alone_take_no_other_pages,
