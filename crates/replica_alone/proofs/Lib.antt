@@ -3,7 +3,6 @@ pub mod One
 pub mod Limits
 pub mod Kept
 pub mod Openings
-pub mod Children
 pub mod Asking
 pub mod Taking
 pub mod Refusing

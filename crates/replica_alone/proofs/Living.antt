@@ -1,16 +1,13 @@
 -- The live state of a replica by itself is finite after deeds whose messages were finite, whatever clashed.
-use Rattle.std.proofs.Common.{◌≡◌, ◌⊎◌, inl, inr, ℕ, List, [], ◌∷◌, ◌++◌, Bool, true, false, cond, Option, Some, None, refl, sym, ◌∙◌, ap, subst}
+use Rattle.std.proofs.Common.{◌≡◌, ◌⊎◌, inl, inr, ℕ, List, [], ◌∷◌, ◌++◌, Bool, true, Option, Some, None, refl, sym, ◌∙◌, ap, subst}
 use Rattle.std.specs.Prelude.{IsTrue, is_some, ◌||◌}
-use Rattle.std.specs.Ordering.{eq_by_cmp}
 use Rattle.std.specs.FinMap as finite
 use Rattle.std.specs.FinMap.Entries.{find}
 use Rattle.std.proofs.lemmas.Bool.{or_left, or_right}
-use Rattle.std.proofs.lemmas.Option.{same_Some}
 use Rattle.dots.specs.Bytes.{bytes_cmp}
 use Rattle.dots.specs.Dot.{DotValue}
 use Rattle.dots.specs.declared.dot.Dot.{Dot}
 use Rattle.causal_context.specs.Dots.{dot_cmp}
-use Rattle.causal_context.proofs.Dots.{is_eq-dot_cmp, same_from_test}
 use Rattle.causal_join.specs.OrMap.{ValuesValue, FieldsValue}
 use Rattle.op_model.specs.Meaning.{MapState, greater, state}
 use Rattle.op_model.specs.Made.{erasure}
@@ -26,7 +23,6 @@ use Rattle.sync_model.specs.Laws.{Taking, Fetched}
 use Rattle.sync_model.specs.Opened.{held_in}
 use Rattle.sync_model.proofs.Found.{find_in}
 use Rattle.sync_model.proofs.Held.{values_or_none, there, held_there}
-use Rattle.sync_model.proofs.Members.{In}
 use Rattle.wire_form.specs.Session.{SessionValue}
 use Rattle.replica_model.specs.Alone.{Deed, Calls, Comes, Befalls, RunsAlone}
 use Rattle.replica_model.specs.Delivery.{Turn, is_complete, delivered}
@@ -41,6 +37,7 @@ use Rattle.replica_model.proofs.Finite.{IsFinite, state_finite, from_either, joi
 use Rattle.replica_model.proofs.Found.{found_open}
 use Rattle.replica_model.proofs.Rows.{each_row}
 use Rattle.replica_model.proofs.SessionsAlone.{TiedWorld, by_deeds, tied}
+use Rattle.replica_model.proofs.Standing.{found_dot}
 use Rattle.replica_model.proofs.Unchanged.{unchanged}
 use Rattle.replica_alone.specs.Finite.{KnowsFew, IsFiniteState, IsFiniteMail, CameFinite}
 use Rattle.replica_alone.proofs.Deeds.{called_now, came_now}
@@ -69,15 +66,6 @@ whole_join p q f g = (
     known place dot v (inr e) = or_right (p.has dot) (q.has dot) (g.1 place dot (ap is_some e))
 
 -- ---- what a map holds
-
-found_dot : (vs : ValuesValue) (d : DotValue) (v : List ℕ) → find dot_cmp d vs ≡ Some v → In vs (d, v)
-found_dot [] d v e = absurd cc
-found_dot (x ∷ vs) d v e = step (eq_by_cmp dot_cmp d x.0) refl e (found_dot vs d v)
-  where
-    step : (b : Bool) → eq_by_cmp dot_cmp d x.0 ≡ b → cond b (Some x.1) (find dot_cmp d vs) ≡ Some v → (find dot_cmp d vs ≡ Some v → In vs (d, v))
-        → In (x ∷ vs) (d, v)
-    step true t s further = let dots = same_from_test d x.0 (sym (is_eq-dot_cmp d x.0) ∙ t) in let value = same_Some x.1 v s in inl (λ k. (sym dots k, value k))
-    step false t s further = inr (further s)
 
 module _ (m : Held) (known : DotValue → Bool) (all : EachHeld (λ d name. known d ≡ true) m) where
   -- a dot at which something stands is known

@@ -15,7 +15,7 @@ use Rattle.replica_model.specs.Step.{Call, Put, Remove, RemoveField, Clear, Flus
 use Rattle.replica_model.specs.Step as call
 use Rattle.replica_model.specs.World.{World, Event, Node, At, Deliver, Message, Snapshot, message_at, nothing, calls, takes, learns, keeps, accepts, takes_page}
 use Rattle.replica_model.specs.World.{taking_of, own_of, ends, is_joined, is_sent, is_done, sent_as, goes, is_node, has_peer, Happens, Runs}
-use Rattle.replica_model.specs.Laws.{Leaves, replica_of}
+use Rattle.replica_model.specs.Laws.{replica_of}
 use Rattle.replica_model.specs.Crashing as crashing
 use Rattle.replica_model.specs.Crashing.{System, started, Occurrence, Saving, Passing, Saves, Crashes, put, mail_at, peer_in, nodes_after, Does, Occurs, Goes}
 use Rattle.replica_model.specs.Crashing.{is_lost, unless_lost, left, Shows, CrashesTakeBack}

@@ -219,13 +219,13 @@ module _ (hash_of : List ℕ → ℕ) (own theirs : Held) (seen opened : DotValu
           let h = differ_asked i d (subst (λ r. Differ hash_of own theirs r d) e differ) in
           subst (Contains (map (λ c. t.prefix ++ c.0 ∷ []) asks)) (sym e) (Contains-In _ _ (In-map (λ (c : ℕ × List ℕ). t.prefix ++ c.0 ∷ []) asks (i, d) h))
 
-  children : AreChildren hash_of own theirs t.prefix (map (λ c. t.prefix ++ c.0 ∷ []) (to_ask hash_of own t.prefix (children_of t.page)))
+  pub children : AreChildren hash_of own theirs t.prefix (map (λ c. t.prefix ++ c.0 ∷ []) (to_ask hash_of own t.prefix (children_of t.page)))
   children = record { just = just_children; ascend = asks_ascend hash_of own theirs t.prefix t.page theirs_is }
 
 -- ---- what is sent
 
 -- the asks of a session that goes on
-asks_sent : (stored : SessionValue → List Rattle.op_model.specs.Operation.Operation) (ks : List Rattle.replica_model.specs.Replica.Kept) (s : SessionValue)
+pub asks_sent : (stored : SessionValue → List Rattle.op_model.specs.Operation.Operation) (ks : List Rattle.replica_model.specs.Replica.Kept) (s : SessionValue)
     (prefixes : List (List ℕ)) → map (sent_as [] stored ks) (asks_for s prefixes) ≡ asks_at s prefixes
 asks_sent stored ks s [] = refl
 asks_sent stored ks s (p ∷ prefixes) = ap (λ ms. record { mail = Ask s p; of = no_snapshot } ∷ ms) (asks_sent stored ks s prefixes)
@@ -282,14 +282,14 @@ module _ (hash_of : List ℕ → ℕ) (r : Replica) (o : Open) (context : DotVal
   first_asked root (Some a) is = absurd cc
   first_asked root None is = root_of root is
 
-opening_asked : (hash_of : List ℕ → ℕ) (r : Replica) (s : SessionValue) (context : DotValue → Bool) (root : Option (List ℕ)) (x : Option Open)
+pub opening_asked : (hash_of : List ℕ → ℕ) (r : Replica) (s : SessionValue) (context : DotValue → Bool) (root : Option (List ℕ)) (x : Option Open)
     → ((o : Open) → x ≡ Some o → o.session ≡ s)
     → (took_opening hash_of r context root x).outcome ≡ Sent → (took_opening hash_of r context root x).replies ≡ asks_for s ([] ∷ [])
 opening_asked hash_of r s context root None of is = absurd cc
 opening_asked hash_of r s context root (Some o) of is = first_asked hash_of r o context root o.accepted is ∙ ap (λ t. asks_for t ([] ∷ [])) (of o refl)
 
 -- a message that is not ignored is for the replica
-for_it : (hash_of : List ℕ → ℕ) (own : Held) (r : Replica) (mail : Mail) → (delivered hash_of own r mail).outcome ≡ Sent
+pub for_it : (hash_of : List ℕ → ℕ) (own : Held) (r : Replica) (mail : Mail) → (delivered hash_of own r mail).outcome ≡ Sent
     → delivered hash_of own r mail ≡ taken hash_of own r mail
 for_it hash_of own r mail is = by (is_for r.name mail) refl is
   where
@@ -339,14 +339,14 @@ openings_ask hash_of events w v runs number name m s context root there is_mail 
 
 -- ---- a page
 
-record Went (hash_of : List ℕ → ℕ) (o : Open) (sent : SentValue) (t : Turn) : Type 0 where
-  accepted : Accepted
-  is_accepted : o.accepted ≡ Some accepted
-  after : Fetch
-  took : take_page hash_of o.own o.seen accepted.context accepted.fetch sent.prefix sent.page sent.values ≡ fetch.Took after
-  replies : t.replies ≡ asks_for o.session (child_prefixes hash_of o sent)
+pub record Went (hash_of : List ℕ → ℕ) (o : Open) (sent : SentValue) (t : Turn) : Type 0 where
+  pub accepted : Accepted
+  pub is_accepted : o.accepted ≡ Some accepted
+  pub after : Fetch
+  pub took : take_page hash_of o.own o.seen accepted.context accepted.fetch sent.prefix sent.page sent.values ≡ fetch.Took after
+  pub replies : t.replies ≡ asks_for o.session (child_prefixes hash_of o sent)
 
-page_went : (hash_of : List ℕ → ℕ) (r : Replica) (o : Open) (sent : SentValue) (x : Option Accepted) → o.accepted ≡ x
+pub page_went : (hash_of : List ℕ → ℕ) (r : Replica) (o : Open) (sent : SentValue) (x : Option Accepted) → o.accepted ≡ x
     → (took_further hash_of r o sent x).outcome ≡ Sent → Went hash_of o sent (took_further hash_of r o sent x)
 page_went hash_of r o sent None e is = absurd cc
 page_went hash_of r o sent (Some a) e is = by (take_page hash_of o.own o.seen a.context a.fetch sent.prefix sent.page sent.values) refl is

@@ -71,11 +71,11 @@ counts P over just = (
 
 -- ---- a call is carried out or refused
 
-abbrev Calls : Replica → Call → Type 0
-Calls old c = (new : Replica) × (answer : Answer) × (out : List Mail) × IsCall old c new answer out
+abbrev pub CarriesOut : Replica → Call → Type 0
+CarriesOut old c = (new : Replica) × (answer : Answer) × (out : List Mail) × IsCall old c new answer out
 
-abbrev CallsOrNot : Replica → Call → Type 0
-CallsOrNot old c = Calls old c ⊎ ((refusal : Refusal) × Refuses old c refusal)
+abbrev pub CallsOrNot : Replica → Call → Type 0
+CallsOrNot old c = CarriesOut old c ⊎ ((refusal : Refusal) × Refuses old c refusal)
 
 removal : (P : Dot → Type 0) (old : Replica) (over : List Dot) → ((dot : Dot) → IsTrue (has over dot) ↔ P dot) → (new : Replica) × (answer : Answer)
     × (out : List Mail) × Removes P old new answer out
@@ -114,7 +114,7 @@ module _ (old : Replica) (live : IsFinite old.live) (inside : IsInside old.live)
   ask_or peer (inl few) (inr spent) = inr (NumbersSpent, inr (few, spent, refl))
   ask_or peer (inr full) left = inr (SessionsFull, inl (full, refl))
 
-  flush : (ds : List Dot) → group.dots ≡ ds → Calls old Flush
+  flush : (ds : List Dot) → group.dots ≡ ds → CarriesOut old Flush
   flush [] e = (old, Nothing, [], (refl, inl (λ dot. group.knows dot ∙ ap (λ x. has x dot) e, refl, refl)))
   flush (d ∷ ds) e = (
     flushed old,
@@ -123,7 +123,7 @@ module _ (old : Replica) (live : IsFinite old.live) (inside : IsInside old.live)
     (refl, inr (λ none. false≢true (sym (none d) ∙ group.knows d ∙ ap (λ x. has x d) e ∙ or_left (same_dot d d) (has ds d) (same_dot-self d)), refl, refl)),
   )
 
-  call_or : (c : Call) → CallsOrNot old c
+  pub call_or : (c : Call) → CallsOrNot old c
   call_or (Put place value) = put_or place value (cases_lt (next old.name live.dots).number (2 ^ 64))
   call_or (Remove key) = inl (removal (IsWithin old.live key) old (dots_within old.live live inside key) (dots_at_key old.live live inside key))
   call_or (RemoveField place) = inl (removal (λ dot. IsSome (old.live.at place dot)) old (dots_at old.live live inside place)

@@ -84,7 +84,7 @@ same_limits old new s k o l = record {
   opened = subst (λ x. x < 2 ^ 64) (sym o) l.opened;
 }
 
-delivery_limits : (hash_of : List ℕ → ℕ) (own : Held) (r : Replica) → IsWithinLimits r → (mail : Mail) → IsWithinLimits (delivered hash_of own r mail).new
+pub delivery_limits : (hash_of : List ℕ → ℕ) (own : Held) (r : Replica) → IsWithinLimits r → (mail : Mail) → IsWithinLimits (delivered hash_of own r mail).new
 delivery_limits hash_of own r l = each_row hash_of own r (λ mail t. IsWithinLimits t.new) (record {
   ignoring = λ mail. l;
   mismatch = λ mail. l;
@@ -142,7 +142,7 @@ same_three : (r new : Replica) → IsWithinLimits r → (e : Replica) → new �
     → IsWithinLimits new
 same_three r new l e n s k o = to new e n (same_limits r e s k o l)
 
-call_limits : (r new : Replica) (c : Call) (answer : Answer) (out : List Mail) → IsWithinLimits r → IsCall r c new answer out → IsWithinLimits new
+pub call_limits : (r new : Replica) (c : Call) (answer : Answer) (out : List Mail) → IsWithinLimits r → IsCall r c new answer out → IsWithinLimits new
 call_limits r new (Put place value) answer out l (w, put, lt, n, a, o) = same_three r new l _ n refl refl refl
 call_limits r new (Remove key) answer out l (over, just, n, a, o) = same_three r new l _ n refl refl refl
 call_limits r new (RemoveField place) answer out l (over, just, n, a, o) = same_three r new l _ n refl refl refl

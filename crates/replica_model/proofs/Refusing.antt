@@ -91,7 +91,7 @@ taken_is_page hash_of o a theirs ts sent f lawful no_clash got e =
     let law = fetching hash_of o.own theirs o.seen a.context takings f lawful no_clash (a.fetch, got, e) in
     law.theirs_taken (taking_of sent) (at_head (taking_of sent) ts)
 
-mismatches : (hash_of : List ℕ → ℕ) (o : Open) (a : Accepted) (theirs : Held) (ts : List Taking) (sent : SentValue) (digest : List ℕ)
+pub mismatches : (hash_of : List ℕ → ℕ) (o : Open) (a : Accepted) (theirs : Held) (ts : List Taking) (sent : SentValue) (digest : List ℕ)
     → finite.get a.fetch.waiting sent.prefix ≡ Some digest → IsLawfulMap o.own
     → NoClash hash_of o.own theirs (taking_of sent ∷ ts) → Fetched hash_of o.own o.seen a.context (digest_at hash_of theirs []) ts a.fetch
     → ¬ IsPageOf o.seen hash_of theirs sent

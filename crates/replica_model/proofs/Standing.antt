@@ -134,7 +134,7 @@ write_of puts w there = record {
 
 -- ---- what a map holds
 
-found_dot : (vs : ValuesValue) (d : DotValue) (v : List ℕ) → find dot_cmp d vs ≡ Some v → In vs (d, v)
+pub found_dot : (vs : ValuesValue) (d : DotValue) (v : List ℕ) → find dot_cmp d vs ≡ Some v → In vs (d, v)
 found_dot [] d v e = absurd cc
 found_dot (x ∷ vs) d v e = step (eq_by_cmp dot_cmp d x.0) refl e (found_dot vs d v)
   where

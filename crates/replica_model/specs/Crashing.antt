@@ -3,7 +3,7 @@
 --
 -- A crash takes away what its replica did since it was last saved, and that never happened: what runs is as after the events that are left, and so
 -- all that holds of worlds over all lists of events holds of it.
-use Rattle.std.specs.Prelude.{◌≡◌, ◌≢◌, ◌||◌, ℕ, zero, suc, Bool, true, false, ◌==◌, List, [], ◌∷◌, ◌++◌, map, Option, Some, None, cond}
+use Rattle.std.specs.Prelude.{◌≡◌, ◌≢◌, ℕ, zero, suc, Bool, true, false, ◌==◌, List, [], ◌∷◌, ◌++◌, map, Option, Some, None, cond}
 use Rattle.std.specs.List.{slice_get}
 use Rattle.op_model.specs.World.{is_among}
 use Rattle.replica_model.specs.Mail.{Mail}
