@@ -1,7 +1,7 @@
 -- What goes out by a post, one reply and one message after the other.
 use Rattle.std.proofs.Common.{◌≡◌, ◌⊎◌, ℕ, ◌+◌, ◌≤◌, min, List, [], ◌∷◌, ◌++◌, length, refl, sym, ap, subst, ◌∙◌, inl, inr, ⊎_elim, arith}
 use Rattle.node_threads.specs.declared.node_event.NodeEvent.{NodeEvent}
-use Rattle.node_threads.specs.Serving.{AreSent, Goes, IsPassed, IsSent, IsTaken, Serves, Turn, NoMessage, Refused, Taken, total}
+use Rattle.node_threads.specs.Serving.{AreSent, IsPassed, IsSent, IsTaken, Serves, Turn, NoMessage, Refused, Taken, total}
 use Rattle.replica_model.specs.Replica.{Replica}
 use Rattle.shared_object.specs.History.{Seat}
 use Rattle.wire_form.specs.Message.{SpellsNone, message_of}
@@ -12,31 +12,29 @@ module _ {P A : Type 0} (Receives : P → P → List ℕ → Type 0) (Sends : P 
   module _ (q r : P) (reply : Message A) where
     pub sent_more : (p : P) (replies : List (Message A)) (unsent lost : ℕ) → AreSent Receives Sends Rests p q replies unsent lost
         → IsSent Sends q r (message_of reply) → AreSent Receives Sends Rests p r (replies ++ reply ∷ []) unsent lost
-    sent_more p [] unsent lost h sent = (r, 0, 0, inl (subst (λ x. IsSent Sends x r (message_of reply)) h.0 sent, h.1, h.2), (refl, refl, refl))
-    sent_more p (x ∷ xs) unsent lost h sent = (h.0, h.1, h.2, h.3, sent_more h.0 xs h.1 h.2 h.4 sent)
+    sent_more p [] unsent lost h sent = (r, (0, 0), inl (subst (λ x. IsSent Sends x r (message_of reply)) h.0 sent, h.1, h.2), (refl, refl, refl))
+    sent_more p (x ∷ xs) unsent lost h sent = (h.0, h.1, h.2, sent_more h.0 xs h.1.0 h.1.1 h.3 sent)
 
     pub unsent_more : (p : P) (replies : List (Message A)) (unsent lost : ℕ) → AreSent Receives Sends Rests p q replies unsent lost
         → Rests q r → AreSent Receives Sends Rests p r (replies ++ reply ∷ []) (unsent + 1) lost
-    unsent_more p [] unsent lost h rests = (r, 0, 0, inr (inl (subst (λ x. Rests x r) h.0 rests, omega (arith, h.1), h.2)), (refl, refl, refl))
+    unsent_more p [] unsent lost h rests = (r, (0, 0), inr (inl (subst (λ x. Rests x r) h.0 rests, omega (arith, h.1), h.2)), (refl, refl, refl))
     unsent_more p (x ∷ xs) unsent lost h rests = (
       h.0,
-      h.1 + 1,
-      h.2,
+      (h.1.0 + 1, h.1.1),
       ⊎_elim (λ s. inl (s.0, omega (arith, s.1), s.2))
-          (⊎_elim (λ s. inr (inl (s.0, omega (arith, s.1), s.2))) (λ s. inr (inr (s.0, omega (arith, s.1), s.2)))) h.3,
-      unsent_more h.0 xs h.1 h.2 h.4 rests,
+          (⊎_elim (λ s. inr (inl (s.0, omega (arith, s.1), s.2))) (λ s. inr (inr (s.0, omega (arith, s.1), s.2)))) h.2,
+      unsent_more h.0 xs h.1.0 h.1.1 h.3 rests,
     )
 
     pub lost_more : (p : P) (replies : List (Message A)) (unsent lost : ℕ) → AreSent Receives Sends Rests p q replies unsent lost
         → r ≡ q → AreSent Receives Sends Rests p r (replies ++ reply ∷ []) unsent (lost + 1)
-    lost_more p [] unsent lost h same = (r, 0, 0, inr (inr (same ∙ h.0, h.1, omega (arith, h.2))), (refl, refl, refl))
+    lost_more p [] unsent lost h same = (r, (0, 0), inr (inr (same ∙ h.0, h.1, omega (arith, h.2))), (refl, refl, refl))
     lost_more p (x ∷ xs) unsent lost h same = (
       h.0,
-      h.1,
-      h.2 + 1,
+      (h.1.0, h.1.1 + 1),
       ⊎_elim (λ s. inl (s.0, s.1, omega (arith, s.2)))
-          (⊎_elim (λ s. inr (inl (s.0, s.1, omega (arith, s.2)))) (λ s. inr (inr (s.0, s.1, omega (arith, s.2))))) h.3,
-      lost_more h.0 xs h.1 h.2 h.4 same,
+          (⊎_elim (λ s. inr (inl (s.0, s.1, omega (arith, s.2)))) (λ s. inr (inr (s.0, s.1, omega (arith, s.2))))) h.2,
+      lost_more h.0 xs h.1.0 h.1.1 h.3 same,
     )
 
   -- no more stay behind than there are
@@ -44,8 +42,8 @@ module _ {P A : Type 0} (Receives : P → P → List ℕ → Type 0) (Sends : P 
       → unsent + lost ≤ length replies
   few_missed p q [] unsent lost h = omega (arith, h.1, h.2)
   few_missed p q (x ∷ xs) unsent lost h =
-      let rest : h.1 + h.2 ≤ length xs = few_missed h.0 q xs h.1 h.2 h.4 in
-      ⊎_elim (λ s. omega (arith, rest, s.1, s.2)) (⊎_elim (λ s. omega (arith, rest, s.1, s.2)) (λ s. omega (arith, rest, s.1, s.2))) h.3
+      let rest : h.1.0 + h.1.1 ≤ length xs = few_missed h.0 q xs h.1.0 h.1.1 h.3 in
+      ⊎_elim (λ s. omega (arith, rest, s.1, s.2)) (⊎_elim (λ s. omega (arith, rest, s.1, s.2)) (λ s. omega (arith, rest, s.1, s.2))) h.2
 
   module _ (first : Replica) (r : P) (new : Seat (NodeEvent A)) where
     pub no_message_more : (p q : P) (old seat : Seat (NodeEvent A)) (steps : List Turn) → Serves Receives Sends Rests first p q old seat steps

@@ -22,9 +22,9 @@ IsRetried {A} first number old new answer replies =
 module _ {P A : Type 0} (Receives : P → P → List ℕ → Type 0) (Sends : P → P → ℕ → List ℕ → Type 0) (Rests : P → P → Type 0) where
   -- and these messages were sent, but for so many that the post did not send, and so many for which there was no memory
   abbrev pub IsSentAgain : Replica → ℕ → P → P → Seat (NodeEvent A) → Seat (NodeEvent A) → ℕ → ℕ → Type 0
-  IsSentAgain first number p q old new unsent lost =
+  IsSentAgain first number p q old new n m =
       (answer : Answer) × (replies : List (Message A)) × IsRetried first number old new answer replies
-      × AreSent Receives Sends Rests p q replies unsent lost
+      × AreSent Receives Sends Rests p q replies n m
 
   -- one after the other, the synchronisations of these numbers were refused to send again, or did so, but for so many messages
   abbrev pub AreSentAgain : Replica → P → P → Seat (NodeEvent A) → Seat (NodeEvent A) → List ℕ → List Turn → Type 0
@@ -34,5 +34,5 @@ module _ {P A : Type 0} (Receives : P → P → List ℕ → Type 0) (Sends : P 
   AreSentAgain first p q old new (number ∷ numbers) (NoMessage ∷ more) = ⊥
   AreSentAgain first p q old new (number ∷ numbers) (Refused ∷ more) =
       (seat : Seat (NodeEvent A)) × HasNotCalled (λ e. e.place) old seat × AreSentAgain first p q seat new numbers more
-  AreSentAgain first p q old new (number ∷ numbers) (Taken unsent lost ∷ more) =
-      (mid : P) × (seat : Seat (NodeEvent A)) × IsSentAgain first number p mid old seat unsent lost × AreSentAgain first mid q seat new numbers more
+  AreSentAgain first p q old new (number ∷ numbers) (Taken n m ∷ more) =
+      (mid : P) × (seat : Seat (NodeEvent A)) × IsSentAgain first number p mid old seat n m × AreSentAgain first mid q seat new numbers more

@@ -46,6 +46,13 @@ CanCome {P} Receives bytes = (p : P) × (q : P) × Receives p q bytes
 abbrev pub IsSent : {P : Type 0} → (P → P → ℕ → List ℕ → Type 0) → P → P → MessageValue → Type 0
 IsSent Sends p q reply = (name : ℕ) × (bytes : List ℕ) × (addressee_of reply ≡ Some name) × Spells bytes reply × Sends p q name bytes
 
+-- A reply went out by a post, or the post did not send it, or there was no memory for it, and nothing became of the post: the two numbers are those
+-- before but for one more.
+abbrev pub Goes : {P : Type 0} → (P → P → ℕ → List ℕ → Type 0) → (P → P → Type 0) → P → P → MessageValue → ℕ × ℕ → ℕ × ℕ → Type 0
+Goes Sends Rests p q reply before after =
+    (IsSent Sends p q reply × (after.0 ≡ before.0) × (after.1 ≡ before.1)) ⊎ ((Rests p q × (after.0 ≡ 1 + before.0) × (after.1 ≡ before.1))
+    ⊎ ((q ≡ p) × (after.0 ≡ before.0) × (after.1 ≡ 1 + before.1)))
+
 -- What became of bytes that came in: no message spells them, a message was refused, or it was taken in, and of the replies to it so many were not
 -- sent by the post, and for so many there was no memory.
 pub data Turn : Type 0 where
@@ -53,22 +60,22 @@ pub data Turn : Type 0 where
   Taken : ℕ → ℕ → Turn
 
 -- of a turn: whether it is of no message, or of one that was refused, how many of its replies were not sent, and how many are lost for want of memory
-pub not_messages : Turn → ℕ
+abbrev pub not_messages : Turn → ℕ
 not_messages NoMessage = 1
 not_messages Refused = 0
 not_messages (Taken n m) = 0
 
-pub refused : Turn → ℕ
+abbrev pub refused : Turn → ℕ
 refused NoMessage = 0
 refused Refused = 1
 refused (Taken n m) = 0
 
-pub unsent : Turn → ℕ
+abbrev pub unsent : Turn → ℕ
 unsent NoMessage = 0
 unsent Refused = 0
 unsent (Taken n m) = n
 
-pub lost : Turn → ℕ
+abbrev pub lost : Turn → ℕ
 lost NoMessage = 0
 lost Refused = 0
 lost (Taken n m) = m
@@ -80,26 +87,20 @@ total of (turn ∷ turns) = of turn + total of turns
 
 -- A post whose states follow on one another so: when bytes come in, when they are sent to the replica of a name, and when neither is so.
 module _ {P A : Type 0} (Receives : P → P → List ℕ → Type 0) (Sends : P → P → ℕ → List ℕ → Type 0) (Rests : P → P → Type 0) where
-  -- A reply went out by it, or the post did not send it, or there was no memory for it, and nothing became of the post: these numbers grow so.
-  abbrev pub Goes : P → P → MessageValue → ℕ → ℕ → ℕ → ℕ → Type 0
-  Goes p q reply unsent lost unsent' lost' =
-      (IsSent Sends p q reply × (unsent' ≡ unsent) × (lost' ≡ lost)) ⊎ ((Rests p q × (unsent' ≡ 1 + unsent) × (lost' ≡ lost))
-      ⊎ ((q ≡ p) × (unsent' ≡ unsent) × (lost' ≡ 1 + lost)))
-
   -- these replies went out by it, in this order, but for so many that the post did not send, and so many for which there was no memory
   abbrev pub AreSent : P → P → List (Message A) → ℕ → ℕ → Type 0
-  AreSent p q [] unsent lost = (q ≡ p) × (unsent ≡ 0) × (lost ≡ 0)
-  AreSent p q (reply ∷ replies) unsent lost =
-      (mid : P) × (unsent' : ℕ) × (lost' : ℕ) × Goes p mid (message_of reply) unsent' lost' unsent lost × AreSent mid q replies unsent' lost'
+  AreSent p q [] n m = (q ≡ p) × (n ≡ 0) × (m ≡ 0)
+  AreSent p q (reply ∷ replies) n m =
+      (mid : P) × (others : ℕ × ℕ) × Goes Sends Rests p mid (message_of reply) others (n, m) × AreSent mid q replies others.0 others.1
 
   -- the client took in what these bytes spell, and then what is to be sent for it was sent, but for so many replies
   abbrev pub IsAnswered : Replica → List ℕ → P → P → Seat (NodeEvent A) → Seat (NodeEvent A) → ℕ → ℕ → Type 0
-  IsAnswered first bytes p q old new unsent lost =
-      (answer : Answer) × (replies : List (Message A)) × IsTakenIn first bytes old new answer replies × AreSent p q replies unsent lost
+  IsAnswered first bytes p q old new n m =
+      (answer : Answer) × (replies : List (Message A)) × IsTakenIn first bytes old new answer replies × AreSent p q replies n m
 
   -- bytes came in by it, and were answered so
   abbrev pub IsTaken : Replica → P → P → Seat (NodeEvent A) → Seat (NodeEvent A) → ℕ → ℕ → Type 0
-  IsTaken first p q old new unsent lost = (bytes : List ℕ) × (mid : P) × Receives p mid bytes × IsAnswered first bytes mid q old new unsent lost
+  IsTaken first p q old new n m = (bytes : List ℕ) × (mid : P) × Receives p mid bytes × IsAnswered first bytes mid q old new n m
 
   -- such bytes came in by it, and the client called nothing
   abbrev pub IsPassed : (List ℕ → Type 0) → P → P → Seat (NodeEvent A) → Seat (NodeEvent A) → Type 0
@@ -111,5 +112,5 @@ module _ {P A : Type 0} (Receives : P → P → List ℕ → Type 0) (Sends : P 
   Serves first p q old new (NoMessage ∷ more) = (mid : P) × (seat : Seat (NodeEvent A)) × IsPassed SpellsNone p mid old seat × Serves first mid q seat new more
   Serves first p q old new (Refused ∷ more) =
       (mid : P) × (seat : Seat (NodeEvent A)) × IsPassed (λ bytes. Unit {0}) p mid old seat × Serves first mid q seat new more
-  Serves first p q old new (Taken unsent lost ∷ more) =
-      (mid : P) × (seat : Seat (NodeEvent A)) × IsTaken first p mid old seat unsent lost × Serves first mid q seat new more
+  Serves first p q old new (Taken n m ∷ more) =
+      (mid : P) × (seat : Seat (NodeEvent A)) × IsTaken first p mid old seat n m × Serves first mid q seat new more

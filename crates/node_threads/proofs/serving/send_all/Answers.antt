@@ -1,4 +1,4 @@
-use Rattle.std.proofs.Common.{◌≡◌, ◌+◌, [], ◌∷◌, ◌++◌, refl, take, ap, sym, subst, ◌∙◌, arith}
+use Rattle.std.proofs.Common.{◌≡◌, ℕ, ◌+◌, [], ◌∷◌, ◌++◌, refl, take, ap, sym, subst, ◌∙◌, arith}
 use Rattle.std.proofs.lemmas.List.{take_more}
 use Rattle.node_threads.specs.Serving.{AreSent}
 use Rattle.node_threads.proofs.Inboxes.{short}
@@ -24,15 +24,20 @@ loop-reply-preserved g c =
     let lost = c.loop-reply.lost in
     let more : take (c.loop-reply.reply-index + 1) replies ≡ before ++ reply ∷ [] =
     take_more replies c.loop-reply.reply-index reply c.loop-reply-test.true ∙ ap (λ x. before ++ x ∷ []) (sym c.reply-item.is) in
+    let to : (n m : ℕ) → c.match-send.unsent ≡ n → c.match-send.lost ≡ m → AreSent receives sends rests first last (before ++ reply ∷ []) n m
+    → AreSent receives sends rests first last (take (c.loop-reply.reply-index + 1) replies) c.match-send.unsent c.match-send.lost =
+    λ n m e f h. subst (λ x. AreSent receives sends rests first last (take (c.loop-reply.reply-index + 1) replies) x c.match-send.lost) (sym e)
+    (subst (λ x. AreSent receives sends rests first last (take (c.loop-reply.reply-index + 1) replies) n x) (sym f)
+    (subst (λ rs. AreSent receives sends rests first last rs n m) (sym more) h)) in
     elim c.match-send.branch [
       | in-Sent w ↦
-          subst (λ rs. AreSent receives sends rests first last rs unsent lost) (sym more)
+          to unsent lost w.unsent-is w.lost-is
           (sent_more receives sends rests mid last reply first before unsent lost c.loop-reply.invariant (c.send.ensures.sent w.in-Sent.is))
       | in-Unsent w ↦
-          subst (λ rs. AreSent receives sends rests first last rs (unsent + 1) lost) (sym more)
+          to (unsent + 1) lost w.unsent-is w.lost-is
           (unsent_more receives sends rests mid last reply first before unsent lost c.loop-reply.invariant (c.send.ensures.unsent w.in-Unsent.is))
       | in-Lost w ↦
-          subst (λ rs. AreSent receives sends rests first last rs unsent (lost + 1)) (sym more)
+          to unsent (lost + 1) w.unsent-is w.lost-is
           (lost_more receives sends rests mid last reply first before unsent lost c.loop-reply.invariant (c.send.ensures.lost w.in-Lost.is))
     ]
 

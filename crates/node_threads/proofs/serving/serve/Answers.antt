@@ -1,9 +1,10 @@
 use Rattle.std.proofs.Common.{[], ◌∷◌, ◌++◌, ◌-◌, ◌^◌, refl, sym, subst, ◌∙◌, arith}
 use Rattle.std.specs.Prelude.{IsSome}
+use Rattle.wire_form.specs.Message.{SpellsNone}
 use Rattle.node_threads.specs.Serving.{CanCome, IsAnswered, NoMessage, Refused, Taken, lost, not_messages, refused, unsent}
 use Rattle.node_threads.proofs.Inboxes.{took_as_nothing, took_nothing, took_one, took_then}
 use Rattle.node_threads.proofs.Posts.{counts_none, counts_on, no_message_more, refused_more, taken_more}
-use Rattle.node_threads.proofs.serving.serve.Goals.{in-Ok, in-NoMessage, in-Refused, in-None, in-Some+in_default}
+use Rattle.node_threads.proofs.serving.serve.Goals.{in-Ok, in-Err-NoMessage, in-Err-Refused, in-None, in-Some+in_default}
 use Rattle.node_threads.proofs.serving.serve.Goals as goal
 
 pub loop-init : goal.loop-init
@@ -16,7 +17,7 @@ loop-preserved g c =
     let rests = g.P.Post.rests in
     let first = g.K.Naming.first in
     let Comes = CanCome receives in
-    let bytes = c.in-Some.bytes.items in
+    let bytes = c.in-Some-receive.bytes.items in
     let begun = c.args.post.now in
     let before = c.loop.post in
     let mid = c.receive.new.self in
@@ -27,7 +28,7 @@ loop-preserved g c =
     let limit = 2 ^ 64 - 1 in
     let told = c.loop.invariant.2 in
     let steps = told.0 in
-    let came : receives before mid bytes = c.in-Some.ensures.received in
+    let came : receives before mid bytes = c.in-Some-receive.ensures.received in
     elim c.match-answer.branch [
       | in-Ok w ↦
           let n = w.in-Ok.missed.unsent in
@@ -48,8 +49,35 @@ loop-preserved g c =
               w.lost-is ∙ w.saturating_add-lost.ensures ∙ counts_on limit lost steps turn c.loop.lost told.5,
             ),
           )
-      | in-NoMessage w ↦ Unit
-      | in-Refused w ↦ Unit
+      | in-Err-NoMessage w ↦
+          let passed = w.in-Err.ensures.passed in
+          let none = subst SpellsNone c.deref.ensures.value (w.in-Err.ensures.no_message w.in-Err-NoMessage.is) in (
+            took_then Comes oldest old new c.loop.invariant.0 (took_as_nothing Comes old new passed.0),
+            c.loop.invariant.1,
+            (
+              steps ++ NoMessage ∷ [],
+              no_message_more receives sends rests first last new begun before oldest old steps told.1
+                  (bytes, subst (λ r. receives before r bytes) (sym passed.1) came, none, passed.0),
+              w.not_messages-is ∙ w.saturating_add-not_messages.ensures ∙ counts_on limit not_messages steps NoMessage c.loop.not_messages told.2,
+              w.refused-is ∙ counts_none limit refused steps NoMessage c.loop.refused refl told.3,
+              w.unsent-is ∙ counts_none limit unsent steps NoMessage c.loop.unsent refl told.4,
+              w.lost-is ∙ counts_none limit lost steps NoMessage c.loop.lost refl told.5,
+            ),
+          )
+      | in-Err-Refused w ↦
+          let passed = w.in-Err.ensures.passed in (
+            took_then Comes oldest old new c.loop.invariant.0 (took_as_nothing Comes old new passed.0),
+            c.loop.invariant.1,
+            (
+              steps ++ Refused ∷ [],
+              refused_more receives sends rests first last new begun before oldest old steps told.1
+                  (bytes, subst (λ r. receives before r bytes) (sym passed.1) came, tt, passed.0),
+              w.not_messages-is ∙ counts_none limit not_messages steps Refused c.loop.not_messages refl told.2,
+              w.refused-is ∙ w.saturating_add-refused.ensures ∙ counts_on limit refused steps Refused c.loop.refused told.3,
+              w.unsent-is ∙ counts_none limit unsent steps Refused c.loop.unsent refl told.4,
+              w.lost-is ∙ counts_none limit lost steps Refused c.loop.lost refl told.5,
+            ),
+          )
     ]
 
 pub overflow_sub-result : goal.overflow_sub-result
