@@ -1,5 +1,5 @@
 -- What goes out by a post, one reply and one message after the other.
-use Rattle.std.proofs.Common.{◌≡◌, ◌⊎◌, ℕ, ◌+◌, ◌≤◌, min, List, [], ◌∷◌, ◌++◌, length, refl, sym, ap, subst, ◌∙◌, inl, inr, ⊎_elim, arith}
+use Rattle.std.proofs.Common.{◌≡◌, ℕ, ◌+◌, ◌≤◌, min, List, [], ◌∷◌, ◌++◌, length, refl, sym, ap, subst, ◌∙◌, inl, inr, ⊎_elim, arith}
 use Rattle.node_threads.specs.declared.node_event.NodeEvent.{NodeEvent}
 use Rattle.node_threads.specs.Serving.{AreSent, IsPassed, IsSent, IsTaken, Serves, Turn, NoMessage, Refused, Taken, total}
 use Rattle.replica_model.specs.Replica.{Replica}

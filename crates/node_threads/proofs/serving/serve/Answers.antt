@@ -50,8 +50,8 @@ loop-preserved g c =
             ),
           )
       | in-Err-NoMessage w ↦
-          let passed = w.in-Err.ensures.passed in
-          let none = subst SpellsNone c.deref.ensures.value (w.in-Err.ensures.no_message w.in-Err-NoMessage.is) in (
+          let passed = w.in-Err-NoMessage.ensures.passed in
+          let none = subst SpellsNone c.deref.ensures.value (w.in-Err-NoMessage.ensures.no_message w.in-Err-NoMessage.field-0-is) in (
             took_then Comes oldest old new c.loop.invariant.0 (took_as_nothing Comes old new passed.0),
             c.loop.invariant.1,
             (
@@ -65,7 +65,7 @@ loop-preserved g c =
             ),
           )
       | in-Err-Refused w ↦
-          let passed = w.in-Err.ensures.passed in (
+          let passed = w.in-Err-Refused.ensures.passed in (
             took_then Comes oldest old new c.loop.invariant.0 (took_as_nothing Comes old new passed.0),
             c.loop.invariant.1,
             (
