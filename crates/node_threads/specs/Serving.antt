@@ -53,13 +53,13 @@ Goes Sends Rests p q reply before after =
     (IsSent Sends p q reply × (after.0 ≡ before.0) × (after.1 ≡ before.1)) ⊎ ((Rests p q × (after.0 ≡ 1 + before.0) × (after.1 ≡ before.1))
     ⊎ ((q ≡ p) × (after.0 ≡ before.0) × (after.1 ≡ 1 + before.1)))
 
--- What became of bytes that came in: no message spells them, a message was refused, or it was taken in, and of the replies to it so many were not
--- sent by the post, and for so many there was no memory.
+-- What became of bytes that came in: no message spells them, they were refused, or a message was taken in that they spell, and of the replies to it so many
+-- were not sent by the post, and for so many there was no memory.
 pub data Turn : Type 0 where
   NoMessage Refused : Turn
   Taken : ℕ → ℕ → Turn
 
--- of a turn: whether it is of no message, or of one that was refused, how many of its replies were not sent, and how many are lost for want of memory
+-- of a turn: whether it is of no message, or of what was refused, how many of its replies were not sent, and how many are lost for want of memory
 abbrev pub not_messages : Turn → ℕ
 not_messages NoMessage = 1
 not_messages Refused = 0

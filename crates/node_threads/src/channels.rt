@@ -25,6 +25,8 @@ impl<'a> Post for Channels<'a> {
 
     ghost rests = { λ old new. Unit {0} };
 
+    ghost ends = { λ old new. Unit {0} };
+
     fn receive<T: Wait>(&mut self, rt: &T) -> Option<Vec<u8>> {
         match self.inbox.recv(rt) {
             Ok(Letter::Mail(bytes)) => Some(bytes),

@@ -46,12 +46,15 @@ impl<I: Read + Drop, O: Write + Drop> Post for Frames<I, O> {
     ghost use Rattle.std.specs.Io.KnownBytes.{Appends, Consumes};
     ghost use Rattle.node_threads.specs.Frames.{framed, addressed};
 
-    // A frame was read, or written; and else all stayed, or the frames ended.
+    // A frame was read, or written. Where none was written all stayed, or the frames ended and nothing was read; and where none comes any more they
+    // ended, and nothing was written.
     ghost receives = { λ old new bytes. Consumes (I.remaining old.input) (I.remaining new.input) (framed bytes) × (new.output ≡ old.output) };
 
     ghost sends = { λ old new to bytes. Appends (O.contents old.output) (O.contents new.output) (framed (addressed to bytes)) × (new.input ≡ old.input) };
 
-    ghost rests = { λ old new. (new ≡ old) ⊎ IsSome new.end };
+    ghost rests = { λ old new. (new ≡ old) ⊎ (IsSome new.end × (new.input ≡ old.input)) };
+
+    ghost ends = { λ old new. IsSome new.end × (new.output ≡ old.output) };
 
     fn receive<T: Wait>(&mut self, _rt: &T) -> Option<Vec<u8>> {
         if self.end.is_some() {

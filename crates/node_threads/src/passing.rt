@@ -3,6 +3,6 @@
 pub(crate) enum Passing {
     // No message spells it.
     NoMessage,
-    // There is no memory for it, or no number for one more event.
+    // There is no memory to read it or to take it in, or no number for one more event.
     Refused,
 }

@@ -17,10 +17,13 @@ pub trait Post {
     // From the first state to the second, nothing came in and nothing was sent.
     ghost rests: { Self → Self → Type 0 };
 
+    // From the first state to the second, nothing was sent, and nothing comes in any more.
+    ghost ends: { Self → Self → Type 0 };
+
     /// The bytes that come in next, for which it may wait. None where it is to be served no longer.
     fn receive<T: Wait>(&mut self, rt: &T) -> Option<Vec<u8>>
         ensures received { IfSome result (λ bytes. receives self.old self.new bytes.items) }
-        ensures ended { IsNone result → rests self.old self.new };
+        ensures ended { IsNone result → ends self.old self.new };
 
     /// Sends these bytes to a replica, for which it may wait. Whether they could be sent: not where there is no memory that it needs for it.
     fn send<T: Wait>(&mut self, rt: &T, to: Name, bytes: &[u8]) -> bool

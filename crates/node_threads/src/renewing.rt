@@ -1,5 +1,5 @@
 // Synchronisations that send again, as messages may be lost.
-ghost use Rattle.std.specs.Prelude.{◌≡◌, ◌-◌, ◌^◌, min, map, List, IsNone, IfSome, IfOk, OnErr};
+ghost use Rattle.std.specs.Prelude.{◌≡◌, ◌-◌, ◌^◌, min, map, List, IsNone, IfSome, IfOk, OnErr, IsOkUnless};
 ghost use Rattle.node_threads.specs.declared.node_event.NodeEvent.{NodeEvent};
 ghost use Rattle.node_threads.specs.History.{IsAfter};
 ghost use Rattle.node_threads.specs.Renewing.{AreSentAgain, IsRetried, IsSentAgain};
@@ -41,6 +41,7 @@ pub fn send_again<K: Naming, G: Gate + Drop, W: Wait + Drop, A: Allocator + Copy
         × (told.refused ≡ min (total refused steps) (2 ^ 64 - 1)) × (told.unsent ≡ min (total unsent steps) (2 ^ 64 - 1))
         × (told.lost ≡ min (total lost steps) (2 ^ 64 - 1))) }
     ensures refused { OnErr result (HasNotCalled (λ e. e.place) client.old client.new × (post.new ≡ post.old)) }
+    ensures only { IsOkUnless result Refusal.OutOfMemory }
 {
     let sessions = client.inspect(rt, &SessionListing)?;
     Ok(send_all_again(rt, alloc, client, &sessions, post))

@@ -20,14 +20,14 @@ use std::alloc::Allocator;
 use std::sync::Wait;
 use wire_form::{Message, decode, encode};
 
-/// What became of what came in, and of the replies. Each number stays at 2^64 - 1.
+/// What became of what came in, and of the replies. No number goes past 2^64 - 1.
 #[derive(Clone, Copy, Debug, PartialEq, Eq)]
 pub struct Served {
-    /// Messages that were taken in.
+    /// Messages that were taken in, those among them that were ignored or did not fit.
     pub delivered: u64,
     /// What no message spells.
     pub not_messages: u64,
-    /// Messages that were refused, for want of memory or of a number for one more event.
+    /// What was refused: what there was no memory to read or to take in, and messages for which there was no number of one more event.
     pub refused: u64,
     /// Replies that the post did not send.
     pub unsent: u64,
@@ -36,7 +36,8 @@ pub struct Served {
 }
 
 /// Takes in each message that comes by the post, and sends each reply to the replica that it is for, before it turns to what comes next.
-/// It ends where the post says so. What is no message, or is refused, changes nothing and is counted: nothing is taken in but what came.
+/// It ends just where the post says so. What is no message, or is refused, changes nothing and is counted: nothing is taken in but what came. Nothing is
+/// said of one that still serves.
 ///
 /// It waits: for its turn at the node, and for the post. For each message it takes what decoding it, a call with it and encoding its
 /// replies take. It keeps none.
@@ -49,7 +50,7 @@ pub fn serve<K: Naming, G: Gate + Drop, W: Wait + Drop, A: Allocator + Copy, P: 
     ensures took_in { TookIn (CanCome P.receives) client.old client.new }
     ensures delivered { client.new.operations ≡ client.old.operations + result.delivered }
     ensures served { (steps : List Turn) × (end : P) × Serves P.receives P.sends P.rests K.first post.old end client.old client.new steps
-        × P.rests end post.new × (result.not_messages ≡ min (total not_messages steps) (2 ^ 64 - 1)) × (result.refused ≡ min (total refused steps) (2 ^ 64 - 1))
+        × P.ends end post.new × (result.not_messages ≡ min (total not_messages steps) (2 ^ 64 - 1)) × (result.refused ≡ min (total refused steps) (2 ^ 64 - 1))
         × (result.unsent ≡ min (total unsent steps) (2 ^ 64 - 1)) × (result.lost ≡ min (total lost steps) (2 ^ 64 - 1)) }
 {
     let begun = client.operations();

@@ -148,6 +148,8 @@ impl<'r> Post for Once<'r> {
 
     ghost rests = { λ old new. Unit {0} };
 
+    ghost ends = { λ old new. Unit {0} };
+
     fn receive<T: Wait>(&mut self, _rt: &T) -> Option<Vec<u8>> {
         if !self.is_there {
             return None;

@@ -91,9 +91,9 @@ returns-clause-delivered g c = omega (arith, c.operations.ensures, c.operations-
 
 pub returns-clause-served : goal.returns-clause-served
 returns-clause-served g c =
-    let ends : g.P.Post.rests c.loop.post c.match-next.post = elim c.match-next.branch [
+    let ends : g.P.Post.ends c.loop.post c.match-next.post = elim c.match-next.branch [
       | in-None w ↦ absurd (cc (subst IsSome w.in-None.is c.next.ensures.steps))
-      | in-Some+in_default w ↦ subst (g.P.Post.rests c.loop.post) (sym w.post-is) (w.in_default.ensures.ended refl)
+      | in-Some+in_default w ↦ subst (g.P.Post.ends c.loop.post) (sym w.post-is) (w.in_default.ensures.ended refl)
     ] in
     let told = c.loop.invariant.2 in
     (told.0, c.loop.post, told.1, ends, told.2, told.3, told.4, told.5)
