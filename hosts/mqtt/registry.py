@@ -117,11 +117,14 @@ class Registry:
                 self.ask(int(topic.rpartition("/")[2]), now)
             return
         try:
-            self.changed(self.replica.take(payload).letters)
+            letters = self.replica.take(payload).letters
         except NotAMessage:
-            pass
+            return
         except LostMemory:
             raise SystemExit(f"the name {self.name} was used without its memory: start with the file of that time, or another name")
+        if letters:
+            self.save()
+        self.changed(letters)
 
     def ask(self, peer: int, now: float) -> None:
         """Opens a synchronisation with the peer, if none is open with it."""
