@@ -9,9 +9,21 @@
  *     uint64_t number;
  *     ginelm_new(&basket, 1);
  *     ginelm_put(&basket, (const uint8_t *)"milk", 4, (const uint8_t *)"2", 1, &number);
+ *     ginelm_save(&basket);               what it comes back from becomes the text at place 0
+ *     ...                                 copy it out by ginelm_text, and keep it in a file
  *     ginelm_flush(&basket);              what was written becomes the text at place 0
- *     ...                                 copy it out by ginelm_text, and send it to everyone
+ *     ...                                 copy it out, and send it to everyone
+ *
+ *     ginelm_named session;               where bytes came:
+ *     uint32_t outcome;
+ *     ginelm_take(&basket, bytes, length, &outcome, &session);
+ *     ...                                 copy out the texts, ginelm_count of them, each with
+ *                                         the replica that it is for; save, and then send them
  *     ginelm_free(&basket);
+ *
+ * examples/basket.c is a whole program. After c/build.sh, from the top of the repository:
+ *
+ *     cc -Ibuild examples/basket.c build/libginelm.a
  *
  * Handles. A `ginelm` and a `ginelm_snapshot` are set to zero before their first call, and are never
  * copied while they hold anything. One call at a time is made with a handle; between two calls it may
@@ -22,9 +34,10 @@
  * Texts. A key, a field and a value are 0 to 65,535 bytes of any kind, as a pointer and a length. The
  * pointer may be null where the length is 0. Nothing that is passed is kept.
  *
- * Answers. Each call answers GINELM_DONE, or why it was not done; a refused call changes nothing, and
- * sets none of the numbers that it tells, but for `needed` and `to` where a call is SHORT. OUT_OF_MEMORY can come of each call that
- * allocates, which are all but those whose comment says that they do not.
+ * Answers. Each call answers GINELM_DONE, or why it was not done; a refused call changes
+ * nothing, and sets none of the numbers that it tells, but for `needed` and `to` where a call is
+ * SHORT. OUT_OF_MEMORY can come of each call that allocates, which are all but those whose
+ * comment says that they do not.
  *
  * What a call gives more than a number of stands behind the handle as texts, until the next call that
  * gives texts: ginelm_get, ginelm_get_field, ginelm_values_of_key, ginelm_keys, ginelm_fields,
@@ -98,22 +111,24 @@ uint32_t ginelm_name(ginelm *here, uint64_t *name);
 
 /* ---- it comes back after a restart ---- */
 
-/* What the replica is to come back from becomes the one text: all that it holds, what it is to send, its name and the number of its last own
- * synchronisation. It is to be kept, as in a file, before anything is sent that was made, or asked for, later. */
+/* What the replica is to come back from becomes the one text: all that it holds, what it is to
+ * send, its name and the number of its last own synchronisation. It is to be kept, as in a file,
+ * before anything is sent that was made, or asked for, later. */
 uint32_t ginelm_save(ginelm *here);
 
-/* Makes the replica that comes back from what was saved; no other one uses its name from then on. Its own synchronisations are
- * not open any more. FULL, NOT_A_MESSAGE where the bytes are not what was saved. */
+/* Makes the replica that comes back from what was saved; no other one uses its name from then
+ * on. Its own synchronisations are not open any more. FULL, NOT_A_MESSAGE where the bytes are
+ * not what was saved. */
 uint32_t ginelm_resume(ginelm *here, const uint8_t *bytes, size_t length);
 
-/* Makes a replica of a name that was never used, which has seen what the saved one had seen: for who cannot save before anything is sent.
- * FULL, NO_NAME, NOT_A_MESSAGE. */
+/* Makes a replica of a name that was never used, which has seen what the saved one had seen: for
+ * who cannot save before anything is sent. FULL, NO_NAME, NOT_A_MESSAGE. */
 uint32_t ginelm_new_from(ginelm *here, uint64_t name, const uint8_t *bytes, size_t length);
 
 /* ---- it writes. Each is TOO_LONG where a text is ---- */
 
-/* Writes the value on the key, at its empty field, in the place of all values there that it has seen. Tells the
- * number of the write. NUMBERS_SPENT. */
+/* Writes the value on the key, at its empty field, in the place of all values there that it has
+ * seen. Tells the number of the write. NUMBERS_SPENT. */
 uint32_t ginelm_put(ginelm *here, const uint8_t *key, size_t key_length, const uint8_t *value, size_t value_length,
                     uint64_t *number);
 
@@ -136,26 +151,29 @@ uint32_t ginelm_clear(ginelm *here, uint64_t *observed);
 /* What it wrote since the last flush becomes the one text, for everyone; no text where it wrote nothing. */
 uint32_t ginelm_flush(ginelm *here);
 
-/* Takes in any message of any replica. Tells what came of it (GINELM_JOINED to GINELM_GONE), and the synchronisation
- * that it named. The texts are what is to be sent for it, each to the replica that ginelm_text tells. NOT_A_MESSAGE.
+/* Takes in any message of any replica. Tells what came of it (GINELM_JOINED to GINELM_GONE), and
+ * the synchronisation that it named. The texts are what is to be sent for it, each to the replica
+ * that ginelm_text tells. NOT_A_MESSAGE.
  *
- * LOST_MEMORY just where ginelm_has_lost tells true of the message, whatever else would come of it: two replicas use the name, or it
- * was used before and what was known is lost. This one is to write nothing more, and its host makes one of a new name. */
+ * LOST_MEMORY just where ginelm_has_lost tells true of the message, whatever else would come of
+ * it: two replicas use the name, or it was used before and what was known is lost. This one is
+ * to write nothing more, and its host makes one of a new name. */
 uint32_t ginelm_take(ginelm *here, const uint8_t *bytes, size_t length, uint32_t *outcome, ginelm_named *session);
 
-/* The same for messages that may be forged: it is never LOST_MEMORY. By a forged one a replica learns of a write of its name that
- * it never made, and its next write has the number behind that one. */
+/* The same for messages that may be forged: it is never LOST_MEMORY. By a forged one a replica
+ * learns of a write of its name that it never made, and its next write has the number behind
+ * that one. */
 uint32_t ginelm_take_unguarded(ginelm *here, const uint8_t *bytes, size_t length, uint32_t *outcome, ginelm_named *session);
 
 /* Tells whether the message knows a write of this replica's name that the replica does not know. NOT_A_MESSAGE. */
 uint32_t ginelm_has_lost(ginelm *here, const uint8_t *bytes, size_t length, bool *lost);
 
-/* Opens a synchronisation, which brings all that the peer has seen. Tells its number; the one text is to be sent to
- * the peer. NO_NAME, SESSIONS_FULL, NUMBERS_SPENT. */
+/* Opens a synchronisation, which brings all that the peer has seen. Tells its number; the one
+ * text is to be sent to the peer. NO_NAME, SESSIONS_FULL, NUMBERS_SPENT. */
 uint32_t ginelm_ask(ginelm *here, uint64_t peer, uint64_t *number);
 
-/* What is to be sent again for this own synchronisation, where messages may have been lost, becomes the texts. The outcome
- * is GINELM_SENT, or GINELM_IGNORED where it is not open. */
+/* What is to be sent again for this own synchronisation, where messages may have been lost,
+ * becomes the texts. The outcome is GINELM_SENT, or GINELM_IGNORED where it is not open. */
 uint32_t ginelm_retry(ginelm *here, uint64_t number, uint32_t *outcome);
 
 /* Gives this own synchronisation up, and tells whether it was open. Allocates nothing. */
@@ -185,9 +203,10 @@ uint32_t ginelm_fields(ginelm *here, const uint8_t *key, size_t key_length);
 /* The keys that hold a value at some field become the texts. Goes through the whole map. */
 uint32_t ginelm_keys(ginelm *here);
 
-/* The keys at which the map changed since this was last asked become the texts, ascending by bytes: those that came or went,
- * and those under which other values stand. At first these are all keys. It takes time in what changed, and not in the
- * map; from the first call on a write copies what it shares with the map that was told. */
+/* The keys at which the map changed since this was last asked become the texts, ascending by
+ * bytes: those that came or went, and those under which other values stand. At first these are
+ * all keys. It takes time in what changed, and not in the map; from the first call on a write
+ * copies what it shares with the map that was told. */
 uint32_t ginelm_changes(ginelm *here);
 
 /* Tells whether the key holds a value at some field. */
@@ -196,8 +215,8 @@ uint32_t ginelm_contains(ginelm *here, const uint8_t *key, size_t key_length, bo
 /* Tells how many keys hold a value at some field. Allocates nothing. */
 uint32_t ginelm_size(ginelm *here, uint64_t *size);
 
-/* Copies the root digest: 32 bytes, or none where there is no key. Replicas that hold the same have the same. SHORT.
- * Allocates nothing. */
+/* Copies the root digest: 32 bytes, or none where there is no key. Replicas that hold the same
+ * have the same. SHORT. Allocates nothing. */
 uint32_t ginelm_digest(ginelm *here, uint8_t *out, size_t room, size_t *needed);
 
 /* Tells whether it has seen the write of this number of the replica of this name. Allocates nothing. */
@@ -205,9 +224,11 @@ uint32_t ginelm_knows(ginelm *here, uint64_t name, uint64_t number, bool *is_kno
 
 /* ---- what it held at one moment, for readers on other threads while it goes on. Each is TOO_LONG where a text is ---- */
 
-/* Takes a snapshot of the replica into a handle that holds none. It takes constant time where nothing was written since the last
- * snapshot or synchronisation, and else time in the nodes of the map that were written; it copies no key and no value. From then on a
- * write copies what it shares with the snapshot. FULL where the snapshot's handle holds one, EMPTY where the replica's holds none. */
+/* Takes a snapshot of the replica into a handle that holds none. It takes constant time where
+ * nothing was written since the last snapshot or synchronisation, and else time in the nodes of
+ * the map that were written; it copies no key and no value. From then on a write copies what it
+ * shares with the snapshot. FULL where the snapshot's handle holds one, EMPTY where the
+ * replica's holds none. */
 uint32_t ginelm_snapshot_take(ginelm_snapshot *here, ginelm *replica);
 
 /* Lets the snapshot go, if there is one: the handle is empty then. The replica need not be there any more. */
@@ -233,9 +254,10 @@ uint32_t ginelm_snapshot_size(ginelm_snapshot *here, uint64_t *size);
 /* The root digest that the replica had then. SHORT. Allocates nothing. */
 uint32_t ginelm_snapshot_digest(ginelm_snapshot *here, uint8_t *out, size_t room, size_t *needed);
 
-/* The keys at which the two snapshots differ become the texts of the newer one, ascending by bytes: those that one of them alone has,
- * and those under which other values stand. It takes time in what differs, and not in the map. The two are not one handle, and may be
- * of two replicas. EMPTY where either handle is. */
+/* The keys at which the two snapshots differ become the texts of the newer one, ascending by
+ * bytes: those that one of them alone has, and those under which other values stand. It takes
+ * time in what differs, and not in the map. The two are not one handle, and may be of two
+ * replicas. EMPTY where either handle is. */
 uint32_t ginelm_snapshot_changes(ginelm_snapshot *older, ginelm_snapshot *newer);
 
 /* Tells how many texts the snapshot's last call gave. Allocates nothing. */
@@ -249,8 +271,9 @@ uint32_t ginelm_snapshot_text(ginelm_snapshot *here, size_t at, uint8_t *out, si
 /* Tells how many texts there are. */
 uint32_t ginelm_count(ginelm *here, size_t *count);
 
-/* Copies the text at this place, from 0, and tells how many bytes it has, and the name of the replica that it is for, or 0
- * for everyone. SHORT where there is too little room: nothing is copied then, and `needed` tells how many bytes it has. NO_TEXT. */
+/* Copies the text at this place, from 0, and tells how many bytes it has, and the name of the
+ * replica that it is for, or 0 for everyone. SHORT where there is too little room: nothing is
+ * copied then, and `needed` tells how many bytes it has. NO_TEXT. */
 uint32_t ginelm_text(ginelm *here, size_t at, uint64_t *to, uint8_t *out, size_t room, size_t *needed);
 
 /* Copies the word of an answer, as `NotAMessage`: no bytes where no call gives this answer. SHORT. */
