@@ -8,7 +8,6 @@ use crate::tests::beside::{Holding, both_put_often, write_while_read};
 use crate::tests::kept::put_and_keep;
 use crate::tests::meanwhile::synchronise;
 use crate::tests::resumed::put_and_save;
-use crate::tests::returned::come_and_go;
 use crate::tests::served::{Ends, Outside, exchange, serve_alone};
 use crate::tests::sessions::{call_twelve_times, write_fields};
 use crate::tests::slow::put_while_looked;
@@ -235,7 +234,7 @@ fn alone_at_this_node<K: Naming, P: Post + Copy + Drop, R: Wait + Abort + Copy +
     finished(&rt, node, clients)
 }
 
-// Has the one client of a new node, of the replica 1, write at once, after a thousand others that came and went: what is there in the end.
+// Has the one client of a new node, of the replica 1, write at once: what is there in the end.
 fn batched_at_this_node<K: Naming, R: Wait + Abort + Copy + Drop>(
     rt: R,
     alloc: Global,
@@ -245,7 +244,6 @@ fn batched_at_this_node<K: Naming, R: Wait + Abort + Copy + Drop>(
     requires first { K.first ≡ fresh 1 }
 {
     let mut node: Shared<K, NoGate, R> = made(rt, alloc, opened, 1, 1, NoGate);
-    come_and_go(&rt, &mut node, 1_000);
     let mut clients = all_clients(&rt, alloc, &mut node, 1);
     write_at_once(&rt, alloc, &mut clients);
     ended(&rt, node, clients)

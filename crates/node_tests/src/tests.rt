@@ -6,7 +6,6 @@ pub(crate) mod beside;
 pub(crate) mod kept;
 pub(crate) mod meanwhile;
 pub(crate) mod resumed;
-pub(crate) mod returned;
 pub(crate) mod served;
 pub(crate) mod sessions;
 pub(crate) mod slow;

@@ -2,7 +2,7 @@
 ghost use Rattle.std.specs.Prelude.{◌≡◌};
 ghost use Rattle.replica_core.specs.Meaning.{meaning};
 
-use crate::made::{Here, asked, flushed, opened, paged, put, replica, what_shows};
+use crate::made::{Here, flushed, opened, paged, put, replica, what_shows};
 use crate::nodes::{Caller, One, Seen, Shared, ended, next, node};
 use crate::trial::{Trial, is_as_often, is_there, refusals, wanted};
 use dots::{Field, Key, Name, Refusal, Value};
@@ -21,7 +21,7 @@ use std::panic::Expect;
 use std::process::Abort;
 use std::sync::Wait;
 use std::{marker, mem};
-use wire_form::{Message, encode};
+use wire_form::Message;
 
 // What is called or looked at, at a node of the replica 1, which has put v on a and on b, and has opened the synchronisation 1 with 2.
 #[derive(Clone, Copy)]
@@ -60,8 +60,6 @@ enum Kind {
     Opening,
     // What it answers who asks then.
     Page,
-    // What it asks with.
-    Hello,
 }
 
 // Such a call of the client, who saw this before.
@@ -72,7 +70,7 @@ struct Calling<'r, C: Caller, R: Wait> {
     client: &'r mut C,
     message: &'r Message<C::Heap>,
     // What comes by the post where one serves.
-    post: Once<'r>,
+    post: Once,
     before: Seen,
     act: Act,
 }
@@ -132,16 +130,21 @@ impl<'r, C: Caller, R: Wait> Calling<'r, C, R> {
     }
 }
 
-// A post by which these bytes come, once, and which counts what is sent.
+// The hello of replica 2 to replica 1, session 1, which knows nothing.
+const HELLO: &[u8] = &[
+    3, 3, 0, 0, 0, 0, 0, 0, 0, 2, 0, 0, 0, 0, 0, 0, 0, 1, 0, 0, 0, 0, 0, 0, 0, 1, 0, 0, 0, 0, 0, 0,
+    0, 0, 0, 0, 0, 0, 0, 0, 0, 0,
+];
+
+// A post by which that hello comes, once, and which counts what is sent.
 #[derive(Clone, Copy, Drop)]
-struct Once<'r> {
+struct Once {
     alloc: Global,
-    bytes: &'r [u8],
     is_there: bool,
     sent: u64,
 }
 
-impl<'r> Post for Once<'r> {
+impl Post for Once {
     ghost receives = { λ old new bytes. Unit {0} };
 
     ghost sends = { λ old new to bytes. Unit {0} };
@@ -155,7 +158,7 @@ impl<'r> Post for Once<'r> {
             return None;
         }
         self.is_there = false;
-        self.bytes.to_vec(self.alloc).ok()
+        HELLO.to_vec(self.alloc).ok()
     }
 
     fn send<T: Wait>(&mut self, _rt: &T, _to: Name, _bytes: &[u8]) -> bool {
@@ -447,7 +450,6 @@ fn see<C: Caller, R: Wait>(rt: &R, client: &mut C, before: Seen) -> Result<(), R
 fn kind_of(act: Act) -> Kind {
     match act {
         Act::Deliver(kind, _) => kind,
-        Act::Serve | Act::Lose => Kind::Hello,
         _ => Kind::Opening,
     }
 }
@@ -464,10 +466,6 @@ fn message<A: Allocator + Copy>(
         Kind::Delta => flushed(rt, alloc, peer),
         Kind::Opening => reply(rt, alloc, opened(rt, alloc, here, peer, 2)),
         Kind::Page => reply(rt, alloc, paged(rt, alloc, here, peer)),
-        Kind::Hello => {
-            drop(asked(rt, alloc, here, 2));
-            asked(rt, alloc, peer, 1)
-        }
     }
 }
 
@@ -482,17 +480,6 @@ fn reply<A: Allocator + Copy>(
     Box::new(alloc, reply).expect(rt, "memory")
 }
 
-// The bytes that spell the message.
-fn bytes_of<A: Allocator + Copy>(
-    rt: &impl Abort,
-    alloc: Global,
-    heap: A,
-    message: &Message<A>,
-) -> Vec<u8> {
-    let spelled = encode(heap, message).expect(rt, "memory");
-    spelled.to_vec(alloc).expect(rt, "memory")
-}
-
 // How often the call is refused, and how many events the client has seen before it is made.
 fn tried_by<C: Caller, R: Wait + Abort>(
     rt: &R,
@@ -504,10 +491,8 @@ fn tried_by<C: Caller, R: Wait + Abort>(
     act: Act,
 ) -> (usize, u64) {
     let before = client.see(rt).expect(rt, "a root");
-    let bytes = bytes_of(rt, alloc, heap, message);
     let post = Once {
         alloc,
-        bytes: &bytes,
         is_there: true,
         sent: 0,
     };
