@@ -5,8 +5,7 @@ ghost use Rattle.replica_core.specs.Meaning.{meaning};
 use crate::made::{Here, Shown, what_shows};
 use dots::Refusal;
 use node_threads::{
-    Client, Digesting, Lock, Named, Naming, Node, NodeEvent, Post, Resent, Root, Served, Sizing,
-    node_of, send_again, serve,
+    Client, Digesting, Lock, Named, Naming, Node, NodeEvent, Root, Sizing, node_of,
 };
 use root_cell::{Brand, OpenedBook};
 use shared_object::{Finished, Look, NoGate, Object, Owner, Placed, Update};
@@ -173,17 +172,6 @@ pub(crate) trait Caller {
 
     // It takes no memory.
     fn see<T: Wait>(&mut self, rt: &T) -> Result<Seen, Refusal>;
-
-    // What became of what came by this post, until it ends.
-    fn serve<T: Wait, P: Post>(&mut self, rt: &T, heap: Self::Heap, post: &mut P) -> Served;
-
-    // What became of the synchronisations that are open, which send again by this post.
-    fn send_again<T: Wait, P: Post>(
-        &mut self,
-        rt: &T,
-        heap: Self::Heap,
-        post: &mut P,
-    ) -> Result<Resent, Refusal>;
 }
 
 impl<K: Naming, R: Wait + Drop, A: Allocator + Copy> Caller for One<K, R, A> {
@@ -216,19 +204,6 @@ impl<K: Naming, R: Wait + Drop, A: Allocator + Copy> Caller for One<K, R, A> {
             size,
             events: events?,
         })
-    }
-
-    fn serve<T: Wait, P: Post>(&mut self, rt: &T, heap: A, post: &mut P) -> Served {
-        serve(rt, heap, self, post)
-    }
-
-    fn send_again<T: Wait, P: Post>(
-        &mut self,
-        rt: &T,
-        heap: A,
-        post: &mut P,
-    ) -> Result<Resent, Refusal> {
-        send_again(rt, heap, self, post)
     }
 }
 

@@ -10,8 +10,8 @@ use hash_path::Fnv1a;
 use linked_list_allocator::LocalHeap;
 use node_threads::{
     Abandoning, Asking, Batching, Checkpointing, Clearing, Delivering, FieldListing, FieldRemoving,
-    Flushing, Getting, KeyListing, Knowing, Naming, NodeEvent, Post, Putting, Removing, Resent,
-    Retrying, Root, Served, SessionListing, Sharing, Sizing, Write, Written,
+    Flushing, Getting, KeyListing, Knowing, Naming, NodeEvent, Putting, Removing, Retrying, Root,
+    SessionListing, Sharing, Sizing, Write, Written,
 };
 use replica_core::{Delivered, Outcome, Replica};
 use root_cell::OpenedBook;
@@ -36,11 +36,6 @@ enum Act {
     Abandon,
     // The message comes to this.
     Deliver(Kind, Outcome),
-    // The hello comes to who serves.
-    Serve,
-    // It does, and there is no memory for the reply.
-    Lose,
-    SendAgain,
     Batch,
     Get,
     Fields,
@@ -69,8 +64,6 @@ struct Calling<'r, C: Caller, R: Wait> {
     heap: C::Heap,
     client: &'r mut C,
     message: &'r Message<C::Heap>,
-    // What comes by the post where one serves.
-    post: Once,
     before: Seen,
     act: Act,
 }
@@ -88,7 +81,6 @@ impl<'r, C: Caller, R: Wait> Trial for Calling<'r, C, R> {
             Act::Retry => retry(rt, heap, self.client),
             Act::Abandon => abandon(rt, heap, self.client),
             Act::Deliver(_, outcome) => deliver(rt, heap, self.client, self.message, outcome),
-            Act::Serve | Act::Lose | Act::SendAgain => self.attempt_by_post(),
             Act::Batch => batch(rt, heap, self.client, &mut self.before),
             Act::Get | Act::Fields => read(heap, self.client, self.act, 1),
             Act::Keys => read(heap, self.client, self.act, 2),
@@ -100,92 +92,6 @@ impl<'r, C: Caller, R: Wait> Trial for Calling<'r, C, R> {
     fn is_as_before(&mut self) -> bool {
         self.client.see(self.rt) == Ok(self.before)
     }
-}
-
-impl<'r, C: Caller, R: Wait> Calling<'r, C, R> {
-    fn attempt_by_post(&mut self) -> Result<(), Refusal> {
-        let mut post = self.post;
-        let became = match self.act {
-            Act::SendAgain => sent_again(self.rt, self.heap, self.client, &mut post)?,
-            _ => self.client.serve(self.rt, self.heap, &mut post),
-        };
-        self.counted(became, post.sent)
-    }
-
-    // What comes to one message that was taken in, so many of whose replies were sent. One whose reply was lost is an event.
-    fn counted(&mut self, became: Served, sent: u64) -> Result<(), Refusal> {
-        match (became.delivered, became.refused, became.lost, sent) {
-            (0, 1, 0, 0) => Err(Refusal::OutOfMemory),
-            (1, 0, 1, 0) => match self.act {
-                Act::Lose => Ok(()),
-                _ => self.lost(),
-            },
-            _ => wanted((became.delivered, became.refused, became.lost, sent) == (1, 0, 0, 1)),
-        }
-    }
-
-    fn lost(&mut self) -> Result<(), Refusal> {
-        self.before.events = self.before.events.saturating_add(1);
-        Err(Refusal::OutOfMemory)
-    }
-}
-
-// The hello of replica 2 to replica 1, session 1, which knows nothing.
-const HELLO: &[u8] = &[
-    3, 3, 0, 0, 0, 0, 0, 0, 0, 2, 0, 0, 0, 0, 0, 0, 0, 1, 0, 0, 0, 0, 0, 0, 0, 1, 0, 0, 0, 0, 0, 0,
-    0, 0, 0, 0, 0, 0, 0, 0, 0, 0,
-];
-
-// A post by which that hello comes, once, and which counts what is sent.
-#[derive(Clone, Copy, Drop)]
-struct Once {
-    alloc: Global,
-    is_there: bool,
-    sent: u64,
-}
-
-impl Post for Once {
-    ghost receives = { λ old new bytes. Unit {0} };
-
-    ghost sends = { λ old new to bytes. Unit {0} };
-
-    ghost rests = { λ old new. Unit {0} };
-
-    ghost ends = { λ old new. Unit {0} };
-
-    fn receive<T: Wait>(&mut self, _rt: &T) -> Option<Vec<u8>> {
-        if !self.is_there {
-            return None;
-        }
-        self.is_there = false;
-        HELLO.to_vec(self.alloc).ok()
-    }
-
-    fn send<T: Wait>(&mut self, _rt: &T, _to: Name, _bytes: &[u8]) -> bool {
-        self.sent = self.sent.saturating_add(1);
-        true
-    }
-}
-
-// Has the one synchronisation that is open send again: what it is to send is taken for a reply.
-fn sent_again<C: Caller, R: Wait>(
-    rt: &R,
-    heap: C::Heap,
-    client: &mut C,
-    post: &mut Once,
-) -> Result<Served, Refusal> {
-    let Resent {
-        refused,
-        unsent,
-        lost,
-    } = client.send_again(rt, heap, post)?;
-    Ok(Served {
-        delivered: 1u64.saturating_sub(refused),
-        not_messages: 0,
-        refused,
-        unsent,
-        lost,
-    })
 }
 
 // One of the two keys.
@@ -491,17 +397,11 @@ fn tried_by<C: Caller, R: Wait + Abort>(
     act: Act,
 ) -> (usize, u64) {
     let before = client.see(rt).expect(rt, "a root");
-    let post = Once {
-        alloc,
-        is_there: true,
-        sent: 0,
-    };
     let mut calling = Calling {
         rt,
         heap,
         client,
         message,
-        post,
         before,
         act,
     };
@@ -618,9 +518,6 @@ const ROWS: &[Row] = &[
         1,
         Some(4),
     ),
-    ("a message is served", Act::Serve, 1, Some(4)),
-    ("its reply is lost", Act::Lose, 1, Some(1)),
-    ("what is open sends again", Act::SendAgain, 1, Some(4)),
     // The events of the batch are seen before it is whole.
     ("a batch", Act::Batch, 0, Some(4)),
     ("a get", Act::Get, 0, Some(2)),
