@@ -22,7 +22,7 @@ use Rattle.replica_model.proofs.Found.{found_kept, in_keeping, none_kept, change
 use Rattle.replica_model.proofs.Rows.{snapshot, each_row}
 use Rattle.replica_model.proofs.SessionsAlone.{by_deeds, tied}
 use Rattle.replica_model.proofs.Taking.{for_it}
-use Rattle.replica_alone.specs.Kept.{IsTakenAlone, SnapshotsAreForAlone, TellsPagesAlone}
+use Rattle.replica_alone.specs.Kept.{IsSnapshotAlone, SnapshotsAreForAlone, TellsPagesAlone}
 use Rattle.replica_alone.proofs.Deeds.{CameNow, called_now, came_now}
 
 -- ---- what a delivery does to what is kept
@@ -123,10 +123,10 @@ kept_stays name Restart w = refl
 
 module _ (hash_of : List ℕ → ℕ) (name : ℕ) where
   abbrev AllKept : List Deed → World → Type 0
-  AllKept deeds w = (k : Kept) → Contains (w.replica name).kept k → IsTakenAlone hash_of name deeds k.session k.seen (w.kept k.session) k.map k.context
+  AllKept deeds w = (k : Kept) → Contains (w.replica name).kept k → IsSnapshotAlone hash_of name deeds k.session k.seen (w.kept k.session) k.map k.context
 
   pub taken_more : (deeds : List Deed) (d : Deed) (s : SessionValue) (told : DotValue → Bool) (S : List Operation) (m : Held) (c : DotValue → Bool)
-      → IsTakenAlone hash_of name deeds s told S m c → IsTakenAlone hash_of name (deeds ++ d ∷ []) s told S m c
+      → IsSnapshotAlone hash_of name deeds s told S m c → IsSnapshotAlone hash_of name (deeds ++ d ∷ []) s told S m c
   taken_more deeds d s told S m c t = record {
     answerer = t.answerer;
     front = t.front;
@@ -142,10 +142,10 @@ module _ (hash_of : List ℕ → ℕ) (name : ℕ) where
   }
 
   kept_more : (deeds : List Deed) (d : Deed) (w v : World) (k : Kept) → v.kept k.session ≡ w.kept k.session
-      → IsTakenAlone hash_of name deeds k.session k.seen (w.kept k.session) k.map k.context
-      → IsTakenAlone hash_of name (deeds ++ d ∷ []) k.session k.seen (v.kept k.session) k.map k.context
+      → IsSnapshotAlone hash_of name deeds k.session k.seen (w.kept k.session) k.map k.context
+      → IsSnapshotAlone hash_of name (deeds ++ d ∷ []) k.session k.seen (v.kept k.session) k.map k.context
   kept_more deeds d w v k same t =
-      subst (λ S. IsTakenAlone hash_of name (deeds ++ d ∷ []) k.session k.seen S k.map k.context) (sym same)
+      subst (λ S. IsSnapshotAlone hash_of name (deeds ++ d ∷ []) k.session k.seen S k.map k.context) (sym same)
       (taken_more deeds d k.session k.seen (w.kept k.session) k.map k.context t)
 
   kept_next : (deeds : List Deed) (w v : World) (d : Deed) (answer : Answer) → RunsAlone hash_of name nothing deeds w → AllKept deeds w
@@ -157,7 +157,7 @@ module _ (hash_of : List ℕ → ℕ) (name : ℕ) where
       kept_more deeds (Calls c) w v k (ap (λ f. f k.session) same) (all k there)
   kept_next deeds w v (Comes mail of) answer runs all befalls k h = by (came_now hash_of name w v mail of answer befalls)
     where
-      by : CameNow hash_of name w mail of answer v → IsTakenAlone hash_of name (deeds ++ Comes mail of ∷ []) k.session k.seen (v.kept k.session) k.map k.context
+      by : CameNow hash_of name w mail of answer v → IsSnapshotAlone hash_of name (deeds ++ Comes mail of ∷ []) k.session k.seen (v.kept k.session) k.map k.context
       by d =
           either (subst (Keeps hash_of name w d.own mail) d.step (delivery_keeps hash_of name w d.own mail) of k
           (subst (λ (x : Replica). Contains x.kept k) d.here h))
@@ -166,7 +166,7 @@ module _ (hash_of : List ℕ → ℕ) (name : ℕ) where
           after = ap (λ (x : World). x.kept k.session) d.after
 
           either : WasKept hash_of name w d.own mail (turn d.new d.outcome d.out) of k ⊎ KeptNow hash_of name w d.own mail (turn d.new d.outcome d.out) of k
-              → IsTakenAlone hash_of name (deeds ++ Comes mail of ∷ []) k.session k.seen (v.kept k.session) k.map k.context
+              → IsSnapshotAlone hash_of name (deeds ++ Comes mail of ∷ []) k.session k.seen (v.kept k.session) k.map k.context
           either (inl was) = kept_more deeds (Comes mail of) w v k (after ∙ was.seen) (all k was.there)
           either (inr now) = record {
             answerer = now.answerer ∙ (tied hash_of name deeds w runs).named;

@@ -19,7 +19,7 @@ use Rattle.replica_model.proofs.Fronts.{none_at}
 use Rattle.replica_model.proofs.Leaving.{same_calls}
 use Rattle.replica_model.proofs.Rows.{snapshot, each_row}
 use Rattle.replica_model.proofs.SessionsAlone.{runs_on, by_deeds}
-use Rattle.replica_alone.specs.Kept.{IsTakenAlone, OpeningsAreAlone}
+use Rattle.replica_alone.specs.Kept.{IsSnapshotAlone, OpeningsAreAlone}
 use Rattle.replica_alone.proofs.Deeds.{CalledNow, CameNow, called_now, came_now}
 use Rattle.replica_alone.proofs.Kept.{taken_more, snapshots_alone}
 
@@ -98,7 +98,7 @@ module _ (hash_of : List ℕ → ℕ) (name : ℕ) where
   abbrev Opens : List Deed → Message → Type 0
   Opens deeds m =
       (s : SessionValue) (context : DotValue → Bool) (root : Option (List ℕ)) → m.mail ≡ Opening s context root
-      → ((told : DotValue → Bool) × IsTakenAlone hash_of name deeds s told m.of.seen m.of.map context) × (root ≡ digest_at hash_of m.of.map [])
+      → ((told : DotValue → Bool) × IsSnapshotAlone hash_of name deeds s told m.of.seen m.of.map context) × (root ≡ digest_at hash_of m.of.map [])
 
   abbrev AllOpen : List Deed → World → Type 0
   AllOpen deeds w = (number : ℕ) (m : Message) → message_at w.messages number ≡ Some m → Opens deeds m
@@ -119,9 +119,9 @@ module _ (hash_of : List ℕ → ℕ) (name : ℕ) where
       let digest : digest_at hash_of k.map [] ≡ root = cc in (
         (
           k.seen,
-          subst (λ u. IsTakenAlone hash_of name deeds u k.seen (v.kept k.session) (map_of_kept (kept_at ks k.session)) context) session
-              (subst (λ c. IsTakenAlone hash_of name deeds k.session k.seen (v.kept k.session) (map_of_kept (kept_at ks k.session)) c) known
-              (subst (λ m. IsTakenAlone hash_of name deeds k.session k.seen (v.kept k.session) m k.context) (sym map) taken)),
+          subst (λ u. IsSnapshotAlone hash_of name deeds u k.seen (v.kept k.session) (map_of_kept (kept_at ks k.session)) context) session
+              (subst (λ c. IsSnapshotAlone hash_of name deeds k.session k.seen (v.kept k.session) (map_of_kept (kept_at ks k.session)) c) known
+              (subst (λ m. IsSnapshotAlone hash_of name deeds k.session k.seen (v.kept k.session) m k.context) (sym map) taken)),
         ),
         sym digest ∙ ap (λ m. digest_at hash_of m []) (sym map),
       )

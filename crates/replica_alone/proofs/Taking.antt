@@ -1,22 +1,19 @@
 -- What an open session of a replica by itself takes.
-use Rattle.std.proofs.Common.{◌≡◌, ◌⊎◌, inl, inr, ℕ, List, [], ◌∷◌, Bool, true, false, Option, Some, None, cond, refl, sym, ap, ◌∙◌, subst, eq-eqb}
+use Rattle.std.proofs.Common.{◌≡◌, inl, inr, ℕ, List, [], ◌∷◌, Bool, Some, sym, ap, ◌∙◌, subst}
 use Rattle.dots.specs.Dot.{DotValue}
-use Rattle.wire_form.specs.Sent.{SentValue}
 use Rattle.wire_form.specs.Session.{SessionValue}
 use Rattle.prefix_digest.specs.Page.{digest_at}
 use Rattle.sync_model.specs.Differ.{Held, Differ}
-use Rattle.sync_model.specs.Fetch.{Fetch, take_opening, take_page}
-use Rattle.sync_model.specs.Fetch as fetch
 use Rattle.sync_model.specs.Laws.{Fetched}
 use Rattle.sync_model.proofs.Fetches.{fetching}
 use Rattle.sync_model.proofs.Fitted.{fitting, opening}
 use Rattle.sync_model.proofs.Lawful.{map_lawful}
 use Rattle.replica_model.specs.Alone.{Deed, Comes, Befalls, RunsAlone}
-use Rattle.replica_model.specs.Delivery.{Outcome, Sent, Done, Turn, turn, is_complete, asks_of, asks_for, child_prefixes, went_on, opening_taken}
-use Rattle.replica_model.specs.Delivery.{page_taken, took_first, took_further, took_opening, took_page, delivered}
+use Rattle.replica_model.specs.Delivery.{Turn}
+use Rattle.replica_model.specs.Delivery.{delivered}
 use Rattle.replica_model.specs.Laws.{IsDoneElseSent, sent_of}
 use Rattle.replica_model.specs.Mail.{Mail, Opening, Page}
-use Rattle.replica_model.specs.Replica.{Replica, Open, Accepted, open_at}
+use Rattle.replica_model.specs.Replica.{Open, Accepted, open_at}
 use Rattle.replica_model.specs.SessionsAlone.{TookOpening}
 use Rattle.replica_model.specs.Step.{Answer, Came}
 use Rattle.replica_model.specs.World.{World, Snapshot, nothing, taking_of}
@@ -24,35 +21,16 @@ use Rattle.replica_model.proofs.Complete.{NoneWaits, complete_waits, incomplete_
 use Rattle.replica_model.proofs.Found.{found_open}
 use Rattle.replica_model.proofs.OpeningsAlone.{one_opening_alone}
 use Rattle.replica_model.proofs.SessionsAlone.{tied}
-use Rattle.replica_model.proofs.Taking.{for_it}
+use Rattle.replica_model.proofs.Taking.{is_taken_outcome, IsAllOf, opening_taken_by, page_taken_by}
 use Rattle.replica_alone.specs.Taking.{TakesOpeningsAlone, TakesPagesAlone}
 use Rattle.replica_alone.proofs.Deeds.{CameNow, came_now}
 
 -- ---- where a step of a session was taken, the delivery is
 
--- with Done where the session has all
-is_taken_outcome : Type 0 → Outcome → Type 0
-is_taken_outcome HasAll o = ((o ≡ Done) × HasAll) ⊎ ((o ≡ Sent) × (¬ HasAll))
-
--- what it fetches is complete just where it has all
-record IsAllOf (HasAll : Type 0) (f : Fetch) : Type 0 where
-  complete : is_complete f ≡ true → HasAll
-  incomplete : is_complete f ≡ false → ¬ HasAll
-
-went : (HasAll : Type 0) (r : Replica) (o : Open) (c : DotValue → Bool) (f : Fetch) (asks : List Mail) → IsAllOf HasAll f
-    → is_taken_outcome HasAll (went_on r o c f asks).outcome
-unfolding is_taken_outcome
-went HasAll r o c f asks all = by (is_complete f) refl _ _
-  where
-    by : (b : Bool) → is_complete f ≡ b → (p q : Replica) → is_taken_outcome HasAll (cond b (turn p Done []) (turn q Sent asks)).outcome
-    by true e p q = inl (refl, all.complete e)
-    by false e p q = inr (refl, all.incomplete e)
-
 -- the answer of a delivery, by what it comes to
 answer_is : (HasAll : Type 0) (hash_of : List ℕ → ℕ) (name : ℕ) (w v : World) (mail : Mail) (of : Snapshot) (answer : Answer)
     → Befalls hash_of name w (Comes mail of) answer v
     → ((own : Held) → is_taken_outcome HasAll (delivered hash_of own (w.replica name) mail).outcome) → IsDoneElseSent answer HasAll
-unfolding is_taken_outcome
 answer_is HasAll hash_of name w v mail of answer befalls all = by (came_now hash_of name w v mail of answer befalls)
   where
     by : CameNow hash_of name w mail of answer v → IsDoneElseSent answer HasAll
@@ -63,18 +41,6 @@ answer_is HasAll hash_of name w v mail of answer befalls all = by (came_now hash
         either (inr (e, lacks)) = inr (d.answers ∙ ap Came e, lacks)
 
 -- ---- an opening
-
-opening_taken_by : (HasAll : Type 0) (hash_of : List ℕ → ℕ) (own : Held) (r : Replica) (s : SessionValue) (context : DotValue → Bool) (root : Option (List ℕ))
-    (o : Open) (f : Fetch) → s.asker ≡ r.name → open_at r.sessions s ≡ Some o → o.accepted ≡ None
-    → take_opening hash_of o.own o.seen context root ≡ fetch.Took f → IsAllOf HasAll f
-    → is_taken_outcome HasAll (delivered hash_of own r (Opening s context root)).outcome
-opening_taken_by HasAll hash_of own r s context root o f here there first took has =
-    let all : delivered hash_of own r (Opening s context root) ≡ went_on r o context f (asks_of o.session f) =
-    for_it hash_of own r (Opening s context root) (eq-eqb s.asker r.name here)
-    ∙ ap (took_opening hash_of r context root) there
-    ∙ ap (took_first hash_of r o context root) first
-    ∙ ap (opening_taken hash_of r o context) took in
-    subst (λ (t : Turn). is_taken_outcome HasAll t.outcome) (sym all) (went HasAll r o context f (asks_of o.session f) has)
 
 pub takes_openings_alone : TakesOpeningsAlone
 takes_openings_alone hash_of name deeds w v runs s o there first context theirs known no_clash of answer befalls =
@@ -95,18 +61,6 @@ takes_openings_alone hash_of name deeds w v runs s o there first context theirs 
     (λ own. opening_taken_by HasAll hash_of own (w.replica name) s context root o fits.0 here there first fits.1 has)
 
 -- ---- a page
-
-page_taken_by : (HasAll : Type 0) (hash_of : List ℕ → ℕ) (own : Held) (r : Replica) (s : SessionValue) (sent : SentValue) (o : Open) (a : Accepted) (f : Fetch)
-    → s.asker ≡ r.name → open_at r.sessions s ≡ Some o → o.accepted ≡ Some a
-    → take_page hash_of o.own o.seen a.context a.fetch sent.prefix sent.page sent.values ≡ fetch.Took f → IsAllOf HasAll f
-    → is_taken_outcome HasAll (delivered hash_of own r (Page s sent)).outcome
-page_taken_by HasAll hash_of own r s sent o a f here there accepted took has =
-    let all : delivered hash_of own r (Page s sent) ≡ went_on r o a.context f (asks_for o.session (child_prefixes hash_of o sent)) =
-    for_it hash_of own r (Page s sent) (eq-eqb s.asker r.name here)
-    ∙ ap (took_page hash_of r sent) there
-    ∙ ap (took_further hash_of r o sent) accepted
-    ∙ ap (page_taken hash_of r o a.context sent) took in
-    subst (λ (t : Turn). is_taken_outcome HasAll t.outcome) (sym all) (went HasAll r o a.context f (asks_for o.session (child_prefixes hash_of o sent)) has)
 
 -- what a session has fetched is under the one opening that it took
 pub fetched_of : (hash_of : List ℕ → ℕ) (name : ℕ) (deeds : List Deed) (w : World) → RunsAlone hash_of name nothing deeds w → (s : SessionValue) (o : Open)

@@ -22,8 +22,8 @@ OpeningsAskAlone = (hash_of : List ℕ → ℕ) (name : ℕ) (deeds : List Deed)
     → Befalls hash_of name w (Comes (Opening s context root) of) (Came Sent) v → v.messages ≡ w.messages ++ asks_at s ([] ∷ [])
 
 -- One that takes a page and goes on asks for some prefixes, whatever clashes. For each map with the root digest of the opening that it took, unless
--- pages or values clash that the session itself met with this page: these are just the children of the page's prefix where that map and the own one
--- differ, and they ascend.
+-- pages or values clash of the two maps and of what the session took, this page among it: these are just the children of the page's prefix where that
+-- map and the own one differ, and they ascend.
 abbrev pub PagesAskAlone : Type 0
 PagesAskAlone = (hash_of : List ℕ → ℕ) (name : ℕ) (deeds : List Deed) (w v : World) → RunsAlone hash_of name nothing deeds w
     → (s : SessionValue) (sent : SentValue) (of : Snapshot) (o : Open) → open_at (w.replica name).sessions s ≡ Some o

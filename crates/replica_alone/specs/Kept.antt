@@ -18,7 +18,7 @@ use Rattle.replica_model.specs.World.{World, Message, Snapshot, message_at, no_s
 
 -- A snapshot for a session was taken of what the replica was just before one of the deeds: a hello of the session came and told these dots, and no snapshot
 -- was kept for it yet. So much had the replica seen then, for its live state this map stood, and it knew these dots.
-pub record IsTakenAlone (hash_of : List ℕ → ℕ) (name : ℕ) (deeds : List Deed) (s : SessionValue) (told : DotValue → Bool) (seen : List Operation)
+pub record IsSnapshotAlone (hash_of : List ℕ → ℕ) (name : ℕ) (deeds : List Deed) (s : SessionValue) (told : DotValue → Bool) (seen : List Operation)
     (map : Held) (context : DotValue → Bool) : Type 0 where
   pub answerer : s.answerer ≡ name
   pub front : List Deed
@@ -37,14 +37,14 @@ pub record IsTakenAlone (hash_of : List ℕ → ℕ) (name : ℕ) (deeds : List 
 -- each kept snapshot is so, whatever the replica wrote since, and it goes by the dots that its hello told
 abbrev pub SnapshotsAreForAlone : Type 0
 SnapshotsAreForAlone = (hash_of : List ℕ → ℕ) (name : ℕ) (deeds : List Deed) (w : World) → RunsAlone hash_of name nothing deeds w
-    → (k : Kept) → Contains (w.replica name).kept k → IsTakenAlone hash_of name deeds k.session k.seen (w.kept k.session) k.map k.context
+    → (k : Kept) → Contains (w.replica name).kept k → IsSnapshotAlone hash_of name deeds k.session k.seen (w.kept k.session) k.map k.context
 
 -- each opening that it sent is that of such a snapshot, with the root digest of its map
 abbrev pub OpeningsAreAlone : Type 0
 OpeningsAreAlone = (hash_of : List ℕ → ℕ) (name : ℕ) (deeds : List Deed) (w : World) → RunsAlone hash_of name nothing deeds w
     → (number : ℕ) (m : Message) → message_at w.messages number ≡ Some m
     → (s : SessionValue) (context : DotValue → Bool) (root : Option (List ℕ)) → m.mail ≡ Opening s context root
-    → ((told : DotValue → Bool) × IsTakenAlone hash_of name deeds s told m.of.seen m.of.map context) × (root ≡ digest_at hash_of m.of.map [])
+    → ((told : DotValue → Bool) × IsSnapshotAlone hash_of name deeds s told m.of.seen m.of.map context) × (root ≡ digest_at hash_of m.of.map [])
 
 -- an ask is told the page of the kept snapshot, with the values that the asker had not seen, by what its hello told
 abbrev pub TellsPagesAlone : Type 0

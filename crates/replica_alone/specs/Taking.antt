@@ -43,7 +43,7 @@ TakesPagesAlone = (hash_of : List ℕ → ℕ) (name : ℕ) (deeds : List Deed) 
     → IsDoneElseSent answer ((q d : List ℕ) → ¬ Waits hash_of o.own theirs (TakenAt (taking_of sent ∷ w.taken s)) q d))
 
 -- For each map with the root digest of the opening that an open session accepted: any page but that of the map, at a prefix that the session waits for, is
--- answered Mismatch and leaves all as it is, unless pages or values clash that the session itself met, with those of this page.
+-- answered Mismatch and leaves all as it is, unless pages or values clash of the two maps and of what the session took, this page among it.
 abbrev pub OtherPagesMismatchAlone : Type 0
 OtherPagesMismatchAlone = (hash_of : List ℕ → ℕ) (name : ℕ) (deeds : List Deed) (w v : World) → RunsAlone hash_of name nothing deeds w
     → (s : SessionValue) (o : Open) (a : Accepted) → open_at (w.replica name).sessions s ≡ Some o → o.accepted ≡ Some a

@@ -1,5 +1,5 @@
-// The laws of a replica by itself, to which messages come from anywhere: what the laws of worlds say of its sessions, its snapshots and its limits holds
-// of it too. No product code.
+// The laws of a replica by itself, to which messages come from anywhere: of its sessions, its snapshots and its limits they say what those of worlds say,
+// but for what a peer did. No product code.
 // Offered to the crates above: that these laws hold.
 #![tactic(auto)]
 

@@ -2,25 +2,26 @@
 ghost use Rattle.replica_alone.specs.Asking.{OpeningsAskAlone, PagesAskAlone};
 ghost use Rattle.replica_alone.specs.Taking.{TakesOpeningsAlone, TakesPagesAlone, OtherPagesMismatchAlone};
 
-/// A session of a replica by itself that takes an opening and goes on asks for the root. One that takes a page and goes on asks, for each map with the
-/// root digest of the opening that it took, for just the children of the page's prefix where that map and its own one differ, by ascending index,
-/// unless two pages or two values that it met itself have one SHA-256.
+/// A session of a replica by itself that takes an opening and goes on asks for the root. One that takes a page and goes on sends asks alone. For each map
+/// with the root digest of the opening that it took, these are for just the children of the page's prefix where that map and its own one differ, by
+/// ascending index, unless two pages or two values of the two maps and of what it took have one SHA-256.
 pub fn sessions_of_a_replica_alone_ask_for_what_differs()
     ensures openings { OpeningsAskAlone }
     ensures pages { PagesAskAlone }
 {}
 
-/// Unless two pages or two values that an open session itself met have one SHA-256, whatever other sessions met and whatever was forged, it takes what it
-/// waits for. Where it accepted no opening it takes each one of it that knows the dots of some map and has its root digest, which is answered Done where
-/// that map and its own one differ nowhere. Where it accepted one it takes, at each prefix that it waits for, the page of each map that this opening can
-/// be of, with the values that it had not seen, which is answered Done where nothing is waited for after it; and each such map has a page there.
+/// An open session takes what it waits for, whatever other sessions met and whatever was forged. Where it accepted no opening it takes each one that knows
+/// the dots of some map and has its root digest, which is answered Done where that map and its own one differ nowhere. Where it accepted one, each map
+/// with its root digest, whose dots it knows, and which has the own value at each dot that both have at one place, has a page at each prefix that is
+/// waited for; it takes this, with the values that it had not seen, which is answered Done where nothing is waited for after it. Each is so unless two
+/// pages or two values of the two maps and of what it took have one SHA-256.
 pub fn sessions_of_a_replica_alone_take_what_they_wait_for()
     ensures openings { TakesOpeningsAlone }
     ensures pages { TakesPagesAlone }
 {}
 
-/// Any other page at a prefix that an open session waits for is answered Mismatch, unless two pages or two values that the session itself met, with
-/// those of this page, have one SHA-256. It leaves all as it is.
+/// For each map with the root digest of the opening that an open session accepted: any page but that map's, at a prefix that is waited for, is answered
+/// Mismatch and leaves all as it is, unless two pages or two values of the two maps and of what it took, this page among it, have one SHA-256.
 pub fn sessions_of_a_replica_alone_take_no_other_pages()
     ensures { OtherPagesMismatchAlone }
 {}

@@ -23,7 +23,7 @@ pub fn each_deed_befalls_or_is_refused()
     ensures not_both { RefusedDoesNotBefall }
 {}
 
-/// Each message that has bytes is finite so.
+/// Each message that has bytes is finite: its delta shows values at finitely many places and knows finitely many dots, and so does its opening.
 pub fn messages_with_bytes_are_finite()
     ensures { SpelledIsFinite }
 {}

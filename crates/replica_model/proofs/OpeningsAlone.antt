@@ -29,7 +29,7 @@ use Rattle.replica_model.proofs.SessionsAlone.{Arrived, arrived, IsAsking, call_
 -- ---- deeds decide the world
 
 module _ (hash_of : List ℕ → ℕ) (name : ℕ) where
-  befalls_one : (w v v' : World) (d : Deed) (answer answer' : Answer) → Befalls hash_of name w d answer v → Befalls hash_of name w d answer' v'
+  pub befalls_one : (w v v' : World) (d : Deed) (answer answer' : Answer) → Befalls hash_of name w d answer v → Befalls hash_of name w d answer' v'
       → (answer ≡ answer') × (v ≡ v')
   befalls_one w v v' (Calls c) answer answer' (new, out, step, e) (new', out', step', e') =
       let one = steps_one hash_of (w.replica name) new new' (Do c) answer answer' out out' step step' in
@@ -39,7 +39,7 @@ module _ (hash_of : List ℕ → ℕ) (name : ℕ) where
       let same : outcome ≡ outcome' = came_one outcome outcome' (sym a ∙ one.answers ∙ a') in
       (one.answers, e ∙ (λ i. goes name (one.replica i) (one.sent i) [] (takes name (w.replica name) mail of (same i) w)) ∙ sym e')
 
-  runs_one : (deeds : List Deed) (u w v : World) → RunsAlone hash_of name u deeds w → RunsAlone hash_of name u deeds v → w ≡ v
+  pub runs_one : (deeds : List Deed) (u w v : World) → RunsAlone hash_of name u deeds w → RunsAlone hash_of name u deeds v → w ≡ v
   runs_one [] u w v e f = e ∙ sym f
   runs_one (x ∷ deeds) u w v (answer, t, step, rest) (answer', t', step', rest') =
       let same = (befalls_one u t t' x answer answer' step step').1 in

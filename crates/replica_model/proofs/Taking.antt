@@ -29,17 +29,16 @@ use Rattle.replica_model.proofs.Standing.{IsHeldOf, held_lawful, held_known, one
 -- ---- where a step of a session was taken, the delivery is
 
 -- with Done where the session has all
-is_taken_outcome : Type 0 → Outcome → Type 0
+abbrev pub is_taken_outcome : Type 0 → Outcome → Type 0
 is_taken_outcome HasAll o = ((o ≡ Done) × HasAll) ⊎ ((o ≡ Sent) × (¬ HasAll))
 
 -- what it fetches is complete just where it has all
-record IsAllOf (HasAll : Type 0) (f : Fetch) : Type 0 where
-  complete : is_complete f ≡ true → HasAll
-  incomplete : is_complete f ≡ false → ¬ HasAll
+pub record IsAllOf (HasAll : Type 0) (f : Fetch) : Type 0 where
+  pub complete : is_complete f ≡ true → HasAll
+  pub incomplete : is_complete f ≡ false → ¬ HasAll
 
 went : (HasAll : Type 0) (r : Replica) (o : Open) (c : DotValue → Bool) (f : Fetch) (asks : List Mail) → IsAllOf HasAll f
     → is_taken_outcome HasAll (went_on r o c f asks).outcome
-unfolding is_taken_outcome
 went HasAll r o c f asks all = by (is_complete f) refl _ _
   where
     by : (b : Bool) → is_complete f ≡ b → (p q : Replica) → is_taken_outcome HasAll (cond b (turn p Done []) (turn q Sent asks)).outcome
@@ -58,7 +57,6 @@ the_same o x y e f = let same : Some x ≡ Some y = sym e ∙ f in cc
 answer_is : (HasAll : Type 0) (hash_of : List ℕ → ℕ) (w v : World) (number name : ℕ) (answer : Answer) (m : Message) → message_at w.messages number ≡ Some m
     → Happens hash_of w (Deliver number name) answer v
     → ((own : Held) → is_taken_outcome HasAll (delivered hash_of own (w.replica name) m.mail).outcome) → IsDoneElseSent answer HasAll
-unfolding is_taken_outcome
 answer_is HasAll hash_of w v number name answer m there happens all = by d (all d.own)
   where
     d : Delivered hash_of w number name answer v
@@ -78,7 +76,7 @@ answer_is HasAll hash_of w v number name answer m there happens all = by d (all 
 
 -- ---- an opening
 
-opening_taken_by : (HasAll : Type 0) (hash_of : List ℕ → ℕ) (own : Held) (r : Replica) (s : SessionValue) (context : DotValue → Bool) (root : Option (List ℕ))
+pub opening_taken_by : (HasAll : Type 0) (hash_of : List ℕ → ℕ) (own : Held) (r : Replica) (s : SessionValue) (context : DotValue → Bool) (root : Option (List ℕ))
     (o : Open) (f : Fetch) → s.asker ≡ r.name
     → open_at r.sessions s ≡ Some o → o.accepted ≡ None → take_opening hash_of o.own o.seen context root ≡ fetch.Took f → IsAllOf HasAll f
     → is_taken_outcome HasAll (delivered hash_of own r (Opening s context root)).outcome
@@ -114,7 +112,7 @@ takes_openings hash_of events w runs number name m s context root o there mail o
 
 -- ---- a page
 
-page_taken_by : (HasAll : Type 0) (hash_of : List ℕ → ℕ) (own : Held) (r : Replica) (s : SessionValue) (sent : SentValue) (o : Open) (a : Accepted) (f : Fetch)
+pub page_taken_by : (HasAll : Type 0) (hash_of : List ℕ → ℕ) (own : Held) (r : Replica) (s : SessionValue) (sent : SentValue) (o : Open) (a : Accepted) (f : Fetch)
     → s.asker ≡ r.name
     → open_at r.sessions s ≡ Some o → o.accepted ≡ Some a → take_page hash_of o.own o.seen a.context a.fetch sent.prefix sent.page sent.values ≡ fetch.Took f
     → IsAllOf HasAll f
