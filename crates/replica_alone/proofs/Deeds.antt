@@ -4,8 +4,8 @@ use Rattle.std.proofs.lemmas.List.{append-nil}
 use Rattle.prefix_digest.specs.MapOf.{IsMapOf}
 use Rattle.sync_model.specs.Differ.{Held}
 use Rattle.replica_model.specs.Alone.{Calls, Comes, Befalls}
-use Rattle.replica_model.specs.Delivery.{Outcome, turn, delivered}
-use Rattle.replica_model.specs.Mail.{Mail}
+use Rattle.replica_model.specs.Delivery.{Outcome, Ignored, Mismatch, turn, delivered}
+use Rattle.replica_model.specs.Mail.{Mail, Delta, Hello, Opening, Ask, Page, Gone}
 use Rattle.replica_model.specs.Replica.{Replica}
 use Rattle.replica_model.specs.Step.{Call, Answer, Came, IsCall}
 use Rattle.replica_model.specs.World.{World, Snapshot, calls, takes, goes}
@@ -65,3 +65,20 @@ as_it_was name w =
     let same : (n : ℕ) → cond (n == name) (w.replica name) (w.replica n) ≡ w.replica n =
     by_name (λ n r. r ≡ w.replica n) name (w.replica name) w.replica refl (λ n apart. refl) in
     λ i. record w { replica = λ n. same n i; messages = append-nil w.messages i }
+
+-- the sets follow no message that was ignored, or did not fit
+pub ignored_stays : (name : ℕ) (r : Replica) (mail : Mail) (of : Snapshot) (w : World) → takes name r mail of Ignored w ≡ w
+ignored_stays name r (Delta d) of w = refl
+ignored_stays name r (Hello s seen) of w = refl
+ignored_stays name r (Opening s context root) of w = refl
+ignored_stays name r (Ask s prefix) of w = refl
+ignored_stays name r (Page s sent) of w = refl
+ignored_stays name r (Gone s) of w = refl
+
+pub mismatch_stays : (name : ℕ) (r : Replica) (mail : Mail) (of : Snapshot) (w : World) → takes name r mail of Mismatch w ≡ w
+mismatch_stays name r (Delta d) of w = refl
+mismatch_stays name r (Hello s seen) of w = refl
+mismatch_stays name r (Opening s context root) of w = refl
+mismatch_stays name r (Ask s prefix) of w = refl
+mismatch_stays name r (Page s sent) of w = refl
+mismatch_stays name r (Gone s) of w = refl

@@ -8,5 +8,6 @@ pub mod Taking
 pub mod Refusing
 pub mod Living
 pub mod Befalling
+pub mod Adding
 pub mod Said
 pub mod Spelled

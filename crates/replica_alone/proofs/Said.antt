@@ -18,7 +18,7 @@ use Rattle.replica_model.proofs.Alone.{headline_alone}
 use Rattle.replica_model.proofs.Rows.{each_row}
 use Rattle.replica_model.proofs.States.{same_is}
 use Rattle.replica_alone.specs.Said.{is_taken, brings, TakenSay, brought_taken, HeadlineTakenAlone, SameSeenAlone}
-use Rattle.replica_alone.proofs.Deeds.{CameNow, came_now, as_it_was}
+use Rattle.replica_alone.proofs.Deeds.{CameNow, came_now, as_it_was, ignored_stays, mismatch_stays}
 
 -- ---- what a message that is not taken leaves
 
@@ -45,23 +45,6 @@ module _ (hash_of : List ℕ → ℕ) (own : Held) (r : Replica) where
     page_sent = λ s sent o a f there accepted took. tt;
     ended = λ s o there. (s, refl);
   })
-
--- the sets follow neither
-ignored_stays : (name : ℕ) (r : Replica) (mail : Mail) (of : Snapshot) (w : World) → takes name r mail of Ignored w ≡ w
-ignored_stays name r (Delta d) of w = refl
-ignored_stays name r (Hello s seen) of w = refl
-ignored_stays name r (Opening s context root) of w = refl
-ignored_stays name r (Ask s prefix) of w = refl
-ignored_stays name r (Page s sent) of w = refl
-ignored_stays name r (Gone s) of w = refl
-
-mismatch_stays : (name : ℕ) (r : Replica) (mail : Mail) (of : Snapshot) (w : World) → takes name r mail of Mismatch w ≡ w
-mismatch_stays name r (Delta d) of w = refl
-mismatch_stays name r (Hello s seen) of w = refl
-mismatch_stays name r (Opening s context root) of w = refl
-mismatch_stays name r (Ask s prefix) of w = refl
-mismatch_stays name r (Page s sent) of w = refl
-mismatch_stays name r (Gone s) of w = refl
 
 -- ---- what a message is taken to stand for: nothing, but where it brings something
 

@@ -4,3 +4,4 @@ pub mod Kept
 pub mod Asking
 pub mod Taking
 pub mod Said
+pub mod Ended
