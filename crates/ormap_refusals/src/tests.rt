@@ -4,5 +4,6 @@ mod late;
 mod long;
 mod new_nodes;
 mod reads;
+mod serving;
 mod tries;
 mod worlds;
