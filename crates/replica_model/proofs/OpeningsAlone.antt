@@ -378,8 +378,9 @@ pub one_opening_alone : OneOpeningAlone
 one_opening_alone hash_of name deeds s context context' root root' a b =
     step (fronts (Comes (Opening s context root) a.of) (Comes (Opening s context' root') b.of) a.front b.front a.later b.later (sym a.split ∙ b.split))
   where
-    step : AreFronts (Comes (Opening s context root) a.of) a.front (Comes (Opening s context' root') b.of) b.front → (context ≡ context') × (root ≡ root')
-    step (inl (both, is)) = (cc, cc)
+    step : AreFronts (Comes (Opening s context root) a.of) a.front (Comes (Opening s context' root') b.of) b.front
+        → (context ≡ context') × (root ≡ root') × (a.of ≡ b.of)
+    step (inl (both, is)) = (cc, cc, cc)
     step (inr (inl longer)) = absurd (not_again hash_of name deeds s context context' root root' a b longer)
     step (inr (inr longer)) = absurd (not_again hash_of name deeds s context' context root' root b a longer)
 

@@ -89,7 +89,8 @@ OneAskAlone = (hash_of : List ℕ → ℕ) (name : ℕ) (deeds : List Deed) (s :
 
 abbrev pub OneOpeningAlone : Type 0
 OneOpeningAlone = (hash_of : List ℕ → ℕ) (name : ℕ) (deeds : List Deed) (s : SessionValue) (context context' : DotValue → Bool) (root root' : Option (List ℕ))
-    → TookOpening hash_of name deeds s context root → TookOpening hash_of name deeds s context' root' → (context ≡ context') × (root ≡ root')
+    → (one : TookOpening hash_of name deeds s context root) (other : TookOpening hash_of name deeds s context' root')
+    → (context ≡ context') × (root ≡ root') × (one.of ≡ other.of)
 
 abbrev pub EndsAlone : Type 0
 EndsAlone = (hash_of : List ℕ → ℕ) (name : ℕ) (deeds : List Deed) (w v : World) (mail : Mail) (of : Snapshot) → RunsAlone hash_of name nothing deeds w

@@ -9,7 +9,7 @@ pub fn sessions_of_a_replica_alone_are_of_asks()
     ensures { SessionsAlone }
 {}
 
-/// And such a session has one ask and takes one opening, so these are the ask and the opening of the session.
+/// And such a session has one ask and takes one opening, of one snapshot, so these are the ask and the opening of the session.
 pub fn a_session_of_a_replica_alone_has_one_opening()
     ensures ask { OneAskAlone }
     ensures opening { OneOpeningAlone }
