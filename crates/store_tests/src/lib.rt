@@ -1,5 +1,5 @@
-// Tests of the plain values, the contexts, the dot stores and the causal pairs, of the tries and the live pairs, and of messages, through
-// public calls alone. They stand in a crate of their own, so that a check of them proves none of those crates a second time; and in one, as
+// Tests of the plain values, the contexts, the dot stores and the causal pairs, of the tries and the live pairs, through public calls
+// alone. They stand in a crate of their own, so that a check of them proves none of those crates a second time; and in one, as
 // each crate of tests has the code of all that it calls put together, and the drops of its types proved, once more.
 #![tactic(auto)]
 
@@ -11,8 +11,6 @@ mod forms;
 mod live;
 #[cfg(test)]
 mod made;
-#[cfg(test)]
-mod messages;
 #[cfg(test)]
 mod pairs;
 #[cfg(test)]

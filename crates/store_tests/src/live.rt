@@ -2,6 +2,5 @@
 mod generations;
 mod made;
 mod operations;
-mod outgoing;
 mod pairs;
 mod stores;
