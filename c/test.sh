@@ -5,7 +5,7 @@
 set -euo pipefail
 cd "$(dirname "$0")/.."
 seed=${1:-$(date +%s%N)}
-c/build.sh build
+[ -e build/libginelm.a ] || c/build.sh build
 work=$(mktemp -d)
 trap 'rm -rf "$work"' EXIT
 cc=${CC:-cc}
