@@ -1,18 +1,46 @@
 #!/usr/bin/env python3
 """Measures a node beside maps of std under a lock: python3 bench/nodes.py [--milliseconds N] [--runs N] [PROGRAM]
 
-PROGRAM is the crates/bench_nodes that a gate built. Each row is of so many runs: the median of each rate, and the longest read of all runs.
+PROGRAM is the node, built; where none is given it is proved and built from bench/nodes/program, over the libraries that a gate left in crates/.
+Each row is of so many runs: the median of each rate, and the longest read of all runs.
 """
 import argparse
+import os
 import re
+import shutil
 import statistics
 import subprocess
+import sys
 import tempfile
 from pathlib import Path
 
 BENCH = Path(__file__).resolve().parent
-BUILT = BENCH.parent / "crates" / "bench_nodes" / "out" / "bench_nodes"
+sys.path.append(str(BENCH.parent / "c"))
+from library import command, kit  # noqa: E402  (found by the path above)
+
 LINE = re.compile(r"(\d+) reads, (\d+) writes, the longest read (\d+) ns")
+USES = ["node_threads", "shared_object", "root_cell", "replica_model", "dots", "anyhow"]
+
+
+def unpacked(folder):
+    """The crate of the node in the folder. Its files end in .in here, as `rt ci` takes each .rt and .antt file for one of the gate."""
+    source = BENCH / "nodes" / "program"
+    for file in source.rglob("*.in"):
+        to = folder / file.relative_to(source).with_suffix("")
+        to.parent.mkdir(parents=True, exist_ok=True)
+        shutil.copyfile(file, to)
+    return folder
+
+
+def proved(folder):
+    """The program in Rattle, proved and built into the folder."""
+    at, crate = kit(), unpacked(folder / "bench_nodes")
+    program, made = folder / "node", folder / "node.o"
+    words = command(at, "bench_nodes", "src/main.rt", USES, str(os.cpu_count()))
+    subprocess.run([*words, "--backend", "llvm", "-o", made], cwd=crate, stdout=subprocess.DEVNULL, check=True)
+    link = [f"{at}/bin/rattle-link", "--target", "x86_64-unknown-linux-gnu", "--toolchain", f"{at}/toolchain", "-o", program, made]
+    subprocess.run([*link, f"{at}/c/libos_c.a", f"{at}/c/liblibc_c.a"], check=True)
+    return program
 
 
 def compiled(folder):
@@ -37,13 +65,13 @@ def rates(words, numbers, milliseconds, runs):
 
 def main():
     parser = argparse.ArgumentParser(description=__doc__.split("\n")[0])
-    parser.add_argument("program", nargs="?", default=BUILT, type=Path)
+    parser.add_argument("program", nargs="?", type=Path)
     parser.add_argument("--milliseconds", default=1000, type=int)
     parser.add_argument("--runs", default=3, type=int)
     asked = parser.parse_args()
     with tempfile.TemporaryDirectory() as folder:
         maps = compiled(Path(folder))
-        node = asked.program.resolve()
+        node = asked.program.resolve() if asked.program else proved(Path(folder))
         kinds = [
             ("a node", [node], lambda readers: [readers, readers + 1, 1]),
             ("a node, 100 at once", [node], lambda readers: [readers, readers + 1, 100]),

@@ -27,23 +27,23 @@ def crates():
     return {it[0].split()[0]: it[1].split() for it in rows if len(it) == 2}
 
 
-def below(table, crate):
-    """All crates of the repository that a crate stands on."""
-    own = [it for it in table[crate] if it in table]
-    return set(own).union(*(below(table, it) for it in own))
+def below(table, uses):
+    """All crates of the repository among these and below them."""
+    own = [it for it in uses if it in table]
+    return set(own).union(*(below(table, table[it]) for it in own))
 
 
-def command(at, table, crate, jobs):
-    """What builds the library."""
+def command(at, crate, root_file, uses, jobs):
+    """What proves and builds a crate that stands on these. What is built and where to is still to be added."""
+    table = crates()
     rlib = lambda it: os.path.join(ROOT, "crates", it, "out", "rlib") if it in table else f"{at}/rlibs"
-    words = [f"{at}/bin/rattle", "build", "--crate-name", crate, "src/lib.rt"]
-    for it in ["std", *table[crate]]:
+    words = [f"{at}/bin/rattle", "build", "--crate-name", crate, root_file]
+    for it in ["std", *uses]:
         words += ["--extern", f"{it}={rlib(it)}/{it}.rlib"]
-    for folder in [f"{at}/rlibs", *map(rlib, sorted(below(table, crate)))]:
+    for folder in [f"{at}/rlibs", *map(rlib, sorted(below(table, uses)))]:
         words += ["-L", f"dependency={folder}"]
     words += ["--antt-project", f"{at}/rattle/logic/antt-project.json", "--logic-built", f"{at}/logic_built"]
-    words += ["--links", f"{crate}=", "--jobs", jobs, "--crate-type", "staticlib", "--toolchain", f"{at}/toolchain"]
-    return [*words, "-o", f"out/lib{crate}.a"]
+    return [*words, "--links", f"{crate}=", "--jobs", jobs, "--toolchain", f"{at}/toolchain"]
 
 
 def main():
@@ -51,7 +51,9 @@ def main():
     crate, jobs = sys.argv[1], sys.argv[2] if len(sys.argv) > 2 else "1"
     folder = os.path.join(ROOT, "crates", crate)
     os.makedirs(os.path.join(folder, "out"), exist_ok=True)
-    sys.exit(subprocess.run(command(kit(), crates(), crate, jobs), cwd=folder, check=False).returncode)
+    words = command(kit(), crate, "src/lib.rt", crates()[crate], jobs)
+    sys.exit(subprocess.run([*words, "--crate-type", "staticlib", "-o", f"out/lib{crate}.a"], cwd=folder, check=False).returncode)
 
 
-main()
+if __name__ == "__main__":
+    main()

@@ -1,4 +1,4 @@
-//! Measures a map of std under a lock, as `crates/bench_nodes` measures a node: readers and one writer, all at the same time, each in a
+//! Measures a map of std under a lock, as `bench/nodes/program` measures a node: readers and one writer, all at the same time, each in a
 //! thread of its own. bench/README.md says how to run it.
 use std::collections::HashMap;
 use std::env;
@@ -50,7 +50,7 @@ impl Shared for RwLock<Map> {
     }
 }
 
-/// The same numbers as in `crates/bench_nodes`.
+/// The same numbers as in `bench/nodes/program`.
 struct Random {
     state: u64,
 }
