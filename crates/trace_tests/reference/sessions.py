@@ -26,6 +26,12 @@ class Open:
         self.session, self.own, self.accepted, self.waiting = session, entries, None, {}
 
 
+def addressee(message):
+    """Whom a message of a session is for."""
+    asker, answerer, _ = message.session
+    return answerer if isinstance(message, (Hello, Ask)) else asker
+
+
 def page_at(entries, prefix):
     """The bytes of the page of a map at a prefix, or None."""
     under = [e for e in sorted(entries.items()) if path(e[0])[: len(prefix)] == list(prefix)]
@@ -73,8 +79,7 @@ class Sessions:
 
     def take(self, message, seen, entries):
         """What comes of a message of a session at a replica that has seen this and holds this: the word, the replies, and what is learnt."""
-        asker, answerer, _ = message.session
-        if (answerer if isinstance(message, (Hello, Ask)) else asker) != self.name:
+        if addressee(message) != self.name:
             return "ignored", [], set()
         if isinstance(message, Hello):
             if message.session not in self.kept:

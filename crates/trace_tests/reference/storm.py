@@ -3,7 +3,7 @@ import re
 import sys
 
 sys.dont_write_bytecode = True
-from sessions import Ask, Delta, Hello
+from sessions import Delta, addressee
 from text_of_trace import Fault, World, digest, shown
 
 MASK = 2**64 - 1
@@ -39,7 +39,7 @@ class Storm:
         message = self.world.messages[number - 1] if 0 < number <= len(self.world.messages) else None
         if message is None or isinstance(message, Delta):
             return name
-        return message.session[1] if isinstance(message, (Hello, Ask)) else message.session[0]
+        return addressee(message)
 
     def words(self):
         """A line of a trace, but that a message or a session may have the number 0."""

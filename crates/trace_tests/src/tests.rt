@@ -2,10 +2,7 @@
 //! events of a world come to, and what is read of one; and what of a replica stands behind no call of other languages.
 
 mod changes;
-mod crashes;
-mod examples;
 mod faults;
-mod generated;
 mod kept;
 mod made;
 mod reads;

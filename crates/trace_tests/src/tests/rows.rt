@@ -644,7 +644,7 @@ fn streams(alloc: Global, trace: &str, text: &str, refusal: Option<Refusal>) -> 
 }
 
 // Whether the trace gives the text, as one text and as a stream, and the stream ends so.
-pub(crate) fn gives(
+fn gives(
     rt: &impl Abort,
     alloc: Global,
     trace: &str,
