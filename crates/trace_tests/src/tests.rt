@@ -1,11 +1,10 @@
 //! What no clause says: the worked traces with their exact text, the order of reads and writes, and failures in mid-stream; what random
-//! events of a world come to, and what is read of one; and what of a replica stands behind no call of other languages.
+//! events of a world come to; and what of a replica stands behind no call of other languages.
 
 mod changes;
+mod copies;
 mod faults;
-mod kept;
 mod made;
-mod reads;
 mod refused;
 mod rows;
 mod sealing;
