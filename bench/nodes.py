@@ -37,7 +37,9 @@ def proved(folder):
     at, crate = kit(), unpacked(folder / "bench_nodes")
     program, made = folder / "node", folder / "node.o"
     words = command(at, "bench_nodes", "src/main.rt", USES, str(os.cpu_count()))
-    subprocess.run([*words, "--backend", "llvm", "-o", made], cwd=crate, stdout=subprocess.DEVNULL, check=True)
+    ran = subprocess.run([*words, "--backend", "llvm", "-o", made], cwd=crate, stdout=subprocess.PIPE, stderr=subprocess.STDOUT, text=True)
+    if ran.returncode:
+        sys.exit(ran.stdout)
     link = [f"{at}/bin/rattle-link", "--target", "x86_64-unknown-linux-gnu", "--toolchain", f"{at}/toolchain", "-o", program, made]
     subprocess.run([*link, f"{at}/c/libos_c.a", f"{at}/c/liblibc_c.a"], check=True)
     return program
