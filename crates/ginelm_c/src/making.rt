@@ -8,7 +8,9 @@ ghost use Rattle.ginelm_c.specs.declared.held.Held.{Held};
 use crate::answer::{EMPTY, FULL, NO_NAME};
 use crate::handle::Handle;
 use crate::held::Held;
+use crate::texts::Texts;
 use dots::{Name, Refusal};
+use gen_trie::Frozen;
 use hash_path::Fnv1a;
 use replica_core::Replica;
 use std::alloc::Global;
@@ -18,7 +20,15 @@ fn fresh(alloc: Global, name: Name) -> Result<Box<Held>, Refusal>
     ensures { IfOk result (λ held. meaning held.value.replica ≡ fresh name) }
 {
     let replica = Replica::new(alloc, name, Fnv1a);
-    Held::boxed(alloc, replica)
+    let held = Box::new(
+        alloc,
+        Held {
+            replica,
+            texts: Texts::Nothing,
+            watched: Frozen::new(alloc, Fnv1a),
+        },
+    )?;
+    Ok(held)
 }
 
 /// Makes a replica of this name behind the handle: 0, or 15 where the handle holds one, else 16 where the name is 0, else 1 where no
@@ -63,7 +73,7 @@ pub extern "C" fn ginelm_name(alloc: Global, here: &mut Handle, name: &mut u64) 
     let Some(held) = here.take(alloc) else {
         return EMPTY;
     };
-    *name = held.replica().name().number();
+    *name = held.replica.name().number();
     here.give(held);
     0
 }

@@ -24,8 +24,8 @@ fn get(alloc: Global, held: &mut Held, key: &[u8]) -> Result<(), Refusal>
     ensures unchanged { OnErr result (held.new ≡ held.old) }
 {
     let key = Key::new(alloc, key)?;
-    let values = held.replica().get(&key)?;
-    held.tell(Texts::Values(values));
+    let values = held.replica.get(&key)?;
+    held.texts = Texts::Values(values);
     Ok(())
 }
 
@@ -50,8 +50,8 @@ fn values_of_key(alloc: Global, held: &mut Held, key: &[u8]) -> Result<(), Refus
     ensures unchanged { OnErr result (held.new ≡ held.old) }
 {
     let key = Key::new(alloc, key)?;
-    let values = held.replica().values_of_key(&key)?;
-    held.tell(Texts::Values(values));
+    let values = held.replica.values_of_key(&key)?;
+    held.texts = Texts::Values(values);
     Ok(())
 }
 
@@ -75,8 +75,8 @@ fn keys(held: &mut Held) -> Result<(), Refusal>
     ensures ok { OnOk result (Shows held.old held.new (HoldsKey (meaning held.old.replica).live)) }
     ensures unchanged { OnErr result (held.new ≡ held.old) }
 {
-    let keys = held.replica().keys()?;
-    held.tell(Texts::Keys(keys));
+    let keys = held.replica.keys()?;
+    held.texts = Texts::Keys(keys);
     Ok(())
 }
 
@@ -101,7 +101,7 @@ fn contains(alloc: Global, held: &Held, key: &[u8], is_there: &mut bool) -> Resu
     ensures untold { OnErr result (is_there.new ≡ is_there.old) }
 {
     let key = Key::new(alloc, key)?;
-    *is_there = held.replica().contains(&key);
+    *is_there = held.replica.contains(&key);
     Ok(())
 }
 
@@ -137,7 +137,7 @@ pub extern "C" fn ginelm_size(alloc: Global, here: &mut Handle, size: &mut u64) 
     let Some(held) = here.take(alloc) else {
         return EMPTY;
     };
-    *size = held.replica().size();
+    *size = held.replica.size();
     here.give(held);
     0
 }

@@ -22,8 +22,8 @@ fn get_field(alloc: Global, held: &mut Held, key: &[u8], field: &[u8]) -> Result
 {
     let key = Key::new(alloc, key)?;
     let field = Field::new(alloc, field)?;
-    let values = held.replica().get_field(&key, &field)?;
-    held.tell(Texts::Values(values));
+    let values = held.replica.get_field(&key, &field)?;
+    held.texts = Texts::Values(values);
     Ok(())
 }
 
@@ -53,8 +53,8 @@ fn fields(alloc: Global, held: &mut Held, key: &[u8]) -> Result<(), Refusal>
     ensures unchanged { OnErr result (held.new ≡ held.old) }
 {
     let key = Key::new(alloc, key)?;
-    let fields = held.replica().fields(&key)?;
-    held.tell(Texts::Fields(fields));
+    let fields = held.replica.fields(&key)?;
+    held.texts = Texts::Fields(fields);
     Ok(())
 }
 
@@ -125,7 +125,7 @@ fn knows(held: &Held, name: u64, number: u64) -> bool
         return false;
     };
     match Dot::new(name, number) {
-        Some(dot) => held.replica().context().contains(dot),
+        Some(dot) => held.replica.context().contains(dot),
         None => false,
     }
 }

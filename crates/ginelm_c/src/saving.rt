@@ -11,6 +11,7 @@ use crate::handle::Handle;
 use crate::held::Held;
 use crate::texts::Texts;
 use dots::{Name, Refusal};
+use gen_trie::Frozen;
 use hash_path::Fnv1a;
 use replica_core::Replica;
 use saved_form::{decode_saved, encode_saved};
@@ -21,7 +22,7 @@ fn save(alloc: Global, held: &mut Held) -> Result<(), Refusal>
     ensures unchanged { OnErr result (held.new ≡ held.old) }
 {
     let bytes = saved_bytes(alloc, &held.replica)?;
-    held.tell(Texts::Saved(bytes));
+    held.texts = Texts::Saved(bytes);
     Ok(())
 }
 
@@ -55,12 +56,27 @@ pub extern "C" fn ginelm_save(alloc: Global, here: &mut Handle) -> u32
     answer
 }
 
+// A replica behind a box of its own.
+fn boxed(alloc: Global, replica: Replica) -> Result<Box<Held>, Refusal>
+    ensures { IfOk result (λ held. held.value.replica ≡ replica) }
+{
+    let held = Box::new(
+        alloc,
+        Held {
+            replica,
+            texts: Texts::Nothing,
+            watched: Frozen::new(alloc, Fnv1a),
+        },
+    )?;
+    Ok(held)
+}
+
 fn resumed(alloc: Global, bytes: &[u8]) -> Result<Box<Held>, Refusal>
     ensures { IfOk result (λ held. ComesBack bytes.now (meaning held.value.replica)) }
 {
     let saved = decode_saved(alloc, bytes)?;
     let replica = Replica::resume(alloc, Fnv1a, saved)?;
-    Held::boxed(alloc, replica)
+    boxed(alloc, replica)
 }
 
 /// Makes the replica that comes back from what was saved: 0, or 15 where the handle holds one, else 6 where the bytes are not what was saved,
@@ -89,7 +105,7 @@ fn renamed(alloc: Global, name: Name, bytes: &[u8]) -> Result<Box<Held>, Refusal
 {
     let saved = decode_saved(alloc, bytes)?;
     let replica = Replica::new_from(alloc, name, Fnv1a, saved)?;
-    Held::boxed(alloc, replica)
+    boxed(alloc, replica)
 }
 
 /// Makes the replica of a name that was never used, which has seen what the saved one had seen: 0, or 15 where the handle holds one, else 16 where

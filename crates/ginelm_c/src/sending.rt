@@ -18,7 +18,7 @@ fn flush(held: &mut Held) -> Result<(), Refusal>
     ensures unchanged { OnErr result (IsSame held.old held.new) }
 {
     let letter = held.replica.flush_bytes()?;
-    held.tell(Texts::Sent(letter));
+    held.texts = Texts::Sent(letter);
     Ok(())
 }
 
@@ -68,7 +68,7 @@ pub(crate) fn take(
         session: of,
         letters,
     } = held.replica.take_bytes(bytes)?;
-    held.tell(Texts::Letters(letters));
+    held.texts = Texts::Letters(letters);
     *outcome = outcome_number(came);
     *session = Named::of(of);
     Ok(())

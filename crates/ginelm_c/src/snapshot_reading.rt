@@ -81,7 +81,7 @@ pub extern "C" fn ginelm_snapshot_keys(alloc: Global, here: &mut SnapshotHandle)
 fn has_key(there: &Snapshot, key: &Key) -> bool
     ensures { IsTrue result ↔ HoldsKey (state_in there.now) key.now }
 {
-    there.frozen().lookup(key).is_some()
+    there.store.frozen().lookup(key).is_some()
 }
 
 fn contains(alloc: Global, there: &Snapshot, key: &[u8], is_there: &mut bool) -> Result<(), Refusal>

@@ -123,7 +123,7 @@ pub extern "C" fn ginelm_snapshot_fields(
 fn root_digest(there: &Snapshot) -> Option<[u8; 32]>
     ensures { IsRootDigest (state_in there.now) result }
 {
-    prefix_digest::digest(there.frozen(), Prefix::root())
+    prefix_digest::digest(there.store.frozen(), Prefix::root())
 }
 
 fn digest(there: &Snapshot, out: &mut [u8], needed: &mut usize) -> u32

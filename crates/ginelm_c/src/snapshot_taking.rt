@@ -78,7 +78,7 @@ fn tell_changes(alloc: Global, older: &Snapshot, newer: &mut Snapshot) -> Result
     ensures ok { OnOk result (TellsSince older.now newer.old newer.new) }
     ensures unchanged { OnErr result (newer.new ≡ newer.old) }
 {
-    let keys = changes(alloc, older.frozen(), newer.frozen())?;
+    let keys = changes(alloc, older.store.frozen(), newer.store.frozen())?;
     newer.texts = Texts::Keys(keys);
     Ok(())
 }

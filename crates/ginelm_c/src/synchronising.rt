@@ -23,7 +23,7 @@ fn ask(held: &mut Held, peer: Name, number: &mut u64) -> Result<(), Refusal>
     ensures untold { OnErr result (number.new ≡ number.old) }
 {
     let (opened, letter) = held.replica.ask_bytes(peer)?;
-    held.tell(Texts::Sent(Some(letter)));
+    held.texts = Texts::Sent(Some(letter));
     *number = opened;
     Ok(())
 }
@@ -54,7 +54,7 @@ fn retry(held: &mut Held, number: u64, outcome: &mut u32) -> Result<(), Refusal>
     ensures untold { OnErr result (outcome.new ≡ outcome.old) }
 {
     let (came, letters) = held.replica.retry_bytes(number)?;
-    held.tell(Texts::Letters(letters));
+    held.texts = Texts::Letters(letters);
     *outcome = outcome_number(came);
     Ok(())
 }
@@ -105,7 +105,7 @@ fn count(held: &Held, opened: &mut usize) -> Result<(), Refusal>
     ensures ok { OnOk result (opened.new ≡ length (meaning held.now.replica).sessions) }
     ensures untold { OnErr result (opened.new ≡ opened.old) }
 {
-    let sessions = held.replica().sessions()?;
+    let sessions = held.replica.sessions()?;
     *opened = sessions.len();
     Ok(())
 }
@@ -130,7 +130,7 @@ pub extern "C" fn ginelm_open(alloc: Global, here: &mut Handle, opened: &mut usi
 fn session_at(held: &Held, at: usize) -> Result<Option<Session>, Refusal>
     ensures ok { IfOk result (λ session. session ≡ slice_get (map (λ o. o.session) (meaning held.now.replica).sessions) at) }
 {
-    let sessions = held.replica().sessions()?;
+    let sessions = held.replica.sessions()?;
     match sessions.get(at) {
         Some(session) => Ok(Some(*session)),
         None => Ok(None),

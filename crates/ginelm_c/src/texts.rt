@@ -1,5 +1,4 @@
-ghost use Rattle.std.specs.Prelude.{◌≡◌, Some, None, option_map, ◌==◌, if◌then◌else◌};
-ghost use Rattle.std.specs.List.{slice_get};
+ghost use Rattle.std.specs.Prelude.{◌≡◌};
 ghost use Rattle.std.specs.Option.{option_copied};
 ghost use Rattle.ginelm_c.specs.Texts.{addressee_at, alone_at, bytes_at, count_in, number_or_zero};
 
@@ -48,12 +47,13 @@ impl Texts {
     {
         match self {
             Texts::Nothing => None,
-            Texts::Values(values) => value_at(values, at),
-            Texts::Keys(keys) => key_at(keys, at),
-            Texts::Fields(fields) => field_at(fields, at),
+            Texts::Values(values) => Some(values.get(at)?.bytes()),
+            Texts::Keys(keys) => Some(keys.get(at)?.bytes()),
+            Texts::Fields(fields) => Some(fields.get(at)?.bytes()),
             Texts::Sent(letter) => bytes_alone(letter, at),
-            Texts::Letters(letters) => letter_at(letters, at),
-            Texts::Saved(bytes) => saved_at(bytes, at),
+            Texts::Letters(letters) => Some(letters.get(at)?.bytes.as_slice()),
+            Texts::Saved(bytes) if at == 0 => Some(bytes.as_slice()),
+            Texts::Saved(_) => None,
         }
     }
 
@@ -70,41 +70,6 @@ impl Texts {
             _ => 0,
         }
     }
-}
-
-// The bytes of the value at this place.
-fn value_at(values: &[Value], at: usize) -> Option<&[u8]>
-    ensures { option_copied result ≡ slice_get values.now at }
-{
-    Some(values.get(at)?.bytes())
-}
-
-// The bytes of the key at this place.
-fn key_at(keys: &[Key], at: usize) -> Option<&[u8]>
-    ensures { option_copied result ≡ slice_get keys.now at }
-{
-    Some(keys.get(at)?.bytes())
-}
-
-// The bytes of the field at this place.
-fn field_at(fields: &[Field], at: usize) -> Option<&[u8]>
-    ensures { option_copied result ≡ slice_get fields.now at }
-{
-    Some(fields.get(at)?.bytes())
-}
-
-// The bytes of the letter at this place.
-fn letter_at(letters: &[Letter], at: usize) -> Option<&[u8]>
-    ensures { option_copied result ≡ option_map (λ l. l.bytes.items) (slice_get letters.now at) }
-{
-    Some(letters.get(at)?.bytes.as_slice())
-}
-
-// The bytes of what was saved, where this is its place.
-fn saved_at(bytes: &[u8], at: usize) -> Option<&[u8]>
-    ensures { option_copied result ≡ (if at == 0 then Some bytes.now else None) }
-{
-    if at == 0 { Some(bytes) } else { None }
 }
 
 // The bytes of what is alone, where this is its place.
