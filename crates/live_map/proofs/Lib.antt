@@ -3,4 +3,5 @@ pub mod Passing
 pub mod Places
 pub mod Changing
 pub mod Unchanged
+pub mod Brought
 mod OneKey

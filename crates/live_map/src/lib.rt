@@ -3,6 +3,7 @@
 // Offered to the crates above: the pair means what the join of all that was joined into it means.
 #![tactic(auto, unfolding(crate::specs::Index::names))]
 
+mod bringing;
 mod closing;
 mod dot_span;
 mod index;
@@ -11,6 +12,7 @@ mod one_key;
 mod prepared;
 mod touched;
 mod touching;
+mod unknown;
 
 pub use live::Live;
 pub use prepared::Prepared;

@@ -1,4 +1,4 @@
-ghost use Rattle.std.specs.Prelude.{◌≡◌, false, ℕ, List, None, IsTrue, IsSome, IfOk, OnOk, OnErr, IsOkUnless};
+ghost use Rattle.std.specs.Prelude.{◌≡◌, false, ℕ, List, None, IsTrue, IsSome, IfSome, IfOk, OnOk, OnErr, IsOkUnless};
 ghost use Rattle.std.specs.FinMap as finite;
 ghost use Rattle.causal_context.specs.Context.{has, HasNone};
 ghost use Rattle.causal_join.specs.Causal.{state_of};
@@ -7,10 +7,11 @@ ghost use Rattle.dot_store.specs.Stores.{at_stores};
 ghost use Rattle.dots.specs.Bytes.{bytes_cmp};
 ghost use Rattle.dots.specs.Dot.{DotValue};
 ghost use Rattle.op_model.specs.State.{join, Same, IsInside};
-ghost use Rattle.live_map.specs.Closing.{stores_of};
+ghost use Rattle.live_map.specs.Closing.{stores_of, ChangesOnlyAt};
 ghost use Rattle.live_map.specs.Index.{names, has_key, AreAllTouched, IsIndexed, IsTouched};
 ghost use Rattle.trie_map.specs.Keyed.{at_keys, NoStoreIsEmpty, EachIsCanonical};
 
+use crate::bringing::brought;
 use crate::closing::{closed, name_built, touch_since};
 use crate::index::Index;
 use crate::one_key::join_at_one;
@@ -241,6 +242,83 @@ impl<S: DotStore<A>, M: Summary<S>, H: PathHash, A: Allocator + Copy> Live<S, M,
             }
         };
         Prepared::new(alloc, store, next, changed)
+    }
+
+    /// A delta that brings to this pair what `prepare_opened` of the same would: it holds just what will stand at the keys that can change,
+    /// and knows just the dots that stand or will stand there, and those that are new. Takes what `prepare_opened` does in the touched keys,
+    /// and for each dot that is new time and memory. Neither store is walked.
+    ///
+    /// None where a dot that stands or will stand at one of these keys may stand at another key too, as no exchange of replicas leads to: a
+    /// delta of few keys would take it away there.
+    /// Its only refusal is OutOfMemory.
+    pub fn opened_delta(
+        &self,
+        alloc: A,
+        base: &Frozen<S, M, H, A>,
+        seen: &Context<A>,
+        built: &Frozen<S, M, H, A>,
+        touched: &Frozen<(), NoSummary, H, A>,
+        context: &Context<A>,
+    ) -> Result<Option<Causal<DotMap<Key<A>, S, A>, A>>, Refusal>
+        requires below { Same (join S.greater (state_of (at_keys S.at) self.now.0)
+            (state_of (at_keys S.at) (stores_of base.now, seen.now))) (state_of (at_keys S.at) self.now.0) }
+        requires rest { (key : List ℕ) → finite.get touched.now.map key ≡ None
+            → finite.get built.now.map key ≡ finite.get base.now.map key }
+        requires inside { IsInside (state_of (at_keys S.at) (stores_of built.now, context.now)) }
+        ensures ok { IfOk result (λ found. IfSome found (λ delta. Same (join S.greater (state_of (at_keys S.at) self.now.0) (state_of (at_stores S.at bytes_cmp) delta))
+            (join S.greater (state_of (at_keys S.at) self.now.0) (state_of (at_keys S.at) (stores_of built.now, context.now))))) }
+        ensures err { IsOkUnless result Refusal.OutOfMemory }
+    {
+        let keys = self.opened_keys(alloc, base, seen, built, touched, context)?;
+        let delta = brought(
+            alloc,
+            &self.index,
+            &self.store,
+            &self.context,
+            built,
+            context,
+            &keys,
+        );
+        drop(keys);
+        delta
+    }
+
+    // The keys that the join of what was built from a base can change.
+    fn opened_keys(
+        &self,
+        alloc: A,
+        base: &Frozen<S, M, H, A>,
+        seen: &Context<A>,
+        built: &Frozen<S, M, H, A>,
+        touched: &Frozen<(), NoSummary, H, A>,
+        context: &Context<A>,
+    ) -> Result<BTreeSet<Key<A>, A>, Refusal>
+        requires below { Same (join S.greater (state_of (at_keys S.at) self.now.0)
+            (state_of (at_keys S.at) (stores_of base.now, seen.now))) (state_of (at_keys S.at) self.now.0) }
+        requires rest { (key : List ℕ) → finite.get touched.now.map key ≡ None
+            → finite.get built.now.map key ≡ finite.get base.now.map key }
+        ensures ok { IfOk result (λ set. ChangesOnlyAt S.greater (at_keys S.at self.now.0.0) (has self.now.0.1) (at_keys S.at (stores_of built.now))
+            (has context.now) set.keys) }
+        ensures err { IsOkUnless result Refusal.OutOfMemory }
+    {
+        // The base and what was built are spoken of in the contract alone.
+        let _ = base;
+        let _ = built;
+        let mut changed = Touched::new(alloc);
+        if let Err(refusal) = touch_since(
+            alloc,
+            &mut changed,
+            &self.index,
+            seen,
+            touched,
+            context,
+        ) {
+            drop(changed);
+            return Err(refusal);
+        }
+        let keys = changed.key_set(alloc);
+        drop(changed);
+        keys
     }
 
     /// Puts the prepared pair in the place of this one. It has to be prepared of this one as it is; it is not refused, and

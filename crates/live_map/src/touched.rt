@@ -98,6 +98,18 @@ impl<A: Allocator + Copy> Touched<A> {
         Ok(set)
     }
 
+    // Whether each key is one of these.
+    pub(crate) fn is_within(&self, keys: &BTreeSet<Key<A>, A>) -> bool
+        ensures { IsTrue result → (q : List ℕ) → IsTrue (has_key self.now q) → IsTrue (has_key keys.now.keys q) }
+    {
+        for key in &self.keys {
+            if !keys.contains(key) {
+                return false;
+            }
+        }
+        true
+    }
+
     // The places that were found.
     pub(crate) fn found(&self) -> &[(Dot, Key<A>)] {
         &self.found

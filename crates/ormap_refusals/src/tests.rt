@@ -1,3 +1,4 @@
+mod bringing;
 mod clients;
 mod copies;
 mod late;

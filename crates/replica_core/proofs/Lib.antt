@@ -28,3 +28,4 @@ pub mod Lacking
 pub mod Written
 pub mod Crossing
 pub mod Lost
+pub mod Brought

@@ -27,13 +27,13 @@ module _ {Hash : Type 0} (hash_of : Hash → List ℕ → ℕ) (old : ReplicaVal
     (a : AskerValue Hash)
     (first : IsFirstAt (λ b. same_session b.session s) old.sessions place a) (next : AskerValue Hash) (step : StepValue) (goes_from : IsFrom a next)
     (message : MessageValue) where
-  own_at : IsOwn hash_of old.name (hash_in old) (live_state old.live.0) a
+  pub own_at : IsOwn hash_of old.name (hash_in old) (live_state old.live.0) a
   own_at = at_place (IsOwn hash_of old.name (hash_in old) (live_state old.live.0)) old.sessions place a first.0 is.own
 
   -- an opening
   module _ (context : ContextValue) (root : Option (List ℕ)) (said : message ≡ Opening s context root)
       (told : outcome (asker_state next) step ≡ turning.on_opening (hash_of a.hash) (asker_state a) message) where
-    opening_is : outcome (asker_state next) step ≡ opening_at (hash_of a.hash) a.session (stage_with a.own a.seen a.stage) context root
+    pub opening_is : outcome (asker_state next) step ≡ opening_at (hash_of a.hash) a.session (stage_with a.own a.seen a.stage) context root
     opening_is =
         told ∙ ap (turning.on_opening (hash_of a.hash) (asker_state a)) said
         ∙ ap (λ b. cond b (opening_at (hash_of a.hash) a.session (stage_with a.own a.seen a.stage) context root) (outcome (asker_state a) Ignored)) first.1
@@ -52,7 +52,7 @@ module _ {Hash : Type 0} (hash_of : Hash → List ℕ → ℕ) (old : ReplicaVal
   -- a page, or that the session is not kept
   module _ (said : ((sent : SentValue) × (message ≡ Page s sent)) ⊎ (message ≡ Gone s))
       (told : outcome (asker_state next) step ≡ turning.on_page (hash_of a.hash) (asker_state a) message) where
-    page_is : (sent : SentValue) → message ≡ Page s sent → outcome (asker_state next) step
+    pub page_is : (sent : SentValue) → message ≡ Page s sent → outcome (asker_state next) step
         ≡ page_at_stage (hash_of a.hash) a.session (stage_with a.own a.seen a.stage) sent
     page_is sent e =
         told ∙ ap (turning.on_page (hash_of a.hash) (asker_state a)) e

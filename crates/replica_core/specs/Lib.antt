@@ -11,3 +11,4 @@ pub mod Turning
 pub mod Tied
 pub mod Showing
 pub mod Carrying
+pub mod Bringing

@@ -3,6 +3,7 @@
 #![tactic(auto)]
 
 mod asking;
+mod bringing;
 mod carrying;
 mod checkpoint;
 mod delivered;

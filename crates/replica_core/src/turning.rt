@@ -171,7 +171,7 @@ impl<H: PathHash, A: Allocator + Copy> Replica<H, A> {
     }
 
     // What is always so of a replica, which is asked in a proof alone.
-    fn is_replica(&self) -> bool
+    pub(crate) fn is_replica(&self) -> bool
         ensures always { result ≡ true }
         ensures replica { IsReplica H.hash_of self.now }
     {

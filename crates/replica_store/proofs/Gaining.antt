@@ -14,8 +14,8 @@ use Rattle.replica_model.specs.Replica.{Replica, restarts}
 use Rattle.replica_store.specs.Entry.{OPENED, CHANGED, SaysNumber, SaysDelta}
 use Rattle.replica_store.specs.Rebuilt.{IsRebuilt}
 use Rattle.replica_model.specs.Delivery.{Joined, Done}
-use Rattle.replica_store.specs.Kept.{Keeps, KeepsEither, GainsMessage, GainsNumber}
-use Rattle.replica_store.specs.Took.{TookAs}
+use Rattle.replica_store.specs.Kept.{Keeps, KeepsEither, GainsMessage, GainsDelta, GainsNumber}
+use Rattle.replica_store.specs.Took.{TookAs, Joins}
 use Rattle.replica_model.specs.Step.{Answer, Flush, IsCall}
 use Rattle.replica_store.specs.Behind.{IsBehind}
 use Rattle.replica_store.proofs.Behind.{flush_sends}
@@ -80,7 +80,7 @@ module _ (kept mid new : Replica) (answer : Answer) (old : Trees) (behind : IsBe
     | inr some ↦ gains_delta old db kept new is m mid.group (let e = some.0 in cc) gains some.1
   ]
 
--- what was taken in as a delta is kept at any moment, or what was before is; and so is what a synchronisation brought, of which all is kept
+-- what was taken in as a delta is kept at any moment, or what was before is; and so is what a synchronisation brought
 module _ (before after : State) (old new : Replica) (m : MessageValue) where
   pub delta_or_not : (HasCleanDisk before → IsReady before) → TookAs old (mail_of m) Joined new
       → Survives before after (λ db. GainsMessage before.now.trees db m) → HasCleanDisk after → Keeps before.now.trees old
@@ -89,9 +89,27 @@ module _ (before after : State) (old new : Replica) (m : MessageValue) where
       gained before after old new _ (ready (was_clean before after _ survives clean)) keeps survives
       (λ db gains. gains_delta before.now.trees db old new keeps m took.0 took.1 gains took.2) clean
 
-  pub whole_or_not : (all : MessageValue) → (HasCleanDisk before → IsReady before) → TookAs old (mail_of m) Done new → mail_of all ≡ mail.Delta new.live
-      → Survives before after (λ db. GainsMessage before.now.trees db all)
-      → HasCleanDisk after → Keeps before.now.trees old → KeepsEither after old new
-  whole_or_not all ready took means survives clean keeps =
+  -- a delta that brought it
+  joined_is : (other : Mail) → TookAs old other Done new → (is : Joins old (mail_of m) new) → restarts new ≡ record (restarts old) { live = join greater old.live is.0 }
+  joined_is other took is = took.0 ∙ ap (λ l. record (restarts old) { live = l }) is.2
+
+  pub ended_kept : (other : Mail) → TookAs old other Done new → Joins old (mail_of m) new → (db : Trees) → Keeps before.now.trees old
+      → GainsMessage before.now.trees db m → Keeps db new
+  ended_kept other took is db keeps gains = gains_delta before.now.trees db old new keeps m is.0 is.1 gains (joined_is other took is)
+
+  pub ended_or_not : (other : Mail) → (HasCleanDisk before → IsReady before) → TookAs old other Done new → Joins old (mail_of m) new
+      → Survives before after (λ db. GainsMessage before.now.trees db m) → HasCleanDisk after → Keeps before.now.trees old
+      → KeepsEither after old new
+  ended_or_not other ready took is survives clean keeps =
       gained before after old new _ (ready (was_clean before after _ survives clean)) keeps survives
-      (λ db gains. gains_whole before.now.trees db old new keeps all means gains took.1 took.0) clean
+      (λ db gains. ended_kept other took is db keeps gains) clean
+
+-- or all
+module _ (before after : State) (old new : Replica) (other : Mail) (took : TookAs old other Done new) where
+  pub all_kept : (db : Trees) → Keeps before.now.trees old → GainsDelta before.now.trees db new.live → Keeps db new
+  all_kept db keeps gains = gains_whole before.now.trees db old new keeps gains.0 gains.1 gains.2 took.1 took.0
+
+  pub all_or_not : (HasCleanDisk before → IsReady before) → Survives before after (λ db. GainsDelta before.now.trees db new.live)
+      → HasCleanDisk after → Keeps before.now.trees old → KeepsEither after old new
+  all_or_not ready survives clean keeps =
+      gained before after old new _ (ready (was_clean before after _ survives clean)) keeps survives (λ db gains. all_kept db keeps gains) clean

@@ -10,7 +10,7 @@ use Rattle.replica_model.specs.Delivery.{Outcome, Joined, Done, Turn, delivered,
 use Rattle.replica_model.specs.Step.{Take, Ask, Came, Numbered, IsCall, IsDelivery, IsStep}
 use Rattle.replica_model.proofs.Growing.{below_join}
 use Rattle.replica_model.proofs.Rows.{each_row}
-use Rattle.replica_store.specs.Took.{TookAs}
+use Rattle.replica_store.specs.Took.{TookAs, Joins, BringsAs}
 
 row : (hash_of : List ℕ → ℕ) (own : Held) (r : Replica) (mail : Mail) → TookAs r mail (delivered hash_of own r mail).outcome (delivered hash_of own r mail).new
 row hash_of own r = each_row hash_of own r (λ mail t. TookAs r mail t.outcome t.new) (record {
@@ -35,6 +35,11 @@ took hash_of old mail new outcome out h = subst (λ (t : Turn). TookAs old mail 
 pub took_step : (hash_of : List ℕ → ℕ) (old : Replica) (mail : Mail) (new : Replica) (outcome : Outcome) (out : List Mail)
     → IsStep hash_of old (Take mail) new (Came outcome) out → TookAs old mail outcome new
 took_step hash_of old mail new outcome out h = subst (λ o. TookAs old mail o new) (let e = sym h.1 in cc) (took hash_of old mail new h.0 out h.2)
+
+-- what was to be brought was
+pub brought_step : (hash_of : List ℕ → ℕ) (old : Replica) (mail brought : Mail) (new : Replica) (outcome : Outcome) (out : List Mail)
+    → BringsAs hash_of old mail brought → IsStep hash_of old (Take mail) new (Came outcome) out → Joins old brought new
+brought_step hash_of old mail brought new outcome out is h = (is.0, is.1, (is.2 new h.0 out h.2).1)
 
 pub asked : (old new : Replica) (peer n : ℕ) (out : List Mail) → IsCall old (Ask peer) new (Numbered n) out → (old.opened ≤ n)
     × (restarts new ≡ record (restarts old) { opened = n })

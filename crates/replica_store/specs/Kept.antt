@@ -8,6 +8,8 @@ use Rattle.wire_form.specs.Message.{MessageValue, Spells}
 use Rattle.sqlite_disk.specs.declared.Disk as disk
 use Rattle.sqlite_disk.specs.declared.Files.{Files}
 use Rattle.durable_log.specs.Log.{strings, Gains, IsReady, IsInFiles}
+use Rattle.op_model.specs.Meaning.{MapState}
+use Rattle.replica_model.specs.Mail.{Delta, mail_of}
 use Rattle.replica_model.specs.Replica.{Replica, restarts}
 use Rattle.replica_store.specs.Entry.{NAMED, OPENED, CHANGED, SaysNumber, SaysDelta}
 use Rattle.replica_store.specs.Rebuilt.{IsRebuilt}
@@ -42,6 +44,9 @@ HasThreeRows db = (places : List ℤ) × (length places ≡ 3) × ((row : Row) (
 -- a string more, which says the message or the number
 abbrev pub GainsMessage : Trees → Trees → MessageValue → Type 0
 GainsMessage old new message = (bytes : List ℕ) × Spells bytes message × Gains old new (CHANGED ∷ bytes)
+
+abbrev pub GainsDelta : Trees → Trees → MapState → Type 0
+GainsDelta old new d = (message : MessageValue) × (mail_of message ≡ Delta d) × GainsMessage old new message
 
 abbrev pub GainsNumber : Trees → Trees → ℕ → Type 0
 GainsNumber old new number = (string : List ℕ) × SaysNumber OPENED string number × Gains old new string

@@ -1,23 +1,24 @@
 // What a store takes in.
-ghost use Rattle.std.specs.Prelude.{◌≡◌, false, Err, IfOk, IfErr, OnOk, IsTrue};
-ghost use Rattle.sqlite.specs.State.{HasCleanDisk};
-ghost use Rattle.durable_log.specs.Log.{log_state};
+ghost use Rattle.std.specs.Prelude.{◌≡◌, false, Err, IfOk, IfErr, IfSome, OnOk, IsOkUnless, IsTrue};
+ghost use Rattle.sqlite.specs.State.{HasCleanDisk, Survives};
+ghost use Rattle.durable_log.specs.Log.{log_state, IsReady};
 ghost use Rattle.wire_form.specs.Message.{message_of};
 ghost use Rattle.replica_model.specs.Mail.{Delta, mail_of};
 ghost use Rattle.replica_model.specs.Replica.{Replica as ReplicaModel, restarts};
 ghost use Rattle.replica_model.specs.Step.{Take, Came};
 ghost use Rattle.replica_core.specs.Answered.{outcome_of};
 ghost use Rattle.replica_core.specs.Guarding.{HasLost};
-ghost use Rattle.replica_core.specs.Meaning.{meaning};
+ghost use Rattle.replica_core.specs.Meaning.{hash_in, meaning};
 ghost use Rattle.replica_core.specs.Saving.{restored};
 ghost use Rattle.replica_core.specs.Stepping.{Steps, mails_of};
-ghost use Rattle.replica_store.specs.Kept.{Keeps, IsKept, KeepsEither, GainsMessage};
+ghost use Rattle.replica_store.specs.Kept.{Keeps, IsKept, KeepsEither, GainsMessage, GainsDelta};
 ghost use Rattle.replica_store.specs.Refusing.{IsUnkept, LeavesByTaking};
-ghost use Rattle.replica_store.specs.Took.{TookAs};
+ghost use Rattle.replica_store.specs.Took.{TookAs, Joins, BringsAs};
 
 use crate::keeping::keep_message;
 use crate::store::Store;
 use crate::store_error::StoreError;
+use dots::Refusal;
 use durable_log::Log;
 use hash_path::PathHash;
 use replica_core::{Delivered, Outcome, Replica};
@@ -57,19 +58,73 @@ fn whole<H: PathHash>(alloc: Global, replica: &Replica<H>) -> Result<Message, St
     Ok(Message::Delta(live))
 }
 
-// Keeps what the message brought: of a delta the message, of the end of a session all that the replica holds now, and else nothing.
+// A delta of what the message brings where it ends a session, if there is one that is shorter than all that the replica holds.
+fn brought<H: PathHash>(replica: &Replica<H>, message: &Message) -> Result<Option<Message>, Refusal>
+    ensures ok { IfOk result (λ found. IfSome found (λ m. BringsAs (H.hash_of (hash_in replica.now)) (meaning replica.now) (mail_of (message_of message.now)) (mail_of (message_of m)))) }
+    ensures err { IsOkUnless result Refusal.OutOfMemory }
+{
+    let Some(delta) = replica.joined_by(message)? else {
+        return Ok(None);
+    };
+    let is_long = delta.context().cloud().len() as u64 > replica.size();
+    if is_long {
+        drop(delta);
+        return Ok(None);
+    }
+    Ok(Some(Message::Delta(delta)))
+}
+
+// Keeps the message.
+fn keep_one<S: Alter>(alloc: Global, log: &mut Log<S>, message: &Message) -> Result<(), StoreError>
+    ensures kept { HasCleanDisk (log_state S.Store log.new) → OnOk result (IsReady (log_state S.Store log.new) × GainsMessage (log_state S.Store log.old).now.trees (log_state S.Store log.new).now.trees (message_of message.now)) }
+    ensures any_moment { Survives (log_state S.Store log.old) (log_state S.Store log.new) (λ db. GainsMessage (log_state S.Store log.old).now.trees db (message_of message.now)) }
+    ensures stays { OnOk result (log.new.is_failed ≡ false) }
+    ensures lost { IfErr result IsUnkept }
+{
+    match keep_message(alloc, log, message) {
+        Ok(bytes) => {
+            drop(bytes);
+            Ok(())
+        }
+        Err(error) => Err(error),
+    }
+}
+
+// Keeps all that the replica holds.
+fn keep_all<S: Alter, H: PathHash>(
+    alloc: Global,
+    log: &mut Log<S>,
+    replica: &Replica<H>,
+) -> Result<(), StoreError>
+    requires { log.old.is_failed ≡ false }
+    ensures kept { HasCleanDisk (log_state S.Store log.new) → OnOk result (IsReady (log_state S.Store log.new) × GainsDelta (log_state S.Store log.old).now.trees (log_state S.Store log.new).now.trees (meaning replica.now).live) }
+    ensures any_moment { Survives (log_state S.Store log.old) (log_state S.Store log.new) (λ db. GainsDelta (log_state S.Store log.old).now.trees db (meaning replica.now).live) }
+    ensures stays { OnOk result (log.new.is_failed ≡ false) }
+    ensures lost { IfErr result IsUnkept }
+{
+    // Asked for what it promises of a crash.
+    let _ = log.is_failed();
+    let all = whole(alloc, replica)?;
+    let kept = keep_one(alloc, log, &all);
+    drop(all);
+    kept
+}
+
+// Keeps what the message brought: of a delta the message, of the end of a session the delta that is given, or else all that the replica holds now, and
+// of any other nothing.
 fn keep_taken<S: Alter, H: PathHash>(
     alloc: Global,
     log: &mut Log<S>,
     replica: &Replica<H>,
     message: &Message,
+    brought: &Option<Message>,
     outcome: Outcome,
 ) -> Result<(), StoreError>
     requires { log.old.is_failed ≡ false }
-    ensures kept { (old : ReplicaModel) → TookAs old (mail_of (message_of message.now)) (outcome_of outcome) (meaning replica.now) → HasCleanDisk (log_state S.Store log.new)
-        → Keeps (log_state S.Store log.old).now.trees old → OnOk result (IsKept (log_state S.Store log.new) (meaning replica.now)) }
-    ensures any_moment { (old : ReplicaModel) → TookAs old (mail_of (message_of message.now)) (outcome_of outcome) (meaning replica.now) → HasCleanDisk (log_state S.Store log.new)
-        → Keeps (log_state S.Store log.old).now.trees old → KeepsEither (log_state S.Store log.new) old (meaning replica.now) }
+    ensures kept { (old : ReplicaModel) → TookAs old (mail_of (message_of message.now)) (outcome_of outcome) (meaning replica.now) → IfSome brought.now (λ m. Joins old (mail_of (message_of m)) (meaning replica.now))
+        → HasCleanDisk (log_state S.Store log.new) → Keeps (log_state S.Store log.old).now.trees old → OnOk result (IsKept (log_state S.Store log.new) (meaning replica.now)) }
+    ensures any_moment { (old : ReplicaModel) → TookAs old (mail_of (message_of message.now)) (outcome_of outcome) (meaning replica.now) → IfSome brought.now (λ m. Joins old (mail_of (message_of m)) (meaning replica.now))
+        → HasCleanDisk (log_state S.Store log.new) → Keeps (log_state S.Store log.old).now.trees old → KeepsEither (log_state S.Store log.new) old (meaning replica.now) }
     ensures clean { HasCleanDisk (log_state S.Store log.new) → HasCleanDisk (log_state S.Store log.old) }
     ensures stays { OnOk result (log.new.is_failed ≡ false) }
     ensures lost { IfErr result IsUnkept }
@@ -77,22 +132,11 @@ fn keep_taken<S: Alter, H: PathHash>(
     // Asked for what it promises of a crash.
     let _ = log.is_failed();
     match outcome {
-        Outcome::Joined => {
-            keep_message(alloc, log, message)?;
-            Ok(())
-        }
-        Outcome::Done => {
-            let all = whole(alloc, replica)?;
-            let kept = keep_message(alloc, log, &all);
-            drop(all);
-            match kept {
-                Ok(bytes) => {
-                    drop(bytes);
-                    Ok(())
-                }
-                Err(error) => Err(error),
-            }
-        }
+        Outcome::Joined => keep_one(alloc, log, message),
+        Outcome::Done => match brought {
+            Some(delta) => keep_one(alloc, log, delta),
+            None => keep_all(alloc, log, replica),
+        },
         Outcome::Sent => Ok(()),
         Outcome::Ignored => Ok(()),
         Outcome::Mismatch => Ok(()),
@@ -106,8 +150,9 @@ impl<S: Alter, H: PathHash> Store<S, H> {
     ///
     /// A message that knows a write of this name that the replica does not know is refused as such: the file is not the newest of its name.
     /// Then nothing changed, nor where the replica refuses the message for want of memory. Any other error leaves the store failed. Takes what the replica's
-    /// call takes; for a delta a write of it to the disk, and where a synchronisation ends a write of all that the replica holds then, with a
-    /// wait for it; and else no write.
+    /// call takes, and of an opening or a page of an own synchronisation what `joined_by` takes; for a delta a write of it to the disk, and where
+    /// a synchronisation ends a write of the delta that it brought, or of all that is held where that is shorter, with a wait for it; and else no
+    /// write.
     pub fn deliver(&mut self, alloc: Global, message: &Message) -> Result<Delivered, StoreError>
         ensures ok { IfOk result (λ told. Steps H.hash_of self.old.replica self.new.replica (Take (mail_of (message_of message.now))) (Came (outcome_of told.outcome)) (mails_of told.replies.items)) }
         ensures err { IfErr result (LeavesByTaking (mail_of (message_of message.now)) self.old self.new) }
@@ -124,11 +169,27 @@ impl<S: Alter, H: PathHash> Store<S, H> {
         if self.replica.has_lost(message) {
             return Err(StoreError::LostMemory);
         }
-        let told = match self.replica.deliver(message) {
-            Ok(told) => told,
+        let brought = match brought(&self.replica, message) {
+            Ok(brought) => brought,
             Err(refusal) => return Err(StoreError::Refused(refusal)),
         };
-        match keep_taken(alloc, &mut self.log, &self.replica, message, told.outcome) {
+        let told = match self.replica.deliver(message) {
+            Ok(told) => told,
+            Err(refusal) => {
+                drop(brought);
+                return Err(StoreError::Refused(refusal));
+            }
+        };
+        let kept = keep_taken(
+            alloc,
+            &mut self.log,
+            &self.replica,
+            message,
+            &brought,
+            told.outcome,
+        );
+        drop(brought);
+        match kept {
             Ok(()) => Ok(told),
             Err(error) => {
                 drop(told);

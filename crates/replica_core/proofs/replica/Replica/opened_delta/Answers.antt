@@ -1,0 +1,42 @@
+use Rattle.std.proofs.Common.{◌≡◌, sym, ap, ◌∙◌, subst}
+use Rattle.std.specs.FinMap as finite
+use Rattle.std.proofs.lemmas.Result.{IfOk-weaker}
+use Rattle.causal_context.specs.Context.{has}
+use Rattle.causal_join.specs.OrMap.{or_map_state}
+use Rattle.delta_ops.specs.LiveMap.{live_state}
+use Rattle.op_model.specs.Meaning.{greater}
+use Rattle.op_model.specs.State.{join}
+use Rattle.sync_model.specs.Closing as closing
+use Rattle.sync_model.specs.Closing.{IsBelow}
+use Rattle.sync_model.specs.Differ.{Held}
+use Rattle.sync_model.specs.Laws.{KnowsEachDot}
+use Rattle.replica_core.specs.Meaning.{ReplicaValue, meaning}
+use Rattle.replica_core.proofs.Brought.{delta_joined, some_weaker}
+use Rattle.replica_core.proofs.Opened.{built_inside, below_pair}
+use Rattle.replica_core.proofs.replica.Replica.opened_delta.Goals as goal
+
+pub opened_delta-requires-clause-below : goal.opened_delta-requires-clause-below
+opened_delta-requires-clause-below g c =
+    below_pair c.args.opened.now.base.hash c.self.inside.live.0 c.args.opened.now.base.map c.args.opened.now.seen
+    (subst (λ (r : ReplicaValue _). IsBelow (closing.held_state c.args.opened.now.base.map (has c.args.opened.now.seen)) (meaning r).live) (sym c.self.view_is)
+    c.requires.below)
+
+pub opened_delta-requires-clause-rest : goal.opened_delta-requires-clause-rest
+opened_delta-requires-clause-rest g c key none =
+    ap (λ m. finite.get m key) c.entries.ensures.map ∙ c.requires.rest.rest key (ap (λ touched. finite.get touched key) (sym c.touched.ensures) ∙ none)
+
+pub opened_delta-requires-clause-inside : goal.opened_delta-requires-clause-inside
+opened_delta-requires-clause-inside g c =
+    built_inside c.entries.result.now.hash c.self.inside.live.0 c.entries.result.now.map c.args.opened.now.context
+    (subst (KnowsEachDot (has c.args.opened.now.context)) (sym c.entries.ensures.map) c.requires.known)
+
+pub returns-clause-ok : goal.returns-clause-ok
+returns-clause-ok g c =
+    let context = c.args.opened.now.context in
+    let live = c.self.inside.live.0 in
+    IfOk-weaker c.opened_delta.result _ _
+    (λ found. some_weaker found (λ delta same. subst (λ (r : ReplicaValue _).
+    join greater (meaning r).live (closing.held_state c.args.opened.now.built.entries (has context)) ≡ join greater (meaning r).live (or_map_state delta)) c.self.view_is
+    (ap (λ (m : Held). join greater (live_state live) (closing.held_state m (has context))) (sym c.entries.ensures.map)
+    ∙ delta_joined c.entries.result.now.hash live c.entries.result.now.map context delta same)))
+    c.opened_delta.ensures.ok
