@@ -79,6 +79,12 @@ def filled(path):
     return {b"%d" % number: {b"v"} for number in range(40)}
 
 
+def synchronise(asker, answerer):
+    waiting = asker.tell("ask 1")
+    while waiting:
+        waiting = [letter for message in waiting for answer in answerer.tell(f"take {message}") for letter in asker.tell(f"take {answer}")]
+
+
 def writes_are_there_again(folder):
     path = folder / "kept.db"
     wanted = filled(path)
@@ -105,10 +111,33 @@ def what_was_taken_in_is_there_again(folder):
     run(two, 2, f"take {delta}")
     assert dump(two, 2) == {b"told": {b"x"}}
     with Open(two, 2) as asker, Open(one, 1) as answerer:
-        waiting = asker.tell("ask 1")
-        while waiting:
-            waiting = [letter for message in waiting for answer in answerer.tell(f"take {message}") for letter in asker.tell(f"take {answer}")]
+        synchronise(asker, answerer)
     assert dump(two, 2) == {**wanted, b"told": {b"x"}}
+
+
+def longest_row(path):
+    with sqlite3.connect(path) as connection:
+        (length,) = connection.execute("SELECT max(length(bytes)) FROM log").fetchone()
+    connection.close()
+    return length
+
+
+def a_synchronisation_keeps_what_it_brought(folder):
+    one, two = folder / "one.db", folder / "two.db"
+    lines = run(one, 1, *(put(b"%d" % number, b"v" * 100) for number in range(40)))
+    run(two, 2, *(f"take {delta}" for delta in sent(lines)))
+    run(one, 1, put(b"7", b"w"), put(b"new", b"x"), f"remove {b'8'.hex()}")
+    with Open(two, 2) as asker, Open(one, 1) as answerer:
+        synchronise(asker, answerer)
+        synchronise(asker, answerer)
+    # All that is held is some 5,000 bytes.
+    assert longest_row(two) < 500
+    wanted = {b"%d" % number: {b"v" * 100} for number in range(40) if number != 8}
+    assert dump(two, 2) == dump(one) == {**wanted, b"7": {b"w"}, b"new": {b"x"}}
+    # One that had nothing takes all.
+    with Open(folder / "three.db", 3) as asker, Open(one, 1) as answerer:
+        synchronise(asker, answerer)
+    assert dump(folder / "three.db", 3) == dump(one)
 
 
 def another_name_is_refused(folder):
@@ -182,6 +211,7 @@ def an_older_copy_is_told_that_its_memory_is_lost(folder):
 TESTS = [
     writes_are_there_again,
     what_was_taken_in_is_there_again,
+    a_synchronisation_keeps_what_it_brought,
     another_name_is_refused,
     a_second_opener_is_refused,
     other_files_are_refused_and_stay,

@@ -1,10 +1,13 @@
 -- What the log keeps once it has a string more.
-use Rattle.std.proofs.Common.{◌≡◌, ◌⊎◌, inl, inr, ℕ, ◌≤◌, Bool, true, false, List, [], ◌∷◌, refl, sym, ap, subst, ◌∙◌, arith, cond}
-use Rattle.causal_join.specs.OrMap.{OrMapValue, or_map_state}
+use Rattle.std.proofs.Common.{◌≡◌, ◌⊎◌, inl, inr, ℕ, ◌≤◌, Bool, true, false, List, [], ◌∷◌, Option, Some, None, IsSome, IsTrue, refl, sym, ap, subst, ◌∙◌, ◌||◌, arith, cond}
+use Rattle.causal_context.specs.Context.{HasNone, has}
+use Rattle.causal_join.specs.Causal.{state_of}
+use Rattle.causal_join.specs.OrMap.{OrMapValue, or_map_at, or_map_state, path_of}
 use Rattle.sqlite.specs.State.{State, HasCleanDisk, Survives}
 use Rattle.sqlite_trees.specs.Tree.{Trees}
 use Rattle.op_model.specs.Meaning.{MapState, greater}
-use Rattle.op_model.specs.State.{join}
+use Rattle.op_model.specs.State.{IsInside, join, joined}
+use Rattle.replica_model.proofs.States.{same_is}
 use Rattle.sync_model.specs.Closing.{IsBelow}
 use Rattle.wire_form.specs.Message.{MessageValue, Delta, Hello, Opening, Ask, Page, Gone, Spells}
 use Rattle.durable_log.specs.Log.{strings, Gains, IsReady}
@@ -15,7 +18,7 @@ use Rattle.replica_store.specs.Entry.{OPENED, CHANGED, SaysNumber, SaysDelta}
 use Rattle.replica_store.specs.Rebuilt.{IsRebuilt}
 use Rattle.replica_model.specs.Delivery.{Joined, Done}
 use Rattle.replica_store.specs.Kept.{Keeps, KeepsEither, GainsMessage, GainsDelta, GainsNumber}
-use Rattle.replica_store.specs.Took.{TookAs, Joins}
+use Rattle.replica_store.specs.Took.{TookAs, Joins, BringsNothing}
 use Rattle.replica_model.specs.Step.{Answer, Flush, IsCall}
 use Rattle.replica_store.specs.Behind.{IsBehind}
 use Rattle.replica_store.proofs.Behind.{flush_sends}
@@ -39,6 +42,31 @@ mail_delta (Opening s c r) d e = absurd (let f = ap is_delta e in cc)
 mail_delta (Ask s p) d e = absurd (let f = ap is_delta e in cc)
 mail_delta (Page s p) d e = absurd (let f = ap is_delta e in cc)
 mail_delta (Gone s) d e = absurd (let f = ap is_delta e in cc)
+
+-- a delta that knows no dot changes nothing
+nothing_by : (x : Option (List ℕ)) (own : Bool) → joined greater x own None false ≡ x
+nothing_by None own = refl
+nothing_by (Some v) own = refl
+
+or_false : (b : Bool) → (b || false) ≡ b
+or_false true = refl
+or_false false = refl
+
+stands_none : (o : Option (List ℕ)) (known : Bool) → known ≡ false → (IsSome o → IsTrue known) → o ≡ None
+stands_none None known unknown inside = refl
+stands_none (Some v) known unknown inside = absurd (let known = inside refl in cc (known, unknown))
+
+pub nothing_brought : (pair : OrMapValue) → IsInside (state_of or_map_at pair) → HasNone pair.1 → BringsNothing (mail.Delta (or_map_state pair))
+unfolding is_delta delta_in
+nothing_brought pair inside none d e p =
+    let is : or_map_state pair ≡ d = ap (delta_in d) e in
+    subst (λ q. join greater p q ≡ p) is (same_is (join greater p (or_map_state pair)) p (record {
+      at = λ place dot.
+          (λ i. joined greater (p.at place dot) (p.has dot)
+          (stands_none (or_map_at pair.0 (path_of place) dot) (has pair.1 dot) (none dot) (inside (path_of place) dot) i) (none dot i))
+          ∙ nothing_by (p.at place dot) (p.has dot);
+      has = λ dot. ap (λ b. p.has dot || b) (none dot) ∙ or_false (p.has dot);
+    }))
 
 module _ (old new : Trees) (r t : Replica) (kept : Keeps old r) where
   pub gains_delta : (m : MessageValue) (d : MapState) → mail_of m ≡ mail.Delta d → GainsMessage old new m
@@ -96,6 +124,10 @@ module _ (before after : State) (old new : Replica) (m : MessageValue) where
   pub ended_kept : (other : Mail) → TookAs old other Done new → Joins old (mail_of m) new → (db : Trees) → Keeps before.now.trees old
       → GainsMessage before.now.trees db m → Keeps db new
   ended_kept other took is db keeps gains = gains_delta before.now.trees db old new keeps m is.0 is.1 gains (joined_is other took is)
+
+  -- or one that brought nothing
+  pub stays_kept : (other : Mail) → TookAs old other Done new → Joins old (mail_of m) new → BringsNothing (mail_of m) → restarts new ≡ restarts old
+  stays_kept other took is nothing = joined_is other took is ∙ ap (λ l. record (restarts old) { live = l }) (nothing is.0 is.1 old.live)
 
   pub ended_or_not : (other : Mail) → (HasCleanDisk before → IsReady before) → TookAs old other Done new → Joins old (mail_of m) new
       → Survives before after (λ db. GainsMessage before.now.trees db m) → HasCleanDisk after → Keeps before.now.trees old

@@ -1,5 +1,5 @@
 -- What a delivery leaves to be kept, by the table of deliveries.
-use Rattle.std.proofs.Common.{◌≡◌, ℕ, ◌+◌, ◌≤◌, List, refl, sym, ap, subst, ◌∙◌, arith}
+use Rattle.std.proofs.Common.{◌≡◌, ℕ, ◌+◌, ◌≤◌, List, Option, Some, None, IfSome, refl, sym, ap, subst, ◌∙◌, arith}
 use Rattle.op_model.specs.Meaning.{MapState, greater}
 use Rattle.op_model.specs.State.{join}
 use Rattle.sync_model.specs.Closing.{IsBelow, held_state}
@@ -40,6 +40,12 @@ took_step hash_of old mail new outcome out h = subst (λ o. TookAs old mail o ne
 pub brought_step : (hash_of : List ℕ → ℕ) (old : Replica) (mail brought : Mail) (new : Replica) (outcome : Outcome) (out : List Mail)
     → BringsAs hash_of old mail brought → IsStep hash_of old (Take mail) new (Came outcome) out → Joins old brought new
 brought_step hash_of old mail brought new outcome out is h = (is.0, is.1, (is.2 new h.0 out h.2).1)
+
+pub brought_joins : {T : Type 0} (mail_in : T → Mail) (hash_of : List ℕ → ℕ) (old : Replica) (mail : Mail) (new : Replica) (outcome : Outcome) (out : List Mail)
+    (found : Option T) → IfSome found (λ x. BringsAs hash_of old mail (mail_in x)) → IsStep hash_of old (Take mail) new (Came outcome) out
+    → IfSome found (λ x. Joins old (mail_in x) new)
+brought_joins mail_in hash_of old mail new outcome out None is h = is
+brought_joins mail_in hash_of old mail new outcome out (Some x) is h = brought_step hash_of old mail (mail_in x) new outcome out is h
 
 pub asked : (old new : Replica) (peer n : ℕ) (out : List Mail) → IsCall old (Ask peer) new (Numbered n) out → (old.opened ≤ n)
     × (restarts new ≡ record (restarts old) { opened = n })

@@ -20,3 +20,7 @@ Joins old mail new = (d : MapState) × (mail ≡ Delta d) × (new.live ≡ join 
 -- the second message is a delta that brings what the delivery of the first one joins in
 abbrev pub BringsAs : (List ℕ → ℕ) → Replica → Mail → Mail → Type 0
 BringsAs hash_of r mail brought = (d : MapState) × (brought ≡ Delta d) × Brings hash_of r mail d
+
+-- a delta that changes nothing that it is joined into
+abbrev pub BringsNothing : Mail → Type 0
+BringsNothing mail = (d : MapState) → mail ≡ Delta d → (p : MapState) → join greater p d ≡ p

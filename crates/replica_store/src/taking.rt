@@ -3,7 +3,8 @@ ghost use Rattle.std.specs.Prelude.{◌≡◌, false, Err, IfOk, IfErr, IfSome, 
 ghost use Rattle.sqlite.specs.State.{HasCleanDisk, Survives};
 ghost use Rattle.durable_log.specs.Log.{log_state, IsReady};
 ghost use Rattle.wire_form.specs.Message.{message_of};
-ghost use Rattle.replica_model.specs.Mail.{Delta, mail_of};
+ghost use Rattle.replica_model.specs.Delivery.{Done};
+ghost use Rattle.replica_model.specs.Mail.{Mail, Delta, mail_of};
 ghost use Rattle.replica_model.specs.Replica.{Replica as ReplicaModel, restarts};
 ghost use Rattle.replica_model.specs.Step.{Take, Came};
 ghost use Rattle.replica_core.specs.Answered.{outcome_of};
@@ -13,7 +14,7 @@ ghost use Rattle.replica_core.specs.Saving.{restored};
 ghost use Rattle.replica_core.specs.Stepping.{Steps, mails_of};
 ghost use Rattle.replica_store.specs.Kept.{Keeps, IsKept, KeepsEither, GainsMessage, GainsDelta};
 ghost use Rattle.replica_store.specs.Refusing.{IsUnkept, LeavesByTaking};
-ghost use Rattle.replica_store.specs.Took.{TookAs, Joins, BringsAs};
+ghost use Rattle.replica_store.specs.Took.{TookAs, Joins, BringsAs, BringsNothing};
 
 use crate::keeping::keep_message;
 use crate::store::Store;
@@ -74,6 +75,17 @@ fn brought<H: PathHash>(replica: &Replica<H>, message: &Message) -> Result<Optio
     Ok(Some(Message::Delta(delta)))
 }
 
+// Whether the message is a delta that knows no dot.
+fn is_nothing(message: &Message) -> bool
+    ensures { IsTrue result → BringsNothing (mail_of (message_of message.now)) }
+{
+    match message {
+        Message::Delta(delta) => delta.context().is_empty(),
+        Message::Hello(..) | Message::Opening(..) | Message::Ask(..) => false,
+        Message::Page(..) | Message::Gone(..) => false,
+    }
+}
+
 // Keeps the message.
 fn keep_one<S: Alter>(alloc: Global, log: &mut Log<S>, message: &Message) -> Result<(), StoreError>
     ensures kept { HasCleanDisk (log_state S.Store log.new) → OnOk result (IsReady (log_state S.Store log.new) × GainsMessage (log_state S.Store log.old).now.trees (log_state S.Store log.new).now.trees (message_of message.now)) }
@@ -88,6 +100,29 @@ fn keep_one<S: Alter>(alloc: Global, log: &mut Log<S>, message: &Message) -> Res
         }
         Err(error) => Err(error),
     }
+}
+
+// Keeps the delta that the end of a session brought, if it has a dot.
+fn keep_brought<S: Alter>(
+    alloc: Global,
+    log: &mut Log<S>,
+    delta: &Message,
+) -> Result<(), StoreError>
+    requires { log.old.is_failed ≡ false }
+    ensures kept { (old new : ReplicaModel) (mail : Mail) → TookAs old mail Done new → Joins old (mail_of (message_of delta.now)) new
+        → HasCleanDisk (log_state S.Store log.new) → Keeps (log_state S.Store log.old).now.trees old → OnOk result (IsKept (log_state S.Store log.new) new) }
+    ensures any_moment { (old new : ReplicaModel) (mail : Mail) → TookAs old mail Done new → Joins old (mail_of (message_of delta.now)) new
+        → HasCleanDisk (log_state S.Store log.new) → Keeps (log_state S.Store log.old).now.trees old → KeepsEither (log_state S.Store log.new) old new }
+    ensures clean { HasCleanDisk (log_state S.Store log.new) → HasCleanDisk (log_state S.Store log.old) }
+    ensures stays { OnOk result (log.new.is_failed ≡ false) }
+    ensures lost { IfErr result IsUnkept }
+{
+    // Asked for what it promises of a crash.
+    let _ = log.is_failed();
+    if is_nothing(delta) {
+        return Ok(());
+    }
+    keep_one(alloc, log, delta)
 }
 
 // Keeps all that the replica holds.
@@ -110,8 +145,8 @@ fn keep_all<S: Alter, H: PathHash>(
     kept
 }
 
-// Keeps what the message brought: of a delta the message, of the end of a session the delta that is given, or else all that the replica holds now, and
-// of any other nothing.
+// Keeps what the message brought: of a delta the message, of the end of a session the delta that is given, if it has a dot, or else all that the
+// replica holds now, and of any other nothing.
 fn keep_taken<S: Alter, H: PathHash>(
     alloc: Global,
     log: &mut Log<S>,
@@ -134,7 +169,7 @@ fn keep_taken<S: Alter, H: PathHash>(
     match outcome {
         Outcome::Joined => keep_one(alloc, log, message),
         Outcome::Done => match brought {
-            Some(delta) => keep_one(alloc, log, delta),
+            Some(delta) => keep_brought(alloc, log, delta),
             None => keep_all(alloc, log, replica),
         },
         Outcome::Sent => Ok(()),
@@ -151,8 +186,8 @@ impl<S: Alter, H: PathHash> Store<S, H> {
     /// A message that knows a write of this name that the replica does not know is refused as such: the file is not the newest of its name.
     /// Then nothing changed, nor where the replica refuses the message for want of memory. Any other error leaves the store failed. Takes what the replica's
     /// call takes, and of an opening or a page of an own synchronisation what `joined_by` takes; for a delta a write of it to the disk, and where
-    /// a synchronisation ends a write of the delta that it brought, or of all that is held where that is shorter, with a wait for it; and else no
-    /// write.
+    /// a synchronisation ends that brought something a write of the delta that it brought, or of all that is held where that is shorter, with a
+    /// wait for it; and else no write.
     pub fn deliver(&mut self, alloc: Global, message: &Message) -> Result<Delivered, StoreError>
         ensures ok { IfOk result (λ told. Steps H.hash_of self.old.replica self.new.replica (Take (mail_of (message_of message.now))) (Came (outcome_of told.outcome)) (mails_of told.replies.items)) }
         ensures err { IfErr result (LeavesByTaking (mail_of (message_of message.now)) self.old self.new) }
