@@ -81,7 +81,7 @@ module _ {Hash : Type 0} (hash_of : Hash → List ℕ → ℕ) (old : ReplicaVal
   opening_brings context root said told =
       let here = own_at hash_of old is s place a first next step goes_from message in
       let at = opening_is hash_of old is s place a first next step goes_from message context root said told
-          ∙ ap (λ h. turning.opening_at (hash_of h) a.session (stage_with a.own a.seen a.stage) context root) here.hash_is in
+      ∙ ap (λ h. turning.opening_at (hash_of h) a.session (stage_with a.own a.seen a.stage) context root) here.hash_is in
       some_weaker found (λ delta. brought_by (hash_of (hash_in old)) (meaning old) (mail_of message) (asker_state next) step (or_map_state delta)
       (λ own. subst (λ m. delivered (hash_of (hash_in old)) own (meaning old) (mail_of m) ≡ turned (meaning old) (asker_state next) step) (sym said)
       (opening_turns hash_of old s place a first here (outcome (asker_state next) step) own context root at))) closing
@@ -92,7 +92,7 @@ module _ {Hash : Type 0} (hash_of : Hash → List ℕ → ℕ) (old : ReplicaVal
   page_brings sent said told =
       let here = own_at hash_of old is s place a first next step goes_from message in
       let at = page_is hash_of old is s place a first next step goes_from message (inl (sent, said)) told sent said
-          ∙ ap (λ h. turning.page_at_stage (hash_of h) a.session (stage_with a.own a.seen a.stage) sent) here.hash_is in
+      ∙ ap (λ h. turning.page_at_stage (hash_of h) a.session (stage_with a.own a.seen a.stage) sent) here.hash_is in
       some_weaker found (λ delta. brought_by (hash_of (hash_in old)) (meaning old) (mail_of message) (asker_state next) step (or_map_state delta)
       (λ own. subst (λ m. delivered (hash_of (hash_in old)) own (meaning old) (mail_of m) ≡ turned (meaning old) (asker_state next) step) (sym said)
       (page_turns hash_of old s place a first here (outcome (asker_state next) step) own sent at))) closing

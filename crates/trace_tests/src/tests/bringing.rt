@@ -96,7 +96,5 @@ fn a_synchronisation_brings_a_short_delta(rt: HostRuntime) {
         .iter()
         .all(|delta| delta.store().entries().len() == 4);
     let is_all = here.digest() == peer.digest();
-    let n = brought.len(); let m = brought.iter().map(|delta| delta.store().entries().len()).max().unwrap_or(0);
-    assert!(&rt; n == 1, "{n} told"); assert!(&rt; m == 4, "{m} keys");
     assert!(rt; is_one && is_short && is_all);
 }
