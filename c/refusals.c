@@ -130,6 +130,8 @@ static uint32_t take_unguarded(ginelm *here, struct call *c) {
 
 static uint32_t has_lost(ginelm *here, struct call *c) { return ginelm_has_lost(here, c->value, c->value_length, &c->is); }
 
+static uint32_t joined_by(ginelm *here, struct call *c) { return ginelm_joined_by(here, c->value, c->value_length); }
+
 static uint32_t ask(ginelm *here, struct call *c) { return ginelm_ask(here, 2, &c->number); }
 
 static uint32_t retry(ginelm *here, struct call *c) { return ginelm_retry(here, 1, &c->outcome); }
@@ -354,6 +356,7 @@ static void asks(struct pair *pair, ginelm *peer) {
         CHECK(ginelm_take(peer, letter.at, letter.length, &outcome, &named) == GINELM_DONE && outcome == GINELM_SENT);
         gather(peer, &answers);
         CHECK(answers.count == 1);
+        tries(pair, with_value(joined_by, answers.at[0].at, answers.at[0].length));
         append(&letters, both(pair, with_value(take, answers.at[0].at, answers.at[0].length)));
         let_go(&answers);
         free(letter.at);

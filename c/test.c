@@ -338,6 +338,9 @@ static void restarts(void) {
     CHECK(ginelm_has_lost(&back, message.bytes, message.length, &is) == GINELM_DONE && !is);
     CHECK(ginelm_has_lost(&back, message.bytes, 1, &is) == GINELM_NOT_A_MESSAGE);
     CHECK(ginelm_has_lost(&other, message.bytes, message.length, &is) == GINELM_EMPTY);
+    CHECK(ginelm_joined_by(&back, message.bytes, message.length) == GINELM_DONE && count_of(&back) == 0);
+    CHECK(ginelm_joined_by(&back, message.bytes, 1) == GINELM_NOT_A_MESSAGE);
+    CHECK(ginelm_joined_by(&other, message.bytes, message.length) == GINELM_EMPTY);
     forgets(message);
     CHECK(ginelm_new_from(&other, 0, saved.bytes, saved.length) == GINELM_NO_NAME);
     CHECK(ginelm_new_from(&other, 8, saved.bytes, 3) == GINELM_NOT_A_MESSAGE);

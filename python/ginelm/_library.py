@@ -52,6 +52,7 @@ _CALLS: dict[str, tuple] = {
     "take": (_HERE, *_TEXT, _OUTCOME, _SESSION),
     "take_unguarded": (_HERE, *_TEXT, _OUTCOME, _SESSION),
     "has_lost": (_HERE, *_TEXT, _TEST),
+    "joined_by": (_HERE, *_TEXT),
     "ask": (_HERE, c_uint64, _NUMBER),
     "retry": (_HERE, c_uint64, _OUTCOME),
     "abandon": (_HERE, c_uint64, _TEST),

@@ -150,6 +150,13 @@ class Replica(Reader):
         was used before and what was known is lost. Raises NotAMessage."""
         return self._test("has_lost", *given(data))
 
+    def joined_by(self, data: bytes) -> bytes | None:
+        """What taking this message in will join in, where it will end an own synchronisation, as the message of a letter: to keep
+        it is to keep what the synchronisation brought. None where it will end none, or where a write stands at several keys, as
+        after forged messages: then all is to be saved. Raises NotAMessage."""
+        letters = self._letters("joined_by", *given(data))
+        return letters[0].data if letters else None
+
     def ask(self, peer: int) -> tuple[int, Letter]:
         """Opens a synchronisation, which brings all that the peer has seen: its number, and the letter to the peer.
 

@@ -189,6 +189,31 @@ def test_a_name_without_its_memory_is_told() -> None:
         one.has_lost(b"no message")
 
 
+def test_what_a_synchronisation_brings_can_be_kept() -> None:
+    here, peer, kept = Replica(1), Replica(2), Replica(3)
+    for number in range(40):
+        peer.put(b"%d" % number, b"v")
+    (whole,) = peer.flush()
+    here.take(whole.data)
+    kept.take(whole.data)
+    peer.put(b"7", b"w")
+    peer.remove(b"8")
+    peer.put(b"new", b"x")
+    waiting, brought = [here.ask(2)[1]], []
+    while waiting:
+        letter = waiting.pop(0)
+        if letter.to == here.name:
+            brought.append(here.joined_by(letter.data))
+        waiting += (here if letter.to == here.name else peer).take(letter.data).letters
+    delta = brought.pop()
+    assert delta is not None and len(delta) < len(whole.data) / 4 and set(brought) == {None}
+    assert kept.take(delta).outcome is Outcome.JOINED
+    assert kept.digest() == here.digest() == peer.digest()
+    assert kept.joined_by(whole.data) is None
+    with pytest.raises(ginelm.NotAMessage):
+        kept.joined_by(b"no message")
+
+
 def test_threads_take_their_turns() -> None:
     replica = Replica(1)
     failed: list[BaseException] = []

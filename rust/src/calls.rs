@@ -84,6 +84,7 @@ extern "C" {
         length: usize,
         lost: *mut bool,
     ) -> u32;
+    pub fn ginelm_joined_by(here: *mut Handle, bytes: *const u8, length: usize) -> u32;
     pub fn ginelm_ask(here: *mut Handle, peer: u64, number: *mut u64) -> u32;
     pub fn ginelm_retry(here: *mut Handle, number: u64, outcome: *mut u32) -> u32;
     pub fn ginelm_abandon(here: *mut Handle, number: u64, was_open: *mut bool) -> u32;

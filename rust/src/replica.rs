@@ -226,6 +226,14 @@ impl Replica {
         Ok(lost)
     }
 
+    /// What `take` of this message will join in, where it will end an own synchronisation, as the bytes of a letter: whoever keeps it keeps what the
+    /// synchronisation brought. None where it will end none, or where a write stands at several keys, as after forged messages: then all is to
+    /// be saved.
+    pub fn joined_by(&self, bytes: &[u8]) -> Result<Option<Vec<u8>>, Error> {
+        self.call(|here| unsafe { calls::ginelm_joined_by(here, bytes.as_ptr(), bytes.len()) })?;
+        Ok(self.texts()?.pop().map(|letter| letter.bytes))
+    }
+
     /// Opens a synchronisation, which brings all that the peer has seen: its number, and the letter to the peer.
     pub fn ask(&mut self, peer: NonZeroU64) -> Result<(u64, Letter), Error> {
         let mut number = 0;

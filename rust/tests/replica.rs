@@ -193,3 +193,34 @@ fn a_name_without_its_memory_is_told() {
     assert!(forgetful.take(&letter.bytes).is_ok());
     assert_eq!(one.take_unguarded(b"x"), Err(Error::NotAMessage));
 }
+
+// Who keeps what a synchronisation brings, as the asker tells it before its last message, holds the same.
+#[test]
+fn what_a_synchronisation_brings_can_be_kept() {
+    let (mut here, mut peer, mut kept) = (replica(1), replica(2), replica(3));
+    for number in 0..40u8 {
+        peer.put(&[number], b"v").unwrap();
+    }
+    let whole = peer.flush().unwrap().unwrap();
+    for to in [&mut here, &mut kept] {
+        to.take(&whole.bytes).unwrap();
+    }
+    peer.put(&[7], b"w").unwrap();
+    peer.remove(&[8]).unwrap();
+    let mut waiting = VecDeque::from([here.ask(peer.name()).unwrap().1]);
+    let mut brought = Vec::new();
+    while let Some(letter) = waiting.pop_front() {
+        let is_here = letter.to == Some(here.name());
+        if is_here {
+            brought.extend(here.joined_by(&letter.bytes).unwrap());
+        }
+        let to = if is_here { &mut here } else { &mut peer };
+        waiting.extend(to.take(&letter.bytes).unwrap().letters);
+    }
+    assert_eq!(brought.len(), 1);
+    assert!(brought[0].len() < whole.bytes.len() / 4);
+    kept.take(&brought[0]).unwrap();
+    assert_eq!(kept.digest(), peer.digest());
+    assert_eq!(kept.joined_by(&whole.bytes), Ok(None));
+    assert_eq!(kept.joined_by(b"no message"), Err(Error::NotAMessage));
+}

@@ -2,16 +2,20 @@
 use Rattle.std.specs.Prelude.{◌≡◌, ℕ, List, Option, Some, None}
 use Rattle.wire_form.specs.Message.{MessageValue, Spells, session_of}
 use Rattle.wire_form.specs.Session.{SessionValue}
-use Rattle.replica_model.specs.Mail.{mail_of}
+use Rattle.hash_path.specs.declared.fnv1a.Fnv1a.{Fnv1a}
+use Rattle.op_model.specs.Meaning.{MapState}
+use Rattle.replica_model.specs.Mail.{Delta, mail_of}
 use Rattle.replica_model.specs.Step.{Do, Take, Retry, Came}
 use Rattle.replica_core.specs.Answered.{outcome_of}
 use Rattle.replica_core.specs.Guarding.{HasLost}
-use Rattle.replica_core.specs.Meaning.{meaning}
+use Rattle.replica_core.specs.Bringing.{Brings}
+use Rattle.replica_core.specs.Meaning.{ReplicaValue, hash_in, meaning}
 use Rattle.replica_core.specs.declared.outcome.Outcome.{Outcome}
 use Rattle.replica_core.specs.declared.outcome.Outcome.TheVariants.{Joined, Sent, Done, Ignored, Mismatch, Gone}
 use Rattle.ginelm_c.specs.declared.held.Held.{Held}
 use Rattle.ginelm_c.specs.declared.named.Named.{Named}
 use Rattle.ginelm_c.specs.Handling as handling
+use Rattle.ginelm_c.specs.Texts.{bytes_at}
 
 -- the outcomes by number
 abbrev pub number_of : Outcome → ℕ
@@ -45,3 +49,15 @@ pub record Retries (x y : Held) (number outcome : ℕ) : Type 0 where
   pub told : Outcome
   pub numbered : outcome ≡ number_of told
   pub sent : handling.Sent x y (Do (Retry number)) (Came (outcome_of told))
+
+-- the text spells a delta that brings what the delivery of the message joins in
+abbrev pub IsBrought : List ℕ → ReplicaValue Fnv1a → MessageValue → Type 0
+IsBrought text r message =
+    (d : MapState) × (told : MessageValue) × Spells text told × (mail_of told ≡ Delta d) × Brings (handling.hash_of (hash_in r)) (meaning r) (mail_of message) d
+
+-- the replica is as it was, the bytes spell a message, and the text, if there is one, is of what it brings
+pub record TellsBrought (x y : Held) (bytes : List ℕ) : Type 0 where
+  pub same : y.replica ≡ x.replica
+  pub message : MessageValue
+  pub spelled : Spells bytes message
+  pub told : (text : List ℕ) → bytes_at y.texts 0 ≡ Some text → IsBrought text x.replica message

@@ -4,6 +4,7 @@
 #![tactic(auto)]
 
 mod answer;
+mod bringing;
 mod changing;
 mod guarding;
 mod handle;
