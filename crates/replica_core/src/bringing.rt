@@ -24,6 +24,7 @@ ghost use Rattle.replica_core.specs.Turning.{CanTake};
 
 use crate::replica::Replica;
 use crate::sessions::place_of;
+use causal_context::Context;
 use causal_join::OrMap;
 use dots::Refusal;
 use hash_path::PathHash;
@@ -36,8 +37,9 @@ impl<H: PathHash, A: Allocator + Copy> Replica<H, A> {
     /// of all that is held. It holds what will stand at the keys that can change, and knows the dots that stand or will stand there and those
     /// that are new. The replica stays as it is.
     ///
-    /// None where the delivery ends none; and where a dot at one of these keys may stand at another key too, as no exchange of replicas leads
-    /// to. Its only refusal is OutOfMemory. Takes what `deliver` takes of such a message, and time and memory in the dots that are new.
+    /// None where the delivery ends none; where more dots are new than keys are held, as then all that is held is as short; and where a dot at one
+    /// of these keys may stand at another key too, as no exchange of replicas leads to. Its only refusal is OutOfMemory. Takes what `deliver`
+    /// takes of such a message, and time and memory in the dots that are new, which are no more than the keys.
     pub fn joined_by(&self, message: &Message<A>) -> Result<Option<OrMap<A>>, Refusal>
         ensures ok { IfOk result (λ found. IfSome found (λ delta. Brings (H.hash_of (hash_in self.now)) (meaning self.now) (mail_of (message_of message.now)) (or_map_state delta))) }
         ensures err { IsOkUnless result Refusal.OutOfMemory }
@@ -126,6 +128,9 @@ impl<H: PathHash, A: Allocator + Copy> Replica<H, A> {
             join greater (meaning self.now).live (closing.held_state opened.now.built.entries (has opened.now.context)) ≡ join greater (meaning self.now).live (or_map_state delta))) }
         ensures err { IsOkUnless result Refusal.OutOfMemory }
     {
+        if has_more_new(self.context(), &opened.context, self.size()) {
+            return Ok(None);
+        }
         self.live.opened_delta(
             self.alloc,
             &opened.base,
@@ -135,6 +140,15 @@ impl<H: PathHash, A: Allocator + Copy> Replica<H, A> {
             &opened.context,
         )
     }
+}
+
+// Whether more dots of the other context are new than this many: a forged one may know any number.
+fn has_more_new<A: Allocator + Copy>(own: &Context<A>, other: &Context<A>, most: u64) -> bool {
+    let mut number = other.cloud().len() as u64;
+    for (name, last) in other.vector() {
+        number = number.saturating_add(last.saturating_sub(own.entry(*name)));
+    }
+    number > most
 }
 
 // Whether the turn ended its session with all that it asked for.

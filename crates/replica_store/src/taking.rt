@@ -59,7 +59,7 @@ fn whole<H: PathHash>(alloc: Global, replica: &Replica<H>) -> Result<Message, St
     Ok(Message::Delta(live))
 }
 
-// A delta of what the message brings where it ends a session, if there is one that is shorter than all that the replica holds.
+// A delta of what the message brings where it ends a session, if there is one.
 fn brought<H: PathHash>(replica: &Replica<H>, message: &Message) -> Result<Option<Message>, Refusal>
     ensures ok { IfOk result (λ found. IfSome found (λ m. BringsAs (H.hash_of (hash_in replica.now)) (meaning replica.now) (mail_of (message_of message.now)) (mail_of (message_of m)))) }
     ensures err { IsOkUnless result Refusal.OutOfMemory }
@@ -67,11 +67,6 @@ fn brought<H: PathHash>(replica: &Replica<H>, message: &Message) -> Result<Optio
     let Some(delta) = replica.joined_by(message)? else {
         return Ok(None);
     };
-    let is_long = delta.context().cloud().len() as u64 > replica.size();
-    if is_long {
-        drop(delta);
-        return Ok(None);
-    }
     Ok(Some(Message::Delta(delta)))
 }
 
