@@ -214,6 +214,21 @@ def test_what_a_synchronisation_brings_can_be_kept() -> None:
         kept.joined_by(b"no message")
 
 
+def test_a_forged_context_makes_no_long_delta() -> None:
+    """An opening may know any number of dots, which are not listed one by one."""
+    here, peer = Replica(1), Replica(2)
+    for number in range(40):
+        here.put(b"%d" % number, b"v")
+    (whole,) = here.flush()
+    peer.take(whole.data)
+    numbers = (1, 9, 1 << 63, 0, 0)
+    forged = b"\1\1" + b"".join(number.to_bytes(8, "big") for number in numbers)
+    assert peer.take(forged).outcome is Outcome.JOINED
+    (opening,) = peer.take(here.ask(2)[1].data).letters
+    assert here.joined_by(opening.data) is None
+    assert here.take(opening.data).outcome is Outcome.DONE and here.knows(9, 1 << 63)
+
+
 def test_threads_take_their_turns() -> None:
     replica = Replica(1)
     failed: list[BaseException] = []
