@@ -1,4 +1,3 @@
-mod bringing;
 mod clients;
 mod copies;
 mod late;

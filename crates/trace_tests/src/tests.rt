@@ -1,7 +1,6 @@
 //! What no clause says: the worked traces with their exact text, the order of reads and writes, and failures in mid-stream; what random
 //! events of a world come to; and what of a replica stands behind no call of other languages.
 
-mod bringing;
 mod changes;
 mod copies;
 mod faults;
