@@ -82,13 +82,16 @@ def of_a_synchronisation(program, folder, keys, differ):
                 asker.tell(f"take {letter}")
         for number in range(differ):
             answerer.tell(put(number, b"y" * 100))
-        _, before = longest_row(here)
+    # A file is read by others once its store is closed.
+    _, before = longest_row(here)
+    with Node(program, here, 2) as asker, Node(program, there, 1) as answerer:
         waiting = asker.tell("ask 1")
         while waiting:
             waiting = [letter for message in waiting for answer in answerer.tell(f"take {message}") for letter in asker.tell(f"take {answer}")]
-        row, _ = longest_row(here, before)
+    row, _ = longest_row(here, before)
+    with Node(program, here, 2) as asker:
         asker.tell("compact")
-        whole, _ = longest_row(here)
+    whole, _ = longest_row(here)
     print(f"a synchronisation of {keys} keys of which {differ} differ keeps {row} bytes; all that is held has {whole}")
 
 
