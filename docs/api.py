@@ -18,7 +18,7 @@ PAGE = os.path.join(ROOT, "docs", "API.md")
 COLUMNS = 100
 
 # Crates whose items are for programs and tests alone.
-NOT_OFFERED = {"store_tests", "ormap_refusals", "cell_tests", "node_tests", "frames_tests", "trace_tests"}
+NOT_OFFERED = {"store_tests", "ormap_refusals", "cell_tests", "node_tests", "trace_tests"}
 
 HEAD = """# Every public call
 

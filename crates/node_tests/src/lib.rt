@@ -7,6 +7,10 @@ mod called;
 #[cfg(test)]
 mod caller;
 #[cfg(test)]
+mod frames;
+#[cfg(test)]
 mod nodes;
+#[cfg(test)]
+mod streams;
 #[cfg(test)]
 mod tests;

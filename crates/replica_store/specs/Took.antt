@@ -1,4 +1,5 @@
--- What a delivery leaves to be kept: of a delta the delta, of the end of a session a delta that brings what it joined in, or all that is held; and else nothing. Of this project.
+-- What a delivery leaves to be kept: of a delta the delta, of the end of a session a delta that brings what it joined in, or all that is held; and else
+-- nothing. Of this project.
 use Rattle.std.specs.Prelude.{◌≡◌, ℕ, List}
 use Rattle.op_model.specs.Meaning.{MapState, greater}
 use Rattle.op_model.specs.State.{join}

@@ -181,8 +181,8 @@ impl<S: Alter, H: PathHash> Store<S, H> {
     /// A message that knows a write of this name that the replica does not know is refused as such: the file is not the newest of its name.
     /// Then nothing changed, nor where the replica refuses the message for want of memory. Any other error leaves the store failed. Takes what the replica's
     /// call takes, and of an opening or a page of an own synchronisation what `joined_by` takes; for a delta a write of it to the disk, and where
-    /// a synchronisation ends that brought something a write of the delta that it brought, or of all that is held where that is shorter, with a
-    /// wait for it; and else no write.
+    /// a synchronisation ends that brought something a write of the delta that it brought, or of all that is held where that is shorter or `joined_by`
+    /// tells none, with a wait for it; and else no write.
     pub fn deliver(&mut self, alloc: Global, message: &Message) -> Result<Delivered, StoreError>
         ensures ok { IfOk result (λ told. Steps H.hash_of self.old.replica self.new.replica (Take (mail_of (message_of message.now))) (Came (outcome_of told.outcome)) (mails_of told.replies.items)) }
         ensures err { IfErr result (LeavesByTaking (mail_of (message_of message.now)) self.old self.new) }

@@ -1,3 +1,4 @@
+// Frames over streams that give and take a few bytes a call.
 use crate::streams::{Given, Taken};
 use dots::{Name, Refusal};
 use node_threads::{Frames, FramesEnd, Post};
