@@ -100,7 +100,7 @@ static uint32_t take_anyway(world *w, ginelm *here, const uint8_t *bytes, size_t
     return ginelm_take_unguarded(here, bytes, length, outcome, session);
 }
 
-/* Takes the bytes in. A refused message changes nothing. */
+/* Takes the bytes in, once it was asked what they bring. That, and a refused message, changes nothing. */
 static void take(world *w, unsigned call, ginelm *here, const uint8_t *bytes, size_t length) {
     uint8_t before[32] = {0}, after[32] = {0};
     size_t old = 0, new = 0;
@@ -109,7 +109,11 @@ static void take(world *w, unsigned call, ginelm *here, const uint8_t *bytes, si
     uint32_t outcome = 0;
     ginelm_named session;
     w->is_forging = call > 5;
+    uint32_t asked = ginelm_joined_by(here, bytes, length);
+    look(here, after, &new, &now);
+    WANT(old == new && size == now && memcmp(before, after, old) == 0);
     uint32_t told = take_anyway(w, here, bytes, length, &outcome, &session);
+    WANT(asked == told);
     if (told != GINELM_DONE) {
         WANT(told == GINELM_NOT_A_MESSAGE);
         look(here, after, &new, &now);

@@ -42,8 +42,8 @@
  * What a call gives more than a number of stands behind the handle as texts, until the next call that
  * gives texts: ginelm_get, ginelm_get_field, ginelm_values_of_key, ginelm_keys, ginelm_fields,
  * ginelm_changes, ginelm_flush, ginelm_take, ginelm_take_unguarded, ginelm_joined_by, ginelm_ask,
- * ginelm_retry and ginelm_save. They are read by ginelm_count and ginelm_text. Those of a snapshot stand behind its own
- * handle, and are read by ginelm_snapshot_count and ginelm_snapshot_text.
+ * ginelm_retry and ginelm_save. They are read by ginelm_count and ginelm_text. Those of a snapshot
+ * stand behind its own handle, and are read by ginelm_snapshot_count and ginelm_snapshot_text.
  */
 #ifndef GINELM_H
 #define GINELM_H
@@ -170,8 +170,9 @@ uint32_t ginelm_has_lost(ginelm *here, const uint8_t *bytes, size_t length, bool
 
 /* What ginelm_take of the message will join in, where it will end an own synchronisation, becomes the
  * one text, as a message of ginelm_flush: whoever keeps it keeps what the synchronisation brought. No
- * text where it will end none, or where a dot stands at several keys, as after forged messages: then
- * all that is held is to be kept. The replica stays as it is. NOT_A_MESSAGE. */
+ * text where it will end none, where more is new than keys are held, or where a dot stands at several
+ * keys, as after forged messages: then all that is held is to be kept. The replica stays as it is.
+ * NOT_A_MESSAGE. */
 uint32_t ginelm_joined_by(ginelm *here, const uint8_t *bytes, size_t length);
 
 /* Opens a synchronisation, which brings all that the peer has seen. Tells its number; the one

@@ -12,7 +12,9 @@ import tempfile
 import traceback
 from pathlib import Path
 
-BUILT = Path(__file__).resolve().parent.parent.parent / "crates" / "kept_replica" / "out" / "kept_replica"
+sys.path.append(str(Path(__file__).resolve().parent.parent))
+from stores import BUILT, Store, longest_row, synchronise  # noqa: E402  (found by the path above)
+
 PROGRAM = Path(sys.argv[1] if len(sys.argv) > 1 else BUILT).resolve()
 
 
@@ -42,31 +44,6 @@ def sent(lines):
     return [line.removeprefix("send ") for line in lines if line.startswith("send ")]
 
 
-class Open:
-    """A program that stays open."""
-
-    def __init__(self, path, name):
-        self.process = subprocess.Popen([PROGRAM, path, str(name)], stdin=subprocess.PIPE, stdout=subprocess.PIPE, text=True)
-        self.first = self.process.stdout.readline()
-
-    def tell(self, line):
-        """The messages that it sends for a line."""
-        self.process.stdin.write(f"{line}\n")
-        self.process.stdin.flush()
-        lines = []
-        while not lines or lines[-1] != "end":
-            lines.append(self.process.stdout.readline().rstrip("\n"))
-            assert lines[-1] and not lines[-1].startswith("no ")
-        return sent(lines)
-
-    def __enter__(self):
-        return self
-
-    def __exit__(self, *_):
-        self.process.stdin.close()
-        self.process.wait()
-
-
 def bytes_of(path):
     """What the file and those beside it hold."""
     return {at.name: at.read_bytes() for at in path.parent.glob(path.name + "*")}
@@ -77,12 +54,6 @@ def filled(path):
     lines = run(path, 1, *(put(b"%d" % number, b"v") for number in range(40)))
     assert lines[0] == "open 0" and lines[-1] == "end" and lines.count("ok") == 40
     return {b"%d" % number: {b"v"} for number in range(40)}
-
-
-def synchronise(asker, answerer):
-    waiting = asker.tell("ask 1")
-    while waiting:
-        waiting = [letter for message in waiting for answer in answerer.tell(f"take {message}") for letter in asker.tell(f"take {answer}")]
 
 
 def writes_are_there_again(folder):
@@ -110,16 +81,9 @@ def what_was_taken_in_is_there_again(folder):
     (delta,) = sent(run(one, 1, put(b"told", b"x")))
     run(two, 2, f"take {delta}")
     assert dump(two, 2) == {b"told": {b"x"}}
-    with Open(two, 2) as asker, Open(one, 1) as answerer:
+    with Store(PROGRAM, two, 2) as asker, Store(PROGRAM, one, 1) as answerer:
         synchronise(asker, answerer)
     assert dump(two, 2) == {**wanted, b"told": {b"x"}}
-
-
-def longest_row(path):
-    with sqlite3.connect(path) as connection:
-        (length,) = connection.execute("SELECT max(length(bytes)) FROM log").fetchone()
-    connection.close()
-    return length
 
 
 def a_synchronisation_keeps_what_it_brought(folder):
@@ -127,15 +91,15 @@ def a_synchronisation_keeps_what_it_brought(folder):
     lines = run(one, 1, *(put(b"%d" % number, b"v" * 100) for number in range(40)))
     run(two, 2, *(f"take {delta}" for delta in sent(lines)))
     run(one, 1, put(b"7", b"w"), put(b"new", b"x"), f"remove {b'8'.hex()}")
-    with Open(two, 2) as asker, Open(one, 1) as answerer:
+    with Store(PROGRAM, two, 2) as asker, Store(PROGRAM, one, 1) as answerer:
         synchronise(asker, answerer)
         synchronise(asker, answerer)
     # All that is held is some 5,000 bytes.
-    assert longest_row(two) < 500
+    assert longest_row(two)[0] < 500
     wanted = {b"%d" % number: {b"v" * 100} for number in range(40) if number != 8}
     assert dump(two, 2) == dump(one) == {**wanted, b"7": {b"w"}, b"new": {b"x"}}
     # One that had nothing takes all.
-    with Open(folder / "three.db", 3) as asker, Open(one, 1) as answerer:
+    with Store(PROGRAM, folder / "three.db", 3) as asker, Store(PROGRAM, one, 1) as answerer:
         synchronise(asker, answerer)
     assert dump(folder / "three.db", 3) == dump(one)
 
@@ -151,7 +115,7 @@ def another_name_is_refused(folder):
 def a_second_opener_is_refused(folder):
     path = folder / "kept.db"
     wanted = filled(path)
-    with Open(path, 1) as first:
+    with Store(PROGRAM, path, 1) as first:
         assert first.first == "open 40\n"
         (line,) = run(path, 1, put(b"k", b"v"))
         assert line.startswith("refused ")

@@ -152,8 +152,8 @@ class Replica(Reader):
 
     def joined_by(self, data: bytes) -> bytes | None:
         """What taking this message in will join in, where it will end an own synchronisation, as the message of a letter: to keep
-        it is to keep what the synchronisation brought. None where it will end none, or where a write stands at several keys, as
-        after forged messages: then all is to be saved. Raises NotAMessage."""
+        it is to keep what the synchronisation brought. None where it will end none, where more writes are new than keys are held,
+        or where a write stands at several keys, as after forged messages: then all is to be saved. Raises NotAMessage."""
         letters = self._letters("joined_by", *given(data))
         return letters[0].data if letters else None
 

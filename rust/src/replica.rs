@@ -227,8 +227,8 @@ impl Replica {
     }
 
     /// What `take` of this message will join in, where it will end an own synchronisation, as the bytes of a letter: whoever keeps it keeps what the
-    /// synchronisation brought. None where it will end none, or where a write stands at several keys, as after forged messages: then all is to
-    /// be saved.
+    /// synchronisation brought. None where it will end none, where more writes are new than keys are held, or where a write stands at several keys,
+    /// as after forged messages: then all is to be saved.
     pub fn joined_by(&self, bytes: &[u8]) -> Result<Option<Vec<u8>>, Error> {
         self.call(|here| unsafe { calls::ginelm_joined_by(here, bytes.as_ptr(), bytes.len()) })?;
         Ok(self.texts()?.pop().map(|letter| letter.bytes))

@@ -5,3 +5,4 @@ pub mod Owned
 pub mod Calls
 pub mod Stored
 pub mod Since
+pub mod Told

@@ -1,5 +1,5 @@
 -- What the calls by which replicas exchange messages make of a handle. Of this project.
-use Rattle.std.specs.Prelude.{◌≡◌, ℕ, List, Option, Some, None}
+use Rattle.std.specs.Prelude.{◌≡◌, ◌⊎◌, ℕ, List, [], ◌∷◌, Option, Some, None}
 use Rattle.wire_form.specs.Message.{MessageValue, Spells, session_of}
 use Rattle.wire_form.specs.Session.{SessionValue}
 use Rattle.hash_path.specs.declared.fnv1a.Fnv1a.{Fnv1a}
@@ -15,7 +15,7 @@ use Rattle.replica_core.specs.declared.outcome.Outcome.TheVariants.{Joined, Sent
 use Rattle.ginelm_c.specs.declared.held.Held.{Held}
 use Rattle.ginelm_c.specs.declared.named.Named.{Named}
 use Rattle.ginelm_c.specs.Handling as handling
-use Rattle.ginelm_c.specs.Texts.{bytes_at}
+use Rattle.ginelm_c.specs.Texts.{letters_in}
 
 -- the outcomes by number
 abbrev pub number_of : Outcome → ℕ
@@ -55,9 +55,9 @@ abbrev pub IsBrought : List ℕ → ReplicaValue Fnv1a → MessageValue → Type
 IsBrought text r message =
     (d : MapState) × (told : MessageValue) × Spells text told × (mail_of told ≡ Delta d) × Brings (handling.hash_of (hash_in r)) (meaning r) (mail_of message) d
 
--- the replica is as it was, the bytes spell a message, and the text, if there is one, is of what it brings
+-- the replica is as it was, the bytes spell a message, and there is no text, or one for everyone, which is of what the message brings
 pub record TellsBrought (x y : Held) (bytes : List ℕ) : Type 0 where
   pub same : y.replica ≡ x.replica
   pub message : MessageValue
   pub spelled : Spells bytes message
-  pub told : (text : List ℕ) → bytes_at y.texts 0 ≡ Some text → IsBrought text x.replica message
+  pub told : (letters_in y.texts ≡ []) ⊎ ((text : List ℕ) × (letters_in y.texts ≡ (None, text) ∷ []) × IsBrought text x.replica message)

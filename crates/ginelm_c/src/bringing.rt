@@ -1,5 +1,5 @@
 // What the end of a synchronisation brings, as a delta.
-ghost use Rattle.std.specs.Prelude.{◌≡◌, ◌≢◌, IfOk, IfSome, OnOk, OnErr};
+ghost use Rattle.std.specs.Prelude.{◌≡◌, ◌≢◌, IfOk, IfSome, None, OnOk, OnErr};
 ghost use Rattle.causal_join.specs.OrMap.{or_map_state};
 ghost use Rattle.wire_form.specs.Message.{MessageValue, Spells};
 ghost use Rattle.replica_model.specs.Mail.{Delta, mail_of};
@@ -17,7 +17,8 @@ use std::alloc::Global;
 use wire_form::{Message, decode, encode};
 
 fn letter_of(alloc: Global, delta: OrMap) -> Result<Letter, Refusal>
-    ensures { IfOk result (λ letter. (message : MessageValue) × Spells letter.bytes.items message × (mail_of message ≡ Delta (or_map_state delta))) }
+    ensures spelled { IfOk result (λ letter. (message : MessageValue) × Spells letter.bytes.items message × (mail_of message ≡ Delta (or_map_state delta))) }
+    ensures everyone { IfOk result (λ letter. letter.to ≡ None) }
 {
     let message = Message::Delta(delta);
     let bytes = encode(alloc, &message);
@@ -30,7 +31,7 @@ fn letter_of(alloc: Global, delta: OrMap) -> Result<Letter, Refusal>
 
 // A delta of what the message that the bytes spell brings where it ends a synchronisation, if there is one.
 fn brought(alloc: Global, replica: &Replica, bytes: &[u8]) -> Result<Option<Letter>, Refusal>
-    ensures { IfOk result (λ found. (message : MessageValue) × Spells bytes.now message × IfSome found (λ letter. IsBrought letter.bytes.items replica.now message)) }
+    ensures { IfOk result (λ found. (message : MessageValue) × Spells bytes.now message × IfSome found (λ letter. (letter.to ≡ None) × IsBrought letter.bytes.items replica.now message)) }
 {
     let message = decode(alloc, bytes)?;
     let delta = replica.joined_by(&message);
@@ -51,7 +52,8 @@ fn joined_by(alloc: Global, held: &mut Held, bytes: &[u8]) -> Result<(), Refusal
 }
 
 /// What ginelm_take of this message will join in, where it will end an own synchronisation, becomes the text, as one message for everyone: it can be
-/// kept in place of all that is held. No text, where it will end none, or where a dot at a key that can change may stand at another one too.
+/// kept in place of all that is held. No text, where it will end none, where more dots are new than keys are held, or where a dot at a key that
+/// can change may stand at another one too.
 #[unsafe(no_mangle)]
 pub extern "C" fn ginelm_joined_by(alloc: Global, here: &mut Handle, bytes: &[u8]) -> u32
     ensures none { StaysEmpty here.old.value here.new.value result }

@@ -1,12 +1,13 @@
 // A client of a node, as the tests call it.
-use crate::caller::{Caller, Calling, Keeping};
+use crate::caller::{Caller, Calling, Keeping, Tending};
 use crate::nodes::name;
 use crate::tests::slow::Slow;
 use dots::{Field, Key, Value};
 use node_threads::{
     Abandoning, Asking, Batching, Checkpointing, Clearing, Client, Containing, Delivering,
     FieldListing, FieldRemoving, Flushing, Getting, Lock, Named, Naming, NodeEvent, Post, Putting,
-    Receipt, Removing, Retrying, Root, Served, Sharing, Sizing, Write, Written, serve,
+    Receipt, Removing, Retrying, Root, Served, Sharing, Sizing, Tended, TimedPost, Write, Written,
+    serve, serve_and_renew,
 };
 use replica_core::{Delivered, Replica};
 use saved_form::Saved;
@@ -221,6 +222,12 @@ impl<K: Naming, G: Gate + Drop, R: Wait + Drop> Keeping for Client<K, Lock<K, G,
     fn saved<T: Wait + Abort>(&mut self, rt: &T, alloc: Global) -> Saved {
         let checkpoint = self.inspect(rt, &Checkpointing).expect(rt, "memory");
         checkpoint.saved(alloc).expect(rt, "memory")
+    }
+}
+
+impl<K: Naming, G: Gate + Drop, R: Wait + Drop> Tending for Client<K, Lock<K, G, R>> {
+    fn tend<P: TimedPost, T: Wait>(&mut self, rt: &T, alloc: Global, post: &mut P) -> Tended {
+        serve_and_renew(rt, alloc, self, post)
     }
 }
 

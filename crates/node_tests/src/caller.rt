@@ -1,6 +1,6 @@
 // What the tests ask of a client. They see it as no more than this, whatever stands behind it, as a check of what holds a client grows with
 // the depth of its type.
-use node_threads::{Post, Root, Served, Written};
+use node_threads::{Post, Root, Served, Tended, TimedPost, Written};
 use replica_core::Delivered;
 use saved_form::Saved;
 use std::alloc::Global;
@@ -97,4 +97,10 @@ pub(crate) trait Keeping {
 
     // What the replica is to come back from.
     fn saved<T: Wait + Abort>(&mut self, rt: &T, alloc: Global) -> Saved;
+}
+
+// What serves a node by a timed post.
+pub(crate) trait Tending {
+    // Takes in what comes by the post, and sends by itself in quiet times, until that is over.
+    fn tend<P: TimedPost, T: Wait>(&mut self, rt: &T, alloc: Global, post: &mut P) -> Tended;
 }

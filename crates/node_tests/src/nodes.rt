@@ -8,13 +8,15 @@ use crate::tests::beside::{Holding, both_put_often, write_while_read};
 use crate::tests::kept::put_and_keep;
 use crate::tests::meanwhile::synchronise;
 use crate::tests::resumed::put_and_save;
+use crate::tests::running::run_writers;
 use crate::tests::served::{Ends, Outside, exchange, serve_alone};
 use crate::tests::sessions::{call_twelve_times, write_fields};
 use crate::tests::slow::put_while_looked;
+use crate::tests::tended::tend_alone;
 use dots::{Name, Refusal};
 use hash_path::Fnv1a;
 use node_threads::{
-    Channels, Client, Lock, Named, Naming, Node, NodeEvent, Post, Root, Served, new_node,
+    Channels, Client, Lock, Named, Naming, Node, NodeEvent, Post, Root, Served, Tended, new_node,
 };
 use replica_core::Replica;
 use root_cell::OpenedBook;
@@ -27,6 +29,7 @@ use std::process::Abort;
 use std::sync::Wait;
 use std::sync::atomic::AtomicU64;
 use std::thread::Threads;
+use std::time::Clock;
 
 type Shared<K, G, R> = Node<K, Lock<K, G, R>>;
 
@@ -266,6 +269,37 @@ fn saved_at_this_node<K: Naming, R: Wait + Abort + Copy + Drop>(
     saved
 }
 
+// Has the one client of a new node, of the replica 1, serve it by a timed post which sends or does not, and which counts this: what is there in the end.
+fn tended_at_this_node<K: Naming, R: Wait + Abort + Copy + Drop>(
+    rt: R,
+    alloc: Global,
+    opened: OpenedBook<NodeEvent>,
+    is_sending: bool,
+    all: Tended,
+) -> Last
+    requires book { opened.0 ≡ K.book }
+    requires first { K.first ≡ fresh 1 }
+{
+    let mut node: Shared<K, NoGate, R> = made(rt, alloc, opened, 1, 1, NoGate);
+    let mut clients = all_clients(&rt, alloc, &mut node, 1);
+    tend_alone(&rt, alloc, &mut clients, is_sending, all);
+    ended(&rt, node, clients)
+}
+
+// Has the five clients of a new node, of the replica 1, run it: what is there in the end.
+fn running_at_this_node<
+    K: Naming + Send + Sync,
+    R: Threads + Wait + Abort + Clock + Copy + Drop + Send + Sync,
+>(rt: R, alloc: Global, opened: OpenedBook<NodeEvent>) -> Last
+    requires book { opened.0 ≡ K.book }
+    requires first { K.first ≡ fresh 1 }
+{
+    let mut node: Shared<K, NoGate, R> = made(rt, alloc, opened, 1, 5, NoGate);
+    let mut clients = all_clients(&rt, alloc, &mut node, 5);
+    run_writers(&rt, alloc, &mut clients);
+    ended(&rt, node, clients)
+}
+
 // Has the two clients of a new node, of the replica 1, make these calls, which pass this gate: what is there in the end.
 fn beside_at_this_node<
     K: Naming + Send + Sync,
@@ -362,6 +396,24 @@ pub(crate) fn resumed<R: Wait + Abort + Copy + Drop>(rt: R, alloc: Global) -> La
     let saved = saved_at_this_node::<marker::Brand, _>(rt, alloc, OpenedBook::new());
     let replica = Replica::resume(alloc, Fnv1a, saved).expect(&rt, "memory");
     told(&rt, 0, &replica)
+}
+
+// Has the one client of a new node serve it by a timed post: what is there in the end.
+pub(crate) fn tended<R: Wait + Abort + Copy + Drop>(
+    rt: R,
+    alloc: Global,
+    is_sending: bool,
+    all: Tended,
+) -> Last {
+    tended_at_this_node::<marker::Brand, _>(rt, alloc, OpenedBook::new(), is_sending, all)
+}
+
+// Has the clients of a new node run it: what is there in the end.
+pub(crate) fn running<R: Threads + Wait + Abort + Clock + Copy + Drop + Send + Sync>(
+    rt: R,
+    alloc: Global,
+) -> Last {
+    running_at_this_node::<marker::Brand, _>(rt, alloc, OpenedBook::new())
 }
 
 // The same of the two clients of a new node, which pass this gate.

@@ -6,9 +6,11 @@ pub(crate) mod beside;
 pub(crate) mod kept;
 pub(crate) mod meanwhile;
 pub(crate) mod resumed;
+pub(crate) mod running;
 pub(crate) mod served;
 pub(crate) mod sessions;
 pub(crate) mod slow;
+pub(crate) mod tended;
 
 // The one client.
 fn only<'a, C>(rt: &impl Abort, clients: &'a mut [C]) -> &'a mut C {

@@ -37,12 +37,17 @@ impl<'a> Post for Channels<'a> {
     fn send<T: Wait>(&mut self, rt: &T, to: Name, bytes: &[u8]) -> bool {
         for (name, outbox) in self.outboxes {
             if *name == to {
-                return match bytes.to_vec(self.alloc) {
-                    Ok(copy) => outbox.send(rt, Letter::Mail(copy)).is_ok(),
-                    Err(_) => false,
-                };
+                return hand(rt, self.alloc, outbox, bytes);
             }
         }
         false
+    }
+}
+
+// Hands a copy of the bytes to an outbox. Whether it took it.
+pub(crate) fn hand<T: Wait>(rt: &T, alloc: Global, outbox: &Sender<Letter>, bytes: &[u8]) -> bool {
+    match bytes.to_vec(alloc) {
+        Ok(copy) => outbox.send(rt, Letter::Mail(copy)).is_ok(),
+        Err(_) => false,
     }
 }

@@ -12,7 +12,7 @@ pub returns : goal.returns
 returns c =
     let here = c.args.replica.now in
     let message = message_of c.in_ok-message.message in
-    let told = c.in_ok-letter_of.ensures in
+    let told = c.in_ok-letter_of.ensures.spelled in
     let brings = subst (λ found. IfSome found (λ delta. Brings (hash_of (hash_in here)) (meaning here) (mail_of message) (or_map_state delta))) c.in-Some.is
     c.in_ok-delta.ensures.ok in
-    (message, c.in_ok-message.ensures.ok, (or_map_state c.in-Some.delta, told.0, told.1, told.2, brings))
+    (message, c.in_ok-message.ensures.ok, (c.in_ok-letter_of.ensures.everyone, (or_map_state c.in-Some.delta, told.0, told.1, told.2, brings)))

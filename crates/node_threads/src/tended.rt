@@ -1,0 +1,11 @@
+use crate::resent::Resent;
+use crate::serving::Served;
+
+/// What became of what came in to a node that is served by a timed post, and of what it sent by itself. No number goes past 2^64 - 1.
+#[derive(Clone, Copy, Debug, PartialEq, Eq)]
+pub struct Tended {
+    /// What became of what came in, and of the replies.
+    pub served: Served,
+    /// What became of synchronisations that were to send again, and of deltas that were to be sent to all.
+    pub sent: Resent,
+}
