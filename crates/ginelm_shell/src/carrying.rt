@@ -16,23 +16,10 @@ pub(crate) fn carry_out(
 ) -> Result<bool, Fault> {
     match (verb, rest) {
         (b"flush", []) => flush(rt, alloc, replica)?,
-        (b"take", [digits]) => {
-            take(rt, alloc, replica, &hex(alloc, digits)?)?;
-        }
-        (b"ask", [peer]) => {
-            let (opened, letter) = replica.ask_bytes(name(peer).ok_or(Fault::Words)?)?;
-            send(rt, alloc, &letter)?;
-            println!(rt; "session {opened}")?;
-        }
-        (b"retry", [word]) => {
-            let (outcome, letters) = replica.retry_bytes(number(word).ok_or(Fault::Words)?)?;
-            send_all(rt, alloc, &letters)?;
-            println!(rt; "{}", word_of(outcome))?;
-        }
-        (b"abandon", [word]) => {
-            let was_open = replica.abandon(number(word).ok_or(Fault::Words)?);
-            println!(rt; "{}", if was_open { "ok" } else { "ignored" })?;
-        }
+        (b"take", [digits]) => take(rt, alloc, replica, &hex(alloc, digits)?)?,
+        (b"ask", [peer]) => ask(rt, alloc, replica, peer)?,
+        (b"retry", [word]) => retry(rt, alloc, replica, word)?,
+        (b"abandon", [word]) => abandon(rt, replica, word)?,
         (b"sessions", []) => sessions(rt, replica)?,
         _ => return Ok(false),
     }
@@ -56,6 +43,29 @@ fn take(rt: &impl Print, alloc: Global, replica: &mut Replica, bytes: &[u8]) -> 
     }
     let taken = replica.take_bytes(bytes)?;
     took(rt, alloc, &taken)
+}
+
+fn ask(rt: &impl Print, alloc: Global, replica: &mut Replica, peer: &[u8]) -> Result<(), Fault> {
+    let peer = name(peer).ok_or(Fault::Words)?;
+    let (opened, letter) = replica.ask_bytes(peer)?;
+    send(rt, alloc, &letter)?;
+    println!(rt; "session {opened}")?;
+    Ok(())
+}
+
+fn retry(rt: &impl Print, alloc: Global, replica: &mut Replica, word: &[u8]) -> Result<(), Fault> {
+    let session = number(word).ok_or(Fault::Words)?;
+    let (outcome, letters) = replica.retry_bytes(session)?;
+    send_all(rt, alloc, &letters)?;
+    println!(rt; "{}", word_of(outcome))?;
+    Ok(())
+}
+
+fn abandon(rt: &impl Print, replica: &mut Replica, word: &[u8]) -> Result<(), Fault> {
+    let session = number(word).ok_or(Fault::Words)?;
+    let was_open = replica.abandon(session);
+    println!(rt; "{}", if was_open { "ok" } else { "ignored" })?;
+    Ok(())
 }
 
 // Whether the message knows a write of the replica's name that the replica does not know.

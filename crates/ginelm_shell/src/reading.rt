@@ -2,7 +2,7 @@
 use crate::call::CALLS;
 use crate::fault::Fault;
 use crate::word::{field, key};
-use ginelm::{Field, Key, Replica, Value};
+use ginelm::{Replica, Value};
 use std::alloc::Global;
 use std::io;
 
@@ -15,24 +15,13 @@ pub(crate) fn carry_out(
     rest: &[&[u8]],
 ) -> Result<bool, Fault> {
     match (verb, rest) {
-        (b"get", [at]) => values(rt, &replica.get(&key(alloc, at)?)?)?,
-        (b"getf", [at, within]) => {
-            let (at, within) = (key(alloc, at)?, field(alloc, within)?);
-            values(rt, &replica.get_field(&at, &within)?)?;
-        }
-        (b"values", [at]) => values(rt, &replica.values_of_key(&key(alloc, at)?)?)?,
-        (b"fields", [at]) => fields(rt, &replica.fields(&key(alloc, at)?)?)?,
-        (b"contains", [at]) => {
-            let is_there = if replica.contains(&key(alloc, at)?) {
-                "yes"
-            } else {
-                "no"
-            };
-            println!(rt; "{is_there}")?;
-        }
-        (b"keys", []) => keys(rt, &replica.keys()?)?,
+        (b"get", [at]) => get(rt, alloc, replica, at)?,
+        (b"getf", [at, within]) => get_field(rt, alloc, replica, at, within)?,
+        (b"values", [at]) => values_of_key(rt, alloc, replica, at)?,
+        (b"fields", [at]) => fields(rt, alloc, replica, at)?,
+        (b"contains", [at]) => contains(rt, alloc, replica, at)?,
         (b"help", []) => help(rt)?,
-        _ => return Ok(of_the_replica(rt, alloc, replica, verb, rest)?),
+        _ => return of_the_replica(rt, alloc, replica, verb, rest),
     }
     Ok(true)
 }
@@ -46,19 +35,47 @@ fn of_the_replica(
     rest: &[&[u8]],
 ) -> Result<bool, Fault> {
     match (verb, rest) {
-        (b"size", []) => {
-            let size = replica.size();
-            println!(rt; "size {size}")?;
-        }
-        (b"name", []) => {
-            let name = replica.name();
-            println!(rt; "name {name}")?;
-        }
+        (b"keys", []) => keys(rt, replica)?,
+        (b"size", []) => println!(rt; "size {}", replica.size())?,
+        (b"name", []) => println!(rt; "name {}", replica.name())?,
         (b"digest", []) => digest(rt, alloc, replica.digest())?,
         (b"context", []) => context(rt, replica)?,
         _ => return Ok(false),
     }
     Ok(true)
+}
+
+fn get(rt: &impl Print, alloc: Global, replica: &Replica, at: &[u8]) -> Result<(), Fault> {
+    let at = key(alloc, at)?;
+    Ok(values(rt, &replica.get(&at)?)?)
+}
+
+fn get_field(
+    rt: &impl Print,
+    alloc: Global,
+    replica: &Replica,
+    at: &[u8],
+    within: &[u8],
+) -> Result<(), Fault> {
+    let (at, within) = (key(alloc, at)?, field(alloc, within)?);
+    Ok(values(rt, &replica.get_field(&at, &within)?)?)
+}
+
+fn values_of_key(
+    rt: &impl Print,
+    alloc: Global,
+    replica: &Replica,
+    at: &[u8],
+) -> Result<(), Fault> {
+    let at = key(alloc, at)?;
+    Ok(values(rt, &replica.values_of_key(&at)?)?)
+}
+
+fn contains(rt: &impl Print, alloc: Global, replica: &Replica, at: &[u8]) -> Result<(), Fault> {
+    let at = key(alloc, at)?;
+    let is_there = if replica.contains(&at) { "yes" } else { "no" };
+    println!(rt; "{is_there}")?;
+    Ok(())
 }
 
 fn values(rt: &impl Print, values: &[Value]) -> io::Result<()> {
@@ -69,20 +86,23 @@ fn values(rt: &impl Print, values: &[Value]) -> io::Result<()> {
     println!(rt; "")
 }
 
-fn fields(rt: &impl Print, fields: &[Field]) -> io::Result<()> {
+fn fields(rt: &impl Print, alloc: Global, replica: &Replica, at: &[u8]) -> Result<(), Fault> {
+    let at = key(alloc, at)?;
     print!(rt; "fields")?;
-    for field in fields {
+    for field in &replica.fields(&at)? {
         print!(rt; " {field}")?;
     }
-    println!(rt; "")
+    println!(rt; "")?;
+    Ok(())
 }
 
-fn keys(rt: &impl Print, keys: &[Key]) -> io::Result<()> {
+fn keys(rt: &impl Print, replica: &Replica) -> Result<(), Fault> {
     print!(rt; "keys")?;
-    for key in keys {
+    for key in &replica.keys()? {
         print!(rt; " {key}")?;
     }
-    println!(rt; "")
+    println!(rt; "")?;
+    Ok(())
 }
 
 fn digest(rt: &impl Print, alloc: Global, digest: Option<[u8; 32]>) -> Result<(), Fault> {

@@ -14,30 +14,50 @@ pub(crate) fn carry_out(
     rest: &[&[u8]],
 ) -> Result<bool, Fault> {
     match (verb, rest) {
-        (b"put", [at, text]) => {
-            let (at, text) = (key(alloc, at)?, value(alloc, text)?);
-            wrote(rt, replica.put(&at, &text)?)?;
-        }
-        (b"putf", [at, within, text]) => {
-            let (at, within, text) = (key(alloc, at)?, field(alloc, within)?, value(alloc, text)?);
-            wrote(rt, replica.put_field(&at, &within, &text)?)?;
-        }
-        (b"remove", [at]) => {
-            let observed = replica.remove(&key(alloc, at)?)?;
-            println!(rt; "ok {observed}")?;
-        }
-        (b"removef", [at, within]) => {
-            let (at, within) = (key(alloc, at)?, field(alloc, within)?);
-            let observed = replica.remove_field(&at, &within)?;
-            println!(rt; "ok {observed}")?;
-        }
-        (b"clear", []) => {
-            let observed = replica.clear()?;
-            println!(rt; "ok {observed}")?;
-        }
+        (b"put", [at, text]) => wrote(rt, put(alloc, replica, at, text)?)?,
+        (b"putf", [at, within, text]) => wrote(rt, put_field(alloc, replica, at, within, text)?)?,
+        (b"remove", [at]) => observed(rt, remove(alloc, replica, at)?)?,
+        (b"removef", [at, within]) => observed(rt, remove_field(alloc, replica, at, within)?)?,
+        (b"clear", []) => observed(rt, replica.clear()?)?,
         _ => return Ok(false),
     }
     Ok(true)
+}
+
+fn put(alloc: Global, replica: &mut Replica, at: &[u8], text: &[u8]) -> Result<Dot, Fault> {
+    let (at, text) = (key(alloc, at)?, value(alloc, text)?);
+    Ok(replica.put(&at, &text)?)
+}
+
+fn put_field(
+    alloc: Global,
+    replica: &mut Replica,
+    at: &[u8],
+    within: &[u8],
+    text: &[u8],
+) -> Result<Dot, Fault> {
+    let (at, within, text) = (key(alloc, at)?, field(alloc, within)?, value(alloc, text)?);
+    Ok(replica.put_field(&at, &within, &text)?)
+}
+
+fn remove(alloc: Global, replica: &mut Replica, at: &[u8]) -> Result<u64, Fault> {
+    let at = key(alloc, at)?;
+    Ok(replica.remove(&at)?)
+}
+
+fn remove_field(
+    alloc: Global,
+    replica: &mut Replica,
+    at: &[u8],
+    within: &[u8],
+) -> Result<u64, Fault> {
+    let (at, within) = (key(alloc, at)?, field(alloc, within)?);
+    Ok(replica.remove_field(&at, &within)?)
+}
+
+// Tells how many writes a call observed.
+fn observed(rt: &impl Print, number: u64) -> io::Result<()> {
+    println!(rt; "ok {number}")
 }
 
 // Tells the dot of a write.
