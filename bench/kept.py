@@ -1,9 +1,9 @@
 #!/usr/bin/env python3
 """What a store writes: python3 bench/kept.py [--rows N] [--keys N] [--differ N] [PROGRAM]
 
-PROGRAM is the built crates/kept_replica. First an acknowledged put, beside a row of the same
-bytes that goes into a table of the same form by Python's sqlite3 module, each in a transaction of its own, with WAL and `synchronous = FULL`; both
-in one run, in turn. Then what a synchronisation keeps of so many keys that differ, beside all that is held.
+PROGRAM is the built crates/kept_replica. First an acknowledged put, beside a row of the same bytes that goes into a table of the same form by Python's
+sqlite3 module, each in a transaction of its own, with WAL and `synchronous = FULL`; both in one run, in turn. Then what a synchronisation keeps of so
+many keys that differ, beside all that is held.
 """
 import argparse
 import sqlite3

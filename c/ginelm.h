@@ -168,8 +168,8 @@ uint32_t ginelm_take_unguarded(ginelm *here, const uint8_t *bytes, size_t length
 /* Tells whether the message knows a write of this replica's name that the replica does not know. NOT_A_MESSAGE. */
 uint32_t ginelm_has_lost(ginelm *here, const uint8_t *bytes, size_t length, bool *lost);
 
-/* What ginelm_take of the message will join in, where it will end an own synchronisation, becomes the
- * one text, as a message of ginelm_flush: whoever keeps it keeps what the synchronisation brought. No
+/* What the message will join in, where it is taken and ends an own synchronisation, becomes the one
+ * text, as a message of ginelm_flush: whoever keeps it keeps what the synchronisation brought. No
  * text where it will end none, where more is new than keys are held, or where a dot stands at several
  * keys, as after forged messages: then all that is held is to be kept. The replica stays as it is.
  * NOT_A_MESSAGE. */

@@ -12,7 +12,7 @@ import tempfile
 import traceback
 from pathlib import Path
 
-sys.path.append(str(Path(__file__).resolve().parent.parent))
+sys.path.insert(0, str(Path(__file__).resolve().parent.parent))
 from stores import BUILT, Store, longest_row, synchronise  # noqa: E402  (found by the path above)
 
 PROGRAM = Path(sys.argv[1] if len(sys.argv) > 1 else BUILT).resolve()

@@ -51,7 +51,7 @@ fn joined_by(alloc: Global, held: &mut Held, bytes: &[u8]) -> Result<(), Refusal
     Ok(())
 }
 
-/// What ginelm_take of this message will join in, where it will end an own synchronisation, becomes the text, as one message for everyone: it can be
+/// What this message will join in, where it is taken and ends an own synchronisation, becomes the text, as one message for everyone: it can be
 /// kept in place of all that is held. No text, where it will end none, where more dots are new than keys are held, or where a dot at a key that
 /// can change may stand at another one too.
 #[unsafe(no_mangle)]

@@ -1,13 +1,13 @@
 // A client of a node, as the tests call it.
-use crate::caller::{Caller, Calling, Keeping, Tending};
+use crate::caller::{Caller, Calling, Keeping, TimedServing};
 use crate::nodes::name;
 use crate::tests::slow::Slow;
 use dots::{Field, Key, Value};
 use node_threads::{
     Abandoning, Asking, Batching, Checkpointing, Clearing, Client, Containing, Delivering,
     FieldListing, FieldRemoving, Flushing, Getting, Lock, Named, Naming, NodeEvent, Post, Putting,
-    Receipt, Removing, Retrying, Root, Served, Sharing, Sizing, Tended, TimedPost, Write, Written,
-    serve, serve_and_renew,
+    Receipt, Removing, Retrying, Root, Served, Sharing, Sizing, TimedPost, TimedServed, Write,
+    Written, serve, serve_timed,
 };
 use replica_core::{Delivered, Replica};
 use saved_form::Saved;
@@ -225,9 +225,14 @@ impl<K: Naming, G: Gate + Drop, R: Wait + Drop> Keeping for Client<K, Lock<K, G,
     }
 }
 
-impl<K: Naming, G: Gate + Drop, R: Wait + Drop> Tending for Client<K, Lock<K, G, R>> {
-    fn tend<P: TimedPost, T: Wait>(&mut self, rt: &T, alloc: Global, post: &mut P) -> Tended {
-        serve_and_renew(rt, alloc, self, post)
+impl<K: Naming, G: Gate + Drop, R: Wait + Drop> TimedServing for Client<K, Lock<K, G, R>> {
+    fn serve_timed<P: TimedPost, T: Wait>(
+        &mut self,
+        rt: &T,
+        alloc: Global,
+        post: &mut P,
+    ) -> TimedServed {
+        serve_timed(rt, alloc, self, post)
     }
 }
 

@@ -1,6 +1,6 @@
 // What the tests ask of a client. They see it as no more than this, whatever stands behind it, as a check of what holds a client grows with
 // the depth of its type.
-use node_threads::{Post, Root, Served, Tended, TimedPost, Written};
+use node_threads::{Post, Root, Served, TimedPost, TimedServed, Written};
 use replica_core::Delivered;
 use saved_form::Saved;
 use std::alloc::Global;
@@ -100,7 +100,12 @@ pub(crate) trait Keeping {
 }
 
 // What serves a node by a timed post.
-pub(crate) trait Tending {
-    // Takes in what comes by the post, and sends by itself in quiet times, until that is over.
-    fn tend<P: TimedPost, T: Wait>(&mut self, rt: &T, alloc: Global, post: &mut P) -> Tended;
+pub(crate) trait TimedServing {
+    // Takes in what comes by the post, and sends by itself each time that is due, until that is over.
+    fn serve_timed<P: TimedPost, T: Wait>(
+        &mut self,
+        rt: &T,
+        alloc: Global,
+        post: &mut P,
+    ) -> TimedServed;
 }

@@ -12,11 +12,12 @@ use crate::tests::running::run_writers;
 use crate::tests::served::{Ends, Outside, exchange, serve_alone};
 use crate::tests::sessions::{call_twelve_times, write_fields};
 use crate::tests::slow::put_while_looked;
-use crate::tests::tended::tend_alone;
+use crate::tests::timed::serve_timed_alone;
 use dots::{Name, Refusal};
 use hash_path::Fnv1a;
 use node_threads::{
-    Channels, Client, Lock, Named, Naming, Node, NodeEvent, Post, Root, Served, Tended, new_node,
+    Channels, Client, Lock, Named, Naming, Node, NodeEvent, Post, Root, Served, TimedServed,
+    new_node,
 };
 use replica_core::Replica;
 use root_cell::OpenedBook;
@@ -270,19 +271,19 @@ fn saved_at_this_node<K: Naming, R: Wait + Abort + Copy + Drop>(
 }
 
 // Has the one client of a new node, of the replica 1, serve it by a timed post which sends or does not, and which counts this: what is there in the end.
-fn tended_at_this_node<K: Naming, R: Wait + Abort + Copy + Drop>(
+fn timed_at_this_node<K: Naming, R: Wait + Abort + Copy + Drop>(
     rt: R,
     alloc: Global,
     opened: OpenedBook<NodeEvent>,
     is_sending: bool,
-    all: Tended,
+    all: TimedServed,
 ) -> Last
     requires book { opened.0 ≡ K.book }
     requires first { K.first ≡ fresh 1 }
 {
     let mut node: Shared<K, NoGate, R> = made(rt, alloc, opened, 1, 1, NoGate);
     let mut clients = all_clients(&rt, alloc, &mut node, 1);
-    tend_alone(&rt, alloc, &mut clients, is_sending, all);
+    serve_timed_alone(&rt, alloc, &mut clients, is_sending, all);
     ended(&rt, node, clients)
 }
 
@@ -399,13 +400,13 @@ pub(crate) fn resumed<R: Wait + Abort + Copy + Drop>(rt: R, alloc: Global) -> La
 }
 
 // Has the one client of a new node serve it by a timed post: what is there in the end.
-pub(crate) fn tended<R: Wait + Abort + Copy + Drop>(
+pub(crate) fn timed<R: Wait + Abort + Copy + Drop>(
     rt: R,
     alloc: Global,
     is_sending: bool,
-    all: Tended,
+    all: TimedServed,
 ) -> Last {
-    tended_at_this_node::<marker::Brand, _>(rt, alloc, OpenedBook::new(), is_sending, all)
+    timed_at_this_node::<marker::Brand, _>(rt, alloc, OpenedBook::new(), is_sending, all)
 }
 
 // Has the clients of a new node run it: what is there in the end.

@@ -10,7 +10,14 @@ pub(crate) mod running;
 pub(crate) mod served;
 pub(crate) mod sessions;
 pub(crate) mod slow;
-pub(crate) mod tended;
+pub(crate) mod timed;
+
+// The delta of replica 1 that puts x on a.
+const DELTA: &[u8] = &[
+    1, 1, 0, 0, 0, 0, 0, 0, 0, 1, 0, 0, 0, 0, 0, 0, 0, 1, 0, 0, 0, 0, 0, 0, 0, 1, 0, 0, 0, 0, 0, 0,
+    0, 0, 0, 0, 0, 0, 0, 0, 0, 1, 0, 1, 97, 0, 0, 0, 0, 0, 0, 0, 1, 0, 0, 0, 0, 0, 0, 0, 1, 0, 0,
+    0, 0, 0, 0, 0, 1, 0, 1, 120,
+];
 
 // The one client.
 fn only<'a, C>(rt: &impl Abort, clients: &'a mut [C]) -> &'a mut C {

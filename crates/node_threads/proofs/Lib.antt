@@ -6,4 +6,4 @@ pub mod Again
 pub mod Streams
 pub mod Twice
 pub mod Crossing
-pub mod Times
+pub mod Rounds

@@ -5,4 +5,4 @@ pub mod Serving
 pub mod Frames
 pub mod Renewing
 pub mod Twice
-pub mod Tending
+pub mod TimedServing

@@ -7,4 +7,4 @@ mod writing;
 pub use asking::{Abandoning, Asking, Retrying};
 pub use batching::Batching;
 pub use delivering::Delivering;
-pub use writing::{Clearing, FieldRemoving, Flushing, Putting, Removing};
+pub use writing::{Clearing, FieldRemoving, Flushing, FlushingBytes, Putting, Removing};

@@ -25,18 +25,18 @@ mod running;
 mod sending;
 mod serving;
 mod showing;
-mod tended;
-mod tending;
 mod timed_channels;
 mod timed_post;
+mod timed_served;
+mod timed_serving;
 mod work;
 mod write;
 mod written;
 mod wrote;
 
 pub use acts::{
-    Abandoning, Asking, Batching, Clearing, Delivering, FieldRemoving, Flushing, Putting, Removing,
-    Retrying,
+    Abandoning, Asking, Batching, Clearing, Delivering, FieldRemoving, Flushing, FlushingBytes,
+    Putting, Removing, Retrying,
 };
 pub use channels::Channels;
 pub use deed::Deed;
@@ -55,10 +55,10 @@ pub use renewing::send_again;
 pub use resent::Resent;
 pub use running::each_client;
 pub use serving::{Served, serve};
-pub use tended::Tended;
-pub use tending::serve_and_renew;
 pub use timed_channels::TimedChannels;
 pub use timed_post::TimedPost;
+pub use timed_served::TimedServed;
+pub use timed_serving::serve_timed;
 pub use work::Work;
 pub use write::Write;
 pub use written::Written;

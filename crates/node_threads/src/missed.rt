@@ -1,4 +1,4 @@
-// How many replies did not go out.
+// How many messages did not go out.
 #[derive(Clone, Copy, Drop)]
 pub(crate) struct Missed {
     // Those that the post did not send.

@@ -17,10 +17,10 @@ pub trait Post {
     // From the first state to the second, nothing came in and nothing was sent.
     ghost rests: { Self → Self → Type 0 };
 
-    // From the first state to the second, nothing was sent, and nothing comes in any more, or by a `TimedPost` for its time.
+    // From the first state to the second, nothing was sent, and nothing comes in any more, or a `TimedPost` is due.
     ghost ends: { Self → Self → Type 0 };
 
-    /// The bytes that come in next, for which it may wait. None where it is to be served no longer, and by a `TimedPost` where nothing came in for its time.
+    /// The bytes that come in next, for which it may wait. None where it is to be served no longer, and of a `TimedPost` also where it is due.
     fn receive<T: Wait>(&mut self, rt: &T) -> Option<Vec<u8>>
         ensures received { IfSome result (λ bytes. receives self.old self.new bytes.items) }
         ensures ended { IsNone result → ends self.old self.new };

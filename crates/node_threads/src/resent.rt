@@ -1,4 +1,4 @@
-/// What became of synchronisations that were to send again. No number goes past 2^64 - 1.
+/// What became of synchronisations that were to send again, and of what else a node sends by itself. No number goes past 2^64 - 1.
 #[derive(Clone, Copy, Debug, PartialEq, Eq)]
 pub struct Resent {
     /// Those that were refused, for want of memory or of a number for one more event.

@@ -37,7 +37,7 @@ pub struct Served {
 
 /// Takes in each message that comes by the post, and sends each reply to the replica that it is for, before it turns to what comes next.
 /// It ends just where the post says so. What is no message, or is refused, changes nothing and is counted: nothing is taken in but what came. Nothing is
-/// said of one that still serves.
+/// said of one that still serves. Nothing is saved before it is sent.
 ///
 /// It waits: for its turn at the node, and for the post. For each message it takes what decoding it, a call with it and encoding its
 /// replies take. It keeps none.

@@ -3,8 +3,8 @@ ghost use Rattle.std.specs.Prelude.{◌≡◌, ◌↔◌, false, IsTrue};
 use crate::post::Post;
 use std::sync::Wait;
 
-/// A post that waits for what comes in for so long only, and by which all replicas that it knows are reached at once: `TimedChannels`, or what else
-/// carries bytes.
+/// A post that is due from time to time, and by which all replicas that it knows are reached at once: `TimedChannels`, or what else carries bytes.
+/// `Post::receive` gives nothing where it is due, and where it is over.
 pub trait TimedPost: Post {
     ghost use Rattle.std.specs.Prelude.{ℕ, List};
 
@@ -17,9 +17,9 @@ pub trait TimedPost: Post {
     // From the first state to the second, they were not sent to each.
     ghost misses: { Self → Self → Type 0 };
 
-    /// Whether it is to be served no longer. Where it is not, `receive` gives nothing where nothing came in for its time.
+    /// Whether it is to be served no longer.
     fn is_over(&self) -> bool
-        ensures { IsTrue result ↔ over self.now };
+        ensures told { IsTrue result ↔ over self.now };
 
     /// Sends these bytes to each replica that it knows, for which it may wait. Whether they could be sent to each: not where there is no memory that
     /// it needs for it.

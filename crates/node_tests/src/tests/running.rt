@@ -1,8 +1,11 @@
 // A node that runs: one client serves it, and four write, each in a thread of its own.
-use crate::caller::{Caller, Tending};
+use crate::caller::{Caller, TimedServing};
 use crate::nodes::running;
 use crossbeam_channel::{Sender, unbounded};
-use node_threads::{Channels, Client, Letter, Lock, Naming, TimedChannels, Work, each_client};
+use node_threads::{
+    Channels, Client, Letter, Lock, Naming, Resent, Served, TimedChannels, TimedServed, Work,
+    each_client,
+};
 use shared_object::{Gate, NoGate};
 use std::alloc::Global;
 use std::panic::Expect;
@@ -12,6 +15,22 @@ use std::sync::atomic::AtomicU64;
 use std::sync::atomic::Ordering::SeqCst;
 use std::thread::Threads;
 use std::time::{Clock, Duration};
+
+// What is told of a node to which nothing comes, and which loses nothing.
+const NOTHING: TimedServed = TimedServed {
+    served: Served {
+        delivered: 0,
+        not_messages: 0,
+        refused: 0,
+        unsent: 0,
+        lost: 0,
+    },
+    sent: Resent {
+        refused: 0,
+        unsent: 0,
+        lost: 0,
+    },
+};
 
 // The first client serves the node, and each other puts ten keys: the last that is done has the node served no longer.
 #[derive(Drop)]
@@ -40,10 +59,10 @@ impl<'a, R: Wait + Clock + Abort> Work for Writers<'a, R> {
 }
 
 impl<'a, R: Wait + Clock + Abort> Writers<'a, R> {
-    fn serve<C: Tending>(&self, client: &mut C) {
+    fn serve<C: TimedServing>(&self, client: &mut C) {
         let mut post = TimedChannels::new(self.rt, self.channels, Duration::from_millis(1));
-        let told = client.tend(self.rt, self.alloc, &mut post);
-        assert!(self.rt; told.served.delivered == 0 && told.sent.refused == 0);
+        let told = client.serve_timed(self.rt, self.alloc, &mut post);
+        assert!(self.rt; told == NOTHING);
     }
 
     fn write<C: Caller>(&self, number: u8, client: &mut C) {

@@ -1,7 +1,7 @@
 // Two nodes that are served, each in a thread of its own.
 use crate::caller::Caller;
 use crate::nodes::{Calls, Last, SharedCalls, alone, at_two_nodes, name};
-use crate::tests::{both, only};
+use crate::tests::{DELTA, both, only};
 use crossbeam_channel::{Sender, unbounded};
 use node_threads::{Channels, Letter, Post, Served};
 use std::alloc::Global;
@@ -16,13 +16,6 @@ use wire_form::encode;
 const HELLO: &[u8] = &[
     3, 3, 0, 0, 0, 0, 0, 0, 0, 2, 0, 0, 0, 0, 0, 0, 0, 1, 0, 0, 0, 0, 0, 0, 0, 1, 0, 0, 0, 0, 0, 0,
     0, 0, 0, 0, 0, 0, 0, 0, 0, 0,
-];
-
-// The delta of replica 1 that puts x on a.
-const DELTA: &[u8] = &[
-    1, 1, 0, 0, 0, 0, 0, 0, 0, 1, 0, 0, 0, 0, 0, 0, 0, 1, 0, 0, 0, 0, 0, 0, 0, 1, 0, 0, 0, 0, 0, 0,
-    0, 0, 0, 0, 0, 0, 0, 0, 0, 1, 0, 1, 97, 0, 0, 0, 0, 0, 0, 0, 1, 0, 0, 0, 0, 0, 0, 0, 1, 0, 0,
-    0, 0, 0, 0, 0, 1, 0, 1, 120,
 ];
 
 // The one that puts x on the field f of a.

@@ -6,13 +6,14 @@ ghost use Rattle.replica_model.specs.Step.{Made, Counted, Nothing};
 ghost use Rattle.replica_model.specs.Step as step;
 ghost use Rattle.node_threads.specs.declared.deed.Deed.TheVariants.{Put, Remove, RemoveField, Clear, Flush};
 ghost use Rattle.node_threads.specs.History.{NeverRefuses, RefusesAfter, Replies};
+ghost use Rattle.node_threads.specs.TimedServing.{FlushesAs};
 
 use crate::named::{Named, Naming, Root};
 use crate::node_event::NodeEvent;
 use crate::showing::{place_for, show};
 use dots::{Dot, Field, Key, Refusal, Value};
 use hash_path::Fnv1a;
-use replica_core::Replica;
+use replica_core::{Letter, Replica};
 use shared_object::Update;
 use std::alloc::Allocator;
 use std::sync::{Arc, Wait};
@@ -213,6 +214,40 @@ impl<K: Naming, A: Allocator + Copy> Update<Replica<Fnv1a, A>, Root<A>, NodeEven
     ) -> Result<(Option<Message<A>>, Arc<Root<A>, A>), Refusal> {
         let place = place_for(self.alloc, replica)?;
         let reply = replica.flush()?;
+        let root = show(rt, replica, place);
+        Ok((reply, root))
+    }
+
+    ghost placed = { λ c reply place. refl };
+}
+
+/// Sends what was made since the last flush, as `Replica::flush_bytes`. The reply is the letter with its bytes, or None where nothing was made: they
+/// are there before anything counts as sent.
+///
+/// Its only refusal is OutOfMemory. Takes what that call takes, and a root.
+#[derive(Drop)]
+pub struct FlushingBytes<A: Allocator + Copy> {
+    /// Where memory for the root is taken.
+    pub alloc: A,
+}
+
+impl<K: Naming, A: Allocator + Copy> Update<Replica<Fnv1a, A>, Root<A>, NodeEvent<A>, Named<K>, A>
+    for FlushingBytes<A> {
+    type Reply = Option<Letter<A>>;
+
+    ghost event = { λ c reply place. record { place = place; deeds = Flush ∷ [] } };
+
+    ghost answers = { λ c history sent. FlushesAs K.first history sent };
+
+    ghost refuses = { λ c history refusal. NeverRefuses history refusal };
+
+    fn update<W: Wait>(
+        &self,
+        rt: &W,
+        replica: &mut Replica<Fnv1a, A>,
+    ) -> Result<(Option<Letter<A>>, Arc<Root<A>, A>), Refusal> {
+        let place = place_for(self.alloc, replica)?;
+        let reply = replica.flush_bytes()?;
         let root = show(rt, replica, place);
         Ok((reply, root))
     }

@@ -1,22 +1,16 @@
-// A node that is served by a timed post: in quiet times it asks again, and sends what was written to all.
-use crate::caller::{Caller, Tending};
-use crate::nodes::{name, tended};
-use crate::tests::only;
+// A node that is served by a timed post: each time that is due it asks again, and sends what was written to all.
+use crate::caller::{Caller, TimedServing};
+use crate::nodes::{name, timed};
+use crate::tests::{DELTA, only};
 use crossbeam_channel::{Receiver, unbounded};
 use dots::Name;
-use node_threads::{Channels, Letter, Post, Resent, Served, Tended, TimedChannels, TimedPost};
+use node_threads::{Channels, Letter, Post, Resent, Served, TimedChannels, TimedPost, TimedServed};
 use std::alloc::Global;
 use std::panic::Expect;
 use std::process::Abort;
 use std::sync::Wait;
+use std::thread;
 use std::time::Duration;
-
-// The delta of replica 1 that puts x on a.
-const DELTA: &[u8] = &[
-    1, 1, 0, 0, 0, 0, 0, 0, 0, 1, 0, 0, 0, 0, 0, 0, 0, 1, 0, 0, 0, 0, 0, 0, 0, 1, 0, 0, 0, 0, 0, 0,
-    0, 0, 0, 0, 0, 0, 0, 0, 0, 1, 0, 1, 97, 0, 0, 0, 0, 0, 0, 0, 1, 0, 0, 0, 0, 0, 0, 0, 1, 0, 0,
-    0, 0, 0, 0, 0, 1, 0, 1, 120,
-];
 
 // The hello of replica 1 to replica 2, session 1, which knows that write.
 const HELLO: &[u8] = &[
@@ -30,7 +24,7 @@ const OPENING: &[u8] = &[
     0, 1, 0, 0, 0, 0, 0, 0, 0, 1, 0, 0, 0, 0, 0, 0, 0, 1, 0, 0, 0, 0, 0, 0, 0, 0, 0,
 ];
 
-// Two quiet times, and then the opening.
+// Twice it is due, and then the opening comes.
 const COMING: &[Option<&[u8]>] = &[None, None, Some(OPENING)];
 
 // What is sent, and for whom: 0 is for all.
@@ -39,7 +33,7 @@ const SENT: &[(u64, &[u8])] = &[(2, HELLO), (0, DELTA), (2, HELLO)];
 // What went out.
 type Gone = Vec<(u64, Vec<u8>)>;
 
-// A post by which this comes, with None nothing for its time, and then it is over. It sends all, or nothing.
+// A post by which this comes, where None is a time that is due, and then it is over. It sends all, or nothing.
 #[derive(Drop)]
 struct Scripted<'a> {
     alloc: Global,
@@ -103,9 +97,9 @@ impl<'a> TimedPost for Scripted<'a> {
     }
 }
 
-// What is told of the one message that is delivered, and of so much that was not sent in quiet times.
-fn told(unsent: u64) -> Tended {
-    Tended {
+// What is told of the one message that is delivered, and of so much that the node was to send by itself and was not sent.
+fn told(unsent: u64) -> TimedServed {
+    TimedServed {
         served: Served {
             delivered: 1,
             not_messages: 0,
@@ -121,26 +115,26 @@ fn told(unsent: u64) -> Tended {
     }
 }
 
-// A put, an ask, two quiet times with a retry and a flush each, and the delivery.
+// A put, an ask, twice a retry and a flush, and the delivery.
 #[test]
 fn a_silent_peer_is_asked_again_until_it_answers(rt: HostRuntime) {
-    let last = tended(rt, rt.alloc(), true, told(0));
+    let last = timed(rt, rt.alloc(), true, told(0));
     assert!(rt; last == (7, 0, 1, 0));
 }
 
 #[test]
-fn what_is_not_sent_in_quiet_times_is_counted(rt: HostRuntime) {
-    let last = tended(rt, rt.alloc(), false, told(3));
+fn what_a_node_cannot_send_by_itself_is_counted(rt: HostRuntime) {
+    let last = timed(rt, rt.alloc(), false, told(3));
     assert!(rt; last == (7, 0, 1, 0));
 }
 
-// Puts, asks a peer that is silent for two times, and is served until the post is over, of which this is told.
-pub(crate) fn tend_alone<C: Caller + Tending>(
+// Puts, asks a peer that is silent for a while, and is served until the post is over, of which this is told.
+pub(crate) fn serve_timed_alone<C: Caller + TimedServing>(
     rt: &(impl Wait + Abort),
     alloc: Global,
     clients: &mut [C],
     is_sending: bool,
-    all: Tended,
+    all: TimedServed,
 ) {
     let client = only(rt, clients);
     client.put(rt, alloc, b"a", b"", b"x");
@@ -154,7 +148,7 @@ pub(crate) fn tend_alone<C: Caller + Tending>(
         is_sending,
         gone: &mut gone,
     };
-    let told = client.tend(rt, alloc, &mut post);
+    let told = client.serve_timed(rt, alloc, &mut post);
     drop(post);
     let count = if is_sending { SENT.len() } else { 0 };
     assert!(rt; told == all && are_gone(&gone, &SENT[..count]));
@@ -173,8 +167,47 @@ fn is_next(rt: &impl Wait, outbox: &Receiver<Letter>, wanted: &[u8]) -> bool {
     }
 }
 
+// Whether nothing comes any more, and the post is over.
+fn is_over_soon<P: TimedPost>(rt: &impl Wait, post: &mut P) -> bool {
+    for _ in 0..3 {
+        if post.receive(rt).is_some() {
+            return false;
+        }
+        if post.is_over() {
+            return true;
+        }
+    }
+    false
+}
+
+fn mail(rt: &impl Abort, alloc: Global) -> Letter {
+    Letter::Mail(DELTA.to_vec(alloc).expect(rt, "memory"))
+}
+
 #[test]
-fn timed_channels_wait_for_so_long_only(rt: HostRuntime) {
+fn timed_channels_are_due_however_much_comes_in(rt: HostRuntime) {
+    let alloc = rt.alloc();
+    let (to_node, inbox) = unbounded(alloc).expect(&rt, "memory");
+    let channels = Channels {
+        alloc,
+        inbox: &inbox,
+        outboxes: &[],
+    };
+    let mut post = TimedChannels::new(&rt, channels, Duration::from_millis(20));
+    assert!(rt; post.receive(&rt).is_none() && !post.is_over());
+    assert!(rt; to_node.send(&rt, mail(&rt, alloc)).is_ok());
+    assert!(rt; to_node.send(&rt, mail(&rt, alloc)).is_ok());
+    let came = post.receive(&rt);
+    assert!(rt; came.is_some_and(|bytes| bytes.as_slice() == DELTA));
+    thread::sleep(&rt, Duration::from_millis(40));
+    assert!(rt; post.receive(&rt).is_none() && !post.is_over());
+    assert!(rt; post.receive(&rt).is_some());
+    drop(to_node);
+    assert!(rt; is_over_soon(&rt, &mut post));
+}
+
+#[test]
+fn what_is_for_all_goes_into_each_outbox(rt: HostRuntime) {
     let alloc = rt.alloc();
     let (to_node, inbox) = unbounded(alloc).expect(&rt, "memory");
     let (to_first, first) = unbounded(alloc).expect(&rt, "memory");
@@ -185,15 +218,10 @@ fn timed_channels_wait_for_so_long_only(rt: HostRuntime) {
         inbox: &inbox,
         outboxes: &outboxes,
     };
-    let mut post = TimedChannels::new(&rt, channels, Duration::from_millis(1));
-    assert!(rt; post.receive(&rt).is_none() && !post.is_over());
-    let bytes = DELTA.to_vec(alloc).expect(&rt, "memory");
-    assert!(rt; to_node.send(&rt, Letter::Mail(bytes)).is_ok());
-    let came = post.receive(&rt);
-    assert!(rt; came.is_some_and(|bytes| bytes.as_slice() == DELTA));
+    let mut post = TimedChannels::new(&rt, channels, Duration::ZERO);
     assert!(rt; post.spread(&rt, DELTA) && post.send(&rt, name(&rt, 3), HELLO));
     assert!(rt; is_next(&rt, &first, DELTA) && is_next(&rt, &second, DELTA));
     assert!(rt; is_next(&rt, &second, HELLO) && !is_next(&rt, &first, HELLO));
     assert!(rt; to_node.send(&rt, Letter::Stop).is_ok());
-    assert!(rt; post.receive(&rt).is_none() && post.is_over());
+    assert!(rt; is_over_soon(&rt, &mut post));
 }

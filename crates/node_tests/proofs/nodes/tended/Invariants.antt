@@ -1,6 +1,0 @@
-use Rattle.replica_model.specs.Replica.{fresh}
-use Rattle.node_tests.proofs.nodes.tended.Given as goal
-
--- the book that was just opened, of node 1
-abbrev pub ghosts-tended_at_this_node : goal.ghosts-tended_at_this_node
-ghosts-tended_at_this_node g a = record { book = a.opened.0; first = fresh 1 }
