@@ -25,11 +25,11 @@ def beside_a_row(program, folder, count):
     table.execute("PRAGMA synchronous = FULL")
     table.execute("CREATE TABLE log (seq INTEGER PRIMARY KEY, bytes BLOB NOT NULL) STRICT")
     puts, rows = [], []
-    with Store(program, f"{folder}/kept.db", 1) as node:
+    with Store(program, f"{folder}/kept.db", 1) as store:
         for number in range(count):
             value = b"x" * 100
             begun = time.perf_counter()
-            node.tell(put(number, value))
+            store.tell(put(number, value))
             puts.append(time.perf_counter() - begun)
             begun = time.perf_counter()
             table.execute("INSERT INTO log (bytes) VALUES (?)", (b"key %08d" % number + value + b"-" * 54,))

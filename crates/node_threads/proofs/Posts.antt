@@ -91,9 +91,12 @@ module _ {P A : Type 0} (Receives : P → P → List ℕ → Type 0) (Sends : P 
 
 -- ---- the numbers
 
-total_end : (of : Turn → ℕ) (steps : List Turn) (step : Turn) → total of (steps ++ step ∷ []) ≡ total of steps + of step
-total_end of [] step = omega arith
-total_end of (x ∷ steps) step = omega (arith, total_end of steps step)
+pub total_both : {X : Type 0} (of : X → ℕ) (xs ys : List X) → total of (xs ++ ys) ≡ total of xs + total of ys
+total_both of [] ys = omega arith
+total_both of (x ∷ xs) ys = omega (arith, total_both of xs ys)
+
+pub total_end : {X : Type 0} (of : X → ℕ) (xs : List X) (x : X) → total of (xs ++ x ∷ []) ≡ total of xs + of x
+total_end of xs x = omega (arith, total_both of xs (x ∷ []))
 
 -- a number that stays at a limit goes on
 capped : (limit n k : ℕ) → min (min n limit + k) limit ≡ min (n + k) limit

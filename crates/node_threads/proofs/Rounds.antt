@@ -3,7 +3,8 @@ use Rattle.std.proofs.Common.{◌≡◌, ℕ, ◌+◌, ◌-◌, ◌^◌, ◌<◌
 use Rattle.std.specs.Prelude.{◌↔◌}
 use Rattle.node_threads.specs.declared.node_event.NodeEvent.{NodeEvent}
 use Rattle.node_threads.specs.Serving.{Turn, total}
-use Rattle.node_threads.specs.TimedServing.{AreRounds, IsRound, Round, sum}
+use Rattle.node_threads.specs.TimedServing.{AreRounds, IsRound, Round}
+use Rattle.node_threads.proofs.Posts.{total_both, total_end}
 use Rattle.replica_model.specs.Replica.{Replica}
 use Rattle.shared_object.specs.History.{Seat}
 
@@ -30,28 +31,24 @@ not_so b h e x = by_false b h (e.1 x)
 
 -- ---- the numbers
 
-sum_end : (of : Round → ℕ) (rounds : List Round) (r : Round) → sum of (rounds ++ r ∷ []) ≡ sum of rounds + of r
-sum_end of [] r = omega arith
-sum_end of (x ∷ rounds) r = omega (arith, sum_end of rounds r)
-
 folded : (limit s t u a b c : ℕ) → a ≡ min s limit → b ≡ min t limit → c ≡ min (a + b) limit → u ≡ s + t → c ≡ min u limit
 folded limit s t u a b c h i j k = omega (arith, h, i, j, k)
 
 -- a number of a time of serving and of all rounds, once one more came to them
-pub counted : (limit k : ℕ) (of : Round → ℕ) (rounds : List Round) (r : Round) (a b c : ℕ) → a ≡ min (k + sum of rounds) limit → b ≡ min (of r) limit
-    → c ≡ min (a + b) limit → c ≡ min (k + sum of (rounds ++ r ∷ [])) limit
+pub counted : (limit k : ℕ) (of : Round → ℕ) (rounds : List Round) (r : Round) (a b c : ℕ) → a ≡ min (k + total of rounds) limit → b ≡ min (of r) limit
+    → c ≡ min (a + b) limit → c ≡ min (k + total of (rounds ++ r ∷ [])) limit
 counted limit k of rounds r a b c h i j =
-    folded limit (k + sum of rounds) (of r) (k + sum of (rounds ++ r ∷ [])) a b c h i j (omega (arith, sum_end of rounds r))
+    folded limit (k + total of rounds) (of r) (k + total of (rounds ++ r ∷ [])) a b c h i j (omega (arith, total_end of rounds r))
+
+pub counted_rounds : (limit : ℕ) (of : Round → ℕ) (rounds : List Round) (r : Round) (a b c : ℕ) → a ≡ min (total of rounds) limit → b ≡ min (of r) limit
+    → c ≡ min (a + b) limit → c ≡ min (total of (rounds ++ r ∷ [])) limit
+counted_rounds limit of rounds r a b c h i j = folded limit (total of rounds) (of r) (total of (rounds ++ r ∷ [])) a b c h i j (total_end of rounds r)
 
 pub counted_alone : (limit k c : ℕ) → c ≡ min k limit → c ≡ min (k + 0) limit
 counted_alone limit k c h = omega (arith, h)
 
 pub counted_whole : (n : ℕ) → n < 2 ^ 64 → n ≡ min n (2 ^ 64 - 1)
 counted_whole n h = omega (arith, h)
-
-total_both : (of : Turn → ℕ) (xs ys : List Turn) → total of (xs ++ ys) ≡ total of xs + total of ys
-total_both of [] ys = omega arith
-total_both of (x ∷ xs) ys = omega (arith, total_both of xs ys)
 
 -- and one of both turns
 pub counted_both : (limit : ℕ) (of : Turn → ℕ) (xs ys : List Turn) (a b c : ℕ) → a ≡ min (total of xs) limit → b ≡ min (total of ys) limit

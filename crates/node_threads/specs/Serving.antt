@@ -80,10 +80,10 @@ lost NoMessage = 0
 lost Refused = 0
 lost (Taken n m) = m
 
--- such a number of all turns together
-abbrev pub total : (Turn → ℕ) → List Turn → ℕ
+-- such a number of all together
+abbrev pub total : {X : Type 0} → (X → ℕ) → List X → ℕ
 total of [] = 0
-total of (turn ∷ turns) = of turn + total of turns
+total of (x ∷ xs) = of x + total of xs
 
 -- A post whose states follow on one another so: when bytes come in, when they are sent to the replica of a name, and when neither is so.
 module _ {P A : Type 0} (Receives : P → P → List ℕ → Type 0) (Sends : P → P → ℕ → List ℕ → Type 0) (Rests : P → P → Type 0) where

@@ -35,11 +35,6 @@ pub record Round : Type 0 where
   pub delivered : ℕ
   pub served : List Turn
 
--- such a number of all rounds together
-abbrev pub sum : (Round → ℕ) → List Round → ℕ
-sum of [] = 0
-sum of (round ∷ rounds) = of round + sum of rounds
-
 -- what is told of what was sent counts the turns, up to the last number
 abbrev pub CountsSent : Resent → List Turn → Type 0
 CountsSent told turns =
@@ -48,14 +43,14 @@ CountsSent told turns =
 
 -- what is told counts a time of serving and the rounds after it, up to the last number
 pub record Counts (told : TimedServed) (n : ℕ) (turns : List Turn) (rounds : List Round) : Type 0 where
-  pub delivered_is : told.served.delivered ≡ min (n + sum (λ r. r.delivered) rounds) (2 ^ 64 - 1)
-  pub not_messages_is : told.served.not_messages ≡ min (total not_messages turns + sum (λ r. total not_messages r.served) rounds) (2 ^ 64 - 1)
-  pub refused_is : told.served.refused ≡ min (total refused turns + sum (λ r. total refused r.served) rounds) (2 ^ 64 - 1)
-  pub unsent_is : told.served.unsent ≡ min (total unsent turns + sum (λ r. total unsent r.served) rounds) (2 ^ 64 - 1)
-  pub lost_is : told.served.lost ≡ min (total lost turns + sum (λ r. total lost r.served) rounds) (2 ^ 64 - 1)
-  pub sent_refused_is : told.sent.refused ≡ min (0 + sum (λ r. total refused r.sent) rounds) (2 ^ 64 - 1)
-  pub sent_unsent_is : told.sent.unsent ≡ min (0 + sum (λ r. total unsent r.sent) rounds) (2 ^ 64 - 1)
-  pub sent_lost_is : told.sent.lost ≡ min (0 + sum (λ r. total lost r.sent) rounds) (2 ^ 64 - 1)
+  pub delivered_is : told.served.delivered ≡ min (n + total (λ r. r.delivered) rounds) (2 ^ 64 - 1)
+  pub not_messages_is : told.served.not_messages ≡ min (total not_messages turns + total (λ r. total not_messages r.served) rounds) (2 ^ 64 - 1)
+  pub refused_is : told.served.refused ≡ min (total refused turns + total (λ r. total refused r.served) rounds) (2 ^ 64 - 1)
+  pub unsent_is : told.served.unsent ≡ min (total unsent turns + total (λ r. total unsent r.served) rounds) (2 ^ 64 - 1)
+  pub lost_is : told.served.lost ≡ min (total lost turns + total (λ r. total lost r.served) rounds) (2 ^ 64 - 1)
+  pub sent_refused_is : told.sent.refused ≡ min (total (λ r. total refused r.sent) rounds) (2 ^ 64 - 1)
+  pub sent_unsent_is : told.sent.unsent ≡ min (total (λ r. total unsent r.sent) rounds) (2 ^ 64 - 1)
+  pub sent_lost_is : told.sent.lost ≡ min (total (λ r. total lost r.sent) rounds) (2 ^ 64 - 1)
 
 -- A post whose states follow on one another so: when bytes come in, when they are sent to the replica of a name, when neither is so, when nothing came in
 -- until a time was due, when they are sent to all, and when they are not; and when it is over.

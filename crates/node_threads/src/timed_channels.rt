@@ -6,6 +6,9 @@ use dots::Name;
 use std::sync::Wait;
 use std::time::{Clock, Duration, Instant};
 
+// In seconds.
+const CENTURY: u64 = 3_155_760_000;
+
 /// Channels by which a node is due from time to time, however much comes in. It is over once it is told to stop, nobody can send to it any more, or the
 /// clock cannot be read.
 ///
@@ -22,12 +25,14 @@ pub struct TimedChannels<'a, R: Wait + Clock> {
 }
 
 impl<'a, R: Wait + Clock> TimedChannels<'a, R> {
-    /// These channels, which are due whenever so much time has passed; less than a millisecond is a millisecond.
+    /// These channels, which are due whenever so much time has passed: at least a millisecond, and at most a century.
     pub fn new(rt: &'a R, channels: Channels<'a>, time: Duration) -> TimedChannels<'a, R> {
         TimedChannels {
             channels,
             rt,
-            time: time.max(Duration::from_millis(1)),
+            time: time
+                .max(Duration::from_millis(1))
+                .min(Duration::from_secs(CENTURY)),
             due: None,
             is_over: false,
         }

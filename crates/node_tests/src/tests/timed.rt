@@ -206,6 +206,7 @@ fn timed_channels_are_due_however_much_comes_in(rt: HostRuntime) {
     assert!(rt; is_over_soon(&rt, &mut post));
 }
 
+// A time that the clock cannot add up is never due.
 #[test]
 fn what_is_for_all_goes_into_each_outbox(rt: HostRuntime) {
     let alloc = rt.alloc();
@@ -218,10 +219,12 @@ fn what_is_for_all_goes_into_each_outbox(rt: HostRuntime) {
         inbox: &inbox,
         outboxes: &outboxes,
     };
-    let mut post = TimedChannels::new(&rt, channels, Duration::ZERO);
+    let mut post = TimedChannels::new(&rt, channels, Duration::MAX);
     assert!(rt; post.spread(&rt, DELTA) && post.send(&rt, name(&rt, 3), HELLO));
     assert!(rt; is_next(&rt, &first, DELTA) && is_next(&rt, &second, DELTA));
     assert!(rt; is_next(&rt, &second, HELLO) && !is_next(&rt, &first, HELLO));
+    assert!(rt; to_node.send(&rt, mail(&rt, alloc)).is_ok());
+    assert!(rt; post.receive(&rt).is_some());
     assert!(rt; to_node.send(&rt, Letter::Stop).is_ok());
     assert!(rt; is_over_soon(&rt, &mut post));
 }

@@ -1,7 +1,7 @@
 use Rattle.std.proofs.Common.{[], ◌∷◌, ◌++◌, ◌-◌, ◌^◌, refl, arith}
 use Rattle.node_threads.specs.Serving.{lost, not_messages, refused, total, unsent}
 use Rattle.node_threads.specs.TimedServing.{Round}
-use Rattle.node_threads.proofs.Rounds.{counted, counted_alone, counted_whole, not_so, round_more}
+use Rattle.node_threads.proofs.Rounds.{counted, counted_alone, counted_rounds, counted_whole, not_so, round_more}
 use Rattle.node_threads.proofs.timed_serving.serve_timed.Goals as goal
 
 pub loop-init : goal.loop-init
@@ -74,8 +74,8 @@ loop-preserved g c =
         refused_is = counted limit (total refused turns) (λ x. total refused x.served) rounds r _ _ _ before.refused_is told.5 served.refused;
         unsent_is = counted limit (total unsent turns) (λ x. total unsent x.served) rounds r _ _ _ before.unsent_is told.6 served.unsent;
         lost_is = counted limit (total lost turns) (λ x. total lost x.served) rounds r _ _ _ before.lost_is told.7 served.lost;
-        sent_refused_is = counted limit 0 (λ x. total refused x.sent) rounds r _ _ _ before.sent_refused_is sent.2.0 all_sent.refused;
-        sent_unsent_is = counted limit 0 (λ x. total unsent x.sent) rounds r _ _ _ before.sent_unsent_is sent.2.1 all_sent.unsent;
-        sent_lost_is = counted limit 0 (λ x. total lost x.sent) rounds r _ _ _ before.sent_lost_is sent.2.2 all_sent.lost;
+        sent_refused_is = counted_rounds limit (λ x. total refused x.sent) rounds r _ _ _ before.sent_refused_is sent.2.0 all_sent.refused;
+        sent_unsent_is = counted_rounds limit (λ x. total unsent x.sent) rounds r _ _ _ before.sent_unsent_is sent.2.1 all_sent.unsent;
+        sent_lost_is = counted_rounds limit (λ x. total lost x.sent) rounds r _ _ _ before.sent_lost_is sent.2.2 all_sent.lost;
       },
     )
