@@ -151,6 +151,9 @@ uint32_t ginelm_clear(ginelm *here, uint64_t *observed);
 /* What it wrote since the last flush becomes the one text, for everyone; no text where it wrote nothing. */
 uint32_t ginelm_flush(ginelm *here);
 
+/* Tells whether something waits to be sent: whether a flush gives a text. Allocates nothing. */
+uint32_t ginelm_has_unsent(ginelm *here, bool *unsent);
+
 /* Takes in any message of any replica. Tells what came of it (GINELM_JOINED to GINELM_GONE), and
  * the synchronisation that it named. The texts are what is to be sent for it, each to the replica
  * that ginelm_text tells. NOT_A_MESSAGE.

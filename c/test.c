@@ -120,6 +120,7 @@ static void handles(void) {
     CHECK(ginelm_remove_field(&here, T("k"), T("f"), &number) == GINELM_EMPTY);
     CHECK(ginelm_clear(&here, &number) == GINELM_EMPTY);
     CHECK(ginelm_flush(&here) == GINELM_EMPTY);
+    CHECK(ginelm_has_unsent(&here, &is) == GINELM_EMPTY);
     CHECK(ginelm_take(&here, T("x"), &outcome, &named) == GINELM_EMPTY);
     CHECK(ginelm_take_unguarded(&here, T("x"), &outcome, &named) == GINELM_EMPTY);
     CHECK(ginelm_ask(&here, 2, &number) == GINELM_EMPTY);
@@ -243,10 +244,14 @@ static void exchange(void) {
     uint32_t outcome = 0;
     ginelm_named named = {7, 7, 7};
     CHECK(ginelm_new(&one, 1) == GINELM_DONE && ginelm_new(&two, 2) == GINELM_DONE);
+    bool unsent = true;
     CHECK(ginelm_flush(&one) == GINELM_DONE && count_of(&one) == 0);
+    CHECK(ginelm_has_unsent(&one, &unsent) == GINELM_DONE && !unsent);
     put(&one, "k", "1");
     put(&two, "k", "2");
+    CHECK(ginelm_has_unsent(&one, &unsent) == GINELM_DONE && unsent);
     CHECK(ginelm_flush(&one) == GINELM_DONE && count_of(&one) == 1);
+    CHECK(ginelm_has_unsent(&one, &unsent) == GINELM_DONE && !unsent);
     struct letter letter = text_at(&one, 0);
     CHECK(letter.to == 0);
     for (int twice = 0; twice < 2; twice++) {

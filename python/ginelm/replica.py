@@ -137,6 +137,10 @@ class Replica(Reader):
         """What it wrote since the last flush, as one letter to everyone, or none where it wrote nothing."""
         return self._letters("flush")
 
+    def has_unsent(self) -> bool:
+        """Whether something waits to be sent: whether a flush gives a letter."""
+        return self._test("has_unsent")
+
     def take(self, data: bytes, *, guarded: bool = True) -> Taken:
         """Takes in any message of any replica. Raises NotAMessage, and LostMemory where `has_lost` is true of it; then nothing
         has changed. Where it is not guarded it takes in such a message too, as forged ones may be."""

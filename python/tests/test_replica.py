@@ -122,7 +122,9 @@ def test_a_replica_comes_back() -> None:
     data = one.save()
     back = Replica.resume(data)
     assert back.name == 7 and back.digest() == one.digest() and back.sessions() == []
-    assert len(back.flush()) == 1 and back.put(b"k", b"w") == 2 and back.ask(2)[0] == 2
+    assert back.has_unsent() and len(back.flush()) == 1 and not back.has_unsent()
+    assert not Replica.resume(back.save()).has_unsent()
+    assert back.put(b"k", b"w") == 2 and back.ask(2)[0] == 2
     other = Replica.new_from(8, data)
     assert other.name == 8 and other.get(b"k") == [b"v"] and other.flush() == [] and other.put(b"k", b"w") == 1
     for wrong in (b"", data[:-1], data + b"x", back.flush()[0].data):

@@ -193,6 +193,14 @@ impl Replica {
         Ok(self.texts()?.pop())
     }
 
+    /// Whether something waits to be sent: whether a flush gives a letter.
+    pub fn has_unsent(&self) -> bool {
+        let mut unsent = false;
+        let told = self.call(|here| unsafe { calls::ginelm_has_unsent(here, &mut unsent) });
+        debug_assert_eq!(told, Ok(()));
+        unsent
+    }
+
     /// Takes in any message of any replica. `Error::LostMemory` just where `has_lost` is true of it, and nothing has changed then.
     pub fn take(&mut self, bytes: &[u8]) -> Result<Taken, Error> {
         self.take_by(bytes, calls::ginelm_take)

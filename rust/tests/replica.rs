@@ -164,10 +164,14 @@ fn a_replica_comes_back() {
     let mut back = Replica::resume(&saved).unwrap();
     assert_eq!((back.name(), back.digest()), (name(7), one.digest()));
     assert_eq!(back.sessions(), Ok(Vec::new()));
+    assert!(back.has_unsent());
     assert!(back.flush().unwrap().is_some());
+    assert!(!back.has_unsent());
+    assert!(!Replica::resume(&back.save().unwrap()).unwrap().has_unsent());
     assert_eq!(back.put(b"k", b"w"), Ok(2));
     assert_eq!(back.ask(name(2)).unwrap().0, 2);
     let mut other = Replica::new_from(name(8), &saved).unwrap();
+    assert!(!other.has_unsent());
     assert_eq!(other.flush(), Ok(None));
     assert_eq!(other.put(b"k", b"w"), Ok(1));
     assert_eq!(Replica::resume(&saved[1..]).err(), Some(Error::NotAMessage));

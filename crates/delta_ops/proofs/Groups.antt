@@ -1,9 +1,12 @@
 -- Groups of deltas, to which one is added, or which are joined part by part: over plain variables.
-use Rattle.std.proofs.Common.{◌≡◌, ◌<◌, length, suc, List, [], ◌∷◌, ◌++◌, fold, sym, ◌∙◌, ap, subst, refl, arith, get_or}
+use Rattle.std.proofs.Common.{◌≡◌, ℕ, ◌<◌, length, zero, suc, List, [], ◌∷◌, ◌++◌, fold, sym, ◌∙◌, ap, subst, refl, arith, get_or}
 use Rattle.std.specs.Prelude.{◌↔◌, ◌-◌, Bool, false, Result, Ok, Err, IfOk, Option, Some, None, IsSome, option_to_list, slice_get}
+use Rattle.std.proofs.lemmas.Bool.{or_from, or_parts}
 use Rattle.std.proofs.lemmas.List.Sums.{fold-append}
 use Rattle.std.proofs.lemmas.List.{map-append}
 use Rattle.std.specs.declared.sync.Arc.{Arc}
+use Rattle.causal_context.specs.Context.{HasNone, has}
+use Rattle.dots.specs.Dot.{DotValue}
 use Rattle.delta_ops.specs.Group.{group_state, IsPushed}
 use Rattle.causal_join.specs.Causal.{state_of}
 use Rattle.causal_join.specs.OrMap.{OrMapValue, or_map_at, or_map_state, path_of}
@@ -127,6 +130,13 @@ no_snoc : {X : Type 0} (ys : List X) (y : X) → [] ≡ ys ++ y ∷ [] → ⊥
 no_snoc [] y e = absurd (cc e)
 no_snoc (b ∷ ys) y e = absurd (cc e)
 
+-- the state that pairs are joined on to knows no more than the group
+known_less : (start : MapState) (pairs : List OrMapValue) (d : DotValue)
+    → (fold (λ group pair. join greater group (or_map_state pair)) start pairs).has d ≡ false → start.has d ≡ false
+known_less start [] d none = none
+known_less start (pair ∷ pairs) d none =
+    (or_parts (start.has d) (has pair.1 d) (known_less (join greater start (or_map_state pair)) pairs d none)).0
+
 module _ {A : Type 0} where
   -- the log with one more delta at the end
   pub deltas_of-push : (log : List (Arc OrMapValue A)) (delta : Arc OrMapValue A) → deltas_of (log ++ delta ∷ []) ≡ deltas_of log ++ delta.value ∷ []
@@ -134,6 +144,32 @@ module _ {A : Type 0} where
 
   pub deltas_of-append : (older newer : List (Arc OrMapValue A)) → deltas_of (older ++ newer) ≡ deltas_of older ++ deltas_of newer
   deltas_of-append older newer = map-append (λ delta. delta.value) older newer
+
+  -- what a push leaves
+  pub log-pushed : (old new : List (Arc OrMapValue A)) (delta : Arc OrMapValue A) → new ≡ old ++ delta ∷ [] → deltas_of new ≡ deltas_of old ++ delta.value ∷ []
+  log-pushed old new delta is = ap deltas_of is ∙ deltas_of-push old delta
+
+  -- ---- whether a log knows a dot
+  none_from : (start : MapState) (log : List (Arc OrMapValue A)) (i : ℕ) (x : Arc OrMapValue A) → i < length log → x ≡ get_or log i x
+      → ((d : DotValue) → (fold (λ group pair. join greater group (or_map_state pair)) start (deltas_of log)).has d ≡ false) → HasNone x.value.1
+  none_from start [] i x less is none d = absurd (omega arith)
+  none_from start (y ∷ log) zero x less is none d =
+      let here = known_less (join greater start (or_map_state y.value)) (deltas_of log) d (none d) in
+      subst (λ (z : Arc OrMapValue A). has z.value.1 d ≡ false) (sym is) (or_parts (start.has d) (has y.value.1 d) here).1
+  none_from start (y ∷ log) (suc i) x less is none d = none_from (join greater start (or_map_state y.value)) log i x (omega arith) is none d
+
+  -- where the whole log knows none, no delta of it does; and one more that knows none leaves it so
+  pub none_at : (log : List (Arc OrMapValue A)) (i : ℕ) (x : Arc OrMapValue A) → i < length log → x ≡ get_or log i x
+      → ((d : DotValue) → (group_state (deltas_of log)).has d ≡ false) → HasNone x.value.1
+  none_at = none_from (state [])
+
+  pub none_next : (log next : List (Arc OrMapValue A)) (x : Arc OrMapValue A) → next ≡ log ++ x ∷ []
+      → ((d : DotValue) → (group_state (deltas_of log)).has d ≡ false) → HasNone x.value.1
+      → (d : DotValue) → (group_state (deltas_of next)).has d ≡ false
+  none_next log next x is none here d =
+      ap (λ (p : List OrMapValue). (group_state p).has d) (log-pushed log next x is)
+      ∙ ap (λ (p : MapState). p.has d) (group-push (deltas_of log) x.value)
+      ∙ or_from ((group_state (deltas_of log)).has d) (has x.value.1 d) (none d) (here d)
 
   -- ---- the join of a log, part by part
   pub joined-one : {E : Type 0} (r : Result OrMapValue E) (log : List (Arc OrMapValue A)) (only : Arc OrMapValue A) → log ≡ only ∷ []
@@ -184,10 +220,6 @@ module _ {A : Type 0} where
       let before : Same (or_map_state whole) (group_state old) = subst (λ (pairs : List OrMapValue). Same (or_map_state whole) (group_state pairs)) was is in
       subst (λ (pairs : List OrMapValue). Same (group_state pairs) (group_state old)) (sym only)
       (same-chain _ _ _ (same-back _ _ (group-of_one whole whole (same-itself (or_map_state whole)))) before)
-
-  -- what a push leaves
-  pub log-pushed : (old new : List (Arc OrMapValue A)) (delta : Arc OrMapValue A) → new ≡ old ++ delta ∷ [] → deltas_of new ≡ deltas_of old ++ delta.value ∷ []
-  log-pushed old new delta is = ap deltas_of is ∙ deltas_of-push old delta
 
   -- the delta that stands last is the newest, and goes where it is taken back
   pub taken_back : (old new : List (Arc OrMapValue A)) (r : Option (Arc OrMapValue A)) → old ≡ new ++ option_to_list r → (IsSome r ↔ (0 < length old))

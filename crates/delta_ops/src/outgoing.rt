@@ -1,4 +1,4 @@
-ghost use Rattle.std.specs.Prelude.{◌≡◌, ◌≤◌, ◌∷◌, ◌++◌, [], List, length, max, Some, false, IfOk, IfSome, IfNone, OnOk, OnErr, IsOkUnless};
+ghost use Rattle.std.specs.Prelude.{◌≡◌, ◌≤◌, ◌↔◌, ◌∷◌, ◌++◌, [], List, length, max, Some, false, IsTrue, IfOk, IfSome, IfNone, OnOk, OnErr, IsOkUnless};
 ghost use Rattle.std.specs.Option.{option_copied};
 ghost use Rattle.causal_context.specs.Context.{HasNone};
 ghost use Rattle.causal_join.specs.OrMap.{OrMapValue, or_map_state};
@@ -97,6 +97,18 @@ impl<A: Allocator + Copy> Outgoing<A> {
         log.clear();
         log.push(group).unwrap();
         Ok(())
+    }
+
+    /// Whether the group knows a dot: whether `whole` gives a pair. Takes time in the oldest deltas that know none, and no memory.
+    pub fn has_dots(&self) -> bool
+        ensures { IsTrue result ↔ ¬ ((d : DotValue) → (group_state self.now).has d ≡ false) }
+    {
+        for delta in &self.deltas {
+            if !delta.context().is_empty() {
+                return true;
+            }
+        }
+        false
     }
 
     /// The whole group, or None where it knows no dot.

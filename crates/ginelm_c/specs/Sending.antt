@@ -31,14 +31,16 @@ abbrev pub named : Option SessionValue → Named
 named None = record { asker = 0; answerer = 0; number = 0 }
 named (Some s) = record { asker = s.asker; answerer = s.answerer; number = s.number }
 
--- the bytes are those of a message that the replica took: what came of it, the synchronisation that it named, and the letters that are the texts
-pub record Takes (x y : Held) (bytes : List ℕ) (outcome : ℕ) (session : Named) : Type 0 where
-  pub message : MessageValue
-  pub spelled : Spells bytes message
+-- the replica took the message: what came of it, the synchronisation that it named, and the letters that are the texts
+pub record TakesIn (x y : Held) (message : MessageValue) (outcome : ℕ) (session : Named) : Type 0 where
   pub names : session ≡ named (session_of message)
   pub told : Outcome
   pub numbered : outcome ≡ number_of told
   pub sent : handling.Sent x y (Take (mail_of message)) (Came (outcome_of told))
+
+-- the bytes are those of a message that the replica took
+abbrev pub Takes : Held → Held → List ℕ → ℕ → Named → Type 0
+Takes x y bytes outcome session = (message : MessageValue) × Spells bytes message × TakesIn x y message outcome session
 
 -- the bytes spell a message that knows a write of the replica's name that the replica does not know
 abbrev pub TellsLoss : Held → List ℕ → Type 0

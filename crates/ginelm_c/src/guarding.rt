@@ -1,12 +1,12 @@
 // Whether a message tells that the replica's name was used without its memory, and messages that are not taken in where they do.
 ghost use Rattle.std.specs.Prelude.{◌≡◌, ◌≢◌, ◌↔◌, ◌⊎◌, Some, IfOk, IsTrue, MatchResult, OnOk};
-ghost use Rattle.wire_form.specs.Message.{MessageValue, Spells};
+ghost use Rattle.wire_form.specs.Message.{MessageValue, Spells, message_of};
 ghost use Rattle.replica_model.specs.Mail.{mail_of};
 ghost use Rattle.replica_core.specs.Guarding.{HasLost};
 ghost use Rattle.replica_core.specs.Meaning.{meaning};
 ghost use Rattle.ginelm_c.specs.declared.held.Held.{Held};
 ghost use Rattle.ginelm_c.specs.Handling.{Between, IsSame, StaysEmpty, StaysFull};
-ghost use Rattle.ginelm_c.specs.Sending.{Takes, TellsLoss};
+ghost use Rattle.ginelm_c.specs.Sending.{Takes, TakesIn, TellsLoss};
 
 use crate::answer::{EMPTY, LOST_MEMORY, told};
 use crate::handle::Handle;
@@ -15,7 +15,7 @@ use crate::named::Named;
 use crate::sending::take;
 use dots::Refusal;
 use std::alloc::Global;
-use wire_form::decode;
+use wire_form::{Message, decode};
 
 // Whether the message that the bytes spell knows a write of the replica's name that the replica does not know.
 fn tells_loss(alloc: Global, held: &Held, bytes: &[u8]) -> Result<bool, Refusal>
@@ -56,8 +56,7 @@ pub extern "C" fn ginelm_has_lost(
     answer
 }
 
-// Takes the message in, but where it tells of a lost memory: then nothing is changed. It is decoded for that question and let go, and once
-// more where it is taken in, so that no more memory is taken than for one message.
+// Takes the message in, but where it tells of a lost memory: then nothing is changed.
 fn take_guarded(
     alloc: Global,
     held: &mut Held,
@@ -73,11 +72,30 @@ fn take_guarded(
     ensures untold_outcome { result ≢ 0 → outcome.new ≡ outcome.old }
     ensures untold_session { result ≢ 0 → session.new ≡ session.old }
 {
-    match tells_loss(alloc, held, bytes) {
-        Ok(true) => LOST_MEMORY,
-        Ok(false) => told(take(held, bytes, outcome, session)),
+    match decode(alloc, bytes) {
+        Ok(message) => {
+            let answer = take_decoded(held, &message, outcome, session);
+            drop(message);
+            answer
+        }
         Err(refusal) => told(Err(refusal)),
     }
+}
+
+// Takes a message in that is decoded, but where it tells of a lost memory.
+fn take_decoded(held: &mut Held, message: &Message, outcome: &mut u32, session: &mut Named) -> u32
+    ensures done { result ≡ 0 → TakesIn held.old held.new (message_of message.now) outcome.new session.new }
+    ensures refused { result ≢ 0 → IsSame held.old held.new }
+    ensures lost { result ≡ 19 → HasLost (meaning held.old.replica) (mail_of (message_of message.now)) }
+    ensures stays { result ≡ 19 → held.new ≡ held.old }
+    ensures guarded { HasLost (meaning held.old.replica) (mail_of (message_of message.now)) → result ≡ 19 }
+    ensures untold_outcome { result ≢ 0 → outcome.new ≡ outcome.old }
+    ensures untold_session { result ≢ 0 → session.new ≡ session.old }
+{
+    if held.replica.has_lost(message) {
+        return LOST_MEMORY;
+    }
+    told(take(held, message, outcome, session))
 }
 
 /// Takes a message in by its bytes, and tells what came of it by number, and the synchronisation that it named. What is to be sent for it

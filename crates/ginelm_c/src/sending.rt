@@ -1,8 +1,11 @@
 // A replica sends what it wrote, and takes in what comes.
-ghost use Rattle.std.specs.Prelude.{◌≡◌, ◌≢◌, OnOk, OnErr};
-ghost use Rattle.replica_model.specs.Step.{Do, Flush, Nothing};
+ghost use Rattle.std.specs.Prelude.{◌≡◌, ◌≢◌, ◌↔◌, Some, IsTrue, OnOk, OnErr};
+ghost use Rattle.wire_form.specs.Message.{message_of};
+ghost use Rattle.replica_model.specs.Step.{Do, Flush, Nothing, KnowsNone};
+ghost use Rattle.replica_core.specs.Meaning.{meaning};
+ghost use Rattle.ginelm_c.specs.declared.held.Held.{Held};
 ghost use Rattle.ginelm_c.specs.Handling.{Between, IsSame, Sent, StaysEmpty, StaysFull};
-ghost use Rattle.ginelm_c.specs.Sending.{Takes, number_of};
+ghost use Rattle.ginelm_c.specs.Sending.{Takes, TakesIn, number_of};
 
 use crate::answer::{EMPTY, told};
 use crate::handle::Handle;
@@ -12,6 +15,7 @@ use crate::texts::Texts;
 use dots::Refusal;
 use replica_core::{Outcome, Taken};
 use std::alloc::Global;
+use wire_form::{Message, decode};
 
 fn flush(held: &mut Held) -> Result<(), Refusal>
     ensures ok { OnOk result (Sent held.old held.new (Do Flush) Nothing) }
@@ -38,6 +42,21 @@ pub extern "C" fn ginelm_flush(alloc: Global, here: &mut Handle) -> u32
     answer
 }
 
+/// Tells whether something waits to be sent: whether a flush gives a message.
+#[unsafe(no_mangle)]
+pub extern "C" fn ginelm_has_unsent(alloc: Global, here: &mut Handle, unsent: &mut bool) -> u32
+    ensures none { StaysEmpty here.old.value here.new.value result }
+    ensures same { here.new.value ≡ here.old.value }
+    ensures told { (x : Held) → here.old.value ≡ Some x → (result ≡ 0) × (IsTrue unsent.new ↔ ¬ KnowsNone (meaning x.replica).group) }
+{
+    let Some(held) = here.take(alloc) else {
+        return EMPTY;
+    };
+    *unsent = held.replica.has_unsent();
+    here.give(held);
+    0
+}
+
 // The number of an outcome.
 pub(crate) fn outcome_number(outcome: Outcome) -> u32
     ensures { result ≡ number_of outcome }
@@ -52,7 +71,31 @@ pub(crate) fn outcome_number(outcome: Outcome) -> u32
     }
 }
 
+// Takes in what is decoded.
 pub(crate) fn take(
+    held: &mut Held,
+    message: &Message,
+    outcome: &mut u32,
+    session: &mut Named,
+) -> Result<(), Refusal>
+    ensures ok { OnOk result (TakesIn held.old held.new (message_of message.now) outcome.new session.new) }
+    ensures unchanged { OnErr result (IsSame held.old held.new) }
+    ensures untold_outcome { OnErr result (outcome.new ≡ outcome.old) }
+    ensures untold_session { OnErr result (session.new ≡ session.old) }
+{
+    let Taken {
+        outcome: came,
+        session: of,
+        letters,
+    } = held.replica.take(message)?;
+    held.texts = Texts::Letters(letters);
+    *outcome = outcome_number(came);
+    *session = Named::of(of);
+    Ok(())
+}
+
+fn take_bytes(
+    alloc: Global,
     held: &mut Held,
     bytes: &[u8],
     outcome: &mut u32,
@@ -63,15 +106,10 @@ pub(crate) fn take(
     ensures untold_outcome { OnErr result (outcome.new ≡ outcome.old) }
     ensures untold_session { OnErr result (session.new ≡ session.old) }
 {
-    let Taken {
-        outcome: came,
-        session: of,
-        letters,
-    } = held.replica.take_bytes(bytes)?;
-    held.texts = Texts::Letters(letters);
-    *outcome = outcome_number(came);
-    *session = Named::of(of);
-    Ok(())
+    let message = decode(alloc, bytes)?;
+    let taken = take(held, &message, outcome, session);
+    drop(message);
+    taken
 }
 
 /// Takes a message in by its bytes, whatever it says, and tells what came of it by number, and the synchronisation that it named. What is to
@@ -94,7 +132,7 @@ pub extern "C" fn ginelm_take_unguarded(
     let Some(mut held) = here.take(alloc) else {
         return EMPTY;
     };
-    let answer = told(take(&mut held, bytes, outcome, session));
+    let answer = told(take_bytes(alloc, &mut held, bytes, outcome, session));
     here.give(held);
     answer
 }

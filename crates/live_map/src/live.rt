@@ -18,6 +18,7 @@ use crate::one_key::join_at_one;
 use crate::prepared::Prepared;
 use crate::touched::Touched;
 use crate::touching::{cut_all, cut_ended, join_at_keys, name_all, name_dot, touch_by};
+use crate::unknown::may_be_more;
 use causal_context::{Context, Growth};
 use causal_join::Causal;
 use dot_store::{DotMap, DotStore};
@@ -84,7 +85,7 @@ impl<S: DotStore<A>, M: Summary<S>, H: PathHash, A: Allocator + Copy> Live<S, M,
         ensures filled { NoStoreIsEmpty S.at result.now.1 }
         ensures canonical { EachIsCanonical S.canonical result.now.1 }
     {
-        // Asked for what it promises of the stores.
+        // proof: `frozen` promises that no store is empty and that each is canonical.
         let _ = self.store.frozen();
         &self.store
     }
@@ -229,7 +230,7 @@ impl<S: DotStore<A>, M: Summary<S>, H: PathHash, A: Allocator + Copy> Live<S, M,
         ensures unchanged { self.new.0 ≡ self.old.0 }
         ensures err { IsOkUnless result Refusal.OutOfMemory }
     {
-        // The base is spoken of in the contract alone.
+        // proof: the clauses `below` and `rest` speak of the base, and nothing else does.
         let _ = base;
         touch_since(alloc, changed, &self.index, seen, touched, context)?;
         name_built(alloc, &mut self.index, built, changed, &self.context)?;
@@ -246,10 +247,10 @@ impl<S: DotStore<A>, M: Summary<S>, H: PathHash, A: Allocator + Copy> Live<S, M,
 
     /// A delta that brings to this pair what `prepare_opened` of the same would: it holds just what will stand at the keys that can change,
     /// and knows just the dots that stand or will stand there, and those that are new. Takes what `prepare_opened` does in the touched keys,
-    /// and for each dot that is new time and memory. Neither store is walked.
+    /// and time and memory in the dots that are new, which are no more than the keys. Neither store is walked.
     ///
-    /// None where a dot that stands or will stand at one of these keys may stand at another key too, as no exchange of replicas leads to: a
-    /// delta of few keys would take it away there.
+    /// None where more dots are new than keys are held, as then all that is held is as short; and where a dot that stands or will stand at one
+    /// of these keys may stand at another key too, as no exchange of replicas leads to: a delta of few keys would take it away there.
     /// Its only refusal is OutOfMemory.
     pub fn opened_delta(
         &self,
@@ -269,6 +270,9 @@ impl<S: DotStore<A>, M: Summary<S>, H: PathHash, A: Allocator + Copy> Live<S, M,
             (join S.greater (state_of (at_keys S.at) self.now.0) (state_of (at_keys S.at) (stores_of built.now, context.now))))) }
         ensures err { IsOkUnless result Refusal.OutOfMemory }
     {
+        if may_be_more(context, &self.context, self.store.size()) {
+            return Ok(None);
+        }
         let keys = self.opened_keys(alloc, base, seen, built, touched, context)?;
         let delta = brought(
             alloc,
@@ -301,7 +305,7 @@ impl<S: DotStore<A>, M: Summary<S>, H: PathHash, A: Allocator + Copy> Live<S, M,
             (has context.now) set.keys) }
         ensures err { IsOkUnless result Refusal.OutOfMemory }
     {
-        // The base and what was built are spoken of in the contract alone.
+        // proof: the clauses `below` and `rest` speak of the base and of what was built, and nothing else does.
         let _ = base;
         let _ = built;
         let mut changed = Touched::new(alloc);

@@ -201,7 +201,7 @@ fn join_anew<S: DotStore<A>, M: Summary<S>, H: PathHash, A: Allocator + Copy>(
     ensures context { OnErr result (context.new ≡ context.old) }
     ensures err { IsOkUnless result Refusal.OutOfMemory }
 {
-    // The keys are spoken of in the contract alone.
+    // proof: the clause `only` speaks of the keys, and nothing else does.
     let _ = touched;
     let made = made_at(alloc, store, context, delta, key)?;
     write_knowing(alloc, store, context, key, made, delta.context(), growth)

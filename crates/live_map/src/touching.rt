@@ -257,7 +257,7 @@ fn add_absent<S: DotStore<A>, M: Summary<S>, H: PathHash, A: Allocator + Copy>(
     ensures ok { OnOk result (All (IsGone (at_keys S.at store.now)) gone.new.items) }
     ensures err { IsOkUnless result Refusal.OutOfMemory }
 {
-    // The store is spoken of in the contract alone.
+    // proof: the clauses speak of the store, and nothing else does.
     let _ = store;
     for dot in dots {
         if !standing.contains(*dot) {
@@ -312,7 +312,7 @@ pub(crate) fn cut_ended<S: DotStore<A>, M: Summary<S>, H: PathHash, A: Allocator
     requires indexed { IsIndexed (at_keys S.at store.now) index.old }
     ensures { IsIndexed (at_keys S.at store.now) index.new }
 {
-    // The store is spoken of in the contract alone.
+    // proof: the clauses speak of the store, and nothing else does.
     let _ = store;
     for place in places {
         if is_ended(alloc, delta, &place.1, place.0) {
@@ -331,7 +331,7 @@ pub(crate) fn cut_all<S: DotStore<A>, M: Summary<S>, H: PathHash, A: Allocator +
     requires indexed { IsIndexed (at_keys S.at store.now) index.old }
     ensures { IsIndexed (at_keys S.at store.now) index.new }
 {
-    // The store is spoken of in the contract alone.
+    // proof: the clauses speak of the store, and nothing else does.
     let _ = store;
     for place in places {
         index.remove(place);

@@ -9,6 +9,19 @@ use causal_context::Context;
 use dots::{Dot, Name, Refusal};
 use std::alloc::Allocator;
 
+// Whether more dots than these may be unknown, as a forged context may say that it knows any number.
+pub(crate) fn may_be_more<A: Allocator + Copy>(
+    dots: &Context<A>,
+    known: &Context<A>,
+    most: u64,
+) -> bool {
+    let mut number = dots.cloud().len() as u64;
+    for (name, last) in dots.vector() {
+        number = number.saturating_add(last.saturating_sub(known.entry(*name)));
+    }
+    number > most
+}
+
 // The dots that are not known, as a context.
 pub(crate) fn unknown_of<A: Allocator + Copy>(
     alloc: A,

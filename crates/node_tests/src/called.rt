@@ -6,8 +6,8 @@ use dots::{Field, Key, Value};
 use node_threads::{
     Abandoning, Asking, Batching, Checkpointing, Clearing, Client, Containing, Delivering,
     FieldListing, FieldRemoving, Flushing, Getting, Lock, Named, Naming, NodeEvent, Post, Putting,
-    Receipt, Removing, Retrying, Root, Served, Sharing, Sizing, TimedPost, TimedServed, Write,
-    Written, serve, serve_timed,
+    Receipt, Removing, Retrying, Root, Served, Sharing, Sizing, TimedPost, TimedServed, Waiting,
+    Write, Written, serve, serve_timed,
 };
 use replica_core::{Delivered, Replica};
 use saved_form::Saved;
@@ -226,6 +226,10 @@ impl<K: Naming, G: Gate + Drop, R: Wait + Drop> Keeping for Client<K, Lock<K, G,
 }
 
 impl<K: Naming, G: Gate + Drop, R: Wait + Drop> TimedServing for Client<K, Lock<K, G, R>> {
+    fn is_waiting<T: Wait>(&mut self, rt: &T) -> bool {
+        self.inspect(rt, &Waiting)
+    }
+
     fn serve_timed<P: TimedPost, T: Wait>(
         &mut self,
         rt: &T,

@@ -101,6 +101,9 @@ pub(crate) trait Keeping {
 
 // What serves a node by a timed post.
 pub(crate) trait TimedServing {
+    // Whether something waits to be sent.
+    fn is_waiting<T: Wait>(&mut self, rt: &T) -> bool;
+
     // Takes in what comes by the post, and sends by itself each time that is due, until that is over.
     fn serve_timed<P: TimedPost, T: Wait>(
         &mut self,

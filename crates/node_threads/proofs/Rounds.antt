@@ -1,12 +1,18 @@
 -- The rounds of a node that is served by a timed post, and what is counted of them.
-use Rattle.std.proofs.Common.{◌≡◌, ℕ, ◌+◌, ◌-◌, ◌^◌, ◌<◌, min, Bool, false, IsTrue, List, [], ◌∷◌, ◌++◌, refl, subst, arith}
+use Rattle.std.proofs.Common.{◌≡◌, ℕ, ◌+◌, ◌-◌, ◌^◌, ◌<◌, min, Bool, true, false, IsTrue, List, [], ◌∷◌, ◌++◌, Option, refl, sym, ap, ◌∙◌, subst, arith}
 use Rattle.std.specs.Prelude.{◌↔◌}
+use Rattle.std.proofs.lemmas.Bool.{true≢false}
+use Rattle.root_cell.proofs.Prefixes.{prefix_trans}
+use Rattle.shared_object.specs.Calling.{HasNotCalled}
+use Rattle.node_threads.specs.declared.deed.Deed.TheVariants.{Flush}
 use Rattle.node_threads.specs.declared.node_event.NodeEvent.{NodeEvent}
 use Rattle.node_threads.specs.Serving.{Turn, total}
-use Rattle.node_threads.specs.TimedServing.{AreRounds, IsRound, Round}
+use Rattle.node_threads.specs.TimedServing.{AreRounds, IsFlush, IsRound, Round}
 use Rattle.node_threads.proofs.Posts.{total_both, total_end}
+use Rattle.replica_core.specs.declared.letter.Letter.{Letter}
 use Rattle.replica_model.specs.Replica.{Replica}
-use Rattle.shared_object.specs.History.{Seat}
+use Rattle.replica_model.specs.Step.{KnowsNone}
+use Rattle.shared_object.specs.History.{Seat, calls_by}
 
 module _ {P A : Type 0} (Receives : P → P → List ℕ → Type 0) (Sends : P → P → ℕ → List ℕ → Type 0) (Rests Ends : P → P → Type 0)
     (Spreads : P → P → List ℕ → Type 0) (Misses : P → P → Type 0) (Over : P → Type 0) (first : Replica) where
@@ -28,6 +34,40 @@ by_false b h t = cc
 
 pub not_so : {X : Type 0} (b : Bool) → b ≡ false → IsTrue b ↔ X → ¬ X
 not_so b h e x = by_false b h (e.1 x)
+
+-- ---- a flush where something waits, and none where nothing does
+pub waits_for_nothing : (b : Bool) (r : Replica) → b ≡ false → IsTrue b ↔ (¬ KnowsNone r.group) → KnowsNone r.group
+waits_for_nothing b r h e dot = by (r.group.has dot) refl
+  where
+    by : (known : Bool) → r.group.has dot ≡ known → r.group.has dot ≡ false
+    by false is = is
+    by true is = absurd (not_so b h e (λ none. true≢false (sym is ∙ none dot)))
+
+module _ {A : Type 0} where
+  place : NodeEvent A → ℕ
+  place e = e.place
+
+  pub not_called_yet : (old mid new : Seat (NodeEvent A)) → HasNotCalled place old mid → HasNotCalled place mid new → HasNotCalled place old new
+  not_called_yet old mid new h k = record {
+    seat = k.seat ∙ h.seat;
+    operations = k.operations ∙ h.operations;
+    made = k.made ∙ h.made;
+    seen = prefix_trans old.front mid.front new.front h.seen k.seen;
+  }
+
+  pub flushed_then : (first : Replica) (old mid new : Seat (NodeEvent A)) (sent : Option (Letter A)) → HasNotCalled place old mid
+      → IsFlush first mid new sent → IsFlush first old new sent
+  flushed_then first old mid new sent h (history, is, gives) = (
+    history,
+    record {
+      seen = prefix_trans old.front mid.front history h.seen is.seen;
+      own = ap (λ n. calls_by place n history) (sym h.seat) ∙ is.own ∙ h.made;
+      seat = is.seat ∙ h.seat;
+      operations = is.operations ∙ ap (λ n. n + 1) h.operations;
+      front = is.front ∙ ap (λ n. history ++ record { place = n; deeds = Flush ∷ [] } ∷ []) h.seat;
+    },
+    gives,
+  )
 
 -- ---- the numbers
 

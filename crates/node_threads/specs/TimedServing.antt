@@ -12,7 +12,7 @@ use Rattle.replica_core.specs.Carrying.{AreLetters, letter_or_none}
 use Rattle.replica_core.specs.declared.letter.Letter.{Letter}
 use Rattle.replica_model.specs.Mail.{mail_of}
 use Rattle.replica_model.specs.Replica.{Replica}
-use Rattle.replica_model.specs.Step.{Nothing}
+use Rattle.replica_model.specs.Step.{Nothing, KnowsNone}
 use Rattle.shared_object.specs.Calling.{HasNotCalled, IsAccepted}
 use Rattle.shared_object.specs.History.{Seat}
 use Rattle.wire_form.specs.Message.{MessageValue}
@@ -61,11 +61,13 @@ module _ {P A : Type 0} (Receives : P → P → List ℕ → Type 0) (Sends : P 
   IsSpread p q None n = (q ≡ p) × (n ≡ 0)
   IsSpread p q (Some letter) n = (Spreads p q letter.bytes.items × (n ≡ 0)) ⊎ (Misses p q × (n ≡ 1))
 
-  -- the client flushed, and then what was to be sent was sent to all, but for so many deltas; or it called nothing, as it was refused
+  -- the client flushed, and then what was to be sent was sent to all, but for so many deltas; or it called nothing, as nothing waited to be sent after all
+  -- that it had seen, or as it was refused
   abbrev pub IsFlushed : Replica → P → P → Seat (NodeEvent A) → Seat (NodeEvent A) → List Turn → Type 0
   IsFlushed first p q old new turns =
       ((n : ℕ) × (sent : Option (Letter A)) × (turns ≡ Taken n 0 ∷ []) × IsFlush first old new sent × IsSpread p q sent n)
-      ⊎ ((turns ≡ Refused ∷ []) × HasNotCalled (λ e. e.place) old new × (q ≡ p))
+      ⊎ (((turns ≡ []) × HasNotCalled (λ e. e.place) old new × ((r : Replica) × IsAfter first new.front r × KnowsNone r.group) × (q ≡ p))
+      ⊎ ((turns ≡ Refused ∷ []) × HasNotCalled (λ e. e.place) old new × (q ≡ p)))
 
   -- each synchronisation that was open sent again, or it was not told which are, as there was no memory
   abbrev pub IsAgain : Replica → P → P → Seat (NodeEvent A) → Seat (NodeEvent A) → List Turn → Type 0

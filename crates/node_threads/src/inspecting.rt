@@ -33,6 +33,24 @@ impl<A: Allocator + Copy> Look<Replica<Fnv1a, A>> for Checkpointing {
     }
 }
 
+/// Whether something waits to be sent: whether a flush gives a delta. Takes what `Replica::has_unsent` does.
+#[derive(Drop)]
+pub struct Waiting;
+
+impl<A: Allocator + Copy> Look<Replica<Fnv1a, A>> for Waiting {
+    ghost use Rattle.std.specs.Prelude.{◌↔◌, IsTrue};
+    ghost use Rattle.replica_core.specs.Meaning.{meaning};
+    ghost use Rattle.replica_model.specs.Step.{KnowsNone};
+
+    type Found = bool;
+
+    ghost finds = { λ look replica found. IsTrue found ↔ ¬ KnowsNone (meaning replica).group };
+
+    fn look(&self, replica: &Replica<Fnv1a, A>) -> bool {
+        replica.has_unsent()
+    }
+}
+
 /// The dots that the replica has seen. Its only refusal is OutOfMemory. Takes time and memory in the context.
 #[derive(Drop)]
 pub struct Knowing<A: Allocator + Copy> {

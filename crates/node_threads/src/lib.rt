@@ -42,7 +42,7 @@ pub use channels::Channels;
 pub use deed::Deed;
 pub use frames::Frames;
 pub use frames_end::FramesEnd;
-pub use inspecting::{Checkpointing, Knowing, SessionListing};
+pub use inspecting::{Checkpointing, Knowing, SessionListing, Waiting};
 pub use laws::no_dot_and_no_number_comes_twice;
 pub use letter::Letter;
 pub use looks::{Containing, Digesting, FieldListing, Getting, KeyListing, Sharing, Sizing};

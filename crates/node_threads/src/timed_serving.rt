@@ -5,6 +5,7 @@ ghost use Rattle.node_threads.specs.TimedServing.{CountsSent, IsAgain, IsFlush, 
 ghost use Rattle.shared_object.specs.Calling.{HasNotCalled};
 
 use crate::acts::FlushingBytes;
+use crate::inspecting::Waiting;
 use crate::named::Naming;
 use crate::node::{Client, Lock};
 use crate::post::Post;
@@ -25,8 +26,8 @@ use std::sync::Wait;
 /// A delta is sent once: one that is lost, or that the post does not send, comes by a synchronisation, which a program asks for. No synchronisation is
 /// abandoned. Nothing is saved before it is sent, so a node that is served so takes a fresh name after a restart.
 ///
-/// It waits for its turn at the node and for the post. Besides what `serve` takes, each time that is due takes what `send_again` does, and a flush with its
-/// bytes, which is an event of the node also where nothing was written.
+/// It waits for its turn at the node and for the post. Besides what `serve` takes, each time that is due takes what `send_again` does, a look under the
+/// lock, and where something waits a flush with its bytes.
 pub fn serve_timed<
     K: Naming,
     G: Gate + Drop,
@@ -41,11 +42,7 @@ pub fn serve_timed<
     let served = serve(rt, alloc, client, post);
     let mut told = TimedServed {
         served,
-        sent: Resent {
-            refused: 0,
-            unsent: 0,
-            lost: 0,
-        },
+        sent: NOTHING,
     };
     for _ in rt.forever() {
         if post.is_over() {
@@ -91,6 +88,13 @@ fn both_sent(one: Resent, other: Resent) -> Resent
     }
 }
 
+// Nothing was to be sent.
+const NOTHING: Resent = Resent {
+    refused: 0,
+    unsent: 0,
+    lost: 0,
+};
+
 // One call that was refused.
 const REFUSED: Resent = Resent {
     refused: 1,
@@ -129,7 +133,7 @@ fn all_again<K: Naming, G: Gate + Drop, W: Wait + Drop, A: Allocator + Copy, P: 
     }
 }
 
-// Sends what was written since the last flush to all, where that is not refused.
+// Sends what was written since the last flush to all, where something was and that is not refused.
 fn flush_to_all<
     K: Naming,
     G: Gate + Drop,
@@ -141,6 +145,9 @@ fn flush_to_all<
     ensures { (turns : List Turn) × IsFlushed P.receives P.sends P.rests P.ends P.spreads P.misses P.over K.first post.old post.new client.old client.new turns
         × CountsSent result turns }
 {
+    if !client.inspect(rt, &Waiting) {
+        return NOTHING;
+    }
     match flush(rt, alloc, client) {
         Ok(sent) => {
             let unsent = spread(rt, &sent, post);

@@ -49,7 +49,7 @@ fn took<H: PathHash, A: Allocator + Copy>(
     ensures err { IsOkUnless result Refusal.OutOfMemory }
 {
     let prefix = sent.prefix();
-    // That its indices are such that children can have is what the depth of a prefix tells, and that the page can stand there, the page.
+    // proof: `depth` promises that its indices are such that children can have, and `page` that the page can stand there.
     let _depth = prefix.depth();
     let _page = sent.page();
     let children = to_ask(alloc, own, sent)?;

@@ -1,7 +1,8 @@
 -- A delta that brings what the end of an own session joins in.
-use Rattle.std.proofs.Common.{◌≡◌, ◌⊎◌, inl, ℕ, List, [], Bool, true, Option, Some, None, IfSome, cond, sym, ap, ◌∙◌, subst}
+use Rattle.std.proofs.Common.{◌≡◌, ◌⊎◌, inl, ℕ, List, [], Bool, true, Option, IfSome, cond, sym, ap, ◌∙◌, subst}
 use Rattle.std.specs.Prelude.{◌==◌}
 use Rattle.std.proofs.lemmas.Bool.{eq-eqb}
+use Rattle.std.proofs.lemmas.Option.{IfSome_then}
 use Rattle.causal_context.specs.Context.{ContextValue, has}
 use Rattle.causal_join.specs.Causal.{state_of}
 use Rattle.causal_join.specs.OrMap.{FieldsValue, OrMapValue, fields_at, or_map_at, or_map_state, path_of}
@@ -36,10 +37,6 @@ use Rattle.replica_core.proofs.Gained.{outcome}
 use Rattle.replica_core.proofs.Takes.{own_at, opening_is, page_is}
 use Rattle.replica_core.proofs.Tied.{opening_tied, page_tied}
 use Rattle.replica_core.proofs.TiedLists.{found_tied}
-
-pub some_weaker : {T : Type 0} {P Q : T → Type 0} (o : Option T) → ((x : T) → P x → Q x) → IfSome o P → IfSome o Q
-some_weaker None f p = p
-some_weaker (Some x) f p = f x p
 
 -- what the turn of a session brings is brought by the delivery that it is
 brought_by : (hash_of : List ℕ → ℕ) (r : Replica) (m : Mail) (state : AskerState) (step : StepValue) (delta : MapState)
@@ -82,9 +79,9 @@ module _ {Hash : Type 0} (hash_of : Hash → List ℕ → ℕ) (old : ReplicaVal
       let here = own_at hash_of old is s place a first next step goes_from message in
       let at = opening_is hash_of old is s place a first next step goes_from message context root said told
       ∙ ap (λ h. turning.opening_at (hash_of h) a.session (stage_with a.own a.seen a.stage) context root) here.hash_is in
-      some_weaker found (λ delta. brought_by (hash_of (hash_in old)) (meaning old) (mail_of message) (asker_state next) step (or_map_state delta)
+      IfSome_then found closing (λ delta. brought_by (hash_of (hash_in old)) (meaning old) (mail_of message) (asker_state next) step (or_map_state delta)
       (λ own. subst (λ m. delivered (hash_of (hash_in old)) own (meaning old) (mail_of m) ≡ turned (meaning old) (asker_state next) step) (sym said)
-      (opening_turns hash_of old s place a first here (outcome (asker_state next) step) own context root at))) closing
+      (opening_turns hash_of old s place a first here (outcome (asker_state next) step) own context root at)))
 
   pub page_brings : (sent : SentValue) → message ≡ Page s sent
       → outcome (asker_state next) step ≡ turning.on_page (hash_of a.hash) (asker_state a) message
@@ -93,9 +90,9 @@ module _ {Hash : Type 0} (hash_of : Hash → List ℕ → ℕ) (old : ReplicaVal
       let here = own_at hash_of old is s place a first next step goes_from message in
       let at = page_is hash_of old is s place a first next step goes_from message (inl (sent, said)) told sent said
       ∙ ap (λ h. turning.page_at_stage (hash_of h) a.session (stage_with a.own a.seen a.stage) sent) here.hash_is in
-      some_weaker found (λ delta. brought_by (hash_of (hash_in old)) (meaning old) (mail_of message) (asker_state next) step (or_map_state delta)
+      IfSome_then found closing (λ delta. brought_by (hash_of (hash_in old)) (meaning old) (mail_of message) (asker_state next) step (or_map_state delta)
       (λ own. subst (λ m. delivered (hash_of (hash_in old)) own (meaning old) (mail_of m) ≡ turned (meaning old) (asker_state next) step) (sym said)
-      (page_turns hash_of old s place a first here (outcome (asker_state next) step) own sent at))) closing
+      (page_turns hash_of old s place a first here (outcome (asker_state next) step) own sent at)))
 
 -- a delta that brings to the pair what the built map does brings it to what the pair stands for
 module _ {Hash : Type 0} (hash : Hash) (live : PairValue Hash FieldsValue) (m : Held) (context : ContextValue) (delta : OrMapValue) where

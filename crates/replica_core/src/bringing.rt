@@ -24,7 +24,6 @@ ghost use Rattle.replica_core.specs.Turning.{CanTake};
 
 use crate::replica::Replica;
 use crate::sessions::place_of;
-use causal_context::Context;
 use causal_join::OrMap;
 use dots::Refusal;
 use hash_path::PathHash;
@@ -128,9 +127,6 @@ impl<H: PathHash, A: Allocator + Copy> Replica<H, A> {
             join greater (meaning self.now).live (closing.held_state opened.now.built.entries (has opened.now.context)) ≡ join greater (meaning self.now).live (or_map_state delta))) }
         ensures err { IsOkUnless result Refusal.OutOfMemory }
     {
-        if has_more_new(self.context(), &opened.context, self.size()) {
-            return Ok(None);
-        }
         self.live.opened_delta(
             self.alloc,
             &opened.base,
@@ -140,15 +136,6 @@ impl<H: PathHash, A: Allocator + Copy> Replica<H, A> {
             &opened.context,
         )
     }
-}
-
-// Whether more dots of the other context are new than this many: a forged one may know any number.
-fn has_more_new<A: Allocator + Copy>(own: &Context<A>, other: &Context<A>, most: u64) -> bool {
-    let mut number = other.cloud().len() as u64;
-    for (name, last) in other.vector() {
-        number = number.saturating_add(last.saturating_sub(own.entry(*name)));
-    }
-    number > most
 }
 
 // Whether the turn ended its session with all that it asked for.

@@ -109,8 +109,10 @@ impl<H: PathHash, A: Allocator + Copy> Replica<H, A> {
         taken
     }
 
-    // Takes a message in, and spells what is sent for it.
-    fn take(&mut self, message: &Message<A>) -> Result<Taken<A>, Refusal>
+    /// Takes a message in that is decoded, as `take_bytes` does: for who looks at it first, as `has_lost` does.
+    ///
+    /// Its only refusal is OutOfMemory; a refused call changes nothing. Takes what `deliver` takes, and time and memory in the bytes that go.
+    pub fn take(&mut self, message: &Message<A>) -> Result<Taken<A>, Refusal>
         ensures session { IfOk result (λ taken. taken.session ≡ session_of (message_of message.now)) }
         ensures ok { IfOk result (λ taken. Sends H.hash_of self.old self.new (Take (mail_of (message_of message.now))) (Came (outcome_of taken.outcome)) (letters_of taken.letters.items)) }
         ensures refused { IsOkUnless result Refusal.OutOfMemory }

@@ -93,7 +93,7 @@ impl<H: PathHash, A: Allocator + Copy> Replica<H, A> {
         ensures refused { IsOkUnless result Refusal.OutOfMemory }
         ensures unchanged { OnErr result (Stays self.old self.new) }
     {
-        // Asked for what it promises of the map.
+        // proof: the clauses `filled` and `canonical` of `store`.
         let _ = self.live.store();
         self.live.join_delta(self.alloc, delta)?;
         Ok(())
@@ -112,7 +112,7 @@ impl<H: PathHash, A: Allocator + Copy> Replica<H, A> {
         ensures refused { IsOkUnless result Refusal.OutOfMemory }
         ensures unchanged { OnErr result (Stays self.old self.new) }
     {
-        // Asked for what it promises of the map.
+        // proof: the clauses `filled` and `canonical` of `store`.
         let _ = self.live.store();
         if session.answerer() != self.name {
             return Ok(Delivered::silent(self.alloc, Outcome::Ignored));
@@ -149,7 +149,7 @@ impl<H: PathHash, A: Allocator + Copy> Replica<H, A> {
         ensures refused { IsOkUnless result Refusal.OutOfMemory }
         ensures unchanged { OnErr result (Stays self.old self.new) }
     {
-        // Asked for what it promises of the map.
+        // proof: the clauses `filled` and `canonical` of `store`.
         let _ = self.live.store();
         if session.answerer() != self.name {
             return Ok(Delivered::silent(self.alloc, Outcome::Ignored));

@@ -35,7 +35,7 @@ impl<H: PathHash, A: Allocator + Copy> Replica<H, A> {
 fn lacks_of<A: Allocator + Copy>(own: &Context<A>, other: &Context<A>, name: Name) -> bool
     ensures { IsTrue result ↔ LacksOf (has own.now) (has other.now) name }
 {
-    // Asked for what it promises of the own context.
+    // proof: the clause `canonical` of `cloud`.
     let _ = own.cloud();
     if own.entry(name) < other.entry(name) {
         return true;

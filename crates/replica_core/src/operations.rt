@@ -1,5 +1,5 @@
 // The own operations of a replica, and what it is to send of them.
-ghost use Rattle.std.specs.Prelude.{◌≡◌, ◌<◌, ◌+◌, ◌-◌, ◌*◌, ◌^◌, min, ℕ, List, true, [], IfOk, IfErr, OnOk, OnErr, IsOkUnless};
+ghost use Rattle.std.specs.Prelude.{◌≡◌, ◌<◌, ◌+◌, ◌-◌, ◌*◌, ◌^◌, ◌↔◌, min, ℕ, List, true, [], IsTrue, IfOk, IfErr, OnOk, OnErr, IsOkUnless};
 ghost use Rattle.causal_join.specs.OrMap.{or_map_state};
 ghost use Rattle.delta_ops.specs.Group.{group_state};
 ghost use Rattle.delta_ops.specs.LiveMap.{live_state};
@@ -7,7 +7,7 @@ ghost use Rattle.op_model.specs.Meaning.{greater};
 ghost use Rattle.op_model.specs.Place.{Place, place_of, plain};
 ghost use Rattle.op_model.specs.State.{join};
 ghost use Rattle.replica_model.specs.Replica.{makes};
-ghost use Rattle.replica_model.specs.Step.{Do, Put, Remove, RemoveField, Clear, Flush, Made, Counted, Nothing};
+ghost use Rattle.replica_model.specs.Step.{Do, Put, Remove, RemoveField, Clear, Flush, Made, Counted, Nothing, KnowsNone};
 ghost use Rattle.replica_core.specs.Meaning.{hash_in, meaning};
 ghost use Rattle.sync_protocol.specs.Posting.{IsPosted};
 ghost use Rattle.replica_core.specs.Stepping.{Foretells, Steps, Stays, IsRefused, mail_or_none, message_or_none};
@@ -125,6 +125,14 @@ impl<H: PathHash, A: Allocator + Copy> Replica<H, A> {
         Ok(number)
     }
 
+    /// Whether something waits to be sent: whether a flush gives a delta. Takes constant time, but that after a resume it passes over what the
+    /// saved group held where that knows no dot, and no memory.
+    pub fn has_unsent(&self) -> bool
+        ensures { IsTrue result ↔ ¬ KnowsNone (meaning self.now).group }
+    {
+        self.group.has_dots()
+    }
+
     /// The delta of all that it made since the last flush, to be sent, or None where it made nothing.
     ///
     /// Its only refusal is OutOfMemory; a refused call changes nothing. Takes time and memory in these operations, times the square of the
@@ -213,7 +221,7 @@ fn most_deltas(keys: u64) -> u64
     keys.saturating_mul(2).saturating_add(1024)
 }
 
-// That the number of a dot is one of 64 bits, which is so always: it is asked in a proof alone.
+// proof: that the number of a dot is one of 64 bits.
 fn has_number(dot: Dot) -> bool
     ensures always { result ≡ true }
     ensures bounded { dot.number < 2 ^ 64 }

@@ -50,7 +50,7 @@ impl<H: PathHash, A: Allocator + Copy> Replica<H, A> {
         ensures refused { IsOkUnless result Refusal.OutOfMemory }
         ensures unchanged { OnErr result (Stays self.old self.new) }
     {
-        // Asked for what it promises of the map.
+        // proof: the clauses `filled` and `canonical` of `store`.
         let _ = self.live.store();
         let Some(place) = place_of(&self.sessions, session) else {
             return Ok(Delivered::silent(self.alloc, Outcome::Ignored));
@@ -73,7 +73,7 @@ impl<H: PathHash, A: Allocator + Copy> Replica<H, A> {
         ensures refused { IsOkUnless result Refusal.OutOfMemory }
         ensures unchanged { OnErr result (Stays self.old self.new) }
     {
-        // Asked for what it promises of the map.
+        // proof: the clauses `filled` and `canonical` of `store`.
         let _ = self.live.store();
         let Some(place) = place_of(&self.sessions, session) else {
             return Ok(Delivered::silent(self.alloc, Outcome::Ignored));
@@ -170,7 +170,7 @@ impl<H: PathHash, A: Allocator + Copy> Replica<H, A> {
         Ok(Delivered::silent(self.alloc, Outcome::Done))
     }
 
-    // What is always so of a replica, which is asked in a proof alone.
+    // proof: the invariant of a replica, as a clause.
     pub(crate) fn is_replica(&self) -> bool
         ensures always { result ≡ true }
         ensures replica { IsReplica H.hash_of self.now }

@@ -82,7 +82,7 @@ fn keep_anew<S: Alter, H: PathHash>(
     ensures stays { OnOk result (log.new.is_failed ≡ false) }
     ensures lost { IfErr result IsUnkept }
 {
-    // Asked for what it promises of a crash.
+    // proof: the clause `ready` of `is_failed`.
     let _ = log.is_failed();
     let Told { name, number, all } = tell_all(alloc, replica)?;
     match log.replace(name.as_slice(), number.as_slice(), all.as_slice()) {

@@ -85,7 +85,7 @@ pub fn keep_number<S: Alter>(alloc: Global, log: &mut Log<S>, number: u64) -> Re
     ensures stays { OnOk result (log.new.is_failed ≡ false) }
     ensures lost { IfErr result IsUnkept }
 {
-    // Asked for what it promises of a crash.
+    // proof: the clause `ready` of `is_failed`.
     let _ = log.is_failed();
     keep_opened(alloc, log, number)
 }

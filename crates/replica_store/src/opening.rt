@@ -60,7 +60,7 @@ impl<S: Alter + Drop, H: PathHash> Store<S, H> {
         ensures fresh { IfOk result (λ store. store.is_failed ≡ false) }
     {
         let replica = come_back(alloc, &mut log, hash, name)?;
-        // Asked for what it promises of a crash.
+        // proof: the clause `ready` of `is_failed`.
         let _ = log.is_failed();
         Ok(Store {
             replica,

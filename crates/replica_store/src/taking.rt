@@ -112,7 +112,7 @@ fn keep_brought<S: Alter>(
     ensures stays { OnOk result (log.new.is_failed ≡ false) }
     ensures lost { IfErr result IsUnkept }
 {
-    // Asked for what it promises of a crash.
+    // proof: the clause `ready` of `is_failed`.
     let _ = log.is_failed();
     if is_nothing(delta) {
         return Ok(());
@@ -132,7 +132,7 @@ fn keep_all<S: Alter, H: PathHash>(
     ensures stays { OnOk result (log.new.is_failed ≡ false) }
     ensures lost { IfErr result IsUnkept }
 {
-    // Asked for what it promises of a crash.
+    // proof: the clause `ready` of `is_failed`.
     let _ = log.is_failed();
     let all = whole(alloc, replica)?;
     let kept = keep_one(alloc, log, &all);
@@ -159,7 +159,7 @@ fn keep_taken<S: Alter, H: PathHash>(
     ensures stays { OnOk result (log.new.is_failed ≡ false) }
     ensures lost { IfErr result IsUnkept }
 {
-    // Asked for what it promises of a crash.
+    // proof: the clause `ready` of `is_failed`.
     let _ = log.is_failed();
     match outcome {
         Outcome::Joined => keep_one(alloc, log, message),
@@ -194,7 +194,7 @@ impl<S: Alter, H: PathHash> Store<S, H> {
         if self.is_failed {
             return Err(StoreError::Failed);
         }
-        // Asked for what it promises of a crash.
+        // proof: the clause `ready` of `is_failed`.
         let _ = self.log.is_failed();
         if self.replica.has_lost(message) {
             return Err(StoreError::LostMemory);

@@ -43,7 +43,7 @@ pub fn keep_flushed<S: Alter, H: PathHash>(
     ensures stays { OnOk result (log.new.is_failed ≡ false) }
     ensures lost { IfErr result IsUnkept }
 {
-    // Asked for what it promises of a crash.
+    // proof: the clause `ready` of `is_failed`.
     let _ = log.is_failed();
     let Ok(sent) = replica.flush() else {
         return Err(StoreError::OutOfMemory);
@@ -76,7 +76,7 @@ impl<S: Alter, H: PathHash> Store<S, H> {
         if self.is_failed {
             return Err(StoreError::Failed);
         }
-        // Asked for what it promises of a crash.
+        // proof: the clause `ready` of `is_failed`.
         let _ = self.log.is_failed();
         let answer = match write.make(&mut self.replica) {
             Ok(answer) => answer,
@@ -185,7 +185,7 @@ impl<S: Alter, H: PathHash> Store<S, H> {
         if self.is_failed {
             return Err(StoreError::Failed);
         }
-        // Asked for what it promises of a crash.
+        // proof: the clause `ready` of `is_failed`.
         let _ = self.log.is_failed();
         let (number, hello) = match self.replica.ask(peer) {
             Ok(asked) => asked,

@@ -59,7 +59,7 @@ impl<S: Alter, H: PathHash> Store<S, H> {
         if self.is_failed {
             return Err(StoreError::Failed);
         }
-        // Asked for what it promises of a crash.
+        // proof: the clause `ready` of `is_failed`.
         let _ = self.log.is_failed();
         let answer = match make_all(alloc, &mut self.replica, writes) {
             Ok(answers) => answers,

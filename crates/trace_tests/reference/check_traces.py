@@ -2,8 +2,9 @@
 
     python3 crates/trace_tests/reference/check_traces.py [--seed N] [--traces N] [PROGRAM]
 
-PROGRAM is the built crates/ormap. The traces are those of examples/, one of forty keys, one of keys of one hash, one of crashes, and random ones,
-which the seed decides. It shows the first trace whose text is another and ends with status 1, or tells in a line how many had their text.
+PROGRAM is the built crates/ormap. The traces are those of examples/, some with a fault, one of forty keys, one of keys of one hash, one of crashes, and
+random ones, which the seed decides. A trace with a fault is to end with status 1, and any other with 0. It shows the first trace whose text or
+status is another and ends with status 1, or tells in a line how many had their text.
 """
 import argparse
 import pathlib
@@ -24,6 +25,8 @@ REPLICAS = range(1, 7)
 KEYS = ["#", "#00ff"] + [f"k{number}" for number in range(1, 39)]
 FIELDS = ["#", "f", "g", "port"]
 LOST = (3, 8)  # the messages that no line delivers, where only some do
+# Lines that are refused where replica 1 alone is there, with one pin and no message.
+FAULTS = ["look 2 a", "put 1 a", "no such line", "get 2 a", "node 1", "deliver 1 1", f"put 1 {'k' * 65536} v"]
 
 
 class Maker:
@@ -234,16 +237,29 @@ def traces(chance, count):
     """The names of all traces, and the traces."""
     for path in sorted(EXAMPLES.glob("*.trace")):
         yield path.name, path.read_text()
+    for fault in FAULTS:
+        yield f"a trace with the line {fault[:20]}", f"node 1\nput 1 a x\npin 1\n{fault}\nget 1 a\n"
     for made in (forty_keys, one_hash, crashes):
         yield made.__name__, made()
     for number in range(1, count + 1):
         yield f"random trace {number}", at_random(chance)
 
 
+def ended(text, status):
+    """The text, and the status where it is not 0."""
+    return text + (f"(status {status})\n" if status else "")
+
+
+def wanted(trace):
+    """What the definitions say: a trace that faults ends with status 1."""
+    text = text_of(trace.encode())
+    return ended(text, int(text.rpartition("\n")[0].rpartition("\n")[2].startswith("error ")))
+
+
 def printed(program, trace):
-    """What the program prints, and how it ended where that is not well."""
+    """What the program prints, and how it ended."""
     ran = subprocess.run([program], input=trace.encode(), stdout=subprocess.PIPE, check=False)
-    return ran.stdout.decode() + (f"(status {ran.returncode})\n" if ran.returncode else "")
+    return ended(ran.stdout.decode(), ran.returncode)
 
 
 def main():
@@ -254,9 +270,9 @@ def main():
     given = parser.parse_args()
     compared = 0
     for name, trace in traces(random.Random(given.seed), given.traces):
-        wanted, got = text_of(trace.encode()), printed(given.program.resolve(), trace)
-        if got != wanted:
-            sys.exit(f"seed {given.seed}: {name} has another text\n\nTHE TRACE\n{trace}\nWANTED\n{wanted}\nGOT\n{got}")
+        want, got = wanted(trace), printed(given.program.resolve(), trace)
+        if got != want:
+            sys.exit(f"seed {given.seed}: {name} has another text\n\nTHE TRACE\n{trace}\nWANTED\n{want}\nGOT\n{got}")
         compared += 1
     print(f"seed {given.seed}: {compared} traces have their text")
 

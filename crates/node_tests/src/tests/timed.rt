@@ -115,17 +115,17 @@ fn told(unsent: u64) -> TimedServed {
     }
 }
 
-// A put, an ask, twice a retry and a flush, and the delivery.
+// A put, an ask, a retry and the flush, a retry, and the delivery.
 #[test]
 fn a_silent_peer_is_asked_again_until_it_answers(rt: HostRuntime) {
     let last = timed(rt, rt.alloc(), true, told(0));
-    assert!(rt; last == (7, 0, 1, 0));
+    assert!(rt; last == (6, 0, 1, 0));
 }
 
 #[test]
 fn what_a_node_cannot_send_by_itself_is_counted(rt: HostRuntime) {
     let last = timed(rt, rt.alloc(), false, told(3));
-    assert!(rt; last == (7, 0, 1, 0));
+    assert!(rt; last == (6, 0, 1, 0));
 }
 
 // Puts, asks a peer that is silent for a while, and is served until the post is over, of which this is told.
@@ -139,6 +139,7 @@ pub(crate) fn serve_timed_alone<C: Caller + TimedServing>(
     let client = only(rt, clients);
     client.put(rt, alloc, b"a", b"", b"x");
     client.ask(rt, alloc, 2);
+    assert!(rt; client.is_waiting(rt));
     let mut gone = Vec::new(alloc);
     let mut post = Scripted {
         alloc,
@@ -150,6 +151,7 @@ pub(crate) fn serve_timed_alone<C: Caller + TimedServing>(
     };
     let told = client.serve_timed(rt, alloc, &mut post);
     drop(post);
+    assert!(rt; !client.is_waiting(rt));
     let count = if is_sending { SENT.len() } else { 0 };
     assert!(rt; told == all && are_gone(&gone, &SENT[..count]));
 }

@@ -1,9 +1,9 @@
 use Rattle.std.proofs.Common.{ap, ◌∙◌}
+use Rattle.std.proofs.lemmas.Option.{IfSome_then}
 use Rattle.std.proofs.lemmas.Result.{IfOk-weaker}
 use Rattle.replica_model.specs.Replica.{Replica}
 use Rattle.replica_core.specs.Meaning.{hash_in, meaning}
 use Rattle.replica_core.specs.Own.{IsOwn}
-use Rattle.replica_core.proofs.Brought.{some_weaker}
 use Rattle.replica_core.proofs.Changing.{at_place}
 use Rattle.replica_core.proofs.Goes.{base_is_below, built_known}
 use Rattle.replica_core.proofs.Turns.{closed_by}
@@ -31,4 +31,4 @@ returns-clause-ok g c =
     let now = c.args.self.now in
     let closed = closed_by (meaning now) c.args.next c.in-Ok.opened.context c.in-Ok.opened.built c.in-Ok.ensures.done in
     IfOk-weaker c.opened_delta-delta.result _ _
-    (λ found. some_weaker found (λ delta is. ap (λ (r : Replica). r.live) closed ∙ is)) c.opened_delta-delta.ensures.ok
+    (λ found told. IfSome_then found told (λ delta is. ap (λ (r : Replica). r.live) closed ∙ is)) c.opened_delta-delta.ensures.ok

@@ -1,7 +1,7 @@
 use Rattle.std.proofs.Common.{subst}
+use Rattle.std.proofs.lemmas.Option.{IfSome_then}
 use Rattle.std.proofs.lemmas.Result.{IfOk-weaker}
 use Rattle.replica_core.specs.Turning.{CanTake}
-use Rattle.replica_core.proofs.Brought.{some_weaker}
 use Rattle.replica_core.proofs.replica.Replica.joined_by_turn.Goals as goal
 
 pub joined_by_end-requires : goal.joined_by_end-requires
@@ -14,4 +14,4 @@ joined_by_end-requires g c = (
 pub returns-clause-ok : goal.returns-clause-ok
 returns-clause-ok g c =
     IfOk-weaker c.joined_by_end.result _ _
-    (λ found. some_weaker found (λ delta live. record { done = c.is_done.ensures c.if-not-is_done.false; live = live })) c.joined_by_end.ensures.ok
+    (λ found told. IfSome_then found told (λ delta live. record { done = c.is_done.ensures c.if-not-is_done.false; live = live })) c.joined_by_end.ensures.ok

@@ -1,5 +1,6 @@
 use Rattle.std.proofs.Common.{◌≡◌, sym, ap, ◌∙◌, subst}
 use Rattle.std.specs.FinMap as finite
+use Rattle.std.proofs.lemmas.Option.{IfSome_then}
 use Rattle.std.proofs.lemmas.Result.{IfOk-weaker}
 use Rattle.causal_context.specs.Context.{has}
 use Rattle.causal_join.specs.OrMap.{or_map_state}
@@ -11,7 +12,7 @@ use Rattle.sync_model.specs.Closing.{IsBelow}
 use Rattle.sync_model.specs.Differ.{Held}
 use Rattle.sync_model.specs.Laws.{KnowsEachDot}
 use Rattle.replica_core.specs.Meaning.{ReplicaValue, meaning}
-use Rattle.replica_core.proofs.Brought.{delta_joined, some_weaker}
+use Rattle.replica_core.proofs.Brought.{delta_joined}
 use Rattle.replica_core.proofs.Opened.{built_inside, below_pair}
 use Rattle.replica_core.proofs.replica.Replica.opened_delta.Goals as goal
 
@@ -35,7 +36,7 @@ returns-clause-ok g c =
     let context = c.args.opened.now.context in
     let live = c.self.inside.live.0 in
     IfOk-weaker c.opened_delta.result _ _
-    (λ found. some_weaker found (λ delta same. subst (λ (r : ReplicaValue _).
+    (λ found is. IfSome_then found is (λ delta same. subst (λ (r : ReplicaValue _).
     join greater (meaning r).live (closing.held_state c.args.opened.now.built.entries (has context)) ≡ join greater (meaning r).live (or_map_state delta)) c.self.view_is
     (ap (λ (m : Held). join greater (live_state live) (closing.held_state m (has context))) (sym c.entries.ensures.map)
     ∙ delta_joined c.entries.result.now.hash live c.entries.result.now.map context delta same)))
