@@ -1,7 +1,7 @@
 #!/usr/bin/env python3
 """What a store writes: python3 bench/kept.py [--rows N] [--keys N] [--differ N] [PROGRAM]
 
-PROGRAM is the built crates/kept_replica. First an acknowledged put, beside a row of the same bytes that goes into a table of the same form by Python's
+PROGRAM is the built crates/ginelm_shell. First an acknowledged put, beside a row of the same bytes that goes into a table of the same form by Python's
 sqlite3 module, each in a transaction of its own, with WAL and `synchronous = FULL`; both in one run, in turn. Then what a synchronisation keeps of so
 many keys that differ, beside all that is held.
 """
@@ -12,11 +12,11 @@ import tempfile
 import time
 from pathlib import Path
 
-from stores import BUILT, Store, longest_row, synchronise
+from stores import BUILT, Store, longest_row, spelled, synchronise
 
 
 def put(number, value):
-    return f"put {(b'key %08d' % number).hex()} {value.hex()}"
+    return f"put {spelled(b'key %08d' % number)} {spelled(value)}"
 
 
 def beside_a_row(program, folder, count):

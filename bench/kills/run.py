@@ -1,7 +1,7 @@
 #!/usr/bin/env python3
 """Kills replicas that are kept in files: python3 bench/kills/run.py [--kills N] [--images N] [--fails N] [--turns N] [--seed N] [--short] [PROGRAM]
 
-PROGRAM is the built crates/kept_replica. Four parts: a replica that is killed at random moments; images of power cuts, from a trace of what a
+PROGRAM is the built crates/ginelm_shell. Four parts: a replica that is killed at random moments; images of power cuts, from a trace of what a
 replica wrote and synced; each call on the files failing in turn; and two replicas that exchange messages, of which a quarter is lost, while
 both are killed. In each the store is compacted now and then. What was acknowledged is never lost, no dot and no number of a synchronisation
 comes twice, and the maps are equal in the end. Then the images again with the syncs taken out, where losses have to be found. Its last line
@@ -10,16 +10,23 @@ is 'N passed, M failed'.
 import argparse
 import os
 import random
+import re
 import struct
 import subprocess
+import sys
 import tempfile
 import threading
 import time
 from pathlib import Path
 
 HERE = Path(__file__).resolve().parent
-BUILT = HERE.parent.parent / "crates" / "kept_replica" / "out" / "kept_replica"
+sys.path.insert(0, str(HERE.parent))
+from stores import BUILT, is_last, meant, spelled, start_of, texts  # noqa: E402  (found by the path above)
+
 SUFFIXES = ("", "-wal", "-journal")
+# What is told of a write: its message, and then its dot.
+TOLD = re.compile(rb"^send \* [0-9a-f]+$", re.M)
+MADE = re.compile(r"ok \d+:\d+")
 
 
 def clean(path):
@@ -31,21 +38,27 @@ class Node:
     """A program that holds the replica of a name, started anew where it was killed."""
 
     def __init__(self, program, path, name, extra=None):
-        self.words = [program, path, str(name)]
+        self.words = start_of(program, path, name)
         self.name = name
         self.environment = {**os.environ, **(extra or {})}
         self.process = None
         self.timer = None
-        self.opened = None
+        self.refused = None
 
     def start(self, seconds=None):
-        """Whether it came to its first line, which is in `opened`. It is killed after so many seconds."""
-        self.process = subprocess.Popen(self.words, stdin=subprocess.PIPE, stdout=subprocess.PIPE, stderr=subprocess.DEVNULL, env=self.environment)
+        """Whether it came up, which it says by an answer. Where it refused the file, `refused` has its words. It is killed after so many seconds."""
+        pipe = subprocess.PIPE
+        self.process = subprocess.Popen(self.words, stdin=pipe, stdout=pipe, stderr=pipe, env=self.environment)
         if seconds is not None:
             self.arm(seconds)
+        try:
+            self.write(["size"])
+        except OSError:
+            pass
         line = self.line()
-        self.opened = line
+        self.refused = None
         if line is None:
+            self.refused = self.process.stderr.read().decode().strip() or None
             self.stop()
         return line is not None
 
@@ -54,29 +67,42 @@ class Node:
         self.timer = threading.Timer(seconds, process.kill)
         self.timer.start()
 
+    def write(self, commands):
+        self.process.stdin.write("".join(f"{command}\n" for command in commands).encode())
+        self.process.stdin.flush()
+
     def line(self):
         line = self.process.stdout.readline().decode()
         return line.rstrip("\n") if line.endswith("\n") else None
 
-    def ask(self, command):
-        """The lines of the answer, and whether it was answered to its end."""
-        lines = []
+    def ask(self, *commands):
+        """The lines of the answers, and whether all were answered to their end."""
+        lines, left = [], len(commands)
         try:
-            self.process.stdin.write((command + "\n").encode())
-            self.process.stdin.flush()
-        except (BrokenPipeError, OSError):
-            self.stop()
-            return lines, False
-        while True:
+            self.write(commands)
+        except OSError:
+            left = -1
+        while left > 0:
             line = self.line()
             if line is None:
-                self.stop()
-                return lines, False
-            if line == "end" or line.startswith("no "):
-                if line != "end":
-                    lines.append(line)
-                return lines, True
+                left = -1
+                continue
             lines.append(line)
+            left -= is_last(line)
+        if left < 0:
+            self.stop()
+        return lines, left == 0
+
+    def dump(self):
+        """The values of each key, and whether all were told."""
+        lines, is_whole = self.ask("keys")
+        keys, held = lines[-1].split()[1:] if is_whole else [], {}
+        while keys and is_whole:
+            # So few that they lie in the pipe, whatever they are answered.
+            part, keys = keys[:50], keys[50:]
+            answers, is_whole = self.ask(*(f"values {key}" for key in part))
+            held.update((meant(key), texts(answer)) for key, answer in zip(part, answers))
+        return held, is_whole
 
     def stop(self):
         if self.timer:
@@ -84,26 +110,17 @@ class Node:
             self.timer = None
         if self.process:
             self.process.kill()
-            self.process.stdout.close()
-            try:
-                self.process.stdin.close()
-            except (BrokenPipeError, OSError):
-                pass
+            for stream in (self.process.stdout, self.process.stderr, self.process.stdin):
+                try:
+                    stream.close()
+                except OSError:
+                    pass
             self.process.wait()
             self.process = None
 
 
-def shown(lines):
-    """The map that a dump prints: the values of each key."""
-    held = {}
-    for line in lines:
-        word, _, text = line.partition(" ")
-        if word == "key":
-            held[text] = []
-            key = text
-        elif word == "value":
-            held[key].append(text)
-    return held
+def put(key, value):
+    return f"put {spelled(key)} {spelled(value)}"
 
 
 def pace(program, folder):
@@ -112,7 +129,7 @@ def pace(program, folder):
     clean(path)
     node, begun = Node(program, path, 1), time.monotonic()
     node.start()
-    node.ask("put 6b 76")
+    node.ask(put(b"k", b"v"))
     node.stop()
     return time.monotonic() - begun
 
@@ -136,29 +153,29 @@ def kills(program, folder, rounds, rng, pace):
         is_last = round_number == rounds
         node = Node(program, path, 1)
         if not node.start(None if is_last else pace * (rng.uniform(0, 1) if rng.random() < 0.2 else rng.uniform(1, 5))):
+            if node.refused or is_last:
+                tally.wrong("refused", node.refused)
             continue
-        if not node.opened.startswith("open "):
-            tally.wrong("refused", node.opened)
-            node.stop()
-            continue
-        lines, is_whole = node.ask("dump")
+        held, is_whole = node.dump()
         if is_whole:
-            held = shown(lines)
             for key, value in acknowledged.items():
                 if held.get(key) != [value]:
                     tally.wrong("lost", key, value, held.get(key))
+        elif is_last:
+            tally.wrong("it did not tell all")
         while is_whole and not is_last:
             if rng.random() < 0.1 and not node.ask("compact")[1]:
                 break
             number += 1
-            key, value = f"key {number}".encode().hex(), rng.randbytes(rng.choice((0, 10, 300, 5000))).hex()
-            lines, is_whole = node.ask(f"put {key} {value}")
+            key, value = f"key {number}".encode(), rng.randbytes(rng.choice((0, 10, 300, 5000)))
+            lines, is_whole = node.ask(put(key, value))
             for line in lines:
-                if line.startswith("dot "):
+                if line.startswith("error "):
+                    tally.wrong(line, key)
+                if MADE.fullmatch(line):
                     if line in dots:
                         tally.wrong("a dot twice", line)
                     dots.add(line)
-                if line == "ok":
                     acknowledged[key] = value
         node.stop()
     print(f"kills: {rounds}, {len(acknowledged)} acknowledged writes, {len(tally.faults)} faults", flush=True)
@@ -214,8 +231,8 @@ def traced(program, library, folder, writes, rng):
     wanted = []
     if node.start():
         for number in range(writes):
-            key, value = f"key {number}".encode().hex(), rng.randbytes(rng.choice((1, 50, 900, 9000))).hex()
-            node.ask(f"put {key} {value}")
+            key, value = f"key {number}".encode(), rng.randbytes(rng.choice((1, 50, 900, 9000)))
+            node.ask(put(key, value))
             wanted.append((key, value))
             if number == writes // 2:
                 node.ask("compact")
@@ -225,18 +242,18 @@ def traced(program, library, folder, writes, rng):
 
 
 def images(program, library, folder, count, rng, is_synced=True):
-    """Images of power cuts: what was acknowledged before the cut is in each. With no sync it need not be."""
+    """Images of power cuts: what was told before the cut, as its message, is in each. With no sync it need not be."""
     tally, lost = Tally(), 0
     told, wanted = traced(program, library, folder, 12, rng)
     path = folder / "image.db"
     cuts = sorted(rng.randint(0, len(told)) for _ in range(count))
-    files, acknowledged, at = {1: [bytearray(), []], 2: [bytearray(), []]}, 0, 0
+    files, printed, at = {1: [bytearray(), []], 2: [bytearray(), []]}, b"", 0
     for cut in cuts:
         while at < cut:
             kind, file, place, data = told[at]
             at += 1
             if kind == "P":
-                acknowledged += data.count(b"ok\n")
+                printed += data
             elif kind == "S":
                 if is_synced:
                     for write in files[file][1]:
@@ -244,12 +261,13 @@ def images(program, library, folder, count, rng, is_synced=True):
                     files[file][1] = []
             else:
                 files[file][1].append((kind, place, data))
+        acknowledged = len(TOLD.findall(printed))
         clean(path)
         path.write_bytes(torn(rng, *files[1]))
         Path(f"{path}-wal").write_bytes(torn(rng, *files[2]))
         node = Node(program, path, 1)
-        is_open = node.start() and node.opened.startswith("open ")
-        held = shown(node.ask("dump")[0]) if is_open else {}
+        is_open = node.start()
+        held = node.dump()[0] if is_open else {}
         node.stop()
         missing = [key for key, value in wanted[:acknowledged] if held.get(key) != [value]]
         other = [key for key, values in held.items() if values != [dict(wanted).get(key)]]
@@ -257,7 +275,7 @@ def images(program, library, folder, count, rng, is_synced=True):
             lost += bool(missing) or not is_open
             continue
         if not is_open:
-            tally.wrong("refused", node.opened, "after", acknowledged)
+            tally.wrong("refused", node.refused, "after", acknowledged)
         if missing or other or len(held) > acknowledged + 1:
             tally.wrong("cut", cut, "acknowledged", acknowledged, "lost", missing[:2], "other", other[:2], "held", len(held))
     if not is_synced:
@@ -268,28 +286,31 @@ def images(program, library, folder, count, rng, is_synced=True):
 
 
 def fails(program, library, folder, most, rng):
-    """Each call on the files fails once: the program ends by itself, and what it acknowledged is there after it."""
+    """Each call on the files fails once: the program ends by itself, with status 1 where it did not carry out all, and what it acknowledged is there."""
     tally, path, refused = Tally(), folder / "fails.db", 0
-    words = [(f"key {n}".encode().hex(), rng.randbytes(40 * n).hex()) for n in range(1, 6)]
-    puts = [f"put {key} {value}\n" for key, value in words]
+    words = [(f"key {n}".encode(), rng.randbytes(40 * n)) for n in range(1, 6)]
+    puts = [put(key, value) + "\n" for key, value in words]
     commands = "".join([*puts[:3], "compact\n", *puts[3:]]).encode()
     for how in ("io", "full", "short"):
         for number in range(1, most + 1):
             clean(path)
             extra = {"LD_PRELOAD": str(library), "KILLS_FAIL": str(number), "KILLS_HOW": how}
-            ran = subprocess.run([program, path, "1"], input=commands, stdout=subprocess.PIPE, stderr=subprocess.DEVNULL, env={**os.environ, **extra})
+            ran = subprocess.run(start_of(program, path, 1), input=commands, capture_output=True, env={**os.environ, **extra})
             printed = ran.stdout.decode().splitlines()
-            if ran.returncode < 0:
+            acknowledged = sum(bool(MADE.fullmatch(line)) for line in printed)
+            if ran.returncode != (acknowledged < len(words)):
                 tally.wrong("status", ran.returncode, how, number)
-            acknowledged = printed.count("ok")
+            # The last that it says is why, where it came up.
+            if acknowledged < len(words) and not (printed[-1].startswith("error ") if printed else ran.stderr):
+                tally.wrong("no error", printed[-1:], how, number)
             refused += acknowledged < len(words)
             node = Node(program, path, 1)
-            is_open = node.start() and node.opened.startswith("open ")
-            held = shown(node.ask("dump")[0]) if is_open else {}
+            is_open = node.start()
+            held = node.dump()[0] if is_open else {}
             node.stop()
             missing = [key for key, value in words[:acknowledged] if held.get(key) != [value]]
             if missing or not is_open:
-                tally.wrong(how, number, "acknowledged", acknowledged, "lost", missing, "opened", node.opened)
+                tally.wrong(how, number, "acknowledged", acknowledged, "lost", missing, "refused", node.refused)
     print(f"failing calls: {3 * most}, {refused} of them seen by the program, {len(tally.faults)} faults", flush=True)
     return not tally.faults
 
@@ -314,8 +335,8 @@ class Pair:
                 return node
             is_doomed = not self.is_quiet and self.rng.random() < 0.9
             self.killed += is_doomed
-            if node.start(self.pace * self.rng.uniform(0, 5) if is_doomed else None) and not node.opened.startswith("open "):
-                self.tally.wrong("refused", name, node.opened)
+            if not node.start(self.pace * self.rng.uniform(0, 5) if is_doomed else None) and node.refused:
+                self.tally.wrong("refused", name, node.refused)
         return node
 
     def post(self, name, text):
@@ -325,39 +346,40 @@ class Pair:
             if not self.is_quiet and chance > 0.95:
                 self.boxes[3 - name].append(text)
 
-    def ask(self, name, command, meant=None):
-        lines, is_whole = self.up(name).ask(command)
+    def ask(self, name, command, wrote=None):
+        lines, _ = self.up(name).ask(command)
         for line in lines:
-            word, _, text = line.partition(" ")
+            word, *rest = line.split()
             if word == "send":
-                self.post(name, text)
-            elif word == "dot":
-                if text in self.dots:
-                    self.tally.wrong("a dot twice", text, meant, self.dots[text])
-                self.dots[text] = meant
-            elif word == "asked":
-                if int(text) <= self.last[name]:
-                    self.tally.wrong("a number twice", name, text)
-                self.last[name] = int(text)
-            elif word == "ok" and meant:
-                self.acknowledged[meant[0]] = meant[1]
-            elif word in ("no", "failed") and "SessionsFull" not in line:
+                self.post(name, rest[1])
+            elif word == "ok" and wrote:
+                (dot,) = rest
+                if dot in self.dots:
+                    self.tally.wrong("a dot twice", dot, wrote, self.dots[dot])
+                self.dots[dot] = wrote
+                self.acknowledged[wrote[0]] = wrote[1]
+            elif word == "session":
+                if int(rest[0]) <= self.last[name]:
+                    self.tally.wrong("a number twice", name, rest)
+                self.last[name] = int(rest[0])
+            elif word == "error" and rest != ["SessionsFull"]:
                 self.tally.wrong(name, command[:40], line)
-        if "no SessionsFull" in lines:
+        if "error SessionsFull" in lines:
             self.nodes[name].stop()
-        return lines
 
     def turn(self, number):
         name = self.rng.choice((1, 2))
         chance = self.rng.random()
         if chance < 0.3:
             own = f"key {number}" if self.rng.random() < 0.7 else f"shared {self.rng.randint(0, 9)}"
-            key, value = own.encode().hex(), f"value {number}".encode().hex()
-            self.ask(name, f"put {key} {value}", (key, value) if own.startswith("key") else (None, value))
+            key, value = own.encode(), f"value {number}".encode()
+            self.ask(name, put(key, value), (key if own.startswith("key") else None, value))
         elif chance < 0.36:
             self.ask(name, f"ask {3 - name}")
         elif chance < 0.38:
             self.ask(name, "compact")
+        elif chance < 0.39:
+            self.ask(name, f"abandon {self.last[name]}")
         elif self.boxes[name]:
             place = self.rng.randrange(len(self.boxes[name]))
             self.ask(name, "take " + self.boxes[name].pop(place))
@@ -385,7 +407,7 @@ def pairs(program, folder, turns, rng, pace):
     held = {}
     for name in (1, 2):
         pair.nodes[name].stop()
-        held[name] = shown(pair.ask(name, "dump"))
+        held[name] = pair.up(name).dump()[0]
         pair.nodes[name].stop()
     if held[1] != held[2]:
         pair.tally.wrong("the maps differ", len(held[1]), len(held[2]))

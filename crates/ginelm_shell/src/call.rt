@@ -19,6 +19,11 @@ pub(crate) const CALLS: &[(&str, &str, &str)] = &[
         "takes away what was seen at the field",
     ),
     ("clear", "clear", "takes away all that was seen"),
+    (
+        "replace",
+        "replace KEY VALUE OTHER",
+        "in a file: writes the value on the key and takes away what was seen at OTHER, at once",
+    ),
     ("get", "get KEY", "the values of the key"),
     ("getf", "getf KEY FIELD", "the values of the field"),
     (
@@ -62,6 +67,11 @@ pub(crate) const CALLS: &[(&str, &str, &str)] = &[
         "sessions",
         "sessions",
         "the synchronisations that are open, by number, with the replicas that answer",
+    ),
+    (
+        "compact",
+        "compact",
+        "in a file: keeps the replica anew, so that the file is as small as the map",
     ),
     ("help", "help", "this"),
 ];

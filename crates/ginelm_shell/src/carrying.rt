@@ -1,35 +1,36 @@
 // The calls by which replicas exchange messages. What is to be sent is written before the answer, a line a message: `send`, the name of the
 // replica that it is for or `*` for everyone, and its bytes.
 use crate::fault::Fault;
+use crate::keeper::Keeper;
 use crate::word::{hex, name, number};
-use ginelm::{Letter, Outcome, Replica, Taken, decode};
+use ginelm::{Letter, Name, Outcome, Replica, Taken};
 use std::alloc::Global;
 use std::io;
 
 /// Carries out a call that sends or takes. Whether it is one.
-pub(crate) fn carry_out(
+pub(crate) fn carry_out<K: Keeper>(
     rt: &impl Print,
     alloc: Global,
-    replica: &mut Replica,
+    kept: &mut K,
     verb: &[u8],
     rest: &[&[u8]],
 ) -> Result<bool, Fault> {
     match (verb, rest) {
-        (b"flush", []) => flush(rt, alloc, replica)?,
-        (b"take", [digits]) => take(rt, alloc, replica, &hex(alloc, digits)?)?,
-        (b"ask", [peer]) => ask(rt, alloc, replica, peer)?,
-        (b"retry", [word]) => retry(rt, alloc, replica, word)?,
-        (b"abandon", [word]) => abandon(rt, replica, word)?,
-        (b"sessions", []) => sessions(rt, replica)?,
+        (b"flush", []) => flush(rt, alloc, kept)?,
+        (b"take", [digits]) => take(rt, alloc, kept, &hex(alloc, digits)?)?,
+        (b"ask", [peer]) => ask(rt, alloc, kept, peer)?,
+        (b"retry", [word]) => retry(rt, alloc, kept.replica(), word)?,
+        (b"abandon", [word]) => abandon(rt, alloc, kept, word)?,
+        (b"sessions", []) => sessions(rt, kept.replica())?,
         _ => return Ok(false),
     }
     Ok(true)
 }
 
-fn flush(rt: &impl Print, alloc: Global, replica: &mut Replica) -> Result<(), Fault> {
-    match replica.flush_bytes()? {
+fn flush<K: Keeper>(rt: &impl Print, alloc: Global, kept: &mut K) -> Result<(), Fault> {
+    match kept.unsent()? {
         Some(letter) => {
-            send(rt, alloc, &letter)?;
+            send(rt, alloc, letter.to, &letter.bytes)?;
             println!(rt; "ok 1")?;
         }
         None => println!(rt; "ok 0")?,
@@ -37,23 +38,25 @@ fn flush(rt: &impl Print, alloc: Global, replica: &mut Replica) -> Result<(), Fa
     Ok(())
 }
 
-fn take(rt: &impl Print, alloc: Global, replica: &mut Replica, bytes: &[u8]) -> Result<(), Fault> {
-    if tells_of_loss(alloc, replica, bytes)? {
-        return Err(Fault::Lost);
-    }
-    let taken = replica.take_bytes(bytes)?;
+fn take<K: Keeper>(
+    rt: &impl Print,
+    alloc: Global,
+    kept: &mut K,
+    bytes: &[u8],
+) -> Result<(), Fault> {
+    let taken = kept.receive(alloc, bytes)?;
     took(rt, alloc, &taken)
 }
 
-fn ask(rt: &impl Print, alloc: Global, replica: &mut Replica, peer: &[u8]) -> Result<(), Fault> {
+fn ask<K: Keeper>(rt: &impl Print, alloc: Global, kept: &mut K, peer: &[u8]) -> Result<(), Fault> {
     let peer = name(peer).ok_or(Fault::Words)?;
-    let (opened, letter) = replica.ask_bytes(peer)?;
-    send(rt, alloc, &letter)?;
+    let (opened, letter) = kept.synchronise(alloc, peer)?;
+    send(rt, alloc, letter.to, &letter.bytes)?;
     println!(rt; "session {opened}")?;
     Ok(())
 }
 
-fn retry(rt: &impl Print, alloc: Global, replica: &mut Replica, word: &[u8]) -> Result<(), Fault> {
+fn retry(rt: &impl Print, alloc: Global, replica: &Replica, word: &[u8]) -> Result<(), Fault> {
     let session = number(word).ok_or(Fault::Words)?;
     let (outcome, letters) = replica.retry_bytes(session)?;
     send_all(rt, alloc, &letters)?;
@@ -61,17 +64,16 @@ fn retry(rt: &impl Print, alloc: Global, replica: &mut Replica, word: &[u8]) -> 
     Ok(())
 }
 
-fn abandon(rt: &impl Print, replica: &mut Replica, word: &[u8]) -> Result<(), Fault> {
+fn abandon<K: Keeper>(
+    rt: &impl Print,
+    alloc: Global,
+    kept: &mut K,
+    word: &[u8],
+) -> Result<(), Fault> {
     let session = number(word).ok_or(Fault::Words)?;
-    let was_open = replica.abandon(session);
+    let was_open = kept.give_up(alloc, session)?;
     println!(rt; "{}", if was_open { "ok" } else { "ignored" })?;
     Ok(())
-}
-
-// Whether the message knows a write of the replica's name that the replica does not know.
-fn tells_of_loss(alloc: Global, replica: &Replica, bytes: &[u8]) -> Result<bool, Fault> {
-    let message = decode(alloc, bytes)?;
-    Ok(replica.has_lost(&message))
 }
 
 fn took(rt: &impl Print, alloc: Global, taken: &Taken) -> Result<(), Fault> {
@@ -87,14 +89,20 @@ fn took(rt: &impl Print, alloc: Global, taken: &Taken) -> Result<(), Fault> {
 
 fn send_all(rt: &impl Print, alloc: Global, letters: &[Letter]) -> Result<(), Fault> {
     for letter in letters {
-        send(rt, alloc, letter)?;
+        send(rt, alloc, letter.to, &letter.bytes)?;
     }
     Ok(())
 }
 
-fn send(rt: &impl Print, alloc: Global, letter: &Letter) -> Result<(), Fault> {
-    let digits = hex::encode(alloc, &letter.bytes)?;
-    match letter.to {
+/// Tells a message that is to be sent to this replica, or to everyone.
+pub(crate) fn send(
+    rt: &impl Print,
+    alloc: Global,
+    to: Option<Name>,
+    bytes: &[u8],
+) -> Result<(), Fault> {
+    let digits = hex::encode(alloc, bytes)?;
+    match to {
         Some(name) => println!(rt; "send {name} {digits}")?,
         None => println!(rt; "send * {digits}")?,
     }

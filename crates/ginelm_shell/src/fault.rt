@@ -1,4 +1,5 @@
 use ginelm::Refusal;
+use replica_store::StoreError;
 use std::alloc::AllocError;
 use std::io;
 
@@ -11,6 +12,10 @@ pub(crate) enum Fault {
     Refused(Refusal),
     /// A message knows a write of the replica's name that the replica does not know.
     Lost,
+    /// The call is of a file, and the replica is kept in none.
+    Unkept,
+    /// The file failed, so that nothing more is carried out.
+    Failed(StoreError),
     /// The answer could not be written.
     Output(io::Error),
 }
@@ -18,6 +23,16 @@ pub(crate) enum Fault {
 impl From<Refusal> for Fault {
     fn from(refusal: Refusal) -> Fault {
         Fault::Refused(refusal)
+    }
+}
+
+impl From<StoreError> for Fault {
+    fn from(error: StoreError) -> Fault {
+        match error {
+            StoreError::Refused(refusal) => Fault::Refused(refusal),
+            StoreError::LostMemory => Fault::Lost,
+            _ => Fault::Failed(error),
+        }
     }
 }
 

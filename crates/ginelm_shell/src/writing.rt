@@ -1,67 +1,141 @@
 // The calls that write.
+use crate::carrying::send;
 use crate::fault::Fault;
+use crate::keeper::Keeper;
 use crate::word::{field, key, value};
-use ginelm::{Dot, Replica};
+use ginelm::Field;
+use replica_store::{ToWrite, Written, Wrote};
 use std::alloc::Global;
 use std::io;
 
 /// Carries out a call that writes. Whether it is one.
-pub(crate) fn carry_out(
+pub(crate) fn carry_out<K: Keeper>(
     rt: &impl Print,
     alloc: Global,
-    replica: &mut Replica,
+    kept: &mut K,
     verb: &[u8],
     rest: &[&[u8]],
 ) -> Result<bool, Fault> {
     match (verb, rest) {
-        (b"put", [at, text]) => wrote(rt, put(alloc, replica, at, text)?)?,
-        (b"putf", [at, within, text]) => wrote(rt, put_field(alloc, replica, at, within, text)?)?,
-        (b"remove", [at]) => observed(rt, remove(alloc, replica, at)?)?,
-        (b"removef", [at, within]) => observed(rt, remove_field(alloc, replica, at, within)?)?,
-        (b"clear", []) => observed(rt, replica.clear()?)?,
+        (b"put", [at, text]) => put(rt, alloc, kept, at, text)?,
+        (b"putf", [at, within, text]) => put_field(rt, alloc, kept, at, within, text)?,
+        (b"remove", [at]) => remove(rt, alloc, kept, at)?,
+        (b"removef", [at, within]) => remove_field(rt, alloc, kept, at, within)?,
+        (b"clear", []) => write(rt, alloc, kept, &ToWrite::Clear)?,
+        (b"replace", [at, text, other]) => replace(rt, alloc, kept, at, text, other)?,
+        (b"compact", []) => compact(rt, alloc, kept)?,
         _ => return Ok(false),
     }
     Ok(true)
 }
 
-fn put(alloc: Global, replica: &mut Replica, at: &[u8], text: &[u8]) -> Result<Dot, Fault> {
+fn put<K: Keeper>(
+    rt: &impl Print,
+    alloc: Global,
+    kept: &mut K,
+    at: &[u8],
+    text: &[u8],
+) -> Result<(), Fault> {
     let (at, text) = (key(alloc, at)?, value(alloc, text)?);
-    Ok(replica.put(&at, &text)?)
+    let within = Field::empty();
+    write(rt, alloc, kept, &ToWrite::Put(&at, &within, &text))
 }
 
-fn put_field(
+fn put_field<K: Keeper>(
+    rt: &impl Print,
     alloc: Global,
-    replica: &mut Replica,
+    kept: &mut K,
     at: &[u8],
     within: &[u8],
     text: &[u8],
-) -> Result<Dot, Fault> {
+) -> Result<(), Fault> {
     let (at, within, text) = (key(alloc, at)?, field(alloc, within)?, value(alloc, text)?);
-    Ok(replica.put_field(&at, &within, &text)?)
+    write(rt, alloc, kept, &ToWrite::Put(&at, &within, &text))
 }
 
-fn remove(alloc: Global, replica: &mut Replica, at: &[u8]) -> Result<u64, Fault> {
+fn remove<K: Keeper>(rt: &impl Print, alloc: Global, kept: &mut K, at: &[u8]) -> Result<(), Fault> {
     let at = key(alloc, at)?;
-    Ok(replica.remove(&at)?)
+    write(rt, alloc, kept, &ToWrite::Remove(&at))
 }
 
-fn remove_field(
+fn remove_field<K: Keeper>(
+    rt: &impl Print,
     alloc: Global,
-    replica: &mut Replica,
+    kept: &mut K,
     at: &[u8],
     within: &[u8],
-) -> Result<u64, Fault> {
+) -> Result<(), Fault> {
     let (at, within) = (key(alloc, at)?, field(alloc, within)?);
-    Ok(replica.remove_field(&at, &within)?)
+    write(rt, alloc, kept, &ToWrite::RemoveField(&at, &within))
 }
 
-// Tells how many writes a call observed.
-fn observed(rt: &impl Print, number: u64) -> io::Result<()> {
-    println!(rt; "ok {number}")
+fn replace<K: Keeper>(
+    rt: &impl Print,
+    alloc: Global,
+    kept: &mut K,
+    at: &[u8],
+    text: &[u8],
+    other: &[u8],
+) -> Result<(), Fault> {
+    let (at, text, other) = (key(alloc, at)?, value(alloc, text)?, key(alloc, other)?);
+    let within = Field::empty();
+    let writes = [ToWrite::Put(&at, &within, &text), ToWrite::Remove(&other)];
+    write_all(rt, alloc, kept, &writes)
 }
 
-// Tells the dot of a write.
-fn wrote(rt: &impl Print, dot: Dot) -> io::Result<()> {
-    let (name, number) = (dot.name(), dot.number());
-    println!(rt; "ok {name}:{number}")
+fn compact<K: Keeper>(rt: &impl Print, alloc: Global, kept: &mut K) -> Result<(), Fault> {
+    kept.tidy(alloc)?;
+    println!(rt; "ok")?;
+    Ok(())
+}
+
+// Makes a write, and tells it.
+fn write<K: Keeper>(
+    rt: &impl Print,
+    alloc: Global,
+    kept: &mut K,
+    it: &ToWrite<'_>,
+) -> Result<(), Fault> {
+    let Written { answer, delta } = kept.make(alloc, it)?;
+    tell(rt, alloc, &delta, &[answer])
+}
+
+// Makes several writes at once, and tells them.
+fn write_all<K: Keeper>(
+    rt: &impl Print,
+    alloc: Global,
+    kept: &mut K,
+    all: &[ToWrite<'_>],
+) -> Result<(), Fault> {
+    let Written { answer, delta } = kept.make_all(alloc, all)?;
+    tell(rt, alloc, &delta, &answer)
+}
+
+// Tells what is to be sent to everyone, and then what the writes are answered.
+fn tell(
+    rt: &impl Print,
+    alloc: Global,
+    delta: &Option<Vec<u8>>,
+    answers: &[Wrote],
+) -> Result<(), Fault> {
+    if let Some(bytes) = delta {
+        send(rt, alloc, None, bytes)?;
+    }
+    print!(rt; "ok")?;
+    for answer in answers {
+        answered(rt, *answer)?;
+    }
+    println!(rt; "")?;
+    Ok(())
+}
+
+// Tells the dot of a put, or how many writes another write observed.
+fn answered(rt: &impl Print, answer: Wrote) -> io::Result<()> {
+    match answer {
+        Wrote::Made(dot) => {
+            let (name, number) = (dot.name(), dot.number());
+            print!(rt; " {name}:{number}")
+        }
+        Wrote::Counted(number) => print!(rt; " {number}"),
+    }
 }
