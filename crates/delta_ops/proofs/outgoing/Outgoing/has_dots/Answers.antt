@@ -1,5 +1,5 @@
 use Rattle.std.proofs.Common.{◌≡◌, List, false, refl, sym, ap, subst, ◌∙◌}
-use Rattle.ordered_list.proofs.Places.{take_all}
+use Rattle.std.proofs.lemmas.List.{take_all}
 use Rattle.causal_context.specs.Context.{HasNone}
 use Rattle.causal_join.specs.OrMap.{OrMapValue}
 use Rattle.delta_ops.specs.Group.{group_state}
@@ -23,7 +23,7 @@ returns-then-not-is_empty g c = (
 
 pub returns : goal.returns
 returns g c =
-    let all = take_all c.deref-delta-items.result.now c.loop-delta.delta-index c.loop-delta-test.false in
+    let all = take_all c.loop-delta.delta-index c.deref-delta-items.result.now c.loop-delta-test.false in
     let same = ap deltas_of all ∙ ap deltas_of c.deref-delta-items.ensures.value ∙ c.self.view_is in
     let none = subst (λ (group : List OrMapValue). (d : DotValue) → (group_state group).has d ≡ false) same c.loop-delta.invariant in
     (λ h. absurd (cc h), λ h. absurd (h none))
