@@ -1,5 +1,5 @@
 -- A delta that brings what the end of an own session joins in.
-use Rattle.std.proofs.Common.{◌≡◌, ◌⊎◌, inl, ℕ, List, [], Bool, true, Option, IfSome, cond, sym, ap, ◌∙◌, subst}
+use Rattle.std.proofs.Common.{◌≡◌, inl, ℕ, List, [], true, Option, IfSome, cond, sym, ap, ◌∙◌, subst}
 use Rattle.std.specs.Prelude.{◌==◌}
 use Rattle.std.proofs.lemmas.Bool.{eq-eqb}
 use Rattle.std.proofs.lemmas.Option.{IfSome_then}
@@ -17,7 +17,7 @@ use Rattle.replica_model.proofs.States.{same_is}
 use Rattle.sync_model.specs.Closing as closing
 use Rattle.sync_model.specs.Differ.{Held}
 use Rattle.trie_map.specs.Keyed.{at_keys}
-use Rattle.wire_form.specs.Message.{MessageValue, Opening, Page, Gone}
+use Rattle.wire_form.specs.Message.{MessageValue, Opening, Page}
 use Rattle.wire_form.specs.Sent.{SentValue}
 use Rattle.wire_form.specs.Session.{SessionValue, same_session}
 use Rattle.sync_protocol.specs.Asking.{AskerState, AskerValue, IsFrom, stage_with, asker_state}

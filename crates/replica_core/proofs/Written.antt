@@ -1,5 +1,5 @@
 -- Letters of messages: over plain variables.
-use Rattle.std.proofs.Common.{◌≡◌, ℕ, ◌+◌, ◌<◌, ◌≤◌, zero, suc, List, [], ◌∷◌, ◌++◌, map, length, drop, get_or, Some, None, inl, inr, refl, sym, ap, ◌∙◌, subst}
+use Rattle.std.proofs.Common.{◌≡◌, ℕ, ◌+◌, ◌<◌, ◌≤◌, suc, List, [], ◌∷◌, ◌++◌, map, length, drop, get_or, Some, None, inl, inr, refl, sym, ap, ◌∙◌, subst}
 use Rattle.std.proofs.Common.{append_assoc, arith}
 use Rattle.std.specs.Prelude.{Option}
 use Rattle.std.proofs.lemmas.List.{append-nil, map-append}
@@ -13,7 +13,7 @@ use Rattle.replica_model.specs.Mail.{Mail, mail_of}
 use Rattle.replica_model.specs.Replica.{Open}
 use Rattle.replica_model.specs.Step.{Act, Answer}
 use Rattle.replica_core.specs.declared.letter.Letter.{Letter}
-use Rattle.replica_core.specs.Carrying.{AreLetters, Gains, IsLetter, Sends, letter_of, letter_or_none, letters_of}
+use Rattle.replica_core.specs.Carrying.{AreLetters, Gains, IsLetter, Sends, letter_of, letters_of}
 use Rattle.replica_core.specs.Meaning.{ReplicaValue, open_of}
 use Rattle.replica_core.specs.Own.{numbers}
 use Rattle.replica_core.specs.Stepping.{Steps, mail_or_none, mails_of, message_or_none}
