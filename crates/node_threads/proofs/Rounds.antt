@@ -44,7 +44,7 @@ waits_for_nothing b r h e dot = by (r.group.has dot) refl
     by true is = absurd (not_so b h e (λ none. true≢false (sym is ∙ none dot)))
 
 module _ {A : Type 0} where
-  place : NodeEvent A → ℕ
+  abbrev place : NodeEvent A → ℕ
   place e = e.place
 
   pub not_called_yet : (old mid new : Seat (NodeEvent A)) → HasNotCalled place old mid → HasNotCalled place mid new → HasNotCalled place old new

@@ -14,7 +14,7 @@ returns-then-not-inspect g c =
 pub returns-in-Ok : goal.returns-in-Ok
 returns-in-Ok g c =
     let n = c.spread-unsent.result in
-    let flushed = flushed_then g.K.Naming.first c.args.client.now c.inspect.new.client c.flush.new.client c.in-Ok.sent c.inspect.ensures.own
+    let flushed = flushed_then g.K.Naming.first c.args.client.now c.inspect.new.self c.flush.new.client c.in-Ok.sent c.inspect.ensures.own
     c.in-Ok.ensures.flushed in (
       Taken n 0 ∷ [],
       inl (n, c.in-Ok.sent, refl, flushed, c.spread-unsent.ensures),
@@ -23,5 +23,5 @@ returns-in-Ok g c =
 
 pub returns-in-Err : goal.returns-in-Err
 returns-in-Err g c =
-    let not_made = not_called_yet c.args.client.now c.inspect.new.client c.flush.new.client c.inspect.ensures.own c.in-Err.ensures.not_made in
+    let not_made = not_called_yet c.args.client.now c.inspect.new.self c.flush.new.client c.inspect.ensures.own c.in-Err.ensures.not_made in
     (Refused ∷ [], inr (inr (refl, not_made, refl)), (refl, refl, refl))
