@@ -7,9 +7,7 @@ use crate::nodes::{Caller, One, Seen, Shared, ended, next, node};
 use crate::trial::{Trial, is_as_often, refusals, wanted};
 use dots::{Name, Refusal};
 use linked_list_allocator::LocalHeap;
-use node_threads::{
-    Naming, NodeEvent, Post, Resent, Served, TimedPost, send_again, serve, serve_timed,
-};
+use node_threads::{Naming, NodeEvent, Post, Resent, Served, send_again, serve};
 use root_cell::OpenedBook;
 use std::alloc::{Allocator, Global};
 use std::marker;
@@ -17,7 +15,7 @@ use std::panic::Expect;
 use std::process::Abort;
 use std::sync::Wait;
 
-// What is done by a post, at a node of the replica 1, which has put v on a, and, but where it sends by itself, has opened the synchronisation 1 with 2.
+// What is done by a post, at a node of the replica 1, which has put v on a, and has opened the synchronisation 1 with 2.
 #[derive(Clone, Copy, PartialEq, Eq)]
 enum Act {
     // A hello comes, and the reply is sent.
@@ -25,8 +23,6 @@ enum Act {
     // It comes, and there is no memory for the reply.
     Lose,
     SendAgain,
-    // A time is due, and what was put is sent to all.
-    SendByItself,
 }
 
 // The hello of replica 2 to replica 1, session 1, which knows nothing.
@@ -66,53 +62,6 @@ impl Post for Once {
     }
 }
 
-// A post by which nothing comes, which is due once, and which counts what is sent to all.
-#[derive(Clone, Copy, Drop)]
-struct DueOnce {
-    was_due: bool,
-    is_over: bool,
-    sent: u64,
-}
-
-impl Post for DueOnce {
-    ghost receives = { λ old new bytes. Unit {0} };
-
-    ghost sends = { λ old new to bytes. Unit {0} };
-
-    ghost rests = { λ old new. Unit {0} };
-
-    ghost ends = { λ old new. Unit {0} };
-
-    fn receive<T: Wait>(&mut self, _rt: &T) -> Option<Vec<u8>> {
-        self.is_over = self.was_due;
-        self.was_due = true;
-        None
-    }
-
-    fn send<T: Wait>(&mut self, _rt: &T, _to: Name, _bytes: &[u8]) -> bool {
-        false
-    }
-}
-
-impl TimedPost for DueOnce {
-    ghost use Rattle.std.specs.Prelude.{IsTrue};
-
-    ghost over = { λ post. IsTrue post.is_over };
-
-    ghost spreads = { λ old new bytes. Unit {0} };
-
-    ghost misses = { λ old new. Unit {0} };
-
-    fn is_over(&self) -> bool {
-        self.is_over
-    }
-
-    fn spread<T: Wait>(&mut self, _rt: &T, _bytes: &[u8]) -> bool {
-        self.sent = self.sent.saturating_add(1);
-        true
-    }
-}
-
 // What these trials ask of a client. They see it as no more than this, as a check of what holds a client grows with the depth of its type.
 trait Server {
     type Heap: Allocator + Copy;
@@ -127,14 +76,6 @@ trait Server {
         heap: Self::Heap,
         post: &mut P,
     ) -> Result<Resent, Refusal>;
-
-    // What became of what was to be sent each time that this post was due, until it was over.
-    fn send_by_itself<T: Wait, P: TimedPost>(
-        &mut self,
-        rt: &T,
-        heap: Self::Heap,
-        post: &mut P,
-    ) -> Resent;
 
     // It takes no memory.
     fn see_all<T: Wait>(&mut self, rt: &T) -> Result<Seen, Refusal>;
@@ -154,10 +95,6 @@ impl<K: Naming, R: Wait + Drop, A: Allocator + Copy> Server for One<K, R, A> {
         post: &mut P,
     ) -> Result<Resent, Refusal> {
         send_again(rt, heap, self, post)
-    }
-
-    fn send_by_itself<T: Wait, P: TimedPost>(&mut self, rt: &T, heap: A, post: &mut P) -> Resent {
-        serve_timed(rt, heap, self, post).sent
     }
 
     fn see_all<T: Wait>(&mut self, rt: &T) -> Result<Seen, Refusal> {
@@ -180,7 +117,6 @@ impl<'r, S: Server, R: Wait> Trial for Serving<'r, S, R> {
     fn attempt(&mut self) -> Result<(), Refusal> {
         match self.act {
             Act::SendAgain => self.send_again(),
-            Act::SendByItself => self.send_by_itself(),
             _ => self.serve(),
         }
     }
@@ -205,17 +141,6 @@ impl<'r, S: Server, R: Wait> Serving<'r, S, R> {
         let told = self.server.send_again(self.rt, self.heap, &mut post)?;
         wanted(told.unsent == 0)?;
         self.counted(told.refused, told.lost, post.sent)
-    }
-
-    fn send_by_itself(&mut self) -> Result<(), Refusal> {
-        let mut post = DueOnce {
-            was_due: false,
-            is_over: false,
-            sent: 0,
-        };
-        let told = self.server.send_by_itself(self.rt, self.heap, &mut post);
-        wanted((told.unsent, told.lost) == (0, 0))?;
-        self.counted(told.refused, 0, post.sent)
     }
 
     // It is refused, and nothing is sent; or it is made, and its message is lost, or sent.
@@ -308,9 +233,7 @@ fn tried<R: Wait + Abort + Copy + Drop, A: Allocator + Copy>(
 ) -> usize {
     let mut here = replica(&rt, alloc, heap, 1);
     put(heap, &mut *here, b"a", b"v").expect(&rt, "a put");
-    if act != Act::SendByItself {
-        drop(asked(&rt, alloc, &mut *here, 2));
-    }
+    drop(asked(&rt, alloc, &mut *here, 2));
     let copy = here.copy().expect(&rt, "memory");
     tried_at_this_node::<marker::Brand, R, A>(rt, alloc, small, heap, OpenedBook::new(), copy, act)
 }
@@ -320,7 +243,6 @@ const ROWS: &[(&str, Act, usize)] = &[
     ("a message is served", Act::Serve, 4),
     ("its reply is lost", Act::Lose, 1),
     ("what is open sends again", Act::SendAgain, 4),
-    ("what was put is sent", Act::SendByItself, 4),
 ];
 
 #[test]
