@@ -25,7 +25,7 @@ REPLICAS = range(1, 7)
 KEYS = ["#", "#00ff"] + [f"k{number}" for number in range(1, 39)]
 FIELDS = ["#", "f", "g", "port"]
 LOST = (3, 8)  # the messages that no line delivers, where only some do
-# Lines that are refused where replica 1 alone is there, with one pin and no message.
+# Lines that are refused where replica 1 alone is there, with one pin and no message. All but the last, a key that is too long, end the trace.
 FAULTS = ["look 2 a", "put 1 a", "no such line", "get 2 a", "node 1", "deliver 1 1", f"put 1 {'k' * 65536} v"]
 
 
