@@ -19,7 +19,7 @@ sys.path.append(str(BENCH.parent / "c"))
 from library import command, kit  # noqa: E402  (found by the path above)
 
 LINE = re.compile(r"(\d+) reads, (\d+) writes, the longest read (\d+) ns")
-USES = ["node_threads", "shared_object", "root_cell", "replica_model", "dots", "anyhow"]
+USES = ["node_threads", "shared_object", "root_cell", "replica_core", "replica_model", "dots", "anyhow"]
 
 
 def unpacked(folder):

@@ -14,8 +14,10 @@ same_form a b = pointwise (λ (p q : ℕ × ℕ). (p.0 == q.0) && (p.1 == q.1)) 
 pub same_form_equiv : IsEquivalence same_form
 same_form_equiv =
     and_equiv
-    (on_equiv (λ (c : ContextValue). c.vector) (lists_equiv (and_equiv (on_equiv (λ (p : ℕ × ℕ). p.0) nat_eq_equiv) (on_equiv (λ (p : ℕ × ℕ). p.1) nat_eq_equiv))))
-    (on_equiv (λ (c : ContextValue). c.cloud) (lists_equiv (and_equiv (on_equiv (λ (d : DotValue). d.name) nat_eq_equiv) (on_equiv (λ (d : DotValue). d.number) nat_eq_equiv))))
+    (on_equiv (λ (c : ContextValue). c.vector) (lists_equiv
+    (and_equiv (on_equiv (λ (p : ℕ × ℕ). p.0) nat_eq_equiv) (on_equiv (λ (p : ℕ × ℕ). p.1) nat_eq_equiv))))
+    (on_equiv (λ (c : ContextValue). c.cloud) (lists_equiv (and_equiv (on_equiv (λ (d : DotValue). d.name) nat_eq_equiv)
+    (on_equiv (λ (d : DotValue). d.number) nat_eq_equiv))))
 
 -- at canonical forms it decides whether they have the same dots
 abbrev pub EqualityIsThatOfSets : Type 0

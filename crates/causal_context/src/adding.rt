@@ -66,7 +66,7 @@ pub(crate) fn raise<A: Allocator + Copy>(
         ≡ (same_dot dot d || is_known vector.old cloud.now d) }
     ensures canonical { IsCanonical (record { vector = vector.new; cloud = cloud.now }) }
 {
-    // The cloud is spoken of in the contract alone.
+    // proof: the clauses speak of the cloud, and nothing else does.
     let _ = cloud;
     let name = dot.name();
     vector.replace(&name, dot.number());

@@ -25,7 +25,8 @@ module _ {V : Type 0} where
   at_values values place dot = lookup (same_dot dot) values
 
   -- what the join of two maps from dots to values holds at a dot
-  abbrev pub joined_value : (V → V → V) → (mine : DotValue → Option V) (own : DotValue → Bool) (yours : DotValue → Option V) (theirs : DotValue → Bool) → DotValue → Option V
+  abbrev pub joined_value : (V → V → V) → (mine : DotValue → Option V) (own : DotValue → Bool) (yours : DotValue → Option V)
+      (theirs : DotValue → Bool) → DotValue → Option V
   joined_value greater mine own yours theirs dot = joined greater (mine dot) (own dot) (yours dot) (theirs dot)
 
 -- each store of a map has the form of its kind
@@ -64,4 +65,5 @@ module _ {S P H : Type 0} (at : S → P → DotValue → Option H) where
   -- at each other key yours has no store, and mine none that holds one of these dots
   pub record IsOnlyKey {K : Type 0} (cmp : K → K → Ordering) (mine yours : List (K × S)) (dots : List DotValue) (key : K) : Type 0 where
     pub yours_none : (q : K) → is_eq (cmp key q) ≡ false → lookup (is_at (cmp q)) yours ≡ None
-    pub mine_apart : (q : K) (store : S) → is_eq (cmp key q) ≡ false → lookup (is_at (cmp q)) mine ≡ Some store → (place : P) (dot : DotValue) → Contains dots dot → at store place dot ≡ None
+    pub mine_apart : (q : K) (store : S) → is_eq (cmp key q) ≡ false → lookup (is_at (cmp q)) mine ≡ Some store → (place : P) (dot : DotValue)
+        → Contains dots dot → at store place dot ≡ None

@@ -44,7 +44,7 @@ pub use dots::{Dot, Field, Key, Name, Refusal, Value};
 pub use hash_path::{Fnv1a, PathHash};
 pub use map_changes::changes;
 pub use prefix_digest::FrozenMap;
-pub use replica_core::{Checkpoint, Delivered, Letter, Outcome, Replica, Taken};
+pub use replica_core::{Checkpoint, Delivered, Letter, Outcome, Replica, Taken, Write, Wrote};
 pub use saved_form::{Saved, decode_saved, encode_saved};
 pub use sync_protocol::FieldStore;
 pub use wire_form::{Message, Session, decode, encode};

@@ -16,4 +16,5 @@ pub record TellsChanges (x y : Held) : Type 0 where
   pub told : IsMapOf y.watched.map (meaning x.replica).live
   pub ascending : IsAscending (shown y.texts)
   pub changed : (key : List ℕ) → Contains (shown y.texts) key → IsChanged x.watched.map y.watched.map key
-  pub all : NoClash (hash_of x.watched.hash) x.watched.map y.watched.map [] → (key : List ℕ) → IsChanged x.watched.map y.watched.map key → Contains (shown y.texts) key
+  pub all : NoClash (hash_of x.watched.hash) x.watched.map y.watched.map [] → (key : List ℕ) → IsChanged x.watched.map y.watched.map key
+      → Contains (shown y.texts) key

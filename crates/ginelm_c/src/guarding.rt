@@ -1,5 +1,5 @@
 // Whether a message tells that the replica's name was used without its memory, and messages that are not taken in where they do.
-ghost use Rattle.std.specs.Prelude.{◌≡◌, ◌≢◌, ◌↔◌, ◌⊎◌, Some, IfOk, IsTrue, MatchResult, OnOk};
+ghost use Rattle.std.specs.Prelude.{◌≡◌, ◌≢◌, ◌↔◌, ◌⊎◌, Some, IsTrue, OnOk};
 ghost use Rattle.wire_form.specs.Message.{MessageValue, Spells, message_of};
 ghost use Rattle.replica_model.specs.Mail.{mail_of};
 ghost use Rattle.replica_core.specs.Guarding.{HasLost};
@@ -17,20 +17,12 @@ use dots::Refusal;
 use std::alloc::Global;
 use wire_form::{Message, decode};
 
-// Whether the message that the bytes spell knows a write of the replica's name that the replica does not know.
-fn tells_loss(alloc: Global, held: &Held, bytes: &[u8]) -> Result<bool, Refusal>
-    ensures ok { IfOk result (λ lost. (message : MessageValue) × Spells bytes.now message × (IsTrue lost ↔ HasLost (meaning held.now.replica) (mail_of message))) }
-    ensures only { (message : MessageValue) → Spells bytes.now message
-        → MatchResult result (λ lost. IsTrue lost ↔ HasLost (meaning held.now.replica) (mail_of message)) (λ refusal. refusal ≡ Refusal.OutOfMemory) }
-{
-    let message = decode(alloc, bytes)?;
-    Ok(held.replica.has_lost(&message))
-}
-
 fn has_lost(alloc: Global, held: &Held, bytes: &[u8], lost: &mut bool) -> Result<(), Refusal>
     ensures ok { OnOk result ((message : MessageValue) × Spells bytes.now message × (IsTrue lost.new ↔ HasLost (meaning held.now.replica) (mail_of message))) }
 {
-    *lost = tells_loss(alloc, held, bytes)?;
+    let message = decode(alloc, bytes)?;
+    *lost = held.replica.has_lost(&message);
+    drop(message);
     Ok(())
 }
 

@@ -94,19 +94,29 @@ fn send_all(rt: &impl Print, alloc: Global, letters: &[Letter]) -> Result<(), Fa
     Ok(())
 }
 
-/// Tells a message that is to be sent to this replica, or to everyone.
+/// Tells a message that is to be sent to this replica, or to everyone, whatever memory there is: what is kept already has to be told.
 pub(crate) fn send(
     rt: &impl Print,
     alloc: Global,
     to: Option<Name>,
     bytes: &[u8],
-) -> Result<(), Fault> {
-    let digits = hex::encode(alloc, bytes)?;
+) -> io::Result<()> {
     match to {
-        Some(name) => println!(rt; "send {name} {digits}")?,
-        None => println!(rt; "send * {digits}")?,
+        Some(name) => print!(rt; "send {name} ")?,
+        None => print!(rt; "send * ")?,
     }
-    Ok(())
+    match hex::encode(alloc, bytes) {
+        Ok(digits) => println!(rt; "{digits}"),
+        Err(_) => send_slowly(rt, bytes),
+    }
+}
+
+// Writes the digits of the bytes one by one.
+fn send_slowly(rt: &impl Print, bytes: &[u8]) -> io::Result<()> {
+    for byte in bytes {
+        print!(rt; "{byte:02x}")?;
+    }
+    println!(rt; "")
 }
 
 fn sessions(rt: &impl Print, replica: &Replica) -> Result<(), Fault> {

@@ -1,6 +1,6 @@
 use crate::fault::Fault;
-use ginelm::{Letter, Name, Replica, Taken};
-use replica_store::{ToWrite, Written, Wrote};
+use ginelm::{Letter, Name, Replica, Taken, Write, Wrote};
+use replica_store::Written;
 use std::alloc::Global;
 
 /// What the calls ask of a replica, wherever it is kept. The shell knows it by this trait alone, so that no proof looks into a store.
@@ -12,13 +12,13 @@ pub(crate) trait Keeper {
     fn has_failed(&self) -> bool;
 
     /// Makes a write: what it is answered, and the message that is to be sent to everyone before that is told.
-    fn make(&mut self, alloc: Global, write: &ToWrite<'_>) -> Result<Written<Wrote>, Fault>;
+    fn make(&mut self, alloc: Global, write: &Write<'_>) -> Result<Written<Wrote>, Fault>;
 
     /// Makes several writes, which are kept together: what each is answered, and the one message for all.
     fn make_all(
         &mut self,
         alloc: Global,
-        writes: &[ToWrite<'_>],
+        writes: &[Write<'_>],
     ) -> Result<Written<Vec<Wrote>>, Fault>;
 
     /// What was written, and is still to be sent.

@@ -3,36 +3,17 @@
 use crate::fault::Fault;
 use crate::keeper::Keeper;
 use ginelm::{
-    Delivered, Dot, Letter, Message, Name, Outcome, Refusal, Replica, Session, Taken, decode,
-    encode,
+    Delivered, Letter, Message, Name, Outcome, Refusal, Replica, Session, Taken, Write, Wrote,
+    decode,
 };
-use replica_store::{Store, StoreError, ToWrite, Written, Wrote};
+use replica_store::{Store, Written};
 use sqlite::Alter;
 use std::alloc::Global;
-
-// The letter of a message.
-fn letter(alloc: Global, message: &Message) -> Result<Letter, Refusal> {
-    let bytes = encode(alloc, message)?;
-    Ok(Letter {
-        to: message.addressee(),
-        bytes,
-    })
-}
-
-// The letter of each message.
-fn letters(alloc: Global, messages: &[Message]) -> Result<Vec<Letter>, Refusal> {
-    let mut all = Vec::with_capacity(alloc, messages.len())?;
-    for message in messages {
-        let letter = letter(alloc, message)?;
-        all.push(letter)?;
-    }
-    Ok(all)
-}
 
 // What came of a message that named this synchronisation, or none.
 fn taken(alloc: Global, session: Option<Session>, told: Delivered) -> Result<Taken, Fault> {
     let outcome = told.outcome;
-    let letters = letters(alloc, told.replies.as_slice());
+    let letters = Letter::of_all(alloc, told.replies.as_slice());
     drop(told);
     Ok(Taken {
         outcome,
@@ -43,7 +24,7 @@ fn taken(alloc: Global, session: Option<Session>, told: Delivered) -> Result<Tak
 
 // The hello of a synchronisation, with its number.
 fn opened(alloc: Global, number: u64, hello: Message) -> Result<(u64, Letter), Fault> {
-    let letter = letter(alloc, &hello);
+    let letter = Letter::of(alloc, &hello);
     drop(hello);
     Ok((number, letter?))
 }
@@ -65,20 +46,6 @@ fn open_session(replica: &Replica, number: u64) -> Result<Option<Session>, Refus
     Ok(None)
 }
 
-// What a put is answered.
-fn made(written: Result<Written<Dot>, StoreError>) -> Result<Written<Wrote>, Fault> {
-    let Written { answer, delta } = written?;
-    let answer = Wrote::Made(answer);
-    Ok(Written { answer, delta })
-}
-
-// What a remove is answered.
-fn counted(written: Result<Written<u64>, StoreError>) -> Result<Written<Wrote>, Fault> {
-    let Written { answer, delta } = written?;
-    let answer = Wrote::Counted(answer);
-    Ok(Written { answer, delta })
-}
-
 impl<S: Alter> Keeper for Store<S> {
     fn replica(&self) -> &Replica {
         self.replica()
@@ -88,31 +55,14 @@ impl<S: Alter> Keeper for Store<S> {
         self.is_failed()
     }
 
-    fn make(&mut self, alloc: Global, write: &ToWrite<'_>) -> Result<Written<Wrote>, Fault> {
-        match write {
-            ToWrite::Put(key, field, value) => {
-                let written = self.put_field(alloc, key, field, value);
-                made(written)
-            }
-            ToWrite::Remove(key) => {
-                let written = self.remove(alloc, key);
-                counted(written)
-            }
-            ToWrite::RemoveField(key, field) => {
-                let written = self.remove_field(alloc, key, field);
-                counted(written)
-            }
-            ToWrite::Clear => {
-                let written = self.clear(alloc);
-                counted(written)
-            }
-        }
+    fn make(&mut self, alloc: Global, write: &Write<'_>) -> Result<Written<Wrote>, Fault> {
+        Ok(self.write(alloc, write)?)
     }
 
     fn make_all(
         &mut self,
         alloc: Global,
-        writes: &[ToWrite<'_>],
+        writes: &[Write<'_>],
     ) -> Result<Written<Vec<Wrote>>, Fault> {
         Ok(self.write_all(alloc, writes)?)
     }

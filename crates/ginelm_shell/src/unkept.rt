@@ -1,18 +1,9 @@
 // A replica that is kept in no file.
 use crate::fault::Fault;
 use crate::keeper::Keeper;
-use ginelm::{Letter, Name, Refusal, Replica, TakeError, Taken, take};
-use replica_store::{ToWrite, Written, Wrote};
+use ginelm::{Letter, Name, Replica, TakeError, Taken, Write, Wrote, take};
+use replica_store::Written;
 use std::alloc::Global;
-
-fn write(replica: &mut Replica, it: &ToWrite<'_>) -> Result<Wrote, Refusal> {
-    match it {
-        ToWrite::Put(key, field, value) => Ok(Wrote::Made(replica.put_field(key, field, value)?)),
-        ToWrite::Remove(key) => Ok(Wrote::Counted(replica.remove(key)?)),
-        ToWrite::RemoveField(key, field) => Ok(Wrote::Counted(replica.remove_field(key, field)?)),
-        ToWrite::Clear => Ok(Wrote::Counted(replica.clear()?)),
-    }
-}
 
 impl Keeper for Replica {
     fn replica(&self) -> &Replica {
@@ -23,8 +14,8 @@ impl Keeper for Replica {
         false
     }
 
-    fn make(&mut self, _alloc: Global, it: &ToWrite<'_>) -> Result<Written<Wrote>, Fault> {
-        let answer = write(self, it)?;
+    fn make(&mut self, _alloc: Global, write: &Write<'_>) -> Result<Written<Wrote>, Fault> {
+        let answer = self.write(write)?;
         Ok(Written {
             answer,
             delta: None,
@@ -34,7 +25,7 @@ impl Keeper for Replica {
     fn make_all(
         &mut self,
         _alloc: Global,
-        _writes: &[ToWrite<'_>],
+        _writes: &[Write<'_>],
     ) -> Result<Written<Vec<Wrote>>, Fault> {
         Err(Fault::Unkept)
     }

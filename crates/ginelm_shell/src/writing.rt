@@ -3,8 +3,8 @@ use crate::carrying::send;
 use crate::fault::Fault;
 use crate::keeper::Keeper;
 use crate::word::{field, key, value};
-use ginelm::Field;
-use replica_store::{ToWrite, Written, Wrote};
+use ginelm::{Field, Write, Wrote};
+use replica_store::Written;
 use std::alloc::Global;
 use std::io;
 
@@ -21,7 +21,7 @@ pub(crate) fn carry_out<K: Keeper>(
         (b"putf", [at, within, text]) => put_field(rt, alloc, kept, at, within, text)?,
         (b"remove", [at]) => remove(rt, alloc, kept, at)?,
         (b"removef", [at, within]) => remove_field(rt, alloc, kept, at, within)?,
-        (b"clear", []) => write(rt, alloc, kept, &ToWrite::Clear)?,
+        (b"clear", []) => write(rt, alloc, kept, &Write::Clear)?,
         (b"replace", [at, text, other]) => replace(rt, alloc, kept, at, text, other)?,
         (b"compact", []) => compact(rt, alloc, kept)?,
         _ => return Ok(false),
@@ -38,7 +38,7 @@ fn put<K: Keeper>(
 ) -> Result<(), Fault> {
     let (at, text) = (key(alloc, at)?, value(alloc, text)?);
     let within = Field::empty();
-    write(rt, alloc, kept, &ToWrite::Put(&at, &within, &text))
+    write(rt, alloc, kept, &Write::Put(&at, &within, &text))
 }
 
 fn put_field<K: Keeper>(
@@ -50,12 +50,12 @@ fn put_field<K: Keeper>(
     text: &[u8],
 ) -> Result<(), Fault> {
     let (at, within, text) = (key(alloc, at)?, field(alloc, within)?, value(alloc, text)?);
-    write(rt, alloc, kept, &ToWrite::Put(&at, &within, &text))
+    write(rt, alloc, kept, &Write::Put(&at, &within, &text))
 }
 
 fn remove<K: Keeper>(rt: &impl Print, alloc: Global, kept: &mut K, at: &[u8]) -> Result<(), Fault> {
     let at = key(alloc, at)?;
-    write(rt, alloc, kept, &ToWrite::Remove(&at))
+    write(rt, alloc, kept, &Write::Remove(&at))
 }
 
 fn remove_field<K: Keeper>(
@@ -66,7 +66,7 @@ fn remove_field<K: Keeper>(
     within: &[u8],
 ) -> Result<(), Fault> {
     let (at, within) = (key(alloc, at)?, field(alloc, within)?);
-    write(rt, alloc, kept, &ToWrite::RemoveField(&at, &within))
+    write(rt, alloc, kept, &Write::RemoveField(&at, &within))
 }
 
 fn replace<K: Keeper>(
@@ -79,7 +79,7 @@ fn replace<K: Keeper>(
 ) -> Result<(), Fault> {
     let (at, text, other) = (key(alloc, at)?, value(alloc, text)?, key(alloc, other)?);
     let within = Field::empty();
-    let writes = [ToWrite::Put(&at, &within, &text), ToWrite::Remove(&other)];
+    let writes = [Write::Put(&at, &within, &text), Write::Remove(&other)];
     write_all(rt, alloc, kept, &writes)
 }
 
@@ -94,7 +94,7 @@ fn write<K: Keeper>(
     rt: &impl Print,
     alloc: Global,
     kept: &mut K,
-    it: &ToWrite<'_>,
+    it: &Write<'_>,
 ) -> Result<(), Fault> {
     let Written { answer, delta } = kept.make(alloc, it)?;
     tell(rt, alloc, &delta, &[answer])
@@ -105,7 +105,7 @@ fn write_all<K: Keeper>(
     rt: &impl Print,
     alloc: Global,
     kept: &mut K,
-    all: &[ToWrite<'_>],
+    all: &[Write<'_>],
 ) -> Result<(), Fault> {
     let Written { answer, delta } = kept.make_all(alloc, all)?;
     tell(rt, alloc, &delta, &answer)

@@ -34,7 +34,8 @@ module _ {P H : Type 0} (greater : H → H → H) (assoc : (x y z : H) → great
     (changes : ChangesOnlyAt greater mine own yours theirs keys) (inside : IsInside (state_with mine own)) (indexed : IsIndexed mine places)
     (brings : BringsAt greater mine own yours theirs keys delta) (alone : IsTouched places own delta.at delta.has keys) where
   holds_at : (q : List ℕ) (b : Bool) → has_key keys q ≡ b → (place : P) (d : DotValue)
-      → joined greater (mine (q, place) d) (own d) (delta.at (q, place) d) (delta.has d) ≡ joined greater (mine (q, place) d) (own d) (yours (q, place) d) (theirs d)
+      → joined greater (mine (q, place) d) (own d) (delta.at (q, place) d) (delta.has d) ≡ joined greater (mine (q, place) d) (own d)
+      (yours (q, place) d) (theirs d)
   holds_at q true e place d = ap (λ x. joined greater (mine (q, place) d) (own d) x (delta.has d)) (brings.held q e place d)
       ∙ again greater assoc idem (mine (q, place) d) (yours (q, place) d) (own d) (theirs d) (delta.has d) (brings.stood q e place d)
   holds_at q false e place d =

@@ -19,6 +19,8 @@ pub record IsCopyAt {P H : Type 0} (map : List ℕ × P → DotValue → Option 
   pub only : (place : List ℕ × P) (dot : DotValue) → IsSome (copy place dot) → IsSome (map place dot)
 
 -- the join holds at this key what stands there
-abbrev pub StaysAt : {P H : Type 0} → (H → H → H) → (mine : List ℕ × P → DotValue → Option H) (own : DotValue → Bool) (yours : List ℕ × P → DotValue → Option H) (theirs : DotValue → Bool)
+abbrev pub StaysAt : {P H : Type 0} → (H → H → H) → (mine : List ℕ × P → DotValue → Option H) (own : DotValue → Bool)
+    (yours : List ℕ × P → DotValue → Option H) (theirs : DotValue → Bool)
     → List ℕ → Type 0
-StaysAt {P} greater mine own yours theirs key = (place : P) (dot : DotValue) → mine (key, place) dot ≡ joined greater (mine (key, place) dot) (own dot) (yours (key, place) dot) (theirs dot)
+StaysAt {P} greater mine own yours theirs key = (place : P) (dot : DotValue)
+    → mine (key, place) dot ≡ joined greater (mine (key, place) dot) (own dot) (yours (key, place) dot) (theirs dot)

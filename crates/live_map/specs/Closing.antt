@@ -13,12 +13,15 @@ abbrev pub stores_of : {Hash S : Type 0} → Shown Hash S → TrieMapValue Hash 
 stores_of trie = (trie.hash, trie.map)
 
 -- at a key that is none of these a map holds what its join with another one does
-abbrev pub ChangesOnlyAt : {P H : Type 0} → (H → H → H) → (mine : List ℕ × P → DotValue → Option H) (own : DotValue → Bool) (yours : List ℕ × P → DotValue → Option H) (theirs : DotValue → Bool)
+abbrev pub ChangesOnlyAt : {P H : Type 0} → (H → H → H) → (mine : List ℕ × P → DotValue → Option H) (own : DotValue → Bool)
+    (yours : List ℕ × P → DotValue → Option H) (theirs : DotValue → Bool)
     → List (List ℕ) → Type 0
 ChangesOnlyAt {P} greater mine own yours theirs keys =
-    (key : List ℕ) → has_key keys key ≡ false → (place : P) (dot : DotValue) → mine (key, place) dot ≡ joined greater (mine (key, place) dot) (own dot) (yours (key, place) dot) (theirs dot)
+    (key : List ℕ) → has_key keys key ≡ false → (place : P) (dot : DotValue)
+    → mine (key, place) dot ≡ joined greater (mine (key, place) dot) (own dot) (yours (key, place) dot) (theirs dot)
 
 -- among these keys are those that were touched, and those that are named for a dot that is known now and was not before
-pub record IsTouchedSince (places : List PlaceValue) (touched : finite.FinMap bytes_cmp (Unit {0})) (before now : DotValue → Bool) (keys : List (List ℕ)) : Type 0 where
+pub record IsTouchedSince (places : List PlaceValue) (touched : finite.FinMap bytes_cmp (Unit {0})) (before now : DotValue → Bool)
+    (keys : List (List ℕ)) : Type 0 where
   pub own : (key : List ℕ) → IsSome (finite.get touched key) → IsTrue (has_key keys key)
   pub named : (dot : DotValue) (key : List ℕ) → IsTrue (names places dot key) → IsTrue (now dot) → before dot ≡ false → IsTrue (has_key keys key)

@@ -42,7 +42,8 @@ pub record IsInSpan (first : DotValue) (last : ℕ) (dot : DotValue) : Type 0 wh
   pub to : dot.number ≤ last
 
 -- these keys are all that a delta can change: those at which it holds something, and those that are named for a dot that both know
-pub record IsTouched {P H : Type 0} (places : List PlaceValue) (own : DotValue → Bool) (yours : List ℕ × P → DotValue → Option H) (theirs : DotValue → Bool) (keys : List (List ℕ)) : Type 0 where
+pub record IsTouched {P H : Type 0} (places : List PlaceValue) (own : DotValue → Bool) (yours : List ℕ × P → DotValue → Option H)
+    (theirs : DotValue → Bool) (keys : List (List ℕ)) : Type 0 where
   pub held : (key : List ℕ) (place : P) (dot : DotValue) → IsSome (yours (key, place) dot) → IsTrue (has_key keys key)
   pub named : (dot : DotValue) (key : List ℕ) → IsTrue (names places dot key) → IsTrue (own dot) → IsTrue (theirs dot) → IsTrue (has_key keys key)
 

@@ -8,7 +8,8 @@ use Rattle.causal_context.specs.Growth.{IsOnlyNew}
 use Rattle.trie_map.specs.Here.{IsJoinHere, JoinsHere}
 
 -- what was made for a key is the join of what stands there in a map with what a delta holds there, or none where the two are the same
-pub record IsMadeAt {S P H : Type 0} (at : S → P → DotValue → Option H) (greater : H → H → H) (mine : finite.FinMap bytes_cmp S) (key : List ℕ) (own : DotValue → Bool) (yours : List ℕ × P → DotValue → Option H)
+pub record IsMadeAt {S P H : Type 0} (at : S → P → DotValue → Option H) (greater : H → H → H) (mine : finite.FinMap bytes_cmp S) (key : List ℕ)
+    (own : DotValue → Bool) (yours : List ℕ × P → DotValue → Option H)
     (theirs : DotValue → Bool) (made : Option S) : Type 0 where
   pub store : S
   pub holds : (place : P) (d : DotValue) → yours (key, place) d ≡ at store place d
@@ -26,7 +27,8 @@ pub record IsRaise (own theirs : ContextValue) (dot : DotValue) : Type 0 where
   pub above : IsAboveEntry own dot
 
 -- what stands at a key of a map became its join with what a delta holds there
-pub record IsJoinedIn {S P H : Type 0} (at : S → P → DotValue → Option H) (greater : H → H → H) (old new : finite.FinMap bytes_cmp S) (key : List ℕ) (own : DotValue → Bool) (yours : List ℕ × P → DotValue → Option H)
+pub record IsJoinedIn {S P H : Type 0} (at : S → P → DotValue → Option H) (greater : H → H → H) (old new : finite.FinMap bytes_cmp S) (key : List ℕ)
+    (own : DotValue → Bool) (yours : List ℕ × P → DotValue → Option H)
     (theirs : DotValue → Bool) : Type 0 where
   pub store : S
   pub holds : (place : P) (d : DotValue) → yours (key, place) d ≡ at store place d

@@ -18,7 +18,7 @@ use crate::one_key::join_at_one;
 use crate::prepared::Prepared;
 use crate::touched::Touched;
 use crate::touching::{cut_all, cut_ended, join_at_keys, name_all, name_dot, touch_by};
-use crate::unknown::may_be_more;
+use crate::unknown::has_more_unknown;
 use causal_context::{Context, Growth};
 use causal_join::Causal;
 use dot_store::{DotMap, DotStore};
@@ -270,7 +270,7 @@ impl<S: DotStore<A>, M: Summary<S>, H: PathHash, A: Allocator + Copy> Live<S, M,
             (join S.greater (state_of (at_keys S.at) self.now.0) (state_of (at_keys S.at) (stores_of built.now, context.now))))) }
         ensures err { IsOkUnless result Refusal.OutOfMemory }
     {
-        if may_be_more(context, &self.context, self.store.size()) {
+        if has_more_unknown(context, &self.context, self.store.size()) {
             return Ok(None);
         }
         let keys = self.opened_keys(alloc, base, seen, built, touched, context)?;

@@ -10,7 +10,7 @@ use dots::{Dot, Name, Refusal};
 use std::alloc::Allocator;
 
 // Whether more dots than these may be unknown, as a forged context may say that it knows any number.
-pub(crate) fn may_be_more<A: Allocator + Copy>(
+pub(crate) fn has_more_unknown<A: Allocator + Copy>(
     dots: &Context<A>,
     known: &Context<A>,
     most: u64,

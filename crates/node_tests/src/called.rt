@@ -4,12 +4,11 @@ use crate::nodes::name;
 use crate::tests::slow::Slow;
 use dots::{Field, Key, Value};
 use node_threads::{
-    Abandoning, Asking, Batching, Checkpointing, Clearing, Client, Containing, Delivering,
-    FieldListing, FieldRemoving, Flushing, Getting, Lock, Named, Naming, NodeEvent, Post, Putting,
-    Receipt, Removing, Retrying, Root, Served, Sharing, Sizing, TimedPost, TimedServed, Waiting,
-    Write, Written, serve, serve_timed,
+    Abandoning, Asking, Batching, Checkpointing, Client, Containing, Delivering, FieldListing,
+    Flushing, Getting, Lock, Named, Naming, NodeEvent, Post, Receipt, Retrying, Root, Served,
+    Sharing, Sizing, TimedPost, TimedServed, Waiting, Writing, Written, serve, serve_timed,
 };
-use replica_core::{Delivered, Replica};
+use replica_core::{Delivered, Replica, Write, Wrote};
 use saved_form::Saved;
 use shared_object::{Gate, Look, Update};
 use std::alloc::Global;
@@ -152,7 +151,7 @@ impl<K: Naming, G: Gate + Drop, R: Wait + Drop> Caller for Client<K, Lock<K, G, 
 impl<K: Naming, G: Gate + Drop, R: Wait + Drop> Calling for Client<K, Lock<K, G, R>> {
     fn remove<T: Wait + Abort>(&mut self, rt: &T, alloc: Global, key: &[u8]) -> u64 {
         let key = key_of(rt, alloc, key);
-        called(rt, self, &Removing { alloc, key: &key })
+        counted(rt, self, alloc, Write::Remove(&key))
     }
 
     fn remove_field<T: Wait + Abort>(
@@ -164,16 +163,11 @@ impl<K: Naming, G: Gate + Drop, R: Wait + Drop> Calling for Client<K, Lock<K, G,
     ) -> u64 {
         let key = key_of(rt, alloc, key);
         let field = field_of(rt, alloc, field);
-        let removing = FieldRemoving {
-            alloc,
-            key: &key,
-            field: &field,
-        };
-        called(rt, self, &removing)
+        counted(rt, self, alloc, Write::RemoveField(&key, &field))
     }
 
     fn clear<T: Wait + Abort>(&mut self, rt: &T, alloc: Global) -> u64 {
-        called(rt, self, &Clearing { alloc })
+        counted(rt, self, alloc, Write::Clear)
     }
 
     fn flush<T: Wait + Abort>(&mut self, rt: &T, alloc: Global) -> Option<Message> {
@@ -252,14 +246,27 @@ pub(crate) fn put_noted<K: Naming, G: Gate + Drop, R: Wait + Drop, T: Wait + Abo
     let key = key_of(rt, alloc, key);
     let field = field_of(rt, alloc, field);
     let value = value_of(rt, alloc, value);
-    let putting = Putting {
-        alloc,
-        key: &key,
-        field: &field,
-        value: &value,
-    };
-    let (dot, receipt) = noted(rt, client, &putting);
-    (dot.number(), receipt)
+    let write = Write::Put(&key, &field, &value);
+    let (wrote, receipt) = noted(rt, client, &Writing { alloc, write });
+    (number_of(wrote), receipt)
+}
+
+// Makes a write that is no put: how many it observed.
+fn counted<K: Naming, G: Gate + Drop, R: Wait + Drop, T: Wait + Abort>(
+    rt: &T,
+    client: &mut Client<K, Lock<K, G, R>>,
+    alloc: Global,
+    write: Write<'_>,
+) -> u64 {
+    number_of(called(rt, client, &Writing { alloc, write }))
+}
+
+// The number that a write was answered: that of its dot, or of those that it observed.
+fn number_of(wrote: Wrote) -> u64 {
+    match wrote {
+        Wrote::Made(dot) => dot.number(),
+        Wrote::Counted(number) => number,
+    }
 }
 
 // Whether a snapshot shows this one value at the key.

@@ -4,11 +4,12 @@ use Rattle.std.proofs.lemmas.List.{map-append}
 use Rattle.hash_path.specs.Fnv1a.{fnv1a}
 use Rattle.replica_model.specs.History.{Entry, Runs}
 use Rattle.replica_model.specs.Replica.{Replica}
-use Rattle.replica_model.specs.Step.{IsStep}
+use Rattle.replica_model.specs.Step.{Do, IsStep}
+use Rattle.replica_core.specs.Writing.{answer_of, call_of}
+use Rattle.replica_core.specs.declared.write.Write.{Write}
+use Rattle.replica_core.specs.declared.wrote.Wrote.{Wrote}
 use Rattle.node_threads.specs.declared.deed.Deed.{Deed}
-use Rattle.node_threads.specs.declared.write.Write.{Write}
-use Rattle.node_threads.specs.declared.wrote.Wrote.{Wrote}
-use Rattle.node_threads.specs.Batch.{answer_of, deed_of, made_at}
+use Rattle.node_threads.specs.Batch.{deed_of, made_at}
 use Rattle.node_threads.specs.History.{act_of, entries_of}
 use Rattle.node_threads.proofs.Stepping.{runs_once, runs_then}
 
@@ -21,7 +22,7 @@ module _ {A : Type 0} (place : ℕ) where
 
   -- one write more was made
   pub wrote_more : (r mid next : Replica) (xs ys : List (Write A)) (w : Write A) (wrote also : List Wrote) (told : Wrote)
-      → Runs fnv1a r (entries_of (made_at place xs)) (map answer_of wrote) mid → IsStep fnv1a mid (act_of (deed_of w)) next (answer_of told) []
+      → Runs fnv1a r (entries_of (made_at place xs)) (map answer_of wrote) mid → IsStep fnv1a mid (Do (call_of w)) next (answer_of told) []
       → ys ≡ xs ++ w ∷ [] → also ≡ wrote ++ told ∷ [] → Runs fnv1a r (entries_of (made_at place ys)) (map answer_of also) next
   wrote_more r mid next xs ys w wrote also told runs step more longer =
       let e = entry (deed_of w) in

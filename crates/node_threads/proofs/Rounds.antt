@@ -4,7 +4,8 @@ use Rattle.std.specs.Prelude.{◌↔◌}
 use Rattle.std.proofs.lemmas.Bool.{true≢false}
 use Rattle.root_cell.proofs.Prefixes.{prefix_trans}
 use Rattle.shared_object.specs.Calling.{HasNotCalled}
-use Rattle.node_threads.specs.declared.deed.Deed.TheVariants.{Flush}
+use Rattle.replica_core.specs.declared.call.Call.TheVariants as call
+use Rattle.node_threads.specs.declared.deed.Deed.TheVariants as deed
 use Rattle.node_threads.specs.declared.node_event.NodeEvent.{NodeEvent}
 use Rattle.node_threads.specs.Serving.{Turn, total}
 use Rattle.node_threads.specs.TimedServing.{AreRounds, IsFlush, IsRound, Round}
@@ -64,7 +65,7 @@ module _ {A : Type 0} where
       own = ap (λ n. calls_by place n history) (sym h.seat) ∙ is.own ∙ h.made;
       seat = is.seat ∙ h.seat;
       operations = is.operations ∙ ap (λ n. n + 1) h.operations;
-      front = is.front ∙ ap (λ n. history ++ record { place = n; deeds = Flush ∷ [] } ∷ []) h.seat;
+      front = is.front ∙ ap (λ n. history ++ record { place = n; deeds = deed.Call call.Flush ∷ [] } ∷ []) h.seat;
     },
     gives,
   )

@@ -3,38 +3,21 @@ use Rattle.std.specs.Prelude.{◌≡◌, ◌⊎◌, ℕ, List, [], ◌∷◌, ma
 use Rattle.dots.specs.declared.refusal.Refusal.{Refusal}
 use Rattle.dots.specs.declared.refusal.Refusal.TheVariants.{OutOfMemory}
 use Rattle.hash_path.specs.Fnv1a.{fnv1a}
-use Rattle.op_model.specs.Place.{place_of}
 use Rattle.replica_core.specs.Stepping.{RefusesNothing}
+use Rattle.replica_core.specs.Writing.{answer_of, as_call, call_of}
+use Rattle.replica_core.specs.declared.write.Write.{Write}
+use Rattle.replica_core.specs.declared.wrote.Wrote.{Wrote}
 use Rattle.replica_model.specs.History.{Runs}
 use Rattle.replica_model.specs.Replica.{Replica}
-use Rattle.replica_model.specs.Step as step
-use Rattle.replica_model.specs.Step.{Answer, Call, Refuses}
+use Rattle.replica_model.specs.Step.{Call, Refuses}
 use Rattle.node_threads.specs.declared.deed.Deed.{Deed}
-use Rattle.node_threads.specs.declared.deed.Deed.TheVariants.{Put, Remove, RemoveField, Clear}
+use Rattle.node_threads.specs.declared.deed.Deed.TheVariants as deed
 use Rattle.node_threads.specs.declared.node_event.NodeEvent.{NodeEvent}
-use Rattle.node_threads.specs.declared.write.Write.{Write}
-use Rattle.node_threads.specs.declared.write.Write.TheVariants as write
-use Rattle.node_threads.specs.declared.wrote.Wrote.{Wrote}
-use Rattle.node_threads.specs.declared.wrote.Wrote.TheVariants as wrote
 use Rattle.node_threads.specs.History.{IsAfter, entries_of}
 
--- a write as it stands in a history, and in the words of the model
+-- a write as it stands in a history
 abbrev pub deed_of : {A : Type 0} → Write A → Deed A
-deed_of (write.Put key field value) = Put key.now field.now value.now
-deed_of (write.Remove key) = Remove key.now
-deed_of (write.RemoveField key field) = RemoveField key.now field.now
-deed_of write.Clear = Clear
-
-abbrev pub call_of : {A : Type 0} → Write A → Call
-call_of (write.Put key field value) = step.Put (place_of key.now field.now) value.now
-call_of (write.Remove key) = step.Remove key.now
-call_of (write.RemoveField key field) = step.RemoveField (place_of key.now field.now)
-call_of write.Clear = step.Clear
-
--- what it was answered
-abbrev pub answer_of : Wrote → Answer
-answer_of (wrote.Made dot) = step.Made dot
-answer_of (wrote.Counted number) = step.Counted number
+deed_of w = deed.Call (as_call w)
 
 -- these writes, made at once by the client at a place
 abbrev pub made_at : {A : Type 0} → ℕ → List (Write A) → NodeEvent A

@@ -6,29 +6,21 @@ use Rattle.delta_ops.specs.LiveMap.{store_state}
 use Rattle.causal_join.specs.OrMap.{FieldsValue}
 use Rattle.dots.specs.declared.refusal.Refusal.{Refusal}
 use Rattle.hash_path.specs.Fnv1a.{fnv1a}
-use Rattle.op_model.specs.Place.{place_of}
 use Rattle.replica_model.specs.History as model
 use Rattle.replica_model.specs.Mail.{Mail, mail_of}
 use Rattle.replica_model.specs.Replica.{Replica}
-use Rattle.replica_model.specs.Step as step
-use Rattle.replica_model.specs.Step.{Act, Answer, Call, IsStep, Refuses}
+use Rattle.replica_model.specs.Step.{Act, Answer, Call, Do, IsStep, Refuses, Take}
+use Rattle.replica_core.specs.Writing.{call_value}
 use Rattle.trie_map.specs.Keyed.{TrieMapValue}
 use Rattle.wire_form.specs.Message.{message_of}
 use Rattle.node_threads.specs.declared.deed.Deed.{Deed}
-use Rattle.node_threads.specs.declared.deed.Deed.TheVariants.{Put, Remove, RemoveField, Clear, Flush, Ask, Retry, Abandon, Deliver}
+use Rattle.node_threads.specs.declared.deed.Deed.TheVariants as deed
 use Rattle.node_threads.specs.declared.node_event.NodeEvent.{NodeEvent}
 
 -- a call of a client, in the words of the model
 abbrev pub act_of : {A : Type 0} → Deed A → Act
-act_of (Put key field value) = step.Do (step.Put (place_of key field) value)
-act_of (Remove key) = step.Do (step.Remove key)
-act_of (RemoveField key field) = step.Do (step.RemoveField (place_of key field))
-act_of Clear = step.Do step.Clear
-act_of Flush = step.Do step.Flush
-act_of (Ask peer) = step.Do (step.Ask peer)
-act_of (Retry number) = step.Do (step.Retry number)
-act_of (Abandon number) = step.Do (step.Abandon number)
-act_of (Deliver message) = step.Take (mail_of (message_of message))
+act_of (deed.Call call) = Do (call_value call)
+act_of (deed.Deliver message) = Take (mail_of (message_of message))
 
 -- an event of a history, whose calls were made one after the other, and a history
 abbrev pub entries_of : {A : Type 0} → NodeEvent A → List model.Entry

@@ -1,6 +1,7 @@
 -- What a client does that has the open synchronisations of its node send again. Of this project.
 use Rattle.std.specs.Prelude.{◌≡◌, ℕ, List, [], ◌∷◌}
-use Rattle.node_threads.specs.declared.deed.Deed.TheVariants.{Retry}
+use Rattle.replica_core.specs.declared.call.Call.TheVariants as call
+use Rattle.node_threads.specs.declared.deed.Deed.TheVariants as deed
 use Rattle.node_threads.specs.declared.node_event.NodeEvent.{NodeEvent}
 use Rattle.node_threads.specs.History.{Replies}
 use Rattle.node_threads.specs.Serving.{AreSent, Turn, NoMessage, Refused, Taken}
@@ -15,8 +16,8 @@ use Rattle.wire_form.specs.declared.message.Message.{Message}
 -- node begins with after a history that begins with all that the client had seen.
 abbrev pub IsRetried : {A : Type 0} → Replica → ℕ → Seat (NodeEvent A) → Seat (NodeEvent A) → Answer → List (Message A) → Type 0
 IsRetried {A} first number old new answer replies =
-    (history : List (NodeEvent A)) × IsAccepted (λ e. e.place) old new history (record { place = old.place; deeds = Retry number ∷ [] })
-    × Replies first history (Retry number) answer (mails_of replies)
+    (history : List (NodeEvent A)) × IsAccepted (λ e. e.place) old new history (record { place = old.place; deeds = deed.Call (call.Retry number) ∷ [] })
+    × Replies first history (deed.Call (call.Retry number)) answer (mails_of replies)
 
 -- A post whose states follow on one another so: when bytes come in, when they are sent to the replica of a name, and when neither is so.
 module _ {P A : Type 0} (Receives : P → P → List ℕ → Type 0) (Sends : P → P → ℕ → List ℕ → Type 0) (Rests : P → P → Type 0) where

@@ -21,7 +21,8 @@ IsDelivery {A} Comes e = (message : Message A) × (e.deeds ≡ Deliver message �
 pub record TookIn {A : Type 0} (Comes : List ℕ → Type 0) (old new : Seat (NodeEvent A)) : Type 0 where
   pub seat : new.place ≡ old.place
   pub seen : IsPrefix old.front new.front
-  pub calls : (more : List (NodeEvent A)) × (made (λ e. e.place) new ≡ made (λ e. e.place) old ++ more) × All (IsDelivery Comes) more × (new.operations ≡ old.operations + length more)
+  pub calls : (more : List (NodeEvent A)) × (made (λ e. e.place) new ≡ made (λ e. e.place) old ++ more) × All (IsDelivery Comes) more
+      × (new.operations ≡ old.operations + length more)
 
 -- The client took in this message, and was answered so, with these messages to be sent, as the replica that the node begins with after a
 -- history that begins with all that the client had seen.
@@ -42,7 +43,8 @@ IsTakenIn {A} first bytes old new answer replies =
 abbrev pub CanCome : {P : Type 0} → (P → P → List ℕ → Type 0) → List ℕ → Type 0
 CanCome {P} Receives bytes = (p : P) × (q : P) × Receives p q bytes
 
--- A reply went out by a post, if its states follow on one another so when bytes are sent to the replica of a name: bytes that spell it were sent to the replica that it is for.
+-- A reply went out by a post, if its states follow on one another so when bytes are sent to the replica of a name: bytes that spell it were sent to
+-- the replica that it is for.
 abbrev pub IsSent : {P : Type 0} → (P → P → ℕ → List ℕ → Type 0) → P → P → MessageValue → Type 0
 IsSent Sends p q reply = (name : ℕ) × (bytes : List ℕ) × (addressee_of reply ≡ Some name) × Spells bytes reply × Sends p q name bytes
 

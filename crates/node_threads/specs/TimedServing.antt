@@ -1,7 +1,8 @@
 -- What a client does that serves a timed post: it takes in what comes, and each time that is due it has synchronisations send again and sends what was
 -- written to all. Of this project; the anti-entropy of Almeida, Shoker and Baquero, "Delta State Replicated Data Types" (2018), sends so.
 use Rattle.std.specs.Prelude.{◌≡◌, ◌⊎◌, ℕ, ◌+◌, ◌-◌, ◌^◌, min, List, [], ◌∷◌, ◌++◌, map, Option, Some, None}
-use Rattle.node_threads.specs.declared.deed.Deed.TheVariants.{Flush}
+use Rattle.replica_core.specs.declared.call.Call.TheVariants as call
+use Rattle.node_threads.specs.declared.deed.Deed.TheVariants as deed
 use Rattle.node_threads.specs.declared.node_event.NodeEvent.{NodeEvent}
 use Rattle.node_threads.specs.declared.resent.Resent.{Resent}
 use Rattle.node_threads.specs.declared.timed_served.TimedServed.{TimedServed}
@@ -20,12 +21,12 @@ use Rattle.wire_form.specs.Message.{MessageValue}
 -- A flush after this history gives this letter, if there is one: the delta of what was made since the last one.
 abbrev pub FlushesAs : {A : Type 0} → Replica → List (NodeEvent A) → Option (Letter A) → Type 0
 FlushesAs first history sent =
-    (messages : List MessageValue) × Replies first history Flush Nothing (map mail_of messages) × AreLetters (letter_or_none sent) messages
+    (messages : List MessageValue) × Replies first history (deed.Call call.Flush) Nothing (map mail_of messages) × AreLetters (letter_or_none sent) messages
 
 -- The client flushed, and this letter was to be sent, if there is one, after a history that begins with all that the client had seen.
 abbrev pub IsFlush : {A : Type 0} → Replica → Seat (NodeEvent A) → Seat (NodeEvent A) → Option (Letter A) → Type 0
 IsFlush {A} first old new sent =
-    (history : List (NodeEvent A)) × IsAccepted (λ e. e.place) old new history (record { place = old.place; deeds = Flush ∷ [] })
+    (history : List (NodeEvent A)) × IsAccepted (λ e. e.place) old new history (record { place = old.place; deeds = deed.Call call.Flush ∷ [] })
     × FlushesAs first history sent
 
 -- A time that was due, at which this became of what was to be sent, and then a time of serving, in which so many messages were delivered and this became of

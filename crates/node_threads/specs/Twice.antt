@@ -12,11 +12,13 @@ ComesOnce {X} kind answers = (i j : ℕ) (x : X) → slice_get answers i ≡ Som
 
 -- of the answers to what happened to a replica, from this one on
 abbrev pub OfEachHistory : (Replica → List Answer → Type 0) → Type 0
-OfEachHistory P = (hash_of : List ℕ → ℕ) (first : Replica) (history : List Entry) (answers : List Answer) (r : Replica) → Runs hash_of first history answers r → P first answers
+OfEachHistory P = (hash_of : List ℕ → ℕ) (first : Replica) (history : List Entry) (answers : List Answer) (r : Replica)
+    → Runs hash_of first history answers r → P first answers
 
 -- no dot is made twice, and none that was known at first
 abbrev pub DotsDiffer : Type 0
-DotsDiffer = OfEachHistory (λ first answers. ComesOnce Made answers × ((i : ℕ) (dot : Dot) → slice_get answers i ≡ Some (Made dot) → first.live.has dot ≡ false))
+DotsDiffer = OfEachHistory (λ first answers. ComesOnce Made answers
+    × ((i : ℕ) (dot : Dot) → slice_get answers i ≡ Some (Made dot) → first.live.has dot ≡ false))
 
 -- no two own synchronisations have one number, and none has one that was used at first
 abbrev pub NumbersDiffer : Type 0

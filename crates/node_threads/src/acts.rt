@@ -2,9 +2,11 @@
 mod asking;
 mod batching;
 mod delivering;
+mod flushing;
 mod writing;
 
 pub use asking::{Abandoning, Asking, Retrying};
 pub use batching::Batching;
 pub use delivering::Delivering;
-pub use writing::{Clearing, FieldRemoving, Flushing, FlushingBytes, Putting, Removing};
+pub use flushing::{Flushing, FlushingBytes};
+pub use writing::Writing;

@@ -30,13 +30,10 @@ mod timed_post;
 mod timed_served;
 mod timed_serving;
 mod work;
-mod write;
 mod written;
-mod wrote;
 
 pub use acts::{
-    Abandoning, Asking, Batching, Clearing, Delivering, FieldRemoving, Flushing, FlushingBytes,
-    Putting, Removing, Retrying,
+    Abandoning, Asking, Batching, Delivering, Flushing, FlushingBytes, Retrying, Writing,
 };
 pub use channels::Channels;
 pub use deed::Deed;
@@ -60,6 +57,4 @@ pub use timed_post::TimedPost;
 pub use timed_served::TimedServed;
 pub use timed_serving::serve_timed;
 pub use work::Work;
-pub use write::Write;
 pub use written::Written;
-pub use wrote::Wrote;

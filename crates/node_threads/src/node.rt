@@ -22,7 +22,7 @@ pub type Lock<K, G, W, A = Global> = Shared<
     A,
 >;
 
-/// A client of a node. It looks at what is published, as by `Getting`, and calls, as by `Putting`.
+/// A client of a node. It looks at what is published, as by `Getting`, and calls, as by `Writing`.
 pub type Client<K, S, A = Global> = shared_object::Client<Root<A>, NodeEvent<A>, Named<K>, S, A>;
 
 /// A receipt of an accepted call, for another client of the node to learn.

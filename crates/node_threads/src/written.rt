@@ -1,5 +1,5 @@
-use crate::wrote::Wrote;
 use dots::Refusal;
+use replica_core::Wrote;
 use std::alloc::{Allocator, Global};
 
 /// What a batch was answered.

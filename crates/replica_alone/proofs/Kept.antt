@@ -157,7 +157,8 @@ module _ (hash_of : List ℕ → ℕ) (name : ℕ) where
       kept_more deeds (Calls c) w v k (ap (λ f. f k.session) same) (all k there)
   kept_next deeds w v (Comes mail of) answer runs all befalls k h = by (came_now hash_of name w v mail of answer befalls)
     where
-      by : CameNow hash_of name w mail of answer v → IsSnapshotAlone hash_of name (deeds ++ Comes mail of ∷ []) k.session k.seen (v.kept k.session) k.map k.context
+      by : CameNow hash_of name w mail of answer v → IsSnapshotAlone hash_of name (deeds ++ Comes mail of ∷ []) k.session k.seen
+          (v.kept k.session) k.map k.context
       by d =
           either (subst (Keeps hash_of name w d.own mail) d.step (delivery_keeps hash_of name w d.own mail) of k
           (subst (λ (x : Replica). Contains x.kept k) d.here h))

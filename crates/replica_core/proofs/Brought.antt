@@ -103,9 +103,11 @@ module _ {Hash : Type 0} (hash : Hash) (live : PairValue Hash FieldsValue) (m : 
   delta_joined same =
       same_is (join greater (live_state live) (closing.held_state m (has context))) (join greater (live_state live) (or_map_state delta)) (record {
         at = λ place dot.
-            ap (λ own. joined greater own (has live.1 dot) (held_by fields_at (Rattle.std.specs.FinMap.get m place.key) (place.field, tt) dot) (has context dot))
+            ap (λ own. joined greater own (has live.1 dot) (held_by fields_at (Rattle.std.specs.FinMap.get m place.key) (place.field, tt) dot)
+            (has context dot))
             (as_entries live.0 (path_of place) dot)
             ∙ sym (same.at (path_of place) dot)
-            ∙ ap (λ own. joined greater own (has live.1 dot) (or_map_at delta.0 (path_of place) dot) (has delta.1 dot)) (sym (as_entries live.0 (path_of place) dot));
+            ∙ ap (λ own. joined greater own (has live.1 dot) (or_map_at delta.0 (path_of place) dot) (has delta.1 dot))
+            (sym (as_entries live.0 (path_of place) dot));
         has = λ dot. sym (same.has dot);
       })

@@ -29,3 +29,4 @@ pub mod Written
 pub mod Crossing
 pub mod Lost
 pub mod Brought
+pub mod Foretold

@@ -6,13 +6,15 @@ use Rattle.std.specs.List.Sorted.{IsStrictlySortedBy}
 use Rattle.std.specs.Ordering.{nat_cmp}
 use Rattle.std.proofs.lemmas.List.Elements.{All-nil}
 use Rattle.causal_context.specs.Context.{HasNone}
-use Rattle.causal_join.specs.OrMap.{fields_at}
+use Rattle.causal_join.specs.OrMap.{FieldsValue, OrMapValue, fields_at}
 use Rattle.delta_ops.specs.Group.{group_state}
 use Rattle.delta_ops.specs.LiveMap.{live_state}
 use Rattle.dot_store.specs.Store.{HasNothing}
+use Rattle.live_map.specs.Live.{LiveValue}
 use Rattle.trie_map.specs.Keyed.{at_keys}
 use Rattle.sync_protocol.specs.Asking.{AskerValue}
 use Rattle.sync_protocol.specs.Laws.{AreHashedBy}
+use Rattle.sync_protocol.specs.Snapshot.{KeptValue}
 use Rattle.replica_model.specs.Replica.{Replica, fresh}
 use Rattle.replica_core.specs.Meaning.{ReplicaValue, hash_in, open_of, kept_of, meaning}
 use Rattle.replica_core.specs.Own.{IsOwn, IsReplica, numbers}
@@ -23,6 +25,11 @@ unfolding IsStrictlySortedBy
 sorted_nothing = tt
 
 module _ {Hash : Type 0} where
+  -- a replica, by its parts
+  abbrev pub of_parts : ℕ → LiveValue Hash FieldsValue → List OrMapValue → ℕ → List (AskerValue Hash) → KeptValue Hash → ReplicaValue Hash
+  of_parts name live group opened sessions kept =
+      record { name = name; live = live; group = group; opened = opened; sessions = sessions; kept = kept }
+
   pub meaning_by : (r : ReplicaValue Hash) (m : Replica) → r.name ≡ m.name → live_state r.live.0 ≡ m.live → group_state r.group ≡ m.group → r.opened ≡ m.opened
       → map open_of r.sessions ≡ m.sessions → map kept_of r.kept ≡ m.kept → meaning r ≡ m
   meaning_by r m name live group opened sessions kept = λ i. record {

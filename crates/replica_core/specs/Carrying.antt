@@ -36,7 +36,8 @@ abbrev pub Gains : List (Option ℕ × List ℕ) → List (Option ℕ × List �
 Gains old new messages = (more : List (Option ℕ × List ℕ)) × (new ≡ old ++ more) × AreLetters more messages
 
 -- the act makes the second replica of the first and is answered this, and the letters are those of just the messages that it sends, in their order
-pub record Sends {Hash : Type 0} (hash_of : Hash → List ℕ → ℕ) (old new : ReplicaValue Hash) (act : Act) (answer : Answer) (letters : List (Option ℕ × List ℕ)) : Type 0 where
+pub record Sends {Hash : Type 0} (hash_of : Hash → List ℕ → ℕ) (old new : ReplicaValue Hash) (act : Act) (answer : Answer)
+    (letters : List (Option ℕ × List ℕ)) : Type 0 where
   pub messages : List MessageValue
   pub steps : Steps hash_of old new act answer (map mail_of messages)
   pub letters_are : AreLetters letters messages

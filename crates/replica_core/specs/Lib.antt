@@ -4,6 +4,7 @@ pub mod Known
 pub mod Own
 pub mod Answered
 pub mod Stepping
+pub mod Writing
 pub mod Reading
 pub mod Saving
 pub mod Guarding

@@ -13,8 +13,8 @@ use Rattle.replica_alone.specs.Said.{TakenSay, brought_taken}
 use Rattle.replica_model.specs.Alone.{Deed, RunsAlone}
 use Rattle.replica_model.specs.World.{World, nothing, Unclashed}
 
--- what is read off this state is what these operations show: the values of each place and of each key over its fields, the fields of each key, the keys and their number,
--- the known dots, and the root digest
+-- what is read off this state is what these operations show: the values of each place and of each key over its fields, the fields of each key, the
+-- keys and their number, the known dots, and the root digest
 pub record ShowsOperations (hash_of : List ℕ → ℕ) (live : MapState) (S : List Operation) : Type 0 where
   pub values : (place : Place) (found : List (List ℕ)) → Lists (Stands live place) found → found ≡ values S place
   pub values_of_key : (key : List ℕ) (found : List (List ℕ)) → Lists (StandsWithin live key) found → found ≡ values_of_key S key

@@ -1,13 +1,12 @@
-ghost use Rattle.std.specs.Prelude.{◌≡◌, ◌≤◌, [], length, map, IfOk, IsOkUnless};
-ghost use Rattle.wire_form.specs.Message.{message_of};
-ghost use Rattle.replica_core.specs.Carrying.{AreLetters, IsLetter, letter_of, letter_or_none, letters_of};
+ghost use Rattle.std.specs.Prelude.{◌≡◌, ◌≤◌, [], length};
+ghost use Rattle.replica_core.specs.Carrying.{letter_or_none, letters_of};
 
 use crate::letter::Letter;
 use dots::Refusal;
 use std::alloc::{Allocator, Global};
 use std::marker::Model;
 use sync_protocol::Outbox;
-use wire_form::{Message, encode};
+use wire_form::Message;
 
 // An outbox of letters: what is posted is spelled at once.
 #[derive(Drop)]
@@ -30,13 +29,13 @@ impl<A: Allocator + Copy> Outbox<A> for Letters<A> {
     ghost gains = { Gains };
 
     fn post(&mut self, alloc: A, message: &Message<A>) -> Result<(), Refusal> {
-        let letter = spell(alloc, message)?;
+        let letter = Letter::of(alloc, message)?;
         self.letters.push(letter)?;
         Ok(())
     }
 
     fn post_all(&mut self, alloc: A, messages: &[Message<A>]) -> Result<(), Refusal> {
-        let mut spelled = spell_all(alloc, messages)?;
+        let mut spelled = Letter::of_all(alloc, messages)?;
         self.letters.append(&mut spelled)?;
         Ok(())
     }
@@ -67,30 +66,4 @@ impl<A: Allocator + Copy> Letters<A> {
         let mut letters = self.letters;
         letters.pop()
     }
-}
-
-fn spell<A: Allocator + Copy>(alloc: A, message: &Message<A>) -> Result<Letter<A>, Refusal>
-    ensures ok { IfOk result (λ letter. IsLetter (letter_of letter) (message_of message.now)) }
-    ensures refused { IsOkUnless result Refusal.OutOfMemory }
-{
-    let bytes = encode(alloc, message)?;
-    Ok(Letter {
-        to: message.addressee(),
-        bytes,
-    })
-}
-
-fn spell_all<A: Allocator + Copy>(
-    alloc: A,
-    messages: &[Message<A>],
-) -> Result<Vec<Letter<A>, A>, Refusal>
-    ensures ok { IfOk result (λ spelled. AreLetters (letters_of spelled.items) (map message_of messages.now)) }
-    ensures refused { IsOkUnless result Refusal.OutOfMemory }
-{
-    let mut spelled = Vec::with_capacity(alloc, messages.len())?;
-    for message in messages {
-        let letter = spell(alloc, message)?;
-        spelled.push(letter)?;
-    }
-    Ok(spelled)
 }

@@ -4,6 +4,7 @@
 
 mod asking;
 mod bringing;
+mod call;
 mod carrying;
 mod checkpoint;
 mod delivered;
@@ -20,7 +21,11 @@ mod saving;
 mod sessions;
 mod taken;
 mod turning;
+mod write;
+mod writing;
+mod wrote;
 
+pub use call::Call;
 pub use checkpoint::Checkpoint;
 pub use delivered::Delivered;
 pub use laws::{
@@ -32,3 +37,5 @@ pub use letter::Letter;
 pub use outcome::Outcome;
 pub use replica::Replica;
 pub use taken::Taken;
+pub use write::Write;
+pub use wrote::Wrote;

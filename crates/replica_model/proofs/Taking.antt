@@ -76,7 +76,8 @@ answer_is HasAll hash_of w v number name answer m there happens all = by d (all 
 
 -- ---- an opening
 
-pub opening_taken_by : (HasAll : Type 0) (hash_of : List ℕ → ℕ) (own : Held) (r : Replica) (s : SessionValue) (context : DotValue → Bool) (root : Option (List ℕ))
+pub opening_taken_by : (HasAll : Type 0) (hash_of : List ℕ → ℕ) (own : Held) (r : Replica) (s : SessionValue) (context : DotValue → Bool)
+    (root : Option (List ℕ))
     (o : Open) (f : Fetch) → s.asker ≡ r.name
     → open_at r.sessions s ≡ Some o → o.accepted ≡ None → take_opening hash_of o.own o.seen context root ≡ fetch.Took f → IsAllOf HasAll f
     → is_taken_outcome HasAll (delivered hash_of own r (Opening s context root)).outcome
@@ -112,7 +113,8 @@ takes_openings hash_of events w runs number name m s context root o there mail o
 
 -- ---- a page
 
-pub page_taken_by : (HasAll : Type 0) (hash_of : List ℕ → ℕ) (own : Held) (r : Replica) (s : SessionValue) (sent : SentValue) (o : Open) (a : Accepted) (f : Fetch)
+pub page_taken_by : (HasAll : Type 0) (hash_of : List ℕ → ℕ) (own : Held) (r : Replica) (s : SessionValue) (sent : SentValue) (o : Open)
+    (a : Accepted) (f : Fetch)
     → s.asker ≡ r.name
     → open_at r.sessions s ≡ Some o → o.accepted ≡ Some a → take_page hash_of o.own o.seen a.context a.fetch sent.prefix sent.page sent.values ≡ fetch.Took f
     → IsAllOf HasAll f

@@ -27,7 +27,8 @@ flushed_by (o ∷ S) = Delta (state (o ∷ S)) ∷ []
 
 -- a replica's calls are told by these sets
 pub record IsToldBy (hash_of : List ℕ → ℕ) (r : Replica) (name : ℕ) (seen outgoing : List Operation) : Type 0 where
-  pub calls : (c : Call) (new : Replica) (answer : Answer) (out : List Mail) → IsStep hash_of r (Do c) new answer out → (told : Answer) → answer_by seen name c ≡ Some told → answer ≡ told
+  pub calls : (c : Call) (new : Replica) (answer : Answer) (out : List Mail) → IsStep hash_of r (Do c) new answer out → (told : Answer)
+      → answer_by seen name c ≡ Some told → answer ≡ told
   pub flushes : (new : Replica) (answer : Answer) (out : List Mail) → IsStep hash_of r (Do Flush) new answer out → out ≡ flushed_by outgoing
 
 -- over all lists of events, unless pages or values met clash

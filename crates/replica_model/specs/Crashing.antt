@@ -67,7 +67,8 @@ module _ (hash_of : List ℕ → ℕ) where
   -- What occurs. What is not saved sends nothing, and takes no synchronisation further.
   abbrev pub Occurs : System → Occurrence → System → Type 0
   Occurs s (Saving e) t =
-      (new : Replica) × (answer : Answer) × (out : List Mail) × Does s e new answer out × (t ≡ record (goes s e new out) { saved = put s.saved (replica_of e) new })
+      (new : Replica) × (answer : Answer) × (out : List Mail) × Does s e new answer out
+      × (t ≡ record (goes s e new out) { saved = put s.saved (replica_of e) new })
   Occurs s (Passing e) t = (new : Replica) × (answer : Answer) × Does s e new answer [] × (answer ≢ Came Sent) × (t ≡ goes s e new [])
   Occurs s (Saves name) t = t ≡ record s { saved = put s.saved name (s.replica name) }
   Occurs s (Crashes name) t =

@@ -35,7 +35,8 @@ asks_at s prefixes = map (λ p. record { mail = Ask s p; of = no_snapshot }) pre
 -- a session that takes an opening and goes on asks for the root
 abbrev pub OpeningsAsk : Type 0
 OpeningsAsk = (hash_of : List ℕ → ℕ) (events : List Event) (w v : World) → Runs hash_of nothing events w
-    → (number name : ℕ) (m : Message) (s : SessionValue) (context : DotValue → Bool) (root : Option (List ℕ)) → message_at w.messages number ≡ Some m → m.mail ≡ Opening s context root
+    → (number name : ℕ) (m : Message) (s : SessionValue) (context : DotValue → Bool) (root : Option (List ℕ)) → message_at w.messages number ≡ Some m
+    → m.mail ≡ Opening s context root
     → Happens hash_of w (Deliver number name) (Came Sent) v → v.messages ≡ w.messages ++ asks_at s ([] ∷ [])
 
 -- and one that takes a page and goes on asks for the children of its prefix where the maps differ, by ascending index

@@ -21,7 +21,8 @@ use Rattle.replica_model.specs.Replica.{Replica, Open, Accepted, Kept, LIMIT, op
 use Rattle.replica_model.specs.Delivery.{Outcome, Sent, Done, Ignored, Mismatch}
 use Rattle.replica_model.specs.Step.{Call, Put, Remove, RemoveField, Clear, Flush, Retry, Abandon, Restart, Do, Take, Act, Answer, Came, IsStep, Refuses}
 use Rattle.replica_model.specs.Step as step
-use Rattle.replica_model.specs.World.{World, Event, Node, At, Deliver, Message, sets_of, message_at, no_snapshot, taking_of, nothing, Happens, RefusesEvent, Runs, Unclashed}
+use Rattle.replica_model.specs.World.{World, Event, Node, At, Deliver, Message, sets_of}
+use Rattle.replica_model.specs.World.{message_at, no_snapshot, taking_of, nothing, Happens, RefusesEvent, Runs, Unclashed}
 use Rattle.replica_model.specs.Sessions.{IsTakenOf, IsAskOf, IsSession, IsEnd}
 
 -- ---- one

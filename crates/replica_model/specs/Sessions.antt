@@ -89,8 +89,9 @@ module _ (hash_of : List ℕ → ℕ) where
     pub theirs_taken : (t : Taking) → Contains takings t → (page_at hash_of theirs t.prefix ≡ Some t.page) × (t.sent ≡ unknown_at known hash_of theirs t.prefix)
 
   -- How a delivery ends a session with Done: the message is an opening or a page of a session that is open at its asker; it adds to its asker just what
-  -- the answerer had seen when the snapshot was taken that the accepted opening shows; and unless two pages or values that the session met have one SHA-256, whatever other sessions
-  -- met, it took the snapshot's page at just each prefix where the maps differ, once, and it joins into the asker's live state what that of the answerer was then.
+  -- the answerer had seen when the snapshot was taken that the accepted opening shows; and unless two pages or values that the session met have one
+  -- SHA-256, whatever other sessions met, it took the snapshot's page at just each prefix where the maps differ, once, and it joins into the asker's
+  -- live state what that of the answerer was then.
   pub record IsEnd (events : List Event) (w v : World) (number name : ℕ) : Type 0 where
     pub ended : Open
     pub was_open : Contains (w.replica name).sessions ended
@@ -108,4 +109,5 @@ module _ (hash_of : List ℕ → ℕ) where
     pub pages : takings ≡ taken_with w message.mail
     pub met : v.closed ≡ w.closed ++ record { own = ended.own; theirs = of.map; takings = takings } ∷ []
     pub all : NoClash hash_of ended.own of.map takings → TookAll ended.own of.map ended.seen takings
-    pub joins : NoClash hash_of ended.own of.map takings → (v.replica name).live ≡ join greater (w.replica name).live (snapshot.before.replica ended.session.answerer).live
+    pub joins : NoClash hash_of ended.own of.map takings → (v.replica name).live ≡ join greater (w.replica name).live
+        (snapshot.before.replica ended.session.answerer).live

@@ -71,7 +71,8 @@ module _ (hash_of : List ℕ → ℕ) (name : ℕ) where
     pub context : DotValue → Bool
     pub root : Option (List ℕ)
     pub opening : TookOpening (deeds ++ Comes mail of ∷ []) ended.session context root
-    pub all : (theirs : Held) → root ≡ digest_at hash_of theirs [] → NoClash hash_of ended.own theirs (taken_with w mail) → TookAll hash_of ended.own theirs ended.seen (taken_with w mail)
+    pub all : (theirs : Held) → root ≡ digest_at hash_of theirs [] → NoClash hash_of ended.own theirs (taken_with w mail)
+        → TookAll hash_of ended.own theirs ended.seen (taken_with w mail)
     pub joins : (theirs : Held) → IsLawfulMap theirs → root ≡ digest_at hash_of theirs [] → NoClash hash_of ended.own theirs (taken_with w mail)
         → (v.replica name).live ≡ join greater (w.replica name).live (held_state theirs context)
 

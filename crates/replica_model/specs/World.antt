@@ -169,7 +169,8 @@ takes name old (Opening s context root) of outcome w =
     cond (is_done outcome) (ends name (own_of (open_at old.sessions s)) of [] w) (cond (is_sent outcome) (accepts s of w) w)
 takes name old (Ask s prefix) of outcome w = w
 takes name old (Page s sent) of outcome w =
-    cond (is_done outcome) (ends name (own_of (open_at old.sessions s)) (w.accepted s) (taking_of sent ∷ w.taken s) w) (cond (is_sent outcome) (takes_page s sent w) w)
+    cond (is_done outcome) (ends name (own_of (open_at old.sessions s)) (w.accepted s) (taking_of sent ∷ w.taken s) w)
+    (cond (is_sent outcome) (takes_page s sent w) w)
 takes name old (Gone s) of outcome w = w
 
 -- ---- what happens
@@ -205,7 +206,8 @@ module _ (hash_of : List ℕ → ℕ) where
   Happens w (Node name) answer v = (is_node w name ≡ false) × (answer ≡ Nothing) × (v ≡ record w { nodes = w.nodes ++ name ∷ [] })
   Happens w (At name c) answer v =
       (is_node w name ≡ true) × (has_peer w c ≡ true)
-      × ((new : Replica) × (out : List Mail) × IsStep hash_of (w.replica name) (Do c) new answer out × (v ≡ goes name new out (w.outgoing name) (calls name c w)))
+      × ((new : Replica) × (out : List Mail) × IsStep hash_of (w.replica name) (Do c) new answer out
+      × (v ≡ goes name new out (w.outgoing name) (calls name c w)))
   Happens w (Deliver number name) answer v =
       (is_node w name ≡ true)
       × ((m : Message) × (message_at w.messages number ≡ Some m)

@@ -1,5 +1,6 @@
 -- What the log keeps once it has a string more.
-use Rattle.std.proofs.Common.{◌≡◌, ◌⊎◌, inl, inr, ℕ, ◌≤◌, Bool, true, false, List, [], ◌∷◌, Option, Some, None, IsSome, IsTrue, refl, sym, ap, subst, ◌∙◌, ◌||◌, arith, cond}
+use Rattle.std.proofs.Common.{◌≡◌, inl, inr, ℕ, ◌≤◌, Bool, true, false, List, [], ◌∷◌}
+use Rattle.std.proofs.Common.{Option, Some, None, IsSome, IsTrue, refl, sym, ap, subst, ◌∙◌, ◌||◌}
 use Rattle.causal_context.specs.Context.{HasNone, has}
 use Rattle.causal_join.specs.Causal.{state_of}
 use Rattle.causal_join.specs.OrMap.{OrMapValue, or_map_at, or_map_state, path_of}
@@ -14,7 +15,7 @@ use Rattle.durable_log.specs.Log.{strings, Gains, IsReady}
 use Rattle.replica_model.specs.Mail.{Mail, mail_of}
 use Rattle.replica_model.specs.Mail as mail
 use Rattle.replica_model.specs.Replica.{Replica, restarts}
-use Rattle.replica_store.specs.Entry.{OPENED, CHANGED, SaysNumber, SaysDelta}
+use Rattle.replica_store.specs.Entry.{CHANGED, SaysDelta}
 use Rattle.replica_store.specs.Rebuilt.{IsRebuilt}
 use Rattle.replica_model.specs.Delivery.{Joined, Done}
 use Rattle.replica_store.specs.Kept.{Keeps, KeepsEither, GainsMessage, GainsDelta, GainsNumber}
@@ -118,7 +119,8 @@ module _ (before after : State) (old new : Replica) (m : MessageValue) where
       (λ db gains. gains_delta before.now.trees db old new keeps m took.0 took.1 gains took.2) clean
 
   -- a delta that brought it
-  joined_is : (other : Mail) → TookAs old other Done new → (is : Joins old (mail_of m) new) → restarts new ≡ record (restarts old) { live = join greater old.live is.0 }
+  joined_is : (other : Mail) → TookAs old other Done new → (is : Joins old (mail_of m) new)
+      → restarts new ≡ record (restarts old) { live = join greater old.live is.0 }
   joined_is other took is = took.0 ∙ ap (λ l. record (restarts old) { live = l }) is.2
 
   pub ended_kept : (other : Mail) → TookAs old other Done new → Joins old (mail_of m) new → (db : Trees) → Keeps before.now.trees old

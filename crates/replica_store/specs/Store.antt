@@ -37,4 +37,5 @@ pub record Writes {Hash : Type 0} (hash_of : Hash → List ℕ → ℕ) (old new
 
 -- the replica comes back from a log that was opened so
 abbrev pub ComesBackFrom : {S : Type 0} → Ghosts S → (State → Type 0) → LogValue S → Replica → Type 0
-ComesBackFrom {S} g IsOpen now r = (log : LogValue S) × (HasCleanDisk (log_state g log) → IsOpen (log_state g log)) × IsKeptAs (strings (log_state g log).now.trees) r
+ComesBackFrom {S} g IsOpen now r = (log : LogValue S) × (HasCleanDisk (log_state g log) → IsOpen (log_state g log))
+    × IsKeptAs (strings (log_state g log).now.trees) r

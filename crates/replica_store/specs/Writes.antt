@@ -1,27 +1,15 @@
 -- Several writes at once. Of this project.
 use Rattle.std.specs.Prelude.{◌≡◌, ℕ, List, [], ◌∷◌}
-use Rattle.op_model.specs.Place.{place_of}
 use Rattle.replica_model.specs.Mail.{Mail}
-use Rattle.replica_model.specs.Step.{Call, Put, Remove, RemoveField, Clear, Flush, Do, Answer, Made, Counted, Nothing}
+use Rattle.replica_model.specs.Step.{Call, Flush, Do, Answer, Nothing}
 use Rattle.replica_core.specs.Meaning.{ReplicaValue}
 use Rattle.replica_core.specs.Stepping.{Steps}
-use Rattle.replica_store.specs.declared.to_write.ToWrite.{ToWrite}
-use Rattle.replica_store.specs.declared.to_write.ToWrite.TheVariants as write
-use Rattle.replica_store.specs.declared.wrote.Wrote.{Wrote}
-use Rattle.replica_store.specs.declared.wrote.Wrote.TheVariants as wrote
+use Rattle.replica_core.specs.declared.write.Write.{Write}
+use Rattle.replica_core.specs.declared.write.Write.TheVariants as write
+use Rattle.replica_core.specs.Writing.{call_of}
 use Rattle.replica_store.specs.Systems.{IsWrite}
 
-abbrev pub call_of : ToWrite → Call
-call_of (write.Put key field value) = Put (place_of key.now field.now) value.now
-call_of (write.Remove key) = Remove key.now
-call_of (write.RemoveField key field) = RemoveField (place_of key.now field.now)
-call_of write.Clear = Clear
-
-abbrev pub answer_of : Wrote → Answer
-answer_of (wrote.Made dot) = Made dot
-answer_of (wrote.Counted number) = Counted number
-
-pub is_write_of : (w : ToWrite) → IsWrite (call_of w)
+pub is_write_of : {A : Type 0} → (w : Write A) → IsWrite (call_of w)
 is_write_of (write.Put key field value) = tt
 is_write_of (write.Remove key) = tt
 is_write_of (write.RemoveField key field) = tt

@@ -11,12 +11,10 @@ mod rebuilding;
 mod store;
 mod store_error;
 mod taking;
-mod to_write;
-mod write;
+mod to_make;
 mod writing;
 mod writing_all;
 mod written;
-mod wrote;
 
 pub use laws::{
     all_are_saved, all_come_back, crashes_come_back, events_are_saved, events_come_back,
@@ -24,6 +22,4 @@ pub use laws::{
 };
 pub use store::Store;
 pub use store_error::StoreError;
-pub use to_write::ToWrite;
 pub use written::Written;
-pub use wrote::Wrote;

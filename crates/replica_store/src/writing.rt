@@ -9,6 +9,7 @@ ghost use Rattle.replica_model.specs.Replica.{Replica as ReplicaModel};
 ghost use Rattle.replica_model.specs.Step.{Do, Put, Remove, RemoveField, Clear, Flush, Ask, Made, Counted, Numbered, Nothing};
 ghost use Rattle.replica_core.specs.Meaning.{meaning};
 ghost use Rattle.replica_core.specs.Stepping.{Steps, IsRefused};
+ghost use Rattle.replica_core.specs.Writing.{answer_of, call_of};
 ghost use Rattle.replica_store.specs.Refusing.{IsUnkept, LeavesBy};
 ghost use Rattle.replica_store.specs.Kept.{Keeps, IsKept, KeepsEither};
 ghost use Rattle.replica_store.specs.Store.{AreSent, Writes};
@@ -17,12 +18,12 @@ ghost use Rattle.replica_store.specs.Behind.{IsBehind};
 use crate::keeping::{keep_message, keep_number};
 use crate::store::Store;
 use crate::store_error::StoreError;
-use crate::write::{ToClear, ToPut, ToRemove, ToRemoveField, Write};
+use crate::to_make::{ToClear, ToMake, ToPut, ToRemove, ToRemoveField};
 use crate::written::Written;
 use dots::{Dot, Field, Key, Name, Value};
 use durable_log::Log;
 use hash_path::PathHash;
-use replica_core::Replica;
+use replica_core::{Replica, Write, Wrote};
 use sqlite::Alter;
 use std::alloc::Global;
 use wire_form::Message;
@@ -61,7 +62,7 @@ pub fn keep_flushed<S: Alter, H: PathHash>(
 
 impl<S: Alter, H: PathHash> Store<S, H> {
     // Makes a write, and returns once it is on the disk.
-    fn write<W: Write>(
+    fn keep_made<W: ToMake>(
         &mut self,
         alloc: Global,
         write: &W,
@@ -89,6 +90,18 @@ impl<S: Alter, H: PathHash> Store<S, H> {
                 Err(error)
             }
         }
+    }
+
+    /// Makes any of the writes of a replica, as `put_field` makes a put: what it is answered, and the delta that is to be sent.
+    pub fn write(&mut self, alloc: Global, write: &Write<'_>) -> Result<Written<Wrote>, StoreError>
+        ensures ok { IfOk result (λ written. (out : List Mail) × AreSent written.delta out
+            × Writes H.hash_of self.old.replica self.new.replica (call_of write.now) (answer_of written.answer) out) }
+        ensures err { IfErr result (LeavesBy (IsRefused self.old.replica (call_of write.now)) self.old self.new) }
+        ensures ended { IsTrue self.old.is_failed → (result ≡ Err StoreError.Failed) × (self.new ≡ self.old) }
+        ensures kept { HasCleanDisk (log_state S.Store self.new.log) → OnOk result (IsKept (log_state S.Store self.new.log) (meaning self.new.replica)) }
+        ensures any_moment { self.old.is_failed ≡ false → HasCleanDisk (log_state S.Store self.new.log) → KeepsEither (log_state S.Store self.new.log) (meaning self.old.replica) (meaning self.new.replica) }
+    {
+        self.keep_made(alloc, write)
     }
 
     /// Writes a value to the empty field of a key, as `put_field` does.
@@ -127,7 +140,7 @@ impl<S: Alter, H: PathHash> Store<S, H> {
         ensures kept { HasCleanDisk (log_state S.Store self.new.log) → OnOk result (IsKept (log_state S.Store self.new.log) (meaning self.new.replica)) }
         ensures any_moment { self.old.is_failed ≡ false → HasCleanDisk (log_state S.Store self.new.log) → KeepsEither (log_state S.Store self.new.log) (meaning self.old.replica) (meaning self.new.replica) }
     {
-        self.write(alloc, &ToPut { key, field, value })
+        self.keep_made(alloc, &ToPut { key, field, value })
     }
 
     /// Removes a key with all its fields, as `put_field` writes one: how many dots it observed, and the delta that is to be sent.
@@ -139,7 +152,7 @@ impl<S: Alter, H: PathHash> Store<S, H> {
         ensures kept { HasCleanDisk (log_state S.Store self.new.log) → OnOk result (IsKept (log_state S.Store self.new.log) (meaning self.new.replica)) }
         ensures any_moment { self.old.is_failed ≡ false → HasCleanDisk (log_state S.Store self.new.log) → KeepsEither (log_state S.Store self.new.log) (meaning self.old.replica) (meaning self.new.replica) }
     {
-        self.write(alloc, &ToRemove { key })
+        self.keep_made(alloc, &ToRemove { key })
     }
 
     /// Removes a field of a key, as `remove` does a key.
@@ -156,7 +169,7 @@ impl<S: Alter, H: PathHash> Store<S, H> {
         ensures kept { HasCleanDisk (log_state S.Store self.new.log) → OnOk result (IsKept (log_state S.Store self.new.log) (meaning self.new.replica)) }
         ensures any_moment { self.old.is_failed ≡ false → HasCleanDisk (log_state S.Store self.new.log) → KeepsEither (log_state S.Store self.new.log) (meaning self.old.replica) (meaning self.new.replica) }
     {
-        self.write(alloc, &ToRemoveField { key, field })
+        self.keep_made(alloc, &ToRemoveField { key, field })
     }
 
     /// Removes all keys, as `remove` does one.
@@ -168,7 +181,7 @@ impl<S: Alter, H: PathHash> Store<S, H> {
         ensures kept { HasCleanDisk (log_state S.Store self.new.log) → OnOk result (IsKept (log_state S.Store self.new.log) (meaning self.new.replica)) }
         ensures any_moment { self.old.is_failed ≡ false → HasCleanDisk (log_state S.Store self.new.log) → KeepsEither (log_state S.Store self.new.log) (meaning self.old.replica) (meaning self.new.replica) }
     {
-        self.write(alloc, &ToClear)
+        self.keep_made(alloc, &ToClear)
     }
 
     /// Opens a synchronisation with a peer, and returns once its number is on the disk: the number, and the hello that is to be sent.

@@ -1,5 +1,5 @@
 // Several own writes at once.
-ghost use Rattle.std.specs.Prelude.{◌≡◌, ◌∷◌, List, [], map, take, false, Err, IfOk, IfErr, OnOk, IsTrue};
+ghost use Rattle.std.specs.Prelude.{◌≡◌, List, map, take, false, Err, IfOk, IfErr, OnOk, IsTrue};
 ghost use Rattle.sqlite.specs.State.{HasCleanDisk};
 ghost use Rattle.durable_log.specs.Log.{log_state};
 ghost use Rattle.replica_model.specs.Mail.{Mail};
@@ -7,23 +7,22 @@ ghost use Rattle.replica_core.specs.Meaning.{meaning};
 ghost use Rattle.replica_store.specs.Kept.{IsKept, KeepsEither};
 ghost use Rattle.replica_store.specs.Refusing.{LeavesAllBy};
 ghost use Rattle.replica_store.specs.Store.{AreSent};
-ghost use Rattle.replica_store.specs.Writes.{MakesAll, WritesAll, call_of, answer_of};
+ghost use Rattle.replica_core.specs.Writing.{answer_of, call_of};
+ghost use Rattle.replica_store.specs.Writes.{MakesAll, WritesAll};
 
 use crate::store::Store;
 use crate::store_error::StoreError;
-use crate::to_write::ToWrite;
-use crate::write::Write;
+use crate::to_make::ToMake;
 use crate::writing::keep_flushed;
 use crate::written::Written;
-use crate::wrote::Wrote;
 use dots::Refusal;
 use hash_path::PathHash;
-use replica_core::Replica;
+use replica_core::{Replica, Write, Wrote};
 use sqlite::Alter;
 use std::alloc::Global;
 
 // Makes the writes, one after the other. One that is refused ends it, and those before it are made.
-fn make_all<H: PathHash, W: Write>(
+fn make_all<H: PathHash, W: ToMake>(
     alloc: Global,
     replica: &mut Replica<H>,
     writes: &[W],
@@ -47,7 +46,7 @@ impl<S: Alter, H: PathHash> Store<S, H> {
     pub fn write_all(
         &mut self,
         alloc: Global,
-        writes: &[ToWrite<'_>],
+        writes: &[Write<'_>],
     ) -> Result<Written<Vec<Wrote>>, StoreError>
         ensures ok { IfOk result (λ written. (out : List Mail) × AreSent written.delta out
             × WritesAll H.hash_of self.old.replica self.new.replica (map call_of writes.now) (map answer_of written.answer.items) out) }

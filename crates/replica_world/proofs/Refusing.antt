@@ -7,13 +7,13 @@ use Rattle.std.specs.Ordering.{nat_cmp}
 use Rattle.dots.specs.declared.refusal.Refusal.{Refusal}
 use Rattle.dots.specs.declared.refusal.Refusal.TheVariants.{OutOfMemory, NameTaken, UnknownReplica, UnknownMessage}
 use Rattle.replica_model.specs.Mail.{Mail}
-use Rattle.op_model.specs.Place.{Place, place_of, plain}
+use Rattle.op_model.specs.Place.{Place, place_of}
 use Rattle.replica_model.specs.Replica.{Replica}
 use Rattle.replica_model.specs.Step as step
 use Rattle.replica_model.specs.Step.{Call, Answer, Refuses}
-use Rattle.replica_world.specs.declared.call.Call as calls
-use Rattle.replica_world.specs.declared.call.Call.TheVariants as call
-use Rattle.replica_world.specs.Happening.{call_value}
+use Rattle.replica_core.specs.declared.call.Call as calls
+use Rattle.replica_core.specs.declared.call.Call.TheVariants as call
+use Rattle.replica_core.specs.Writing.{call_value}
 use Rattle.replica_model.specs.World.{World, Message, Node, At, Deliver, is_node, has_peer, message_at, nothing}
 use Rattle.replica_core.specs.Meaning.{ReplicaValue, meaning}
 use Rattle.replica_core.specs.Stepping.{Foretells, RefusesNothing, Stays, IsRefused}
@@ -139,13 +139,9 @@ module _ {Hash : Type 0} (hash : Hash) (old new : BTreeMap ℕ (ReplicaValue Has
 
 -- of a put at any place, and of an ask of any peer
 module _ {A : Type 0} (r : Replica) (told : Option Refusal) {c : calls.Call A} where
-  pub put_foretold : ((place : Place) (value : List ℕ) → Foretells r (step.Put place value) told) → {key value : List ℕ} → c ≡ call.Put key value
+  pub put_foretold : ((place : Place) (value : List ℕ) → Foretells r (step.Put place value) told) → {key field value : List ℕ} → c ≡ call.Put key field value
       → Foretells r (call_value c) told
-  put_foretold all {key} {value} is = subst (λ d. Foretells r (call_value d) told) (sym is) (all (plain key) value)
-
-  pub put_field_foretold : ((place : Place) (value : List ℕ) → Foretells r (step.Put place value) told) → {key field value : List ℕ}
-      → c ≡ call.PutField key field value → Foretells r (call_value c) told
-  put_field_foretold all {key} {field} {value} is = subst (λ d. Foretells r (call_value d) told) (sym is) (all (place_of key field) value)
+  put_foretold all {key} {field} {value} is = subst (λ d. Foretells r (call_value d) told) (sym is) (all (place_of key field) value)
 
   pub ask_foretold : ((peer : ℕ) → Foretells r (step.Ask peer) told) → {peer : ℕ} → c ≡ call.Ask peer → Foretells r (call_value c) told
   ask_foretold all {peer} is = subst (λ d. Foretells r (call_value d) told) (sym is) (all peer)
@@ -189,8 +185,7 @@ module _ {Hash : Type 0} (hash : Hash) (old : BTreeMap ℕ (ReplicaValue Hash)) 
 
 -- a call that is no ask has no peer
 pub no_peer_asked : {A : Type 0} (w : World) (c : calls.Call A) → ((peer : ℕ) → c ≡ call.Ask peer → ⊥) → true ≡ has_peer w (call_value c)
-no_peer_asked w (call.Put key value) no_ask = refl
-no_peer_asked w (call.PutField key field value) no_ask = refl
+no_peer_asked w (call.Put key field value) no_ask = refl
 no_peer_asked w (call.Remove key) no_ask = refl
 no_peer_asked w (call.RemoveField key field) no_ask = refl
 no_peer_asked w call.Clear no_ask = refl

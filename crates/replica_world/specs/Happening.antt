@@ -1,13 +1,11 @@
 -- What the calls, the events and the answers of a world are in the words of the model. Of this project.
-use Rattle.op_model.specs.Place.{place_of, plain}
 use Rattle.replica_core.specs.Answered.{outcome_of}
+use Rattle.replica_core.specs.Writing.{call_value}
 use Rattle.replica_model.specs.Step as step
 use Rattle.replica_model.specs.World as world
 use Rattle.replica_world.specs.declared.accepted.Accepted.{Accepted}
 use Rattle.replica_world.specs.declared.answer.Answer as declared
 use Rattle.replica_world.specs.declared.answer.Answer.TheVariants as answer
-use Rattle.replica_world.specs.declared.call.Call as calls
-use Rattle.replica_world.specs.declared.call.Call.TheVariants as call
 use Rattle.replica_world.specs.declared.event.Event as events
 use Rattle.replica_world.specs.declared.event.Event.TheVariants as event
 
@@ -20,17 +18,6 @@ answer_value (answer.Outcome outcome) = step.Came (outcome_of outcome)
 answer_value (answer.Closed was) = step.Closed was
 
 module _ {A : Type 0} where
-  abbrev pub call_value : calls.Call A → step.Call
-  call_value (call.Put key value) = step.Put (plain key) value
-  call_value (call.PutField key field value) = step.Put (place_of key field) value
-  call_value (call.Remove key) = step.Remove key
-  call_value (call.RemoveField key field) = step.RemoveField (place_of key field)
-  call_value call.Clear = step.Clear
-  call_value call.Flush = step.Flush
-  call_value (call.Ask peer) = step.Ask peer
-  call_value (call.Retry number) = step.Retry number
-  call_value (call.Abandon number) = step.Abandon number
-
   abbrev pub event_value : events.Event A → world.Event
   event_value (event.Node name) = world.Node name
   event_value (event.Call name c) = world.At name (call_value c)

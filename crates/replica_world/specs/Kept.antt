@@ -1,11 +1,10 @@
 -- What a world keeps of its replicas for when they crash: how often each was saved, and what it is to come back from where it did something since.
 -- Of this project.
-use Rattle.std.specs.Prelude.{◌≡◌, ◌⊎◌, ◌≤◌, ◌<◌, ◌+◌, ◌^◌, ◌==◌, ℕ, nat_lt, Bool, true, false, cond, List, [], ◌∷◌, map, Option, Some, None, IsSome}
+use Rattle.std.specs.Prelude.{◌≡◌, ◌⊎◌, ◌<◌, ◌+◌, ◌^◌, ◌==◌, ℕ, Bool, true, false, cond, Option, Some, None, IsSome}
 use Rattle.std.specs.BTreeMap.{BTreeMap, get}
 use Rattle.std.specs.Ordering.{nat_cmp}
 use Rattle.replica_core.specs.Meaning.{ReplicaValue, meaning}
 use Rattle.replica_core.specs.Saving.{CheckpointValue, checkpointed}
-use Rattle.replica_model.specs.Laws.{replica_of}
 use Rattle.replica_model.specs.Replica.{Replica, restarts}
 use Rattle.replica_model.specs.World.{Event, Node, At, Deliver}
 use Rattle.replica_world.specs.Happening.{event_value}
@@ -49,7 +48,8 @@ module _ {Hash A : Type 0} where
 
   -- the replica of this name was saved once more
   abbrev pub SavedOnce : BTreeMap ℕ (Recovery Hash A) → BTreeMap ℕ (Recovery Hash A) → ℕ → Type 0
-  SavedOnce old new name = (n : ℕ) → (saves_in new n ≡ cond (n == name) (saves_in old n + 1) (saves_in old n)) × (back_in new n ≡ cond (n == name) None (back_in old n))
+  SavedOnce old new name = (n : ℕ) → (saves_in new n ≡ cond (n == name) (saves_in old n + 1) (saves_in old n))
+      × (back_in new n ≡ cond (n == name) None (back_in old n))
 
   -- it was saved, or nothing changed
   abbrev pub Settles : Bool → BTreeMap ℕ (Recovery Hash A) → BTreeMap ℕ (Recovery Hash A) → ℕ → Type 0

@@ -1,18 +1,17 @@
 // The calls of a replica of a world.
 ghost use Rattle.std.specs.Prelude.{◌≡◌, [], IfOk, IfErr, OnErr, IsOkUnless};
-ghost use Rattle.op_model.specs.Place.{place_of, plain};
 ghost use Rattle.replica_model.specs.Step as step;
 ghost use Rattle.replica_model.specs.Step.{Do};
 ghost use Rattle.replica_core.specs.Stepping.{Steps, Stays, IsRefused};
-ghost use Rattle.replica_world.specs.Happening.{answer_value, call_value};
+ghost use Rattle.replica_core.specs.Writing.{answer_of, call_of, call_value};
+ghost use Rattle.replica_world.specs.Happening.{answer_value};
 ghost use Rattle.replica_world.specs.Keeping.{MakesCall};
 
 use crate::answer::Answer;
-use crate::call::Call;
 use crate::posted::Posted;
-use dots::{Field, Key, Name, Refusal, Value};
+use dots::{Name, Refusal};
 use hash_path::PathHash;
-use replica_core::Replica;
+use replica_core::{Call, Replica, Write, Wrote};
 use std::alloc::Allocator;
 use sync_protocol::Outbox;
 use wire_form::Message;
@@ -30,11 +29,10 @@ pub(crate) fn make<H: PathHash, A: Allocator + Copy>(
     ensures unposted { OnErr result (posted.new ≡ posted.old) }
 {
     match call {
-        Call::Put(key, value) => put(replica, key, value),
-        Call::PutField(key, field, value) => put_field(replica, key, field, value),
-        Call::Remove(key) => remove(replica, key),
-        Call::RemoveField(key, field) => remove_field(replica, key, field),
-        Call::Clear => clear(replica),
+        Call::Put(key, field, value) => write(replica, &Write::Put(key, field, value)),
+        Call::Remove(key) => write(replica, &Write::Remove(key)),
+        Call::RemoveField(key, field) => write(replica, &Write::RemoveField(key, field)),
+        Call::Clear => write(replica, &Write::Clear),
         Call::Flush => flush(replica, posted),
         Call::Ask(peer) => ask(replica, posted, *peer),
         Call::Retry(number) => retry(alloc, replica, posted, *number),
@@ -42,74 +40,28 @@ pub(crate) fn make<H: PathHash, A: Allocator + Copy>(
     }
 }
 
-fn put<H: PathHash, A: Allocator + Copy>(
+// Makes a write.
+fn write<H: PathHash, A: Allocator + Copy>(
     replica: &mut Replica<H, A>,
-    key: &Key<A>,
-    value: &Value<A>,
+    made: &Write<'_, A>,
 ) -> Result<Answer, Refusal>
-    ensures ok { IfOk result (λ answer. Steps H.hash_of replica.old replica.new (Do (step.Put (plain key.now) value.now)) (answer_value answer) []) }
-    ensures refused { IfErr result (IsRefused replica.old (step.Put (plain key.now) value.now)) }
+    ensures ok { IfOk result (λ answer. Steps H.hash_of replica.old replica.new (Do (call_of made.now)) (answer_value answer) []) }
+    ensures refused { IfErr result (IsRefused replica.old (call_of made.now)) }
     ensures unchanged { OnErr result (Stays replica.old replica.new) }
 {
-    match replica.put(key, value) {
-        Ok(dot) => Ok(Answer::Dot(dot)),
+    match replica.write(made) {
+        Ok(wrote) => Ok(answer_to(wrote)),
         Err(refusal) => Err(refusal),
     }
 }
 
-fn put_field<H: PathHash, A: Allocator + Copy>(
-    replica: &mut Replica<H, A>,
-    key: &Key<A>,
-    field: &Field<A>,
-    value: &Value<A>,
-) -> Result<Answer, Refusal>
-    ensures ok { IfOk result (λ answer. Steps H.hash_of replica.old replica.new (Do (step.Put (place_of key.now field.now) value.now)) (answer_value answer) []) }
-    ensures refused { IfErr result (IsRefused replica.old (step.Put (place_of key.now field.now) value.now)) }
-    ensures unchanged { OnErr result (Stays replica.old replica.new) }
+// What a write is answered in a world.
+fn answer_to(wrote: Wrote) -> Answer
+    ensures { answer_value result ≡ answer_of wrote }
 {
-    match replica.put_field(key, field, value) {
-        Ok(dot) => Ok(Answer::Dot(dot)),
-        Err(refusal) => Err(refusal),
-    }
-}
-
-fn remove<H: PathHash, A: Allocator + Copy>(
-    replica: &mut Replica<H, A>,
-    key: &Key<A>,
-) -> Result<Answer, Refusal>
-    ensures ok { IfOk result (λ answer. Steps H.hash_of replica.old replica.new (Do (step.Remove key.now)) (answer_value answer) []) }
-    ensures refused { IsOkUnless result Refusal.OutOfMemory }
-    ensures unchanged { OnErr result (Stays replica.old replica.new) }
-{
-    match replica.remove(key) {
-        Ok(number) => Ok(Answer::Count(number)),
-        Err(refusal) => Err(refusal),
-    }
-}
-
-fn remove_field<H: PathHash, A: Allocator + Copy>(
-    replica: &mut Replica<H, A>,
-    key: &Key<A>,
-    field: &Field<A>,
-) -> Result<Answer, Refusal>
-    ensures ok { IfOk result (λ answer. Steps H.hash_of replica.old replica.new (Do (step.RemoveField (place_of key.now field.now))) (answer_value answer) []) }
-    ensures refused { IsOkUnless result Refusal.OutOfMemory }
-    ensures unchanged { OnErr result (Stays replica.old replica.new) }
-{
-    match replica.remove_field(key, field) {
-        Ok(number) => Ok(Answer::Count(number)),
-        Err(refusal) => Err(refusal),
-    }
-}
-
-fn clear<H: PathHash, A: Allocator + Copy>(replica: &mut Replica<H, A>) -> Result<Answer, Refusal>
-    ensures ok { IfOk result (λ answer. Steps H.hash_of replica.old replica.new (Do step.Clear) (answer_value answer) []) }
-    ensures refused { IsOkUnless result Refusal.OutOfMemory }
-    ensures unchanged { OnErr result (Stays replica.old replica.new) }
-{
-    match replica.clear() {
-        Ok(number) => Ok(Answer::Count(number)),
-        Err(refusal) => Err(refusal),
+    match wrote {
+        Wrote::Made(dot) => Answer::Dot(dot),
+        Wrote::Counted(number) => Answer::Count(number),
     }
 }
 

@@ -1,7 +1,7 @@
 ghost use Rattle.std.specs.Prelude.{◌≡◌};
 
-use crate::call::Call;
 use dots::Name;
+use replica_core::Call;
 use std::alloc::{Allocator, Global};
 
 /// What happens in a world.

@@ -4,16 +4,16 @@ ghost use Rattle.replica_model.specs.Step as step;
 ghost use Rattle.replica_model.specs.World as model;
 ghost use Rattle.replica_core.specs.Meaning.{meaning};
 ghost use Rattle.replica_core.specs.Stepping.{Foretells};
-ghost use Rattle.replica_world.specs.Happening.{call_value, event_value};
+ghost use Rattle.replica_core.specs.Writing.{call_value};
+ghost use Rattle.replica_world.specs.Happening.{event_value};
 ghost use Rattle.replica_world.specs.Keeping.{ForetellsEvent};
 
-use crate::call::Call;
 use crate::event::Event;
 use crate::happening::has_peer;
 use crate::posted::Posted;
 use dots::{Name, Refusal};
 use hash_path::PathHash;
-use replica_core::Replica;
+use replica_core::{Call, Replica};
 use std::alloc::Allocator;
 use std::collections::BTreeMap;
 
@@ -84,8 +84,7 @@ fn refusal_of<H: PathHash, A: Allocator + Copy>(
     ensures { Foretells (meaning replica.now) (call_value call.now) result }
 {
     match call {
-        Call::Put(_, _) => replica.put_refusal(),
-        Call::PutField(_, _, _) => replica.put_refusal(),
+        Call::Put(_, _, _) => replica.put_refusal(),
         Call::Ask(_) => replica.ask_refusal(),
         Call::Remove(_) | Call::RemoveField(_, _) | Call::Clear => None,
         Call::Flush | Call::Retry(_) | Call::Abandon(_) => None,

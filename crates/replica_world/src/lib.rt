@@ -4,7 +4,6 @@
 
 mod accepted;
 mod answer;
-mod call;
 mod calling;
 mod delivering;
 mod event;
@@ -21,7 +20,6 @@ mod world;
 
 pub use accepted::Accepted;
 pub use answer::Answer;
-pub use call::Call;
 pub use event::Event;
 pub use laws::{replicas_show_what_they_have_seen, what_is_held_survives};
 pub use told::Told;

@@ -43,7 +43,8 @@ module _ (hash_of : List ℕ → ℕ) (own : Held) (seen opened : DotValue → B
 
 -- a value that a map holds
 abbrev pub HoldsValue : Held → List ℕ → Type 0
-HoldsValue m value = (key : List ℕ) × (fs : FieldsValue) × (finite.get m key ≡ Some fs) × ((field : List ℕ) × (vs : ValuesValue) × Contains fs (field, vs) × ((d : DotValue) × Contains vs (d, value)))
+HoldsValue m value = (key : List ℕ) × (fs : FieldsValue) × (finite.get m key ≡ Some fs)
+    × ((field : List ℕ) × (vs : ValuesValue) × Contains fs (field, vs) × ((d : DotValue) × Contains vs (d, value)))
 
 module _ (hash_of : List ℕ → ℕ) (own theirs : Held) (ts : List Taking) where
   -- the pages of both maps, and those that were taken
@@ -72,11 +73,13 @@ module _ (hash_of : List ℕ → ℕ) (own theirs : Held) (seen opened : DotValu
     pub theirs_taken : (t : Taking) → Contains ts t → (page_at hash_of theirs t.prefix ≡ Some t.page) × (t.sent ≡ unknown_at seen hash_of theirs t.prefix)
     pub waits : (p d : List ℕ) → (finite.get f.waiting p ≡ Some d) ↔ Waits hash_of own theirs (TakenAt ts) p d
     pub once : (t : Taking) (older newer : List Taking) → ts ≡ newer ++ t ∷ older → ¬ TakenAt older t.prefix
-    pub done : ((p : List ℕ) → finite.get f.waiting p ≡ None) → ((key : List ℕ) → finite.get f.built key ≡ opened_at seen (finite.get own key) (finite.get theirs key))
+    pub done : ((p : List ℕ) → finite.get f.waiting p ≡ None)
+        → ((key : List ℕ) → finite.get f.built key ≡ opened_at seen (finite.get own key) (finite.get theirs key))
         × ((p d : List ℕ) → Differ hash_of own theirs p d → TakenAt ts p) × ((p : List ℕ) → TakenAt ts p → (d : List ℕ) × Differ hash_of own theirs p d)
 
   abbrev pub Fetching : Type 0
-  Fetching = (ts : List Taking) (f : Fetch) → IsLawfulMap own → NoClash hash_of own theirs ts → Fetched hash_of own seen opened (digest_at hash_of theirs []) ts f → IsFetched ts f
+  Fetching = (ts : List Taking) (f : Fetch) → IsLawfulMap own → NoClash hash_of own theirs ts
+      → Fetched hash_of own seen opened (digest_at hash_of theirs []) ts f → IsFetched ts f
 
 -- ---- the law of fitting
 

@@ -74,7 +74,8 @@ module _ {Hash : Type 0} where
 
   abbrev pub stage_code : Coded Hash → Coded (StageValue Hash)
   stage_code hash =
-      code_by (Stored Hash) (coded⊎ (coded⊎ coded_unit coded_unit) (coded⊎ (coded× context_code (fetching_code hash)) (coded× context_code (built_code hash)))) stored unstored stored_back
+      code_by (Stored Hash) (coded⊎ (coded⊎ coded_unit coded_unit)
+      (coded⊎ (coded× context_code (fetching_code hash)) (coded× context_code (built_code hash)))) stored unstored stored_back
 
   abbrev pub asker_code : Coded Hash → Coded (AskerValue Hash)
   asker_code hash =

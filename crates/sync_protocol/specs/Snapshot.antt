@@ -31,7 +31,8 @@ session_code =
 -- and a snapshot as its parts
 abbrev pub snapshot_code : {Hash : Type 0} → Coded Hash → Coded (SnapshotValue Hash)
 snapshot_code {Hash} hash =
-    code_by (ContextValue × (Hash × (Held × ContextValue))) (coded× context_code (coded× hash (coded× (finite.code (coded_list coded_ℕ) fields_code) context_code)))
+    code_by (ContextValue × (Hash × (Held × ContextValue)))
+    (coded× context_code (coded× hash (coded× (finite.code (coded_list coded_ℕ) fields_code) context_code)))
     (λ s. (s.seen, (s.hash, (s.map, s.context))))
     (λ p. record { seen = p.0; hash = p.1.0; map = p.1.1.0; context = p.1.1.1 })
     (λ _. refl)

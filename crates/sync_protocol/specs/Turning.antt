@@ -47,7 +47,8 @@ gone_at session Ended = (at_stage session Ended, Ignored)
 module _ (hash_of : List ℕ → ℕ) (session : SessionValue) where
   -- an opening with these dots and this root digest
   abbrev pub opening_at : Stage → ContextValue → Option (List ℕ) → StateAndStep
-  opening_at (Waits own seen) context root = comes_to session own seen context (Waits own seen) (Ask session [] ∷ []) (take_opening hash_of own (has seen) (has context) root)
+  opening_at (Waits own seen) context root = comes_to session own seen context (Waits own seen) (Ask session [] ∷ [])
+      (take_opening hash_of own (has seen) (has context) root)
   opening_at (Fetches own seen known f) context root = (at_stage session (Fetches own seen known f), Ignored)
   opening_at (Has known built) context root = (at_stage session (Has known built), Ignored)
   opening_at Ended context root = (at_stage session Ended, Ignored)
@@ -60,7 +61,8 @@ module _ (hash_of : List ℕ → ℕ) (session : SessionValue) where
   abbrev pub page_at_stage : Stage → SentValue → StateAndStep
   page_at_stage (Waits own seen) s = (at_stage session (Waits own seen), Ignored)
   page_at_stage (Fetches own seen context f) s =
-      comes_to session own seen context (Fetches own seen context f) (asks_for own s) (take_page hash_of own (has seen) (has context) f s.prefix s.page s.values)
+      comes_to session own seen context (Fetches own seen context f) (asks_for own s)
+      (take_page hash_of own (has seen) (has context) f s.prefix s.page s.values)
   page_at_stage (Has known built) s = (at_stage session (Has known built), Ignored)
   page_at_stage Ended s = (at_stage session Ended, Ignored)
 

@@ -1,7 +1,8 @@
 -- The status that a program ends with which runs a trace. Of this project.
 use Rattle.std.specs.Prelude.{ℕ, Result, Ok, Err}
 use Rattle.dots.specs.declared.refusal.Refusal.{Refusal}
-use Rattle.dots.specs.declared.refusal.Refusal.TheVariants.{OutOfMemory, TooLong, ReadOnly, NumbersSpent, SessionsFull, NotAMessage, NoPlace, NameTaken, UnknownReplica, UnknownMessage, BadLine, Input, Output}
+use Rattle.dots.specs.declared.refusal.Refusal.TheVariants.{OutOfMemory, TooLong, ReadOnly, NumbersSpent, SessionsFull, NotAMessage}
+use Rattle.dots.specs.declared.refusal.Refusal.TheVariants.{NoPlace, NameTaken, UnknownReplica, UnknownMessage, BadLine, Input, Output}
 
 -- by why the run ended early
 abbrev pub status_by : Refusal → ℕ

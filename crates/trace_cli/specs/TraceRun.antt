@@ -29,7 +29,8 @@ pub record Leads (old : Point) (piece text : List ℕ) (new : Point) : Type 0 wh
   pub whole : List ℕ
   pub parts : old.line ++ piece ≡ whole ++ new.line
   pub ends : ends_line whole ≡ true
-  pub goes_on : (more : List ℕ) (later : Given) → Gives new.past new.number (lines_of more) later → Gives old.past old.number (lines_of (whole ++ more)) (prepend text later)
+  pub goes_on : (more : List ℕ) (later : Given) → Gives new.past new.number (lines_of more) later
+      → Gives old.past old.number (lines_of (whole ++ more)) (prepend text later)
 
 -- From old, the piece ends the trace with this fault, whatever comes after it.
 pub record Stops (old : Point) (piece text : List ℕ) (refusal : Refusal) : Type 0 where

@@ -42,4 +42,5 @@ Brings Comes old new (Err refusal) = (refusal ≡ OutOfMemory) ⊎ (Comes (Refus
 
 -- behind the first text the second has an entry for each of these labels, with values of which P says so
 abbrev pub AddsEntries : (List ℕ → List (List ℕ) → Type 0) → List (List ℕ) → List ℕ → List ℕ → Type 0
-AddsEntries P labels old new = (entries : List (List ℕ × List (List ℕ))) × (keys_of entries ≡ labels) × All (λ e. P e.0 e.1) entries × (new ≡ old ++ entries_text entries)
+AddsEntries P labels old new = (entries : List (List ℕ × List (List ℕ))) × (keys_of entries ≡ labels) × All (λ e. P e.0 e.1) entries
+    × (new ≡ old ++ entries_text entries)

@@ -26,10 +26,12 @@ ReadsAreSeen = (events : List Event) (w : World) → Runs fnv1a nothing events w
 abbrev pub LooksAreSeen : Type 0
 LooksAreSeen = (w : World) (pins : List PinValue) (number : ℕ) (key : List ℕ) (pin : PinValue) (then : World) → pin_at pins number ≡ Some pin
     → Runs fnv1a nothing pin.events then → Unclashed fnv1a then
-    → (outcome : CommandOutcome) → Comes fnv1a w pins (Look number key) outcome → outcome ≡ if_short key (Done (values_text (values (then.seen pin.name) (plain key))) [])
+    → (outcome : CommandOutcome) → Comes fnv1a w pins (Look number key) outcome
+    → outcome ≡ if_short key (Done (values_text (values (then.seen pin.name) (plain key))) [])
 
 -- what a write, a removal or a flush that is not refused is answered is told by what its replica has seen and is to send, unless pages or values that
 -- one session met clash
 abbrev pub WritesAreSeen : Type 0
 WritesAreSeen = (events : List Event) (w : World) → Runs fnv1a nothing events w → Unclashed fnv1a w
-    → (pins : List PinValue) (c : CommandValue) (text told : List ℕ) (more : List Occurrence) → written_of w c ≡ Some told → Comes fnv1a w pins c (Done text more) → text ≡ told
+    → (pins : List PinValue) (c : CommandValue) (text told : List ℕ) (more : List Occurrence) → written_of w c ≡ Some told
+    → Comes fnv1a w pins c (Done text more) → text ≡ told

@@ -19,7 +19,8 @@ use Rattle.replica_model.specs.Step as step
 use Rattle.replica_model.specs.World.{World, Event, is_node, nothing, Happens, RefusesEvent, Runs}
 use Rattle.replica_model.specs.World as world
 use Rattle.replica_world.specs.Held.{occurrence}
-use Rattle.trace_words.specs.Command.{CommandValue, Node, Put, Get, Flush, Deliver, Sync, Retry, Abandon, Remove, RemoveField, Clear, Fields, Show, Size, Context, Pin, Digest, Save, Crash, Look}
+use Rattle.trace_words.specs.Command.{CommandValue, Node, Put, Get, Flush, Deliver, Sync, Retry, Abandon, Remove}
+use Rattle.trace_words.specs.Command.{RemoveField, Clear, Fields, Show, Size, Context, Pin, Digest, Save, Crash, Look}
 use Rattle.trace_words.specs.Text.{values_text, fields_text, map_text, size_text, context_text, digest_text, pin_text}
 use Rattle.trace_world.specs.Told.{happened_text}
 
@@ -59,7 +60,8 @@ ReadsSize live outcome = (found : List (List ℕ)) × Lists (HoldsKey live) foun
 
 -- the known dots, as a version vector and a cloud
 abbrev pub ReadsContext : MapState → CommandOutcome → Type 0
-ReadsContext live outcome = (context : ContextValue) × IsCanonical context × (has context ≡ live.has) × (outcome ≡ Done (context_text context.vector context.cloud) [])
+ReadsContext live outcome = (context : ContextValue) × IsCanonical context × (has context ≡ live.has)
+    × (outcome ≡ Done (context_text context.vector context.cloud) [])
 
 -- the root digest of the map
 abbrev pub ReadsDigest : (List ℕ → ℕ) → MapState → CommandOutcome → Type 0
@@ -73,7 +75,8 @@ at_replica w name Comes outcome = ((is_node w name ≡ false) × (outcome ≡ Re
 
 -- with a key, field or value of at most so many bytes; else it is too long
 abbrev pub with_bytes : List ℕ → (CommandOutcome → Type 0) → CommandOutcome → Type 0
-with_bytes bytes Comes outcome = ((nat_le (length bytes) MAX_LENGTH ≡ false) × (outcome ≡ Refused TooLong)) ⊎ ((nat_le (length bytes) MAX_LENGTH ≡ true) × Comes outcome)
+with_bytes bytes Comes outcome = ((nat_le (length bytes) MAX_LENGTH ≡ false) × (outcome ≡ Refused TooLong))
+    ⊎ ((nat_le (length bytes) MAX_LENGTH ≡ true) × Comes outcome)
 
 -- the pins are numbered from 1 on
 abbrev pub pin_at : List PinValue → ℕ → Option PinValue
@@ -106,7 +109,8 @@ module _ (hash_of : List ℕ → ℕ) where
   Comes w pins (Node name) outcome = IsEvent w (world.Node name) outcome
   Comes w pins (Put name key field value) outcome =
       at_replica w name (with_bytes key (with_bytes field (with_bytes value (IsCall w name (step.Put (place_of key field) value))))) outcome
-  Comes w pins (Get name key field) outcome = at_replica w name (with_bytes key (with_bytes field (ReadsValues (place_of key field) (w.replica name).live))) outcome
+  Comes w pins (Get name key field) outcome = at_replica w name
+      (with_bytes key (with_bytes field (ReadsValues (place_of key field) (w.replica name).live))) outcome
   Comes w pins (Flush name) outcome = IsCall w name step.Flush outcome
   Comes w pins (Deliver number name) outcome = IsEvent w (world.Deliver number name) outcome
   Comes w pins (Sync name peer) outcome = IsCall w name (step.Ask peer) outcome

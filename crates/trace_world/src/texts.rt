@@ -3,11 +3,11 @@ ghost use Rattle.std.specs.Prelude.{◌≡◌, ◌⊎◌, ◌&&◌, nat_le, leng
 ghost use Rattle.dots.specs.Bytes.{MAX_LENGTH};
 ghost use Rattle.op_model.specs.Place.{place_of};
 ghost use Rattle.replica_model.specs.Step as step;
-ghost use Rattle.replica_world.specs.Happening.{call_value};
+ghost use Rattle.replica_core.specs.Writing.{call_value};
 ghost use Rattle.trace_world.specs.Texts.{is_short};
 
 use dots::{Field, Key, Refusal, Value};
-use replica_world::Call;
+use replica_core::Call;
 use std::alloc::Allocator;
 
 // The key of these bytes.
@@ -49,5 +49,5 @@ pub(crate) fn put_of<A: Allocator + Copy>(
     let key = key_of(alloc, key)?;
     let field = field_of(alloc, field)?;
     let value = value_of(alloc, value)?;
-    Ok(Call::PutField(key, field, value))
+    Ok(Call::Put(key, field, value))
 }

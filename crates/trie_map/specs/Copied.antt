@@ -13,7 +13,8 @@ module _ {S P H : Type 0} (at : S → P → DotValue → Option H) (m : finite.F
 
   -- each copy is of the store at its key
   abbrev pub AreOnlyCopies : Type 0
-  AreOnlyCopies = (key : List ℕ) (copy : S) → get bytes_cmp copies key ≡ Some copy → (store : S) × (finite.get m key ≡ Some store) × HoldsSame (at copy) (at store)
+  AreOnlyCopies = (key : List ℕ) (copy : S) → get bytes_cmp copies key ≡ Some copy → (store : S) × (finite.get m key ≡ Some store)
+      × HoldsSame (at copy) (at store)
 
   -- each key's store has a copy, there are no others, and their keys ascend
   pub record AreCopies : Type 0 where

@@ -15,21 +15,27 @@ module _ {S P H : Type 0} (at : S → P → DotValue → Option H) (greater : H 
 
   -- The map changes at one key at most. If the key held what the first side holds there, or their join already, it holds the join;
   -- and so it does, whatever the key held, if the join is not what the first side holds.
-  pub record JoinsAt (old new : finite.FinMap bytes_cmp S) (key : List ℕ) (mine : S) (own : DotValue → Bool) (yours : S) (theirs : DotValue → Bool) : Type 0 where
+  pub record JoinsAt (old new : finite.FinMap bytes_cmp S) (key : List ℕ) (mine : S) (own : DotValue → Bool) (yours : S)
+      (theirs : DotValue → Bool) : Type 0 where
     pub apart : (q : List ℕ) → eq_by_cmp bytes_cmp q key ≡ false → finite.get new q ≡ finite.get old q
     pub here : HoldsSame (held_by at (finite.get old key)) (at mine) ⊎ HoldsSame (held_by at (finite.get old key)) (both_at mine own yours theirs)
         → HoldsSame (held_by at (finite.get new key)) (both_at mine own yours theirs)
     pub written : ¬ HoldsSame (at mine) (both_at mine own yours theirs) → HoldsSame (held_by at (finite.get new key)) (both_at mine own yours theirs)
 
   -- at a key of a draft stands the join of what two maps hold there
-  abbrev pub IsJoinedAt : (mine : List ℕ × P → DotValue → Option H) (own : DotValue → Bool) (yours : List ℕ × P → DotValue → Option H) (theirs : DotValue → Bool) (draft : finite.FinMap bytes_cmp S) → List ℕ → Type 0
-  IsJoinedAt mine own yours theirs draft q = (place : P) (dot : DotValue) → held_by at (finite.get draft q) place dot ≡ joined greater (mine (q, place) dot) (own dot) (yours (q, place) dot) (theirs dot)
+  abbrev pub IsJoinedAt : (mine : List ℕ × P → DotValue → Option H) (own : DotValue → Bool) (yours : List ℕ × P → DotValue → Option H)
+      (theirs : DotValue → Bool) (draft : finite.FinMap bytes_cmp S) → List ℕ → Type 0
+  IsJoinedAt mine own yours theirs draft q = (place : P) (dot : DotValue)
+      → held_by at (finite.get draft q) place dot ≡ joined greater (mine (q, place) dot) (own dot) (yours (q, place) dot) (theirs dot)
 
   -- at a key of a draft stands what a map holds there, or the join
-  abbrev pub IsEitherAt : (mine : List ℕ × P → DotValue → Option H) (own : DotValue → Bool) (yours : List ℕ × P → DotValue → Option H) (theirs : DotValue → Bool) (draft : finite.FinMap bytes_cmp S) → List ℕ → Type 0
-  IsEitherAt mine own yours theirs draft q = ((place : P) (dot : DotValue) → held_by at (finite.get draft q) place dot ≡ mine (q, place) dot) ⊎ IsJoinedAt mine own yours theirs draft q
+  abbrev pub IsEitherAt : (mine : List ℕ × P → DotValue → Option H) (own : DotValue → Bool) (yours : List ℕ × P → DotValue → Option H)
+      (theirs : DotValue → Bool) (draft : finite.FinMap bytes_cmp S) → List ℕ → Type 0
+  IsEitherAt mine own yours theirs draft q = ((place : P) (dot : DotValue) → held_by at (finite.get draft q) place dot ≡ mine (q, place) dot)
+      ⊎ IsJoinedAt mine own yours theirs draft q
 
   -- the draft has at each key what the first map has, or the join; and at these keys the join
-  pub record AreJoined (mine : List ℕ × P → DotValue → Option H) (own : DotValue → Bool) (yours : List ℕ × P → DotValue → Option H) (theirs : DotValue → Bool) (keys draft : finite.FinMap bytes_cmp S) : Type 0 where
+  pub record AreJoined (mine : List ℕ × P → DotValue → Option H) (own : DotValue → Bool) (yours : List ℕ × P → DotValue → Option H)
+      (theirs : DotValue → Bool) (keys draft : finite.FinMap bytes_cmp S) : Type 0 where
     pub either : (q : List ℕ) → IsEitherAt mine own yours theirs draft q
     pub there : (q : List ℕ) (store : S) → finite.get keys q ≡ Some store → IsJoinedAt mine own yours theirs draft q

@@ -28,14 +28,14 @@ impl<'a, S: DotStore<A>, A: Allocator + Copy> Change<S> for JoinIn<'a, S, A> {
 
     fn made(&self, value: &S) -> Result<S, Refusal> {
         let both = value.join(self.alloc, self.own, self.yours, self.theirs)?;
-        // Asked for what it tells of the form.
+        // proof: the clause `canonical` of `is_empty`.
         let _ = both.is_empty();
         Ok(both)
     }
 
     fn apply(&self, value: &mut S) -> Result<(), Refusal> {
         value.join_into(self.alloc, self.own, self.yours, self.theirs, self.found)?;
-        // Asked for what it tells of the form.
+        // proof: the clause `canonical` of `is_empty`.
         let _ = value.is_empty();
         Ok(())
     }

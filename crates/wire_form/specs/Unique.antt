@@ -30,7 +30,8 @@ module _ {X Y : Type 0} (first : X → List ℕ) (First : X → Type 0) (second 
   pub pair_unique : IsUnique first First → IsUnique second Second → (p q : X × Y) (a b : List ℕ) → IsPair First Second p → IsPair First Second q
       → pair first second p ++ a ≡ pair first second q ++ b → (p ≡ q) × (a ≡ b)
   pair_unique one two p q a b fp fq e =
-      let x = one p.0 q.0 (second p.1 ++ a) (second q.1 ++ b) fp.0 fq.0 (sym (append_assoc (first p.0) (second p.1) a) ∙ e ∙ append_assoc (first q.0) (second q.1) b) in
+      let x = one p.0 q.0 (second p.1 ++ a) (second q.1 ++ b) fp.0 fq.0
+      (sym (append_assoc (first p.0) (second p.1) a) ∙ e ∙ append_assoc (first q.0) (second q.1) b) in
       let y = two p.1 q.1 a b fp.1 fq.1 x.1 in
       (λ i. (x.0 i, y.0 i), y.1)
 
@@ -94,12 +95,14 @@ text_starts v p = omega (arith, length-append (to_be_bytes w16 (length v)) v)
 
 module _ {X : Type 0} (item : X → List ℕ) (Item : X → Type 0) where
   module _ (one : IsUnique item Item) where
-    each_unique : (xs ys : List X) (a b : List ℕ) → AllByRecursion Item xs → AllByRecursion Item ys → length xs ≡ length ys → flat_map item xs ++ a ≡ flat_map item ys ++ b → (xs ≡ ys) × (a ≡ b)
+    each_unique : (xs ys : List X) (a b : List ℕ) → AllByRecursion Item xs → AllByRecursion Item ys → length xs ≡ length ys
+        → flat_map item xs ++ a ≡ flat_map item ys ++ b → (xs ≡ ys) × (a ≡ b)
     each_unique [] [] a b p q l e = (refl, e)
     each_unique [] (y ∷ ys) a b p q l e = absurd (omega arith)
     each_unique (x ∷ xs) [] a b p q l e = absurd (omega arith)
     each_unique (x ∷ xs) (y ∷ ys) a b p q l e =
-        let first = one x y (flat_map item xs ++ a) (flat_map item ys ++ b) p.0 q.0 (sym (append_assoc (item x) (flat_map item xs) a) ∙ e ∙ append_assoc (item y) (flat_map item ys) b) in
+        let first = one x y (flat_map item xs ++ a) (flat_map item ys ++ b) p.0 q.0
+        (sym (append_assoc (item x) (flat_map item xs) a) ∙ e ∙ append_assoc (item y) (flat_map item ys) b) in
         let others = each_unique xs ys a b p.1 q.1 (omega arith) first.1 in
         (λ i. first.0 i ∷ others.0 i, others.1)
 
@@ -123,7 +126,8 @@ values_starts vs p = counted_starts (pair dot_bytes text) (IsPair IsDot IsText) 
 
 pub fields_unique : IsUnique fields_bytes AreFields
 fields_unique fs gs a b p q e =
-    counted_unique (pair text values_bytes) (IsPair IsText AreValues) (pair_unique text IsText values_bytes AreValues text_unique values_unique) fs gs a b p.each q.each e
+    counted_unique (pair text values_bytes) (IsPair IsText AreValues)
+    (pair_unique text IsText values_bytes AreValues text_unique values_unique) fs gs a b p.each q.each e
 
 pub fields_starts : HasBytes fields_bytes AreFields
 fields_starts fs p = counted_starts (pair text values_bytes) (IsPair IsText AreValues) fs p.each

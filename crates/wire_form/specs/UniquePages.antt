@@ -19,7 +19,8 @@ digest_starts d p = omega (arith, p)
 
 pub names_unique : IsUnique names AreNames
 names_unique ns ms a b p q e =
-    counted_unique (pair dot_bytes digest) (IsPair IsDot IsDigest) (pair_unique dot_bytes IsDot digest IsDigest dot_unique digest_unique) ns ms a b p.each q.each e
+    counted_unique (pair dot_bytes digest) (IsPair IsDot IsDigest)
+    (pair_unique dot_bytes IsDot digest IsDigest dot_unique digest_unique) ns ms a b p.each q.each e
 
 pub names_starts : HasBytes names AreNames
 names_starts ns p = counted_starts (pair dot_bytes digest) (IsPair IsDot IsDigest) ns p.each

@@ -2,7 +2,8 @@
 use crate::caller::{Caller, Keeping};
 use crate::nodes::batched;
 use crate::tests::only;
-use node_threads::{Write, Written, Wrote};
+use node_threads::Written;
+use replica_core::{Write, Wrote};
 use std::alloc::Global;
 use std::process::Abort;
 use std::sync::Wait;

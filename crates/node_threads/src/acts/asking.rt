@@ -6,7 +6,8 @@ ghost use Rattle.replica_core.specs.Stepping.{mails_of};
 ghost use Rattle.replica_model.specs.Mail.{mail_of};
 ghost use Rattle.replica_model.specs.Step.{Came, Closed, Numbered};
 ghost use Rattle.replica_model.specs.Step as step;
-ghost use Rattle.node_threads.specs.declared.deed.Deed.TheVariants.{Ask, Retry, Abandon};
+ghost use Rattle.replica_core.specs.declared.call.Call.TheVariants as call;
+ghost use Rattle.node_threads.specs.declared.deed.Deed.TheVariants as deed;
 ghost use Rattle.node_threads.specs.History.{NeverRefuses, RefusesAfter, Replies};
 
 use crate::named::{Named, Naming, Root};
@@ -36,9 +37,9 @@ impl<K: Naming, A: Allocator + Copy> Update<Replica<Fnv1a, A>, Root<A>, NodeEven
     for Asking<A> {
     type Reply = (u64, Message<A>);
 
-    ghost event = { λ c reply place. record { place = place; deeds = Ask c.peer ∷ [] } };
+    ghost event = { λ c reply place. record { place = place; deeds = deed.Call (call.Ask c.peer) ∷ [] } };
 
-    ghost answers = { λ c history asked. Replies K.first history (Ask c.peer) (Numbered asked.0) (mail_of (message_of asked.1) ∷ []) };
+    ghost answers = { λ c history asked. Replies K.first history (deed.Call (call.Ask c.peer)) (Numbered asked.0) (mail_of (message_of asked.1) ∷ []) };
 
     ghost refuses = { λ c history refusal. RefusesAfter K.first history (step.Ask c.peer) refusal };
 
@@ -81,9 +82,9 @@ impl<K: Naming, A: Allocator + Copy> Update<Replica<Fnv1a, A>, Root<A>, NodeEven
     for Retrying<A> {
     type Reply = Delivered<A>;
 
-    ghost event = { λ c reply place. record { place = place; deeds = Retry c.number ∷ [] } };
+    ghost event = { λ c reply place. record { place = place; deeds = deed.Call (call.Retry c.number) ∷ [] } };
 
-    ghost answers = { λ c history told. Replies K.first history (Retry c.number) (Came (outcome_of told.outcome)) (mails_of told.replies.items) };
+    ghost answers = { λ c history told. Replies K.first history (deed.Call (call.Retry c.number)) (Came (outcome_of told.outcome)) (mails_of told.replies.items) };
 
     ghost refuses = { λ c history refusal. NeverRefuses history refusal };
 
@@ -116,9 +117,9 @@ impl<K: Naming, A: Allocator + Copy> Update<Replica<Fnv1a, A>, Root<A>, NodeEven
     for Abandoning<A> {
     type Reply = bool;
 
-    ghost event = { λ c reply place. record { place = place; deeds = Abandon c.number ∷ [] } };
+    ghost event = { λ c reply place. record { place = place; deeds = deed.Call (call.Abandon c.number) ∷ [] } };
 
-    ghost answers = { λ c history was_open. Replies K.first history (Abandon c.number) (Closed was_open) [] };
+    ghost answers = { λ c history was_open. Replies K.first history (deed.Call (call.Abandon c.number)) (Closed was_open) [] };
 
     ghost refuses = { λ c history refusal. NeverRefuses history refusal };
 

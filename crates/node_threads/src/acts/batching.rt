@@ -1,23 +1,21 @@
 // The writes of a client that are made at once.
-ghost use Rattle.std.specs.Prelude.{◌≡◌, ◌⊎◌, ◌<◌, ◌≤◌, ◌++◌, ◌∷◌, [], ℕ, length, map, take, drop, refl, IfOk, IfErr, OnErr};
+ghost use Rattle.std.specs.Prelude.{◌≡◌, ◌<◌, ◌≤◌, ◌++◌, ◌∷◌, [], ℕ, length, map, take, drop, refl};
 ghost use Rattle.std.specs.Vec.{vec_len, vec_capacity};
 ghost use Rattle.dots.specs.declared.refusal.Refusal.TheVariants.{OutOfMemory};
 ghost use Rattle.hash_path.specs.Fnv1a.{fnv1a};
 ghost use Rattle.replica_core.specs.Meaning.{meaning};
+ghost use Rattle.replica_core.specs.Writing.{answer_of};
 ghost use Rattle.replica_model.specs.History.{Runs};
-ghost use Rattle.replica_model.specs.Step.{IsStep};
-ghost use Rattle.node_threads.specs.History.{NeverRefuses, act_of, entries_of};
-ghost use Rattle.node_threads.specs.Batch.{IsRefusedAs, IsStoppedBy, Writes, answer_of, call_of, deed_of, made_at};
+ghost use Rattle.node_threads.specs.History.{NeverRefuses, entries_of};
+ghost use Rattle.node_threads.specs.Batch.{IsStoppedBy, Writes, made_at};
 
 use crate::named::{Named, Naming, Root};
 use crate::node_event::NodeEvent;
 use crate::showing::{place_for, show};
-use crate::write::Write;
 use crate::written::Written;
-use crate::wrote::Wrote;
 use dots::Refusal;
 use hash_path::Fnv1a;
-use replica_core::Replica;
+use replica_core::{Replica, Write, Wrote};
 use shared_object::Update;
 use std::alloc::Allocator;
 use std::sync::{Arc, Wait};
@@ -78,8 +76,8 @@ fn write_all<A: Allocator + Copy>(
     ensures stopped { IsStoppedBy (meaning replica.new) (drop (length result.wrote.items) writes.now) result.refusal }
 {
     let mut wrote = room;
-    for write in writes {
-        match write_one(replica, write) {
+    for one in writes {
+        match replica.write(one) {
             Ok(told) => put_into(&mut wrote, told),
             Err(refusal) => {
                 return Written {
@@ -104,34 +102,5 @@ fn put_into<X: Drop, A: Allocator>(list: &mut Vec<X, A>, item: X)
     match list.push(item) {
         Ok(()) => {}
         Err(_) => unreachable!(),
-    }
-}
-
-// Makes a write.
-fn write_one<A: Allocator + Copy>(
-    replica: &mut Replica<Fnv1a, A>,
-    write: &Write<A>,
-) -> Result<Wrote, Refusal>
-    ensures ok { IfOk result (λ told. IsStep fnv1a (meaning replica.old) (act_of (deed_of write.now)) (meaning replica.new) (answer_of told) []) }
-    ensures refused { IfErr result (IsRefusedAs (meaning replica.old) (call_of write.now)) }
-    ensures unchanged { OnErr result (meaning replica.new ≡ meaning replica.old) }
-{
-    match write {
-        Write::Put(key, field, value) => match replica.put_field(key, field, value) {
-            Ok(dot) => Ok(Wrote::Made(dot)),
-            Err(refusal) => Err(refusal),
-        },
-        Write::Remove(key) => {
-            let number = replica.remove(key)?;
-            Ok(Wrote::Counted(number))
-        }
-        Write::RemoveField(key, field) => {
-            let number = replica.remove_field(key, field)?;
-            Ok(Wrote::Counted(number))
-        }
-        Write::Clear => {
-            let number = replica.clear()?;
-            Ok(Wrote::Counted(number))
-        }
     }
 }

@@ -9,11 +9,11 @@ use dots::{Field, Key, Name, Refusal, Value};
 use hash_path::Fnv1a;
 use linked_list_allocator::LocalHeap;
 use node_threads::{
-    Abandoning, Asking, Batching, Checkpointing, Clearing, Delivering, FieldListing, FieldRemoving,
-    Flushing, Getting, KeyListing, Knowing, Naming, NodeEvent, Putting, Removing, Retrying, Root,
-    SessionListing, Sharing, Sizing, Write, Written,
+    Abandoning, Asking, Batching, Checkpointing, Delivering, FieldListing, Flushing, Getting,
+    KeyListing, Knowing, Naming, NodeEvent, Retrying, Root, SessionListing, Sharing, Sizing,
+    Writing, Written,
 };
-use replica_core::{Delivered, Outcome, Replica};
+use replica_core::{Delivered, Outcome, Replica, Write, Wrote};
 use root_cell::OpenedBook;
 use shared_object::Look;
 use std::alloc::{Allocator, Global};
@@ -75,7 +75,7 @@ impl<'r, C: Caller, R: Wait> Trial for Calling<'r, C, R> {
             Act::Put => put_more(rt, heap, self.client),
             Act::Remove => remove(rt, heap, self.client),
             Act::RemoveField => remove_field(rt, heap, self.client),
-            Act::Clear => wanted(self.client.call(rt, &Clearing { alloc: heap })? == 2),
+            Act::Clear => clear(rt, heap, self.client),
             Act::Flush => flush(rt, heap, self.client),
             Act::Ask => ask(rt, heap, self.client),
             Act::Retry => retry(rt, heap, self.client),
@@ -102,34 +102,56 @@ fn key_a<A: Allocator + Copy>(heap: A) -> Result<Key<A>, Refusal> {
 // Puts a value on a field of it.
 fn put_more<C: Caller, R: Wait>(rt: &R, heap: C::Heap, client: &mut C) -> Result<(), Refusal> {
     let (key, field) = (key_a(heap)?, Field::new(heap, b"f")?);
-    let putting = Putting {
-        alloc: heap,
-        key: &key,
-        field: &field,
-        value: &Value::empty(),
-    };
-    wanted(client.call(rt, &putting)?.number() == 3)
+    let value = Value::empty();
+    write(rt, heap, client, Write::Put(&key, &field, &value), 3)
+}
+
+// Makes a write, which is answered this number.
+fn write<C: Caller, R: Wait>(
+    rt: &R,
+    heap: C::Heap,
+    client: &mut C,
+    write: Write<C::Heap>,
+    number: u64,
+) -> Result<(), Refusal> {
+    let wrote = client.call(rt, &Writing { alloc: heap, write })?;
+    wanted(number_of(wrote) == number)
+}
+
+// The number that a write is answered: that of its dot, or of those that it observed.
+fn number_of(wrote: Wrote) -> u64 {
+    match wrote {
+        Wrote::Made(dot) => dot.number(),
+        Wrote::Counted(number) => number,
+    }
 }
 
 // Removes it.
 fn remove<C: Caller, R: Wait>(rt: &R, heap: C::Heap, client: &mut C) -> Result<(), Refusal> {
     let key = key_a(heap)?;
-    let removing = Removing {
-        alloc: heap,
-        key: &key,
-    };
-    wanted(client.call(rt, &removing)? == 1)
+    write(rt, heap, client, Write::Remove(&key), 1)
 }
 
 // Removes its one field.
 fn remove_field<C: Caller, R: Wait>(rt: &R, heap: C::Heap, client: &mut C) -> Result<(), Refusal> {
     let key = key_a(heap)?;
-    let removing = FieldRemoving {
+    write(
+        rt,
+        heap,
+        client,
+        Write::RemoveField(&key, &Field::empty()),
+        1,
+    )
+}
+
+// Removes all that stands there.
+fn clear<C: Caller, R: Wait>(rt: &R, heap: C::Heap, client: &mut C) -> Result<(), Refusal> {
+    let clearing = Writing {
         alloc: heap,
-        key: &key,
-        field: &Field::empty(),
+        write: Write::Clear,
     };
-    wanted(client.call(rt, &removing)? == 1)
+    let wrote = client.call(rt, &clearing)?;
+    wanted(number_of(wrote) == 2)
 }
 
 fn flush<C: Caller, R: Wait>(rt: &R, heap: C::Heap, client: &mut C) -> Result<(), Refusal> {

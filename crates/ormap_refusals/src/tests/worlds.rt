@@ -5,7 +5,8 @@ use crate::trial::{Trial, is_as_often, refusals, wanted};
 use dots::{Field, Key, Refusal, Value};
 use hash_path::Fnv1a;
 use linked_list_allocator::LocalHeap;
-use replica_world::{Call, Event, World};
+use replica_core::Call;
+use replica_world::{Event, World};
 use std::alloc::{Allocator, Global};
 use std::panic::Expect;
 use std::process::Abort;
@@ -61,7 +62,7 @@ fn event<A: Allocator + Copy>(rt: &impl Abort, heap: A, act: Act) -> Result<Even
 fn put<A: Allocator + Copy>(heap: A, key: &[u8]) -> Result<Call<A>, Refusal> {
     let key = Key::new(heap, key)?;
     let value = Value::new(heap, b"v")?;
-    Ok(Call::Put(key, value))
+    Ok(Call::Put(key, Field::empty(), value))
 }
 
 // One of the forty keys.
@@ -71,7 +72,7 @@ pub(crate) fn seventh<A: Allocator + Copy>(heap: A) -> Result<Key<A>, Refusal> {
 
 fn put_field<A: Allocator + Copy>(heap: A) -> Result<Call<A>, Refusal> {
     let (key, field) = (seventh(heap)?, Field::new(heap, b"f")?);
-    Ok(Call::PutField(key, field, Value::empty()))
+    Ok(Call::Put(key, field, Value::empty()))
 }
 
 fn remove_field<A: Allocator + Copy>(heap: A) -> Result<Call<A>, Refusal> {

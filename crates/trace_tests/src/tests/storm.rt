@@ -3,8 +3,8 @@
 use crate::tests::made::{key_of, name, value_of};
 use dots::{Field, Key, Name, Refusal, Value};
 use hash_path::Fnv1a;
-use replica_core::Outcome;
-use replica_world::{Answer, Call, Event, Told, World};
+use replica_core::{Call, Outcome};
+use replica_world::{Answer, Event, Told, World};
 use std::alloc::Global;
 use std::panic::Expect;
 use std::process::Abort;
@@ -83,10 +83,10 @@ impl Storm {
     fn write(&mut self, rt: &impl Abort, alloc: Global, kind: u64) -> Call {
         let key = self.key(rt, alloc);
         match kind {
-            0..=4 => Call::Put(key, self.value(rt, alloc)),
+            0..=4 => Call::Put(key, Field::empty(), self.value(rt, alloc)),
             5 => {
                 let field = self.field(rt, alloc);
-                Call::PutField(key, field, self.value(rt, alloc))
+                Call::Put(key, field, self.value(rt, alloc))
             }
             6 => Call::Remove(key),
             _ => Call::RemoveField(key, self.field(rt, alloc)),

@@ -23,7 +23,8 @@ loop-key-init g c =
 pub loop-key-preserved : goal.loop-key-preserved
 loop-key-preserved g c =
     let at = g.S.DotStore.at in
-    let Stays = StaysAt g.S.DotStore.greater (at_keys at c.args.mine.now) (has c.args.own.now) (at_keys at (stores_of c.args.built.now)) (has c.args.theirs.now) in
+    let Stays = StaysAt g.S.DotStore.greater (at_keys at c.args.mine.now) (has c.args.own.now) (at_keys at (stores_of c.args.built.now))
+    (has c.args.theirs.now) in
     passes_more c.into_iter-key-iterator.result c.loop-key.key-iterator c.next.new.self c.in-Some.key.now
     (λ q. IsTrue (has_key c.loop-key.changed.keys q) ⊎ Stays q) (λ q. IsTrue (has_key c.add_changed.new.changed.keys q) ⊎ Stays q)
     c.loop-key.invariant c.in-Some.ensures.steps c.in_ok-add_changed.ensures.there
@@ -32,7 +33,8 @@ loop-key-preserved g c =
 pub returns-clause-ok : goal.returns-clause-ok
 returns-clause-ok g c =
     let at = g.S.DotStore.at in
-    let Stays = StaysAt g.S.DotStore.greater (at_keys at c.args.mine.now) (has c.args.own.now) (at_keys at (stores_of c.args.built.now)) (has c.args.theirs.now) in
+    let Stays = StaysAt g.S.DotStore.greater (at_keys at c.args.mine.now) (has c.args.own.now) (at_keys at (stores_of c.args.built.now))
+    (has c.args.theirs.now) in
     changes_fewer g.S.DotStore.greater (at_keys at c.args.mine.now) (at_keys at (stores_of c.args.built.now)) (has c.args.own.now) (has c.args.theirs.now)
     c.args.keys.now.keys c.loop-key.changed.keys c.requires
     (λ q h. passes_all c.into_iter-key-iterator.result c.loop-key.key-iterator (λ q. IsTrue (has_key c.loop-key.changed.keys q) ⊎ Stays q)

@@ -1,4 +1,4 @@
-use Rattle.std.proofs.Common.{◌≡◌, ◌+◌, [], ◌∷◌, ◌++◌, map, take, sym, ap, subst₂, ◌∙◌}
+use Rattle.std.proofs.Common.{[], ◌∷◌, map, take, sym, ap, subst₂, ◌∙◌}
 use Rattle.std.proofs.lemmas.List.{map-append}
 use Rattle.replica_store.specs.Writes.{MakesAll}
 use Rattle.replica_store.proofs.Behind.{all_more}
@@ -8,8 +8,8 @@ use Rattle.replica_store.proofs.writing_all.make_all.Goals as goal
 pub loop-write-preserved : goal.loop-write-preserved
 loop-write-preserved g c =
     let hash = g.H.PathHash.hash_of in
-    let call = g.W.Write.call in
-    let answered = g.W.Write.answered in
+    let call = g.W.ToMake.call in
+    let answered = g.W.ToMake.answered in
     let first = c.args.replica.now in
     let last = c.make.new.replica in
     let before = c.loop-write.answers.items in

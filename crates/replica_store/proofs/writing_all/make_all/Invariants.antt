@@ -3,5 +3,5 @@ use Rattle.replica_store.specs.Writes.{MakesAll}
 use Rattle.replica_store.proofs.writing_all.make_all.Given as goal
 
 abbrev pub invariant-loop-write : goal.invariant-loop-write
-invariant-loop-write g l = MakesAll g.H.PathHash.hash_of l.initial.replica l.replica (map g.W.Write.call (take l.write-index l.writes))
-    (map g.W.Write.answered l.answers.items)
+invariant-loop-write g l = MakesAll g.H.PathHash.hash_of l.initial.replica l.replica (map g.W.ToMake.call (take l.write-index l.writes))
+    (map g.W.ToMake.answered l.answers.items)

@@ -1,5 +1,5 @@
 use Rattle.std.proofs.Common.{ap, is_some, sym}
-use Rattle.replica_world.specs.Happening.{call_value}
+use Rattle.replica_core.specs.Writing.{call_value}
 use Rattle.replica_world.proofs.Refusing.{foretells_no_peer, foretells_call}
 use Rattle.replica_world.proofs.foreseeing.foresee_call.Goals as goal
 

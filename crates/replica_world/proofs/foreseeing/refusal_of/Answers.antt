@@ -1,12 +1,9 @@
 use Rattle.replica_core.specs.Meaning.{meaning}
-use Rattle.replica_world.proofs.Refusing.{put_foretold, put_field_foretold, ask_foretold}
+use Rattle.replica_world.proofs.Refusing.{put_foretold, ask_foretold}
 use Rattle.replica_world.proofs.foreseeing.refusal_of.Goals as goal
 
 pub returns-in-Put : goal.returns-in-Put
 returns-in-Put g c = put_foretold (meaning c.args.replica.now) c.put_refusal.result c.put_refusal.ensures c.in-Put.is
-
-pub returns-in-PutField : goal.returns-in-PutField
-returns-in-PutField g c = put_field_foretold (meaning c.args.replica.now) c.put_refusal-in-PutField.result c.put_refusal-in-PutField.ensures c.in-PutField.is
 
 pub returns-in-Ask : goal.returns-in-Ask
 returns-in-Ask g c = ask_foretold (meaning c.args.replica.now) c.ask_refusal.result c.ask_refusal.ensures c.in-Ask.is

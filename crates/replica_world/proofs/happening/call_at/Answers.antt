@@ -1,4 +1,5 @@
-use Rattle.replica_world.specs.Happening.{answer_value, call_value}
+use Rattle.replica_core.specs.Writing.{call_value}
+use Rattle.replica_world.specs.Happening.{answer_value}
 use Rattle.replica_world.proofs.Refusing.{no_peer, call_made, call_unmade, left}
 use Rattle.replica_world.proofs.Results.{if_ok_weaker, if_err_weaker, on_err_both}
 use Rattle.replica_world.proofs.happening.call_at.Goals as goal

@@ -5,18 +5,13 @@ use Rattle.sync_protocol.specs.Asking.{AskerValue}
 use Rattle.replica_core.specs.Meaning.{ReplicaValue}
 use Rattle.replica_core.specs.Tied.{IsFirstAt}
 use Rattle.replica_core.proofs.Asks.{abandon_missed, abandon_found}
+use Rattle.replica_core.proofs.Meant.{of_parts}
 use Rattle.replica_core.proofs.replica.Replica.abandon.Goals as goal
 
 pub returns-in_default : goal.returns-in_default
 returns-in_default g c =
-    let old : ReplicaValue _ = record {
-      name = c.self.inside.name;
-      live = c.self.inside.live;
-      group = c.self.inside.group;
-      opened = c.self.inside.opened;
-      sessions = c.self.inside.sessions.items;
-      kept = c.self.inside.answerer;
-    } in
+    let old = of_parts c.self.inside.name c.self.inside.live c.self.inside.group
+    c.self.inside.opened c.self.inside.sessions.items c.self.inside.answerer in
     rw (← c.self.view_is) (abandon_missed g.H.PathHash.hash_of old c.args.number (rw c.deref.ensures.value at (c.in_default.ensures.none refl)))
 
 pub end-requires : goal.end-requires

@@ -6,6 +6,7 @@ use Rattle.replica_core.specs.Meaning.{ReplicaValue, hash_in}
 use Rattle.replica_core.specs.Own.{IsOwn}
 use Rattle.replica_core.proofs.Changing.{StaysBut, at_place, advanced_is, advanced_meaning}
 use Rattle.replica_core.proofs.Turns.{own_next}
+use Rattle.replica_core.proofs.Meant.{of_parts}
 use Rattle.replica_core.proofs.replica.Replica.advance.Goals as goal
 
 pub replace-requires : goal.replace-requires
@@ -16,22 +17,9 @@ replace-requires g c =
 
 pub invariant_of-self : goal.invariant_of-self
 invariant_of-self g c =
-    let old : ReplicaValue _ = record {
-      name = c.self.inside.name;
-      live = c.self.inside.live;
-      group = c.self.inside.group;
-      opened = c.self.inside.opened;
-      sessions = c.self.inside.sessions.items;
-      kept = c.self.inside.answerer;
-    } in
-    let new : ReplicaValue _ = record {
-      name = c.self.inside.name;
-      live = c.self.inside.live;
-      group = c.self.inside.group;
-      opened = c.self.inside.opened;
-      sessions = c.replace.new.items.items;
-      kept = c.self.inside.answerer;
-    } in
+    let old = of_parts c.self.inside.name c.self.inside.live c.self.inside.group
+    c.self.inside.opened c.self.inside.sessions.items c.self.inside.answerer in
+    let new = of_parts c.self.inside.name c.self.inside.live c.self.inside.group c.self.inside.opened c.replace.new.items.items c.self.inside.answerer in
     let rest : StaysBut old new = record { name = refl; group = refl; opened = refl; kept = refl; hash = refl } in
     let there = ap (λ (r : ReplicaValue _). slice_get r.sessions c.args.place) c.self.view_is ∙ c.requires.1 in
     let own = at_place (IsOwn g.H.PathHash.hash_of old.name (hash_in old) (live_state old.live.0))
@@ -41,22 +29,9 @@ invariant_of-self g c =
 
 pub returns-clause-step : goal.returns-clause-step
 returns-clause-step g c =
-    let old : ReplicaValue _ = record {
-      name = c.self.inside.name;
-      live = c.self.inside.live;
-      group = c.self.inside.group;
-      opened = c.self.inside.opened;
-      sessions = c.self.inside.sessions.items;
-      kept = c.self.inside.answerer;
-    } in
-    let new : ReplicaValue _ = record {
-      name = c.self.inside.name;
-      live = c.self.inside.live;
-      group = c.self.inside.group;
-      opened = c.self.inside.opened;
-      sessions = c.replace.new.items.items;
-      kept = c.self.inside.answerer;
-    } in
+    let old = of_parts c.self.inside.name c.self.inside.live c.self.inside.group
+    c.self.inside.opened c.self.inside.sessions.items c.self.inside.answerer in
+    let new = of_parts c.self.inside.name c.self.inside.live c.self.inside.group c.self.inside.opened c.replace.new.items.items c.self.inside.answerer in
     let rest : StaysBut old new = record { name = refl; group = refl; opened = refl; kept = refl; hash = refl } in
     let there = ap (λ (r : ReplicaValue _). slice_get r.sessions c.args.place) c.self.view_is ∙ c.requires.1 in
     rw (← c.self.view_is) (advanced_meaning g.H.PathHash.hash_of old new c.self.invariant rest c.args.place c.requires.0 there c.args.next c.requires.2

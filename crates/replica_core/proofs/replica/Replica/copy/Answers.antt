@@ -1,50 +1,26 @@
 use Rattle.std.proofs.Common.{◌≡◌, ◌∙◌, map, refl, ap}
 use Rattle.delta_ops.specs.Group.{group_state}
 use Rattle.delta_ops.specs.LiveMap.{live_state}
-use Rattle.replica_core.specs.Meaning.{ReplicaValue, open_of, kept_of, meaning}
+use Rattle.replica_core.specs.Meaning.{open_of, kept_of, meaning}
 use Rattle.replica_core.proofs.Growth.{same_grown}
-use Rattle.replica_core.proofs.Meant.{meaning_by}
+use Rattle.replica_core.proofs.Meant.{of_parts, meaning_by}
 use Rattle.replica_core.proofs.replica.Replica.copy.Goals as goal
 
 pub invariant_of-result : goal.invariant_of-result
 invariant_of-result g c =
-    let old : ReplicaValue _ = record {
-      name = c.self.inside.name;
-      live = c.self.inside.live;
-      group = c.self.inside.group;
-      opened = c.self.inside.opened;
-      sessions = c.self.inside.sessions.items;
-      kept = c.self.inside.answerer;
-    } in
-    let new : ReplicaValue _ = record {
-      name = c.self.inside.name;
-      live = c.in_ok-live.live;
-      group = c.in_ok-group.group;
-      opened = c.self.inside.opened;
-      sessions = c.in_ok-sessions.sessions.items;
-      kept = c.in_ok-answerer.answerer;
-    } in
+    let old = of_parts c.self.inside.name c.self.inside.live c.self.inside.group
+    c.self.inside.opened c.self.inside.sessions.items c.self.inside.answerer in
+    let new = of_parts c.self.inside.name c.in_ok-live.live c.in_ok-group.group
+    c.self.inside.opened c.in_ok-sessions.sessions.items c.in_ok-answerer.answerer in
     same_grown g.H.PathHash.hash_of old new c.self.invariant refl refl (c.in_ok-sessions.ensures.ok ∙ c.deref.ensures.value)
     c.in_ok-answerer.ensures.ok c.in_ok-live.ensures.ok
 
 pub returns-clause-ok : goal.returns-clause-ok
 returns-clause-ok g c =
-    let old : ReplicaValue _ = record {
-      name = c.self.inside.name;
-      live = c.self.inside.live;
-      group = c.self.inside.group;
-      opened = c.self.inside.opened;
-      sessions = c.self.inside.sessions.items;
-      kept = c.self.inside.answerer;
-    } in
-    let new : ReplicaValue _ = record {
-      name = c.self.inside.name;
-      live = c.in_ok-live.live;
-      group = c.in_ok-group.group;
-      opened = c.self.inside.opened;
-      sessions = c.in_ok-sessions.sessions.items;
-      kept = c.in_ok-answerer.answerer;
-    } in
+    let old = of_parts c.self.inside.name c.self.inside.live c.self.inside.group
+    c.self.inside.opened c.self.inside.sessions.items c.self.inside.answerer in
+    let new = of_parts c.self.inside.name c.in_ok-live.live c.in_ok-group.group
+    c.self.inside.opened c.in_ok-sessions.sessions.items c.in_ok-answerer.answerer in
     rw (← c.self.view_is) (meaning_by new (meaning old) refl (ap live_state c.in_ok-live.ensures.ok) (ap group_state c.in_ok-group.ensures.ok) refl
     (ap (map open_of) (c.in_ok-sessions.ensures.ok ∙ c.deref.ensures.value)) (ap (map kept_of) c.in_ok-answerer.ensures.ok))
 

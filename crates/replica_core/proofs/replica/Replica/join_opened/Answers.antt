@@ -11,7 +11,7 @@ use Rattle.sync_model.specs.Laws.{KnowsEachDot}
 use Rattle.replica_model.specs.Replica.{joins}
 use Rattle.replica_core.specs.Meaning.{ReplicaValue, meaning}
 use Rattle.replica_core.proofs.Growth.{same_grown, joined_grown}
-use Rattle.replica_core.proofs.Meant.{meaning_by, on_err}
+use Rattle.replica_core.proofs.Meant.{of_parts, meaning_by, on_err}
 use Rattle.replica_core.proofs.Opened.{built_inside, below_pair, opened_joined}
 use Rattle.replica_core.proofs.replica.Replica.join_opened.Goals as goal
 
@@ -35,22 +35,10 @@ invariant_of-self g c = same_grown g.H.PathHash.hash_of _ _ c.self.invariant ref
 
 pub returns-in_err-next-clause-unchanged : goal.returns-in_err-next-clause-unchanged
 returns-in_err-next-clause-unchanged g c =
-    let old : ReplicaValue _ = record {
-      name = c.self.inside.name;
-      live = c.self.inside.live;
-      group = c.self.inside.group;
-      opened = c.self.inside.opened;
-      sessions = c.self.inside.sessions.items;
-      kept = c.self.inside.answerer;
-    } in
-    let new : ReplicaValue _ = record {
-      name = c.self.inside.name;
-      live = c.prepare_opened.new.self;
-      group = c.self.inside.group;
-      opened = c.self.inside.opened;
-      sessions = c.self.inside.sessions.items;
-      kept = c.self.inside.answerer;
-    } in
+    let old = of_parts c.self.inside.name c.self.inside.live c.self.inside.group
+    c.self.inside.opened c.self.inside.sessions.items c.self.inside.answerer in
+    let new = of_parts c.self.inside.name c.prepare_opened.new.self c.self.inside.group
+    c.self.inside.opened c.self.inside.sessions.items c.self.inside.answerer in
     on_err c.from_residual.result
     (rw (← c.self.view_is) (meaning_by new (meaning old) refl (ap live_state c.in_err-next.ensures.unchanged) refl refl refl refl))
 
@@ -63,22 +51,9 @@ invariant_of-self-2 g c =
 
 pub returns-clause-ok : goal.returns-clause-ok
 returns-clause-ok g c =
-    let old : ReplicaValue _ = record {
-      name = c.self.inside.name;
-      live = c.self.inside.live;
-      group = c.self.inside.group;
-      opened = c.self.inside.opened;
-      sessions = c.self.inside.sessions.items;
-      kept = c.self.inside.answerer;
-    } in
-    let new : ReplicaValue _ = record {
-      name = c.self.inside.name;
-      live = c.commit.new.self;
-      group = c.self.inside.group;
-      opened = c.self.inside.opened;
-      sessions = c.self.inside.sessions.items;
-      kept = c.self.inside.answerer;
-    } in
+    let old = of_parts c.self.inside.name c.self.inside.live c.self.inside.group
+    c.self.inside.opened c.self.inside.sessions.items c.self.inside.answerer in
+    let new = of_parts c.self.inside.name c.commit.new.self c.self.inside.group c.self.inside.opened c.self.inside.sessions.items c.self.inside.answerer in
     rw (← c.self.view_is) (meaning_by new (joins (meaning old) (closing.held_state c.args.opened.now.built.entries (has c.args.opened.now.context))) refl
     (ap live_state c.commit.ensures ∙ opened_joined c.entries.result.now.hash c.self.inside.live.0 c.entries.result.now.map c.args.opened.now.context
     c.in_ok-next.next c.in_ok-next.ensures.ok

@@ -12,6 +12,7 @@ use Rattle.replica_core.specs.Own.{IsReplica}
 use Rattle.replica_core.specs.Tied.{IsFirstAt}
 use Rattle.replica_core.proofs.Brought.{opening_brings}
 use Rattle.replica_core.proofs.Takes.{opening_can}
+use Rattle.replica_core.proofs.Meant.{of_parts}
 use Rattle.replica_core.proofs.replica.Replica.joined_by_opening.Goals as goal
 
 pub index-requires : goal.index-requires
@@ -22,19 +23,15 @@ index-requires g c =
 pub joined_by_turn-requires : goal.joined_by_turn-requires
 joined_by_turn-requires g c =
     let found = rw c.deref.ensures.value at c.in-Some.ensures.found in
-    let old : ReplicaValue _ = record {
-      name = c.self.inside.name;
-      live = c.self.inside.live;
-      group = c.self.inside.group;
-      opened = c.self.inside.opened;
-      sessions = c.self.inside.sessions.items;
-      kept = c.self.inside.answerer;
-    } in
+    let old = of_parts c.self.inside.name c.self.inside.live c.self.inside.group
+    c.self.inside.opened c.self.inside.sessions.items c.self.inside.answerer in
     let here = c.index.ensures ∙ get_or_from_slice_get c.self.inside.sessions.items c.in-Some.place found.0 c.index.result.now found.1.0 in (
       found.0,
       ap (λ (r : ReplicaValue _). slice_get r.sessions c.in-Some.place) (sym c.self.view_is) ∙ found.1.0,
-      opening_can g.H.PathHash.hash_of old c.self.invariant c.args.session c.in-Some.place found.0 found.1 c.in_ok-turn.turn.next (step_of c.in_ok-turn.turn.step)
-          (subst (λ (a : AskerValue _). IsFrom a c.in_ok-turn.turn.next) here c.in_ok-turn.ensures.from) (message_of c.args.message.now) c.requires.0 c.requires.1 c.requires.2
+      opening_can g.H.PathHash.hash_of old c.self.invariant c.args.session c.in-Some.place found.0 found.1 c.in_ok-turn.turn.next
+          (step_of c.in_ok-turn.turn.step)
+          (subst (λ (a : AskerValue _). IsFrom a c.in_ok-turn.turn.next) here c.in_ok-turn.ensures.from)
+          (message_of c.args.message.now) c.requires.0 c.requires.1 c.requires.2
           (c.in_ok-turn.ensures.ok
           ∙ ap (λ (a : AskerValue _). turning.on_opening (g.H.PathHash.hash_of a.hash) (asker_state a) (message_of c.args.message.now)) here),
     )
@@ -48,7 +45,10 @@ returns-clause-ok g c =
     c.self.view_is found.1 in
     let is = subst (IsReplica g.H.PathHash.hash_of) c.self.view_is c.self.invariant in
     IfOk-weaker c.joined_by_turn.result _ _
-    (λ told closing. opening_brings g.H.PathHash.hash_of now is c.args.session c.in-Some.place found.0 first c.in_ok-turn.turn.next (step_of c.in_ok-turn.turn.step)
-    (subst (λ (a : AskerValue _). IsFrom a c.in_ok-turn.turn.next) here c.in_ok-turn.ensures.from) (message_of c.args.message.now) told closing c.requires.0 c.requires.1 c.requires.2
-    (c.in_ok-turn.ensures.ok ∙ ap (λ (a : AskerValue _). turning.on_opening (g.H.PathHash.hash_of a.hash) (asker_state a) (message_of c.args.message.now)) here))
+    (λ told closing. opening_brings g.H.PathHash.hash_of now is c.args.session c.in-Some.place found.0 first c.in_ok-turn.turn.next
+    (step_of c.in_ok-turn.turn.step)
+    (subst (λ (a : AskerValue _). IsFrom a c.in_ok-turn.turn.next) here c.in_ok-turn.ensures.from)
+    (message_of c.args.message.now) told closing c.requires.0 c.requires.1 c.requires.2
+    (c.in_ok-turn.ensures.ok ∙ ap (λ (a : AskerValue _). turning.on_opening (g.H.PathHash.hash_of a.hash) (asker_state a)
+    (message_of c.args.message.now)) here))
     c.joined_by_turn.ensures.ok

@@ -4,9 +4,9 @@ use Rattle.delta_ops.specs.Group.{group_state}
 use Rattle.delta_ops.specs.LiveMap.{live_state}
 use Rattle.causal_join.specs.OrMap.{or_map_state}
 use Rattle.replica_model.specs.Replica.{makes}
-use Rattle.replica_core.specs.Meaning.{ReplicaValue, meaning}
+use Rattle.replica_core.specs.Meaning.{meaning}
 use Rattle.replica_core.proofs.Growth.{same_grown, joined_grown}
-use Rattle.replica_core.proofs.Meant.{meaning_by, by_result, both_on_ok, both_on_err}
+use Rattle.replica_core.proofs.Meant.{of_parts, meaning_by, by_result, both_on_ok, both_on_err}
 use Rattle.replica_core.proofs.Pairs.{join-unknown}
 use Rattle.replica_core.proofs.replica.Replica.make.Goals as goal
 
@@ -26,44 +26,20 @@ invariant_of-self g c =
 
 pub returns-clause-ok : goal.returns-clause-ok
 returns-clause-ok g c =
-    let old : ReplicaValue _ = record {
-      name = c.self.inside.name;
-      live = c.self.inside.live;
-      group = c.self.inside.group;
-      opened = c.self.inside.opened;
-      sessions = c.self.inside.sessions.items;
-      kept = c.self.inside.answerer;
-    } in
-    let new : ReplicaValue _ = record {
-      name = c.self.inside.name;
-      live = c.make_in.new.live;
-      group = c.make_in.new.group;
-      opened = c.self.inside.opened;
-      sessions = c.self.inside.sessions.items;
-      kept = c.self.inside.answerer;
-    } in
+    let old = of_parts c.self.inside.name c.self.inside.live c.self.inside.group
+    c.self.inside.opened c.self.inside.sessions.items c.self.inside.answerer in
+    let new = of_parts c.self.inside.name c.make_in.new.live c.make_in.new.group
+    c.self.inside.opened c.self.inside.sessions.items c.self.inside.answerer in
     both_on_ok c.make_in.result
     (λ live group. rw (sym c.self.view_is) (meaning_by new (makes (meaning old) (or_map_state c.args.delta)) refl live group refl refl refl))
     c.make_in.ensures.live c.make_in.ensures.group
 
 pub returns-clause-unchanged : goal.returns-clause-unchanged
 returns-clause-unchanged g c =
-    let old : ReplicaValue _ = record {
-      name = c.self.inside.name;
-      live = c.self.inside.live;
-      group = c.self.inside.group;
-      opened = c.self.inside.opened;
-      sessions = c.self.inside.sessions.items;
-      kept = c.self.inside.answerer;
-    } in
-    let new : ReplicaValue _ = record {
-      name = c.self.inside.name;
-      live = c.make_in.new.live;
-      group = c.make_in.new.group;
-      opened = c.self.inside.opened;
-      sessions = c.self.inside.sessions.items;
-      kept = c.self.inside.answerer;
-    } in
+    let old = of_parts c.self.inside.name c.self.inside.live c.self.inside.group
+    c.self.inside.opened c.self.inside.sessions.items c.self.inside.answerer in
+    let new = of_parts c.self.inside.name c.make_in.new.live c.make_in.new.group
+    c.self.inside.opened c.self.inside.sessions.items c.self.inside.answerer in
     both_on_err c.make_in.result
     (λ kept group. rw (sym c.self.view_is) (meaning_by new (meaning old) refl (ap live_state kept) group refl refl refl))
     c.make_in.ensures.kept c.make_in.ensures.grouped

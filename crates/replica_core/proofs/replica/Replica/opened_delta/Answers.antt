@@ -37,7 +37,8 @@ returns-clause-ok g c =
     let live = c.self.inside.live.0 in
     IfOk-weaker c.opened_delta.result _ _
     (λ found is. IfSome_then found is (λ delta same. subst (λ (r : ReplicaValue _).
-    join greater (meaning r).live (closing.held_state c.args.opened.now.built.entries (has context)) ≡ join greater (meaning r).live (or_map_state delta)) c.self.view_is
+    join greater (meaning r).live (closing.held_state c.args.opened.now.built.entries (has context)) ≡ join greater (meaning r).live
+    (or_map_state delta)) c.self.view_is
     (ap (λ (m : Held). join greater (live_state live) (closing.held_state m (has context))) (sym c.entries.ensures.map)
     ∙ delta_joined c.entries.result.now.hash live c.entries.result.now.map context delta same)))
     c.opened_delta.ensures.ok

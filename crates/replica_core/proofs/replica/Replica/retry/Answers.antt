@@ -3,20 +3,14 @@ use Rattle.std.proofs.lemmas.Option.{slice_get_within, get_or_from_slice_get}
 use Rattle.sync_protocol.specs.Asking.{AskerValue, stage_with}
 use Rattle.sync_protocol.specs.Turning.{again}
 use Rattle.replica_core.specs.declared.outcome.Outcome.TheVariants as told
-use Rattle.replica_core.specs.Meaning.{ReplicaValue}
 use Rattle.replica_core.proofs.Asks.{retry_missed, retry_found, told_by}
+use Rattle.replica_core.proofs.Meant.{of_parts}
 use Rattle.replica_core.proofs.replica.Replica.retry.Goals as goal
 
 pub returns-in_default-clause-ok : goal.returns-in_default-clause-ok
 returns-in_default-clause-ok g c =
-    let old : ReplicaValue _ = record {
-      name = c.self.inside.name;
-      live = c.self.inside.live;
-      group = c.self.inside.group;
-      opened = c.self.inside.opened;
-      sessions = c.self.inside.sessions.items;
-      kept = c.self.inside.answerer;
-    } in
+    let old = of_parts c.self.inside.name c.self.inside.live c.self.inside.group
+    c.self.inside.opened c.self.inside.sessions.items c.self.inside.answerer in
     rw (← c.self.view_is) (told_by g.H.PathHash.hash_of old old _ c.silent.result.outcome told.Ignored c.silent.result.replies.items c.silent.ensures.outcome
     c.silent.ensures.replies
     (retry_missed g.H.PathHash.hash_of old c.args.number (rw c.deref.ensures.value at (c.in_default.ensures.none refl))))
@@ -28,14 +22,8 @@ index-requires g c =
 
 pub returns-clause-ok : goal.returns-clause-ok
 returns-clause-ok g c =
-    let old : ReplicaValue _ = record {
-      name = c.self.inside.name;
-      live = c.self.inside.live;
-      group = c.self.inside.group;
-      opened = c.self.inside.opened;
-      sessions = c.self.inside.sessions.items;
-      kept = c.self.inside.answerer;
-    } in
+    let old = of_parts c.self.inside.name c.self.inside.live c.self.inside.group
+    c.self.inside.opened c.self.inside.sessions.items c.self.inside.answerer in
     let found = rw c.deref.ensures.value at c.in-Some.ensures.found in
     let here = c.index.ensures ∙ get_or_from_slice_get c.self.inside.sessions.items c.in-Some.place found.0 c.index.result.now found.1.0 in
     rw (← c.self.view_is) (retry_found g.H.PathHash.hash_of old c.args.number c.in-Some.place found.0 found.1 c.in_ok-replies.replies.items c.self.invariant

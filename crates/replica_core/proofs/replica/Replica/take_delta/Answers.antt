@@ -1,11 +1,11 @@
 use Rattle.std.proofs.Common.{refl}
 use Rattle.causal_join.specs.OrMap.{or_map_state}
 use Rattle.replica_model.specs.Replica.{joins}
-use Rattle.replica_core.specs.Meaning.{ReplicaValue, meaning}
+use Rattle.replica_core.specs.Meaning.{meaning}
 use Rattle.replica_core.proofs.Came.{delta_came}
 use Rattle.replica_core.proofs.Growth.{same_grown, joined_grown}
 use Rattle.replica_core.proofs.MappedPair.{mapped}
-use Rattle.replica_core.proofs.Meant.{meaning_by}
+use Rattle.replica_core.proofs.Meant.{of_parts, meaning_by}
 use Rattle.replica_core.proofs.Pairs.{live_joined}
 use Rattle.replica_core.proofs.replica.Replica.take_delta.Goals as goal
 
@@ -19,22 +19,10 @@ invariant_of-self-2 g c =
 
 pub returns-clause-ok : goal.returns-clause-ok
 returns-clause-ok g c =
-    let old : ReplicaValue _ = record {
-      name = c.self.inside.name;
-      live = c.self.inside.live;
-      group = c.self.inside.group;
-      opened = c.self.inside.opened;
-      sessions = c.self.inside.sessions.items;
-      kept = c.self.inside.answerer;
-    } in
-    let new : ReplicaValue _ = record {
-      name = c.self.inside.name;
-      live = c.join_delta.new.self;
-      group = c.self.inside.group;
-      opened = c.self.inside.opened;
-      sessions = c.self.inside.sessions.items;
-      kept = c.self.inside.answerer;
-    } in
+    let old = of_parts c.self.inside.name c.self.inside.live c.self.inside.group
+    c.self.inside.opened c.self.inside.sessions.items c.self.inside.answerer in
+    let new = of_parts c.self.inside.name c.join_delta.new.self c.self.inside.group
+    c.self.inside.opened c.self.inside.sessions.items c.self.inside.answerer in
     rw (← c.self.view_is) (delta_came g.H.PathHash.hash_of old
     (mapped c.self.inside.live.0 c.store.result.now c.store.ensures.value c.store.ensures.filled c.store.ensures.canonical) new
     (or_map_state c.args.delta.now)

@@ -9,26 +9,20 @@ use Rattle.sync_protocol.specs.Snapshot.{SnapshotValue}
 use Rattle.replica_model.specs.Mail.{Hello}
 use Rattle.replica_model.specs.Step.{Take}
 use Rattle.replica_core.specs.declared.outcome.Outcome.TheVariants as told
-use Rattle.replica_core.specs.Meaning.{ReplicaValue, kept_of, meaning}
+use Rattle.replica_core.specs.Meaning.{kept_of, meaning}
 use Rattle.replica_core.specs.Stepping.{Stays}
 use Rattle.replica_core.proofs.Asks.{told_by, answered_by, is_away, is_here}
 use Rattle.replica_core.proofs.Came.{hello_came, ignored_came}
 use Rattle.replica_core.proofs.Keeps.{kept_is, kept_meaning}
 use Rattle.replica_core.proofs.MappedPair.{mapped}
-use Rattle.replica_core.proofs.Meant.{meaning_by}
+use Rattle.replica_core.proofs.Meant.{of_parts, meaning_by}
 use Rattle.replica_core.proofs.Posted.{posted_none, posted_one}
 use Rattle.replica_core.proofs.replica.Replica.take_hello.Goals as goal
 
 pub returns-then-ne-clause-ok : goal.returns-then-ne-clause-ok
 returns-then-ne-clause-ok g c =
-    let old : ReplicaValue _ = record {
-      name = c.self.inside.name;
-      live = c.self.inside.live;
-      group = c.self.inside.group;
-      opened = c.self.inside.opened;
-      sessions = c.self.inside.sessions.items;
-      kept = c.self.inside.answerer;
-    } in
+    let old = of_parts c.self.inside.name c.self.inside.live c.self.inside.group
+    c.self.inside.opened c.self.inside.sessions.items c.self.inside.answerer in
     let is = mapped c.self.inside.live.0 c.store.result.now c.store.ensures.value c.store.ensures.filled c.store.ensures.canonical in
     let mail = Hello c.args.session (has c.args.seen.now) in
     rw (← c.self.view_is) (told_by g.H.PathHash.hash_of old old (Take mail) c.silent.result.outcome told.Ignored c.silent.result.replies.items
@@ -38,22 +32,9 @@ returns-then-ne-clause-ok g c =
 
 pub returns-in-Err-clause-unchanged : goal.returns-in-Err-clause-unchanged
 returns-in-Err-clause-unchanged g c =
-    let old : ReplicaValue _ = record {
-      name = c.self.inside.name;
-      live = c.self.inside.live;
-      group = c.self.inside.group;
-      opened = c.self.inside.opened;
-      sessions = c.self.inside.sessions.items;
-      kept = c.self.inside.answerer;
-    } in
-    let new : ReplicaValue _ = record {
-      name = c.self.inside.name;
-      live = c.seal.new.self;
-      group = c.self.inside.group;
-      opened = c.self.inside.opened;
-      sessions = c.self.inside.sessions.items;
-      kept = c.hello.new.self;
-    } in
+    let old = of_parts c.self.inside.name c.self.inside.live c.self.inside.group
+    c.self.inside.opened c.self.inside.sessions.items c.self.inside.answerer in
+    let new = of_parts c.self.inside.name c.seal.new.self c.self.inside.group c.self.inside.opened c.self.inside.sessions.items c.hello.new.self in
     let stays : Stays old new = record {
       same = meaning_by new (meaning old) refl (ap (λ (l : LiveValue _ _). live_state l.0) c.seal.ensures.same) refl refl refl
           (ap (map kept_of) c.in-Err.ensures.unchanged);
@@ -63,22 +44,9 @@ returns-in-Err-clause-unchanged g c =
 
 pub invariant_of-self-2 : goal.invariant_of-self-2
 invariant_of-self-2 g c =
-    let old : ReplicaValue _ = record {
-      name = c.self.inside.name;
-      live = c.self.inside.live;
-      group = c.self.inside.group;
-      opened = c.self.inside.opened;
-      sessions = c.self.inside.sessions.items;
-      kept = c.self.inside.answerer;
-    } in
-    let new : ReplicaValue _ = record {
-      name = c.self.inside.name;
-      live = c.seal.new.self;
-      group = c.self.inside.group;
-      opened = c.self.inside.opened;
-      sessions = c.self.inside.sessions.items;
-      kept = c.hello.new.self;
-    } in
+    let old = of_parts c.self.inside.name c.self.inside.live c.self.inside.group
+    c.self.inside.opened c.self.inside.sessions.items c.self.inside.answerer in
+    let new = of_parts c.self.inside.name c.seal.new.self c.self.inside.group c.self.inside.opened c.self.inside.sessions.items c.hello.new.self in
     let k : SnapshotValue _ = record { seen = c.args.seen.now; hash = c.store-2.result.now.0; map = c.store-2.result.now.1; context = c.context.result.now } in
     kept_is g.H.PathHash.hash_of old new refl (ap (λ (l : LiveValue _ _). l.0) c.seal.ensures.same)
     refl refl c.args.session k c.in-Ok.ensures.kept c.self.invariant
@@ -86,22 +54,9 @@ invariant_of-self-2 g c =
 
 pub returns-clause-ok : goal.returns-clause-ok
 returns-clause-ok g c =
-    let old : ReplicaValue _ = record {
-      name = c.self.inside.name;
-      live = c.self.inside.live;
-      group = c.self.inside.group;
-      opened = c.self.inside.opened;
-      sessions = c.self.inside.sessions.items;
-      kept = c.self.inside.answerer;
-    } in
-    let new : ReplicaValue _ = record {
-      name = c.self.inside.name;
-      live = c.seal.new.self;
-      group = c.self.inside.group;
-      opened = c.self.inside.opened;
-      sessions = c.self.inside.sessions.items;
-      kept = c.hello.new.self;
-    } in
+    let old = of_parts c.self.inside.name c.self.inside.live c.self.inside.group
+    c.self.inside.opened c.self.inside.sessions.items c.self.inside.answerer in
+    let new = of_parts c.self.inside.name c.seal.new.self c.self.inside.group c.self.inside.opened c.self.inside.sessions.items c.hello.new.self in
     let k : SnapshotValue _ = record { seen = c.args.seen.now; hash = c.store-2.result.now.0; map = c.store-2.result.now.1; context = c.context.result.now } in
     let is = mapped c.self.inside.live.0 c.store.result.now c.store.ensures.value c.store.ensures.filled c.store.ensures.canonical in
     let live = ap (λ (l : LiveValue _ _). l.0) c.seal.ensures.same in

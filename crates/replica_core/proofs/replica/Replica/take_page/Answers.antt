@@ -20,18 +20,13 @@ use Rattle.replica_core.proofs.Asks.{told_by}
 use Rattle.replica_core.proofs.MappedPair.{mapped}
 use Rattle.replica_core.proofs.Takes.{no_page, page_can, page_stepped}
 use Rattle.replica_core.proofs.Posted.{posted_none}
+use Rattle.replica_core.proofs.Meant.{of_parts}
 use Rattle.replica_core.proofs.replica.Replica.take_page.Goals as goal
 
 pub returns-in_default-clause-ok : goal.returns-in_default-clause-ok
 returns-in_default-clause-ok g c =
-    let old : ReplicaValue _ = record {
-      name = c.self.inside.name;
-      live = c.self.inside.live;
-      group = c.self.inside.group;
-      opened = c.self.inside.opened;
-      sessions = c.self.inside.sessions.items;
-      kept = c.self.inside.answerer;
-    } in
+    let old = of_parts c.self.inside.name c.self.inside.live c.self.inside.group
+    c.self.inside.opened c.self.inside.sessions.items c.self.inside.answerer in
     let is = mapped c.self.inside.live.0 c.store.result.now c.store.ensures.value c.store.ensures.filled c.store.ensures.canonical in
     rw (← c.self.view_is) (told_by g.H.PathHash.hash_of old old (Take (mail_of (message_of c.args.message.now)))
     c.silent.result.outcome told.Ignored c.silent.result.replies.items c.silent.ensures.outcome
@@ -46,14 +41,8 @@ index-requires g c =
 pub take_turn-requires : goal.take_turn-requires
 take_turn-requires g c =
     let found = rw c.deref.ensures.value at c.in-Some.ensures.found in
-    let old : ReplicaValue _ = record {
-      name = c.self.inside.name;
-      live = c.self.inside.live;
-      group = c.self.inside.group;
-      opened = c.self.inside.opened;
-      sessions = c.self.inside.sessions.items;
-      kept = c.self.inside.answerer;
-    } in
+    let old = of_parts c.self.inside.name c.self.inside.live c.self.inside.group
+    c.self.inside.opened c.self.inside.sessions.items c.self.inside.answerer in
     let here = c.index.ensures ∙ get_or_from_slice_get c.self.inside.sessions.items c.in-Some.place found.0 c.index.result.now found.1.0 in (
       found.0,
       ap (λ (r : ReplicaValue _). Rattle.std.specs.List.slice_get r.sessions c.in-Some.place) (sym c.self.view_is) ∙ found.1.0,

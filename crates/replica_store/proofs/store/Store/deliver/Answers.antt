@@ -1,12 +1,11 @@
-use Rattle.std.proofs.Common.{◌≡◌, ◌∙◌, subst}
-use Rattle.std.specs.Prelude.{IfSome}
+use Rattle.std.proofs.Common.{◌∙◌, subst}
 use Rattle.sqlite.specs.State.{HasCleanDisk}
 use Rattle.durable_log.specs.Log.{log_state}
 use Rattle.wire_form.specs.Message.{message_of}
 use Rattle.replica_model.specs.Mail.{mail_of}
 use Rattle.replica_core.specs.Answered.{outcome_of}
 use Rattle.replica_core.specs.Meaning.{meaning}
-use Rattle.replica_store.specs.Kept.{IsKept, KeepsEither}
+use Rattle.replica_store.specs.Kept.{KeepsEither}
 use Rattle.replica_store.specs.Store.{StoreValue}
 use Rattle.replica_store.proofs.Took.{brought_joins, took_step}
 use Rattle.replica_store.proofs.Surviving.{unkept}
@@ -37,7 +36,8 @@ invariant_of-self-in-Ok-kept g c fresh =
     let step = c.in-Ok-deliver.ensures.ok.step in
     let holds = c.self.invariant c.if-self.false in
     let took = took_step _ old mail new (outcome_of c.in-Ok-deliver.told.outcome) _ step in
-    let joins = brought_joins (λ m. mail_of (message_of m)) _ old mail new (outcome_of c.in-Ok-deliver.told.outcome) _ c.in-Ok.brought c.in-Ok.ensures.ok step in
+    let joins = brought_joins (λ m. mail_of (message_of m)) _ old mail new
+    (outcome_of c.in-Ok-deliver.told.outcome) _ c.in-Ok.brought c.in-Ok.ensures.ok step in
     (c.in-Ok-kept.ensures.stays, λ clean. (c.in-Ok-kept.ensures.kept old took joins clean (holds.1 (c.keep_taken-kept.ensures.clean clean))).now)
 
 pub returns-in-Ok-kept-clause-kept : goal.returns-in-Ok-kept-clause-kept
@@ -48,7 +48,8 @@ returns-in-Ok-kept-clause-kept g c clean =
     let step = c.in-Ok-deliver.ensures.ok.step in
     let holds = c.self.invariant c.if-self.false in
     let took = took_step _ old mail new (outcome_of c.in-Ok-deliver.told.outcome) _ step in
-    let joins = brought_joins (λ m. mail_of (message_of m)) _ old mail new (outcome_of c.in-Ok-deliver.told.outcome) _ c.in-Ok.brought c.in-Ok.ensures.ok step in
+    let joins = brought_joins (λ m. mail_of (message_of m)) _ old mail new
+    (outcome_of c.in-Ok-deliver.told.outcome) _ c.in-Ok.brought c.in-Ok.ensures.ok step in
     c.in-Ok-kept.ensures.kept old took joins clean (holds.1 (c.keep_taken-kept.ensures.clean clean))
 
 pub returns-in-Ok-kept-clause-any_moment : goal.returns-in-Ok-kept-clause-any_moment
@@ -59,7 +60,8 @@ returns-in-Ok-kept-clause-any_moment g c fresh clean =
     let step = c.in-Ok-deliver.ensures.ok.step in
     let holds = c.self.invariant c.if-self.false in
     let took = took_step _ old mail new (outcome_of c.in-Ok-deliver.told.outcome) _ step in
-    let joins = brought_joins (λ m. mail_of (message_of m)) _ old mail new (outcome_of c.in-Ok-deliver.told.outcome) _ c.in-Ok.brought c.in-Ok.ensures.ok step in
+    let joins = brought_joins (λ m. mail_of (message_of m)) _ old mail new
+    (outcome_of c.in-Ok-deliver.told.outcome) _ c.in-Ok.brought c.in-Ok.ensures.ok step in
     let after = log_state g.S.Store c.keep_taken-kept.new.log in
     subst (λ (v : StoreValue _ _). KeepsEither after (meaning v.replica) new) c.self.view_is
     (c.keep_taken-kept.ensures.any_moment old took joins clean (holds.1 (c.keep_taken-kept.ensures.clean clean)))
@@ -72,7 +74,8 @@ returns-in-Err-kept-clause-any_moment g c fresh clean =
     let step = c.in-Ok-deliver.ensures.ok.step in
     let holds = c.self.invariant c.if-self.false in
     let took = took_step _ old mail new (outcome_of c.in-Ok-deliver.told.outcome) _ step in
-    let joins = brought_joins (λ m. mail_of (message_of m)) _ old mail new (outcome_of c.in-Ok-deliver.told.outcome) _ c.in-Ok.brought c.in-Ok.ensures.ok step in
+    let joins = brought_joins (λ m. mail_of (message_of m)) _ old mail new
+    (outcome_of c.in-Ok-deliver.told.outcome) _ c.in-Ok.brought c.in-Ok.ensures.ok step in
     let after = log_state g.S.Store c.keep_taken-kept.new.log in
     subst (λ (v : StoreValue _ _). KeepsEither after (meaning v.replica) new) c.self.view_is
     (c.keep_taken-kept.ensures.any_moment old took joins clean (holds.1 (c.keep_taken-kept.ensures.clean clean)))

@@ -1,12 +1,11 @@
-use Rattle.std.proofs.Common.{◌≡◌, ◌∙◌, [], map, subst}
-use Rattle.sqlite.specs.State.{HasCleanDisk}
+use Rattle.std.proofs.Common.{◌∙◌, map, subst}
 use Rattle.durable_log.specs.Log.{log_state}
-use Rattle.replica_model.specs.Mail.{Mail}
 use Rattle.replica_core.specs.Meaning.{meaning}
-use Rattle.replica_store.specs.Kept.{IsKept, KeepsEither}
+use Rattle.replica_store.specs.Kept.{KeepsEither}
 use Rattle.replica_store.specs.Behind.{IsBehind}
 use Rattle.replica_store.specs.Store.{StoreValue}
-use Rattle.replica_store.specs.Writes.{MakesAll, call_of, answer_of, is_write_of}
+use Rattle.replica_core.specs.Writing.{answer_of, call_of}
+use Rattle.replica_store.specs.Writes.{MakesAll, is_write_of}
 use Rattle.replica_store.proofs.Behind.{behind_none, behind_all}
 use Rattle.replica_store.proofs.Surviving.{unkept}
 use Rattle.replica_store.proofs.store.Store.write_all.Goals as goal

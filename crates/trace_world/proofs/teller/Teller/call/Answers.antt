@@ -1,7 +1,8 @@
 use Rattle.std.proofs.Common.{ap}
 use Rattle.hash_path.specs.declared.fnv1a.Fnv1a.{Fnv1a}
 use Rattle.replica_model.specs.World.{At}
-use Rattle.replica_world.specs.Happening.{answer_value, call_value}
+use Rattle.replica_core.specs.Writing.{call_value}
+use Rattle.replica_world.specs.Happening.{answer_value}
 use Rattle.replica_world.specs.Keeping.{WorldValue}
 use Rattle.trace_world.proofs.Events.{event_done, event_refused}
 use Rattle.trace_world.proofs.teller.Teller.call.Goals as goal

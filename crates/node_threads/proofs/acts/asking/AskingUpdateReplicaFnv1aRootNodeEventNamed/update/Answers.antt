@@ -5,21 +5,22 @@ use Rattle.wire_form.specs.Message.{message_of}
 use Rattle.replica_model.specs.Step as step
 use Rattle.replica_model.specs.Step.{Numbered}
 use Rattle.node_threads.specs.declared.deed.Deed.{Deed}
-use Rattle.node_threads.specs.declared.deed.Deed.TheVariants.{Ask}
+use Rattle.replica_core.specs.declared.call.Call.TheVariants as call
+use Rattle.node_threads.specs.declared.deed.Deed.TheVariants as deeds
 use Rattle.node_threads.proofs.Stepping.{after_step, foretold_after, refused_after, stands_on, without_memory_after}
 use Rattle.node_threads.proofs.acts.asking.AskingUpdateReplicaFnv1aRootNodeEventNamed.update.Goals as goal
 
 pub returns-in-Ok-ask-clause-after : goal.returns-in-Ok-ask-clause-after
 returns-in-Ok-ask-clause-after g c history place after =
     let it = c.args.self.now in
-    let deed : Deed g.row.A.Denot = Ask it.peer in
+    let deed : Deed g.row.A.Denot = deeds.Call (call.Ask it.peer) in
     after_step g.K.Naming.first history (meaning c.args.replica.now) (meaning c.ask.new.self) after place deed (Numbered c.in-Ok-ask.reply.0)
     (mail_of (message_of c.in-Ok-ask.reply.1) ∷ []) c.in-Ok-ask.ensures.ok.step
 
 pub returns-in-Ok-ask-clause-root : goal.returns-in-Ok-ask-clause-root
 returns-in-Ok-ask-clause-root g c history place after =
     let it = c.args.self.now in
-    let deed : Deed g.row.A.Denot = Ask it.peer in
+    let deed : Deed g.row.A.Denot = deeds.Call (call.Ask it.peer) in
     stands_on g.K.Naming.first history (meaning c.args.replica.now) (meaning c.ask.new.self) after place deed (Numbered c.in-Ok-ask.reply.0)
     (mail_of (message_of c.in-Ok-ask.reply.1) ∷ []) c.in-Ok-ask.ensures.ok.step c.show-root.result.value c.show-root.ensures
 

@@ -1,6 +1,7 @@
 use Rattle.std.proofs.Common.{length, map, take}
 use Rattle.replica_core.specs.Meaning.{meaning}
-use Rattle.node_threads.specs.Batch.{answer_of, made_at}
+use Rattle.replica_core.specs.Writing.{answer_of}
+use Rattle.node_threads.specs.Batch.{made_at}
 use Rattle.node_threads.proofs.Stepping.{after_all, stands_after_all}
 use Rattle.node_threads.proofs.acts.batching.BatchingUpdateReplicaFnv1aRootNodeEventNamed.update.Goals as goal
 
