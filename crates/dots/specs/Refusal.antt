@@ -1,7 +1,8 @@
 -- The thirteen refusals of this project, by number and by word.
 use Rattle.std.specs.Prelude.{ℕ, List, codes}
 use Rattle.dots.specs.declared.refusal.Refusal.{Refusal}
-use Rattle.dots.specs.declared.refusal.Refusal.TheVariants.{OutOfMemory, TooLong, ReadOnly, NumbersSpent, SessionsFull, NotAMessage, NoPlace, NameTaken, UnknownReplica, UnknownMessage, BadLine, Input, Output}
+use Rattle.dots.specs.declared.refusal.Refusal.TheVariants.{OutOfMemory, TooLong, ReadOnly, NumbersSpent, SessionsFull, NotAMessage}
+use Rattle.dots.specs.declared.refusal.Refusal.TheVariants.{NoPlace, NameTaken, UnknownReplica, UnknownMessage, BadLine, Input, Output}
 
 abbrev pub number_of : Refusal → ℕ
 number_of OutOfMemory = 1

@@ -90,7 +90,8 @@ IsOfEither old new news = (string : List ℕ) → Contains (strings new) string 
 -- all that were there are, or all of these are
 pub record IsBetween (old new : Trees) (news : List (List ℕ)) : Type 0 where
   pub known : IsOfEither old new news
-  pub whole : ((string : List ℕ) → Contains (strings old) string → Contains (strings new) string) ⊎ ((string : List ℕ) → Contains news string → Contains (strings new) string)
+  pub whole : ((string : List ℕ) → Contains (strings old) string → Contains (strings new) string)
+      ⊎ ((string : List ℕ) → Contains news string → Contains (strings new) string)
 
 -- all of these are there, in as many rows
 pub record IsReplaced (old new : Trees) (news : List (List ℕ)) : Type 0 where
@@ -130,7 +131,8 @@ pub record LogValue (S : Type 0) : Type 0 where
   pub is_failed : Bool
 
 abbrev pub log_code : {S : Type 0} → Coded S → Coded (LogValue S)
-log_code {S} store = code_by (Held S × Bool) (coded× (held_code store) coded_bool) (λ l. (l.conn, l.is_failed)) (λ p. record { conn = p.0; is_failed = p.1 }) (λ _. refl)
+log_code {S} store = code_by (Held S × Bool) (coded× (held_code store) coded_bool)
+    (λ l. (l.conn, l.is_failed)) (λ p. record { conn = p.0; is_failed = p.1 }) (λ _. refl)
 
 abbrev pub log_state : {S : Type 0} → Ghosts S → LogValue S → State
 log_state g l = state g l.conn

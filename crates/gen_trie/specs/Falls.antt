@@ -23,7 +23,8 @@ most_le w n (x ∷ xs) h =
     let rest = most_le w n xs (λ k d l. h (suc k) d (omega (arith, l))) in
     omega arith
 
-pub falls : (V M A : Type 0) (m : Summary.Ghosts M V) (g : Ghosts A) (s : Shape V M A) → IsCanonical s → max (deep-Shape V M A m g s) 0 ≤ (height_and_entries s).0
+pub falls : (V M A : Type 0) (m : Summary.Ghosts M V) (g : Ghosts A) (s : Shape V M A) → IsCanonical s
+    → max (deep-Shape V M A m g s) 0 ≤ (height_and_entries s).0
 falls V M A m g (Branch below bitmap slots) h =
     let low = most_le (deep-Slot V M A m g) (suc below) slots.items (λ k d l. slot_falls V M A m g below _ (h.fits k d l)) in
     omega (arith, low)

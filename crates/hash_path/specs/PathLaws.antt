@@ -50,7 +50,8 @@ shifted : (d i : ℕ) → i * 2 ^ (5 * suc d) ≡ 32 * (i * 2 ^ (5 * d))
 shifted d i = ap (λ e. i * 2 ^ e) (five_more d) ∙ ap (λ p. i * p) (pow-add 2 (5 * d) 5) ∙ times i (2 ^ (5 * d))
 
 -- one index above the bits is one index more
-pub indices-child : (depth bits index : ℕ) → bits < 2 ^ (5 * depth) → index < 32 → indices (suc depth) (bits + index * 2 ^ (5 * depth)) ≡ indices depth bits ++ index ∷ []
+pub indices-child : (depth bits index : ℕ) → bits < 2 ^ (5 * depth) → index < 32
+    → indices (suc depth) (bits + index * 2 ^ (5 * depth)) ≡ indices depth bits ++ index ∷ []
 indices-child zero bits index h less =
     let none : bits ≡ 0 = omega arith in
     let is : (bits + index * 1) % 32 ≡ index = omega arith in

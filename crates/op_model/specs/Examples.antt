@@ -80,7 +80,8 @@ remove_overtakes_put = remove_overtakes ++ Deliver 1 3 ∷ Deliver 2 1 ∷ Remov
 
 -- A remove and a put that have not seen each other, and then a clear.
 abbrev pub remove_and_put : List AbstractEvent
-remove_and_put = Node 1 ∷ Node 2 ∷ Put 1 (plain a) x ∷ Flush 1 ∷ Deliver 1 2 ∷ Remove 1 a ∷ Put 2 (plain a) y ∷ Flush 1 ∷ Flush 2 ∷ Deliver 2 2 ∷ Deliver 3 1 ∷ []
+remove_and_put = Node 1 ∷ Node 2 ∷ Put 1 (plain a) x ∷ Flush 1 ∷ Deliver 1 2
+    ∷ Remove 1 a ∷ Put 2 (plain a) y ∷ Flush 1 ∷ Flush 2 ∷ Deliver 2 2 ∷ Deliver 3 1 ∷ []
 
 abbrev pub clear_and_group : List AbstractEvent
 clear_and_group = remove_and_put ++ Clear 1 ∷ Flush 1 ∷ Deliver 4 2 ∷ []

@@ -48,7 +48,8 @@ with_texts command (Some number) (Some first) (Some second) = Some (command numb
 with_texts command number first second = None
 
 -- the command that takes a number and three texts
-abbrev pub with_three_texts : (ℕ → List ℕ → List ℕ → List ℕ → CommandValue) → Option ℕ → Option (List ℕ) → Option (List ℕ) → Option (List ℕ) → Option CommandValue
+abbrev pub with_three_texts : (ℕ → List ℕ → List ℕ → List ℕ → CommandValue)
+    → Option ℕ → Option (List ℕ) → Option (List ℕ) → Option (List ℕ) → Option CommandValue
 with_three_texts command (Some number) (Some first) (Some second) (Some third) = Some (command number first second third)
 with_three_texts command number first second third = None
 

@@ -1,5 +1,6 @@
 -- What a command that was parsed says.
-use Rattle.trace_words.specs.Command.{CommandValue, Node, Put, Get, Flush, Deliver, Sync, Retry, Abandon, Remove, RemoveField, Clear, Fields, Show, Size, Context, Pin, Digest, Save, Crash, Look}
+use Rattle.trace_words.specs.Command.{CommandValue, Node, Put, Get, Flush, Deliver, Sync, Retry, Abandon, Remove}
+use Rattle.trace_words.specs.Command.{RemoveField, Clear, Fields, Show, Size, Context, Pin, Digest, Save, Crash, Look}
 use Rattle.trace_words.specs.declared.command.Command.{Command}
 use Rattle.trace_words.specs.declared.command.Command.TheVariants as command
 
