@@ -5,5 +5,6 @@ mod long;
 mod new_nodes;
 mod reads;
 mod serving;
+mod timed;
 mod tries;
 mod worlds;

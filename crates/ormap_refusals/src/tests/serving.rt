@@ -2,8 +2,9 @@
 ghost use Rattle.std.specs.Prelude.{◌≡◌};
 ghost use Rattle.replica_core.specs.Meaning.{meaning};
 
-use crate::made::{Here, asked, put, replica};
+use crate::made::{Here, asked, flushed, put, replica};
 use crate::nodes::{Caller, One, Seen, Shared, ended, next, node};
+use crate::tests::timed::tried_when_due;
 use crate::trial::{Trial, is_as_often, refusals, wanted};
 use dots::{Name, Refusal};
 use linked_list_allocator::LocalHeap;
@@ -23,6 +24,10 @@ enum Act {
     // It comes, and there is no memory for the reply.
     Lose,
     SendAgain,
+    // The post is due, what was put has been sent, and the synchronisation sends again.
+    SendAgainWhenDue,
+    // It is due, and what was put is sent. No synchronisation was opened.
+    FlushWhenDue,
 }
 
 // The hello of replica 2 to replica 1, session 1, which knows nothing.
@@ -198,7 +203,12 @@ fn tried_by_one<K: Naming, R: Wait + Abort + Drop, A: Allocator + Copy>(
     client: &mut One<K, R, A>,
     act: Act,
 ) -> (usize, u64) {
-    tried_by(rt, alloc, small, heap, client, act)
+    match act {
+        Act::SendAgainWhenDue | Act::FlushWhenDue => {
+            tried_when_due(rt, alloc, small, heap, client)
+        }
+        _ => tried_by(rt, alloc, small, heap, client, act),
+    }
 }
 
 // The same by the client of a node of this replica, which has one event more in the end.
@@ -233,7 +243,12 @@ fn tried<R: Wait + Abort + Copy + Drop, A: Allocator + Copy>(
 ) -> usize {
     let mut here = replica(&rt, alloc, heap, 1);
     put(heap, &mut *here, b"a", b"v").expect(&rt, "a put");
-    drop(asked(&rt, alloc, &mut *here, 2));
+    if act == Act::SendAgainWhenDue {
+        drop(flushed(&rt, alloc, &mut *here));
+    }
+    if act != Act::FlushWhenDue {
+        drop(asked(&rt, alloc, &mut *here, 2));
+    }
     let copy = here.copy().expect(&rt, "memory");
     tried_at_this_node::<marker::Brand, R, A>(rt, alloc, small, heap, OpenedBook::new(), copy, act)
 }
@@ -243,6 +258,12 @@ const ROWS: &[(&str, Act, usize)] = &[
     ("a message is served", Act::Serve, 4),
     ("its reply is lost", Act::Lose, 1),
     ("what is open sends again", Act::SendAgain, 4),
+    ("it sends again when that is due", Act::SendAgainWhenDue, 4),
+    (
+        "what was put is sent when that is due",
+        Act::FlushWhenDue,
+        2,
+    ),
 ];
 
 #[test]
