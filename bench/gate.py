@@ -1,6 +1,6 @@
 #!/usr/bin/env python3
-"""Tells what the gate costs, crate by crate: the processor seconds of each crate's proof, of that of its tests, of the second proof that its must-fail
-edits begin with, and of the edits.
+"""Tells what the gate costs, crate by crate: the processor seconds of each crate's proof, of that of its tests, of the proof of those functions that its
+wrong bodies change, and of the wrong bodies.
 
     python3 bench/gate.py &
     bash .ci/run
@@ -15,7 +15,9 @@ import sys
 import time
 
 TICKS = os.sysconf("SC_CLK_TCK")
-KINDS = ("proof", "tests", "second proof", "edits")
+KINDS = ("proof", "tests", "right bodies", "wrong bodies")
+# What the folders are called in which `.ci/edits` keeps what is proved.
+MARKS = {"/right-bodies-": "right bodies", "/wrong-body-": "wrong bodies"}
 
 
 def read(path):
@@ -45,20 +47,17 @@ def part_of(number):
     """The crate that a prover's process checks, and for which part of the gate; None of another process, and of a check outside a gate."""
     words = read(f"/proc/{number}/cmdline").split("\0")
     crate, kept = after(words, "--crate-name"), after(words, "--incremental")
-    try:
-        is_edit = "/rt-edit-" in os.readlink(f"/proc/{number}/cwd")
-    except OSError:
-        return None
     if not crate:
         return None
-    if is_edit:
-        return crate, "second proof" if kept.endswith("/seed") else "edits"
+    for mark, kind in MARKS.items():
+        if mark in kept:
+            return crate, kind
     return None if kept else (crate, "tests" if "--test" in words else "proof")
 
 
 def is_gate(number):
     words = read(f"/proc/{number}/cmdline").split("\0")
-    return any(one.endswith("/rt") and two == "ci" for one, two in zip(words, words[1:]))
+    return any(one.endswith("/rt") and two == "ci" or one.endswith(".ci/edits") for one, two in zip(words, words[1:]))
 
 
 def watch(spent):

@@ -36,7 +36,7 @@ def proved(folder):
     """The program in Rattle, proved and built into the folder."""
     at, crate = kit(), unpacked(folder / "bench_nodes")
     program, made = folder / "node", folder / "node.o"
-    words = command(at, "bench_nodes", "src/main.rt", USES, str(os.cpu_count()))
+    words = command(at, "build", "bench_nodes", "src/main.rt", USES, str(os.cpu_count()))
     ran = subprocess.run([*words, "--backend", "llvm", "-o", made], cwd=crate, stdout=subprocess.PIPE, stderr=subprocess.STDOUT, text=True)
     if ran.returncode:
         sys.exit(ran.stdout)

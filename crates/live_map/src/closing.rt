@@ -14,7 +14,7 @@ ghost use Rattle.trie_map.specs.Keyed.{at_keys};
 use crate::dot_span::dot_at;
 use crate::index::Index;
 use crate::touched::Touched;
-use crate::touching::name_store;
+use crate::touching::{join_at_keys, name_store};
 use causal_context::Context;
 use dot_store::DotStore;
 use dots::{Dot, Key, Name, Refusal};
@@ -172,38 +172,11 @@ fn closed_at<S: DotStore<A>, M: Summary<S>, H: PathHash, A: Allocator + Copy>(
     ensures err { IsOkUnless result Refusal.OutOfMemory }
 {
     let mut draft = mine.draft()?;
-    if let Err(refusal) = join_built_at(alloc, &mut draft, mine, own, built, theirs, keys) {
+    if let Err(refusal) = join_at_keys(alloc, &mut draft, mine, own, built, theirs, keys) {
         drop(draft);
         return Err(refusal);
     }
     draft.finish()
-}
-
-// Joins what the trie holds into the draft of the store, at these keys.
-fn join_built_at<S: DotStore<A>, M: Summary<S>, H: PathHash, A: Allocator + Copy>(
-    alloc: A,
-    draft: &mut Draft<S, M, H, A>,
-    mine: &TrieMap<S, M, H, A>,
-    own: &Context<A>,
-    built: &Frozen<S, M, H, A>,
-    theirs: &Context<A>,
-    keys: &BTreeSet<Key<A>, A>,
-) -> Result<(), Refusal>
-    requires { draft.old ≡ mine.now }
-    ensures hash { draft.new.0 ≡ draft.old.0 }
-    ensures either { OnOk result ((q : List ℕ) → IsEitherAt S.at S.greater (at_keys S.at mine.now) (has own.now)
-        (at_keys S.at (stores_of built.now)) (has theirs.now) draft.new.1 q) }
-    ensures there { OnOk result ((q : List ℕ) → IsTrue (has_key keys.now.keys q) → IsJoinedAt S.at S.greater (at_keys S.at mine.now)
-        (has own.now) (at_keys S.at (stores_of built.now)) (has theirs.now) draft.new.1 q) }
-    ensures err { IsOkUnless result Refusal.OutOfMemory }
-{
-    let empty = S::empty(alloc);
-    for key in keys {
-        let store = mine.get(key).unwrap_or(&empty);
-        let other = built.lookup(key).unwrap_or(&empty);
-        draft.join_at(alloc, key, store, own, other, theirs)?;
-    }
-    Ok(())
 }
 
 // Names the touched keys for the dots that the trie holds there and that are not known. A refused call may have named some.

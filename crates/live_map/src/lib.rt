@@ -7,6 +7,7 @@ mod bringing;
 mod closing;
 mod dot_span;
 mod index;
+mod keyed;
 mod live;
 mod one_key;
 mod prepared;

@@ -1,5 +1,4 @@
-ghost use Rattle.std.specs.Prelude.{◌≡◌, false, ℕ, List, None, IsTrue, IsSome, IfSome, IfOk, OnOk, OnErr, IsOkUnless};
-ghost use Rattle.std.specs.FinMap as finite;
+ghost use Rattle.std.specs.Prelude.{◌≡◌, false, ℕ, List, IsTrue, IsSome, IfSome, IfOk, OnOk, OnErr, IsOkUnless};
 ghost use Rattle.causal_context.specs.Context.{has, HasNone};
 ghost use Rattle.causal_join.specs.Causal.{state_of};
 ghost use Rattle.dot_store.specs.Store.{HasNothing, HoldsSame, state_with};
@@ -7,7 +6,7 @@ ghost use Rattle.dot_store.specs.Stores.{at_stores};
 ghost use Rattle.dots.specs.Bytes.{bytes_cmp};
 ghost use Rattle.dots.specs.Dot.{DotValue};
 ghost use Rattle.op_model.specs.State.{join, Same, IsInside};
-ghost use Rattle.live_map.specs.Closing.{stores_of, ChangesOnlyAt};
+ghost use Rattle.live_map.specs.Closing.{stores_of, ChangesOnlyAt, IsBuiltOn};
 ghost use Rattle.live_map.specs.Index.{names, has_key, AreAllTouched, IsIndexed, IsTouched};
 ghost use Rattle.trie_map.specs.Keyed.{at_keys, NoStoreIsEmpty, EachIsCanonical};
 
@@ -189,11 +188,7 @@ impl<S: DotStore<A>, M: Summary<S>, H: PathHash, A: Allocator + Copy> Live<S, M,
         touched: &Frozen<(), NoSummary, H, A>,
         context: &Context<A>,
     ) -> Result<Prepared<S, M, H, A>, Refusal>
-        requires below { Same (join S.greater (state_of (at_keys S.at) self.old.0)
-            (state_of (at_keys S.at) (stores_of base.now, seen.now))) (state_of (at_keys S.at) self.old.0) }
-        requires rest { (key : List ℕ) → finite.get touched.now.map key ≡ None
-            → finite.get built.now.map key ≡ finite.get base.now.map key }
-        requires inside { IsInside (state_of (at_keys S.at) (stores_of built.now, context.now)) }
+        requires { IsBuiltOn S.at S.greater self.old.0 base.now seen.now built.now touched.now context.now }
         ensures hash { IfOk result (λ next. next.0.0 ≡ self.old.0.0.0) }
         ensures ok { IfOk result (λ next. Same (state_of (at_keys S.at) next) (join S.greater
             (state_of (at_keys S.at) self.old.0) (state_of (at_keys S.at) (stores_of built.now, context.now)))) }
@@ -218,11 +213,7 @@ impl<S: DotStore<A>, M: Summary<S>, H: PathHash, A: Allocator + Copy> Live<S, M,
         context: &Context<A>,
         changed: &mut Touched<A>,
     ) -> Result<Prepared<S, M, H, A>, Refusal>
-        requires below { Same (join S.greater (state_of (at_keys S.at) self.old.0)
-            (state_of (at_keys S.at) (stores_of base.now, seen.now))) (state_of (at_keys S.at) self.old.0) }
-        requires rest { (key : List ℕ) → finite.get touched.now.map key ≡ None
-            → finite.get built.now.map key ≡ finite.get base.now.map key }
-        requires inside { IsInside (state_of (at_keys S.at) (stores_of built.now, context.now)) }
+        requires { IsBuiltOn S.at S.greater self.old.0 base.now seen.now built.now touched.now context.now }
         ensures hash { IfOk result (λ next. next.0.0 ≡ self.old.0.0.0) }
         ensures ok { IfOk result (λ next. Same (state_of (at_keys S.at) next) (join S.greater
             (state_of (at_keys S.at) self.old.0) (state_of (at_keys S.at) (stores_of built.now, context.now)))) }
@@ -230,7 +221,7 @@ impl<S: DotStore<A>, M: Summary<S>, H: PathHash, A: Allocator + Copy> Live<S, M,
         ensures unchanged { self.new.0 ≡ self.old.0 }
         ensures err { IsOkUnless result Refusal.OutOfMemory }
     {
-        // proof: the clauses `below` and `rest` speak of the base, and nothing else does.
+        // proof: what is required speaks of the base, and nothing else does.
         let _ = base;
         touch_since(alloc, changed, &self.index, seen, touched, context)?;
         name_built(alloc, &mut self.index, built, changed, &self.context)?;
@@ -261,11 +252,7 @@ impl<S: DotStore<A>, M: Summary<S>, H: PathHash, A: Allocator + Copy> Live<S, M,
         touched: &Frozen<(), NoSummary, H, A>,
         context: &Context<A>,
     ) -> Result<Option<Causal<DotMap<Key<A>, S, A>, A>>, Refusal>
-        requires below { Same (join S.greater (state_of (at_keys S.at) self.now.0)
-            (state_of (at_keys S.at) (stores_of base.now, seen.now))) (state_of (at_keys S.at) self.now.0) }
-        requires rest { (key : List ℕ) → finite.get touched.now.map key ≡ None
-            → finite.get built.now.map key ≡ finite.get base.now.map key }
-        requires inside { IsInside (state_of (at_keys S.at) (stores_of built.now, context.now)) }
+        requires { IsBuiltOn S.at S.greater self.now.0 base.now seen.now built.now touched.now context.now }
         ensures ok { IfOk result (λ found. IfSome found (λ delta. Same (join S.greater (state_of (at_keys S.at) self.now.0) (state_of (at_stores S.at bytes_cmp) delta))
             (join S.greater (state_of (at_keys S.at) self.now.0) (state_of (at_keys S.at) (stores_of built.now, context.now))))) }
         ensures err { IsOkUnless result Refusal.OutOfMemory }
@@ -297,15 +284,12 @@ impl<S: DotStore<A>, M: Summary<S>, H: PathHash, A: Allocator + Copy> Live<S, M,
         touched: &Frozen<(), NoSummary, H, A>,
         context: &Context<A>,
     ) -> Result<BTreeSet<Key<A>, A>, Refusal>
-        requires below { Same (join S.greater (state_of (at_keys S.at) self.now.0)
-            (state_of (at_keys S.at) (stores_of base.now, seen.now))) (state_of (at_keys S.at) self.now.0) }
-        requires rest { (key : List ℕ) → finite.get touched.now.map key ≡ None
-            → finite.get built.now.map key ≡ finite.get base.now.map key }
+        requires { IsBuiltOn S.at S.greater self.now.0 base.now seen.now built.now touched.now context.now }
         ensures ok { IfOk result (λ set. ChangesOnlyAt S.greater (at_keys S.at self.now.0.0) (has self.now.0.1) (at_keys S.at (stores_of built.now))
             (has context.now) set.keys) }
         ensures err { IsOkUnless result Refusal.OutOfMemory }
     {
-        // proof: the clauses `below` and `rest` speak of the base and of what was built, and nothing else does.
+        // proof: what is required speaks of the base and of what was built, and nothing else does.
         let _ = base;
         let _ = built;
         let mut changed = Touched::new(alloc);
@@ -476,7 +460,15 @@ fn joined_at<S: DotStore<A>, M: Summary<S>, H: PathHash, A: Allocator + Copy>(
     ensures err { IsOkUnless result Refusal.OutOfMemory }
 {
     let mut draft = mine.draft()?;
-    if let Err(refusal) = join_at_keys(alloc, &mut draft, mine, own, delta, keys) {
+    if let Err(refusal) = join_at_keys(
+        alloc,
+        &mut draft,
+        mine,
+        own,
+        delta.store(),
+        delta.context(),
+        keys,
+    ) {
         drop(draft);
         return Err(refusal);
     }

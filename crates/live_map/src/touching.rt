@@ -11,6 +11,7 @@ ghost use Rattle.trie_map.specs.Keyed.{at_keys};
 
 use crate::dot_span::dot_at;
 use crate::index::Index;
+use crate::keyed::Keyed;
 use crate::touched::Touched;
 use causal_context::Context;
 use causal_join::Causal;
@@ -109,28 +110,35 @@ fn find_known<A: Allocator + Copy>(
     index.find(alloc, dot, dot.number(), touched)
 }
 
-// Joins what the delta holds into the draft of the store, at these keys.
-pub(crate) fn join_at_keys<S: DotStore<A>, M: Summary<S>, H: PathHash, A: Allocator + Copy>(
+// Joins what these hold under their context into the draft of the store, at these keys.
+pub(crate) fn join_at_keys<
+    S: DotStore<A>,
+    M: Summary<S>,
+    H: PathHash,
+    A: Allocator + Copy,
+    Y: Keyed<S, A>,
+>(
     alloc: A,
     draft: &mut Draft<S, M, H, A>,
     mine: &TrieMap<S, M, H, A>,
     own: &Context<A>,
-    delta: &Causal<DotMap<Key<A>, S, A>, A>,
+    yours: &Y,
+    theirs: &Context<A>,
     keys: &BTreeSet<Key<A>, A>,
 ) -> Result<(), Refusal>
     requires { draft.old ≡ mine.now }
     ensures hash { draft.new.0 ≡ draft.old.0 }
     ensures either { OnOk result ((q : List ℕ) → IsEitherAt S.at S.greater (at_keys S.at mine.now) (has own.now)
-        (at_stores S.at bytes_cmp delta.now.0) (has delta.now.1) draft.new.1 q) }
+        (Y.stands yours.now) (has theirs.now) draft.new.1 q) }
     ensures there { OnOk result ((q : List ℕ) → IsTrue (has_key keys.now.keys q) → IsJoinedAt S.at S.greater (at_keys S.at mine.now) (has own.now)
-        (at_stores S.at bytes_cmp delta.now.0) (has delta.now.1) draft.new.1 q) }
+        (Y.stands yours.now) (has theirs.now) draft.new.1 q) }
     ensures err { IsOkUnless result Refusal.OutOfMemory }
 {
     let empty = S::empty(alloc);
     for key in keys {
         let store = mine.get(key).unwrap_or(&empty);
-        let other = delta.store().get(key).unwrap_or(&empty);
-        draft.join_at(alloc, key, store, own, other, delta.context())?;
+        let other = yours.store_at(key).unwrap_or(&empty);
+        draft.join_at(alloc, key, store, own, other, theirs)?;
     }
     Ok(())
 }

@@ -13,11 +13,14 @@ use Rattle.delta_ops.proofs.AsOrMap.{as_entries}
 use Rattle.dot_store.specs.Stores.{at_values, at_stores, held_by}
 use Rattle.dots.specs.Bytes.{bytes_cmp}
 use Rattle.dots.specs.Dot.{DotValue, same_dot}
+use Rattle.gen_trie.specs.Shown.{Shown}
+use Rattle.live_map.specs.Closing.{IsBuiltOn}
 use Rattle.live_map.specs.Live.{PairValue}
 use Rattle.op_model.specs.Meaning.{greater}
 use Rattle.op_model.specs.Place.{place_of}
 use Rattle.op_model.specs.State.{Same, joined, join, IsInside}
 use Rattle.op_model.proofs.Dots.{same_dot-true}
+use Rattle.page_fetching.specs.Building.{BuiltValue, GoesOn}
 use Rattle.replica_model.proofs.States.{same_is}
 use Rattle.sync_model.specs.Closing as closing
 use Rattle.sync_model.specs.Closing.{IsBelow}
@@ -99,3 +102,18 @@ module _ {Hash : Type 0} (hash : Hash) (live : PairValue Hash FieldsValue) (m : 
         (sym (as_entries live.0 (path_of place) dot));
     has = same.has;
   })
+
+-- what a session gives is built on what it began with
+pub opened_builds : {Hash : Type 0} (live : PairValue Hash FieldsValue) (base entries : Shown Hash FieldsValue) (seen : ContextValue) (touched : Shown Hash (Unit {0}))
+    (context : ContextValue) (built : BuiltValue Hash)
+    → IsBelow (closing.held_state base.map (has seen)) (live_state live)
+    → GoesOn (record { hash = base.hash; entries = base.map; touched = finite.empty }) built
+    → KnowsEachDot (has context) built.entries
+    → entries.map ≡ built.entries
+    → touched.map ≡ built.touched
+    → IsBuiltOn fields_at greater live base seen entries touched context
+opened_builds live base entries seen touched context built below goes known same_entries same_touched = record {
+  below = below_pair base.hash live base.map seen below;
+  rest = λ key none. ap (λ m. finite.get m key) same_entries ∙ goes.rest key (ap (λ t. finite.get t key) (sym same_touched) ∙ none);
+  inside = built_inside entries.hash live entries.map context (subst (KnowsEachDot (has context)) (sym same_entries) known);
+}

@@ -50,9 +50,3 @@ module _ {X : Type 0} (item : X → List ℕ) (Item : X → Type 0) where
   pub all_behind : (old now : List ℕ) (xs : List X) (i : ℕ) → Appends (flat_map item) (AllByRecursion Item) old now (take i xs) → length xs ≤ i
       → Appends (flat_map item) (AllByRecursion Item) old now xs
   all_behind old now xs i p h = subst (Appends (flat_map item) (AllByRecursion Item) old now) (take_all i xs h) p
-
-  pub next_read : (old now new : List ℕ) (xs : List X) (i : ℕ) (d : X) → Appends (flat_map item) (AllByRecursion Item) old now (take i xs) → i < length xs
-      → Appends item Item now new (get_or xs i d)
-      → Appends (flat_map item) (AllByRecursion Item) old new (take (i + 1) xs)
-  next_read old now new xs i d p h q =
-      subst (Appends (flat_map item) (AllByRecursion Item) old new) (sym (take_more xs i d h)) (one_behind old now new (take i xs) (get_or xs i d) p q)

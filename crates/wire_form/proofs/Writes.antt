@@ -1,9 +1,7 @@
 -- What writers leave, from what other writers left.
-use Rattle.std.proofs.Common.{◌≡◌, ℕ, ◌≤◌, true, false, List, [], ◌∷◌, ◌++◌, length, take, get_or, ◌<◌, ◌+◌, refl, sym, ap, subst, ◌∙◌, append_assoc, arith}
+use Rattle.std.proofs.Common.{◌≡◌, ℕ, ◌≤◌, true, false, List, ◌++◌, length, sym, ap, subst, ◌∙◌, append_assoc, arith}
 use Rattle.std.specs.List.{flat_map, AllByRecursion}
 use Rattle.std.specs.Int.{w16, to_be_bytes}
-use Rattle.std.proofs.lemmas.List.{append-nil, take_more, take_all}
-use Rattle.std.proofs.lemmas.List.Concat.{flat_map-append}
 use Rattle.dots.specs.Bytes.{MAX_LENGTH, bytes_cmp}
 use Rattle.wire_form.specs.Spelling.{number, IsNumber, pair, IsPair, counted, AreCounted}
 use Rattle.std.specs.List.Sorted.{IsStrictlySortedBy}
@@ -26,6 +24,14 @@ pair_appends first First second Second old mid new x y p q = record {
   parts = q.parts ∙ ap (λ (t : List ℕ). t ++ second y) p.parts ∙ append_assoc old (first x) (second y);
 }
 
+-- a count, and then the items
+pub counted_appends : {X : Type 0} (item : X → List ℕ) (Item : X → Type 0) (old mid new : List ℕ) (xs : List X) → Appends number IsNumber old mid (length xs)
+    → Appends (flat_map item) (AllByRecursion Item) mid new xs → Appends (counted item) (AreCounted Item) old new xs
+counted_appends item Item old mid new xs p q = record {
+  fits = (p.fits, q.fits);
+  parts = q.parts ∙ ap (λ (t : List ℕ). t ++ flat_map item xs) p.parts ∙ append_assoc old (number (length xs)) (flat_map item xs);
+}
+
 pub text_appends : (old mid new bytes : List ℕ) → length bytes ≤ MAX_LENGTH → mid ≡ old ++ to_be_bytes w16 (length bytes) → new ≡ mid ++ bytes
     → Appends text IsText old new bytes
 unfolding text
@@ -33,50 +39,6 @@ text_appends old mid new bytes fits first second = record {
   fits = fits;
   parts = second ∙ ap (λ (t : List ℕ). t ++ bytes) first ∙ append_assoc old (to_be_bytes w16 (length bytes)) bytes;
 }
-
-module _ {X : Type 0} (item : X → List ℕ) (Item : X → Type 0) where
-  -- a count and some of the items, behind what was there
-  pub record WritesSo (old now : List ℕ) (count : ℕ) (xs : List X) : Type 0 where
-    pub each : AllByRecursion Item xs
-    pub count_fits : IsNumber count
-    pub parts : now ≡ old ++ (number count ++ flat_map item xs)
-
-  pub none_written : (old now : List ℕ) (count : ℕ) → Appends number IsNumber old now count → WritesSo old now count []
-  none_written old now count p = record { each = tt; count_fits = p.fits; parts = p.parts ∙ ap (λ (t : List ℕ). old ++ t) (sym (append-nil (number count))) }
-
-  all-push : (xs : List X) (x : X) → AllByRecursion Item xs → Item x → AllByRecursion Item (xs ++ x ∷ [])
-  all-push [] x p q = (q, tt)
-  all-push (y ∷ ys) x p q = (p.0, all-push ys x p.1 q)
-
-  pub one_written : (old now new : List ℕ) (count : ℕ) (xs : List X) (x : X) → WritesSo old now count xs → Appends item Item now new x
-      → WritesSo old new count (xs ++ x ∷ [])
-  one_written old now new count xs x p q = record {
-    each = all-push xs x p.each q.fits;
-    count_fits = p.count_fits;
-    parts = q.parts ∙ ap (λ (t : List ℕ). t ++ item x) p.parts ∙ append_assoc old (number count ++ flat_map item xs) (item x)
-        ∙ ap (λ (t : List ℕ). old ++ t) (append_assoc (number count) (flat_map item xs) (item x)
-        ∙ ap (λ (t : List ℕ). number count ++ t) (ap (λ (t : List ℕ). flat_map item xs ++ t) (sym (append-nil (item x)))
-        ∙ sym (flat_map-append item xs (x ∷ []))));
-  }
-
-  pub all_written : (old now : List ℕ) (count : ℕ) (xs all : List X) → WritesSo old now count xs → xs ≡ all → count ≡ length all
-      → Appends (counted item) (AreCounted Item) old now all
-  all_written old now count xs all p e n = record {
-    fits = (subst IsNumber n p.count_fits, subst (AllByRecursion Item) e p.each);
-    parts = p.parts ∙ ap (λ (k : ℕ). old ++ (number k ++ flat_map item xs)) n ∙ ap (λ (ys : List X). old ++ (number (length all) ++ flat_map item ys)) e;
-  }
-
-  -- the first of a list, and one more
-  pub next_written : (old now new : List ℕ) (count : ℕ) (xs : List X) (i : ℕ) (x : X) → WritesSo old now count (take i xs) → i < length xs → x ≡ get_or xs i x
-      → Appends item Item now new x
-      → WritesSo old new count (take (i + 1) xs)
-  next_written old now new count xs i x p h is q =
-      let e : take (i + 1) xs ≡ take i xs ++ x ∷ [] = take_more xs i x h ∙ ap (λ (y : X). take i xs ++ y ∷ []) (sym is) in
-      subst (WritesSo old new count) (sym e) (one_written old now new count (take i xs) x p q)
-
-  pub list_written : (old now : List ℕ) (xs : List X) (i : ℕ) → WritesSo old now (length xs) (take i xs) → length xs ≤ i
-      → Appends (counted item) (AreCounted Item) old now xs
-  list_written old now xs i p h = all_written old now (length xs) (take i xs) xs p (take_all i xs h) refl
 
 -- ---- values, fields, stores and contexts
 

@@ -4,6 +4,7 @@ ghost use Rattle.wire_form.specs.Page.{digest, IsDigest};
 ghost use Rattle.wire_form.specs.Reading.{ReadsAll};
 ghost use Rattle.wire_form.specs.UniquePages.{byte_starts, byte_unique, digest_starts, digest_unique};
 
+use crate::append::Append;
 use crate::spelled::Spelled;
 use dots::Refusal;
 use std::alloc::Allocator;
@@ -25,6 +26,13 @@ impl<A: Allocator + Copy> Spelled<A> for u8 {
     ghost unique = { byte_unique };
 }
 
+impl<A: Allocator + Copy> Append<A> for u8 {
+    fn append_to(&self, out: &mut Vec<u8, A>) -> Result<(), Refusal> {
+        out.push(*self)?;
+        Ok(())
+    }
+}
+
 impl<A: Allocator + Copy> Spelled<A> for [u8; 32] {
     ghost spell = { digest };
 
@@ -40,6 +48,13 @@ impl<A: Allocator + Copy> Spelled<A> for [u8; 32] {
     ghost starts = { digest_starts };
 
     ghost unique = { digest_unique };
+}
+
+impl<A: Allocator + Copy> Append<A> for [u8; 32] {
+    fn append_to(&self, out: &mut Vec<u8, A>) -> Result<(), Refusal> {
+        out.extend_from_slice(self)?;
+        Ok(())
+    }
 }
 
 // The digest that is all the bytes.

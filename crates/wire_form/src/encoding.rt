@@ -1,12 +1,12 @@
-ghost use Rattle.std.specs.Prelude.{◌≡◌, ◌≤◌, true, false, length, IfOk, OnOk, IsOkUnless};
-ghost use Rattle.dots.specs.Bytes.{MAX_LENGTH};
-ghost use Rattle.causal_context.specs.Canonical.{IsCanonical};
-ghost use Rattle.wire_form.specs.Spelling.{number, IsNumber, counted, AreCounted};
+ghost use Rattle.std.specs.Prelude.{◌≡◌, true, false, IfOk, OnOk, IsOkUnless};
+ghost use Rattle.std.specs.List.{flat_map, AllByRecursion};
+ghost use Rattle.wire_form.specs.Spelling.{pair, IsPair};
 ghost use Rattle.wire_form.specs.Parts as part;
 ghost use Rattle.wire_form.specs.Store as form;
 ghost use Rattle.wire_form.specs.Message.{message_of, Spells, SpellsDelta};
 ghost use Rattle.wire_form.specs.Writing.{Appends};
 
+use crate::append::{Append, append_items};
 use crate::message::Message;
 use crate::plain::{is_plain_store, values_alone};
 use crate::session_writing::{
@@ -14,8 +14,7 @@ use crate::session_writing::{
 };
 use causal_context::Context;
 use causal_join::{Fields, OrMap, OrMapStore};
-use dot_store::DotFun;
-use dots::{Dot, Name, Refusal, Value};
+use dots::{Key, Refusal};
 use std::alloc::Allocator;
 
 /// The bytes of the message: the one spelling that it has. Takes time and memory in their number.
@@ -54,40 +53,8 @@ pub(crate) fn write_context<A: Allocator + Copy>(
     ensures ok { OnOk result (Appends part.context part.IsContext out.old.items out.new.items context.now) }
     ensures err { IsOkUnless result Refusal.OutOfMemory }
 {
-    write_vector(out, context)?;
-    write_cloud(out, context)
-}
-
-fn write_vector<A: Allocator + Copy>(
-    out: &mut Vec<u8, A>,
-    context: &Context<A>,
-) -> Result<(), Refusal>
-    ensures ok { OnOk result (Appends (counted part.entry) (AreCounted part.IsEntry) out.old.items out.new.items context.now.vector) }
-    ensures canonical { IsCanonical context.now }
-    ensures err { IsOkUnless result Refusal.OutOfMemory }
-{
-    let entries = context.vector();
-    write_number(out, entries.len() as u64)?;
-    for (name, number) in entries {
-        write_name(out, *name)?;
-        write_number(out, *number)?;
-    }
-    Ok(())
-}
-
-fn write_cloud<A: Allocator + Copy>(
-    out: &mut Vec<u8, A>,
-    context: &Context<A>,
-) -> Result<(), Refusal>
-    ensures ok { OnOk result (Appends (counted part.dot_bytes) (AreCounted part.IsDot) out.old.items out.new.items context.now.cloud) }
-    ensures err { IsOkUnless result Refusal.OutOfMemory }
-{
-    let dots = context.cloud();
-    write_number(out, dots.len() as u64)?;
-    for dot in dots {
-        write_dot(out, *dot)?;
-    }
-    Ok(())
+    append_items(out, context.vector())?;
+    append_items(out, context.cloud())
 }
 
 // The store in the form that it is told to have.
@@ -116,9 +83,21 @@ fn write_plain_store<A: Allocator + Copy>(
     ensures err { IsOkUnless result Refusal.OutOfMemory }
 {
     let entries = store.entries();
-    write_number(out, entries.len() as u64)?;
+    (entries.len() as u64).append_to(out)?;
+    write_plain_entries(out, entries)
+}
+
+// Each key with the values of its empty field, which is there alone.
+fn write_plain_entries<A: Allocator + Copy>(
+    out: &mut Vec<u8, A>,
+    entries: &[(Key<A>, Fields<A>)],
+) -> Result<(), Refusal>
+    requires { form.is_plain_form entries.now ≡ true }
+    ensures ok { OnOk result (Appends (flat_map (pair part.text form.sole)) (AllByRecursion (IsPair part.IsText form.AreSole)) out.old.items out.new.items entries.now) }
+    ensures err { IsOkUnless result Refusal.OutOfMemory }
+{
     for (key, fields) in entries {
-        write_text(out, key.bytes())?;
+        key.append_to(out)?;
         write_alone(out, fields)?;
     }
     Ok(())
@@ -131,7 +110,7 @@ fn write_alone<A: Allocator + Copy>(out: &mut Vec<u8, A>, fields: &Fields<A>) ->
     ensures err { IsOkUnless result Refusal.OutOfMemory }
 {
     match values_alone(fields) {
-        Some(values) => write_values(out, values),
+        Some(values) => values.append_to(out),
         None => Ok(()),
     }
 }
@@ -143,85 +122,5 @@ fn write_full_store<A: Allocator + Copy>(
     ensures ok { OnOk result (Appends (form.store false) form.IsStore out.old.items out.new.items store.now) }
     ensures err { IsOkUnless result Refusal.OutOfMemory }
 {
-    let entries = store.entries();
-    write_number(out, entries.len() as u64)?;
-    for (key, fields) in entries {
-        write_text(out, key.bytes())?;
-        write_fields(out, fields)?;
-    }
-    Ok(())
-}
-
-fn write_fields<A: Allocator + Copy>(
-    out: &mut Vec<u8, A>,
-    fields: &Fields<A>,
-) -> Result<(), Refusal>
-    ensures ok { OnOk result (Appends part.fields_bytes part.AreFields out.old.items out.new.items fields.now) }
-    ensures err { IsOkUnless result Refusal.OutOfMemory }
-{
-    let entries = fields.entries();
-    write_number(out, entries.len() as u64)?;
-    for (field, values) in entries {
-        write_text(out, field.bytes())?;
-        write_values(out, values)?;
-    }
-    Ok(())
-}
-
-fn write_values<A: Allocator + Copy>(
-    out: &mut Vec<u8, A>,
-    values: &DotFun<Value<A>, A>,
-) -> Result<(), Refusal>
-    ensures ok { OnOk result (Appends part.values_bytes part.AreValues out.old.items out.new.items values.now) }
-    ensures err { IsOkUnless result Refusal.OutOfMemory }
-{
-    let entries = values.entries();
-    write_number(out, entries.len() as u64)?;
-    for (dot, value) in entries {
-        write_dot(out, *dot)?;
-        write_text(out, value.bytes())?;
-    }
-    Ok(())
-}
-
-pub(crate) fn write_text<A: Allocator + Copy>(
-    out: &mut Vec<u8, A>,
-    bytes: &[u8],
-) -> Result<(), Refusal>
-    requires { length bytes.now ≤ MAX_LENGTH }
-    ensures ok { OnOk result (Appends part.text part.IsText out.old.items out.new.items bytes.now) }
-    ensures err { IsOkUnless result Refusal.OutOfMemory }
-{
-    out.extend_from_slice(&(bytes.len() as u16).to_be_bytes())?;
-    out.extend_from_slice(bytes)?;
-    Ok(())
-}
-
-pub(crate) fn write_dot<A: Allocator + Copy>(out: &mut Vec<u8, A>, dot: Dot) -> Result<(), Refusal>
-    ensures ok { OnOk result (Appends part.dot_bytes part.IsDot out.old.items out.new.items dot) }
-    ensures err { IsOkUnless result Refusal.OutOfMemory }
-{
-    write_name(out, dot.name())?;
-    write_number(out, dot.number())
-}
-
-pub(crate) fn write_name<A: Allocator + Copy>(
-    out: &mut Vec<u8, A>,
-    name: Name,
-) -> Result<(), Refusal>
-    ensures ok { OnOk result (Appends number part.IsName out.old.items out.new.items name) }
-    ensures err { IsOkUnless result Refusal.OutOfMemory }
-{
-    write_number(out, name.number())
-}
-
-pub(crate) fn write_number<A: Allocator + Copy>(
-    out: &mut Vec<u8, A>,
-    value: u64,
-) -> Result<(), Refusal>
-    ensures ok { OnOk result (Appends number IsNumber out.old.items out.new.items value) }
-    ensures err { IsOkUnless result Refusal.OutOfMemory }
-{
-    out.extend_from_slice(&value.to_be_bytes())?;
-    Ok(())
+    append_items(out, store.entries())
 }

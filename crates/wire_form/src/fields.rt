@@ -2,6 +2,7 @@
 ghost use Rattle.wire_form.specs.Parts.{fields_bytes, AreFields};
 ghost use Rattle.wire_form.specs.Unique.{fields_starts, fields_unique};
 
+use crate::append::{Append, append_items};
 use crate::items::read_items;
 use crate::spelled::Spelled;
 use causal_join::Fields;
@@ -25,4 +26,10 @@ impl<A: Allocator + Copy> Spelled<A> for Fields<A> {
     ghost starts = { fields_starts };
 
     ghost unique = { fields_unique };
+}
+
+impl<A: Allocator + Copy> Append<A> for Fields<A> {
+    fn append_to(&self, out: &mut Vec<u8, A>) -> Result<(), Refusal> {
+        append_items(out, self.entries())
+    }
 }

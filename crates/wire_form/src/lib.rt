@@ -2,6 +2,7 @@
 // Offered to the crates above: what is encoded spells the message, and what is decoded is what the bytes spell.
 #![tactic(auto)]
 
+mod append;
 mod context;
 mod decoding;
 mod digest;

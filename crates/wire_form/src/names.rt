@@ -2,6 +2,7 @@
 ghost use Rattle.wire_form.specs.Page.{names, AreNames, named, AreNamed};
 ghost use Rattle.wire_form.specs.UniquePages.{names_starts, names_unique, named_starts, named_unique};
 
+use crate::append::{Append, append_items};
 use crate::items::read_items;
 use crate::page::{NamedFields, Names};
 use crate::spelled::Spelled;
@@ -28,6 +29,12 @@ impl<A: Allocator + Copy> Spelled<A> for DotFun<[u8; 32], A> {
     ghost unique = { names_unique };
 }
 
+impl<A: Allocator + Copy> Append<A> for DotFun<[u8; 32], A> {
+    fn append_to(&self, out: &mut Vec<u8, A>) -> Result<(), Refusal> {
+        append_items(out, self.entries())
+    }
+}
+
 impl<A: Allocator + Copy> Spelled<A> for OrderedList<Field<A>, DotFun<[u8; 32], A>, A> {
     ghost spell = { named };
 
@@ -44,4 +51,10 @@ impl<A: Allocator + Copy> Spelled<A> for OrderedList<Field<A>, DotFun<[u8; 32], 
     ghost starts = { named_starts };
 
     ghost unique = { named_unique };
+}
+
+impl<A: Allocator + Copy> Append<A> for OrderedList<Field<A>, DotFun<[u8; 32], A>, A> {
+    fn append_to(&self, out: &mut Vec<u8, A>) -> Result<(), Refusal> {
+        append_items(out, self.entries())
+    }
 }

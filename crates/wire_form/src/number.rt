@@ -1,9 +1,11 @@
 // Numbers, names and dots as parts.
-ghost use Rattle.std.specs.Prelude.{◌≡◌, ◌≤◌, ◌↔◌, IsSome, IfSome};
+ghost use Rattle.std.specs.Prelude.{◌≡◌, ◌≤◌, ◌↔◌, IsSome, IfSome, OnOk, IsOkUnless};
 ghost use Rattle.wire_form.specs.Spelling.{number, IsNumber};
 ghost use Rattle.wire_form.specs.Parts.{IsName, dot_bytes, IsDot};
+ghost use Rattle.wire_form.specs.Writing.{Appends};
 ghost use Rattle.wire_form.specs.Unique.{number_starts, number_unique, name_starts, name_unique, dot_starts, dot_unique};
 
+use crate::append::Append;
 use crate::spelled::Spelled;
 use dots::{Dot, Name, Refusal};
 use std::alloc::Allocator;
@@ -29,6 +31,20 @@ impl<A: Allocator + Copy> Spelled<A> for u64 {
     ghost unique = { number_unique };
 }
 
+impl<A: Allocator + Copy> Append<A> for u64 {
+    fn append_to(&self, out: &mut Vec<u8, A>) -> Result<(), Refusal> {
+        write_number(out, *self)
+    }
+}
+
+fn write_number<A: Allocator + Copy>(out: &mut Vec<u8, A>, value: u64) -> Result<(), Refusal>
+    ensures ok { OnOk result (Appends number IsNumber out.old.items out.new.items value) }
+    ensures err { IsOkUnless result Refusal.OutOfMemory }
+{
+    out.extend_from_slice(&value.to_be_bytes())?;
+    Ok(())
+}
+
 impl<A: Allocator + Copy> Spelled<A> for Name {
     ghost spell = { number };
 
@@ -45,6 +61,12 @@ impl<A: Allocator + Copy> Spelled<A> for Name {
     ghost starts = { name_starts };
 
     ghost unique = { name_unique };
+}
+
+impl<A: Allocator + Copy> Append<A> for Name {
+    fn append_to(&self, out: &mut Vec<u8, A>) -> Result<(), Refusal> {
+        self.number().append_to(out)
+    }
 }
 
 // The dot of this name and number, or None where either is 0.
@@ -72,4 +94,11 @@ impl<A: Allocator + Copy> Spelled<A> for Dot {
     ghost starts = { dot_starts };
 
     ghost unique = { dot_unique };
+}
+
+impl<A: Allocator + Copy> Append<A> for Dot {
+    fn append_to(&self, out: &mut Vec<u8, A>) -> Result<(), Refusal> {
+        self.name().append_to(out)?;
+        self.number().append_to(out)
+    }
 }

@@ -1,19 +1,18 @@
 // The bytes of messages of a session.
 ghost use Rattle.std.specs.Prelude.{◌∷◌, [], IfOk, OnOk, IsOkUnless};
-ghost use Rattle.wire_form.specs.Spelling.{counted, AreCounted};
-ghost use Rattle.wire_form.specs.Parts.{text, IsText};
 ghost use Rattle.wire_form.specs.Session as part;
 ghost use Rattle.wire_form.specs.Sent as page;
 ghost use Rattle.wire_form.specs.Message.{Hello, Opening, Ask, Page, Gone, Spells, VERSION, root, IsRoot};
 ghost use Rattle.wire_form.specs.Writing.{Appends};
 
-use crate::encoding::{write_context, write_name, write_number, write_text};
-use crate::page_writing::{write_digest, write_page};
+use crate::append::{Append, append_items};
+use crate::encoding::write_context;
+use crate::page_writing::write_page;
 use crate::prefix::write_prefix;
 use crate::sent_page::SentPage;
 use crate::session::Session;
 use causal_context::Context;
-use dots::{Refusal, Value};
+use dots::Refusal;
 use hash_path::Prefix;
 use std::alloc::Allocator;
 
@@ -95,9 +94,9 @@ fn write_session<A: Allocator + Copy>(out: &mut Vec<u8, A>, session: Session) ->
     ensures ok { OnOk result (Appends part.session part.IsSession out.old.items out.new.items session) }
     ensures err { IsOkUnless result Refusal.OutOfMemory }
 {
-    write_name(out, session.asker())?;
-    write_name(out, session.answerer())?;
-    write_number(out, session.number())
+    session.asker().append_to(out)?;
+    session.answerer().append_to(out)?;
+    session.number().append_to(out)
 }
 
 fn write_root<A: Allocator + Copy>(
@@ -114,7 +113,7 @@ fn write_root<A: Allocator + Copy>(
         }
         Some(digest) => {
             out.push(1)?;
-            write_digest(out, digest)
+            digest.append_to(out)
         }
     }
 }
@@ -124,20 +123,6 @@ fn write_sent<A: Allocator + Copy>(out: &mut Vec<u8, A>, sent: &SentPage<A>) -> 
     ensures err { IsOkUnless result Refusal.OutOfMemory }
 {
     write_prefix(out, sent.prefix())?;
-    write_texts(out, sent.values())?;
+    append_items(out, sent.values())?;
     write_page(out, sent.page())
-}
-
-fn write_texts<A: Allocator + Copy>(
-    out: &mut Vec<u8, A>,
-    values: &[Value<A>],
-) -> Result<(), Refusal>
-    ensures ok { OnOk result (Appends (counted text) (AreCounted IsText) out.old.items out.new.items values.now) }
-    ensures err { IsOkUnless result Refusal.OutOfMemory }
-{
-    write_number(out, values.len() as u64)?;
-    for value in values {
-        write_text(out, value.bytes())?;
-    }
-    Ok(())
 }

@@ -4,6 +4,7 @@ ghost use Rattle.wire_form.specs.Parts.{text, IsText};
 ghost use Rattle.wire_form.specs.Reading.{Reads};
 ghost use Rattle.wire_form.specs.Unique.{text_starts, text_unique};
 
+use crate::append::Append;
 use crate::spelled::Spelled;
 use dots::{Refusal, Text};
 use std::alloc::Allocator;
@@ -38,4 +39,13 @@ impl<K, A: Allocator + Copy> Spelled<A> for Text<K, A> {
     ghost starts = { text_starts };
 
     ghost unique = { text_unique };
+}
+
+impl<K, A: Allocator + Copy> Append<A> for Text<K, A> {
+    fn append_to(&self, out: &mut Vec<u8, A>) -> Result<(), Refusal> {
+        let bytes = self.bytes();
+        out.extend_from_slice(&(bytes.len() as u16).to_be_bytes())?;
+        out.extend_from_slice(bytes)?;
+        Ok(())
+    }
 }

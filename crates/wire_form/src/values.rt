@@ -2,6 +2,7 @@
 ghost use Rattle.wire_form.specs.Parts.{values_bytes, AreValues};
 ghost use Rattle.wire_form.specs.Unique.{values_starts, values_unique};
 
+use crate::append::{Append, append_items};
 use crate::items::read_items;
 use crate::spelled::Spelled;
 use dot_store::DotFun;
@@ -24,4 +25,10 @@ impl<A: Allocator + Copy> Spelled<A> for DotFun<Value<A>, A> {
     ghost starts = { values_starts };
 
     ghost unique = { values_unique };
+}
+
+impl<A: Allocator + Copy> Append<A> for DotFun<Value<A>, A> {
+    fn append_to(&self, out: &mut Vec<u8, A>) -> Result<(), Refusal> {
+        append_items(out, self.entries())
+    }
 }

@@ -1,25 +1,9 @@
-use Rattle.std.proofs.Common.{length, subst}
-use Rattle.wire_form.specs.Spelling.{pair, IsPair}
-use Rattle.wire_form.specs.Parts.{text, IsText, fields_bytes, AreFields}
-use Rattle.wire_form.specs.Writing.{Appends}
-use Rattle.wire_form.proofs.Writes.{pair_appends, next_written, list_written, full_store_appended}
+use Rattle.std.proofs.lemmas.Result.{on_ok_weaker}
+use Rattle.wire_form.proofs.Writes.{full_store_appended}
 use Rattle.wire_form.proofs.encoding.write_full_store.Goals as goal
-
-pub loop-key-preserved : goal.loop-key-preserved
-loop-key-preserved g c =
-    let es = c.entries-entries.result.now in
-    let e = c.loop-key-item.result in
-    let written : Appends text IsText c.loop-key.out.items c.write_text.new.out.items e.0 =
-    subst (Appends text IsText c.loop-key.out.items c.write_text.new.out.items) c.bytes.ensures.value c.in_ok-write_text.ensures.ok in
-    next_written (pair text fields_bytes) (IsPair IsText AreFields) c.args.out.now.items c.loop-key.out.items c.write_fields.new.out.items (length es)
-    es c.loop-key.key-index e c.loop-key.invariant c.loop-key-test.true c.loop-key-item.is
-    (pair_appends text IsText fields_bytes AreFields c.loop-key.out.items c.write_text.new.out.items c.write_fields.new.out.items e.0 e.1 written
-    c.in_ok-write_fields.ensures.ok)
 
 pub returns-clause-ok : goal.returns-clause-ok
 returns-clause-ok g c =
-    let es = c.entries-entries.result.now in
-    full_store_appended c.args.out.now.items c.loop-key.out.items c.args.store.now es
-    (list_written (pair text fields_bytes) (IsPair IsText AreFields) c.args.out.now.items c.loop-key.out.items es c.loop-key.key-index c.loop-key.invariant
-    c.loop-key-test.false)
-    c.entries-entries.ensures.rest c.entries-entries.ensures.ordered c.entries-entries.ensures.filled
+    on_ok_weaker c.append_items.result (λ p. full_store_appended c.args.out.now.items c.append_items.new.out.items c.args.store.now c.entries.result.now p
+    c.entries.ensures.rest c.entries.ensures.ordered c.entries.ensures.filled)
+    c.append_items.ensures.ok

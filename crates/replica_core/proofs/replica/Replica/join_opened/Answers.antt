@@ -1,5 +1,4 @@
 use Rattle.std.proofs.Common.{refl, sym, ap, ◌∙◌, subst}
-use Rattle.std.specs.FinMap as finite
 use Rattle.causal_context.specs.Context.{has}
 use Rattle.delta_ops.specs.LiveMap.{live_state}
 use Rattle.op_model.specs.Meaning.{greater}
@@ -7,28 +6,19 @@ use Rattle.op_model.specs.State.{join}
 use Rattle.sync_model.specs.Closing as closing
 use Rattle.sync_model.specs.Closing.{IsBelow}
 use Rattle.sync_model.specs.Differ.{Held}
-use Rattle.sync_model.specs.Laws.{KnowsEachDot}
 use Rattle.replica_model.specs.Replica.{joins}
 use Rattle.replica_core.specs.Meaning.{ReplicaValue, meaning}
 use Rattle.replica_core.proofs.Growth.{same_grown, joined_grown}
 use Rattle.replica_core.proofs.Meant.{of_parts, meaning_by, on_err}
-use Rattle.replica_core.proofs.Opened.{built_inside, below_pair, opened_joined}
+use Rattle.replica_core.proofs.Opened.{opened_builds, opened_joined}
 use Rattle.replica_core.proofs.replica.Replica.join_opened.Goals as goal
 
-pub prepare_opened-requires-clause-below : goal.prepare_opened-requires-clause-below
-prepare_opened-requires-clause-below g c =
-    below_pair c.args.opened.now.base.hash c.self.inside.live.0 c.args.opened.now.base.map c.args.opened.now.seen
-    (subst (λ (r : ReplicaValue _). IsBelow (closing.held_state c.args.opened.now.base.map (has c.args.opened.now.seen)) (meaning r).live) (sym c.self.view_is)
-    c.requires.below)
-
-pub prepare_opened-requires-clause-rest : goal.prepare_opened-requires-clause-rest
-prepare_opened-requires-clause-rest g c key none =
-    ap (λ m. finite.get m key) c.entries.ensures.map ∙ c.requires.rest.rest key (ap (λ touched. finite.get touched key) (sym c.touched.ensures) ∙ none)
-
-pub prepare_opened-requires-clause-inside : goal.prepare_opened-requires-clause-inside
-prepare_opened-requires-clause-inside g c =
-    built_inside c.entries.result.now.hash c.self.inside.live.0 c.entries.result.now.map c.args.opened.now.context
-    (subst (KnowsEachDot (has c.args.opened.now.context)) (sym c.entries.ensures.map) c.requires.known)
+pub prepare_opened-requires : goal.prepare_opened-requires
+prepare_opened-requires g c =
+    let opened = c.args.opened.now in
+    opened_builds c.self.inside.live.0 opened.base c.entries.result.now opened.seen c.touched.result.now opened.context opened.built
+    (subst (λ (r : ReplicaValue _). IsBelow (closing.held_state opened.base.map (has opened.seen)) (meaning r).live) (sym c.self.view_is) c.requires.below)
+    c.requires.rest c.requires.known c.entries.ensures.map c.touched.ensures
 
 pub invariant_of-self : goal.invariant_of-self
 invariant_of-self g c = same_grown g.H.PathHash.hash_of _ _ c.self.invariant refl refl refl refl c.in_err-next.ensures.unchanged

@@ -1,5 +1,4 @@
 use Rattle.std.proofs.Common.{◌≡◌, sym, ap, ◌∙◌, subst}
-use Rattle.std.specs.FinMap as finite
 use Rattle.std.proofs.lemmas.Option.{IfSome_then}
 use Rattle.std.proofs.lemmas.Result.{IfOk-weaker}
 use Rattle.causal_context.specs.Context.{has}
@@ -10,26 +9,17 @@ use Rattle.op_model.specs.State.{join}
 use Rattle.sync_model.specs.Closing as closing
 use Rattle.sync_model.specs.Closing.{IsBelow}
 use Rattle.sync_model.specs.Differ.{Held}
-use Rattle.sync_model.specs.Laws.{KnowsEachDot}
 use Rattle.replica_core.specs.Meaning.{ReplicaValue, meaning}
 use Rattle.replica_core.proofs.Brought.{delta_joined}
-use Rattle.replica_core.proofs.Opened.{built_inside, below_pair}
+use Rattle.replica_core.proofs.Opened.{opened_builds}
 use Rattle.replica_core.proofs.replica.Replica.opened_delta.Goals as goal
 
-pub opened_delta-requires-clause-below : goal.opened_delta-requires-clause-below
-opened_delta-requires-clause-below g c =
-    below_pair c.args.opened.now.base.hash c.self.inside.live.0 c.args.opened.now.base.map c.args.opened.now.seen
-    (subst (λ (r : ReplicaValue _). IsBelow (closing.held_state c.args.opened.now.base.map (has c.args.opened.now.seen)) (meaning r).live) (sym c.self.view_is)
-    c.requires.below)
-
-pub opened_delta-requires-clause-rest : goal.opened_delta-requires-clause-rest
-opened_delta-requires-clause-rest g c key none =
-    ap (λ m. finite.get m key) c.entries.ensures.map ∙ c.requires.rest.rest key (ap (λ touched. finite.get touched key) (sym c.touched.ensures) ∙ none)
-
-pub opened_delta-requires-clause-inside : goal.opened_delta-requires-clause-inside
-opened_delta-requires-clause-inside g c =
-    built_inside c.entries.result.now.hash c.self.inside.live.0 c.entries.result.now.map c.args.opened.now.context
-    (subst (KnowsEachDot (has c.args.opened.now.context)) (sym c.entries.ensures.map) c.requires.known)
+pub opened_delta-requires : goal.opened_delta-requires
+opened_delta-requires g c =
+    let opened = c.args.opened.now in
+    opened_builds c.self.inside.live.0 opened.base c.entries.result.now opened.seen c.touched.result.now opened.context opened.built
+    (subst (λ (r : ReplicaValue _). IsBelow (closing.held_state opened.base.map (has opened.seen)) (meaning r).live) (sym c.self.view_is) c.requires.below)
+    c.requires.rest c.requires.known c.entries.ensures.map c.touched.ensures
 
 pub returns-clause-ok : goal.returns-clause-ok
 returns-clause-ok g c =
