@@ -1,5 +1,5 @@
 -- A delta that brings what the end of an own session joins in.
-use Rattle.std.proofs.Common.{◌≡◌, inl, ℕ, List, [], true, Option, IfSome, cond, sym, ap, ◌∙◌, subst}
+use Rattle.std.proofs.Common.{◌≡◌, inl, inr, ℕ, List, [], true, Option, IfSome, cond, sym, ap, ◌∙◌, subst}
 use Rattle.std.specs.Prelude.{◌==◌}
 use Rattle.std.proofs.lemmas.Bool.{eq-eqb}
 use Rattle.std.proofs.lemmas.Option.{IfSome_then}
@@ -33,8 +33,9 @@ use Rattle.replica_core.specs.Meaning.{ReplicaValue, hash_in, meaning}
 use Rattle.replica_core.specs.Own.{IsOwn, IsReplica}
 use Rattle.replica_core.specs.Tied.{IsFirstAt}
 use Rattle.replica_core.specs.Turned.{turned, closed_with}
+use Rattle.replica_core.specs.Turning.{IsShown, answered}
 use Rattle.replica_core.proofs.Gained.{outcome}
-use Rattle.replica_core.proofs.Takes.{own_at, opening_is, page_is}
+use Rattle.replica_core.proofs.Takes.{own_at, opening_is, page_is, as_opening, as_page}
 use Rattle.replica_core.proofs.Tied.{opening_tied, page_tied}
 use Rattle.replica_core.proofs.TiedLists.{found_tied}
 
@@ -93,6 +94,12 @@ module _ {Hash : Type 0} (hash_of : Hash → List ℕ → ℕ) (old : ReplicaVal
       IfSome_then found closing (λ delta. brought_by (hash_of (hash_in old)) (meaning old) (mail_of message) (asker_state next) step (or_map_state delta)
       (λ own. subst (λ m. delivered (hash_of (hash_in old)) own (meaning old) (mail_of m) ≡ turned (meaning old) (asker_state next) step) (sym said)
       (page_turns hash_of old s place a first here (outcome (asker_state next) step) own sent at)))
+
+  pub answer_brings : IsShown s message → outcome (asker_state next) step ≡ answered (hash_of a.hash) (asker_state a) message
+      → IfSome found (λ delta. Brings (hash_of (hash_in old)) (meaning old) (mail_of message) (or_map_state delta))
+  answer_brings (inl (context, root, e)) told =
+      opening_brings context root e (as_opening hash_of old is s place a first next step goes_from message told context root e)
+  answer_brings (inr (sent, e)) told = page_brings sent e (as_page hash_of old is s place a first next step goes_from message told sent e)
 
 -- a delta that brings to the pair what the built map does brings it to what the pair stands for
 module _ {Hash : Type 0} (hash : Hash) (live : PairValue Hash FieldsValue) (m : Held) (context : ContextValue) (delta : OrMapValue) where

@@ -18,7 +18,7 @@ use Rattle.replica_core.specs.Own.{IsOwn, IsReplica, KnowsBuilt}
 use Rattle.replica_core.specs.Stepping.{Steps}
 use Rattle.replica_core.specs.Tied.{IsFirstAt, NoneIs}
 use Rattle.replica_core.specs.Turned.{turned}
-use Rattle.replica_core.specs.Turning.{CanTake}
+use Rattle.replica_core.specs.Turning.{CanTake, IsAnswer, answered}
 use Rattle.replica_core.proofs.Changing.{at_place}
 use Rattle.replica_core.proofs.Came.{opening_came, page_came, gone_came, opening_missed, page_missed, gone_missed}
 use Rattle.replica_core.proofs.Gained.{outcome, opening_gives, page_gives, gone_gives}
@@ -85,6 +85,30 @@ module _ {Hash : Type 0} (hash_of : Hash → List ℕ → ℕ) (old : ReplicaVal
             subst (λ m. Steps hash_of old new (Take (mail_of m)) (Came o) out) (sym e)
             (gone_came hash_of old mapped new s place a first own_at.asker own_at.is_open (outcome (asker_state next) step) o out came hash (gone_is e))
 
+  -- any of these
+  module _ (told : outcome (asker_state next) step ≡ answered (hash_of a.hash) (asker_state a) message) where
+    pub as_opening : (context : ContextValue) (root : Option (List ℕ)) → message ≡ Opening s context root
+        → outcome (asker_state next) step ≡ turning.on_opening (hash_of a.hash) (asker_state a) message
+    as_opening context root e = told ∙ ap (answered (hash_of a.hash) (asker_state a)) e ∙ sym (ap (turning.on_opening (hash_of a.hash) (asker_state a)) e)
+
+    pub as_page : (sent : SentValue) → message ≡ Page s sent → outcome (asker_state next) step ≡ turning.on_page (hash_of a.hash) (asker_state a) message
+    as_page sent e = told ∙ ap (answered (hash_of a.hash) (asker_state a)) e ∙ sym (ap (turning.on_page (hash_of a.hash) (asker_state a)) e)
+
+    as_gone : message ≡ Gone s → outcome (asker_state next) step ≡ turning.on_page (hash_of a.hash) (asker_state a) message
+    as_gone e = told ∙ ap (answered (hash_of a.hash) (asker_state a)) e ∙ sym (ap (turning.on_page (hash_of a.hash) (asker_state a)) e)
+
+    pub answer_can : IsAnswer s message → CanTake hash_of a next step
+    answer_can (inl (inl (context, root, e))) = opening_can context root e (as_opening context root e)
+    answer_can (inl (inr (sent, e))) = page_can (inl (sent, e)) (as_page sent e)
+    answer_can (inr e) = page_can (inr e) (as_gone e)
+
+    pub answer_stepped : IsAnswer s message → IsMapOf old.live.0.0.1 (live_state old.live.0) → (new : ReplicaValue Hash) (o : model.Outcome) (out : List Mail)
+        → turned (meaning old) (asker_state next) step ≡ turn (meaning new) o out
+        → hash_in new ≡ hash_in old → Steps hash_of old new (Take (mail_of message)) (Came o) out
+    answer_stepped (inl (inl (context, root, e))) = opening_stepped context root e (as_opening context root e)
+    answer_stepped (inl (inr (sent, e))) = page_stepped (inl (sent, e)) (as_page sent e)
+    answer_stepped (inr e) = page_stepped (inr e) (as_gone e)
+
 -- where there is no such session
 module _ {Hash : Type 0} (hash_of : Hash → List ℕ → ℕ) (old : ReplicaValue Hash) (mapped : IsMapOf old.live.0.0.1 (live_state old.live.0)) (s : SessionValue)
     (missing : NoneIs (λ b. same_session b.session s) old.sessions)
@@ -98,3 +122,8 @@ module _ {Hash : Type 0} (hash_of : Hash → List ℕ → ℕ) (old : ReplicaVal
   no_page (inl (sent, e)) = subst (λ m. Steps hash_of old old (Take (mail_of m)) (Came model.Ignored) []) (sym e)
       (page_missed hash_of old mapped s missing sent)
   no_page (inr e) = subst (λ m. Steps hash_of old old (Take (mail_of m)) (Came model.Ignored) []) (sym e) (gone_missed hash_of old mapped s missing)
+
+  pub no_answer : IsAnswer s message → Steps hash_of old old (Take (mail_of message)) (Came model.Ignored) []
+  no_answer (inl (inl (context, root, e))) = no_opening context root e
+  no_answer (inl (inr (sent, e))) = no_page (inl (sent, e))
+  no_answer (inr e) = no_page (inr e)

@@ -20,10 +20,11 @@ ghost use Rattle.replica_model.specs.Mail.{mail_of};
 ghost use Rattle.replica_core.specs.Bringing.{Brings, IsClosing};
 ghost use Rattle.replica_core.specs.Meaning.{hash_in, meaning};
 ghost use Rattle.replica_core.specs.Turned.{closed_with};
-ghost use Rattle.replica_core.specs.Turning.{CanTake};
+ghost use Rattle.replica_core.specs.Turning.{CanTake, IsShown};
 
 use crate::replica::Replica;
 use crate::sessions::place_of;
+use crate::turning::answered;
 use causal_join::OrMap;
 use dots::Refusal;
 use hash_path::PathHash;
@@ -44,45 +45,28 @@ impl<H: PathHash, A: Allocator + Copy> Replica<H, A> {
         ensures err { IsOkUnless result Refusal.OutOfMemory }
     {
         match message {
-            Message::Opening(session, _, _) => self.joined_by_opening(*session, message),
-            Message::Page(session, _) => self.joined_by_page(*session, message),
+            Message::Opening(session, _, _) => self.joined_by_answer(*session, message),
+            Message::Page(session, _) => self.joined_by_answer(*session, message),
             Message::Delta(..) | Message::Hello(..) | Message::Ask(..) | Message::Gone(..) => {
                 Ok(None)
             }
         }
     }
 
-    // Of an opening of this session.
-    fn joined_by_opening(
+    // Of an opening or a page of this session.
+    fn joined_by_answer(
         &self,
         session: Session,
         message: &Message<A>,
     ) -> Result<Option<OrMap<A>>, Refusal>
-        requires { (context : ContextValue) × (root : Option (List ℕ)) × (message_of message.now ≡ form.Opening session context root) }
+        requires { IsShown session (message_of message.now) }
         ensures ok { IfOk result (λ found. IfSome found (λ delta. Brings (H.hash_of (hash_in self.now)) (meaning self.now) (mail_of (message_of message.now)) (or_map_state delta))) }
         ensures err { IsOkUnless result Refusal.OutOfMemory }
     {
         let Some(place) = place_of(&self.sessions, session) else {
             return Ok(None);
         };
-        let turn = self.sessions[place].on_opening(self.alloc, message)?;
-        self.joined_by_turn(place, turn)
-    }
-
-    // Of a page of this session.
-    fn joined_by_page(
-        &self,
-        session: Session,
-        message: &Message<A>,
-    ) -> Result<Option<OrMap<A>>, Refusal>
-        requires { (sent : SentValue) × (message_of message.now ≡ form.Page session sent) }
-        ensures ok { IfOk result (λ found. IfSome found (λ delta. Brings (H.hash_of (hash_in self.now)) (meaning self.now) (mail_of (message_of message.now)) (or_map_state delta))) }
-        ensures err { IsOkUnless result Refusal.OutOfMemory }
-    {
-        let Some(place) = place_of(&self.sessions, session) else {
-            return Ok(None);
-        };
-        let turn = self.sessions[place].on_page(self.alloc, message)?;
+        let turn = answered(self.alloc, &self.sessions[place], message)?;
         self.joined_by_turn(place, turn)
     }
 

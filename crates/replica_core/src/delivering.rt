@@ -65,9 +65,9 @@ impl<H: PathHash, A: Allocator + Copy> Replica<H, A> {
             }
             Message::Hello(session, seen) => self.take_hello(*session, seen, outbox),
             Message::Ask(session, prefix) => self.take_ask(*session, *prefix, outbox),
-            Message::Opening(session, _, _) => self.take_opening(*session, message, outbox),
-            Message::Page(session, _) => self.take_page(*session, message, outbox),
-            Message::Gone(session) => self.take_page(*session, message, outbox),
+            Message::Opening(session, _, _) => self.take_answer(*session, message, outbox),
+            Message::Page(session, _) => self.take_answer(*session, message, outbox),
+            Message::Gone(session) => self.take_answer(*session, message, outbox),
         }
     }
 

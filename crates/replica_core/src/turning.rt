@@ -13,7 +13,7 @@ ghost use Rattle.page_fetching.specs.Building.{BuiltValue, GoesOn};
 ghost use Rattle.sync_protocol.specs.Asking.{AskerValue, Complete, IsFrom, asker_state};
 ghost use Rattle.sync_protocol.specs.Posting.{IsPosted};
 ghost use Rattle.sync_protocol.specs.Turning as turning;
-ghost use Rattle.sync_protocol.specs.Turns.{step_of};
+ghost use Rattle.sync_protocol.specs.Turns.{step_of, turn_of};
 ghost use Rattle.replica_model.specs.Delivery as model;
 ghost use Rattle.replica_model.specs.Mail.{mail_of};
 ghost use Rattle.replica_model.specs.Replica.{advances, closes, joins};
@@ -23,7 +23,8 @@ ghost use Rattle.replica_core.specs.Meaning.{hash_in, meaning, open_of};
 ghost use Rattle.replica_core.specs.Own.{IsOwn, IsReplica};
 ghost use Rattle.replica_core.specs.Stepping.{Steps, Stays, mails_of};
 ghost use Rattle.replica_core.specs.Turned.{turned};
-ghost use Rattle.replica_core.specs.Turning.{CanTake, IsGoingOn};
+ghost use Rattle.replica_core.specs.Turning.{CanTake, IsAnswer, IsGoingOn};
+ghost use Rattle.replica_core.specs.Turning as told;
 
 use crate::delivered::Delivered;
 use crate::outcome::Outcome;
@@ -36,14 +37,14 @@ use sync_protocol::{Asker, Opened, Outbox, Step, Turn};
 use wire_form::{Message, Session};
 
 impl<H: PathHash, A: Allocator + Copy> Replica<H, A> {
-    // Takes an opening of this session.
-    pub(crate) fn take_opening<O: Outbox<A>>(
+    // Takes an answer of this session: an opening, a page, or that its answerer does not keep it.
+    pub(crate) fn take_answer<O: Outbox<A>>(
         &mut self,
         session: Session,
         message: &Message<A>,
         outbox: &mut O,
     ) -> Result<Delivered<A>, Refusal>
-        requires { (context : ContextValue) × (root : Option (List ℕ)) × (message_of message.now ≡ form.Opening session context root) }
+        requires { IsAnswer session (message_of message.now) }
         ensures ok { IfOk result (λ told. Steps H.hash_of self.old self.new (Take (mail_of (message_of message.now))) (Came (outcome_of told.outcome)) (mails_of told.replies.items)) }
         ensures posted { IfOk result (λ told. IsPosted O.gains outbox.old outbox.new (map message_of told.replies.items)) }
         ensures unposted { OnErr result (outbox.new ≡ outbox.old) }
@@ -55,30 +56,7 @@ impl<H: PathHash, A: Allocator + Copy> Replica<H, A> {
         let Some(place) = place_of(&self.sessions, session) else {
             return Ok(Delivered::silent(self.alloc, Outcome::Ignored));
         };
-        let turn = self.sessions[place].on_opening(self.alloc, message)?;
-        self.take_turn(place, turn, outbox)
-    }
-
-    // Takes a page of this session, or that its answerer does not keep it.
-    pub(crate) fn take_page<O: Outbox<A>>(
-        &mut self,
-        session: Session,
-        message: &Message<A>,
-        outbox: &mut O,
-    ) -> Result<Delivered<A>, Refusal>
-        requires { ((sent : SentValue) × (message_of message.now ≡ form.Page session sent)) ⊎ (message_of message.now ≡ form.Gone session) }
-        ensures ok { IfOk result (λ told. Steps H.hash_of self.old self.new (Take (mail_of (message_of message.now))) (Came (outcome_of told.outcome)) (mails_of told.replies.items)) }
-        ensures posted { IfOk result (λ told. IsPosted O.gains outbox.old outbox.new (map message_of told.replies.items)) }
-        ensures unposted { OnErr result (outbox.new ≡ outbox.old) }
-        ensures refused { IsOkUnless result Refusal.OutOfMemory }
-        ensures unchanged { OnErr result (Stays self.old self.new) }
-    {
-        // proof: the clauses `filled` and `canonical` of `store`.
-        let _ = self.live.store();
-        let Some(place) = place_of(&self.sessions, session) else {
-            return Ok(Delivered::silent(self.alloc, Outcome::Ignored));
-        };
-        let turn = self.sessions[place].on_page(self.alloc, message)?;
+        let turn = answered(self.alloc, &self.sessions[place], message)?;
         self.take_turn(place, turn, outbox)
     }
 
@@ -219,6 +197,26 @@ impl<H: PathHash, A: Allocator + Copy> Replica<H, A> {
         )?;
         self.live.commit(next);
         Ok(())
+    }
+}
+
+// What an own session comes to by an answer.
+pub(crate) fn answered<H: PathHash, A: Allocator + Copy>(
+    alloc: A,
+    asker: &Asker<H, A>,
+    message: &Message<A>,
+) -> Result<Turn<H, A>, Refusal>
+    ensures ok { IfOk result (λ turn. turn_of turn ≡ told.answered (H.hash_of asker.now.hash) (asker_state asker.now) (message_of message.now)) }
+    ensures from { IfOk result (λ turn. IsFrom asker.now turn.next) }
+    ensures err { IsOkUnless result Refusal.OutOfMemory }
+{
+    match message {
+        Message::Opening(..) => asker.on_opening(alloc, message),
+        Message::Page(..) => asker.on_page(alloc, message),
+        Message::Gone(..) => asker.on_page(alloc, message),
+        Message::Delta(..) => asker.on_page(alloc, message),
+        Message::Hello(..) => asker.on_page(alloc, message),
+        Message::Ask(..) => asker.on_page(alloc, message),
     }
 }
 

@@ -1,19 +1,19 @@
-use Rattle.std.proofs.Common.{sym, ap, ◌∙◌, subst, arith}
+use Rattle.std.proofs.Common.{sym, ap, ◌∙◌, subst, inl, arith}
 use Rattle.std.specs.List.{slice_get}
 use Rattle.std.proofs.lemmas.Result.{IfOk-weaker}
 use Rattle.std.proofs.lemmas.Option.{slice_get_within, get_or_from_slice_get}
 use Rattle.wire_form.specs.Message.{message_of}
 use Rattle.sync_protocol.specs.Asking.{AskerValue, IsFrom, asker_state}
-use Rattle.sync_protocol.specs.Turning as turning
 use Rattle.sync_protocol.specs.Turns.{step_of}
 use Rattle.wire_form.specs.Session.{same_session}
 use Rattle.replica_core.specs.Meaning.{ReplicaValue}
 use Rattle.replica_core.specs.Own.{IsReplica}
 use Rattle.replica_core.specs.Tied.{IsFirstAt}
-use Rattle.replica_core.proofs.Brought.{opening_brings}
-use Rattle.replica_core.proofs.Takes.{opening_can}
+use Rattle.replica_core.specs.Turning.{answered}
+use Rattle.replica_core.proofs.Brought.{answer_brings}
+use Rattle.replica_core.proofs.Takes.{answer_can}
 use Rattle.replica_core.proofs.Meant.{of_parts}
-use Rattle.replica_core.proofs.replica.Replica.joined_by_opening.Goals as goal
+use Rattle.replica_core.proofs.replica.Replica.joined_by_answer.Goals as goal
 
 pub index-requires : goal.index-requires
 index-requires g c =
@@ -28,12 +28,12 @@ joined_by_turn-requires g c =
     let here = c.index.ensures ∙ get_or_from_slice_get c.self.inside.sessions.items c.in-Some.place found.0 c.index.result.now found.1.0 in (
       found.0,
       ap (λ (r : ReplicaValue _). slice_get r.sessions c.in-Some.place) (sym c.self.view_is) ∙ found.1.0,
-      opening_can g.H.PathHash.hash_of old c.self.invariant c.args.session c.in-Some.place found.0 found.1 c.in_ok-turn.turn.next
+      answer_can g.H.PathHash.hash_of old c.self.invariant c.args.session c.in-Some.place found.0 found.1 c.in_ok-turn.turn.next
           (step_of c.in_ok-turn.turn.step)
           (subst (λ (a : AskerValue _). IsFrom a c.in_ok-turn.turn.next) here c.in_ok-turn.ensures.from)
-          (message_of c.args.message.now) c.requires.0 c.requires.1 c.requires.2
-          (c.in_ok-turn.ensures.ok
-          ∙ ap (λ (a : AskerValue _). turning.on_opening (g.H.PathHash.hash_of a.hash) (asker_state a) (message_of c.args.message.now)) here),
+          (message_of c.args.message.now)
+          (c.in_ok-turn.ensures.ok ∙ ap (λ (a : AskerValue _). answered (g.H.PathHash.hash_of a.hash) (asker_state a) (message_of c.args.message.now)) here)
+          (inl c.requires),
     )
 
 pub returns-clause-ok : goal.returns-clause-ok
@@ -45,10 +45,9 @@ returns-clause-ok g c =
     c.self.view_is found.1 in
     let is = subst (IsReplica g.H.PathHash.hash_of) c.self.view_is c.self.invariant in
     IfOk-weaker c.joined_by_turn.result _ _
-    (λ told closing. opening_brings g.H.PathHash.hash_of now is c.args.session c.in-Some.place found.0 first c.in_ok-turn.turn.next
+    (λ told closing. answer_brings g.H.PathHash.hash_of now is c.args.session c.in-Some.place found.0 first c.in_ok-turn.turn.next
     (step_of c.in_ok-turn.turn.step)
     (subst (λ (a : AskerValue _). IsFrom a c.in_ok-turn.turn.next) here c.in_ok-turn.ensures.from)
-    (message_of c.args.message.now) told closing c.requires.0 c.requires.1 c.requires.2
-    (c.in_ok-turn.ensures.ok ∙ ap (λ (a : AskerValue _). turning.on_opening (g.H.PathHash.hash_of a.hash) (asker_state a)
-    (message_of c.args.message.now)) here))
+    (message_of c.args.message.now) told closing c.requires
+    (c.in_ok-turn.ensures.ok ∙ ap (λ (a : AskerValue _). answered (g.H.PathHash.hash_of a.hash) (asker_state a) (message_of c.args.message.now)) here))
     c.joined_by_turn.ensures.ok
