@@ -19,24 +19,20 @@ use std::sync::atomic::AtomicU64;
 use wire_form::Message;
 
 // What a call is answered, and its receipt.
-fn noted<
-    K: Naming,
-    G: Gate + Drop,
-    R: Wait + Drop,
-    T: Wait + Abort,
-    U: Update<Replica, Root, NodeEvent, Named<K>, Global>,
->(rt: &T, client: &mut Client<K, Lock<K, G, R>>, update: &U) -> (U::Reply, Receipt<K>) {
+fn noted<K: Naming, G: Gate + Drop, R: Wait + Drop, T: Wait + Abort, U: Update<Named<K>, Global>>(
+    rt: &T,
+    client: &mut Client<K, Lock<K, G, R>>,
+    update: &U,
+) -> (U::Reply, Receipt<K>) {
     client.call(rt, update).expect(rt, "a call")
 }
 
 // What a call is answered. The receipt is let go.
-fn called<
-    K: Naming,
-    G: Gate + Drop,
-    R: Wait + Drop,
-    T: Wait + Abort,
-    U: Update<Replica, Root, NodeEvent, Named<K>, Global>,
->(rt: &T, client: &mut Client<K, Lock<K, G, R>>, update: &U) -> U::Reply {
+fn called<K: Naming, G: Gate + Drop, R: Wait + Drop, T: Wait + Abort, U: Update<Named<K>, Global>>(
+    rt: &T,
+    client: &mut Client<K, Lock<K, G, R>>,
+    update: &U,
+) -> U::Reply {
     noted(rt, client, update).0
 }
 

@@ -36,7 +36,7 @@ type Shared<K, G, R> = Node<K, Lock<K, G, R>>;
 
 type Clients<K, G, R> = Vec<Client<K, Lock<K, G, R>>>;
 
-type Back<K, G, R> = Unfinished<Root, NodeEvent, Named<K>, Lock<K, G, R>>;
+type Back<K, G, R> = Unfinished<Named<K>, Lock<K, G, R>>;
 
 // How many calls there were, how many keys the replica of a node holds that is handed all its clients, and how far it knows the replicas 1
 // and 2.

@@ -36,10 +36,9 @@ use Rattle.shared_object.specs.contracts.client.Client as Client
 use Rattle.shared_object.specs.contracts.shared.Shared as Shared
 use Rattle.shared_object.specs.declared.object.Object as sharing
 use Rattle.shared_object.specs.declared.placed.Placed as placing
-use Rattle.node_threads.proofs.node_event.NodeEvent.TheSendSync as Events
 use Rattle.node_threads.specs.contracts.named.Named as Named
 use Rattle.node_threads.specs.contracts.named.NamedBrandRootNodeEvent.TheImpl as NamedBrand
-use Rattle.node_threads.specs.contracts.named.NamedObjectReplicaFnv1aRootNodeEvent.TheImpl as NamedObject
+use Rattle.node_threads.specs.contracts.named.NamedObject.TheImpl as NamedObject
 use Rattle.node_threads.specs.contracts.node_event.NodeEvent as NodeEvent
 use Rattle.node_threads.specs.contracts.node_event.NodeEventPlaced.TheImpl as EventPlaced
 use Rattle.node_threads.specs.declared.named.Naming as naming
@@ -52,16 +51,16 @@ abbrev Value : RattleType
 Value = Text.the_row ValueKind.the_row Heap.the_row ghosts
 
 -- ---- what the clients of a shared object share, and a client
-module _ (R E J : RattleType) (e : placing.Ghosts E.Denot) (b : branding.Ghosts J.Denot R.Denot E.Denot) where
-  any_client_send : (S : RattleType) → IsSend R → IsSync R → IsSend E → IsSync E → IsSend S → IsSync S → IsSend (Client.the_row R E J S Heap.the_row e b ghosts)
-  any_client_send S r u v w s y = search (Clients.the_send, crosses, sendable) depth 20
+module _ (J D R E : RattleType) (o : sharing.Ghosts J.Denot D.Denot R.Denot E.Denot) (b : branding.Ghosts J.Denot R.Denot E.Denot) (e : placing.Ghosts E.Denot) where
+  any_client_send : (S : RattleType) → IsSend R → IsSync R → IsSend S → IsSync S → IsSend (Client.the_row J S Heap.the_row D R E o b e ghosts)
+  any_client_send S r u s y = search (Clients.the_send, crosses, sendable) depth 20
 
-  module _ (D G W : RattleType) (o : sharing.Ghosts J.Denot D.Denot R.Denot E.Denot) where
-    lock_send : IsSend D → IsSend R → IsSync R → IsSend E → IsSync E → IsSend G → IsSend W → IsSend (Shared.the_row D R E J G W Heap.the_row e o b ghosts)
-    lock_send s r u v w g h = search (Locks.the_send, crosses, sendable) depth 20
+  module _ (G W : RattleType) where
+    lock_send : IsSend D → IsSend R → IsSync R → IsSend G → IsSend W → IsSend (Shared.the_row J G W Heap.the_row D R E o b e ghosts)
+    lock_send s r u g h = search (Locks.the_send, crosses, sendable) depth 20
 
-    lock_sync : IsSend D → IsSend R → IsSync R → IsSend E → IsSync E → IsSync G → IsSend W → IsSync (Shared.the_row D R E J G W Heap.the_row e o b ghosts)
-    lock_sync s r u v w g h = search (Locks.the_sync, crosses, sendable) depth 20
+    lock_sync : IsSend D → IsSend R → IsSync R → IsSync G → IsSend W → IsSync (Shared.the_row J G W Heap.the_row D R E o b e ghosts)
+    lock_sync s r u g h = search (Locks.the_sync, crosses, sendable) depth 20
 
 -- ---- a client of a node. Its type is written out, as a search would take long to read it off a goal
 abbrev Place : RattleType
@@ -87,38 +86,35 @@ root_sync : IsSync Root
 root_sync = map_sync Fnv1a.the_row Fnv1aHash.ghosts Fnv1aDefault.ghosts Fields ShaSummary.the_row digesting Place Value fields_store fields_send fields_sync
     Digests.the_send Digests.the_sync Hashes.the_sync
 
-event_send : IsSend Event
-event_send = search (Events.the_send, crosses, sendable) depth 20
-
-event_sync : IsSync Event
-event_sync = search (Events.the_sync, crosses, sendable) depth 20
-
 module _ (K : RattleType) (n : naming.Ghosts K.Denot) where
   abbrev placed : placing.Ghosts Event.Denot
   placed = EventPlaced.ghosts Heap.the_row ghosts EventPlaced.no_dict copied EventPlaced.no_dict
 
-  abbrev shared : sharing.Ghosts (Named.the_row K).Denot Object.Denot Root.Denot Event.Denot
+  abbrev Names : RattleType
+  Names = Named.the_row K Heap.the_row
+
+  abbrev shared : sharing.Ghosts Names.Denot Object.Denot Root.Denot Event.Denot
   shared = NamedObject.ghosts K Heap.the_row n NamedObject.no_dict ghosts NamedObject.no_dict copied NamedObject.no_dict
 
-  abbrev branded : branding.Ghosts (Named.the_row K).Denot Root.Denot Event.Denot
+  abbrev branded : branding.Ghosts Names.Denot Root.Denot Event.Denot
   branded = NamedBrand.ghosts K Heap.the_row n NamedBrand.no_dict ghosts NamedBrand.no_dict copied NamedBrand.no_dict
 
   -- one that only looks goes wherever what it shares may be shared
-  pub looking_send : (S : RattleType) → IsSend S → IsSync S → IsSend (Client.the_row Root Event (Named.the_row K) S Heap.the_row placed branded ghosts)
-  looking_send S = any_client_send Root Event (Named.the_row K) placed branded S root_send root_sync event_send event_sync
+  pub looking_send : (S : RattleType) → IsSend S → IsSync S → IsSend (Client.the_row Names S Heap.the_row Object Root Event shared branded placed ghosts)
+  looking_send S = any_client_send Names Object Root Event shared branded placed S root_send root_sync
 
   module _ (G W : RattleType) where
     abbrev pub Lock : RattleType
-    Lock = Shared.the_row Object Root Event (Named.the_row K) G W Heap.the_row placed shared branded ghosts
+    Lock = Shared.the_row Names G W Heap.the_row Object Root Event shared branded placed ghosts
 
     module _ (g : IsSend G) (h : IsSync G) (w : IsSend W) where
       pub lock_goes : IsSend Lock
-      lock_goes = lock_send Root Event (Named.the_row K) placed branded Object G W shared object_send root_send root_sync event_send event_sync g w
+      lock_goes = lock_send Names Object Root Event shared branded placed G W object_send root_send root_sync g w
 
       pub lock_shared : IsSync Lock
-      lock_shared = lock_sync Root Event (Named.the_row K) placed branded Object G W shared object_send root_send root_sync event_send event_sync h w
+      lock_shared = lock_sync Names Object Root Event shared branded placed G W object_send root_send root_sync h w
 
-      pub client_send : IsSend (Client.the_row Root Event (Named.the_row K) Lock Heap.the_row placed branded ghosts)
+      pub client_send : IsSend (Client.the_row Names Lock Heap.the_row Object Root Event shared branded placed ghosts)
       client_send = looking_send Lock lock_goes lock_shared
 
 -- ---- a closure, by what it takes along

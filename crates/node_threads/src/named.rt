@@ -35,11 +35,11 @@ impl Naming for marker::Brand {
 }
 
 /// The Brand of the cell of a node.
-pub struct Named<K> {
-    of: PhantomData<K>,
+pub struct Named<K, A = Global> {
+    of: PhantomData<(K, A)>,
 }
 
-impl<K: Naming, A: Allocator + Copy> Brand<Root<A>, NodeEvent<A>> for Named<K> {
+impl<K: Naming, A: Allocator + Copy> Brand<Root<A>, NodeEvent<A>> for Named<K, A> {
     ghost use Rattle.node_threads.specs.History.{StandsFor};
 
     ghost book = { K.book };
@@ -47,9 +47,15 @@ impl<K: Naming, A: Allocator + Copy> Brand<Root<A>, NodeEvent<A>> for Named<K> {
     ghost stands = { λ root history. StandsFor K.first root history };
 }
 
-impl<K: Naming, A: Allocator + Copy> Object<Replica<Fnv1a, A>, Root<A>, NodeEvent<A>> for Named<K> {
+impl<K: Naming, A: Allocator + Copy> Object for Named<K, A> {
     ghost use Rattle.replica_core.specs.Meaning.{meaning};
     ghost use Rattle.node_threads.specs.History.{IsAfter};
+
+    type State = Replica<Fnv1a, A>;
+
+    type Root = Root<A>;
+
+    type Event = NodeEvent<A>;
 
     ghost after = { λ replica history. IsAfter K.first history (meaning replica) };
 }

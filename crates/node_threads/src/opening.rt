@@ -14,12 +14,12 @@ use dots::{Name, Refusal};
 use hash_path::Fnv1a;
 use replica_core::Replica;
 use root_cell::{Cell, OpenedBook, Parts, Title, View, Writer};
-use shared_object::{Gate, Object, Owner, Placed, Returned, Shared};
+use shared_object::{Gate, Object, Owner, Returned, Shared};
 use std::alloc::Allocator;
 use std::sync::Wait;
 
 // What the cell of a node is made of.
-type NodeParts<K, A> = Parts<Root<A>, NodeEvent<A>, Named<K>, A>;
+type NodeParts<K, A> = Parts<Root<A>, NodeEvent<A>, Named<K, A>, A>;
 
 /// A node of a replica of this name, which holds nothing yet, with so many places for clients: as `node_of` makes it of a new replica. Its only
 /// refusal is OutOfMemory.
@@ -109,31 +109,22 @@ fn first_root<A: Allocator + Copy>(replica: &Replica<Fnv1a, A>) -> Result<Root<A
 
 // Shares an object to which nothing happened yet. Where there is no memory, its cell ends, and it comes back.
 // It is of any object, as a check of what holds a replica and a cell grows with the depth of their types.
-fn own<
-    D: Drop,
-    R: Drop,
-    E: Placed,
-    J: Object<D, R, E>,
-    G: Gate + Drop,
-    W: Wait + Drop,
-    A: Allocator + Copy,
-    T: Wait,
->(
+fn own<J: Object, G: Gate + Drop, W: Wait + Drop, A: Allocator + Copy, T: Wait>(
     rt: &T,
     alloc: A,
-    object: D,
-    writer: Writer<R, E, J, A>,
-    views: Vec<View<R, E, J, A>, A>,
-    title: Title<R, E, J>,
+    object: J::State,
+    writer: Writer<J::Root, J::Event, J, A>,
+    views: Vec<View<J::Root, J::Event, J, A>, A>,
+    title: Title<J::Root, J::Event, J>,
     gate: G,
     handle: W,
-) -> Result<Owner<R, E, J, Shared<D, R, E, J, G, W, A>, A>, D>
+) -> Result<Owner<J, Shared<J, G, W, A>, A>, J::State>
     requires object { J.after object [] }
     requires writer { writer ≡ [] }
     requires places { vec_len views ≤ 64 }
     requires views { views.items ≡ replicate (vec_len views) [] }
     ensures ok { IfOk result (λ owner. owner ≡ record { taken = 0; free = vec_len views; back = [] }) }
-    ensures nothing { IfOk result (λ owner. NothingHappened E.place owner.taken) }
+    ensures nothing { IfOk result (λ owner. NothingHappened J.Event.place owner.taken) }
     ensures back { IfErr result (λ back. back ≡ object) }
 {
     match Owner::new(rt, alloc, object, writer, views, title, gate, handle) {

@@ -17,7 +17,7 @@ pub(crate) type Shared<K, R, A> = Node<K, Lock<K, NoGate, R, A>, A>;
 pub(crate) type One<K, R, A> = Client<K, Lock<K, NoGate, R, A>, A>;
 
 // What the clients of an object share that pass no gate.
-type Free<D, Q, E, J, R, A> = shared_object::Shared<D, Q, E, J, NoGate, R, A>;
+type Free<J, R, A> = shared_object::Shared<J, NoGate, R, A>;
 
 // A node of this replica with two places, or the replica again.
 pub(crate) fn node<K: Naming, R: Wait + Copy + Drop, A: Allocator + Copy>(
@@ -34,25 +34,16 @@ pub(crate) fn node<K: Naming, R: Wait + Copy + Drop, A: Allocator + Copy>(
 
 // What the node answers who asks for a client. This and what follows is of any object, as a check of what holds a client grows with the depth of
 // its type.
-pub(crate) fn next<Q: Drop, E: Placed, J: Brand<Q, E>, S: Drop, A: Allocator + Copy>(
-    node: &mut Owner<Q, E, J, S, A>,
-) -> Result<shared_object::Client<Q, E, J, S, A>, Refusal> {
+pub(crate) fn next<J: Object, S: Drop, A: Allocator + Copy>(
+    node: &mut Owner<J, S, A>,
+) -> Result<shared_object::Client<J, S, A>, Refusal> {
     node.client()
 }
 
 // What a call is answered. The receipt is let go.
-pub(crate) fn called<
-    D: Drop,
-    Q: Drop,
-    E: Placed,
-    J: Object<D, Q, E>,
-    R: Wait + Drop,
-    A: Allocator + Copy,
-    T: Wait,
-    U: Update<D, Q, E, J, A>,
->(
+pub(crate) fn called<J: Object, R: Wait + Drop, A: Allocator + Copy, T: Wait, U: Update<J, A>>(
     rt: &T,
-    client: &mut shared_object::Client<Q, E, J, Free<D, Q, E, J, R, A>, A>,
+    client: &mut shared_object::Client<J, Free<J, R, A>, A>,
     update: &U,
 ) -> Result<U::Reply, Refusal> {
     let (reply, receipt) = client.call(rt, update)?;
@@ -61,26 +52,17 @@ pub(crate) fn called<
 }
 
 // What a look finds.
-pub(crate) fn found<Q: Drop, E: Placed, J: Brand<Q, E>, S: Drop, A: Allocator, L: Look<Q>>(
-    client: &mut shared_object::Client<Q, E, J, S, A>,
+pub(crate) fn found<J: Object, S: Drop, A: Allocator, L: Look<J::Root>>(
+    client: &mut shared_object::Client<J, S, A>,
     look: &L,
 ) -> Result<L::Found, Refusal> {
     client.look(look)
 }
 
 // What a look at the object itself finds.
-pub(crate) fn inspected<
-    D: Drop,
-    Q: Drop,
-    E: Placed,
-    J: Object<D, Q, E>,
-    R: Wait + Drop,
-    A: Allocator + Copy,
-    T: Wait,
-    L: Look<D>,
->(
+pub(crate) fn inspected<J: Object, R: Wait + Drop, A: Allocator + Copy, T: Wait, L: Look<J::State>>(
     rt: &T,
-    client: &mut shared_object::Client<Q, E, J, Free<D, Q, E, J, R, A>, A>,
+    client: &mut shared_object::Client<J, Free<J, R, A>, A>,
     look: &L,
 ) -> L::Found {
     client.inspect(rt, look)
@@ -125,18 +107,15 @@ impl<A: Allocator + Copy> Look<Root<A>> for Published {
 
 // What a look at the object finds, one at what is published, and how many events there are.
 fn looked<
-    D: Drop,
-    Q: Drop,
-    E: Placed,
-    J: Object<D, Q, E>,
+    J: Object,
     R: Wait + Drop,
     A: Allocator + Copy,
     T: Wait,
-    L: Look<D>,
-    M: Look<Q>,
+    L: Look<J::State>,
+    M: Look<J::Root>,
 >(
     rt: &T,
-    client: &mut shared_object::Client<Q, E, J, Free<D, Q, E, J, R, A>, A>,
+    client: &mut shared_object::Client<J, Free<J, R, A>, A>,
     inner: &L,
     outer: &M,
 ) -> (L::Found, Result<M::Found, Refusal>, Result<u64, Refusal>) {
@@ -153,16 +132,11 @@ pub(crate) trait Caller {
     type Heap: Allocator + Copy;
 
     // What a call is answered.
-    fn call<
-        T: Wait,
-        U: Update<
-            Here<Self::Heap>,
-            Root<Self::Heap>,
-            NodeEvent<Self::Heap>,
-            Named<Self::Book>,
-            Self::Heap,
-        >,
-    >(&mut self, rt: &T, update: &U) -> Result<U::Reply, Refusal>;
+    fn call<T: Wait, U: Update<Named<Self::Book, Self::Heap>, Self::Heap>>(
+        &mut self,
+        rt: &T,
+        update: &U,
+    ) -> Result<U::Reply, Refusal>;
 
     // What a look at what is published finds.
     fn find<L: Look<Root<Self::Heap>>>(&mut self, look: &L) -> Result<L::Found, Refusal>;
@@ -179,7 +153,7 @@ impl<K: Naming, R: Wait + Drop, A: Allocator + Copy> Caller for One<K, R, A> {
 
     type Heap = A;
 
-    fn call<T: Wait, U: Update<Here<A>, Root<A>, NodeEvent<A>, Named<K>, A>>(
+    fn call<T: Wait, U: Update<Named<K, A>, A>>(
         &mut self,
         rt: &T,
         update: &U,
@@ -225,18 +199,11 @@ fn operations<D: Drop, U: Drop>(told: Result<Finished<D>, U>) -> Result<u64, Ref
 }
 
 // How many calls the node had that is handed in with its one client.
-pub(crate) fn ended<
-    D: Drop,
-    Q: Drop,
-    E: Placed,
-    J: Object<D, Q, E>,
-    R: Wait + Drop,
-    A: Allocator + Copy,
->(
+pub(crate) fn ended<J: Object, R: Wait + Drop, A: Allocator + Copy>(
     rt: &R,
     heap: A,
-    node: Owner<Q, E, J, Free<D, Q, E, J, R, A>, A>,
-    client: shared_object::Client<Q, E, J, Free<D, Q, E, J, R, A>, A>,
+    node: Owner<J, Free<J, R, A>, A>,
+    client: shared_object::Client<J, Free<J, R, A>, A>,
 ) -> Result<u64, Refusal> {
     match only(heap, client) {
         Ok(clients) => {
@@ -252,19 +219,11 @@ pub(crate) fn ended<
 
 // What the first client of an object finds, which ends then, and how many calls it had.
 pub(crate) fn used<
-    D: Drop,
-    Q: Drop,
-    E: Placed,
-    J: Object<D, Q, E>,
+    J: Object,
     R: Wait + Drop,
     A: Allocator + Copy,
-    L: Look<D, Found = Shown>,
->(
-    rt: &R,
-    heap: A,
-    node: Owner<Q, E, J, Free<D, Q, E, J, R, A>, A>,
-    look: &L,
-) -> Result<(Shown, u64), Refusal> {
+    L: Look<J::State, Found = Shown>,
+>(rt: &R, heap: A, node: Owner<J, Free<J, R, A>, A>, look: &L) -> Result<(Shown, u64), Refusal> {
     let mut node = node;
     match node.client() {
         Ok(client) => {

@@ -11,9 +11,8 @@ use crate::gate::Gate;
 use crate::guarded::Guarded;
 use crate::object::Object;
 use crate::owner::Owner;
-use crate::placed::Placed;
 use crate::shared::Shared;
-use root_cell::{Brand, Title};
+use root_cell::Title;
 use std::alloc::{Allocator, Global};
 use std::sync::Wait;
 
@@ -28,22 +27,18 @@ pub struct Finished<D: Drop> {
 
 /// What comes back where an object was not taken out.
 #[derive(Drop)]
-pub struct Unfinished<R: Drop, E: Placed, J: Brand<R, E>, S: Drop, A: Allocator + Copy = Global> {
+pub struct Unfinished<J: Object, S: Drop, A: Allocator + Copy = Global> {
     /// Who hands out its clients.
-    pub owner: Owner<R, E, J, S, A>,
+    pub owner: Owner<J, S, A>,
     /// The clients that were handed in.
-    pub clients: Vec<Client<R, E, J, S, A>, A>,
+    pub clients: Vec<Client<J, S, A>, A>,
 }
 
-impl<
-    D: Drop,
-    R: Drop,
-    E: Placed,
-    J: Object<D, R, E>,
-    G: Gate + Drop,
-    W: Wait + Drop,
-    A: Allocator + Copy,
-> Owner<R, E, J, Shared<D, R, E, J, G, W, A>, A> {
+impl<J: Object, G: Gate + Drop, W: Wait + Drop, A: Allocator + Copy> Owner<
+    J,
+    Shared<J, G, W, A>,
+    A,
+> {
     /// Takes the object out, just where these and those that were given back are clients of all places that were taken. Else all comes back, and
     /// nothing has changed. Takes time in the square of the places, whatever the history, and no memory; it waits for its turn, and for readers
     /// that are inside.
@@ -52,9 +47,9 @@ impl<
     pub fn finish<T: Wait>(
         self,
         rt: &T,
-        clients: Vec<Client<R, E, J, Shared<D, R, E, J, G, W, A>, A>, A>,
-    ) -> Result<Finished<D>, Unfinished<R, E, J, Shared<D, R, E, J, G, W, A>, A>>
-        ensures finished { IfOk result (λ f. (history : List E) × J.after f.object history × (f.operations ≡ length history) × AreAll E.place history self.taken (self.back ++ clients.items)) }
+        clients: Vec<Client<J, Shared<J, G, W, A>, A>, A>,
+    ) -> Result<Finished<J::State>, Unfinished<J, Shared<J, G, W, A>, A>>
+        ensures finished { IfOk result (λ f. (history : List J.Event) × J.after f.object history × (f.operations ≡ length history) × AreAll J.Event.place history self.taken (self.back ++ clients.items)) }
         ensures refused { OnErr result (¬ AreOfAll self.taken (self.back ++ clients.items)) }
         ensures owner { IfErr result (λ back. back.owner ≡ self) }
         ensures clients { IfErr result (λ back. back.clients.items ≡ clients.items) }
@@ -76,24 +71,15 @@ impl<
 }
 
 // Takes what is guarded out of the lock, against the title.
-fn take_out<
-    D: Drop,
-    R: Drop,
-    E: Placed,
-    J: Object<D, R, E>,
-    G: Gate + Drop,
-    W: Wait + Drop,
-    A: Allocator + Copy,
-    T: Wait,
->(
-    shared: &Shared<D, R, E, J, G, W, A>,
+fn take_out<J: Object, G: Gate + Drop, W: Wait + Drop, A: Allocator + Copy, T: Wait>(
+    shared: &Shared<J, G, W, A>,
     rt: &T,
-    title: Title<R, E, J>,
+    title: Title<J::Root, J::Event, J>,
     taken: usize,
-    clients: &mut [Client<R, E, J, Shared<D, R, E, J, G, W, A>, A>],
-) -> Guarded<D, R, E, J, W, A>
+    clients: &mut [Client<J, Shared<J, G, W, A>, A>],
+) -> Guarded<J, W, A>
     requires { AreOfAll taken clients.old }
-    ensures { AreAll E.place result taken clients.old }
+    ensures { AreAll J.Event.place result taken clients.old }
 {
     let guarded = shared.lock.lock(rt).take(rt, title);
     go_on_where(rt, are_all(&guarded, taken, clients));
@@ -101,21 +87,13 @@ fn take_out<
 }
 
 // Whether what is guarded has the calls of these clients, who are of all places that were taken, and no others.
-fn are_all<
-    D: Drop,
-    R: Drop,
-    E: Placed,
-    J: Object<D, R, E>,
-    G: Gate + Drop,
-    W: Wait + Drop,
-    A: Allocator + Copy,
->(
-    guarded: &Guarded<D, R, E, J, W, A>,
+fn are_all<J: Object, G: Gate + Drop, W: Wait + Drop, A: Allocator + Copy>(
+    guarded: &Guarded<J, W, A>,
     taken: usize,
-    clients: &mut [Client<R, E, J, Shared<D, R, E, J, G, W, A>, A>],
+    clients: &mut [Client<J, Shared<J, G, W, A>, A>],
 ) -> bool
     requires { AreOfAll taken clients.old }
-    ensures { IsTrue result → AreAll E.place guarded.now taken clients.old }
+    ensures { IsTrue result → AreAll J.Event.place guarded.now taken clients.old }
 {
     if !guarded.has_none_from(taken) {
         return false;
@@ -130,19 +108,11 @@ fn are_all<
 }
 
 // Whether what is guarded has just the calls that each client made. The clients have learnt the history in any case.
-fn meet_all<
-    D: Drop,
-    R: Drop,
-    E: Placed,
-    J: Object<D, R, E>,
-    G: Gate + Drop,
-    W: Wait + Drop,
-    A: Allocator + Copy,
->(
-    guarded: &Guarded<D, R, E, J, W, A>,
-    clients: &mut [Client<R, E, J, Shared<D, R, E, J, G, W, A>, A>],
+fn meet_all<J: Object, G: Gate + Drop, W: Wait + Drop, A: Allocator + Copy>(
+    guarded: &Guarded<J, W, A>,
+    clients: &mut [Client<J, Shared<J, G, W, A>, A>],
 ) -> bool
-    ensures { IsTrue result → ((i : ℕ) (s : Seat E) → slice_get clients.old i ≡ Some s → IsOwn E.place guarded.now s) }
+    ensures { IsTrue result → ((i : ℕ) (s : Seat J.Event) → slice_get clients.old i ≡ Some s → IsOwn J.Event.place guarded.now s) }
 {
     for client in clients.iter_mut() {
         if !client.meet(guarded) {
@@ -168,9 +138,9 @@ fn gathered<X: Drop, A: Allocator>(first: Vec<X, A>, second: Vec<X, A>) -> Vec<X
 }
 
 // Whether these are clients of all places that were taken, and as many.
-fn are_of_all<R: Drop, E: Placed, J: Brand<R, E>, S: Drop, A: Allocator>(
-    back: &[Client<R, E, J, S, A>],
-    clients: &[Client<R, E, J, S, A>],
+fn are_of_all<J: Object, S: Drop, A: Allocator>(
+    back: &[Client<J, S, A>],
+    clients: &[Client<J, S, A>],
     taken: usize,
 ) -> bool
     ensures { MatchBool result (AreOfAll taken (back.now ++ clients.now)) (¬ AreOfAll taken (back.now ++ clients.now)) }
@@ -185,9 +155,9 @@ fn are_of_all<R: Drop, E: Placed, J: Brand<R, E>, S: Drop, A: Allocator>(
 }
 
 // Whether each place that was taken has a client.
-fn has_each<R: Drop, E: Placed, J: Brand<R, E>, S: Drop, A: Allocator>(
-    back: &[Client<R, E, J, S, A>],
-    clients: &[Client<R, E, J, S, A>],
+fn has_each<J: Object, S: Drop, A: Allocator>(
+    back: &[Client<J, S, A>],
+    clients: &[Client<J, S, A>],
     taken: usize,
 ) -> bool
     ensures { MatchBool result ((p : ℕ) → p < taken → HasClient (back.now ++ clients.now) p) ((p : ℕ) × (p < taken) × (¬ HasClient (back.now ++ clients.now) p)) }
@@ -201,9 +171,9 @@ fn has_each<R: Drop, E: Placed, J: Brand<R, E>, S: Drop, A: Allocator>(
 }
 
 // Whether a place has a client among these.
-fn is_among<R: Drop, E: Placed, J: Brand<R, E>, S: Drop, A: Allocator>(
-    back: &[Client<R, E, J, S, A>],
-    clients: &[Client<R, E, J, S, A>],
+fn is_among<J: Object, S: Drop, A: Allocator>(
+    back: &[Client<J, S, A>],
+    clients: &[Client<J, S, A>],
     place: usize,
 ) -> bool
     ensures { MatchBool result (HasClient (back.now ++ clients.now) place) (¬ HasClient (back.now ++ clients.now) place) }
@@ -215,10 +185,7 @@ fn is_among<R: Drop, E: Placed, J: Brand<R, E>, S: Drop, A: Allocator>(
 }
 
 // Whether a place has a client.
-fn has<R: Drop, E: Placed, J: Brand<R, E>, S: Drop, A: Allocator>(
-    clients: &[Client<R, E, J, S, A>],
-    place: usize,
-) -> bool
+fn has<J: Object, S: Drop, A: Allocator>(clients: &[Client<J, S, A>], place: usize) -> bool
     ensures { MatchBool result (HasClient clients.now place) (¬ HasClient clients.now place) }
 {
     for at in 0..clients.len() {
@@ -230,9 +197,7 @@ fn has<R: Drop, E: Placed, J: Brand<R, E>, S: Drop, A: Allocator>(
 }
 
 // How many calls the clients made, where that can be counted.
-fn total<R: Drop, E: Placed, J: Brand<R, E>, S: Drop, A: Allocator>(
-    clients: &[Client<R, E, J, S, A>],
-) -> Option<u64>
+fn total<J: Object, S: Drop, A: Allocator>(clients: &[Client<J, S, A>]) -> Option<u64>
     ensures { IfSome result (λ n. n ≡ sum_by (λ s. s.operations) clients.now) }
 {
     let mut sum = 0u64;

@@ -7,7 +7,6 @@ use crate::awaiting::go_on_where;
 use crate::finishing::Finished;
 use crate::look::Look;
 use crate::object::Object;
-use crate::placed::Placed;
 use crate::update::{Made, Making, Update};
 use dots::Refusal;
 use root_cell::{Note, View, Writer};
@@ -20,35 +19,26 @@ pub(crate) const PLACES: usize = 64;
 
 /// What lies under the lock: the object, with the writer of its roots, and how many of its calls came from each place. Contracts see
 /// its history. It keeps a handle to end the writer with.
-pub(crate) struct Guarded<
-    D: Drop,
-    R: Drop,
-    E: Placed,
-    J: Object<D, R, E>,
-    W: Wait + Drop,
-    A: Allocator + Copy = Global,
-> {
-    object: D,
+pub(crate) struct Guarded<J: Object, W: Wait + Drop, A: Allocator + Copy = Global> {
+    object: J::State,
     events: u64,
     counts: [u64; PLACES],
-    writer: Writer<R, E, J, A>,
+    writer: Writer<J::Root, J::Event, J, A>,
     rt: W,
 }
 
-impl<D: Drop, R: Drop, E: Placed, J: Object<D, R, E>, W: Wait + Drop, A: Allocator + Copy> Model
-    for Guarded<D, R, E, J, W, A> {
+impl<J: Object, W: Wait + Drop, A: Allocator + Copy> Model for Guarded<J, W, A> {
     ghost use Rattle.std.specs.Prelude.{◌≡◌, List, length};
     ghost use Rattle.shared_object.specs.History.{AreCounts};
 
-    ghost Value = { List E };
+    ghost Value = { List J.Event };
 
     ghost view = { λ d. d.writer };
 
-    ghost invariant = { λ d. J.after d.object d.writer × (d.events ≡ length d.writer) × AreCounts E.place d.counts d.writer };
+    ghost invariant = { λ d. J.after d.object d.writer × (d.events ≡ length d.writer) × AreCounts J.Event.place d.counts d.writer };
 }
 
-impl<D: Drop, R: Drop, E: Placed, J: Object<D, R, E>, W: Wait + Drop, A: Allocator + Copy> Drop
-    for Guarded<D, R, E, J, W, A> {
+impl<J: Object, W: Wait + Drop, A: Allocator + Copy> Drop for Guarded<J, W, A> {
     fn drop(self) {
         let Guarded {
             object: _,
@@ -61,16 +51,13 @@ impl<D: Drop, R: Drop, E: Placed, J: Object<D, R, E>, W: Wait + Drop, A: Allocat
     }
 }
 
-impl<D: Drop, R: Drop, E: Placed, J: Object<D, R, E>, W: Wait + Drop, A: Allocator + Copy> Guarded<
-    D,
-    R,
-    E,
-    J,
-    W,
-    A,
-> {
+impl<J: Object, W: Wait + Drop, A: Allocator + Copy> Guarded<J, W, A> {
     /// An object to which nothing happened yet.
-    pub(crate) fn new(object: D, writer: Writer<R, E, J, A>, rt: W) -> Guarded<D, R, E, J, W, A>
+    pub(crate) fn new(
+        object: J::State,
+        writer: Writer<J::Root, J::Event, J, A>,
+        rt: W,
+    ) -> Guarded<J, W, A>
         requires object { J.after object [] }
         requires writer { writer ≡ [] }
         ensures { result ≡ [] }
@@ -87,7 +74,7 @@ impl<D: Drop, R: Drop, E: Placed, J: Object<D, R, E>, W: Wait + Drop, A: Allocat
     /// How many calls came from this place.
     fn count(&self, place: usize) -> u64
         requires { place < 64 }
-        ensures { result ≡ length (calls_by E.place place self.now) }
+        ensures { result ≡ length (calls_by J.Event.place place self.now) }
     {
         self.counts[place]
     }
@@ -101,13 +88,13 @@ impl<D: Drop, R: Drop, E: Placed, J: Object<D, R, E>, W: Wait + Drop, A: Allocat
 
     /// Whether no call came from the places from this one on.
     pub(crate) fn has_none_from(&self, taken: usize) -> bool
-        ensures { IsTrue result → ((p : ℕ) → taken ≤ p → calls_by E.place p self.now ≡ []) }
+        ensures { IsTrue result → ((p : ℕ) → taken ≤ p → calls_by J.Event.place p self.now ≡ []) }
     {
         is_zero_from(&self.counts, taken)
     }
 
     /// Ends the writer, and gives the object out.
-    pub(crate) fn close(self) -> Finished<D>
+    pub(crate) fn close(self) -> Finished<J::State>
         ensures object { J.after result.object self }
         ensures operations { result.operations ≡ length self }
     {
@@ -129,14 +116,14 @@ impl<D: Drop, R: Drop, E: Placed, J: Object<D, R, E>, W: Wait + Drop, A: Allocat
     /// has learnt in any case.
     pub(crate) fn meet(
         &self,
-        view: View<R, E, J, A>,
+        view: View<J::Root, J::Event, J, A>,
         place: usize,
         operations: u64,
-    ) -> (View<R, E, J, A>, bool)
+    ) -> (View<J::Root, J::Event, J, A>, bool)
         requires { place < 64 }
         ensures seen { IsPrefix view result.0 }
         ensures whole { IsTrue result.1 → result.0 ≡ self.now }
-        ensures own { IsTrue result.1 → length (calls_by E.place place self.now) ≡ operations }
+        ensures own { IsTrue result.1 → length (calls_by J.Event.place place self.now) ≡ operations }
     {
         let mut view = view;
         view.learn(self.writer.tell());
@@ -154,17 +141,17 @@ impl<D: Drop, R: Drop, E: Placed, J: Object<D, R, E>, W: Wait + Drop, A: Allocat
 
     /// Looks at the object for a client, who has then seen the history. That its calls are those that are known here stands in no clause, and where
     /// they were not it would wait for good.
-    pub(crate) fn inspect<T: Wait, L: Look<D>>(
+    pub(crate) fn inspect<T: Wait, L: Look<J::State>>(
         &self,
         rt: &T,
-        view: View<R, E, J, A>,
+        view: View<J::Root, J::Event, J, A>,
         place: usize,
         operations: u64,
         look: &L,
-    ) -> (View<R, E, J, A>, L::Found)
+    ) -> (View<J::Root, J::Event, J, A>, L::Found)
         requires { place < 64 }
         ensures seen { IsPrefix view result.0 }
-        ensures found { (object : D) × J.after object result.0 × L.finds look.now object result.1 }
+        ensures found { (object : J.State) × J.after object result.0 × L.finds look.now object result.1 }
     {
         let (seen, is_met) = self.meet(view, place, operations);
         go_on_where(rt, is_met);
@@ -173,21 +160,21 @@ impl<D: Drop, R: Drop, E: Placed, J: Object<D, R, E>, W: Wait + Drop, A: Allocat
 
     /// Takes the turn of a client: makes its call, where the client's calls that are known here are just those that it made. They always are, as
     /// a place has one client; that they are stands in no clause, and where they were not it would wait for good.
-    pub(crate) fn turn<T: Wait, C: Update<D, R, E, J, A>>(
+    pub(crate) fn turn<T: Wait, C: Update<J, A>>(
         self,
         rt: &T,
-        view: View<R, E, J, A>,
+        view: View<J::Root, J::Event, J, A>,
         place: usize,
         operations: u64,
         update: &C,
     ) -> (
-        Guarded<D, R, E, J, W, A>,
-        View<R, E, J, A>,
-        Result<(C::Reply, Note<R, E, J>), Refusal>,
+        Guarded<J, W, A>,
+        View<J::Root, J::Event, J, A>,
+        Result<(C::Reply, Note<J::Root, J::Event, J>), Refusal>,
     )
         requires { place < 64 }
         ensures seen { IfOk result.2 (λ r. IsPrefix view self) }
-        ensures own { IfOk result.2 (λ r. length (calls_by E.place place self) ≡ operations) }
+        ensures own { IfOk result.2 (λ r. length (calls_by J.Event.place place self) ≡ operations) }
         ensures room { IfOk result.2 (λ r. length self < 2 ^ 64 - 1) }
         ensures reply { IfOk result.2 (λ r. C.answers update.now self r.0) }
         ensures receipt { IfOk result.2 (λ r. r.1 ≡ self ++ C.event update.now r.0 place ∷ []) }
@@ -195,7 +182,7 @@ impl<D: Drop, R: Drop, E: Placed, J: Object<D, R, E>, W: Wait + Drop, A: Allocat
         ensures guarded { IfOk result.2 (λ r. result.0 ≡ self ++ C.event update.now r.0 place ∷ []) }
         ensures refused { IfErr result.2 (λ e. IsRefused (C.refuses update.now) result.1 e) }
         ensures learnt { IfErr result.2 (λ _. IsPrefix view result.1) }
-        ensures whole { IfErr result.2 (λ _. length (calls_by E.place place result.1) ≡ operations) }
+        ensures whole { IfErr result.2 (λ _. length (calls_by J.Event.place place result.1) ≡ operations) }
         ensures unchanged { IfErr result.2 (λ _. result.0 ≡ self) }
     {
         let (view, is_met) = self.meet(view, place, operations);
@@ -213,14 +200,14 @@ impl<D: Drop, R: Drop, E: Placed, J: Object<D, R, E>, W: Wait + Drop, A: Allocat
 
     /// Makes a call for the client at this place, and publishes what the object then is. A refused call changes nothing, and publishes
     /// nothing.
-    pub(crate) fn accept<T: Wait, C: Update<D, R, E, J, A>>(
+    pub(crate) fn accept<T: Wait, C: Update<J, A>>(
         self,
         rt: &T,
         place: usize,
         update: &C,
     ) -> (
-        Guarded<D, R, E, J, W, A>,
-        Result<(C::Reply, Note<R, E, J>), Refusal>,
+        Guarded<J, W, A>,
+        Result<(C::Reply, Note<J::Root, J::Event, J>), Refusal>,
     )
         requires { place < 64 }
         ensures ok { IfOk result.1 (λ r. result.0 ≡ self ++ C.event update.now r.0 place ∷ []) }
@@ -248,7 +235,7 @@ impl<D: Drop, R: Drop, E: Placed, J: Object<D, R, E>, W: Wait + Drop, A: Allocat
                     update,
                     reply: &reply,
                 };
-                let writer = writer.publish_placed::<Made<C, C::Reply>, Making<D, R, J, A>, T>(
+                let writer = writer.publish_placed::<Made<C, C::Reply>, Making<J, A>, T>(
                     rt, root, &made,
                 );
                 let receipt = writer.tell();

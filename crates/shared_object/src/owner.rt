@@ -9,11 +9,10 @@ use crate::gate::Gate;
 use crate::guarded::Guarded;
 use crate::lying::Lying;
 use crate::object::Object;
-use crate::placed::Placed;
 use crate::returned::Returned;
 use crate::shared::Shared;
 use dots::Refusal;
-use root_cell::{Brand, Title, View, Writer};
+use root_cell::{Title, View, Writer};
 use std::alloc::{Allocator, Global};
 use std::marker::Model;
 use std::sync::{Arc, Mutex, Wait};
@@ -21,21 +20,20 @@ use std::sync::{Arc, Mutex, Wait};
 /// Who hands out the clients of a shared object, and takes them back. Contracts see how many places were taken, how many are free, and the
 /// clients that were given back.
 #[derive(Drop)]
-pub struct Owner<R: Drop, E: Placed, J: Brand<R, E>, S: Drop, A: Allocator + Copy = Global> {
+pub struct Owner<J: Object, S: Drop, A: Allocator + Copy = Global> {
     shared: Arc<S, A>,
-    views: Vec<View<R, E, J, A>, A>,
-    back: Vec<Client<R, E, J, S, A>, A>,
+    views: Vec<View<J::Root, J::Event, J, A>, A>,
+    back: Vec<Client<J, S, A>, A>,
     taken: usize,
-    title: Title<R, E, J>,
+    title: Title<J::Root, J::Event, J>,
 }
 
-impl<R: Drop, E: Placed, J: Brand<R, E>, S: Drop, A: Allocator + Copy> Model
-    for Owner<R, E, J, S, A> {
+impl<J: Object, S: Drop, A: Allocator + Copy> Model for Owner<J, S, A> {
     ghost use Rattle.std.specs.Prelude.{◌≡◌, ◌≤◌, ◌+◌, [], length, replicate};
     ghost use Rattle.std.specs.Vec.{vec_capacity};
     ghost use Rattle.shared_object.specs.History.{Places};
 
-    ghost Value = { Places E };
+    ghost Value = { Places J.Event };
 
     ghost view = { λ o. record { taken = o.taken; free = length o.views.items; back = o.back.items } };
 
@@ -44,34 +42,30 @@ impl<R: Drop, E: Placed, J: Brand<R, E>, S: Drop, A: Allocator + Copy> Model
         × (o.taken + length o.views.items ≤ vec_capacity o.back) };
 }
 
-impl<
-    D: Drop,
-    R: Drop,
-    E: Placed,
-    J: Object<D, R, E>,
-    G: Gate + Drop,
-    W: Wait + Drop,
-    A: Allocator + Copy,
-> Owner<R, E, J, Shared<D, R, E, J, G, W, A>, A> {
+impl<J: Object, G: Gate + Drop, W: Wait + Drop, A: Allocator + Copy> Owner<
+    J,
+    Shared<J, G, W, A>,
+    A,
+> {
     /// Shares an object to which nothing happened yet, with the writer, the views and the title of its cell. It keeps the handle to end the
     /// writer with. It may wait, as it lays the object under a lock that it makes. Takes memory for what the clients share, and for all that can be
     /// given back, once. Where there is none, all comes back, and that is its only refusal.
     pub fn new<T: Wait>(
         rt: &T,
         alloc: A,
-        object: D,
-        writer: Writer<R, E, J, A>,
-        views: Vec<View<R, E, J, A>, A>,
-        title: Title<R, E, J>,
+        object: J::State,
+        writer: Writer<J::Root, J::Event, J, A>,
+        views: Vec<View<J::Root, J::Event, J, A>, A>,
+        title: Title<J::Root, J::Event, J>,
         gate: G,
         handle: W,
-    ) -> Result<Owner<R, E, J, Shared<D, R, E, J, G, W, A>, A>, Returned<D, R, E, J, G, W, A>>
+    ) -> Result<Owner<J, Shared<J, G, W, A>, A>, Returned<J, G, W, A>>
         requires object { J.after object [] }
         requires writer { writer ≡ [] }
         requires places { vec_len views ≤ 64 }
         requires views { views.items ≡ replicate (vec_len views) [] }
         ensures ok { IfOk result (λ owner. owner ≡ record { taken = 0; free = vec_len views; back = [] }) }
-        ensures nothing { IfOk result (λ owner. NothingHappened E.place owner.taken) }
+        ensures nothing { IfOk result (λ owner. NothingHappened J.Event.place owner.taken) }
         ensures back { IfErr result (λ back. (back.object ≡ object) × (back.writer ≡ writer) × (back.views ≡ views)
             × (back.gate ≡ gate) × (back.handle ≡ handle)) }
     {
@@ -118,11 +112,11 @@ impl<
     }
 }
 
-impl<R: Drop, E: Placed, J: Brand<R, E>, S: Drop, A: Allocator + Copy> Owner<R, E, J, S, A> {
+impl<J: Object, S: Drop, A: Allocator + Copy> Owner<J, S, A> {
     /// A client: the one that was given back last, which goes on where it stopped, else the first one at the next place. NoPlace comes exactly
     /// where none is back and no place is free, else OutOfMemory or the client. Takes a reference count, and no memory: OutOfMemory comes only
     /// where that is full.
-    pub fn client(&mut self) -> Result<Client<R, E, J, S, A>, Refusal>
+    pub fn client(&mut self) -> Result<Client<J, S, A>, Refusal>
         ensures client { IfOk result (λ client. HandsOut self.old self.new client) }
         ensures no_place { IsErrOf result Refusal.NoPlace ↔ ((self.old.free ≡ 0) × (self.old.back ≡ [])) }
         ensures refused { IfErr result (λ e. (e ≡ NoPlace) ⊎ (e ≡ OutOfMemory)) }
@@ -135,7 +129,7 @@ impl<R: Drop, E: Placed, J: Brand<R, E>, S: Drop, A: Allocator + Copy> Owner<R, 
     }
 
     // The first client at the next place, where none is back.
-    fn first(&mut self) -> Result<Client<R, E, J, S, A>, Refusal>
+    fn first(&mut self) -> Result<Client<J, S, A>, Refusal>
         requires { self.old.back ≡ [] }
         ensures client { IfOk result (λ client. client ≡ first_at self.old.taken) }
         ensures taken { OnOk result ((self.new.taken ≡ self.old.taken + 1) × (self.new.free + 1 ≡ self.old.free) × (self.new.back ≡ [])) }
@@ -160,7 +154,7 @@ impl<R: Drop, E: Placed, J: Brand<R, E>, S: Drop, A: Allocator + Copy> Owner<R, 
     /// Takes a client back, whose place is handed out again then: so any number of clients may come and go. A client that is let go and not
     /// given back keeps its place for good. It comes back itself where as many clients are back as there are places. Takes constant time, and
     /// no memory.
-    pub fn give_back(&mut self, client: Client<R, E, J, S, A>) -> Result<(), Client<R, E, J, S, A>>
+    pub fn give_back(&mut self, client: Client<J, S, A>) -> Result<(), Client<J, S, A>>
         ensures ok { OnOk result (TakesBack self.old self.new client) }
         ensures refused { IfErr result (λ refused. (refused ≡ client) × (self.old.taken + self.old.free ≤ length self.old.back)) }
         ensures unchanged { OnErr result (self.new ≡ self.old) }
@@ -172,7 +166,13 @@ impl<R: Drop, E: Placed, J: Brand<R, E>, S: Drop, A: Allocator + Copy> Owner<R, 
     }
 
     /// What its clients share, the title to the cell, and the clients that were given back, with room for all others: for good.
-    pub(crate) fn into_parts(self) -> (Arc<S, A>, Title<R, E, J>, Vec<Client<R, E, J, S, A>, A>)
+    pub(crate) fn into_parts(
+        self,
+    ) -> (
+        Arc<S, A>,
+        Title<J::Root, J::Event, J>,
+        Vec<Client<J, S, A>, A>,
+    )
         ensures back { result.2.items ≡ self.back }
         ensures room { self.taken ≤ vec_capacity result.2 }
     {
@@ -188,7 +188,7 @@ impl<R: Drop, E: Placed, J: Brand<R, E>, S: Drop, A: Allocator + Copy> Owner<R, 
     }
 
     /// The clients that were given back.
-    pub(crate) fn back(&self) -> &[Client<R, E, J, S, A>]
+    pub(crate) fn back(&self) -> &[Client<J, S, A>]
         ensures { result.now ≡ self.now.back }
     {
         &self.back

@@ -11,7 +11,6 @@ ghost use Rattle.node_threads.specs.declared.deed.Deed.TheVariants as deed;
 ghost use Rattle.node_threads.specs.History.{NeverRefuses, RefusesAfter, Replies};
 
 use crate::named::{Named, Naming, Root};
-use crate::node_event::NodeEvent;
 use crate::showing::{place_for, show};
 use dots::{Name, Refusal};
 use hash_path::Fnv1a;
@@ -33,8 +32,7 @@ pub struct Asking<A: Allocator + Copy> {
     pub peer: Name,
 }
 
-impl<K: Naming, A: Allocator + Copy> Update<Replica<Fnv1a, A>, Root<A>, NodeEvent<A>, Named<K>, A>
-    for Asking<A> {
+impl<K: Naming, A: Allocator + Copy> Update<Named<K, A>, A> for Asking<A> {
     type Reply = (u64, Message<A>);
 
     ghost event = { λ c reply place. record { place = place; deeds = deed.Call (call.Ask c.peer) ∷ [] } };
@@ -78,8 +76,7 @@ pub struct Retrying<A: Allocator + Copy> {
     pub number: u64,
 }
 
-impl<K: Naming, A: Allocator + Copy> Update<Replica<Fnv1a, A>, Root<A>, NodeEvent<A>, Named<K>, A>
-    for Retrying<A> {
+impl<K: Naming, A: Allocator + Copy> Update<Named<K, A>, A> for Retrying<A> {
     type Reply = Delivered<A>;
 
     ghost event = { λ c reply place. record { place = place; deeds = deed.Call (call.Retry c.number) ∷ [] } };
@@ -113,8 +110,7 @@ pub struct Abandoning<A: Allocator + Copy> {
     pub number: u64,
 }
 
-impl<K: Naming, A: Allocator + Copy> Update<Replica<Fnv1a, A>, Root<A>, NodeEvent<A>, Named<K>, A>
-    for Abandoning<A> {
+impl<K: Naming, A: Allocator + Copy> Update<Named<K, A>, A> for Abandoning<A> {
     type Reply = bool;
 
     ghost event = { λ c reply place. record { place = place; deeds = deed.Call (call.Abandon c.number) ∷ [] } };

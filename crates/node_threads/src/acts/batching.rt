@@ -10,7 +10,6 @@ ghost use Rattle.node_threads.specs.History.{NeverRefuses, entries_of};
 ghost use Rattle.node_threads.specs.Batch.{IsStoppedBy, Writes, made_at};
 
 use crate::named::{Named, Naming, Root};
-use crate::node_event::NodeEvent;
 use crate::showing::{place_for, show};
 use crate::written::Written;
 use dots::Refusal;
@@ -33,13 +32,7 @@ pub struct Batching<'a, A: Allocator + Copy> {
     pub writes: &'a [Write<'a, A>],
 }
 
-impl<'a, K: Naming, A: Allocator + Copy> Update<
-    Replica<Fnv1a, A>,
-    Root<A>,
-    NodeEvent<A>,
-    Named<K>,
-    A,
-> for Batching<'a, A> {
+impl<'a, K: Naming, A: Allocator + Copy> Update<Named<K, A>, A> for Batching<'a, A> {
     type Reply = Written<A>;
 
     ghost event = { λ c reply place. made_at place (take (length reply.wrote.items) c.writes.now) };

@@ -7,7 +7,6 @@ ghost use Rattle.node_threads.specs.declared.deed.Deed.TheVariants.{Deliver};
 ghost use Rattle.node_threads.specs.History.{NeverRefuses, Replies};
 
 use crate::named::{Named, Naming, Root};
-use crate::node_event::NodeEvent;
 use crate::showing::{place_for, show};
 use dots::Refusal;
 use hash_path::Fnv1a;
@@ -28,13 +27,7 @@ pub struct Delivering<'a, A: Allocator + Copy> {
     pub message: &'a Message<A>,
 }
 
-impl<'a, K: Naming, A: Allocator + Copy> Update<
-    Replica<Fnv1a, A>,
-    Root<A>,
-    NodeEvent<A>,
-    Named<K>,
-    A,
-> for Delivering<'a, A> {
+impl<'a, K: Naming, A: Allocator + Copy> Update<Named<K, A>, A> for Delivering<'a, A> {
     type Reply = Delivered<A>;
 
     ghost event = { λ c reply place. record { place = place; deeds = Deliver c.message.now ∷ [] } };

@@ -8,7 +8,6 @@ ghost use Rattle.node_threads.specs.History.{NeverRefuses, Replies};
 ghost use Rattle.node_threads.specs.TimedServing.{FlushesAs};
 
 use crate::named::{Named, Naming, Root};
-use crate::node_event::NodeEvent;
 use crate::showing::{place_for, show};
 use dots::Refusal;
 use hash_path::Fnv1a;
@@ -27,8 +26,7 @@ pub struct Flushing<A: Allocator + Copy> {
     pub alloc: A,
 }
 
-impl<K: Naming, A: Allocator + Copy> Update<Replica<Fnv1a, A>, Root<A>, NodeEvent<A>, Named<K>, A>
-    for Flushing<A> {
+impl<K: Naming, A: Allocator + Copy> Update<Named<K, A>, A> for Flushing<A> {
     type Reply = Option<Message<A>>;
 
     ghost event = { λ c reply place. record { place = place; deeds = deed.Call call.Flush ∷ [] } };
@@ -61,8 +59,7 @@ pub struct FlushingBytes<A: Allocator + Copy> {
     pub alloc: A,
 }
 
-impl<K: Naming, A: Allocator + Copy> Update<Replica<Fnv1a, A>, Root<A>, NodeEvent<A>, Named<K>, A>
-    for FlushingBytes<A> {
+impl<K: Naming, A: Allocator + Copy> Update<Named<K, A>, A> for FlushingBytes<A> {
     type Reply = Option<Letter<A>>;
 
     ghost event = { λ c reply place. record { place = place; deeds = deed.Call call.Flush ∷ [] } };

@@ -5,7 +5,6 @@ ghost use Rattle.node_threads.specs.Batch.{deed_of};
 ghost use Rattle.node_threads.specs.History.{RefusesAfter, Replies};
 
 use crate::named::{Named, Naming, Root};
-use crate::node_event::NodeEvent;
 use crate::showing::{place_for, show};
 use dots::Refusal;
 use hash_path::Fnv1a;
@@ -26,13 +25,7 @@ pub struct Writing<'a, A: Allocator + Copy> {
     pub write: Write<'a, A>,
 }
 
-impl<'a, K: Naming, A: Allocator + Copy> Update<
-    Replica<Fnv1a, A>,
-    Root<A>,
-    NodeEvent<A>,
-    Named<K>,
-    A,
-> for Writing<'a, A> {
+impl<'a, K: Naming, A: Allocator + Copy> Update<Named<K, A>, A> for Writing<'a, A> {
     type Reply = Wrote;
 
     ghost event = { λ c reply place. record { place = place; deeds = deed_of c.write ∷ [] } };

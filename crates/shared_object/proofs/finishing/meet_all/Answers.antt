@@ -12,7 +12,7 @@ loop-client-preserved g c =
     record {
       own =
           own_more c.args.clients.now c.loop-client.clients c.loop-client.client-index it here c.loop-client.invariant.rest
-          (IsOwn g.E.Placed.place c.args.guarded.now) (c.meet.ensures.own c.if-not-meet.false) c.loop-client.invariant.own;
+          (IsOwn g.J.Event.Placed.place c.args.guarded.now) (c.meet.ensures.own c.if-not-meet.false) c.loop-client.invariant.own;
       rest = rest_more c.args.clients.now c.loop-client.clients c.loop-client.client-index it here c.loop-client.invariant.rest c.meet.new.self;
     }
 

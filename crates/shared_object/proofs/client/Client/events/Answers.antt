@@ -9,5 +9,5 @@ pub returns-clause-own : goal.returns-clause-own
 returns-clause-own g c =
     let front = seen_in c.self.inside.view in
     let same : front ≡ c.in-Some.view = ap seen_in (sym c.take.ensures.value ∙ c.in-Some.is) in
-    rw (← c.self.view_is) (seen_more g.E.Placed.place c.self.inside.place c.self.inside.operations front c.events_at-view.result.0 c.self.invariant.2
+    rw (← c.self.view_is) (seen_more g.J.Event.Placed.place c.self.inside.place c.self.inside.operations front c.events_at-view.result.0 c.self.invariant.2
     (subst (λ (f : List _). IsPrefix f c.events_at-view.result.0) (sym same) c.events_at-view.ensures.seen))

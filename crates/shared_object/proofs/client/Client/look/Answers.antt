@@ -15,7 +15,7 @@ pub returns-in-Err-clause-own : goal.returns-in-Err-clause-own
 returns-in-Err-clause-own g c =
     let front = seen_in c.self.inside.view in
     let same : front ≡ c.in-Err.view = ap seen_in (sym c.take.ensures.value ∙ c.in-Some.is) ∙ sym c.in-Err.ensures.back in
-    rw (← c.self.view_is) (seen_more g.E.Placed.place c.self.inside.place c.self.inside.operations front c.in-Err.view c.self.invariant.2
+    rw (← c.self.view_is) (seen_more g.J.Event.Placed.place c.self.inside.place c.self.inside.operations front c.in-Err.view c.self.invariant.2
     (subst (λ (f : List _). IsPrefix front f) same (prefix_self front)))
 
 pub returns-in-Err-clause-err : goal.returns-in-Err-clause-err

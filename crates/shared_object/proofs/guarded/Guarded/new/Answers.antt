@@ -6,5 +6,5 @@ pub invariant_of-result : goal.invariant_of-result
 invariant_of-result g c = (
   subst (λ (h : List _). g.J.Object.after c.args.object h) (sym c.requires.writer) c.requires.object,
   sym (ap length c.requires.writer),
-  λ p. ap (λ (h : List _). length (calls_by g.E.Placed.place p h)) c.requires.writer ∙ sym (c.no_counts.ensures p),
+  λ p. ap (λ (h : List _). length (calls_by g.J.Event.Placed.place p h)) c.requires.writer ∙ sym (c.no_counts.ensures p),
 )
