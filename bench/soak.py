@@ -50,7 +50,7 @@ class Episode(Run):
     def save(self, name):
         """Keeps what the replica is, with what its model says of it."""
         model = self.models[name]
-        self.saved[name] = (self.replicas[name].save(), model.written, set(model.seen), set(model.made))
+        self.saved[name] = (self.replicas[name].save(), model.written, set(model.seen), model.joined())
 
     def send(self, to, data, brings, loses):
         self.save(sender_of(data, self.writer))

@@ -151,6 +151,11 @@ uint32_t ginelm_clear(ginelm *here, uint64_t *observed);
 /* What it wrote since the last flush becomes the one text, for everyone; no text where it wrote nothing. */
 uint32_t ginelm_flush(ginelm *here);
 
+/* What it wrote first since the last flush becomes the one text, of at most so many bytes, for
+ * everyone; no text where it wrote nothing. What does not fit waits for the next call or flush, whole
+ * writes at a time: one write whose text is longer by itself goes out alone. */
+uint32_t ginelm_flush_at_most(ginelm *here, uint64_t most);
+
 /* Tells whether something waits to be sent: whether a flush gives a text. Allocates nothing. */
 uint32_t ginelm_has_unsent(ginelm *here, bool *unsent);
 

@@ -122,6 +122,8 @@ static uint32_t clear(ginelm *here, struct call *c) { return ginelm_clear(here, 
 
 static uint32_t flush(ginelm *here, struct call *c) { return (void)c, ginelm_flush(here); }
 
+static uint32_t flush_at_most(ginelm *here, struct call *c) { return (void)c, ginelm_flush_at_most(here, 400); }
+
 static uint32_t take(ginelm *here, struct call *c) { return ginelm_take(here, c->value, c->value_length, &c->outcome, &c->named); }
 
 static uint32_t take_unguarded(ginelm *here, struct call *c) {
@@ -282,6 +284,7 @@ static void writes(struct pair *pair) {
     for (int number = 0; number < 40; number++) {
         tries_to_put(pair, number, "a value that is longer than what stands in its own place");
     }
+    tries(pair, with_texts(flush_at_most, "", "", ""));
     tries_to_put(pair, 1, "2");
     tries(pair, with_texts(put_field, "key 1", "a field", "3"));
     tries(pair, with_texts(put_field, "key 1", "another field", "4"));

@@ -120,6 +120,7 @@ static void handles(void) {
     CHECK(ginelm_remove_field(&here, T("k"), T("f"), &number) == GINELM_EMPTY);
     CHECK(ginelm_clear(&here, &number) == GINELM_EMPTY);
     CHECK(ginelm_flush(&here) == GINELM_EMPTY);
+    CHECK(ginelm_flush_at_most(&here, 100) == GINELM_EMPTY);
     CHECK(ginelm_has_unsent(&here, &is) == GINELM_EMPTY);
     CHECK(ginelm_take(&here, T("x"), &outcome, &named) == GINELM_EMPTY);
     CHECK(ginelm_take_unguarded(&here, T("x"), &outcome, &named) == GINELM_EMPTY);
@@ -287,6 +288,39 @@ static void exchange(void) {
     same_digests(&one, &two);
     ginelm_free(&one);
     ginelm_free(&two);
+}
+
+/* What does not fit into a message waits: whole writes, the oldest first, and one that is too long by itself goes out alone. */
+static void parts(void) {
+    static char value[1001];
+    ginelm from = {0}, to = {0};
+    uint32_t outcome = 0;
+    ginelm_named named;
+    size_t longer = 0, all = 0;
+    bool unsent = true;
+    CHECK(ginelm_new(&from, 1) == GINELM_DONE && ginelm_new(&to, 2) == GINELM_DONE);
+    memset(value, 'v', sizeof(value) - 1);
+    for (int number = 0; number < 40; number++) {
+        char key[16];
+        snprintf(key, sizeof(key), "key %d", number);
+        put(&from, key, number == 20 ? value : "a value of 24 characters");
+    }
+    while (ginelm_flush_at_most(&from, 300) == GINELM_DONE && count_of(&from) == 1) {
+        struct letter letter = text_at(&from, 0);
+        uint64_t before = 0, after = 0;
+        CHECK(ginelm_size(&to, &before) == GINELM_DONE);
+        CHECK(ginelm_take(&to, letter.bytes, letter.length, &outcome, &named) == GINELM_DONE && outcome == GINELM_JOINED);
+        CHECK(ginelm_size(&to, &after) == GINELM_DONE && after > before);
+        CHECK(letter.length <= 300 || after == before + 1);
+        longer += letter.length > 300;
+        all++;
+        free(letter.bytes);
+    }
+    CHECK(longer == 1 && all >= 6 && all < 40);
+    CHECK(ginelm_has_unsent(&from, &unsent) == GINELM_DONE && !unsent);
+    same_digests(&from, &to);
+    ginelm_free(&from);
+    ginelm_free(&to);
 }
 
 /* A replica of name 7 without what it knew is told so by a message of its first life, and takes it in only where it is not to ask. */
@@ -653,6 +687,7 @@ int main(int count, char **arguments) {
     words();
     texts();
     exchange();
+    parts();
     restarts();
     snapshot_handles();
     snapshots();

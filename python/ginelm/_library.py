@@ -49,6 +49,7 @@ _CALLS: dict[str, tuple] = {
     "remove_field": (_HERE, *_TEXT, *_TEXT, _NUMBER),
     "clear": (_HERE, _NUMBER),
     "flush": (_HERE,),
+    "flush_at_most": (_HERE, c_uint64),
     "has_unsent": (_HERE, _TEST),
     "take": (_HERE, *_TEXT, _OUTCOME, _SESSION),
     "take_unguarded": (_HERE, *_TEXT, _OUTCOME, _SESSION),

@@ -137,6 +137,11 @@ class Replica(Reader):
         """What it wrote since the last flush, as one letter to everyone, or none where it wrote nothing."""
         return self._letters("flush")
 
+    def flush_at_most(self, most: int) -> list[Letter]:
+        """What it wrote first since the last flush, as one letter to everyone of at most `most` bytes, or none where it wrote
+        nothing. What does not fit waits, whole writes at a time: one write whose letter is longer goes out alone."""
+        return self._letters("flush_at_most", unsigned(most))
+
     def has_unsent(self) -> bool:
         """Whether something waits to be sent: whether a flush gives a letter."""
         return self._test("has_unsent")

@@ -44,14 +44,15 @@ class World:
 
 
 class Model:
-    """One replica: the operations that it has seen, those that it is to send, and the sets that it keeps for the sessions of others."""
+    """One replica: the operations that it has seen, those that it is to send, each by itself or some as one, the oldest first, and the sets that
+    it keeps for the sessions of others."""
 
     def __init__(self, world: World, name: int) -> None:
         self.world = world
         self.name = name
         self.written = 0
         self.seen: set[int] = set()
-        self.made: set[int] = set()
+        self.made: list[frozenset[int]] = []
         self.kept: OrderedDict[tuple, frozenset[int]] = OrderedDict()
         self.accepted: dict[tuple, frozenset[int]] = {}
 
@@ -93,7 +94,7 @@ class Model:
     def _make(self, observed: frozenset[Dot], **write: object) -> None:
         number = self.world.add(observed, **write)
         self.seen.add(number)
-        self.made.add(number)
+        self.made.append(frozenset({number}))
 
     def _dots(self, places: list[Place]) -> frozenset[Dot]:
         return frozenset(write.dot for place in places for write in self.stands(place))
@@ -114,8 +115,15 @@ class Model:
         return [place for place in list(self.world.writes) if key is None or place[0] == key]
 
     def flush(self) -> frozenset[int]:
-        sent, self.made = frozenset(self.made), set()
+        sent, self.made = frozenset().union(*self.made), []
         return sent
+
+    def flush_oldest(self) -> frozenset[int]:
+        return self.made.pop(0) if self.made else frozenset()
+
+    def joined(self) -> list[frozenset[int]]:
+        """What it is to send as one, as it comes back from a save."""
+        return [frozenset().union(*self.made)] if self.made else []
 
     def keep(self, session: tuple) -> frozenset[int]:
         """What it had seen when it first answered this session, of the last eight."""

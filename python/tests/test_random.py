@@ -56,8 +56,12 @@ class Run:
             self.carried.append(Carried(to, data, brings))
 
     def flush(self, name: int, loses: bool = True) -> None:
-        brings = self.models[name].flush()
-        letters = self.replicas[name].flush()
+        if self.random.random() < 1 / 2:
+            brings = self.models[name].flush()
+            letters = self.replicas[name].flush()
+        else:
+            brings = self.models[name].flush_oldest()
+            letters = self.replicas[name].flush_at_most(1)
         assert len(letters) == (1 if brings else 0)
         for letter in letters:
             assert letter.to is None

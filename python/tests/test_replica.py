@@ -55,6 +55,23 @@ def test_concurrent_values_are_both_kept() -> None:
     assert one.get(b"k") == [b"1", b"2"] and one.digest() == two.digest()
 
 
+def test_what_does_not_fit_waits() -> None:
+    writer, reader = Replica(1), Replica(2)
+    for number in range(40):
+        writer.put(b"key %d" % number, b"v" * (1000 if number == 20 else 24))
+    writer.remove(b"key 3")
+    letters = []
+    while letter := writer.flush_at_most(300):
+        letters += letter
+    assert not writer.has_unsent() and writer.flush() == []
+    assert [len(it.data) > 300 for it in letters].count(True) == 1 and all(it.to is None for it in letters)
+    reader.take(letters[0].data)
+    assert b"key 0" in reader.keys() and b"key 39" not in reader.keys()
+    for letter in reversed(letters):
+        reader.take(letter.data)
+    assert reader.digest() == writer.digest() and not reader.contains(b"key 3")
+
+
 def test_texts_of_all_lengths() -> None:
     replica = Replica(1)
     for length in (0, 1, 22, 23, 255, 256, 257, 65535):

@@ -64,6 +64,7 @@ extern "C" {
     ) -> u32;
     pub fn ginelm_clear(here: *mut Handle, observed: *mut u64) -> u32;
     pub fn ginelm_flush(here: *mut Handle) -> u32;
+    pub fn ginelm_flush_at_most(here: *mut Handle, most: u64) -> u32;
     pub fn ginelm_has_unsent(here: *mut Handle, unsent: *mut bool) -> u32;
     pub fn ginelm_take(
         here: *mut Handle,

@@ -193,6 +193,13 @@ impl Replica {
         Ok(self.texts()?.pop())
     }
 
+    /// What it wrote first since the last flush, as a letter to everyone of at most so many bytes, or None where it wrote nothing. What does
+    /// not fit waits, whole writes at a time: one write whose letter is longer goes out alone.
+    pub fn flush_at_most(&mut self, most: u64) -> Result<Option<Letter>, Error> {
+        self.call(|here| unsafe { calls::ginelm_flush_at_most(here, most) })?;
+        Ok(self.texts()?.pop())
+    }
+
     /// Whether something waits to be sent: whether a flush gives a letter.
     pub fn has_unsent(&self) -> bool {
         let mut unsent = false;

@@ -49,6 +49,30 @@ fn a_put_past_the_last_number_is_refused() {
     ]);
 }
 
+/// A flush of at most so many bytes sends whole writes, the oldest first, and keeps the others.
+#[test]
+fn what_does_not_fit_waits() {
+    let mut from = replica(1);
+    from.put(b"a", b"x").unwrap();
+    for number in 0..40 {
+        from.put(&[b'k', number], &[number; 30]).unwrap();
+    }
+    let first = from.flush_at_most(1).unwrap().unwrap();
+    assert_eq!(first.bytes, X_ON_A);
+    let mut messages = vec![first.bytes];
+    while let Some(letter) = from.flush_at_most(200).unwrap() {
+        assert!(letter.to.is_none() && letter.bytes.len() <= 200);
+        messages.push(letter.bytes);
+    }
+    assert!(!from.has_unsent() && messages.len() < 40);
+    let mut to = replica(2);
+    take_all(&mut to, &messages[..2]);
+    assert!(shows(&to, &[b'k', 0], &[&[0; 30]]) && shows(&to, &[b'k', 39], &[]));
+    messages.reverse();
+    take_all(&mut to, &messages);
+    assert_eq!(to.digest(), from.digest());
+}
+
 // What a new replica of this name sends that put forty keys, each of the name and a number, with
 // the number as the value.
 fn sent_by(name: u8) -> Vec<u8> {

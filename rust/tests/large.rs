@@ -53,6 +53,21 @@ fn two_thousand_keys_are_sent_and_listed() {
 }
 
 #[test]
+fn two_thousand_keys_are_sent_in_parts() {
+    let mut here = filled();
+    let mut there = replica(2);
+    let mut parts = 0;
+    while let Some(letter) = here.flush_at_most(10_000).unwrap() {
+        assert!(letter.bytes.len() <= 10_000);
+        there.take(&letter.bytes).unwrap();
+        parts += 1;
+    }
+    assert!((4..20).contains(&parts));
+    assert_has_all(&there);
+    assert_eq!(here.digest(), there.digest());
+}
+
+#[test]
 fn two_thousand_keys_are_synchronised_and_cleared() {
     let mut here = filled();
     let mut there = replica(2);

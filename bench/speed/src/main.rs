@@ -276,6 +276,14 @@ fn worst() -> Table {
         beyond(|| ours::texts(&many, 65), || (), 1),
         3.0,
     ));
+    let keys = keys::random(10_000);
+    let (parts, whole, unsent) = (ours(14, 4_096), ours(14, u32::MAX), ours(7, 0));
+    table.push(Row::beside(
+        "10,000 puts sent by 4,096 bytes, beside as one",
+        beyond(|| parts(&keys), || unsent(&keys), 1) / 1e3,
+        beyond(|| whole(&keys), || unsent(&keys), 1) / 1e3,
+        None,
+    ));
     table
 }
 

@@ -1,13 +1,14 @@
 -- Groups of deltas, to which one is added, or which are joined part by part: over plain variables.
-use Rattle.std.proofs.Common.{◌≡◌, ℕ, ◌<◌, length, zero, suc, List, [], ◌∷◌, ◌++◌, fold, sym, ◌∙◌, ap, subst, refl, arith, get_or}
-use Rattle.std.specs.Prelude.{◌↔◌, ◌-◌, Bool, false, Result, Ok, Err, IfOk, Option, Some, None, IsSome, option_to_list, slice_get}
+use Rattle.std.proofs.Common.{◌≡◌, ℕ, ◌+◌, ◌<◌, ◌≤◌, drop, min, take, length, zero, suc, List, [], ◌∷◌, ◌++◌, fold, sym, ◌∙◌, ap, subst, refl, arith, get_or}
+use Rattle.std.specs.Prelude.{◌↔◌, ◌-◌, Bool, false, Result, Ok, Err, IfOk, IfSome, IfNone, IsTrue, is_some, Option, Some, None, IsSome, option_to_list, slice_get}
 use Rattle.std.proofs.lemmas.Bool.{or_from, or_parts}
 use Rattle.std.proofs.lemmas.List.Sums.{fold-append}
-use Rattle.std.proofs.lemmas.List.{map-append}
+use Rattle.std.proofs.lemmas.List.{drop-map, drop_min, get_or-take, length-drop, length-map, length-take-le, map-append, take-map, take_at, take_min}
+use Rattle.std.proofs.Math.Seq.{take-add, take-length}
 use Rattle.std.specs.declared.sync.Arc.{Arc}
 use Rattle.causal_context.specs.Context.{HasNone, has}
 use Rattle.dots.specs.Dot.{DotValue}
-use Rattle.delta_ops.specs.Group.{group_state, IsPushed}
+use Rattle.delta_ops.specs.Group.{group_state}
 use Rattle.causal_join.specs.Causal.{state_of}
 use Rattle.causal_join.specs.OrMap.{OrMapValue, or_map_at, or_map_state, path_of}
 use Rattle.delta_ops.specs.Log.{deltas_of}
@@ -92,10 +93,6 @@ group-of_three whole oldest older newer is =
     same-chain _ _ _ is (join-same greater (join greater (or_map_state oldest) (or_map_state older)) (or_map_state newer) (group_state (oldest ∷ older ∷ []))
     (or_map_state newer) both (same-itself (or_map_state newer)))
 
--- a log with one delta more
-pub pushed_log : (old new : List OrMapValue) (pair : OrMapValue) → new ≡ old ++ pair ∷ [] → IsPushed old new pair
-pushed_log old new pair is = record { rest = old; last = is; same = same-itself (group_state old) }
-
 -- ---- lists that are written out
 pub list_of_none : {X : Type 0} (xs : List X) → length xs ≡ 0 → xs ≡ []
 list_of_none [] n = refl
@@ -137,6 +134,28 @@ known_less start [] d none = none
 known_less start (pair ∷ pairs) d none =
     (or_parts (start.has d) (has pair.1 d) (known_less (join greater start (or_map_state pair)) pairs d none)).0
 
+-- what more of the oldest do not know, fewer do not
+pub known_front : (pairs : List OrMapValue) (n m : ℕ) → n ≤ m → (d : DotValue) → (group_state (take m pairs)).has d ≡ false
+    → (group_state (take n pairs)).has d ≡ false
+known_front pairs n m less d none =
+    let more = take (m - n) (drop n pairs) in
+    let parts : take m pairs ≡ take n pairs ++ more = ap (λ k. take k pairs) (omega (arith, less)) ∙ take-add n (m - n) pairs in
+    known_less (group_state (take n pairs)) more d
+    (sym (ap (λ (s : MapState). s.has d) (fold-append (λ group pair. join greater group (or_map_state pair)) (state []) (take n pairs) more))
+    ∙ sym (ap (λ (ps : List OrMapValue). (group_state ps).has d) parts) ∙ none)
+
+-- whether any delta knows a dot is told by the first that does
+pub knows_first : (pairs : List OrMapValue) (found : Option ℕ) (is : Bool) → is ≡ is_some found
+    → IfSome found (λ n. (0 < n) × (n ≤ length pairs) × ((d : DotValue) → (group_state (take (n - 1) pairs)).has d ≡ false)
+    × (((d : DotValue) → (group_state (take n pairs)).has d ≡ false) → ⊥))
+    → IfNone found ((d : DotValue) → (group_state pairs).has d ≡ false) → IsTrue is ↔ (((d : DotValue) → (group_state pairs).has d ≡ false) → ⊥)
+knows_first pairs (Some n) is same some none = (
+  (λ t all. some.3 (λ d. known_front pairs n (length pairs) some.1 d
+      (ap (λ (ps : List OrMapValue). (group_state ps).has d) (take-length pairs) ∙ all d))),
+  (λ h. same),
+)
+knows_first pairs None is same some none = ((λ t. absurd (cc (t, same))), (λ h. absurd (h none)))
+
 module _ {A : Type 0} where
   -- the log with one more delta at the end
   pub deltas_of-push : (log : List (Arc OrMapValue A)) (delta : Arc OrMapValue A) → deltas_of (log ++ delta ∷ []) ≡ deltas_of log ++ delta.value ∷ []
@@ -148,6 +167,20 @@ module _ {A : Type 0} where
   -- what a push leaves
   pub log-pushed : (old new : List (Arc OrMapValue A)) (delta : Arc OrMapValue A) → new ≡ old ++ delta ∷ [] → deltas_of new ≡ deltas_of old ++ delta.value ∷ []
   log-pushed old new delta is = ap deltas_of is ∙ deltas_of-push old delta
+
+  -- the oldest of a log, and the others
+  pub front_is : (log items : List (Arc OrMapValue A)) (now : List OrMapValue) (n m number : ℕ) → items ≡ log → deltas_of log ≡ now → m ≡ min number (length log)
+      → n ≡ m → deltas_of (take n items) ≡ take number now
+  front_is log items now n m number same is least eq =
+      sym (take-map (λ (delta : Arc OrMapValue A). delta.value) n items) ∙ ap (λ l. take n (deltas_of l)) same ∙ ap (take n) is
+      ∙ ap (λ k. take k now) (eq ∙ least ∙ ap (min number) (sym (length-map log (λ delta. delta.value)) ∙ ap length is)) ∙ take_min number now
+
+  pub rest_is : (log turned new : List (Arc OrMapValue A)) (now : List OrMapValue) (n left number : ℕ) → deltas_of log ≡ now → n ≡ min number (length log)
+      → left ≡ length log - n → turned ≡ drop n log ++ take n log → new ≡ take left turned → deltas_of new ≡ drop number now
+  rest_is log turned new now n left number is least rest rotated cut =
+      ap deltas_of (cut ∙ ap (take left) rotated ∙ take_at (drop n log) (take n log) left (length-drop n log ∙ sym rest))
+      ∙ sym (drop-map (λ (delta : Arc OrMapValue A). delta.value) n log) ∙ ap (drop n) is
+      ∙ ap (λ k. drop k now) (least ∙ ap (min number) (sym (length-map log (λ delta. delta.value)) ∙ ap length is)) ∙ drop_min number now
 
   -- ---- whether a log knows a dot
   none_from : (start : MapState) (log : List (Arc OrMapValue A)) (i : ℕ) (x : Arc OrMapValue A) → i < length log → x ≡ get_or log i x
@@ -170,6 +203,21 @@ module _ {A : Type 0} where
       ap (λ (p : List OrMapValue). (group_state p).has d) (log-pushed log next x is)
       ∙ ap (λ (p : MapState). p.has d) (group-push (deltas_of log) x.value)
       ∙ or_from ((group_state (deltas_of log)).has d) (has x.value.1 d) (none d) (here d)
+
+  -- as many of the oldest know none, and with the next one more of them do
+  pub none_before : (log : List (Arc OrMapValue A)) (now : List OrMapValue) (i n : ℕ) → deltas_of log ≡ now → n ≡ i
+      → ((d : DotValue) → (group_state (deltas_of (take i log))).has d ≡ false) → (d : DotValue) → (group_state (take n now)).has d ≡ false
+  none_before log now i n same is none d =
+      ap (λ (ps : List OrMapValue). (group_state ps).has d)
+      (ap (λ k. take k now) is ∙ ap (take i) (sym same) ∙ take-map (λ (delta : Arc OrMapValue A). delta.value) i log) ∙ none d
+
+  pub known_at : (log : List (Arc OrMapValue A)) (now : List OrMapValue) (i : ℕ) (x : Arc OrMapValue A) (n : ℕ) → deltas_of log ≡ now → n ≡ i + 1
+      → i < length log → x ≡ get_or log i x → ((d : DotValue) → (group_state (take n now)).has d ≡ false) → HasNone x.value.1
+  known_at log now i x n same is less at none =
+      let room = length-take-le (i + 1) log (omega (arith, less)) in
+      none_at (take (i + 1) log) i x (omega (arith, room)) (at ∙ sym (get_or-take (i + 1) log i x (omega arith)))
+      (λ d. ap (λ (ps : List OrMapValue). (group_state ps).has d)
+      (sym (take-map (λ (delta : Arc OrMapValue A). delta.value) (i + 1) log) ∙ ap (take (i + 1)) same ∙ ap (λ k. take k now) (sym is)) ∙ none d)
 
   -- ---- the join of a log, part by part
   pub joined-one : {E : Type 0} (r : Result OrMapValue E) (log : List (Arc OrMapValue A)) (only : Arc OrMapValue A) → log ≡ only ∷ []

@@ -4,7 +4,7 @@ pub mod Puts
 pub mod Erasing
 pub mod Gathering
 pub mod Listing
-mod Groups
+pub mod Groups
 pub mod AsOrMap
 pub mod Clearing
 pub mod Keeping

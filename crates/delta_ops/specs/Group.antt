@@ -1,16 +1,10 @@
 -- Groups of deltas, after Almeida, Shoker and Baquero, "Delta State Replicated Data Types" (2018): a delta group is the
 -- join of some deltas.
-use Rattle.std.specs.Prelude.{◌≡◌, ◌++◌, ◌∷◌, List, [], fold}
+use Rattle.std.specs.Prelude.{List, [], fold}
 use Rattle.causal_join.specs.OrMap.{OrMapValue, or_map_state}
 use Rattle.op_model.specs.Meaning.{MapState, greater, state}
-use Rattle.op_model.specs.State.{join, Same}
+use Rattle.op_model.specs.State.{join}
 
 -- the group of these pairs: their join, from the state of no operation on
 abbrev pub group_state : List OrMapValue → MapState
 group_state pairs = fold (λ group pair. join greater group (or_map_state pair)) (state []) pairs
-
--- the pair stands last, and those before it group to what the old ones do
-pub record IsPushed (old new : List OrMapValue) (pair : OrMapValue) : Type 0 where
-  pub rest : List OrMapValue
-  pub last : new ≡ rest ++ (pair ∷ [])
-  pub same : Same (group_state rest) (group_state old)

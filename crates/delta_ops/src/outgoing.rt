@@ -1,8 +1,8 @@
-ghost use Rattle.std.specs.Prelude.{◌≡◌, ◌≤◌, ◌↔◌, ◌∷◌, ◌++◌, [], List, length, max, Some, false, IsTrue, IfOk, IfSome, IfNone, OnOk, OnErr, IsOkUnless};
+ghost use Rattle.std.specs.Prelude.{◌≡◌, ◌⊎◌, ◌≤◌, ◌<◌, ◌↔◌, ◌∷◌, ◌++◌, ◌-◌, [], List, drop, length, max, take, Some, false, IsTrue, IfOk, IfSome, IfNone, OnOk, OnErr, IsOkUnless};
 ghost use Rattle.std.specs.Option.{option_copied};
 ghost use Rattle.causal_context.specs.Context.{HasNone};
 ghost use Rattle.causal_join.specs.OrMap.{OrMapValue, or_map_state};
-ghost use Rattle.delta_ops.specs.Group.{group_state, IsPushed};
+ghost use Rattle.delta_ops.specs.Group.{group_state};
 ghost use Rattle.delta_ops.specs.Log.{deltas_of};
 ghost use Rattle.dots.specs.Dot.{DotValue};
 ghost use Rattle.op_model.specs.Meaning.{greater};
@@ -45,14 +45,14 @@ impl<A: Allocator + Copy> Outgoing<A> {
         }
     }
 
-    /// Joins the delta into the group. A refused call leaves the group as it was.
+    /// Joins the delta into the group. A refused call changes nothing.
     ///
     /// Its only refusal is OutOfMemory. Puts the delta at the end of the log, and joins nothing: takes memory for one entry of the log, at
     /// times for twice as many as there are, and time in these alone.
     pub fn push(&mut self, alloc: A, delta: OrMap<A>) -> Result<(), Refusal>
         ensures ok { OnOk result (Same (group_state self.new) (join greater (group_state self.old) (or_map_state delta))) }
-        ensures pushed { OnOk result (IsPushed self.old self.new delta) }
-        ensures unchanged { OnErr result (Same (group_state self.new) (group_state self.old)) }
+        ensures pushed { OnOk result (self.new ≡ self.old ++ (delta ∷ [])) }
+        ensures unchanged { OnErr result (self.new ≡ self.old) }
         ensures err { IsOkUnless result Refusal.OutOfMemory }
     {
         let delta = Arc::new(alloc, delta)?;
@@ -85,6 +85,7 @@ impl<A: Allocator + Copy> Outgoing<A> {
         ensures same { Same (group_state self.new) (group_state self.old) }
         ensures few { OnOk result (length self.new ≤ max most 1) }
         ensures kept { length self.old ≤ max most 1 → self.new ≡ self.old }
+        ensures joined { (self.new ≡ self.old) ⊎ (length self.new ≡ 1) }
         ensures unchanged { OnErr result (self.new ≡ self.old) }
         ensures err { IsOkUnless result Refusal.OutOfMemory }
     {
@@ -99,16 +100,28 @@ impl<A: Allocator + Copy> Outgoing<A> {
         Ok(())
     }
 
+    /// How many of the oldest deltas there are up to the first one that knows a dot, or None where none does. Takes time in these, and no memory.
+    pub fn first_known(&self) -> Option<usize>
+        ensures some { IfSome result (λ number. (0 < number) × (number ≤ length self.now)
+            × ((d : DotValue) → (group_state (take (number - 1) self.now)).has d ≡ false)
+            × ¬ ((d : DotValue) → (group_state (take number self.now)).has d ≡ false)) }
+        ensures none { IfNone result ((d : DotValue) → (group_state self.now).has d ≡ false) }
+    {
+        let mut number = 0;
+        for delta in &self.deltas {
+            number += 1;
+            if !delta.context().is_empty() {
+                return Some(number);
+            }
+        }
+        None
+    }
+
     /// Whether the group knows a dot: whether `whole` gives a pair. Takes time in the oldest deltas that know none, and no memory.
     pub fn has_dots(&self) -> bool
         ensures { IsTrue result ↔ ¬ ((d : DotValue) → (group_state self.now).has d ≡ false) }
     {
-        for delta in &self.deltas {
-            if !delta.context().is_empty() {
-                return true;
-            }
-        }
-        false
+        self.first_known().is_some()
     }
 
     /// The whole group, or None where it knows no dot.
@@ -138,6 +151,35 @@ impl<A: Allocator + Copy> Outgoing<A> {
     {
         let whole = joined(alloc, &self.deltas)?;
         Ok(whole)
+    }
+
+    /// How many deltas the log has.
+    pub fn len(&self) -> usize
+        ensures { result ≡ length self.now }
+    {
+        self.deltas.len()
+    }
+
+    /// The group of the oldest deltas, so many of them, or all where there are fewer, as a pair.
+    ///
+    /// Its only refusal is OutOfMemory. Takes what `whole` does of these.
+    pub fn front(&self, alloc: A, number: usize) -> Result<OrMap<A>, Refusal>
+        ensures ok { IfOk result (λ front. Same (or_map_state front) (group_state (take number self.now))) }
+        ensures err { IsOkUnless result Refusal.OutOfMemory }
+    {
+        let number = number.min(self.deltas.len());
+        joined(alloc, &self.deltas[..number])
+    }
+
+    /// Takes the oldest deltas out, so many of them, or all where there are fewer. It is never refused, and takes no memory, and time in the
+    /// number of deltas in the log, and in what those hold that go.
+    pub fn cut(&mut self, number: usize)
+        ensures { self.new ≡ drop number self.old }
+    {
+        let number = number.min(self.deltas.len());
+        let left = self.deltas.len() - number;
+        self.deltas.rotate_left(number);
+        self.deltas.truncate(left);
     }
 
     /// The same group. Shares the deltas: takes time and memory in their number, and none in what they hold.

@@ -18,6 +18,9 @@
 // if let Some(letter) = basket.flush_bytes()? {                        // what was written since the last flush
 //     send(letter.to, &letter.bytes);                                  // to everyone, in whatever way
 // }
+// while let Some(letter) = basket.flush_at_most(1_000_000)? {          // the same in parts, where a message may be so long at most
+//     send(letter.to, &letter.bytes);
+// }
 //
 // let taken = take(rt.alloc(), &mut basket, received)?;                // of any replica, of any kind
 // for letter in &taken.letters {

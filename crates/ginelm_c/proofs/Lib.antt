@@ -6,3 +6,4 @@ pub mod Calls
 pub mod Stored
 pub mod Since
 pub mod Told
+pub mod SentParts

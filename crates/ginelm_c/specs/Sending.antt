@@ -5,11 +5,13 @@ use Rattle.wire_form.specs.Session.{SessionValue}
 use Rattle.hash_path.specs.declared.fnv1a.Fnv1a.{Fnv1a}
 use Rattle.op_model.specs.Meaning.{MapState}
 use Rattle.replica_model.specs.Mail.{Delta, mail_of}
-use Rattle.replica_model.specs.Step.{Do, Take, Retry, Came}
+use Rattle.replica_model.specs.Step.{Do, Take, Retry, Came, KnowsNone}
 use Rattle.replica_core.specs.Answered.{outcome_of}
 use Rattle.replica_core.specs.Guarding.{HasLost}
 use Rattle.replica_core.specs.Bringing.{Brings}
+use Rattle.replica_core.specs.Cutting.{IsWithin, SendsOldest}
 use Rattle.replica_core.specs.Meaning.{ReplicaValue, hash_in, meaning}
+use Rattle.replica_core.specs.Stepping.{Stays}
 use Rattle.replica_core.specs.declared.outcome.Outcome.{Outcome}
 use Rattle.replica_core.specs.declared.outcome.Outcome.TheVariants.{Joined, Sent, Done, Ignored, Mismatch, Gone}
 use Rattle.ginelm_c.specs.declared.held.Held.{Held}
@@ -30,6 +32,13 @@ number_of Gone = 6
 abbrev pub named : Option SessionValue → Named
 named None = record { asker = 0; answerer = 0; number = 0 }
 named (Some s) = record { asker = s.asker; answerer = s.answerer; number = s.number }
+
+-- The oldest of what waits is sent, and its letter is the text, of at most so many bytes or of one write; where there is none nothing waits, and
+-- the replica is as it was.
+pub record SentAtMost (x y : Held) (most : ℕ) : Type 0 where
+  pub oldest : SendsOldest x.replica y.replica (letters_in y.texts)
+  pub within : (to : Option ℕ) (bytes : List ℕ) → letters_in y.texts ≡ (to, bytes) ∷ [] → IsWithin x.replica y.replica most bytes
+  pub none : letters_in y.texts ≡ [] → KnowsNone (meaning x.replica).group × Stays x.replica y.replica
 
 -- the replica took the message: what came of it, the synchronisation that it named, and the letters that are the texts
 pub record TakesIn (x y : Held) (message : MessageValue) (outcome : ℕ) (session : Named) : Type 0 where

@@ -5,7 +5,7 @@ ghost use Rattle.replica_model.specs.Step.{Do, Flush, Nothing, KnowsNone};
 ghost use Rattle.replica_core.specs.Meaning.{meaning};
 ghost use Rattle.ginelm_c.specs.declared.held.Held.{Held};
 ghost use Rattle.ginelm_c.specs.Handling.{Between, IsSame, Sent, StaysEmpty, StaysFull};
-ghost use Rattle.ginelm_c.specs.Sending.{Takes, TakesIn, number_of};
+ghost use Rattle.ginelm_c.specs.Sending.{SentAtMost, Takes, TakesIn, number_of};
 
 use crate::answer::{EMPTY, told};
 use crate::handle::Handle;
@@ -38,6 +38,32 @@ pub extern "C" fn ginelm_flush(alloc: Global, here: &mut Handle) -> u32
         return EMPTY;
     };
     let answer = told(flush(&mut held));
+    here.give(held);
+    answer
+}
+
+fn flush_at_most(held: &mut Held, most: u64) -> Result<(), Refusal>
+    ensures ok { OnOk result (SentAtMost held.old held.new most) }
+    ensures unchanged { OnErr result (IsSame held.old held.new) }
+{
+    let letter = held.replica.flush_at_most(most)?;
+    held.texts = Texts::Sent(letter);
+    Ok(())
+}
+
+/// What was made first since the last flush becomes the text, as one message for everyone of at most so many bytes; no text, where nothing was
+/// made. What does not fit waits. One write whose message is longer by itself goes out alone.
+#[unsafe(no_mangle)]
+pub extern "C" fn ginelm_flush_at_most(alloc: Global, here: &mut Handle, most: u64) -> u32
+    ensures none { StaysEmpty here.old.value here.new.value result }
+    ensures kept { StaysFull here.old.value here.new.value }
+    ensures done { result ≡ 0 → Between here.old.value here.new.value (λ x y. SentAtMost x y most) }
+    ensures refused { result ≢ 0 → Between here.old.value here.new.value IsSame }
+{
+    let Some(mut held) = here.take(alloc) else {
+        return EMPTY;
+    };
+    let answer = told(flush_at_most(&mut held, most));
     here.give(held);
     answer
 }

@@ -48,8 +48,8 @@ pub(crate) const CALLS: &[(&str, &str, &str)] = &[
     ("name", "name", "the name of the replica"),
     (
         "flush",
-        "flush",
-        "sends what was written since the last flush",
+        "flush [BYTES]",
+        "sends what was written since the last flush, or the first of it that fits",
     ),
     ("take", "take HEX", "takes in a message that came"),
     (

@@ -16,7 +16,8 @@ pub(crate) fn carry_out<K: Keeper>(
     rest: &[&[u8]],
 ) -> Result<bool, Fault> {
     match (verb, rest) {
-        (b"flush", []) => flush(rt, alloc, kept)?,
+        (b"flush", []) => flush(rt, alloc, kept, None)?,
+        (b"flush", [most]) => flush(rt, alloc, kept, Some(number(most).ok_or(Fault::Words)?))?,
         (b"take", [digits]) => take(rt, alloc, kept, &hex(alloc, digits)?)?,
         (b"ask", [peer]) => ask(rt, alloc, kept, peer)?,
         (b"retry", [word]) => retry(rt, alloc, kept.replica(), word)?,
@@ -27,8 +28,13 @@ pub(crate) fn carry_out<K: Keeper>(
     Ok(true)
 }
 
-fn flush<K: Keeper>(rt: &impl Print, alloc: Global, kept: &mut K) -> Result<(), Fault> {
-    match kept.unsent()? {
+fn flush<K: Keeper>(
+    rt: &impl Print,
+    alloc: Global,
+    kept: &mut K,
+    most: Option<u64>,
+) -> Result<(), Fault> {
+    match kept.unsent(most)? {
         Some(letter) => {
             send(rt, alloc, letter.to, &letter.bytes)?;
             println!(rt; "ok 1")?;

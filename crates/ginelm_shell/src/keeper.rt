@@ -21,8 +21,8 @@ pub(crate) trait Keeper {
         writes: &[Write<'_>],
     ) -> Result<Written<Vec<Wrote>>, Fault>;
 
-    /// What was written, and is still to be sent.
-    fn unsent(&mut self) -> Result<Option<Letter>, Fault>;
+    /// What was written, and is still to be sent: all of it, or the first of it that has at most so many bytes.
+    fn unsent(&mut self, most: Option<u64>) -> Result<Option<Letter>, Fault>;
 
     /// Opens a synchronisation with this peer: its number, and what is to be sent for it.
     fn synchronise(&mut self, alloc: Global, peer: Name) -> Result<(u64, Letter), Fault>;

@@ -68,7 +68,7 @@ impl<S: Alter> Keeper for Store<S> {
     }
 
     // Each write is told as it is made.
-    fn unsent(&mut self) -> Result<Option<Letter>, Fault> {
+    fn unsent(&mut self, _most: Option<u64>) -> Result<Option<Letter>, Fault> {
         Ok(None)
     }
 

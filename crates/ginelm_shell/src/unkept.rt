@@ -30,8 +30,11 @@ impl Keeper for Replica {
         Err(Fault::Unkept)
     }
 
-    fn unsent(&mut self) -> Result<Option<Letter>, Fault> {
-        Ok(self.flush_bytes()?)
+    fn unsent(&mut self, most: Option<u64>) -> Result<Option<Letter>, Fault> {
+        match most {
+            Some(most) => Ok(self.flush_at_most(most)?),
+            None => Ok(self.flush_bytes()?),
+        }
     }
 
     fn synchronise(&mut self, _alloc: Global, peer: Name) -> Result<(u64, Letter), Fault> {

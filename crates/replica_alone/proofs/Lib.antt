@@ -11,3 +11,9 @@ pub mod Befalling
 pub mod Adding
 pub mod Said
 pub mod Spelled
+pub mod CutGroups
+pub mod CutDeltas
+pub mod CutParts
+pub mod CutRuns
+pub mod CutSteps
+pub mod CutFlushes

@@ -5,3 +5,5 @@ pub mod Asking
 pub mod Taking
 pub mod Said
 pub mod Ended
+pub mod Waiting
+pub mod Cutting

@@ -3,12 +3,14 @@
 // Offered to the crates above: that these laws hold.
 #![tactic(auto)]
 
+mod cutting;
 mod headline;
 mod seen;
 mod sessions;
 mod snapshots;
 mod standing;
 
+pub use cutting::cuts_are_flushes_that_came_earlier;
 pub use headline::{
     replicas_alone_that_have_seen_the_same_hold_the_same,
     what_a_replica_alone_does_not_take_may_say_anything,

@@ -18,7 +18,7 @@ use Rattle.replica_model.specs.Replica.{next_session, opens, closes, open_number
 use Rattle.replica_model.specs.Step.{Act, Do, Ask, Retry, Abandon, Numbered, Came, Closed, Refuses, retried, Abandons}
 use Rattle.replica_core.specs.declared.outcome.Outcome.{Outcome}
 use Rattle.replica_core.specs.Answered.{outcome_of}
-use Rattle.replica_core.specs.Meaning.{ReplicaValue, hash_in, open_of, meaning}
+use Rattle.replica_core.specs.Meaning.{ReplicaValue, hash_in, open_of, meaning, waiting_in}
 use Rattle.replica_core.specs.Own.{IsOwn, IsReplica}
 use Rattle.replica_core.specs.Stepping.{RefusesNothing, Steps, IsRefused, mails_of}
 use Rattle.replica_core.specs.Tied.{IsFirstAt, NoneIs}
@@ -68,9 +68,10 @@ module _ {Hash : Type 0} (old : ReplicaValue Hash) (peer : ℕ) where
 module _ {Hash : Type 0} (hash_of : Hash → List ℕ → ℕ) (old new : ReplicaValue Hash) (peer : ℕ) (session : SessionValue)
     (next : session ≡ next_session (meaning old) peer) where
   pub asked_stepped : (hello : MessageValue) → session.number + 1 ≤ 2 ^ 64 → length old.sessions < 8 → IsMapOf old.live.0.0.1 (meaning old).live
-      → meaning new ≡ opens (meaning old) session.answerer old.live.0.0.1 → hello ≡ Hello session old.live.0.1 → hash_in new ≡ hash_in old
+      → meaning new ≡ opens (meaning old) session.answerer old.live.0.0.1 → hello ≡ Hello session old.live.0.1
+      → waiting_in new ≡ waiting_in old → hash_in new ≡ hash_in old
       → Steps hash_of old new (Do (Ask peer)) (Numbered session.number) (mail_of hello ∷ [])
-  asked_stepped hello left few mapped means said hash =
+  asked_stepped hello left few mapped means said waiting hash =
       let number : session.number ≡ old.opened + 1 = ap (λ (s : SessionValue). s.number) next in
       record {
         step = (
@@ -82,6 +83,7 @@ module _ {Hash : Type 0} (hash_of : Hash → List ℕ → ℕ) (old new : Replic
           ap Numbered number,
           ap (λ m. mail_of m ∷ []) said ∙ ap (λ s. Rattle.replica_model.specs.Mail.Hello s (has old.live.0.1) ∷ []) next,
         );
+        waits = waiting;
         hash = hash;
       }
 
@@ -94,11 +96,12 @@ module _ {Hash : Type 0} (hash_of : Hash → List ℕ → ℕ) (old : ReplicaVal
     pub retry_missed : Steps hash_of old old (Do (Retry number)) (Came Ignored) []
     retry_missed = record {
       step = (refl, ap (λ o. Came (retried (meaning old) o).outcome) (sym none), ap (λ o. (retried (meaning old) o).replies) (sym none));
+      waits = refl;
       hash = refl;
     }
 
     pub abandon_missed : Steps hash_of old old (Do (Abandon number)) (Closed false) []
-    abandon_missed = record { step = (subst (λ o. Abandons (meaning old) o (meaning old) (Closed false)) (sym none) (refl, refl), refl); hash = refl }
+    abandon_missed = record { step = (subst (λ o. Abandons (meaning old) o (meaning old) (Closed false)) (sym none) (refl, refl), refl); waits = refl; hash = refl }
 
   -- and where one has
   module _ (place : ℕ) (a : AskerValue Hash) (first : IsFirstAt (λ b. b.session.number == number) old.sessions place a) where
@@ -116,13 +119,15 @@ module _ {Hash : Type 0} (hash_of : Hash → List ℕ → ℕ) (old : ReplicaVal
             ap (λ o. Came (retried (meaning old) o).outcome) (sym found),
             mails_are messages ∙ ap (map mail_of) said ∙ sym (again_tied a own.is_open) ∙ ap (λ o. (retried (meaning old) o).replies) (sym found),
           );
+          waits = refl;
           hash = refl;
         }
 
-    pub abandon_found : (new : ReplicaValue Hash) → meaning new ≡ closes (meaning old) a.session → hash_in new ≡ hash_in old
+    pub abandon_found : (new : ReplicaValue Hash) → meaning new ≡ closes (meaning old) a.session → waiting_in new ≡ waiting_in old → hash_in new ≡ hash_in old
         → Steps hash_of old new (Do (Abandon number)) (Closed true) []
-    abandon_found new means hash = record {
+    abandon_found new means waiting hash = record {
       step = (subst (λ o. Abandons (meaning old) o (meaning new) (Closed true)) (sym found) (means, refl), refl);
+      waits = waiting;
       hash = hash;
     }
 

@@ -30,3 +30,5 @@ pub mod Crossing
 pub mod Lost
 pub mod Brought
 pub mod Foretold
+pub mod Waits
+pub mod Cuts

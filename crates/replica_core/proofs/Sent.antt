@@ -1,5 +1,5 @@
 -- What a replica sends of what it made.
-use Rattle.std.proofs.Common.{◌≡◌, ℕ, List, [], ◌∷◌, inl, inr, refl, ap, ◌∙◌}
+use Rattle.std.proofs.Common.{◌≡◌, ℕ, List, [], ◌∷◌, inl, inr, map, refl, sym, ap, subst, ◌∙◌}
 use Rattle.causal_context.specs.Context.{HasNone}
 use Rattle.causal_join.specs.OrMap.{OrMapValue, or_map_state}
 use Rattle.delta_ops.specs.Group.{group_state}
@@ -11,10 +11,15 @@ use Rattle.replica_model.specs.Step.{Do, Flush, Nothing, KnowsNone}
 use Rattle.replica_core.specs.Meaning.{ReplicaValue, meaning}
 use Rattle.replica_core.specs.Stepping.{Steps}
 use Rattle.replica_core.proofs.Meant.{meaning_by}
+use Rattle.replica_core.proofs.Waits.{all_waiting}
 
 module _ {Hash : Type 0} (hash_of : Hash → List ℕ → ℕ) where
   pub nothing_sent : (r : ReplicaValue Hash) → KnowsNone (group_state r.group) → Steps hash_of r r (Do Flush) Nothing []
-  nothing_sent r none = record { step = (refl, inl (none, refl, refl)); hash = refl }
+  nothing_sent r none = record {
+    step = (refl, inl (none, refl, refl));
+    waits = inl (subst KnowsNone (sym (all_waiting r.group)) none, refl);
+    hash = refl;
+  }
 
   pub all_sent : (old new : ReplicaValue Hash) (whole : OrMapValue) → Same (or_map_state whole) (group_state old.group) × (¬ HasNone whole.1)
       → new.name ≡ old.name → new.live ≡ old.live → new.opened ≡ old.opened → new.sessions ≡ old.sessions → new.kept ≡ old.kept → new.group ≡ []
@@ -30,5 +35,6 @@ module _ {Hash : Type 0} (hash_of : Hash → List ℕ → ℕ) where
         ap (λ d. Delta d ∷ []) (same_is (or_map_state whole) (group_state old.group) made.0),
       ),
     );
+    waits = inr (ap (map or_map_state) group);
     hash = ap (λ l. l.0.0.0) live;
   }

@@ -17,14 +17,16 @@ use Rattle.op_model.specs.State.{Same}
 use Rattle.replica_model.proofs.States.{same_is}
 use Rattle.replica_model.specs.Replica.{makes}
 use Rattle.replica_model.specs.Step.{Do, Put, Made, Counted, Refuses, Removes}
-use Rattle.replica_core.specs.Meaning.{ReplicaValue, hash_in, meaning}
+use Rattle.replica_alone.specs.Waiting.{Erases, Queues}
+use Rattle.replica_core.specs.Meaning.{ReplicaValue, hash_in, meaning, waiting_in}
 use Rattle.dots.specs.declared.refusal.Refusal.{Refusal}
 use Rattle.dots.specs.declared.refusal.Refusal.TheVariants.{NumbersSpent, OutOfMemory}
 use Rattle.replica_core.specs.Stepping.{Foretells, Steps, IsRefused}
 
 -- An own operation at what the replica holds: its name and its pair are told as the operation was told of them.
 module _ {Hash : Type 0} (hash_of : Hash → List ℕ → ℕ) (old new : ReplicaValue Hash) (delta : OrMapValue)
-    (made : meaning new ≡ makes (meaning old) (or_map_state delta)) (hash : hash_in new ≡ hash_in old)
+    (made : meaning new ≡ makes (meaning old) (or_map_state delta)) (queues : Queues (waiting_in old) (or_map_state delta) (waiting_in new))
+    (hash : hash_in new ≡ hash_in old)
     (pair : PairValue Hash FieldsValue) (here : pair ≡ old.live.0) where
   pub put_stepped : (name : ℕ) → name ≡ old.name → (place : Place) (value : List ℕ) (dot : Dot) (w : Write) → IsPutAt (live_state pair) name place value w
       → Same (or_map_state delta) (state (Wrote w ∷ []))
@@ -38,8 +40,21 @@ module _ {Hash : Type 0} (hash_of : Hash → List ℕ → ℕ) (old new : Replic
       ap Made is,
       refl,
     );
+    waits =
+        let put_here : IsPutAt (live_state old.live.0) old.name place value w =
+        subst (λ n. IsPutAt (live_state old.live.0) n place value w) named (subst (λ p. IsPutAt (live_state p) name place value w) here put) in
+        (or_map_state delta, (w, put_here, same_is (or_map_state delta) (state (Wrote w ∷ [])) same), queues);
     hash = hash;
   }
+
+  -- the delta of a removal waits
+  pub erased : (P : MapState → Dot → Type 0) (over : List Dot) → ((dot : Dot) → IsTrue (has over dot) ↔ P (live_state pair) dot)
+      → Same (or_map_state delta) (state (erasure over))
+      → (d : MapState) × Erases (P (live_state old.live.0)) d × Queues (waiting_in old) d (waiting_in new)
+  erased P over just same =
+      let observed : (dot : Dot) → IsTrue (has over dot) ↔ P (live_state old.live.0) dot =
+      subst (λ p. (dot : Dot) → IsTrue (has over dot) ↔ P (live_state p) dot) here just in
+      (or_map_state delta, (over, observed, same_is (or_map_state delta) (state (erasure over)) same), queues)
 
   -- what a removal observed is taken away, and counted
   pub removed : (P : MapState → Dot → Type 0) (over : List Dot) (n : ℕ) → ((dot : Dot) → IsTrue (has over dot) ↔ P (live_state pair) dot)

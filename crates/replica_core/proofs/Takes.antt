@@ -13,7 +13,7 @@ use Rattle.replica_model.specs.Delivery as model
 use Rattle.replica_model.specs.Delivery.{turn}
 use Rattle.replica_model.specs.Mail.{Mail, mail_of}
 use Rattle.replica_model.specs.Step.{Take, Came}
-use Rattle.replica_core.specs.Meaning.{ReplicaValue, hash_in, meaning}
+use Rattle.replica_core.specs.Meaning.{ReplicaValue, hash_in, meaning, waiting_in}
 use Rattle.replica_core.specs.Own.{IsOwn, IsReplica, KnowsBuilt}
 use Rattle.replica_core.specs.Stepping.{Steps}
 use Rattle.replica_core.specs.Tied.{IsFirstAt, NoneIs}
@@ -43,10 +43,10 @@ module _ {Hash : Type 0} (hash_of : Hash → List ℕ → ℕ) (old : ReplicaVal
 
     pub opening_stepped : IsMapOf old.live.0.0.1 (live_state old.live.0) → (new : ReplicaValue Hash) (o : model.Outcome) (out : List Mail)
         → turned (meaning old) (asker_state next) step ≡ turn (meaning new) o out
-        → hash_in new ≡ hash_in old → Steps hash_of old new (Take (mail_of message)) (Came o) out
-    opening_stepped mapped new o out came hash =
+        → waiting_in new ≡ waiting_in old → hash_in new ≡ hash_in old → Steps hash_of old new (Take (mail_of message)) (Came o) out
+    opening_stepped mapped new o out came waiting hash =
         subst (λ m. Steps hash_of old new (Take (mail_of m)) (Came o) out) (sym said)
-        (opening_came hash_of old mapped new s place a first own_at.asker own_at.is_open (outcome (asker_state next) step) o out came hash context root
+        (opening_came hash_of old mapped new s place a first own_at.asker own_at.is_open (outcome (asker_state next) step) o out came waiting hash context root
         (opening_is ∙ ap (λ h. opening_at (hash_of h) a.session (stage_with a.own a.seen a.stage) context root) own_at.hash_is))
 
   -- a page, or that the session is not kept
@@ -73,17 +73,17 @@ module _ {Hash : Type 0} (hash_of : Hash → List ℕ → ℕ) (old : ReplicaVal
 
     pub page_stepped : IsMapOf old.live.0.0.1 (live_state old.live.0) → (new : ReplicaValue Hash) (o : model.Outcome) (out : List Mail)
         → turned (meaning old) (asker_state next) step ≡ turn (meaning new) o out
-        → hash_in new ≡ hash_in old → Steps hash_of old new (Take (mail_of message)) (Came o) out
-    page_stepped mapped new o out came hash = either said
+        → waiting_in new ≡ waiting_in old → hash_in new ≡ hash_in old → Steps hash_of old new (Take (mail_of message)) (Came o) out
+    page_stepped mapped new o out came waiting hash = either said
       where
         either : ((sent : SentValue) × (message ≡ Page s sent)) ⊎ (message ≡ Gone s) → Steps hash_of old new (Take (mail_of message)) (Came o) out
         either (inl (sent, e)) =
             subst (λ m. Steps hash_of old new (Take (mail_of m)) (Came o) out) (sym e)
-            (page_came hash_of old mapped new s place a first own_at.asker own_at.is_open (outcome (asker_state next) step) o out came hash sent
+            (page_came hash_of old mapped new s place a first own_at.asker own_at.is_open (outcome (asker_state next) step) o out came waiting hash sent
             (page_is sent e ∙ ap (λ h. page_at_stage (hash_of h) a.session (stage_with a.own a.seen a.stage) sent) own_at.hash_is))
         either (inr e) =
             subst (λ m. Steps hash_of old new (Take (mail_of m)) (Came o) out) (sym e)
-            (gone_came hash_of old mapped new s place a first own_at.asker own_at.is_open (outcome (asker_state next) step) o out came hash (gone_is e))
+            (gone_came hash_of old mapped new s place a first own_at.asker own_at.is_open (outcome (asker_state next) step) o out came waiting hash (gone_is e))
 
   -- any of these
   module _ (told : outcome (asker_state next) step ≡ answered (hash_of a.hash) (asker_state a) message) where
@@ -104,7 +104,7 @@ module _ {Hash : Type 0} (hash_of : Hash → List ℕ → ℕ) (old : ReplicaVal
 
     pub answer_stepped : IsAnswer s message → IsMapOf old.live.0.0.1 (live_state old.live.0) → (new : ReplicaValue Hash) (o : model.Outcome) (out : List Mail)
         → turned (meaning old) (asker_state next) step ≡ turn (meaning new) o out
-        → hash_in new ≡ hash_in old → Steps hash_of old new (Take (mail_of message)) (Came o) out
+        → waiting_in new ≡ waiting_in old → hash_in new ≡ hash_in old → Steps hash_of old new (Take (mail_of message)) (Came o) out
     answer_stepped (inl (inl (context, root, e))) = opening_stepped context root e (as_opening context root e)
     answer_stepped (inl (inr (sent, e))) = page_stepped (inl (sent, e)) (as_page sent e)
     answer_stepped (inr e) = page_stepped (inr e) (as_gone e)

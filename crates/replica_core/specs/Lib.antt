@@ -13,3 +13,4 @@ pub mod Tied
 pub mod Showing
 pub mod Carrying
 pub mod Bringing
+pub mod Cutting

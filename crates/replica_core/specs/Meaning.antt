@@ -4,10 +4,11 @@ use Rattle.std.specs.Coded.{Coded, code_by, coded×, coded_list, coded_ℕ}
 use Rattle.causal_context.specs.Code.{context_code}
 use Rattle.causal_context.specs.Context.{has}
 use Rattle.causal_join.specs.Code.{fields_code}
-use Rattle.causal_join.specs.OrMap.{FieldsValue, OrMapValue}
+use Rattle.causal_join.specs.OrMap.{FieldsValue, OrMapValue, or_map_state}
 use Rattle.delta_ops.specs.Group.{group_state}
 use Rattle.delta_ops.specs.LiveMap.{live_state}
 use Rattle.live_map.specs.Live.{LiveValue, live_code}
+use Rattle.op_model.specs.Meaning.{MapState}
 use Rattle.page_fetching.specs.Taking.{fetch_of}
 use Rattle.wire_form.specs.Session.{SessionValue}
 use Rattle.sync_protocol.specs.Asking.{AskerValue, StageValue, Asked, Fetching, Complete, Over, asker_code}
@@ -66,3 +67,7 @@ module _ {Hash : Type 0} where
     sessions = map open_of r.sessions;
     kept = map kept_of r.kept;
   }
+
+  -- the deltas that wait to be sent, the oldest first
+  abbrev pub waiting_in : ReplicaValue Hash → List MapState
+  waiting_in r = map or_map_state r.group

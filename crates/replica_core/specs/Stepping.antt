@@ -7,7 +7,8 @@ use Rattle.wire_form.specs.Message.{MessageValue, message_of}
 use Rattle.replica_model.specs.Mail.{Mail, mail_of}
 use Rattle.replica_model.specs.Replica.{Replica}
 use Rattle.replica_model.specs.Step.{Act, Call, Answer, IsStep, Refuses}
-use Rattle.replica_core.specs.Meaning.{ReplicaValue, hash_in, meaning}
+use Rattle.replica_alone.specs.Waiting.{Waits}
+use Rattle.replica_core.specs.Meaning.{ReplicaValue, hash_in, meaning, waiting_in}
 
 -- the messages, by what they mean
 abbrev pub mails_of : {A : Type 0} → List (Message A) → List Mail
@@ -31,14 +32,17 @@ Foretells old call None = RefusesNothing old call
 Foretells old call (Some refusal) = Refuses old call refusal
 
 module _ {Hash : Type 0} where
-  -- the act makes the second replica of the first, is answered this, and sends these; the hash of the keys' paths stays
+  -- the act makes the second replica of the first, is answered this, and sends these; its deltas wait as the act has them wait, and the hash of the
+  -- keys' paths stays
   pub record Steps (hash_of : Hash → List ℕ → ℕ) (old new : ReplicaValue Hash) (act : Act) (answer : Answer) (out : List Mail) : Type 0 where
     pub step : IsStep (hash_of (hash_in old)) (meaning old) act (meaning new) answer out
+    pub waits : Waits (meaning old) act (waiting_in old) (waiting_in new)
     pub hash : hash_in new ≡ hash_in old
 
   -- nothing changed
   pub record Stays (old new : ReplicaValue Hash) : Type 0 where
     pub same : meaning new ≡ meaning old
+    pub waiting : waiting_in new ≡ waiting_in old
     pub hash : hash_in new ≡ hash_in old
 
   -- a call is refused as the model refuses it, and for want of memory only where that does not

@@ -10,7 +10,7 @@ ghost use Rattle.replica_model.specs.Replica as model;
 ghost use Rattle.replica_model.specs.Replica.{opens};
 ghost use Rattle.replica_model.specs.Step.{Do, Ask, Retry, Abandon, Came, Closed, Numbered};
 ghost use Rattle.sync_protocol.specs.Asking.{Asked};
-ghost use Rattle.replica_core.specs.Meaning.{hash_in, meaning};
+ghost use Rattle.replica_core.specs.Meaning.{hash_in, meaning, waiting_in};
 ghost use Rattle.replica_core.specs.Answered.{outcome_of};
 ghost use Rattle.replica_core.specs.Stepping.{Foretells, Steps, Stays, IsRefused, mails_of};
 
@@ -137,6 +137,7 @@ impl<H: PathHash, A: Allocator + Copy> Replica<H, A> {
         ensures unposted { OnErr result (outbox.new ≡ outbox.old) }
         ensures map { OnOk result (IsMapOf self.old.live.0.0.1 (meaning self.old).live) }
         ensures hash { hash_in self.new ≡ hash_in self.old }
+        ensures waiting { waiting_in self.new ≡ waiting_in self.old }
         ensures refused { IsOkUnless result Refusal.OutOfMemory }
         ensures unchanged { OnErr result (meaning self.new ≡ meaning self.old) }
     {

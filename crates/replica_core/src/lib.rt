@@ -7,6 +7,7 @@ mod bringing;
 mod call;
 mod carrying;
 mod checkpoint;
+mod cutting;
 mod delivered;
 mod delivering;
 mod guarding;

@@ -1,5 +1,5 @@
 // The own operations of a replica, and what it is to send of them.
-ghost use Rattle.std.specs.Prelude.{◌≡◌, ◌<◌, ◌+◌, ◌-◌, ◌*◌, ◌^◌, ◌↔◌, min, ℕ, List, true, [], IsTrue, IfOk, IfErr, OnOk, OnErr, IsOkUnless};
+ghost use Rattle.std.specs.Prelude.{◌≡◌, ◌<◌, ◌+◌, ◌-◌, ◌*◌, ◌^◌, ◌↔◌, min, ℕ, List, map, true, [], IsTrue, IfOk, IfErr, OnOk, OnErr, IsOkUnless};
 ghost use Rattle.causal_join.specs.OrMap.{or_map_state};
 ghost use Rattle.delta_ops.specs.Group.{group_state};
 ghost use Rattle.delta_ops.specs.LiveMap.{live_state};
@@ -8,7 +8,8 @@ ghost use Rattle.op_model.specs.Place.{Place, place_of, plain};
 ghost use Rattle.op_model.specs.State.{join};
 ghost use Rattle.replica_model.specs.Replica.{makes};
 ghost use Rattle.replica_model.specs.Step.{Do, Put, Remove, RemoveField, Clear, Flush, Made, Counted, Nothing, KnowsNone};
-ghost use Rattle.replica_core.specs.Meaning.{hash_in, meaning};
+ghost use Rattle.replica_alone.specs.Waiting.{Queues};
+ghost use Rattle.replica_core.specs.Meaning.{hash_in, meaning, waiting_in};
 ghost use Rattle.sync_protocol.specs.Posting.{IsPosted};
 ghost use Rattle.replica_core.specs.Stepping.{Foretells, Steps, Stays, IsRefused, mail_or_none, message_or_none};
 
@@ -171,9 +172,11 @@ impl<H: PathHash, A: Allocator + Copy> Replica<H, A> {
     // that found nothing, changes nothing and costs nothing.
     fn make(&mut self, delta: OrMap<A>) -> Result<(), Refusal>
         ensures ok { OnOk result (meaning self.new ≡ makes (meaning self.old) (or_map_state delta)) }
+        ensures waits { OnOk result (Queues (waiting_in self.old) (or_map_state delta) (waiting_in self.new)) }
         ensures hash { hash_in self.new ≡ hash_in self.old }
         ensures refused { IsOkUnless result Refusal.OutOfMemory }
         ensures unchanged { OnErr result (meaning self.new ≡ meaning self.old) }
+        ensures waiting { OnErr result (waiting_in self.new ≡ waiting_in self.old) }
     {
         if delta.context().is_empty() {
             drop(delta);
@@ -183,7 +186,8 @@ impl<H: PathHash, A: Allocator + Copy> Replica<H, A> {
     }
 }
 
-// Joins the delta into both. It comes into the group first, and is taken back where the live pair refuses it: that is never refused.
+// Joins the delta into both. It comes into the group first, and is taken back where the live pair refuses it: that is never refused. Where
+// memory is short to join what waits, that waits as it is, and the next write tries again.
 fn make_in<H: PathHash, A: Allocator + Copy>(
     alloc: A,
     live: &mut LiveOrMap<ShaSummary, H, A>,
@@ -193,15 +197,11 @@ fn make_in<H: PathHash, A: Allocator + Copy>(
     ensures hash { live.new.0.0.0 ≡ live.old.0.0.0 }
     ensures live { OnOk result (live_state live.new.0 ≡ join greater (live_state live.old.0) (or_map_state delta)) }
     ensures group { OnOk result (group_state group.new ≡ join greater (group_state group.old) (or_map_state delta)) }
+    ensures waits { OnOk result (Queues (map or_map_state group.old) (or_map_state delta) (map or_map_state group.new)) }
     ensures kept { OnErr result (live.new.0 ≡ live.old.0) }
-    ensures grouped { OnErr result (group_state group.new ≡ group_state group.old) }
+    ensures grouped { OnErr result (group.new ≡ group.old) }
     ensures refused { IsOkUnless result Refusal.OutOfMemory }
 {
-    let most = most_deltas(live.store().size());
-    if let Err(refusal) = group.settle(alloc, most) {
-        drop(delta);
-        return Err(refusal);
-    }
     group.push(alloc, delta)?;
     let Some(newest) = group.newest() else {
         unreachable!();
@@ -210,6 +210,8 @@ fn make_in<H: PathHash, A: Allocator + Copy>(
         group.take_back();
         return Err(refusal);
     }
+    let most = most_deltas(live.store().size());
+    let _ = group.settle(alloc, most);
     Ok(())
 }
 

@@ -1,8 +1,8 @@
-ghost use Rattle.std.specs.Prelude.{◌≡◌, IfOk, IsOkUnless};
+ghost use Rattle.std.specs.Prelude.{◌≡◌, [], IfOk, IsOkUnless};
 ghost use Rattle.std.specs.FinMap as finite;
 ghost use Rattle.causal_context.specs.Context.{has};
 ghost use Rattle.replica_model.specs.Replica.{fresh};
-ghost use Rattle.replica_core.specs.Meaning.{hash_in, meaning};
+ghost use Rattle.replica_core.specs.Meaning.{hash_in, meaning, waiting_in};
 
 use crate::sessions::copy_sessions;
 use causal_context::Context;
@@ -58,6 +58,7 @@ impl<H: PathHash, A: Allocator + Copy> Replica<H, A> {
     /// are to use one. Its memory is taken from `alloc`. Takes none by itself.
     pub fn new(alloc: A, name: Name, hash: H) -> Replica<H, A>
         ensures fresh { meaning result ≡ fresh name }
+        ensures waiting { waiting_in result ≡ [] }
         ensures hash { hash_in result ≡ hash }
     {
         Replica {
@@ -77,6 +78,7 @@ impl<H: PathHash, A: Allocator + Copy> Replica<H, A> {
     /// Its only refusal is OutOfMemory.
     pub fn copy(&self) -> Result<Replica<H, A>, Refusal>
         ensures ok { IfOk result (λ copy. meaning copy ≡ meaning self.now) }
+        ensures waiting { IfOk result (λ copy. waiting_in copy ≡ waiting_in self.now) }
         ensures hash { IfOk result (λ copy. hash_in copy ≡ hash_in self.now) }
         ensures err { IsOkUnless result Refusal.OutOfMemory }
     {

@@ -1,9 +1,9 @@
 // What is saved of a replica, and how one comes back from it.
-ghost use Rattle.std.specs.Prelude.{◌≡◌, IfOk, OnOk, IsOkUnless};
+ghost use Rattle.std.specs.Prelude.{◌≡◌, ◌∷◌, [], IfOk, OnOk, IsOkUnless};
 ghost use Rattle.causal_join.specs.OrMap.{or_map_state};
 ghost use Rattle.delta_ops.specs.LiveMap.{live_state};
 ghost use Rattle.replica_model.specs.Replica.{fresh, restarts};
-ghost use Rattle.replica_core.specs.Meaning.{hash_in, meaning};
+ghost use Rattle.replica_core.specs.Meaning.{hash_in, meaning, waiting_in};
 ghost use Rattle.replica_core.specs.Saving.{checkpointed, restored};
 
 use crate::checkpoint::Checkpoint;
@@ -61,6 +61,7 @@ impl<H: PathHash, A: Allocator + Copy> Replica<H, A> {
     /// Its only refusal is OutOfMemory. Takes time and memory in what was saved, times the logarithm of the map.
     pub fn resume(alloc: A, hash: H, saved: Saved<A>) -> Result<Replica<H, A>, Refusal>
         ensures ok { IfOk result (λ replica. meaning replica ≡ restored saved) }
+        ensures waiting { IfOk result (λ replica. waiting_in replica ≡ or_map_state saved.group ∷ []) }
         ensures hash { IfOk result (λ replica. hash_in replica ≡ hash) }
         ensures err { IsOkUnless result Refusal.OutOfMemory }
     {
@@ -104,6 +105,7 @@ impl<H: PathHash, A: Allocator + Copy> Replica<H, A> {
         saved: Saved<A>,
     ) -> Result<Replica<H, A>, Refusal>
         ensures ok { IfOk result (λ replica. meaning replica ≡ record (fresh name) { live = or_map_state saved.live }) }
+        ensures waiting { IfOk result (λ replica. waiting_in replica ≡ []) }
         ensures hash { IfOk result (λ replica. hash_in replica ≡ hash) }
         ensures err { IsOkUnless result Refusal.OutOfMemory }
     {

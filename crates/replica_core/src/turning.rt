@@ -19,7 +19,7 @@ ghost use Rattle.replica_model.specs.Mail.{mail_of};
 ghost use Rattle.replica_model.specs.Replica.{advances, closes, joins};
 ghost use Rattle.replica_model.specs.Step.{Take, Came};
 ghost use Rattle.replica_core.specs.Answered.{outcome_of};
-ghost use Rattle.replica_core.specs.Meaning.{hash_in, meaning, open_of};
+ghost use Rattle.replica_core.specs.Meaning.{hash_in, meaning, open_of, waiting_in};
 ghost use Rattle.replica_core.specs.Own.{IsOwn, IsReplica};
 ghost use Rattle.replica_core.specs.Stepping.{Steps, Stays, mails_of};
 ghost use Rattle.replica_core.specs.Turned.{turned};
@@ -72,6 +72,7 @@ impl<H: PathHash, A: Allocator + Copy> Replica<H, A> {
         ensures posted { IfOk result (λ told. IsPosted O.gains outbox.old outbox.new (map message_of told.replies.items)) }
         ensures unposted { OnErr result (outbox.new ≡ outbox.old) }
         ensures hash { hash_in self.new ≡ hash_in self.old }
+        ensures waiting { waiting_in self.new ≡ waiting_in self.old }
         ensures refused { IsOkUnless result Refusal.OutOfMemory }
         ensures unchanged { OnErr result (meaning self.new ≡ meaning self.old) }
     {
@@ -101,6 +102,7 @@ impl<H: PathHash, A: Allocator + Copy> Replica<H, A> {
         ensures posted { IfOk result (λ told. O.gains outbox.old outbox.new (map message_of told.replies.items)) }
         ensures unposted { OnErr result (outbox.new ≡ outbox.old) }
         ensures hash { hash_in self.new ≡ hash_in self.old }
+        ensures waiting { waiting_in self.new ≡ waiting_in self.old }
         ensures refused { IsOkUnless result Refusal.OutOfMemory }
         ensures unchanged { OnErr result (meaning self.new ≡ meaning self.old) }
     {
@@ -120,6 +122,7 @@ impl<H: PathHash, A: Allocator + Copy> Replica<H, A> {
         requires { (a : AskerValue H) × (slice_get self.old.sessions place ≡ Some a) × (next.session ≡ a.session) × IsFrom a next × IsGoingOn H.hash_of a next }
         ensures step { meaning self.new ≡ advances (meaning self.old) (open_of next) }
         ensures hash { hash_in self.new ≡ hash_in self.old }
+        ensures waiting { waiting_in self.new ≡ waiting_in self.old }
     {
         replace(&mut self.sessions, place, next);
     }
@@ -129,6 +132,7 @@ impl<H: PathHash, A: Allocator + Copy> Replica<H, A> {
         requires { (a : AskerValue H) × (slice_get self.old.sessions place ≡ Some a) }
         ensures step { (a : AskerValue H) → slice_get self.old.sessions place ≡ Some a → meaning self.new ≡ closes (meaning self.old) a.session }
         ensures hash { hash_in self.new ≡ hash_in self.old }
+        ensures waiting { waiting_in self.new ≡ waiting_in self.old }
     {
         drop(self.sessions.remove(place));
     }
@@ -139,6 +143,7 @@ impl<H: PathHash, A: Allocator + Copy> Replica<H, A> {
         ensures ok { IfOk result (λ told. turned (meaning self.old) (asker_state next) turning.Done ≡ model.turn (meaning self.new) (outcome_of told.outcome) (mails_of told.replies.items)) }
         ensures silent { IfOk result (λ told. told.replies.items ≡ []) }
         ensures hash { hash_in self.new ≡ hash_in self.old }
+        ensures waiting { waiting_in self.new ≡ waiting_in self.old }
         ensures refused { IsOkUnless result Refusal.OutOfMemory }
         ensures unchanged { OnErr result (meaning self.new ≡ meaning self.old) }
     {
@@ -163,6 +168,7 @@ impl<H: PathHash, A: Allocator + Copy> Replica<H, A> {
         ensures ok { OnOk result ((c : ContextValue) → (b : BuiltValue H) → next.stage ≡ Complete c b → meaning self.new ≡ joins (meaning self.old) (closing.held_state b.entries (has c))) }
         ensures sessions { self.new.sessions ≡ self.old.sessions }
         ensures hash { hash_in self.new ≡ hash_in self.old }
+        ensures waiting { waiting_in self.new ≡ waiting_in self.old }
         ensures refused { IsOkUnless result Refusal.OutOfMemory }
         ensures unchanged { OnErr result (meaning self.new ≡ meaning self.old) }
     {
@@ -184,6 +190,7 @@ impl<H: PathHash, A: Allocator + Copy> Replica<H, A> {
         ensures ok { OnOk result (meaning self.new ≡ joins (meaning self.old) (closing.held_state opened.now.built.entries (has opened.now.context))) }
         ensures sessions { self.new.sessions ≡ self.old.sessions }
         ensures hash { hash_in self.new ≡ hash_in self.old }
+        ensures waiting { waiting_in self.new ≡ waiting_in self.old }
         ensures refused { IsOkUnless result Refusal.OutOfMemory }
         ensures unchanged { OnErr result (meaning self.new ≡ meaning self.old) }
     {

@@ -99,9 +99,9 @@ notes_same replicas old new saves back n = (saves n, inl (back n))
 -- a restart
 module _ {Hash : Type 0} (hash : Hash) (old new : BTreeMap ℕ (ReplicaValue Hash)) (messages : List (List ℕ)) (name : ℕ) where
   pub restart_made : (hash_of : Hash → List ℕ → ℕ) → Restarts hash old new name → Makes hash_of hash old messages (At name Restart) Nothing new messages
-  restart_made hash_of (before, after, replaces, is, hashed) w keeps =
+  restart_made hash_of (before, after, replaces, is, few, hashed) w keeps =
       call_keeps hash old new messages messages w keeps hash_of name before after replaces Restart Nothing refl
-      ([], record { step = (is, refl, refl); hash = hashed ∙ sym (keeps.hashed name before replaces.was) }, inr (refl, refl))
+      ([], record { step = (is, refl, refl); waits = few; hash = hashed ∙ sym (keeps.hashed name before replaces.was) }, inr (refl, refl))
 
   pub restart_refused : (refusal : Refusal) → ((refusal ≡ UnknownReplica) × (get nat_cmp old name ≡ None))
       ⊎ ((refusal ≡ OutOfMemory) × IsSome (get nat_cmp old name))

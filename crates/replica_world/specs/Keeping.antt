@@ -1,11 +1,11 @@
 -- How a world keeps what its events make: its replicas and the bytes of its messages are those of the model. Of this project.
-use Rattle.std.specs.Prelude.{◌≡◌, ℕ, false, List, map, Option, Some, is_some}
+use Rattle.std.specs.Prelude.{◌≡◌, ◌≤◌, ℕ, false, List, length, map, Option, Some, is_some}
 use Rattle.std.specs.BTreeMap.{BTreeMap, get}
 use Rattle.std.specs.Ordering.{nat_cmp}
 use Rattle.dots.specs.declared.refusal.Refusal.{Refusal}
 use Rattle.wire_form.specs.Message.{MessageValue}
 use Rattle.sync_protocol.specs.Posting.{IsPosted}
-use Rattle.replica_core.specs.Meaning.{ReplicaValue, hash_in, meaning}
+use Rattle.replica_core.specs.Meaning.{ReplicaValue, hash_in, meaning, waiting_in}
 use Rattle.replica_core.specs.Stepping.{Steps}
 use Rattle.replica_model.specs.Mail.{Mail, mail_of}
 use Rattle.replica_model.specs.Replica.{fresh, restarts}
@@ -71,4 +71,5 @@ TakesMail hash_of old new mail answer messages more =
 -- the replica of this name came back from what it was
 abbrev pub Restarts : {Hash : Type 0} → Hash → BTreeMap ℕ (ReplicaValue Hash) → BTreeMap ℕ (ReplicaValue Hash) → ℕ → Type 0
 Restarts {Hash} hash old new name =
-    (before after : ReplicaValue Hash) × Replaces old new name before after × (meaning after ≡ restarts (meaning before)) × (hash_in after ≡ hash)
+    (before after : ReplicaValue Hash) × Replaces old new name before after × (meaning after ≡ restarts (meaning before)) × (length (waiting_in after) ≤ 1)
+    × (hash_in after ≡ hash)

@@ -1,8 +1,8 @@
 // What a world keeps of its replicas, and how one comes back from it.
-ghost use Rattle.std.specs.Prelude.{◌≡◌, ◌⊎◌, ◌+◌, ℕ, true, false, Option, Some, None, IfOk, IfErr, OnOk, OnErr, IsSome, IsOkUnless};
+ghost use Rattle.std.specs.Prelude.{◌≡◌, ◌⊎◌, ◌≤◌, ◌+◌, ℕ, length, true, false, Option, Some, None, IfOk, IfErr, OnOk, OnErr, IsSome, IsOkUnless};
 ghost use Rattle.std.specs.BTreeMap.{get};
 ghost use Rattle.std.specs.Ordering.{nat_cmp};
-ghost use Rattle.replica_core.specs.Meaning.{ReplicaValue, hash_in, meaning};
+ghost use Rattle.replica_core.specs.Meaning.{ReplicaValue, hash_in, meaning, waiting_in};
 ghost use Rattle.replica_core.specs.Saving.{checkpointed};
 ghost use Rattle.replica_core.specs.Stepping.{Stays};
 ghost use Rattle.replica_model.specs.Replica.{restarts};
@@ -165,6 +165,7 @@ fn resumed<H: PathHash, A: Allocator + Copy>(
     checkpoint: &Checkpoint<H, A>,
 ) -> Result<Replica<H, A>, Refusal>
     ensures ok { IfOk result (λ back. meaning back ≡ checkpointed checkpoint.now) }
+    ensures waiting { IfOk result (λ back. length (waiting_in back) ≤ 1) }
     ensures hash { IfOk result (λ back. hash_in back ≡ hash) }
     ensures refused { IsOkUnless result Refusal.OutOfMemory }
 {
@@ -217,7 +218,7 @@ fn restart<H: PathHash, A: Allocator + Copy>(
     hash: H,
     replica: &mut Replica<H, A>,
 ) -> Result<Answer, Refusal>
-    ensures ok { IfOk result (λ answer. (answer ≡ Answer.Nothing) × (meaning replica.new ≡ restarts (meaning replica.old)) × (hash_in replica.new ≡ hash)) }
+    ensures ok { IfOk result (λ answer. (answer ≡ Answer.Nothing) × (meaning replica.new ≡ restarts (meaning replica.old)) × (length (waiting_in replica.new) ≤ 1) × (hash_in replica.new ≡ hash)) }
     ensures refused { IsOkUnless result Refusal.OutOfMemory }
     ensures unchanged { OnErr result (Stays replica.old replica.new) }
 {

@@ -17,6 +17,7 @@ returns-in-Some-clause-ok g c =
         replaces_from c.args.replicas.now (c.get_mut.follows.lender c.restart.new.replica) c.args.name _ _ was updates,
         told.1,
         told.2,
+        told.3,
       ),
     ))
     c.restart.ensures.ok

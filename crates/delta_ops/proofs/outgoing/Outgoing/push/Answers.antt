@@ -1,11 +1,10 @@
 use Rattle.std.proofs.Common.{◌++◌, ◌∷◌, [], ap, ◌∙◌}
 use Rattle.delta_ops.specs.Log.{deltas_of}
-use Rattle.delta_ops.proofs.Groups.{log-pushed, pushed_log}
+use Rattle.delta_ops.proofs.Groups.{log-pushed}
 use Rattle.delta_ops.proofs.outgoing.Outgoing.push.Goals as goal
 
 pub returns-clause-pushed : goal.returns-clause-pushed
 returns-clause-pushed g c =
-    pushed_log c.args.self.now (deltas_of c.push.new.self.items) c.args.delta
-    (log-pushed c.self.inside.deltas.items c.push.new.self.items c.in_ok-delta.delta c.in_ok-push.ensures.items
+    log-pushed c.self.inside.deltas.items c.push.new.self.items c.in_ok-delta.delta c.in_ok-push.ensures.items
     ∙ ap (λ pairs. pairs ++ c.in_ok-delta.delta.value ∷ []) c.self.view_is
-    ∙ ap (λ pair. c.args.self.now ++ pair ∷ []) c.in_ok-delta.ensures.ok)
+    ∙ ap (λ pair. c.args.self.now ++ pair ∷ []) c.in_ok-delta.ensures.ok

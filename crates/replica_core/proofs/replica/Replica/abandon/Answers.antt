@@ -25,4 +25,4 @@ returns g c =
     let first = subst (λ (r : ReplicaValue _). IsFirstAt (λ (b : AskerValue _). b.session.number == c.args.number) r.sessions c.in-Some.place found.0)
     c.self.view_is found.1 in
     abandon_found g.H.PathHash.hash_of c.args.self.now c.args.number c.in-Some.place found.0 first c.end.new.self (c.end.ensures.step found.0 first.0)
-    c.end.ensures.hash
+    c.end.ensures.waiting c.end.ensures.hash

@@ -20,7 +20,7 @@ returns-in-Ok-clause-ok g c =
     let same = ap (λ (r : ReplicaValue _). length r.sessions) c.self.view_is in
     rw c.number.ensures.value (asked_stepped g.H.PathHash.hash_of c.args.self.now c.open.new.self c.args.peer c.in-Some.session c.in-Some.ensures.next _
     c.in-Some.ensures.left
-    (omega (arith, few, count, items, same)) c.in-Ok.ensures.map c.in-Ok.ensures.ok c.in-Ok.ensures.hello c.in-Ok.ensures.hash)
+    (omega (arith, few, count, items, same)) c.in-Ok.ensures.map c.in-Ok.ensures.ok c.in-Ok.ensures.hello c.in-Ok.ensures.waiting c.in-Ok.ensures.hash)
 
 pub returns-in-Err-clause-refused : goal.returns-in-Err-clause-refused
 returns-in-Err-clause-refused g c =

@@ -1,4 +1,5 @@
 use Rattle.std.proofs.Common.{◌≡◌, ◌∙◌, map, refl, ap}
+use Rattle.causal_join.specs.OrMap.{or_map_state}
 use Rattle.delta_ops.specs.Group.{group_state}
 use Rattle.delta_ops.specs.LiveMap.{live_state}
 use Rattle.replica_core.specs.Meaning.{open_of, kept_of, meaning}
@@ -28,3 +29,6 @@ pub returns-clause-hash : goal.returns-clause-hash
 returns-clause-hash g c =
     let live : c.in_ok-live.live.0 ≡ c.self.inside.live.0 = c.in_ok-live.ensures.ok in
     rw (← c.self.view_is) (ap (λ pair. pair.0.0) live)
+
+pub returns-clause-waiting : goal.returns-clause-waiting
+returns-clause-waiting g c = rw (← c.self.view_is) (ap (map or_map_state) c.in_ok-group.ensures.ok)

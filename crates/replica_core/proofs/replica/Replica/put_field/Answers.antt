@@ -25,7 +25,7 @@ returns-in-Err-clause-refused g c =
 pub returns-in-Ok-make-clause-ok : goal.returns-in-Ok-make-clause-ok
 returns-in-Ok-make-clause-ok g c =
     let put = c.in-Ok.ensures.ok in
-    put_stepped g.H.PathHash.hash_of c.args.self.now c.make.new.self c.in-Ok.made.0 c.in-Ok-make.ensures.ok c.make.ensures.hash c.self.inside.live.0
+    put_stepped g.H.PathHash.hash_of c.args.self.now c.make.new.self c.in-Ok.made.0 c.in-Ok-make.ensures.ok c.in-Ok-make.ensures.waits c.make.ensures.hash c.self.inside.live.0
     (ap (λ (r : ReplicaValue _). r.live.0) c.self.view_is) c.self.inside.name (ap (λ (r : ReplicaValue _). r.name) c.self.view_is)
     (place_of c.args.key.now c.args.field.now) c.args.value.now c.in-Ok.made.1 put.0 put.1 put.2 put.3 c.has_number.ensures.bounded
 

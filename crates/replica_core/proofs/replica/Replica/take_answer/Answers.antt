@@ -68,7 +68,7 @@ returns-clause-ok g c =
     (step_of c.in_ok-turn.turn.step)
     (subst (λ (a : AskerValue _). IsFrom a c.in_ok-turn.turn.next) here c.in_ok-turn.ensures.from) (message_of c.args.message.now)
     (c.in_ok-turn.ensures.ok ∙ ap (λ (a : AskerValue _). answered (g.H.PathHash.hash_of a.hash) (asker_state a) (message_of c.args.message.now)) here)
-    c.requires map_is c.take_turn.new.self (outcome_of told.outcome) (mails_of told.replies.items) came c.take_turn.ensures.hash)
+    c.requires map_is c.take_turn.new.self (outcome_of told.outcome) (mails_of told.replies.items) came c.take_turn.ensures.waiting c.take_turn.ensures.hash)
     c.take_turn.ensures.ok
 
 pub returns-in_default-clause-posted : goal.returns-in_default-clause-posted

@@ -28,4 +28,4 @@ returns-clause-ok g c =
     (or_map_state c.args.delta.now)
     (meaning_by new (joins (meaning old) (or_map_state c.args.delta.now)) refl
     (live_joined c.join_delta.new.self.0 c.self.inside.live.0 c.args.delta.now c.in_ok-join_delta.ensures.ok) refl refl refl refl)
-    c.join_delta.ensures.hash)
+    refl c.join_delta.ensures.hash)

@@ -38,6 +38,7 @@ returns-in-Err-clause-unchanged g c =
     let stays : Stays old new = record {
       same = meaning_by new (meaning old) refl (ap (λ (l : LiveValue _ _). live_state l.0) c.seal.ensures.same) refl refl refl
           (ap (map kept_of) c.in-Err.ensures.unchanged);
+      waiting = refl;
       hash = ap (λ (l : LiveValue _ FieldsValue). l.0.0.0) c.seal.ensures.same;
     } in
     rw (← c.self.view_is) stays
@@ -69,7 +70,7 @@ returns-clause-ok g c =
     (ap (λ (m : TrieMapValue _ FieldsValue). m.1) c.store-2.ensures.value ∙ ap (λ (l : LiveValue _ FieldsValue). l.0.0.1) c.seal.ensures.same)
     (c.context.ensures.value ∙ ap (λ (l : LiveValue _ FieldsValue). l.0.1) c.seal.ensures.same)
     c.in-Ok.ensures.opening
-    (kept_meaning g.H.PathHash.hash_of old new refl live refl refl c.args.session k c.in-Ok.ensures.kept refl)
+    (kept_meaning g.H.PathHash.hash_of old new refl live refl refl c.args.session k c.in-Ok.ensures.kept refl) refl
     (ap (λ (l : LiveValue _ FieldsValue). l.0.0.0) c.seal.ensures.same)))
 
 pub returns-then-ne-clause-posted : goal.returns-then-ne-clause-posted
