@@ -4,7 +4,7 @@ mod common;
 
 use common::messages::*;
 use common::playing::{play, Event::*};
-use common::{replica, sent, take_all};
+use common::{replica, sent, shows, take_all};
 use ginelm::Outcome::Joined;
 
 /// Writes that did not know of each other are both kept; one that knew both takes their place. What
