@@ -1,6 +1,9 @@
 //! Keys to measure with.
 use std::collections::HashMap;
 
+/// How often each key is read: what a read costs is lost in what the writes before it cost, where it is read once.
+pub const READS: usize = 16;
+
 /// Numbers that look random, the same in each run.
 pub struct Random(u64);
 

@@ -65,6 +65,16 @@ struct Step {
     aim: Option<f64>,
 }
 
+impl Step {
+    /// How many calls it makes at each key.
+    fn each(&self) -> usize {
+        match self.step.0 {
+            3 => keys::READS,
+            _ => 1,
+        }
+    }
+}
+
 const STEPS: [Step; 9] = [
     Step {
         name: "put and flush",
@@ -168,15 +178,16 @@ fn calls(count: usize) -> Table {
         ["crdts", "BTreeMap", "im-rc"],
     );
     for step in &STEPS {
-        let (each, mallocs) = cost(&ours, step.step, step.before, count * runs);
+        let calls = count * runs * step.each();
+        let (each, mallocs) = cost(&ours, step.step, step.before, calls);
         let theirs = step
             .peer
-            .map(|(step, before)| cost(&peer, step, before, count * runs));
+            .map(|(step, before)| cost(&peer, step, before, calls));
         let plain = |run: fn(&[u64], u32)| {
             step.plain.map(|plain| {
                 let map = |step, _| often(&|| run(&keys, step));
                 let before = if plain == 0 { None } else { Some((0, 0)) };
-                cost(&map, (plain, 0), before, count * runs).0
+                cost(&map, (plain, 0), before, calls).0
             })
         };
         table.push(Row {

@@ -1,5 +1,5 @@
 //! The calls of a replica, by the crate of `rust/` over the C library: what a program in Rust holds.
-use crate::keys::bytes;
+use crate::keys::{bytes, READS};
 use ginelm::{Letter, Replica};
 use std::hint::black_box;
 use std::num::NonZeroU64;
@@ -114,7 +114,7 @@ pub fn operations(keys: &[u64], step: u32, times: u32) {
     match step {
         1 => put_each(&mut here, keys),
         2 => remove_each(&mut here, keys),
-        3 => get_each(&here, keys),
+        3 => (0..READS).for_each(|_| get_each(&here, keys)),
         _ => {}
     }
     drop(black_box((here, there)));

@@ -1,6 +1,6 @@
 //! The same work by what a user would pick instead: `Map` from keys to multi-value registers of the crate `crdts`, whose messages are
 //! its operations by bincode, and a map of std and of im-rc without any replication.
-use crate::keys::bytes;
+use crate::keys::{bytes, READS};
 use crdts::{CmRDT, CvRDT, MVReg, Map};
 use im_rc::ordmap::DiffItem;
 use std::collections::BTreeMap;
@@ -47,6 +47,13 @@ fn remove(map: &mut Plain, key: u64) {
     map.apply(op);
 }
 
+fn get_each(map: &Plain, keys: &[u64]) {
+    for key in keys {
+        let register = map.get(&bytes(*key)).val;
+        black_box(register.map(|register| register.read().val));
+    }
+}
+
 pub fn filled(keys: &[u64]) -> Plain {
     let mut map = Plain::new();
     keys.iter().for_each(|key| put(&mut map, 1, *key));
@@ -68,13 +75,7 @@ pub fn operations(keys: &[u64], step: u32, times: u32) {
     match step {
         1 => keys.iter().for_each(|key| put(&mut map, 1, *key)),
         2 => keys.iter().for_each(|key| remove(&mut map, *key)),
-        3 => keys.iter().for_each(|key| {
-            black_box(
-                map.get(&bytes(*key))
-                    .val
-                    .map(|register| register.read().val),
-            );
-        }),
+        3 => (0..READS).for_each(|_| get_each(&map, keys)),
         _ => {}
     }
     drop(black_box((map, other)));
@@ -117,8 +118,12 @@ pub fn std_map(keys: &[u64], step: u32) {
         match step {
             1 => drop(map.insert(bytes(*key), value())),
             2 => drop(map.remove(&bytes(*key))),
-            3 => drop(black_box(map.get(&bytes(*key)).cloned())),
             _ => {}
+        }
+    }
+    if step == 3 {
+        for key in (0..READS).flat_map(|_| keys) {
+            drop(black_box(map.get(&bytes(*key)).cloned()));
         }
     }
     drop(black_box(map));
@@ -133,8 +138,12 @@ pub fn shared_map(keys: &[u64], step: u32) {
         match step {
             1 => drop(map.insert(bytes(*key), value())),
             2 => drop(map.remove(&bytes(*key))),
-            3 => drop(black_box(map.get(&bytes(*key)).cloned())),
             _ => {}
+        }
+    }
+    if step == 3 {
+        for key in (0..READS).flat_map(|_| keys) {
+            drop(black_box(map.get(&bytes(*key)).cloned()));
         }
     }
     drop(black_box(map));
