@@ -69,7 +69,7 @@ class Module:
                     record = depth
         for number, (at, name) in enumerate(heads):
             end = heads[number + 1][0] if number + 1 < len(heads) else len(self.lines)
-            body = [line for line in self.lines[at:end] if line.strip() and not line.lstrip().startswith("--")]
+            body = [line.split("  -- ")[0] for line in self.lines[at:end] if line.strip() and not line.lstrip().startswith("--")]
             self.definitions.setdefault(name, body)
 
 

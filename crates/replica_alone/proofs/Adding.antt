@@ -20,7 +20,7 @@ use Rattle.replica_model.specs.Step.{Call, Put, Remove, RemoveField, Clear, Flus
 use Rattle.replica_model.specs.World.{World, Snapshot, nothing, changed, calls, takes}
 use Rattle.replica_model.proofs.Deciding.{came_one}
 use Rattle.replica_model.proofs.Found.{found_open, in_advanced, in_without, changed_here, changed_elsewhere}
-use Rattle.replica_model.proofs.Rows.{each_row}
+use Rattle.replica_model.proofs.Rows.{IsNoDelta, each_row, other_unless_joined}
 use Rattle.replica_model.proofs.SessionsAlone.{IsAsking, call_leaves, by_deeds}
 use Rattle.replica_alone.specs.Ended.{AddsOpening, EndsAddAlone, JoinsAddAlone, OthersAddNothingAlone, CallsAddAlone}
 use Rattle.replica_alone.proofs.Deeds.{CameNow, called_now, came_now, ignored_stays, mismatch_stays}
@@ -115,8 +115,8 @@ module _ (hash_of : List ℕ → ℕ) (name : ℕ) where
 
     goes_on : (mail : Mail) → Goes mail (delivered hash_of own r mail)
     goes_on = each_row hash_of own r Goes (record {
-      ignoring = λ mail now. subst (λ (u : World). AllOpened deeds u.accepted r.sessions) (sym (ignored_stays name r mail of w)) before;
-      mismatch = λ mail now. subst (λ (u : World). AllOpened deeds u.accepted r.sessions) (sym (mismatch_stays name r mail of w)) before;
+      ignoring = λ mail other now. subst (λ (u : World). AllOpened deeds u.accepted r.sessions) (sym (ignored_stays name r mail of w other)) before;
+      mismatch = λ mail other now. subst (λ (u : World). AllOpened deeds u.accepted r.sessions) (sym (mismatch_stays name r mail of w other)) before;
       delta = λ d now. before;
       told_again = λ s seen k e now. before;
       kept = λ s seen here none now. before;
@@ -141,8 +141,8 @@ module _ (hash_of : List ℕ → ℕ) (name : ℕ) where
 
     adding : (mail : Mail) → (delivered hash_of own r mail).outcome ≡ Done → OpensNow mail Done → AddsNow mail
     adding = each_row hash_of own r (λ mail t. t.outcome ≡ Done → OpensNow mail Done → AddsNow mail) (record {
-      ignoring = λ mail e now. absurd cc;
-      mismatch = λ mail e now. absurd cc;
+      ignoring = λ mail other e now. absurd cc;
+      mismatch = λ mail other e now. absurd cc;
       delta = λ d e now. absurd cc;
       told_again = λ s seen k is e now. absurd cc;
       kept = λ s seen here none e now. absurd cc;
@@ -240,8 +240,8 @@ ends_add_alone hash_of name deeds w v mail of runs answer befalls is_done = by (
 joined_delta : (hash_of : List ℕ → ℕ) (own : Held) (r : Replica) (mail : Mail) → (delivered hash_of own r mail).outcome ≡ Joined
     → (d : MapState) × (mail ≡ Delta d)
 joined_delta hash_of own r = each_row hash_of own r (λ mail t. t.outcome ≡ Joined → (d : MapState) × (mail ≡ Delta d)) (record {
-  ignoring = λ mail e. absurd cc;
-  mismatch = λ mail e. absurd cc;
+  ignoring = λ mail other e. absurd cc;
+  mismatch = λ mail other e. absurd cc;
   delta = λ d e. (d, refl);
   told_again = λ s seen k is e. absurd cc;
   kept = λ s seen here none e. absurd cc;
@@ -268,29 +268,31 @@ joins_add_alone hash_of name w v mail of answer befalls is_joined = by (came_now
 
 -- ---- what adds nothing
 
-seen_as_it_was : (name : ℕ) (r : Replica) (mail : Mail) (of : Snapshot) (outcome : Outcome) (w : World) → outcome ≢ Done → outcome ≢ Joined
+seen_as_it_was : (name : ℕ) (r : Replica) (mail : Mail) (of : Snapshot) (outcome : Outcome) (w : World) → IsNoDelta mail → outcome ≢ Done → outcome ≢ Joined
     → (takes name r mail of outcome w).seen ≡ w.seen
-seen_as_it_was name r mail of Joined w not_done not_joined = absurd (not_joined refl)
-seen_as_it_was name r mail of Done w not_done not_joined = absurd (not_done refl)
-seen_as_it_was name r mail of Ignored w not_done not_joined = ap (λ (x : World). x.seen) (ignored_stays name r mail of w)
-seen_as_it_was name r mail of Mismatch w not_done not_joined = ap (λ (x : World). x.seen) (mismatch_stays name r mail of w)
-seen_as_it_was name r (Delta d) of Sent w not_done not_joined = refl
-seen_as_it_was name r (Hello s seen) of Sent w not_done not_joined = refl
-seen_as_it_was name r (Opening s context root) of Sent w not_done not_joined = refl
-seen_as_it_was name r (mail.Ask s prefix) of Sent w not_done not_joined = refl
-seen_as_it_was name r (Page s sent) of Sent w not_done not_joined = refl
-seen_as_it_was name r (Gone s) of Sent w not_done not_joined = refl
-seen_as_it_was name r (Delta d) of Ended w not_done not_joined = refl
-seen_as_it_was name r (Hello s seen) of Ended w not_done not_joined = refl
-seen_as_it_was name r (Opening s context root) of Ended w not_done not_joined = refl
-seen_as_it_was name r (mail.Ask s prefix) of Ended w not_done not_joined = refl
-seen_as_it_was name r (Page s sent) of Ended w not_done not_joined = refl
-seen_as_it_was name r (Gone s) of Ended w not_done not_joined = refl
+seen_as_it_was name r mail of Joined w other not_done not_joined = absurd (not_joined refl)
+seen_as_it_was name r mail of Done w other not_done not_joined = absurd (not_done refl)
+seen_as_it_was name r mail of Ignored w other not_done not_joined = ap (λ (x : World). x.seen) (ignored_stays name r mail of w other)
+seen_as_it_was name r mail of Mismatch w other not_done not_joined = ap (λ (x : World). x.seen) (mismatch_stays name r mail of w other)
+seen_as_it_was name r (Delta d) of Sent w other not_done not_joined = absurd other
+seen_as_it_was name r (Hello s seen) of Sent w other not_done not_joined = refl
+seen_as_it_was name r (Opening s context root) of Sent w other not_done not_joined = refl
+seen_as_it_was name r (mail.Ask s prefix) of Sent w other not_done not_joined = refl
+seen_as_it_was name r (Page s sent) of Sent w other not_done not_joined = refl
+seen_as_it_was name r (Gone s) of Sent w other not_done not_joined = refl
+seen_as_it_was name r (Delta d) of Ended w other not_done not_joined = absurd other
+seen_as_it_was name r (Hello s seen) of Ended w other not_done not_joined = refl
+seen_as_it_was name r (Opening s context root) of Ended w other not_done not_joined = refl
+seen_as_it_was name r (mail.Ask s prefix) of Ended w other not_done not_joined = refl
+seen_as_it_was name r (Page s sent) of Ended w other not_done not_joined = refl
+seen_as_it_was name r (Gone s) of Ended w other not_done not_joined = refl
 
 pub others_add_nothing_alone : OthersAddNothingAlone
 others_add_nothing_alone hash_of name w v mail of answer befalls not_done not_joined =
     let d = came_now hash_of name w v mail of answer befalls in
-    let same = seen_as_it_was name (w.replica name) mail of d.outcome w (λ e. not_done (d.answers ∙ ap Came e)) (λ e. not_joined (d.answers ∙ ap Came e)) in
+    let apart : d.outcome ≢ Joined = λ e. not_joined (d.answers ∙ ap Came e) in
+    let other = other_unless_joined hash_of d.own (w.replica name) mail d.outcome (ap (λ (t : Turn). t.outcome) d.step) apart in
+    let same = seen_as_it_was name (w.replica name) mail of d.outcome w other (λ e. not_done (d.answers ∙ ap Came e)) apart in
     ap (λ (x : World). x.seen name) d.after ∙ ap (λ f. f name) same
 
 -- ---- what a call makes

@@ -162,7 +162,7 @@ module _ (hash_of : List ℕ → ℕ) where
         inside = subst P (sym e) (inside_more ws delta are w.inside);
         back = λ after f q. more_back r ws (Calls c) next now answer delta w.anywhere after f (q ∙ e);
       }
-  write_back r next c answer now ws left step group so are delta w (inr (inl e)) =
+  write_back r next c answer now ws left step group so are delta w (inr (inl (many, e))) =
       let P : List MapState → Type 0 = λ l. AreInside l in
       let Q : List MapState → Type 0 = λ l. length l ≤ 1 in
       let joined = all_of (ws ++ delta ∷ []) in

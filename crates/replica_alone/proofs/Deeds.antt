@@ -9,6 +9,7 @@ use Rattle.replica_model.specs.Mail.{Mail, Delta, Hello, Opening, Ask, Page, Gon
 use Rattle.replica_model.specs.Replica.{Replica}
 use Rattle.replica_model.specs.Step.{Call, Answer, Came, IsCall}
 use Rattle.replica_model.specs.World.{World, Snapshot, calls, takes, goes}
+use Rattle.replica_model.proofs.Rows.{IsNoDelta}
 use Rattle.replica_model.proofs.Carried.{by_name}
 use Rattle.replica_model.proofs.Deciding.{came_one}
 use Rattle.replica_model.proofs.Ended.{here_new}
@@ -67,18 +68,18 @@ as_it_was name w =
     λ i. record w { replica = λ n. same n i; messages = append-nil w.messages i }
 
 -- the sets follow no message that was ignored, or did not fit
-pub ignored_stays : (name : ℕ) (r : Replica) (mail : Mail) (of : Snapshot) (w : World) → takes name r mail of Ignored w ≡ w
-ignored_stays name r (Delta d) of w = refl
-ignored_stays name r (Hello s seen) of w = refl
-ignored_stays name r (Opening s context root) of w = refl
-ignored_stays name r (Ask s prefix) of w = refl
-ignored_stays name r (Page s sent) of w = refl
-ignored_stays name r (Gone s) of w = refl
+pub ignored_stays : (name : ℕ) (r : Replica) (mail : Mail) (of : Snapshot) (w : World) → IsNoDelta mail → takes name r mail of Ignored w ≡ w
+ignored_stays name r (Delta d) of w other = absurd other
+ignored_stays name r (Hello s seen) of w other = refl
+ignored_stays name r (Opening s context root) of w other = refl
+ignored_stays name r (Ask s prefix) of w other = refl
+ignored_stays name r (Page s sent) of w other = refl
+ignored_stays name r (Gone s) of w other = refl
 
-pub mismatch_stays : (name : ℕ) (r : Replica) (mail : Mail) (of : Snapshot) (w : World) → takes name r mail of Mismatch w ≡ w
-mismatch_stays name r (Delta d) of w = refl
-mismatch_stays name r (Hello s seen) of w = refl
-mismatch_stays name r (Opening s context root) of w = refl
-mismatch_stays name r (Ask s prefix) of w = refl
-mismatch_stays name r (Page s sent) of w = refl
-mismatch_stays name r (Gone s) of w = refl
+pub mismatch_stays : (name : ℕ) (r : Replica) (mail : Mail) (of : Snapshot) (w : World) → IsNoDelta mail → takes name r mail of Mismatch w ≡ w
+mismatch_stays name r (Delta d) of w other = absurd other
+mismatch_stays name r (Hello s seen) of w other = refl
+mismatch_stays name r (Opening s context root) of w other = refl
+mismatch_stays name r (Ask s prefix) of w other = refl
+mismatch_stays name r (Page s sent) of w other = refl
+mismatch_stays name r (Gone s) of w other = refl

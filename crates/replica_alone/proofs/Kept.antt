@@ -92,8 +92,8 @@ module _ (hash_of : List ℕ → ℕ) (name : ℕ) (w : World) (own : Held) wher
 
   delivery_keeps : (mail : Mail) → Keeps mail (delivered hash_of own r mail)
   delivery_keeps = each_row hash_of own r Keeps (record {
-    ignoring = λ mail of k h. inl (record { there = h; seen = ap (λ f. f k.session) (unmoved mail of) });
-    mismatch = λ mail of k h. inl (record { there = h; seen = ap (λ f. f k.session) (mismatched mail of) });
+    ignoring = λ mail other of k h. inl (record { there = h; seen = ap (λ f. f k.session) (unmoved mail of) });
+    mismatch = λ mail other of k h. inl (record { there = h; seen = ap (λ f. f k.session) (mismatched mail of) });
     delta = λ d of k h. inl (record { there = h; seen = refl });
     told_again = λ s seen j is of k h. inl (record { there = h; seen = told_again s j is k.session });
     kept = λ s seen here none of k h. keeps_now s seen here none _ refl of k (in_keeping (snapshot own r s seen) r.kept k h);

@@ -151,8 +151,8 @@ module _ (hash_of : List ℕ → ℕ) (name : ℕ) where
 
     delivery_lives : (own : Held) (mail : Mail) → IsFiniteMail mail → IsWhole (delivered hash_of own r mail).new.live
     delivery_lives own = each_row hash_of own r (λ mail to. IsFiniteMail mail → IsWhole to.new.live) (record {
-      ignoring = λ mail fine. whole;
-      mismatch = λ mail fine. whole;
+      ignoring = λ mail other fine. whole;
+      mismatch = λ mail other fine. whole;
       delta = λ d fine. whole_join r.live d whole (whole_delta d fine);
       told_again = λ s seen k e fine. whole;
       kept = λ s seen here none fine. whole;

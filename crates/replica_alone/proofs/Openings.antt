@@ -76,8 +76,8 @@ module _ (hash_of : List ℕ → ℕ) (own : Held) (r : Replica) where
 
   delivery_sends : (mail : Mail) → Sends (delivered hash_of own r mail)
   delivery_sends = each_row hash_of own r (λ mail t. Sends t) (record {
-    ignoring = λ mail. nothing_sent r.kept;
-    mismatch = λ mail. nothing_sent r.kept;
+    ignoring = λ mail other. nothing_sent r.kept;
+    mismatch = λ mail other. nothing_sent r.kept;
     delta = λ d. nothing_sent r.kept;
     told_again = λ s seen k e x h.
         inr (record { of = k; there = ap (kept_at r.kept) (found_kept r.kept s k e).1 ∙ e; opens = in_one (opening_of hash_of k) x h });

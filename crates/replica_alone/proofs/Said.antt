@@ -1,6 +1,6 @@
 -- The headline of a replica by itself, where only what is taken says what it stands for: what is not taken changes nothing, and so the deeds without it lead
 -- to the same world.
-use Rattle.std.proofs.Common.{◌≡◌, ℕ, List, [], ◌∷◌, ◌++◌, true, false, cond, refl, sym, ap, ◌∙◌, subst}
+use Rattle.std.proofs.Common.{◌≡◌, ◌≢◌, ℕ, List, [], ◌∷◌, ◌++◌, true, false, cond, refl, sym, ap, ◌∙◌, subst}
 use Rattle.op_model.specs.Operation.{Operation, NoReuse}
 use Rattle.op_model.proofs.SameSets.{state-same}
 use Rattle.prefix_digest.specs.MapOf.{IsMapOf}
@@ -15,7 +15,7 @@ use Rattle.replica_model.specs.Replica.{Replica}
 use Rattle.replica_model.specs.Step.{Answer, Came}
 use Rattle.replica_model.specs.World.{World, Snapshot, no_snapshot, nothing, takes, goes}
 use Rattle.replica_model.proofs.Alone.{headline_alone}
-use Rattle.replica_model.proofs.Rows.{each_row}
+use Rattle.replica_model.proofs.Rows.{IsNoDelta, each_row, other_unless_joined}
 use Rattle.replica_model.proofs.States.{same_is}
 use Rattle.replica_alone.specs.Said.{is_taken, brings, TakenSay, brought_taken, HeadlineTakenAlone, SameSeenAlone}
 use Rattle.replica_alone.proofs.Deeds.{CameNow, came_now, as_it_was, ignored_stays, mismatch_stays}
@@ -32,8 +32,8 @@ module _ (hash_of : List ℕ → ℕ) (own : Held) (r : Replica) where
 
   leaves : (mail : Mail) → IsLeft (delivered hash_of own r mail).outcome mail (delivered hash_of own r mail)
   leaves = each_row hash_of own r (λ mail t. IsLeft t.outcome mail t) (record {
-    ignoring = λ mail. refl;
-    mismatch = λ mail. refl;
+    ignoring = λ mail other. refl;
+    mismatch = λ mail other. refl;
     delta = λ d. tt;
     told_again = λ s seen k e. tt;
     kept = λ s seen here none. tt;
@@ -140,13 +140,16 @@ module _ (hash_of : List ℕ → ℕ) (name : ℕ) where
               d.after ∙ ap (λ (t : Turn). goes name t.new t.replies [] (takes name (w.replica name) mail of t.outcome w)) same
               ∙ ap (goes name (w.replica name) [] []) stays ∙ as_it_was name w
 
+          other : (o : Outcome) → turn d.new d.outcome d.out ≡ turn (w.replica name) o [] → o ≢ Joined → IsNoDelta mail
+          other o same = other_unless_joined hash_of d.own (w.replica name) mail o (ap (λ (t : Turn). t.outcome) (d.step ∙ same))
+
           each : (o : Outcome) → answer ≡ Came o → IsLeft hash_of d.own (w.replica name) o mail (turn d.new d.outcome d.out)
               → Without w v (cond (is_taken answer) (brings mail of) [] ++ came)
           each Joined e l = taken (ap is_taken e)
           each Sent e l = taken (ap is_taken e)
           each Done e l = taken (ap is_taken e)
-          each Ignored e l = left (ap is_taken e) (u_is Ignored l (ignored_stays name (w.replica name) mail of w))
-          each Mismatch e l = left (ap is_taken e) (u_is Mismatch l (mismatch_stays name (w.replica name) mail of w))
+          each Ignored e l = left (ap is_taken e) (u_is Ignored l (ignored_stays name (w.replica name) mail of w (other Ignored l (λ e. absurd cc))))
+          each Mismatch e l = left (ap is_taken e) (u_is Mismatch l (mismatch_stays name (w.replica name) mail of w (other Mismatch l (λ e. absurd cc))))
           each Ended e (s, is) = gone s is (ap is_taken e)
 
   pub without : (deeds : List Deed) (w v : World) (runs : RunsAlone hash_of name w deeds v) → TakenSay hash_of name deeds w v runs

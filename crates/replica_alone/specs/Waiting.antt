@@ -1,6 +1,6 @@
 -- The deltas that wait to be sent, the oldest first: their join is the group of the replica. Of this project; groups of deltas are those of Almeida,
 -- Shoker and Baquero, "Delta State Replicated Data Types" (2018).
-use Rattle.std.specs.Prelude.{◌≡◌, ◌⊎◌, ◌↔◌, ◌≤◌, List, [], ◌∷◌, ◌++◌, fold, length, IsSome, IsTrue}
+use Rattle.std.specs.Prelude.{◌≡◌, ◌⊎◌, ◌↔◌, ◌≤◌, ℕ, List, [], ◌∷◌, ◌++◌, fold, length, IsSome, IsTrue}
 use Rattle.dots.specs.declared.dot.Dot.{Dot}
 use Rattle.op_model.specs.Made.{erasure, IsPutAt, IsWithin, IsAnywhere}
 use Rattle.op_model.specs.Meaning.{MapState, greater, state}
@@ -31,9 +31,14 @@ IsDeltaOf r (Retry number) delta = ⊥
 IsDeltaOf r (Abandon number) delta = ⊥
 IsDeltaOf r Restart delta = ⊥
 
--- A delta comes behind those that wait, and all may be joined into one then; one that knows no dot need not come.
+-- where fewer wait, none are joined
+abbrev pub MANY : ℕ
+MANY = 1024
+
+-- A delta comes behind those that wait, and where many do all may be joined into one then; one that knows no dot need not come.
 abbrev pub Queues : List MapState → MapState → List MapState → Type 0
-Queues old delta new = (new ≡ old ++ delta ∷ []) ⊎ ((new ≡ all_of (old ++ delta ∷ []) ∷ []) ⊎ (KnowsNone delta × (new ≡ old)))
+Queues old delta new =
+    (new ≡ old ++ delta ∷ []) ⊎ (((MANY ≤ length old) × (new ≡ all_of (old ++ delta ∷ []) ∷ [])) ⊎ (KnowsNone delta × (new ≡ old)))
 
 -- What waits after an act: a write adds its own delta; after a flush none is left; a restart leaves them joined into one; all else leaves them.
 abbrev pub Waits : Replica → Act → List MapState → List MapState → Type 0

@@ -1,19 +1,18 @@
 -- What a replica sends of the deltas that wait: over plain variables.
-use Rattle.std.proofs.Common.{◌≡◌, ◌≤◌, ◌<◌, ◌-◌, ◌+◌, ℕ, List, [], ◌∷◌, ◌++◌, inl, inr, map, take, drop, length, refl, sym, ap, subst, ◌∙◌, arith}
-use Rattle.std.specs.Prelude.{◌⊎◌, Option}
+use Rattle.std.proofs.Common.{◌≡◌, ◌≤◌, ◌<◌, ◌-◌, ◌*◌, ◌^◌, ℕ, Bool, true, false, List, [], ◌∷◌, ◌++◌, inl, inr, map, take, drop, length, refl, sym, ap, subst, ◌∙◌, arith}
+use Rattle.std.specs.Prelude.{◌⊎◌, Option, min, nat_le}
+use Rattle.std.proofs.lemmas.Bool.Decides.{nat_tests}
 use Rattle.std.proofs.lemmas.List.{take-append-drop, take-map, drop-map}
 use Rattle.causal_join.specs.OrMap.{OrMapValue, or_map_state}
 use Rattle.delta_ops.specs.Group.{group_state}
 use Rattle.delta_ops.specs.LiveMap.{live_state}
-use Rattle.op_model.specs.Meaning.{MapState}
 use Rattle.wire_form.specs.Message as message
 use Rattle.replica_model.proofs.States.{same_is}
 use Rattle.replica_model.specs.Mail.{Delta}
-use Rattle.replica_model.specs.Replica.{Replica}
 use Rattle.replica_model.specs.Step.{KnowsNone}
 use Rattle.replica_alone.specs.Waiting.{all_of}
-use Rattle.replica_core.specs.Cutting.{IsFront, IsWithin, SendsOldest}
-use Rattle.replica_core.specs.Meaning.{ReplicaValue, hash_in, kept_of, meaning, open_of, waiting_in}
+use Rattle.replica_core.specs.Cutting.{IsFront, IsMost, IsWithin, SendsMost, SendsOldest}
+use Rattle.replica_core.specs.Meaning.{ReplicaValue, kept_of, meaning, open_of, waiting_in}
 use Rattle.replica_core.proofs.Meant.{meaning_by}
 use Rattle.replica_core.proofs.Waits.{all_waiting}
 
@@ -66,3 +65,16 @@ module _ {Hash : Type 0} where
       left_waiting ∙ ap (λ n. drop n (waiting_in old)) (alone ∙ omega (arith, some)),
       subst KnowsNone (sym (ap all_of (take-map or_map_state (first - 1) old.group) ∙ all_waiting (take (first - 1) old.group))) none,
     )
+
+    -- and more do not fit
+    pub cut_most : (most : ℕ) → IsMost old.group number most → SendsMost old new most
+    cut_most most is = (number, left_waiting, is)
+
+-- twice as many, or all where these are fewer
+pub twice_or_all : (deltas : List OrMapValue) (number most more : ℕ) (letter : Option ℕ × List ℕ) → length deltas < 2 ^ 64
+    → more ≡ min (min (number * 2) (2 ^ 64 - 1)) (length deltas) → IsFront deltas more letter → most < length letter.1 → IsMost deltas number most
+twice_or_all deltas number most more letter bound is front long = inr (more, letter, by (nat_le (length deltas) (number * 2)) refl, front, long)
+  where
+    by : (b : Bool) → nat_le (length deltas) (number * 2) ≡ b → (more ≡ number * 2) ⊎ (more ≡ length deltas)
+    by true all = let fewer : length deltas ≤ number * 2 = grind (arith, nat_tests) in inr (omega (arith, is, bound, fewer))
+    by false some = let apart : number * 2 < length deltas = grind (arith, nat_tests) in inl (omega (arith, is, bound, apart))

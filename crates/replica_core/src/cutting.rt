@@ -3,7 +3,7 @@ ghost use Rattle.std.specs.Prelude.{◌≡◌, ◌⊎◌, ◌≤◌, ◌<◌, �
 ghost use Rattle.delta_ops.specs.Group.{group_state};
 ghost use Rattle.replica_model.specs.Step.{KnowsNone};
 ghost use Rattle.replica_core.specs.Carrying.{letter_of, letter_or_none};
-ghost use Rattle.replica_core.specs.Cutting.{IsFront, IsWithin, SendsOldest};
+ghost use Rattle.replica_core.specs.Cutting.{IsFront, IsMost, IsWithin, SendsMost, SendsOldest};
 ghost use Rattle.replica_core.specs.Meaning.{meaning};
 ghost use Rattle.replica_core.specs.Stepping.{Stays};
 
@@ -19,14 +19,15 @@ impl<H: PathHash, A: Allocator + Copy> Replica<H, A> {
     /// The delta of what it made first since the last flush, as a letter to everyone of at most so many bytes, or None where it made nothing. What
     /// does not fit waits for the next call or flush, whole writes at a time: a delta of one write that is longer by itself goes out alone.
     ///
-    /// It tries the oldest write, then twice as many, and so on, as long as they fit: so a letter may have room for as many writes again. Writes that
-    /// were joined into one, as many that are never flushed are and those of before a restart, stay together.
+    /// It tries the oldest write, then twice as many, and so on, as long as they fit: so a letter may have room for as many writes again, and twice as
+    /// many as it sends do not fit. Writes that were joined into one, as many that are never flushed are and those of before a restart, stay together.
     ///
     /// Its only refusal is OutOfMemory; a refused call changes nothing. Takes what flushes of four times as many writes take, and time in the number
     /// of all that wait.
     pub fn flush_at_most(&mut self, most: u64) -> Result<Option<Letter<A>>, Refusal>
         ensures ok { IfOk result (λ sent. SendsOldest self.old self.new (letter_or_none sent)) }
         ensures some { IfOk result (λ sent. IfSome sent (λ letter. IsWithin self.old self.new most letter.bytes.items)) }
+        ensures most { IfOk result (λ sent. IfSome sent (λ _. SendsMost self.old self.new most)) }
         ensures none { IfOk result (λ sent. IfNone sent (KnowsNone (meaning self.old).group × Stays self.old self.new)) }
         ensures refused { IsOkUnless result Refusal.OutOfMemory }
         ensures unchanged { OnErr result (Stays self.old self.new) }
@@ -52,6 +53,7 @@ fn longest<A: Allocator + Copy>(
     ensures ok { IfOk result (λ found. IsFront group.now found.1 (letter_of found.0)) }
     ensures within { IfOk result (λ found. (length found.0.bytes.items ≤ most) ⊎ (found.1 ≡ first)) }
     ensures behind { IfOk result (λ found. (first ≤ found.1) × (found.1 ≤ length group.now)) }
+    ensures most { IfOk result (λ found. IsMost group.now found.1 most) }
     ensures refused { IsOkUnless result Refusal.OutOfMemory }
 {
     let mut number = first;
@@ -67,7 +69,7 @@ fn longest<A: Allocator + Copy>(
         };
         if longer.bytes.len() as u64 > most {
             drop(longer);
-            break;
+            return Ok((letter, number));
         }
         drop(letter);
         letter = longer;

@@ -18,7 +18,7 @@ use Rattle.replica_model.specs.Mail.{Mail, Delta, Hello, Opening, Ask, Page, Gon
 use Rattle.replica_model.specs.Replica.{Replica, open_at}
 use Rattle.replica_model.specs.Step.{Call, Put, Remove, RemoveField, Clear, Flush, Retry, Abandon, Restart, Answer, IsStep}
 use Rattle.replica_model.specs.Step as call
-use Rattle.replica_model.specs.World.{World, Snapshot, changed, nothing, learns, keeps, accepts, takes_page, taking_of, own_of, ends, calls, is_joined, is_sent}
+use Rattle.replica_model.specs.World.{World, Snapshot, changed, nothing, learns, keeps, accepts, takes_page, taking_of, own_of, ends, calls, is_sent}
 use Rattle.replica_model.specs.World.{is_done, takes, goes, Unclashed}
 use Rattle.replica_model.proofs.Answers.{told_by}
 use Rattle.replica_model.proofs.Carried.{left_as_is}
@@ -115,7 +115,7 @@ module _ (name : ℕ) (whole : List Operation) where
 
   fits_takes : (w : World) (old : Replica) (mail : Mail) (of : Snapshot) (outcome : Outcome) → Fits w name whole → IsPartOf of.seen whole
       → Fits (takes name old mail of outcome w) name whole
-  fits_takes w old (Delta d) of outcome f part = either (is_joined outcome) (learns name of.seen w) w (fits_learns w of.seen f part) f
+  fits_takes w old (Delta d) of outcome f part = fits_learns w of.seen f part
   fits_takes w old (Hello s seen) of outcome f part =
       either (is_sent outcome) (keeps name old s w) w (record { seen = f.seen; outgoing = f.outgoing; accepted = f.accepted; told = f.told; once = f.once }) f
   fits_takes w old (Opening s context root) of outcome f part =

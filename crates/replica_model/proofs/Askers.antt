@@ -42,8 +42,8 @@ no_hello : (hash_of : List ℕ → ℕ) (own : Held) (r : Replica) (mail x : Mai
     → (s : SessionValue) (seen : DotValue → Bool) → x ≡ Hello s seen → ⊥
 no_hello hash_of own r mail = each_row hash_of own r (λ mail t. (x : Mail) → Contains t.replies x → (s : SessionValue) (seen : DotValue → Bool)
     → x ≡ Hello s seen → ⊥) (record {
-      ignoring = λ mail x h s seen e. nothing_in x h;
-      mismatch = λ mail x h s seen e. nothing_in x h;
+      ignoring = λ mail other x h s seen e. nothing_in x h;
+      mismatch = λ mail other x h s seen e. nothing_in x h;
       delta = λ d x h s seen e. nothing_in x h;
       told_again = λ t known k is x h s seen e. let same = sym (in_one _ x h) ∙ e in absurd cc;
       kept = λ t known here none x h s seen e. let same = sym (in_one _ x h) ∙ e in absurd cc;
@@ -60,8 +60,8 @@ no_hello hash_of own r mail = each_row hash_of own r (λ mail t. (x : Mail) → 
 kept_from : (hash_of : List ℕ → ℕ) (own : Held) (r : Replica) (mail : Mail) (k : Kept) → Contains (delivered hash_of own r mail).new.kept k → Contains r.kept k
     ⊎ (mail ≡ Hello k.session k.seen)
 kept_from hash_of own r = each_row hash_of own r (λ mail t. (k : Kept) → Contains t.new.kept k → Contains r.kept k ⊎ (mail ≡ Hello k.session k.seen)) (record {
-  ignoring = λ mail k h. inl h;
-  mismatch = λ mail k h. inl h;
+  ignoring = λ mail other k h. inl h;
+  mismatch = λ mail other k h. inl h;
   delta = λ d k h. inl h;
   told_again = λ s seen j e k h. inl h;
   kept = λ s seen here none k h. either s seen k (in_keeping _ r.kept k h);

@@ -43,7 +43,7 @@ call_opens old new (Abandon number) answer out (abandons, o) = abandon_opens old
 call_opens old new Restart answer out (n, a, o) = as_many old new _ n (omega arith)
 
 -- so no event takes a number back
-event_opens : (hash_of : List ℕ → ℕ) (w v : World) (e : Event) (answer : Answer) → Happens hash_of w e answer v → (n : ℕ)
+pub event_opens : (hash_of : List ℕ → ℕ) (w v : World) (e : Event) (answer : Answer) → Happens hash_of w e answer v → (n : ℕ)
     → (w.replica n).opened ≤ (v.replica n).opened
 event_opens hash_of w v (Node name) answer (absent, a, after) n = subst (λ (x : World). (w.replica n).opened ≤ (x.replica n).opened) (sym after) (omega arith)
 event_opens hash_of w v (At name c) answer (there, peer, (new, out, step, after)) n =

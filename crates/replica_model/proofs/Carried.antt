@@ -14,7 +14,7 @@ use Rattle.replica_model.specs.Replica.{Replica, open_at, kept_at}
 use Rattle.wire_form.specs.Sent.{SentValue}
 use Rattle.sync_model.specs.Laws.{Taking}
 use Rattle.replica_model.specs.Delivery.{Outcome, turn, delivered}
-use Rattle.replica_model.specs.World.{World, Message, Snapshot, message_at, sent_as, learns, keeps, accepts, takes_page, taking_of, own_of, ends, is_joined}
+use Rattle.replica_model.specs.World.{World, Message, Snapshot, message_at, sent_as, learns, keeps, accepts, takes_page, taking_of, own_of, ends}
 use Rattle.replica_model.specs.World.{is_sent, is_done, takes, goes}
 use Rattle.replica_model.proofs.Ties.{MailTie, AllKept, AllOpen, AllSent, GoesOn, delivery_goes}
 
@@ -45,7 +45,7 @@ pub left_as_is : {X : Type 0} (name : ℕ) (f : World → X) → ((u : World) (m
     → ((u : World) (s : SessionValue) (sent : SentValue) → f (takes_page s sent u) ≡ f u)
     → ((u : World) (own : Held) (of : Snapshot) (ts : List Taking) → f (ends name own of ts u) ≡ f u)
     → (w : World) (old : Replica) (mail : Mail) (of : Snapshot) (outcome : Outcome) → f (takes name old mail of outcome w) ≡ f w
-left_as_is name f l k a t e w old (Delta d) of outcome = if_both f (is_joined outcome) (learns name of.seen w) w (f w) (l w of.seen) refl
+left_as_is name f l k a t e w old (Delta d) of outcome = l w of.seen
 left_as_is name f l k a t e w old (Hello s seen) of outcome = if_both f (is_sent outcome) (keeps name old s w) w (f w) (k w old s) refl
 left_as_is name f l k a t e w old (Opening s c root) of outcome =
     if_both f (is_done outcome) (ends name (own_of (open_at old.sessions s)) of [] w) (cond (is_sent outcome) (accepts s of w) w) (f w)

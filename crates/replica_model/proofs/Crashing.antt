@@ -1,9 +1,9 @@
--- What runs, whichever replicas crash, is the world after the events that are left.
-use Rattle.std.proofs.Common.{◌≡◌, ◌≢◌, ℕ, zero, suc, ◌==◌, List, [], ◌∷◌, ◌++◌, map, Bool, true, false, Option, Some, None, cond, refl, sym, ap, ◌∙◌, subst}
+-- What runs, whichever replicas crash, is the world to which what is left leads.
+use Rattle.std.proofs.Common.{◌≡◌, ◌≢◌, ℕ, zero, suc, ◌+◌, ◌==◌, List, [], ◌∷◌, ◌++◌, length, map, Bool, true, false, Option, Some, None, cond, refl, sym, ap, ◌∙◌, subst, arith}
 use Rattle.std.proofs.Common.{eqb-true, append_assoc}
 use Rattle.std.specs.Prelude.{slice_get}
 use Rattle.std.proofs.lemmas.Bool.{false≢true}
-use Rattle.std.proofs.lemmas.List.{append-nil}
+use Rattle.std.proofs.lemmas.List.{append-nil, length-append, length-map}
 use Rattle.op_model.specs.Operation.{Operation}
 use Rattle.op_model.specs.World.{is_among}
 use Rattle.wire_form.specs.Session.{SessionValue}
@@ -13,44 +13,45 @@ use Rattle.replica_model.specs.Replica.{Replica, restarts, open_at}
 use Rattle.replica_model.specs.Delivery.{Outcome, Joined, Sent, Done, Ignored, Mismatch, Ended}
 use Rattle.replica_model.specs.Step.{Call, Put, Remove, RemoveField, Clear, Flush, Retry, Abandon, Restart, Do, Take, Answer, Nothing, Came, IsStep}
 use Rattle.replica_model.specs.Step as call
-use Rattle.replica_model.specs.World.{World, Event, Node, At, Deliver, Message, Snapshot, message_at, nothing, calls, takes, learns, keeps, accepts, takes_page}
-use Rattle.replica_model.specs.World.{taking_of, own_of, ends, is_joined, is_sent, is_done, sent_as, goes, is_node, has_peer, Happens, Runs}
+use Rattle.replica_model.specs.World.{World, Event, Node, At, Deliver, Message, Snapshot, message_at, nothing, calls, takes, keeps, accepts, takes_page}
+use Rattle.replica_model.specs.World.{taking_of, own_of, ends, is_sent, is_done, sent_as, goes, is_node, has_peer, Happens}
+use Rattle.replica_model.specs.Happened.{Happened, Leads}
 use Rattle.replica_model.specs.Laws.{replica_of}
 use Rattle.replica_model.specs.Crashing as crashing
 use Rattle.replica_model.specs.Crashing.{System, started, Occurrence, Saving, Passing, Saves, Crashes, put, mail_at, peer_in, nodes_after, Does, Occurs, Goes}
-use Rattle.replica_model.specs.Crashing.{is_lost, unless_lost, left, Shows, CrashesTakeBack}
+use Rattle.replica_model.specs.Crashing.{is_lost, may_be_lost, unless_lost, restarted, left, Shows, CrashesTakeBack}
 use Rattle.replica_model.proofs.Carried.{if_both, same_replicas, same_messages, left_as_is}
-use Rattle.replica_model.proofs.Deciding.{goes_on}
 use Rattle.replica_model.proofs.Fronts.{same_after_calls}
 use Rattle.replica_model.proofs.Leaving.{same_calls, leaves}
+use Rattle.replica_model.proofs.Telling.{leads_go_on}
 
--- ---- which events are left, as one more occurs
+-- ---- what is left, as one more occurs
 
 before : Occurrence → (ℕ → Bool) → ℕ → Bool
-before (Saving e) lost = λ m. cond (m == replica_of e) false (lost m)
-before (Passing e) lost = lost
+before (Saving h) lost = λ m. cond (m == replica_of h.event) false (lost m)
+before (Passing h) lost = lost
 before (Saves n) lost = λ m. cond (m == n) false (lost m)
 before (Crashes n) lost = λ m. cond (m == n) true (lost m)
 
 lost_on : (lost : ℕ → Bool) (x : Occurrence) (xs : List Occurrence) (m : ℕ) → is_lost lost m (xs ++ x ∷ []) ≡ is_lost (before x lost) m xs
 unfolding before
-lost_on lost (Saving e) [] m = refl
-lost_on lost (Passing e) [] m = refl
+lost_on lost (Saving h) [] m = refl
+lost_on lost (Passing h) [] m = refl
 lost_on lost (Saves n) [] m = refl
 lost_on lost (Crashes n) [] m = refl
-lost_on lost x (Saving e ∷ xs) m = ap (λ b. cond (m == replica_of e) false b) (lost_on lost x xs m)
-lost_on lost x (Passing e ∷ xs) m = lost_on lost x xs m
+lost_on lost x (Saving h ∷ xs) m = ap (λ b. cond (m == replica_of h.event) false b) (lost_on lost x xs m)
+lost_on lost x (Passing h ∷ xs) m = lost_on lost x xs m
 lost_on lost x (Saves n ∷ xs) m = ap (λ b. cond (m == n) false b) (lost_on lost x xs m)
 lost_on lost x (Crashes n ∷ xs) m = ap (λ b. cond (m == n) true b) (lost_on lost x xs m)
 
 left_on : (lost : ℕ → Bool) (x : Occurrence) (xs : List Occurrence) → left lost (xs ++ x ∷ []) ≡ left (before x lost) xs ++ left lost (x ∷ [])
 left_on lost x [] = refl
-left_on lost x (Saving e ∷ xs) = ap (λ es. e ∷ es) (left_on lost x xs)
-left_on lost x (Passing e ∷ xs) =
-    (λ i. unless_lost (lost_on lost x xs (replica_of e) i) e ++ left_on lost x xs i)
-    ∙ sym (append_assoc (unless_lost (is_lost (before x lost) (replica_of e) xs) e) (left (before x lost) xs) (left lost (x ∷ [])))
+left_on lost x (Saving h ∷ xs) = ap (λ hs. h ∷ hs) (left_on lost x xs)
+left_on lost x (Passing h ∷ xs) =
+    (λ i. unless_lost (lost_on lost x xs (replica_of h.event) i) h ++ left_on lost x xs i)
+    ∙ sym (append_assoc (unless_lost (is_lost (before x lost) (replica_of h.event) xs) h) (left (before x lost) xs) (left lost (x ∷ [])))
 left_on lost x (Saves n ∷ xs) = left_on lost x xs
-left_on lost x (Crashes n ∷ xs) = ap (λ es. At n Restart ∷ es) (left_on lost x xs)
+left_on lost x (Crashes n ∷ xs) = ap (λ hs. restarted n ∷ hs) (left_on lost x xs)
 
 -- ---- what a world is to all replicas, and what it is at one
 
@@ -133,12 +134,7 @@ after_take n old mail of outcome new out h = here n (goes n new out [] (takes n 
 
 take_here : (w : World) (n : ℕ) (old : Replica) (mail : Mail) (of : Snapshot) (outcome : Outcome) (new : Replica) (out : List Mail)
     → here n (goes n new out [] (takes n old mail of outcome w)) ≡ after_take n old mail of outcome new out (here n w)
-take_here w n old (Delta d) of outcome new out = by (is_joined outcome)
-  where
-    by : (b : Bool) → here n (goes n new out [] (cond b (learns n of.seen w) w))
-        ≡ here n (goes n new out [] (cond b (learns n of.seen (world_of (here n w))) (world_of (here n w))))
-    by true = refl
-    by false = refl
+take_here w n old (Delta d) of outcome new out = refl
 take_here w n old (Hello s seen) of outcome new out = by (is_sent outcome)
   where
     by : (b : Bool) → here n (goes n new out [] (cond b (keeps n old s w) w))
@@ -179,7 +175,7 @@ not_sent Ended apart = refl
 
 take_common : (w : World) (n : ℕ) (old : Replica) (mail : Mail) (of : Snapshot) (outcome : Outcome) → (outcome ≡ Sent → ⊥)
     → common (takes n old mail of outcome w) ≡ common w
-take_common w n old (Delta d) of outcome apart = if_both common (is_joined outcome) (learns n of.seen w) w (common w) refl refl
+take_common w n old (Delta d) of outcome apart = refl
 take_common w n old (Hello s seen) of outcome apart = ap (λ b. common (cond b (keeps n old s w) w)) (not_sent outcome apart)
 take_common w n old (Opening s context root) of outcome apart =
     if_both common (is_done outcome) (ends n (own_of (open_at old.sessions s)) of [] w) (cond (is_sent outcome) (accepts s of w) w) (common w) refl
@@ -206,6 +202,11 @@ mails_on : (ms : List Message) (group : List Operation) (kept : SessionValue →
 mails_on [] group kept ks [] = refl
 mails_on [] group kept ks (x ∷ out) = ap (λ xs. x ∷ xs) (mails_on [] group kept ks out)
 mails_on (m ∷ ms) group kept ks out = ap (λ xs. m.mail ∷ xs) (mails_on ms group kept ks out)
+
+sends_on : (ms : List Message) (group : List Operation) (kept : SessionValue → List Operation) (ks : List Rattle.replica_model.specs.Replica.Kept)
+    (out : List Mail)
+    → length (ms ++ map (sent_as group kept ks) out) ≡ length ms + length out
+sends_on ms group kept ks out = length-append ms (map (sent_as group kept ks) out) ∙ ap (λ k. length ms + k) (length-map out (sent_as group kept ks))
 
 found : (ms : List Message) (number : ℕ) (mail : Mail) → mail_at (map (λ m. m.mail) ms) number ≡ Some mail → (m : Message) × (message_at ms number ≡ Some m)
     × (m.mail ≡ mail)
@@ -234,6 +235,7 @@ module _ (hash_of : List ℕ → ℕ) where
     next : World
     happens : Happens hash_of u e answer next
     is_world : IsWorld next (crashing.goes hash_of s e new out)
+    sends : length next.messages ≡ length u.messages + length out
     again : (w : World) → here (replica_of e) w ≡ here (replica_of e) u → (v : World) × Happens hash_of w e answer v
         × (here (replica_of e) v ≡ here (replica_of e) next)
     quiet : out ≡ [] → (answer ≡ Came Sent → ⊥) → IsNoNode e → common next ≡ common u
@@ -248,6 +250,7 @@ module _ (hash_of : List ℕ → ℕ) where
       replica = λ m. is.replica m ∙ unchanged m (m == name) refl;
       mails_are = is.mails_are ∙ sym (append-nil s.messages) ∙ ap (λ ms. s.messages ++ ms) (sym o);
     };
+    sends = let none : length out ≡ 0 = ap length o in omega (arith, none);
     again = λ w same. (
       record w { nodes = w.nodes ++ name ∷ [] },
       (ap (λ h. is_among h.0.nodes name) same ∙ ap (λ ns. is_among ns name) is.nodes ∙ absent, a, refl),
@@ -277,6 +280,8 @@ module _ (hash_of : List ℕ → ℕ) where
               ∙ ap (λ ms. map (λ (m : Message). m.mail) ms ++ out) (same_calls u name c).0
               ∙ ap (λ ms. ms ++ out) is.mails_are;
         };
+        sends = sends_on (calls name c u).messages (u.outgoing name) (calls name c u).kept new.kept out
+            ∙ ap (λ ms. length ms + length out) (same_calls u name c).0;
         again = λ w same. (
           goes name new out (w.outgoing name) (calls name c w),
           (
@@ -313,6 +318,8 @@ module _ (hash_of : List ℕ → ℕ) where
               ∙ ap (λ ms. map (λ (y : Message). y.mail) ms ++ out) (same_messages u name old m.mail m.of outcome)
               ∙ ap (λ ms. ms ++ out) is.mails_are;
         };
+        sends = sends_on (takes name old m.mail m.of outcome u).messages [] (takes name old m.mail m.of outcome u).kept new.kept out
+            ∙ ap (λ ms. length ms + length out) (same_messages u name old m.mail m.of outcome);
         again = λ w same. (
           goes name new out [] (takes name (w.replica name) m.mail m.of outcome w),
           (
@@ -338,6 +345,15 @@ module _ (hash_of : List ℕ → ℕ) where
   did u s (At name c) = did_call u s name c
   did u s (Deliver number name) = did_delivery u s number name
 
+  -- as many are sent where the world is the same to all replicas
+  sends_as_many : (u next w v : World) (out : List Mail) (sent : ℕ) → length next.messages ≡ length u.messages + length out → length out ≡ sent
+      → common w ≡ common u → common v ≡ common next → length v.messages ≡ length w.messages + sent
+  sends_as_many u next w v out sent sends counted before after =
+      ap (λ (c : Common). length c.messages) after
+      ∙ sends
+      ∙ ap (λ (c : Common). length c.messages + length out) (sym before)
+      ∙ ap (λ k. length w.messages + k) counted
+
   -- an event leaves what the world is at each other name
   elsewhere : (u v : World) (e : Event) (answer : Answer) → Happens hash_of u e answer v → (m : ℕ) → m ≢ replica_of e → own_at m v ≡ own_at m u
   elsewhere u v e answer happens m apart =
@@ -355,7 +371,7 @@ module _ (hash_of : List ℕ → ℕ) where
     saved : ℕ → Own
     is_world : IsWorld now s
     is_saved : (n : ℕ) → (saved n).replica ≡ s.saved n
-    worlds : (lost : ℕ → Bool) → (w : World) × Runs hash_of nothing (left lost xs) w × Stands lost now saved w
+    worlds : (lost : ℕ → Bool) → (w : World) × Leads hash_of nothing (left lost xs) w × Stands lost now saved w
 
   -- either way
   both : {X : Type 0} (b : Bool) (x y : X) → x ≡ y → x ≡ cond b x y
@@ -366,59 +382,61 @@ module _ (hash_of : List ℕ → ℕ) where
   stands_here : (lost : ℕ → Bool) (now : World) (saved : ℕ → Own) (w : World) (n : ℕ) → Stands lost now saved w → lost n ≡ false → here n w ≡ here n now
   stands_here lost now saved w n st e = λ i. (st.same i, (st.own n ∙ ap (λ b. cond b (saved n) (own_at n now)) e) i)
 
-  runs_to : (xs ys : List Event) (w : World) → xs ≡ ys → Runs hash_of nothing ys w → Runs hash_of nothing xs w
-  runs_to xs ys w e runs = subst (λ es. Runs hash_of nothing es w) (sym e) runs
+  leads_to : (xs ys : List Happened) (w : World) → xs ≡ ys → Leads hash_of nothing ys w → Leads hash_of nothing xs w
+  leads_to xs ys w e leads = subst (λ hs. Leads hash_of nothing hs w) (sym e) leads
 
   itself : (n : ℕ) → (n == n) ≡ true
   itself n = Rattle.std.proofs.Common.eq-eqb n n refl
 
   -- a saved event
-  next_saving : (xs : List Occurrence) (s t : System) (e : Event) → Holds xs s → Occurs hash_of s (Saving e) t → Holds (xs ++ Saving e ∷ []) t
+  next_saving : (xs : List Occurrence) (s t : System) (x : Happened) → Holds xs s → Occurs hash_of s (Saving x) t → Holds (xs ++ Saving x ∷ []) t
   unfolding before
-  next_saving xs s t e h (new, answer, out, does, is) = subst (Holds (xs ++ Saving e ∷ [])) (sym is) (record {
+  next_saving xs s t x h (new, out, does, counted, is) = subst (Holds (xs ++ Saving x ∷ [])) (sym is) (record {
     now = d.next;
     saved = put h.saved n (own_at n d.next);
     is_world = record { nodes = d.is_world.nodes; replica = d.is_world.replica; mails_are = d.is_world.mails_are };
     is_saved = λ m. saved_here m (m == n) refl;
-    worlds = λ lost. goes_to lost (h.worlds (before (Saving e) lost));
+    worlds = λ lost. goes_to lost (h.worlds (before (Saving x) lost));
   })
     where
       n : ℕ
-      n = replica_of e
+      n = replica_of x.event
 
-      d : Did h.now s e new answer out
-      d = did h.now s e new answer out h.is_world does
+      d : Did h.now s x.event new x.answer out
+      d = did h.now s x.event new x.answer out h.is_world does
 
       saved_here : (m : ℕ) (b : Bool) → (m == n) ≡ b → (cond b (own_at n d.next) (h.saved m)).replica ≡ cond b new (s.saved m)
       saved_here m true eq = d.is_world.replica n ∙ ap (λ b. cond b new (s.replica n)) (itself n)
       saved_here m false eq = h.is_saved m
 
-      goes_to : (lost : ℕ → Bool) → (w : World) × Runs hash_of nothing (left (before (Saving e) lost) xs) w × Stands (before (Saving e) lost) h.now h.saved w
-          → (w : World) × Runs hash_of nothing (left lost (xs ++ Saving e ∷ [])) w × Stands lost d.next (put h.saved n (own_at n d.next)) w
-      goes_to lost (w, runs, st) =
-          let a = d.again w (stands_here (before (Saving e) lost) h.now h.saved w n st (ap (λ b. cond b false (lost n)) (itself n))) in (
+      goes_to : (lost : ℕ → Bool) → (w : World) × Leads hash_of nothing (left (before (Saving x) lost) xs) w × Stands (before (Saving x) lost) h.now h.saved w
+          → (w : World) × Leads hash_of nothing (left lost (xs ++ Saving x ∷ [])) w × Stands lost d.next (put h.saved n (own_at n d.next)) w
+      goes_to lost (w, leads, st) =
+          let a = d.again w (stands_here (before (Saving x) lost) h.now h.saved w n st (ap (λ b. cond b false (lost n)) (itself n))) in (
             a.0,
-            runs_to _ _ a.0 (left_on lost (Saving e) xs) (goes_on hash_of (left (before (Saving e) lost) xs) w a.0 e answer runs a.1),
+            leads_to _ _ a.0 (left_on lost (Saving x) xs)
+                (leads_go_on hash_of (left (before (Saving x) lost) xs) w a.0 x leads a.1
+                (sends_as_many h.now d.next w a.0 out x.sent d.sends counted st.same (ap (λ (p : Common × Own). p.0) a.2))),
             record { same = ap (λ (p : Common × Own). p.0) a.2; own = λ m. own m (m == n) refl a.0 a.1 (ap (λ (p : Common × Own). p.1) a.2) },
           )
         where
-          own : (m : ℕ) (b : Bool) → (m == n) ≡ b → (v : World) → Happens hash_of w e answer v → own_at n v ≡ own_at n d.next
+          own : (m : ℕ) (b : Bool) → (m == n) ≡ b → (v : World) → Happens hash_of w x.event x.answer v → own_at n v ≡ own_at n d.next
               → own_at m v ≡ cond (lost m) (cond b (own_at n d.next) (h.saved m)) (own_at m d.next)
           own m true eq v happens one =
               ap (λ k. own_at k v) (eqb-true m n eq) ∙ one ∙ both (lost m) (own_at n d.next) (own_at m d.next)
               (ap (λ k. own_at k d.next) (sym (eqb-true m n eq)))
           own m false eq v happens one =
               let apart : m ≢ n = λ same. false≢true (sym eq ∙ Rattle.std.proofs.Common.eq-eqb m n same) in
-              elsewhere w v e answer happens m apart
+              elsewhere w v x.event x.answer happens m apart
               ∙ st.own m
               ∙ ap (λ b. cond (cond b false (lost m)) (h.saved m) (own_at m h.now)) eq
-              ∙ ap (λ o. cond (lost m) (h.saved m) o) (sym (elsewhere h.now d.next e answer d.happens m apart))
+              ∙ ap (λ o. cond (lost m) (h.saved m) o) (sym (elsewhere h.now d.next x.event x.answer d.happens m apart))
 
   -- an event that was not saved
-  next_passing : (xs : List Occurrence) (s t : System) (e : Event) → IsNoNode e → ((lost : Bool) → unless_lost lost e ≡ cond lost [] (e ∷ [])) → Holds xs s
-      → Occurs hash_of s (Passing e) t → Holds (xs ++ Passing e ∷ []) t
+  next_passing : (xs : List Occurrence) (s t : System) (x : Happened) → IsNoNode x.event → may_be_lost x.event ≡ true → Holds xs s
+      → Occurs hash_of s (Passing x) t → Holds (xs ++ Passing x ∷ []) t
   unfolding before
-  next_passing xs s t e node may_be h (new, answer, does, apart, is) = subst (Holds (xs ++ Passing e ∷ [])) (sym is) (record {
+  next_passing xs s t x node may_be h (new, does, none, apart, is) = subst (Holds (xs ++ Passing x ∷ [])) (sym is) (record {
     now = d.next;
     saved = h.saved;
     is_world = record { nodes = d.is_world.nodes; replica = d.is_world.replica; mails_are = d.is_world.mails_are };
@@ -427,27 +445,31 @@ module _ (hash_of : List ℕ → ℕ) where
   })
     where
       n : ℕ
-      n = replica_of e
+      n = replica_of x.event
 
-      d : Did h.now s e new answer []
-      d = did h.now s e new answer [] h.is_world does
+      d : Did h.now s x.event new x.answer []
+      d = did h.now s x.event new x.answer [] h.is_world does
 
       quiet : common d.next ≡ common h.now
       quiet = d.quiet refl apart node
 
       others : (m : ℕ) → (m == n) ≡ false → own_at m d.next ≡ own_at m h.now
-      others m eq = elsewhere h.now d.next e answer d.happens m (λ same. false≢true (sym eq ∙ Rattle.std.proofs.Common.eq-eqb m n same))
+      others m eq = elsewhere h.now d.next x.event x.answer d.happens m (λ same. false≢true (sym eq ∙ Rattle.std.proofs.Common.eq-eqb m n same))
 
-      events : (lost : ℕ → Bool) (b : Bool) → lost n ≡ b → left lost (xs ++ Passing e ∷ []) ≡ left lost xs ++ cond b [] (e ∷ [])
-      events lost b eq =
-          left_on lost (Passing e) xs
-          ∙ ap (λ es. left lost xs ++ es) (append-nil (unless_lost (lost n) e) ∙ ap (λ c. unless_lost c e) eq ∙ may_be b)
+      unless : (b : Bool) → unless_lost b x ≡ cond b [] (x ∷ [])
+      unless true = ap (λ c. cond c [] (x ∷ [])) may_be
+      unless false = refl
 
-      goes_to : (lost : ℕ → Bool) (b : Bool) → lost n ≡ b → (w : World) × Runs hash_of nothing (left lost xs) w × Stands lost h.now h.saved w
-          → (w : World) × Runs hash_of nothing (left lost (xs ++ Passing e ∷ [])) w × Stands lost d.next h.saved w
-      goes_to lost true eq (w, runs, st) = (
+      one_more : (lost : ℕ → Bool) (b : Bool) → lost n ≡ b → left lost (xs ++ Passing x ∷ []) ≡ left lost xs ++ cond b [] (x ∷ [])
+      one_more lost b eq =
+          left_on lost (Passing x) xs
+          ∙ ap (λ hs. left lost xs ++ hs) (append-nil (unless_lost (lost n) x) ∙ ap (λ c. unless_lost c x) eq ∙ unless b)
+
+      goes_to : (lost : ℕ → Bool) (b : Bool) → lost n ≡ b → (w : World) × Leads hash_of nothing (left lost xs) w × Stands lost h.now h.saved w
+          → (w : World) × Leads hash_of nothing (left lost (xs ++ Passing x ∷ [])) w × Stands lost d.next h.saved w
+      goes_to lost true eq (w, leads, st) = (
         w,
-        runs_to _ _ w (events lost true eq ∙ append-nil (left lost xs)) runs,
+        leads_to _ _ w (one_more lost true eq ∙ append-nil (left lost xs)) leads,
         record { same = st.same ∙ sym quiet; own = λ m. st.own m ∙ stays m (m == n) refl },
       )
         where
@@ -456,29 +478,34 @@ module _ (hash_of : List ℕ → ℕ) where
               let gone : lost m ≡ true = ap lost (eqb-true m n at) ∙ eq in
               ap (λ b. cond b (h.saved m) (own_at m h.now)) gone ∙ sym (ap (λ b. cond b (h.saved m) (own_at m d.next)) gone)
           stays m false at = ap (λ o. cond (lost m) (h.saved m) o) (sym (others m at))
-      goes_to lost false eq (w, runs, st) =
+      goes_to lost false eq (w, leads, st) =
           let a = d.again w (stands_here lost h.now h.saved w n st eq) in (
             a.0,
-            runs_to _ _ a.0 (events lost false eq) (goes_on hash_of (left lost xs) w a.0 e answer runs a.1),
+            leads_to _ _ a.0 (one_more lost false eq)
+                (leads_go_on hash_of (left lost xs) w a.0 x leads a.1
+                (sends_as_many h.now d.next w a.0 [] x.sent d.sends (sym none) st.same (ap (λ (p : Common × Own). p.0) a.2))),
             record { same = ap (λ (p : Common × Own). p.0) a.2; own = λ m. own m (m == n) refl a.0 a.1 (ap (λ (p : Common × Own). p.1) a.2) },
           )
         where
-          own : (m : ℕ) (b : Bool) → (m == n) ≡ b → (v : World) → Happens hash_of w e answer v → own_at n v ≡ own_at n d.next
+          own : (m : ℕ) (b : Bool) → (m == n) ≡ b → (v : World) → Happens hash_of w x.event x.answer v → own_at n v ≡ own_at n d.next
               → own_at m v ≡ cond (lost m) (h.saved m) (own_at m d.next)
           own m true at v happens one =
               let there : lost m ≡ false = ap lost (eqb-true m n at) ∙ eq in
               ap (λ k. own_at k v) (eqb-true m n at) ∙ one ∙ ap (λ k. own_at k d.next) (sym (eqb-true m n at))
               ∙ sym (ap (λ b. cond b (h.saved m) (own_at m d.next)) there)
           own m false at v happens one =
-              elsewhere w v e answer happens m (λ same. false≢true (sym at ∙ Rattle.std.proofs.Common.eq-eqb m n same))
+              elsewhere w v x.event x.answer happens m (λ same. false≢true (sym at ∙ Rattle.std.proofs.Common.eq-eqb m n same))
               ∙ st.own m
               ∙ ap (λ o. cond (lost m) (h.saved m) o) (sym (others m at))
 
   -- a replica is there, and was not saved
-  next_node : (xs : List Occurrence) (s t : System) (name : ℕ) → Holds xs s → Occurs hash_of s (Passing (Node name)) t
-      → Holds (xs ++ Passing (Node name) ∷ []) t
+  abbrev new_node : ℕ → Answer → ℕ → Happened
+  new_node name answer sent = record { event = Node name; answer = answer; sent = sent }
+
+  next_node : (xs : List Occurrence) (s t : System) (name : ℕ) (answer : Answer) (sent : ℕ) → Holds xs s → Occurs hash_of s (Passing (new_node name answer sent)) t
+      → Holds (xs ++ Passing (new_node name answer sent) ∷ []) t
   unfolding before
-  next_node xs s t name h (new, answer, (absent, n, a, o), apart, is) = subst (Holds (xs ++ Passing (Node name) ∷ [])) (sym is) (record {
+  next_node xs s t name answer sent h (new, (absent, n, a, o), none, apart, is) = subst (Holds (xs ++ Passing (new_node name answer sent) ∷ [])) (sym is) (record {
     now = d.next;
     saved = h.saved;
     is_world = record { nodes = d.is_world.nodes; replica = d.is_world.replica; mails_are = d.is_world.mails_are };
@@ -492,15 +519,22 @@ module _ (hash_of : List ℕ → ℕ) where
       is_next : d.next ≡ record h.now { nodes = h.now.nodes ++ name ∷ [] }
       is_next = d.happens.2
 
-      goes_to : (lost : ℕ → Bool) → (w : World) × Runs hash_of nothing (left lost xs) w × Stands lost h.now h.saved w
-          → (w : World) × Runs hash_of nothing (left lost (xs ++ Passing (Node name) ∷ [])) w × Stands lost d.next h.saved w
-      goes_to lost (w, runs, st) =
+      never : (b : Bool) → unless_lost b (new_node name answer sent) ≡ new_node name answer sent ∷ []
+      never true = refl
+      never false = refl
+
+      goes_to : (lost : ℕ → Bool) → (w : World) × Leads hash_of nothing (left lost xs) w × Stands lost h.now h.saved w
+          → (w : World) × Leads hash_of nothing (left lost (xs ++ Passing (new_node name answer sent) ∷ [])) w × Stands lost d.next h.saved w
+      goes_to lost (w, leads, st) =
           let v : World = record w { nodes = w.nodes ++ name ∷ [] } in
-          let happens : Happens hash_of w (Node name) answer v = (ap (λ (c : Common). is_among c.nodes name) st.same ∙ d.happens.0, a, refl) in (
+          let happens : Happens hash_of w (Node name) answer v = (ap (λ (c : Common). is_among c.nodes name) st.same ∙ d.happens.0, a, refl) in
+          let same : common v ≡ common d.next = ap (λ (c : Common). record c { nodes = c.nodes ++ name ∷ [] }) st.same ∙ sym (ap common is_next) in (
             v,
-            runs_to _ _ v (left_on lost (Passing (Node name)) xs) (goes_on hash_of (left lost xs) w v (Node name) answer runs happens),
+            leads_to _ _ v (left_on lost (Passing (new_node name answer sent)) xs ∙ ap (λ hs. left lost xs ++ hs) (append-nil _ ∙ never (lost name)))
+                (leads_go_on hash_of (left lost xs) w v (new_node name answer sent) leads happens
+                (sends_as_many h.now d.next w v [] sent d.sends (sym none) st.same same)),
             record {
-              same = ap (λ (c : Common). record c { nodes = c.nodes ++ name ∷ [] }) st.same ∙ sym (ap common is_next);
+              same = same;
               own = λ m. st.own m ∙ ap (λ o. cond (lost m) (h.saved m) o) (sym (ap (own_at m) is_next));
             },
           )
@@ -520,11 +554,11 @@ module _ (hash_of : List ℕ → ℕ) where
       saved_here m true = h.is_world.replica n
       saved_here m false = h.is_saved m
 
-      goes_to : (lost : ℕ → Bool) → (w : World) × Runs hash_of nothing (left (before (Saves n) lost) xs) w × Stands (before (Saves n) lost) h.now h.saved w
-          → (w : World) × Runs hash_of nothing (left lost (xs ++ Saves n ∷ [])) w × Stands lost h.now (put h.saved n (own_at n h.now)) w
-      goes_to lost (w, runs, st) = (
+      goes_to : (lost : ℕ → Bool) → (w : World) × Leads hash_of nothing (left (before (Saves n) lost) xs) w × Stands (before (Saves n) lost) h.now h.saved w
+          → (w : World) × Leads hash_of nothing (left lost (xs ++ Saves n ∷ [])) w × Stands lost h.now (put h.saved n (own_at n h.now)) w
+      goes_to lost (w, leads, st) = (
         w,
-        runs_to _ _ w (left_on lost (Saves n) xs ∙ append-nil (left (before (Saves n) lost) xs)) runs,
+        leads_to _ _ w (left_on lost (Saves n) xs ∙ append-nil (left (before (Saves n) lost) xs)) leads,
         record { same = st.same; own = λ m. st.own m ∙ own m (m == n) refl },
       )
         where
@@ -535,8 +569,8 @@ module _ (hash_of : List ℕ → ℕ) where
           own m false eq = refl
 
   -- a replica crashes, and comes back
-  abbrev restarted : Own → Own
-  restarted o = record { replica = restarts o.replica; seen = o.seen; outgoing = o.outgoing }
+  abbrev restarted_own : Own → Own
+  restarted_own o = record { replica = restarts o.replica; seen = o.seen; outgoing = o.outgoing }
 
   next_crashes : (xs : List Occurrence) (s t : System) (n : ℕ) → Holds xs s → Occurs hash_of s (Crashes n) t → Holds (xs ++ Crashes n ∷ []) t
   unfolding before
@@ -578,14 +612,14 @@ module _ (hash_of : List ℕ → ℕ) where
       saved_there : (lost : ℕ → Bool) (w : World) → lost n ≡ true → Stands lost h.now h.saved w → own_at n w ≡ h.saved n
       saved_there lost w gone st = st.own n ∙ ap (λ b. cond b (h.saved n) (own_at n h.now)) gone
 
-      restarted_there : (w : World) → own_at n w ≡ h.saved n → own_at n (goes n (restarts (w.replica n)) [] (w.outgoing n) w) ≡ restarted (h.saved n)
+      restarted_there : (w : World) → own_at n w ≡ h.saved n → own_at n (goes n (restarts (w.replica n)) [] (w.outgoing n) w) ≡ restarted_own (h.saved n)
       restarted_there w e = (λ i. record { replica = cond (itself n i) (restarts (w.replica n)) (w.replica n); seen = w.seen n; outgoing = w.outgoing n })
-          ∙ ap restarted e
+          ∙ ap restarted_own e
 
       alone_gone : alone n ≡ true
       alone_gone = ap (λ b. cond b true false) (itself n)
 
-      now_here : own_at n v ≡ restarted (h.saved n)
+      now_here : own_at n v ≡ restarted_own (h.saved n)
       now_here = restarted_there one (saved_there alone one alone_gone st_one)
 
       others : (w : World) (m : ℕ) → (m == n) ≡ false → own_at m (goes n (restarts (w.replica n)) [] (w.outgoing n) w) ≡ own_at m w
@@ -602,12 +636,13 @@ module _ (hash_of : List ℕ → ℕ) where
       saved_here m true = ap (λ (o : Own). o.replica) now_here ∙ ap restarts (h.is_saved n)
       saved_here m false = h.is_saved m
 
-      goes_to : (lost : ℕ → Bool) → (w : World) × Runs hash_of nothing (left (before (Crashes n) lost) xs) w × Stands (before (Crashes n) lost) h.now h.saved w
-          → (w : World) × Runs hash_of nothing (left lost (xs ++ Crashes n ∷ [])) w × Stands lost v (put h.saved n (own_at n v)) w
-      goes_to lost (w, runs, st) = (
+      goes_to : (lost : ℕ → Bool) → (w : World) × Leads hash_of nothing (left (before (Crashes n) lost) xs) w × Stands (before (Crashes n) lost) h.now h.saved w
+          → (w : World) × Leads hash_of nothing (left lost (xs ++ Crashes n ∷ [])) w × Stands lost v (put h.saved n (own_at n v)) w
+      goes_to lost (w, leads, st) = (
         goes n (restarts (w.replica n)) [] (w.outgoing n) w,
-        runs_to _ _ _ (left_on lost (Crashes n) xs) (goes_on hash_of (left (before (Crashes n) lost) xs) w (goes n (restarts (w.replica n)) [] (w.outgoing n) w)
-            (At n Restart) Nothing runs (happens_in w st.same)),
+        leads_to _ _ _ (left_on lost (Crashes n) xs)
+            (leads_go_on hash_of (left (before (Crashes n) lost) xs) w (goes n (restarts (w.replica n)) [] (w.outgoing n) w) (restarted n) leads
+            (happens_in w st.same) (length-append w.messages [])),
         record {
           same = none_sent n (restarts (w.replica n)) (w.outgoing n) w ∙ st.same ∙ sym st_one.same
               ∙ sym (none_sent n (restarts (one.replica n)) (one.outgoing n) one);
@@ -635,11 +670,18 @@ module _ (hash_of : List ℕ → ℕ) where
 
   -- ---- whatever occurs
 
+  next_unsaved : (xs : List Occurrence) (s t : System) (e : Event) (answer : Answer) (sent : ℕ) → Holds xs s
+      → Occurs hash_of s (Passing (record { event = e; answer = answer; sent = sent })) t
+      → Holds (xs ++ Passing (record { event = e; answer = answer; sent = sent }) ∷ []) t
+  next_unsaved xs s t (Node name) answer sent h occurs = next_node xs s t name answer sent h occurs
+  next_unsaved xs s t (At name c) answer sent h occurs =
+      next_passing xs s t (record { event = At name c; answer = answer; sent = sent }) tt refl h occurs
+  next_unsaved xs s t (Deliver number name) answer sent h occurs =
+      next_passing xs s t (record { event = Deliver number name; answer = answer; sent = sent }) tt refl h occurs
+
   next_one : (xs : List Occurrence) (s t : System) (x : Occurrence) → Holds xs s → Occurs hash_of s x t → Holds (xs ++ x ∷ []) t
-  next_one xs s t (Saving e) h occurs = next_saving xs s t e h occurs
-  next_one xs s t (Passing (Node name)) h occurs = next_node xs s t name h occurs
-  next_one xs s t (Passing (At name c)) h occurs = next_passing xs s t (At name c) tt (λ lost. refl) h occurs
-  next_one xs s t (Passing (Deliver number name)) h occurs = next_passing xs s t (Deliver number name) tt (λ lost. refl) h occurs
+  next_one xs s t (Saving x) h occurs = next_saving xs s t x h occurs
+  next_one xs s t (Passing x) h occurs = next_unsaved xs s t x.event x.answer x.sent h occurs
   next_one xs s t (Saves n) h occurs = next_saves xs s t n h occurs
   next_one xs s t (Crashes n) h occurs = next_crashes xs s t n h occurs
 

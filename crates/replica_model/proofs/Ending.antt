@@ -24,7 +24,7 @@ use Rattle.replica_model.specs.Delivery.{Joined, Done, Mismatch, Turn, turn, is_
 use Rattle.replica_model.specs.Sessions.{shown_by, taken_with}
 use Rattle.replica_model.specs.World.{World, Snapshot, learns, own_of, ends, taking_of, takes}
 use Rattle.replica_model.proofs.Found.{found_open}
-use Rattle.replica_model.proofs.Rows.{each_row}
+use Rattle.replica_model.proofs.Rows.{IsNoDelta, each_row}
 use Rattle.replica_model.proofs.Ties.{MailTie}
 use Rattle.replica_model.proofs.Carried.{Ties}
 
@@ -75,21 +75,21 @@ module _ (hash_of : List ℕ → ℕ) (Snap : SessionValue → List Operation �
   abbrev r : Replica
   r = w.replica name
 
-  unmoved : (mail : Mail) (of : Snapshot) → Comes mail of (ignored r)
-  unmoved (Delta d) of = inr (inr (record { not_done = λ e. absurd cc; live = refl; seen = refl; closed = refl }))
-  unmoved (Hello s seen) of = inr (inr (record { not_done = λ e. absurd cc; live = refl; seen = refl; closed = refl }))
-  unmoved (Opening s c root) of = inr (inr (record { not_done = λ e. absurd cc; live = refl; seen = refl; closed = refl }))
-  unmoved (Ask s p) of = inr (inr (record { not_done = λ e. absurd cc; live = refl; seen = refl; closed = refl }))
-  unmoved (Page s p) of = inr (inr (record { not_done = λ e. absurd cc; live = refl; seen = refl; closed = refl }))
-  unmoved (Gone s) of = inr (inr (record { not_done = λ e. absurd cc; live = refl; seen = refl; closed = refl }))
+  unmoved : (mail : Mail) (of : Snapshot) → IsNoDelta mail → Comes mail of (ignored r)
+  unmoved (Delta d) of other = absurd other
+  unmoved (Hello s seen) of other = inr (inr (record { not_done = λ e. absurd cc; live = refl; seen = refl; closed = refl }))
+  unmoved (Opening s c root) of other = inr (inr (record { not_done = λ e. absurd cc; live = refl; seen = refl; closed = refl }))
+  unmoved (Ask s p) of other = inr (inr (record { not_done = λ e. absurd cc; live = refl; seen = refl; closed = refl }))
+  unmoved (Page s p) of other = inr (inr (record { not_done = λ e. absurd cc; live = refl; seen = refl; closed = refl }))
+  unmoved (Gone s) of other = inr (inr (record { not_done = λ e. absurd cc; live = refl; seen = refl; closed = refl }))
 
-  mismatched : (mail : Mail) (of : Snapshot) → Comes mail of (turn r Mismatch [])
-  mismatched (Delta d) of = inr (inr (record { not_done = λ e. absurd cc; live = refl; seen = refl; closed = refl }))
-  mismatched (Hello s seen) of = inr (inr (record { not_done = λ e. absurd cc; live = refl; seen = refl; closed = refl }))
-  mismatched (Opening s c root) of = inr (inr (record { not_done = λ e. absurd cc; live = refl; seen = refl; closed = refl }))
-  mismatched (Ask s p) of = inr (inr (record { not_done = λ e. absurd cc; live = refl; seen = refl; closed = refl }))
-  mismatched (Page s p) of = inr (inr (record { not_done = λ e. absurd cc; live = refl; seen = refl; closed = refl }))
-  mismatched (Gone s) of = inr (inr (record { not_done = λ e. absurd cc; live = refl; seen = refl; closed = refl }))
+  mismatched : (mail : Mail) (of : Snapshot) → IsNoDelta mail → Comes mail of (turn r Mismatch [])
+  mismatched (Delta d) of other = absurd other
+  mismatched (Hello s seen) of other = inr (inr (record { not_done = λ e. absurd cc; live = refl; seen = refl; closed = refl }))
+  mismatched (Opening s c root) of other = inr (inr (record { not_done = λ e. absurd cc; live = refl; seen = refl; closed = refl }))
+  mismatched (Ask s p) of other = inr (inr (record { not_done = λ e. absurd cc; live = refl; seen = refl; closed = refl }))
+  mismatched (Page s p) of other = inr (inr (record { not_done = λ e. absurd cc; live = refl; seen = refl; closed = refl }))
+  mismatched (Gone s) of other = inr (inr (record { not_done = λ e. absurd cc; live = refl; seen = refl; closed = refl }))
 
   module _ (t : Ties hash_of Snap Asked Sends w) where
     opening_ends : (s : SessionValue) (c : DotValue → Bool) (root : Option (List ℕ)) (o : Open) (f : Fetch) → open_at r.sessions s ≡ Some o
@@ -143,8 +143,8 @@ module _ (hash_of : List ℕ → ℕ) (Snap : SessionValue → List Operation �
 
     pub comes : (own : Held) (mail : Mail) (of : Snapshot) → MailTie hash_of Snap Asked Sends mail of → Comes mail of (delivered hash_of own r mail)
     comes own = each_row hash_of own r (λ mail x. (of : Snapshot) → MailTie hash_of Snap Asked Sends mail of → Comes mail of x) (record {
-      ignoring = λ mail of tie. unmoved mail of;
-      mismatch = λ mail of tie. mismatched mail of;
+      ignoring = λ mail other of tie. unmoved mail of other;
+      mismatch = λ mail other of tie. mismatched mail of other;
       delta = λ d of tie. inl (record { joined = refl; delta = d; sends = tie; live = refl; sets = refl });
       told_again = λ s seen k e of tie. inr (inr (record { not_done = λ e. absurd cc; live = refl; seen = refl; closed = refl }));
       kept = λ s seen here none of tie. inr (inr (record { not_done = λ e. absurd cc; live = refl; seen = refl; closed = refl }));

@@ -70,8 +70,8 @@ module _ (hash_of : List ℕ → ℕ) (name : ℕ) (deeds : List Deed) (w : Worl
 
     ending : (mail : Mail) → (delivered hash_of own (w.replica name) mail).outcome ≡ Done → Ending mail (delivered hash_of own (w.replica name) mail)
     ending = each_row hash_of own (w.replica name) (λ mail to. to.outcome ≡ Done → Ending mail to) (record {
-      ignoring = λ mail e. absurd cc;
-      mismatch = λ mail e. absurd cc;
+      ignoring = λ mail other e. absurd cc;
+      mismatch = λ mail other e. absurd cc;
       delta = λ d e. absurd cc;
       told_again = λ s seen k is e. absurd cc;
       kept = λ s seen here none e. absurd cc;

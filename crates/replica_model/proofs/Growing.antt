@@ -47,8 +47,8 @@ map_below m p is = subst (λ q. IsBelow q p) (sym (map_state m p is)) (below_its
 -- a delivery joins, or leaves the live state
 pub delivery_grows : (hash_of : List ℕ → ℕ) (own : Held) (r : Replica) (mail : Mail) → IsBelow r.live (delivered hash_of own r mail).new.live
 delivery_grows hash_of own r = each_row hash_of own r (λ mail t. IsBelow r.live t.new.live) (record {
-  ignoring = λ mail. below_itself r.live;
-  mismatch = λ mail. below_itself r.live;
+  ignoring = λ mail other. below_itself r.live;
+  mismatch = λ mail other. below_itself r.live;
   delta = λ d. below_join r.live d;
   told_again = λ s seen k e. below_itself r.live;
   kept = λ s seen here none. below_itself r.live;

@@ -14,6 +14,7 @@ pub mod Ending
 pub mod Ended
 pub mod Meant
 pub mod Leaving
+pub mod Absent
 pub mod Limits
 pub mod Askers
 pub mod Asks
@@ -34,4 +35,12 @@ pub mod Alone
 pub mod SessionsAlone
 pub mod EndsAlone
 pub mod OpeningsAlone
+pub mod Telling
+pub mod AccountBytes
+pub mod AccountMet
+pub mod AccountKept
+pub mod AccountTold
+pub mod AccountRows
+pub mod AccountCalls
+pub mod Accounts
 pub mod Crashing

@@ -86,8 +86,8 @@ same_limits old new s k o l = record {
 
 pub delivery_limits : (hash_of : List ℕ → ℕ) (own : Held) (r : Replica) → IsWithinLimits r → (mail : Mail) → IsWithinLimits (delivered hash_of own r mail).new
 delivery_limits hash_of own r l = each_row hash_of own r (λ mail t. IsWithinLimits t.new) (record {
-  ignoring = λ mail. l;
-  mismatch = λ mail. l;
+  ignoring = λ mail other. l;
+  mismatch = λ mail other. l;
   delta = λ d. record { sessions = l.sessions; kept = l.kept; numbered = l.numbered; opened = l.opened };
   told_again = λ s seen k e. l;
   kept = λ s seen here none. record { sessions = l.sessions; kept = few_kept _ r.kept l.kept; numbered = l.numbered; opened = l.opened };

@@ -31,7 +31,7 @@ use Rattle.replica_model.specs.Delivery.{Outcome, Turn, turn, delivered}
 use Rattle.replica_model.specs.Step.{Call, Put, Remove, RemoveField, Clear, Flush, Retry, Abandon, Restart, Answer, Abandons, KnowsNone, IsCall}
 use Rattle.replica_model.specs.Step as call
 use Rattle.replica_model.specs.World.{World, Event, Node, At, Deliver, Snapshot, Met, nothing, learns, calls, own_of, ends, takes, taking_of, accepts}
-use Rattle.replica_model.specs.World.{takes_page, is_joined, is_sent, is_done, goes, Happens, Runs, Unclashed}
+use Rattle.replica_model.specs.World.{takes_page, is_sent, is_done, goes, Happens, Runs, Unclashed}
 use Rattle.replica_model.specs.World as world
 use Rattle.replica_model.specs.Laws.{IsSound, MeansMail, Headline, SameSeen}
 use Rattle.replica_model.proofs.States.{same_is, is_same}
@@ -282,8 +282,7 @@ either_part false S n u w f g = g
 
 pub takes_grow : (w : World) (name n : ℕ) (old : Replica) (mail : Mail) (of : Snapshot) (outcome : Outcome)
     → IsPartOf (w.seen n) ((takes name old mail of outcome w).seen n)
-takes_grow w name n old (Delta d) of outcome = either_part (is_joined outcome) (w.seen n) n (learns name of.seen w) w
-    (grown_part (n == name) (w.seen n) of.seen) (itself_part (w.seen n))
+takes_grow w name n old (Delta d) of outcome = grown_part (n == name) (w.seen n) of.seen
 takes_grow w name n old (Hello s seen) of outcome = either_part (is_sent outcome) (w.seen n) n (world.keeps name old s w) w (itself_part (w.seen n))
     (itself_part (w.seen n))
 takes_grow w name n old (Opening s c root) of outcome =
@@ -303,7 +302,7 @@ either_closed false m u w f g = g
 
 pub closed_grows : (w : World) (name : ℕ) (old : Replica) (mail : Mail) (of : Snapshot) (outcome : Outcome) (m : Met) → Contains w.closed m
     → Contains (takes name old mail of outcome w).closed m
-closed_grows w name old (Delta d) of outcome m h = either_closed (is_joined outcome) m (learns name of.seen w) w h h
+closed_grows w name old (Delta d) of outcome m h = h
 closed_grows w name old (Hello s seen) of outcome m h = either_closed (is_sent outcome) m (world.keeps name old s w) w h h
 closed_grows w name old (Opening s c root) of outcome m h =
     either_closed (is_done outcome) m (ends name (own_of (open_at old.sessions s)) of [] w) (cond (is_sent outcome) (accepts s of w) w)

@@ -148,8 +148,8 @@ module _ (hash_of : List ℕ → ℕ) (own : Held) (r : Replica) where
 
   delivery_leaves : (mail : Mail) → Leaves (delivered hash_of own r mail).new.sessions
   delivery_leaves = each_row hash_of own r (λ mail t. Leaves t.new.sessions) (record {
-    ignoring = λ mail. as_they_were;
-    mismatch = λ mail. as_they_were;
+    ignoring = λ mail other. as_they_were;
+    mismatch = λ mail other. as_they_were;
     delta = λ d. as_they_were;
     told_again = λ s seen k e. as_they_were;
     kept = λ s seen here none. as_they_were;
@@ -205,8 +205,8 @@ module _ (hash_of : List ℕ → ℕ) (own : Held) (r : Replica) where
 
   opening_takes : (mail : Mail) → Takes r mail (delivered hash_of own r mail)
   opening_takes = each_row hash_of own r (Takes r) (record {
-    ignoring = unmoved;
-    mismatch = mismatched;
+    ignoring = λ mail other. unmoved mail;
+    mismatch = λ mail other. mismatched mail;
     delta = λ d. tt;
     told_again = λ s seen k e. tt;
     kept = λ s seen here none. tt;

@@ -30,8 +30,8 @@ use Rattle.replica_model.specs.Replica.{Replica, Open, Accepted, Kept, open_numb
 use Rattle.replica_model.specs.Sessions.{taken_with}
 use Rattle.replica_model.specs.Step.{Call, Put, Remove, RemoveField, Clear, Flush, Retry, Abandon, Restart, Answer, Removes, Abandons, IsCall, again, retried}
 use Rattle.replica_model.specs.Step as call
-use Rattle.replica_model.specs.World.{World, Event, Node, At, Deliver, Message, Snapshot, nothing, message_at, sent_as, changed, calls, learns, keeps, accepts}
-use Rattle.replica_model.specs.World.{takes_page, taking_of, own_of, ends, takes, is_joined, is_sent, is_done, goes, Happens, Runs}
+use Rattle.replica_model.specs.World.{World, Event, Node, At, Deliver, Message, Snapshot, nothing, message_at, sent_as, changed, calls, keeps, accepts}
+use Rattle.replica_model.specs.World.{takes_page, taking_of, own_of, ends, takes, is_sent, is_done, goes, Happens, Runs}
 use Rattle.replica_model.proofs.Built.{EachEntry, fetched_made, whole_known}
 use Rattle.replica_model.proofs.Calls.{more_ties, called_ties}
 use Rattle.replica_model.proofs.Carried.{Ties, at_either, by_name, delivered_ties, same_replicas, same_messages}
@@ -168,8 +168,8 @@ module _ (puts : List Write) where
 
     other_told : (mail : Mail) → IsNoAsk mail → (x : Mail) → Contains (delivered hash_of own r mail).replies x → TellsOf puts x
     other_told = each_row hash_of own r (λ mail t. IsNoAsk mail → (x : Mail) → Contains t.replies x → TellsOf puts x) (record {
-      ignoring = λ mail no x h. none_told x h;
-      mismatch = λ mail no x h. none_told x h;
+      ignoring = λ mail other no x h. none_told x h;
+      mismatch = λ mail other no x h. none_told x h;
       delta = λ d no x h. none_told x h;
       told_again = λ s seen k e no x h. one_told (opening_of hash_of k) x tt h;
       kept = λ s seen here none no x h. one_told (opening_of hash_of (snapshot own r s seen)) x tt h;
@@ -248,7 +248,7 @@ module _ (puts : List Write) where
 
   taken_after : (w : World) (name : ℕ) (old : Replica) (mail : Mail) (of : Snapshot) (outcome : Outcome) → AllTaken w.taken → TellsOf puts mail
       → AllTaken (takes name old mail of outcome w).taken
-  taken_after w name old (Delta d) of outcome all tells = either_taken (is_joined outcome) (learns name of.seen w) w all all
+  taken_after w name old (Delta d) of outcome all tells = all
   taken_after w name old (Hello s seen) of outcome all tells = either_taken (is_sent outcome) (keeps name old s w) w all all
   taken_after w name old (Opening s context root) of outcome all tells =
       either_taken (is_done outcome) (ends name (own_of (open_at old.sessions s)) of [] w) (cond (is_sent outcome) (accepts s of w) w) all

@@ -1,5 +1,5 @@
 -- The table of deliveries by its rows: what holds of each row holds of what a delivery comes to.
-use Rattle.std.proofs.Common.{◌≡◌, ℕ, List, [], ◌∷◌, Bool, true, false, Option, Some, None, cond, refl, eqb-true}
+use Rattle.std.proofs.Common.{◌≡◌, ◌≢◌, ℕ, List, [], ◌∷◌, Bool, true, false, Option, Some, None, cond, refl, sym, eqb-true}
 use Rattle.dots.specs.Dot.{DotValue}
 use Rattle.op_model.specs.Meaning.{MapState}
 use Rattle.wire_form.specs.Page.{PageValue}
@@ -12,7 +12,7 @@ use Rattle.sync_model.specs.Fetch.{Fetch, take_opening, take_page}
 use Rattle.sync_model.specs.Fetch as fetch
 use Rattle.replica_model.specs.Mail.{Mail, Delta, Hello, Opening, Ask, Page, Gone, is_for}
 use Rattle.replica_model.specs.Replica.{Replica, Open, Accepted, Kept, open_at, kept_at, joins, advances, closes, keeps}
-use Rattle.replica_model.specs.Delivery.{Turn, turn, ignored, Joined, Sent, Done, Mismatch, Ended, is_complete, asks_for, asks_of, fetching, took_gone}
+use Rattle.replica_model.specs.Delivery.{Turn, turn, Outcome, ignored, Joined, Sent, Done, Mismatch, Ended, is_complete, asks_for, asks_of, fetching, took_gone}
 use Rattle.replica_model.specs.Delivery.{opening_of, took_hello, page_for, answered, took_ask, opening_taken, took_first, took_opening, child_prefixes}
 use Rattle.replica_model.specs.Delivery.{page_taken, took_further, took_page, taken, delivered}
 
@@ -20,10 +20,23 @@ use Rattle.replica_model.specs.Delivery.{page_taken, took_further, took_page, ta
 abbrev pub snapshot : Held → Replica → SessionValue → (DotValue → Bool) → Kept
 snapshot own r s seen = record { session = s; seen = seen; map = own; context = r.live.has }
 
+-- a delta is for each
+abbrev pub IsNoDelta : Mail → Type 0
+IsNoDelta (Delta d) = ⊥
+IsNoDelta other = Unit {0}
+
+is_other : (name : ℕ) (mail : Mail) → is_for name mail ≡ false → IsNoDelta mail
+is_other name (Delta d) e = absurd cc
+is_other name (Hello s seen) e = tt
+is_other name (Opening s context root) e = tt
+is_other name (Ask s prefix) e = tt
+is_other name (Page s sent) e = tt
+is_other name (Gone s) e = tt
+
 module _ (hash_of : List ℕ → ℕ) (own : Held) (r : Replica) (P : Mail → Turn → Type 0) where
   pub record Rows : Type 0 where
-    pub ignoring : (mail : Mail) → P mail (ignored r)
-    pub mismatch : (mail : Mail) → P mail (turn r Mismatch [])
+    pub ignoring : (mail : Mail) → IsNoDelta mail → P mail (ignored r)
+    pub mismatch : (mail : Mail) → IsNoDelta mail → P mail (turn r Mismatch [])
     pub delta : (d : MapState) → P (Delta d) (turn (joins r d) Joined [])
     pub told_again : (s : SessionValue) (seen : DotValue → Bool) (k : Kept) → kept_at r.kept s ≡ Some k
         → P (Hello s seen) (turn r Sent (opening_of hash_of k ∷ []))
@@ -54,7 +67,7 @@ module _ (hash_of : List ℕ → ℕ) (own : Held) (r : Replica) (P : Mail → T
     hello_row s seen here None e = rows.kept s seen here e
 
     answered_row : (s : SessionValue) (prefix : List ℕ) (k : Kept) (page : Option PageValue) → P (Ask s prefix) (answered hash_of r s k prefix page)
-    answered_row s prefix k None = rows.ignoring (Ask s prefix)
+    answered_row s prefix k None = rows.ignoring (Ask s prefix) tt
     answered_row s prefix k (Some page) = rows.page s prefix k page
 
     ask_row : (s : SessionValue) (prefix : List ℕ) (k : Option Kept) → P (Ask s prefix) (took_ask hash_of r s prefix k)
@@ -71,19 +84,19 @@ module _ (hash_of : List ℕ → ℕ) (own : Held) (r : Replica) (P : Mail → T
 
       taken_opening_row : (t : fetch.Taken) → take_opening hash_of o.own o.seen context root ≡ t
           → P (Opening s context root) (opening_taken hash_of r o context t)
-      taken_opening_row fetch.Ignored e = rows.ignoring (Opening s context root)
-      taken_opening_row fetch.Mismatch e = rows.mismatch (Opening s context root)
+      taken_opening_row fetch.Ignored e = rows.ignoring (Opening s context root) tt
+      taken_opening_row fetch.Mismatch e = rows.mismatch (Opening s context root) tt
       taken_opening_row (fetch.Took f) e = opening_went f e (is_complete f) refl
 
     first_row : (s : SessionValue) (context : DotValue → Bool) (root : Option (List ℕ)) (o : Open) → open_at r.sessions s ≡ Some o → (a : Option Accepted)
         → o.accepted ≡ a →
         P (Opening s context root) (took_first hash_of r o context root a)
-    first_row s context root o there (Some a) e = rows.ignoring (Opening s context root)
+    first_row s context root o there (Some a) e = rows.ignoring (Opening s context root) tt
     first_row s context root o there None e = taken_opening_row s context root o there e (take_opening hash_of o.own o.seen context root) refl
 
     opening_row : (s : SessionValue) (context : DotValue → Bool) (root : Option (List ℕ)) (o : Option Open) → open_at r.sessions s ≡ o
         → P (Opening s context root) (took_opening hash_of r context root o)
-    opening_row s context root None e = rows.ignoring (Opening s context root)
+    opening_row s context root None e = rows.ignoring (Opening s context root) tt
     opening_row s context root (Some o) e = first_row s context root o e o.accepted refl
 
     module _ (s : SessionValue) (sent : SentValue) (o : Open) (there : open_at r.sessions s ≡ Some o) (a : Accepted) (accepted : o.accepted ≡ Some a) where
@@ -96,22 +109,22 @@ module _ (hash_of : List ℕ → ℕ) (own : Held) (r : Replica) (P : Mail → T
 
       taken_page_row : (t : fetch.Taken) → take_page hash_of o.own o.seen a.context a.fetch sent.prefix sent.page sent.values ≡ t
           → P (Page s sent) (page_taken hash_of r o a.context sent t)
-      taken_page_row fetch.Ignored e = rows.ignoring (Page s sent)
-      taken_page_row fetch.Mismatch e = rows.mismatch (Page s sent)
+      taken_page_row fetch.Ignored e = rows.ignoring (Page s sent) tt
+      taken_page_row fetch.Mismatch e = rows.mismatch (Page s sent) tt
       taken_page_row (fetch.Took f) e = page_went f e (is_complete f) refl
 
     further_row : (s : SessionValue) (sent : SentValue) (o : Open) → open_at r.sessions s ≡ Some o → (a : Option Accepted) → o.accepted ≡ a
         → P (Page s sent) (took_further hash_of r o sent a)
-    further_row s sent o there None e = rows.ignoring (Page s sent)
+    further_row s sent o there None e = rows.ignoring (Page s sent) tt
     further_row s sent o there (Some a) e = taken_page_row s sent o there a e
         (take_page hash_of o.own o.seen a.context a.fetch sent.prefix sent.page sent.values) refl
 
     page_row : (s : SessionValue) (sent : SentValue) (o : Option Open) → open_at r.sessions s ≡ o → P (Page s sent) (took_page hash_of r sent o)
-    page_row s sent None e = rows.ignoring (Page s sent)
+    page_row s sent None e = rows.ignoring (Page s sent) tt
     page_row s sent (Some o) e = further_row s sent o e o.accepted refl
 
     gone_row : (s : SessionValue) (o : Option Open) → open_at r.sessions s ≡ o → P (Gone s) (took_gone r o)
-    gone_row s None e = rows.ignoring (Gone s)
+    gone_row s None e = rows.ignoring (Gone s) tt
     gone_row s (Some o) e = rows.ended s o e
 
     taken_row : (mail : Mail) → is_for r.name mail ≡ true → P mail (taken hash_of own r mail)
@@ -124,7 +137,17 @@ module _ (hash_of : List ℕ → ℕ) (own : Held) (r : Replica) (P : Mail → T
 
     either_row : (mail : Mail) (b : Bool) → is_for r.name mail ≡ b → P mail (cond b (taken hash_of own r mail) (ignored r))
     either_row mail true e = taken_row mail e
-    either_row mail false e = rows.ignoring mail
+    either_row mail false e = rows.ignoring mail (is_other r.name mail e)
 
     pub each_row : (mail : Mail) → P mail (delivered hash_of own r mail)
     each_row mail = either_row mail (is_for r.name mail) refl
+
+-- a delta is joined
+pub other_unless_joined : (hash_of : List ℕ → ℕ) (own : Held) (r : Replica) (mail : Mail) (outcome : Outcome)
+    → (delivered hash_of own r mail).outcome ≡ outcome → outcome ≢ Joined → IsNoDelta mail
+other_unless_joined hash_of own r (Delta d) outcome is apart = absurd (apart (sym is))
+other_unless_joined hash_of own r (Hello s seen) outcome is apart = tt
+other_unless_joined hash_of own r (Opening s context root) outcome is apart = tt
+other_unless_joined hash_of own r (Ask s prefix) outcome is apart = tt
+other_unless_joined hash_of own r (Page s sent) outcome is apart = tt
+other_unless_joined hash_of own r (Gone s) outcome is apart = tt

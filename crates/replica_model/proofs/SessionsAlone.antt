@@ -304,8 +304,8 @@ module _ (hash_of : List ℕ → ℕ) (name : ℕ) where
 
     taken_in : (mail : Mail) → Holds mail (delivered hash_of own r mail)
     taken_in = each_row hash_of own r Holds (record {
-      ignoring = λ mail. unmoved mail;
-      mismatch = λ mail. mismatched mail;
+      ignoring = λ mail other. unmoved mail;
+      mismatch = λ mail other. mismatched mail;
       delta = λ d of now. before;
       told_again = λ s seen k e of now. before;
       kept = λ s seen here none of now. before;

@@ -14,7 +14,7 @@ use Rattle.replica_model.specs.Delivery.{Outcome}
 use Rattle.replica_model.specs.Step.{Call, Put, Remove, RemoveField, Clear, Flush, Retry, Abandon, Restart, Answer}
 use Rattle.replica_model.specs.Step as call
 use Rattle.replica_model.specs.World.{World, Event, Node, At, Deliver, Message, Snapshot, sets_of, nothing, message_at, changed, makes, learns, calls}
-use Rattle.replica_model.specs.World.{is_joined, is_sent, is_done, first_kept, keeps, accepts, takes_page, taking_of, own_of, ends, takes, sent_as, goes}
+use Rattle.replica_model.specs.World.{is_sent, is_done, first_kept, keeps, accepts, takes_page, taking_of, own_of, ends, takes, sent_as, goes}
 use Rattle.replica_model.specs.World.{Happens, Runs}
 use Rattle.replica_model.specs.World as world
 use Rattle.replica_model.specs.Laws.{IsSound, Sound}
@@ -165,7 +165,7 @@ either false u w s t = t
 
 sound_takes : (w : World) (name : ℕ) (old : Replica) (mail : Mail) (of : Snapshot) (outcome : Outcome) → IsSound w → IsPartOf of.seen w.made
     → IsSound (takes name old mail of outcome w)
-sound_takes w name old (Delta d) of outcome s part = either (is_joined outcome) (learns name of.seen w) w (sound_learns w name of.seen s part) s
+sound_takes w name old (Delta d) of outcome s part = sound_learns w name of.seen s part
 sound_takes w name old (Hello t seen) of outcome s part = either (is_sent outcome) (keeps name old t w) w (sound_keeps w name old t s) s
 sound_takes w name old (Opening t context root) of outcome s part =
     either (is_done outcome) (ends name (own_of (open_at old.sessions t)) of [] w) (cond (is_sent outcome) (accepts t of w) w)

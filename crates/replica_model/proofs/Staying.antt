@@ -50,8 +50,8 @@ module _ (hash_of : List ℕ → ℕ) (own : Held) (r : Replica) (o : Open) (the
 
   delivery_leaves : (mail : Mail) → (IsOfOpen o (Take mail) → ⊥) → Contains (delivered hash_of own r mail).new.sessions o
   delivery_leaves = each_row hash_of own r (λ mail t. (IsOfOpen o (Take mail) → ⊥) → Contains t.new.sessions o) (record {
-    ignoring = λ mail _. there;
-    mismatch = λ mail _. there;
+    ignoring = λ mail other _. there;
+    mismatch = λ mail other _. there;
     delta = λ d _. there;
     told_again = λ s seen k e _. there;
     kept = λ s seen here none _. there;
@@ -100,8 +100,8 @@ sessions_stay hash_of old new (Take mail) answer out (outcome, a, (own, is_own, 
 module _ (hash_of : List ℕ → ℕ) (own : Held) (r : Replica) (k : Kept) where
   delivery_keeps : (mail : Mail) → Contains (delivered hash_of own r mail).new.kept k → Contains r.kept k ⊎ IsNewFor r (Take mail) k
   delivery_keeps = each_row hash_of own r (λ mail t. Contains t.new.kept k → Contains r.kept k ⊎ IsNewFor r (Take mail) k) (record {
-    ignoring = λ mail h. inl h;
-    mismatch = λ mail h. inl h;
+    ignoring = λ mail other h. inl h;
+    mismatch = λ mail other h. inl h;
     delta = λ d h. inl h;
     told_again = λ s seen x e h. inl h;
     kept = λ s seen here none h. by s seen none (in_keeping (snapshot own r s seen) r.kept k h);
@@ -143,8 +143,8 @@ module _ (hash_of : List ℕ → ℕ) (own : Held) (r : Replica) (k : Kept) (the
   delivery_drops : (mail : Mail) → Contains (delivered hash_of own r mail).new.kept k ⊎ IsDropped r (delivered hash_of own r mail).new (Take mail) k
   unfolding KeptOrOldest
   delivery_drops = each_row hash_of own r (λ mail t. Contains t.new.kept k ⊎ IsDropped r t.new (Take mail) k) (record {
-    ignoring = λ mail. inl there;
-    mismatch = λ mail. inl there;
+    ignoring = λ mail other. inl there;
+    mismatch = λ mail other. inl there;
     delta = λ d. inl there;
     told_again = λ s seen x e. inl there;
     kept = λ s seen here none. by s seen none (kept_or_oldest r.kept (snapshot own r s seen) k there);

@@ -433,8 +433,8 @@ module _ (hash_of : List ℕ → ℕ) (Snap : SessionValue → List Operation �
     -- so does each delivery
     pub delivery_goes : (mail : Mail) (of : Snapshot) → MailTie mail of → IsFresh mail → GoesOn mail of (delivered hash_of own r mail)
     delivery_goes = each_row hash_of own r Holds (record {
-      ignoring = λ mail of tie fresh. unmoved mail of;
-      mismatch = λ mail of tie fresh. mismatched mail of;
+      ignoring = λ mail other of tie fresh. unmoved mail of;
+      mismatch = λ mail other of tie fresh. mismatched mail of;
       delta = λ d of tie fresh. joined d of;
       told_again = λ s seen k e of tie fresh. hello_again s seen k e of;
       kept = λ s seen here none of tie fresh. hello_kept s seen here none fresh of;

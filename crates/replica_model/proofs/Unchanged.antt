@@ -11,8 +11,8 @@ IsUnchanged old new = (new.name ≡ old.name) × (new.group ≡ old.group) × (n
 
 pub unchanged : (hash_of : List ℕ → ℕ) (own : Held) (r : Replica) (mail : Mail) → IsUnchanged r (delivered hash_of own r mail).new
 unchanged hash_of own r = each_row hash_of own r (λ mail t. IsUnchanged r t.new) (record {
-  ignoring = λ mail. (refl, refl, refl);
-  mismatch = λ mail. (refl, refl, refl);
+  ignoring = λ mail other. (refl, refl, refl);
+  mismatch = λ mail other. (refl, refl, refl);
   delta = λ d. (refl, refl, refl);
   told_again = λ s seen k e. (refl, refl, refl);
   kept = λ s seen here none. (refl, refl, refl);

@@ -3,7 +3,7 @@
 --
 -- A crash takes away what its replica did since it was last saved, and that never happened: what runs is as after the events that are left, and so
 -- all that holds of worlds over all lists of events holds of it.
-use Rattle.std.specs.Prelude.{◌≡◌, ◌≢◌, ℕ, zero, suc, Bool, true, false, ◌==◌, List, [], ◌∷◌, ◌++◌, map, Option, Some, None, cond}
+use Rattle.std.specs.Prelude.{◌≡◌, ◌≢◌, ℕ, zero, suc, Bool, true, false, ◌==◌, ◌&&◌, List, [], ◌∷◌, ◌++◌, length, map, Option, Some, None, cond}
 use Rattle.std.specs.List.{slice_get}
 use Rattle.op_model.specs.World.{is_among}
 use Rattle.replica_model.specs.Mail.{Mail}
@@ -11,7 +11,8 @@ use Rattle.replica_model.specs.Replica.{Replica, fresh, restarts}
 use Rattle.replica_model.specs.Delivery.{Sent}
 use Rattle.replica_model.specs.Step.{Call, Restart, Do, Take, Answer, Nothing, Came, IsStep}
 use Rattle.replica_model.specs.Step as call
-use Rattle.replica_model.specs.World.{World, Event, Node, At, Deliver, nothing, Runs}
+use Rattle.replica_model.specs.World.{World, Event, Node, At, Deliver, nothing}
+use Rattle.replica_model.specs.Happened.{Happened, Leads}
 use Rattle.replica_model.specs.Laws.{replica_of}
 
 -- what runs, with what is saved of each replica
@@ -28,8 +29,8 @@ started = record { nodes = []; replica = fresh; saved = fresh; messages = [] }
 -- an event whose replica is saved with it, before its messages go out; one whose replica is not saved, which sends nothing; a replica is saved; and
 -- one crashes, and comes back
 pub data Occurrence : Type 0 where
-  Saving : Event → Occurrence
-  Passing : Event → Occurrence
+  Saving : Happened → Occurrence
+  Passing : Happened → Occurrence
   Saves : ℕ → Occurrence
   Crashes : ℕ → Occurrence
 
@@ -66,10 +67,11 @@ module _ (hash_of : List ℕ → ℕ) where
 
   -- What occurs. What is not saved sends nothing, and takes no synchronisation further.
   abbrev pub Occurs : System → Occurrence → System → Type 0
-  Occurs s (Saving e) t =
-      (new : Replica) × (answer : Answer) × (out : List Mail) × Does s e new answer out
-      × (t ≡ record (goes s e new out) { saved = put s.saved (replica_of e) new })
-  Occurs s (Passing e) t = (new : Replica) × (answer : Answer) × Does s e new answer [] × (answer ≢ Came Sent) × (t ≡ goes s e new [])
+  Occurs s (Saving h) t =
+      (new : Replica) × (out : List Mail) × Does s h.event new h.answer out × (length out ≡ h.sent)
+      × (t ≡ record (goes s h.event new out) { saved = put s.saved (replica_of h.event) new })
+  Occurs s (Passing h) t =
+      (new : Replica) × Does s h.event new h.answer [] × (h.sent ≡ 0) × (h.answer ≢ Came Sent) × (t ≡ goes s h.event new [])
   Occurs s (Saves name) t = t ≡ record s { saved = put s.saved name (s.replica name) }
   Occurs s (Crashes name) t =
       (is_among s.nodes name ≡ true)
@@ -79,31 +81,37 @@ module _ (hash_of : List ℕ → ℕ) where
   Goes s [] t = t ≡ s
   Goes s (x ∷ xs) t = (u : System) × Occurs s x u × Goes u xs t
 
--- ---- which events are left
+-- ---- what is left
 
 -- What a replica did is lost where it crashes next, and is saved before that no more. At the end it is lost where `lost` says so.
 abbrev pub is_lost : (ℕ → Bool) → ℕ → List Occurrence → Bool
 is_lost lost name [] = lost name
-is_lost lost name (Saving e ∷ xs) = cond (name == replica_of e) false (is_lost lost name xs)
-is_lost lost name (Passing e ∷ xs) = is_lost lost name xs
+is_lost lost name (Saving h ∷ xs) = cond (name == replica_of h.event) false (is_lost lost name xs)
+is_lost lost name (Passing h ∷ xs) = is_lost lost name xs
 is_lost lost name (Saves n ∷ xs) = cond (name == n) false (is_lost lost name xs)
 is_lost lost name (Crashes n ∷ xs) = cond (name == n) true (is_lost lost name xs)
 
--- an event that may be lost; that a replica is there is not
-abbrev pub unless_lost : Bool → Event → List Event
-unless_lost lost (Node name) = Node name ∷ []
-unless_lost lost (At name c) = cond lost [] (At name c ∷ [])
-unless_lost lost (Deliver number name) = cond lost [] (Deliver number name ∷ [])
+-- what may be lost; that a replica is there is not
+abbrev pub may_be_lost : Event → Bool
+may_be_lost (Node name) = false
+may_be_lost other = true
 
-abbrev pub left : (ℕ → Bool) → List Occurrence → List Event
+abbrev pub unless_lost : Bool → Happened → List Happened
+unless_lost lost h = cond (lost && may_be_lost h.event) [] (h ∷ [])
+
+-- a replica that comes back from a crash restarts
+abbrev pub restarted : ℕ → Happened
+restarted name = record { event = At name Restart; answer = Nothing; sent = 0 }
+
+abbrev pub left : (ℕ → Bool) → List Occurrence → List Happened
 left lost [] = []
-left lost (Saving e ∷ xs) = e ∷ left lost xs
-left lost (Passing e ∷ xs) = unless_lost (is_lost lost (replica_of e) xs) e ++ left lost xs
+left lost (Saving h ∷ xs) = h ∷ left lost xs
+left lost (Passing h ∷ xs) = unless_lost (is_lost lost (replica_of h.event) xs) h ++ left lost xs
 left lost (Saves n ∷ xs) = left lost xs
-left lost (Crashes n ∷ xs) = At n Restart ∷ left lost xs
+left lost (Crashes n ∷ xs) = restarted n ∷ left lost xs
 
--- the events that are left: all but those that a crash took away, with a restart for each crash
-abbrev pub survivors : List Occurrence → List Event
+-- what is left: all but what a crash took away, with a restart for each crash
+abbrev pub survivors : List Occurrence → List Happened
 survivors xs = left (λ name. false) xs
 
 -- the world is what runs
@@ -112,7 +120,7 @@ pub record Shows (w : World) (s : System) : Type 0 where
   pub replica : (name : ℕ) → w.replica name ≡ s.replica name
   pub messages : map (λ m. m.mail) w.messages ≡ s.messages
 
--- Whatever occurs, and whichever replicas crash, however often: what runs is the world after the events that are left.
+-- Whatever occurs, and whichever replicas crash, however often: what runs is the world to which what is left leads.
 abbrev pub CrashesTakeBack : Type 0
 CrashesTakeBack = (hash_of : List ℕ → ℕ) (xs : List Occurrence) (s : System) → Goes hash_of started xs s
-    → (w : World) × Runs hash_of nothing (survivors xs) w × Shows w s
+    → (w : World) × Leads hash_of nothing (survivors xs) w × Shows w s

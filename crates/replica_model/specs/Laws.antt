@@ -1,6 +1,6 @@
 -- The laws of one replica's step, and of worlds over all lists of events. Of this project. A law is proved where a function of src/
 -- names it.
-use Rattle.std.specs.Prelude.{◌≡◌, ◌≢◌, ◌⊎◌, ℕ, ◌≤◌, ◌<◌, ◌^◌, Bool, List, [], ◌∷◌, ◌++◌, Option, Some, None, length}
+use Rattle.std.specs.Prelude.{◌≡◌, ◌≢◌, ◌⊎◌, ℕ, ◌≤◌, ◌<◌, ◌^◌, Bool, false, List, [], ◌∷◌, ◌++◌, Option, Some, None, length}
 use Rattle.std.specs.FinMap as finite
 use Rattle.dots.specs.Dot.{DotValue}
 use Rattle.std.specs.List.{Contains}
@@ -22,8 +22,8 @@ use Rattle.replica_model.specs.Delivery.{Outcome, Sent, Done, Ignored, Mismatch}
 use Rattle.replica_model.specs.Step.{Call, Put, Remove, RemoveField, Clear, Flush, Retry, Abandon, Restart, Do, Take, Act, Answer, Came, IsStep, Refuses}
 use Rattle.replica_model.specs.Step as step
 use Rattle.replica_model.specs.World.{World, Event, Node, At, Deliver, Message, sets_of}
-use Rattle.replica_model.specs.World.{message_at, no_snapshot, taking_of, nothing, Happens, RefusesEvent, Runs, Unclashed}
-use Rattle.replica_model.specs.Sessions.{IsTakenOf, IsAskOf, IsSession, IsEnd}
+use Rattle.replica_model.specs.World.{is_node, message_at, no_snapshot, taking_of, nothing, Happens, RefusesEvent, Runs, Unclashed}
+use Rattle.replica_model.specs.Sessions.{IsTakenOf, IsAskOf, IsSession, IsEnd, HasFetched}
 
 -- ---- one
 
@@ -94,7 +94,8 @@ Openings = (hash_of : List ℕ → ℕ) (events : List Event) (w : World) → Ru
 -- a synchronisation that ends adds just what its peer had seen when it opened
 abbrev pub Ends : Type 0
 Ends = (hash_of : List ℕ → ℕ) (events : List Event) (w v : World) (number name : ℕ) → Runs hash_of nothing events w
-    → (answer : Answer) → Happens hash_of w (Deliver number name) answer v → answer ≡ Came Done → IsEnd hash_of events w v number name
+    → (answer : Answer) → Happens hash_of w (Deliver number name) answer v → answer ≡ Came Done
+    → (end : IsEnd hash_of events w v number name) × HasFetched hash_of events w v number name end
 
 -- ---- what replicas hold
 
@@ -152,6 +153,11 @@ pub record Leaves (w v : World) (name : ℕ) : Type 0 where
 
 abbrev pub EventsLeave : Type 0
 EventsLeave = (hash_of : List ℕ → ℕ) (w v : World) (e : Event) (answer : Answer) → Happens hash_of w e answer v → Leaves w v (replica_of e)
+
+-- a replica that is not there has seen nothing, and is to send nothing
+abbrev pub AbsentHaveSeenNothing : Type 0
+AbsentHaveSeenNothing = (hash_of : List ℕ → ℕ) (events : List Event) (w : World) → Runs hash_of nothing events w
+    → (name : ℕ) → is_node w name ≡ false → (w.seen name ≡ []) × (w.outgoing name ≡ [])
 
 -- ---- limits
 

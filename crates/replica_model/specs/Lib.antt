@@ -3,6 +3,10 @@ pub mod Replica
 pub mod Delivery
 pub mod Step
 pub mod World
+pub mod Happened
+pub mod Spelled
+pub mod Seen
+pub mod Accounts
 pub mod Crashing
 pub mod Sessions
 pub mod Laws
@@ -11,3 +15,4 @@ pub mod Answers
 pub mod Differing
 pub mod Alone
 pub mod SessionsAlone
+pub mod Examples

@@ -88,10 +88,8 @@ module _ (hash_of : List ℕ → ℕ) where
     pub once : (t : Taking) (older newer : List Taking) → takings ≡ newer ++ t ∷ older → ¬ TakenAt older t.prefix
     pub theirs_taken : (t : Taking) → Contains takings t → (page_at hash_of theirs t.prefix ≡ Some t.page) × (t.sent ≡ unknown_at known hash_of theirs t.prefix)
 
-  -- How a delivery ends a session with Done: the message is an opening or a page of a session that is open at its asker; it adds to its asker just what
-  -- the answerer had seen when the snapshot was taken that the accepted opening shows; and unless two pages or values that the session met have one
-  -- SHA-256, whatever other sessions met, it took the snapshot's page at just each prefix where the maps differ, once, and it joins into the asker's
-  -- live state what that of the answerer was then.
+  -- How a delivery ends a session with Done: the message is an opening or a page of a session that is open at its asker; and it adds to its asker just
+  -- what the answerer had seen when the snapshot was taken that the accepted opening shows.
   pub record IsEnd (events : List Event) (w v : World) (number name : ℕ) : Type 0 where
     pub ended : Open
     pub was_open : Contains (w.replica name).sessions ended
@@ -105,9 +103,13 @@ module _ (hash_of : List ℕ → ℕ) where
     pub context : DotValue → Bool
     pub snapshot : IsTakenOf events ended.session of.seen of.map context
     pub adds : v.seen name ≡ w.seen name ++ of.seen
+
+  -- What that session fetched: unless two pages or values that it met have one SHA-256, whatever other sessions met, it took the snapshot's page at just
+  -- each prefix where the maps differ, once, and it joins into the asker's live state what that of the answerer was then.
+  pub record HasFetched (events : List Event) (w v : World) (number name : ℕ) (end : IsEnd events w v number name) : Type 0 where
     pub takings : List Taking
-    pub pages : takings ≡ taken_with w message.mail
-    pub met : v.closed ≡ w.closed ++ record { own = ended.own; theirs = of.map; takings = takings } ∷ []
-    pub all : NoClash hash_of ended.own of.map takings → TookAll ended.own of.map ended.seen takings
-    pub joins : NoClash hash_of ended.own of.map takings → (v.replica name).live ≡ join greater (w.replica name).live
-        (snapshot.before.replica ended.session.answerer).live
+    pub pages : takings ≡ taken_with w end.message.mail
+    pub met : v.closed ≡ w.closed ++ record { own = end.ended.own; theirs = end.of.map; takings = takings } ∷ []
+    pub all : NoClash hash_of end.ended.own end.of.map takings → TookAll end.ended.own end.of.map end.ended.seen takings
+    pub joins : NoClash hash_of end.ended.own end.of.map takings → (v.replica name).live ≡ join greater (w.replica name).live
+        (end.snapshot.before.replica end.ended.session.answerer).live

@@ -1,6 +1,6 @@
 -- Worlds of replicas that write, send, deliver and synchronise, told two ways side by side: by the replicas themselves and the messages between
--- them, which is what runs, and by the sets of operations that these stand for. Which set a delivery adds follows the answer that the
--- replica gave. Of this project; after the delta-interval anti-entropy of Almeida, Shoker and Baquero, "Delta State Replicated
+-- them, which is what runs, and by the sets of operations that these stand for. A delta adds what it stands for; which set any other delivery adds
+-- follows the answer that the replica gave. Of this project; after the delta-interval anti-entropy of Almeida, Shoker and Baquero, "Delta State Replicated
 -- Data Types" (2018).
 --
 -- A lost message is one that is never delivered, a repeated one is delivered again.
@@ -19,7 +19,7 @@ use Rattle.sync_model.specs.Differ.{Held}
 use Rattle.sync_model.specs.Laws.{Taking, NoClash}
 use Rattle.replica_model.specs.Mail.{Mail, Delta, Hello, Opening, Ask, Page, Gone}
 use Rattle.replica_model.specs.Replica.{Replica, Open, Kept, fresh, open_at, kept_at}
-use Rattle.replica_model.specs.Delivery.{Outcome, Joined, Sent, Done}
+use Rattle.replica_model.specs.Delivery.{Outcome, Sent, Done}
 use Rattle.replica_model.specs.Step.{Call, Put, Remove, RemoveField, Clear, Flush, Retry, Abandon, Restart, Do, Take, Answer, Nothing, Came, IsStep, Refuses}
 use Rattle.replica_model.specs.Step as call
 
@@ -119,10 +119,6 @@ calls name (Abandon number) w = w
 calls name Restart w = w
 
 -- whether a delivery was answered so
-abbrev pub is_joined : Outcome → Bool
-is_joined Joined = true
-is_joined other = false
-
 abbrev pub is_sent : Outcome → Bool
 is_sent Sent = true
 is_sent other = false
@@ -163,7 +159,7 @@ ends name own of takings w = record w {
 
 -- after a delivery, by the mail, what it stands for, and the answer
 abbrev pub takes : ℕ → Replica → Mail → Snapshot → Outcome → World → World
-takes name old (Delta d) of outcome w = cond (is_joined outcome) (learns name of.seen w) w
+takes name old (Delta d) of outcome w = learns name of.seen w
 takes name old (Hello s seen) of outcome w = cond (is_sent outcome) (keeps name old s w) w
 takes name old (Opening s context root) of outcome w =
     cond (is_done outcome) (ends name (own_of (open_at old.sessions s)) of [] w) (cond (is_sent outcome) (accepts s of w) w)

@@ -2,12 +2,14 @@
 // Offered to the crates above: what a replica and a world have to do, and what holds over all lists of events.
 #![tactic(auto)]
 
+mod examples;
 mod headline;
 mod replica_alone;
 mod sessions;
 mod steps;
 mod worlds;
 
+pub use examples::{a_delivery_is_seen, a_synchronisation_adds_what_was_seen};
 pub use headline::{
     calls_are_told_by_what_was_seen, replicas_hold_what_they_have_seen,
     what_has_seen_the_same_holds_the_same,
@@ -28,6 +30,6 @@ pub use steps::{
     steps_leave_other_sessions,
 };
 pub use worlds::{
-    crashes_take_back, each_event_happens_or_is_refused, events_leave_all_else,
+    accounts_are_told, crashes_take_back, each_event_happens_or_is_refused, events_leave_all_else,
     replicas_stay_within_limits, worlds_are_one, worlds_are_sound,
 };

@@ -1,9 +1,9 @@
 -- A store's write as occurrences of a system.
-use Rattle.std.proofs.Common.{◌≡◌, ◌≢◌, ◌⊎◌, inl, inr, ℕ, true, eq-eqb, List, [], ◌∷◌, ◌++◌, refl, sym, ap, subst, ◌∙◌, cond, ◌==◌}
+use Rattle.std.proofs.Common.{◌≡◌, ◌≢◌, ◌⊎◌, inl, inr, ℕ, true, eq-eqb, List, [], ◌∷◌, ◌++◌, length, refl, sym, ap, subst, ◌∙◌, cond, ◌==◌}
 use Rattle.std.proofs.lemmas.List.{append-nil}
 use Rattle.dots.specs.declared.dot.Dot.{Dot}
 use Rattle.op_model.specs.World.{is_among}
-use Rattle.replica_model.specs.Crashing.{System, Occurrence, Saving, Passing, Crashes, Does, Goes, Occurs, put, goes, nodes_after}
+use Rattle.replica_model.specs.Crashing.{System, Occurrence, Saving, Crashes, Does, Goes, Occurs, put, goes, nodes_after}
 use Rattle.replica_model.specs.Delivery.{Outcome, Sent}
 use Rattle.replica_model.specs.Mail.{Mail}
 use Rattle.replica_model.specs.Replica.{Replica, restarts}
@@ -13,7 +13,7 @@ use Rattle.replica_model.specs.World.{Event, Node, At, Deliver}
 use Rattle.replica_model.specs.Laws.{replica_of}
 use Rattle.replica_store.specs.Rebuilt.{IsRebuilt}
 use Rattle.replica_store.specs.Systems.{IsWrite, written, WritesAreSaved, CrashesComeBack, EventsAreSaved, EventsComeBack, AllAreSaved, AllComeBack, AreMade}
-use Rattle.replica_store.specs.Systems.{all_written}
+use Rattle.replica_store.specs.Systems.{all_written, flushing, happened, passing}
 use Rattle.replica_store.proofs.Rebuilt.{one_rebuilt}
 
 put_there : {X : Type 0} (f : ℕ → X) (name : ℕ) (x : X) → put f name x name ≡ x
@@ -29,11 +29,11 @@ not_counted e = cc
 module _ (hash_of : List ℕ → ℕ) (s : System) (name : ℕ) (there : is_among s.nodes name ≡ true) where
   -- a write passes
   passes : (call : Call) (mid : Replica) (answer : Answer) → IsWrite call → IsStep hash_of (s.replica name) (Do call) mid answer []
-      → Occurs hash_of s (Passing (At name call)) (goes hash_of s (At name call) mid [])
-  passes (Put place value) mid answer is step = (mid, answer, (there, refl, step), (λ e. not_made (sym step.4 ∙ e)), refl)
-  passes (Remove key) mid answer is step = (mid, answer, (there, refl, step), (λ e. not_counted (sym step.3.2 ∙ e)), refl)
-  passes (RemoveField place) mid answer is step = (mid, answer, (there, refl, step), (λ e. not_counted (sym step.3.2 ∙ e)), refl)
-  passes Clear mid answer is step = (mid, answer, (there, refl, step), (λ e. not_counted (sym step.3.2 ∙ e)), refl)
+      → Occurs hash_of s (passing name call answer) (goes hash_of s (At name call) mid [])
+  passes (Put place value) mid answer is step = (mid, (there, refl, step), refl, (λ e. not_made (sym step.4 ∙ e)), refl)
+  passes (Remove key) mid answer is step = (mid, (there, refl, step), refl, (λ e. not_counted (sym step.3.2 ∙ e)), refl)
+  passes (RemoveField place) mid answer is step = (mid, (there, refl, step), refl, (λ e. not_counted (sym step.3.2 ∙ e)), refl)
+  passes Clear mid answer is step = (mid, (there, refl, step), refl, (λ e. not_counted (sym step.3.2 ∙ e)), refl)
   passes Flush mid answer is step = absurd is
   passes (Ask peer) mid answer is step = absurd is
   passes (Retry number) mid answer is step = absurd is
@@ -45,10 +45,10 @@ module _ (hash_of : List ℕ → ℕ) (s : System) (name : ℕ) (there : is_amon
     abbrev after : System
     after = record (goes hash_of (goes hash_of s (At name call) mid []) (At name Flush) new out) { saved = put s.saved name new }
 
-    saves : Occurs hash_of (goes hash_of s (At name call) mid []) (Saving (At name Flush)) after
-    saves = (new, Nothing, out, (there, refl, subst (λ r. IsStep hash_of r (Do Flush) new Nothing out) (sym (put_there s.replica name mid)) sent), refl)
+    saves : Occurs hash_of (goes hash_of s (At name call) mid []) (flushing name (length out)) after
+    saves = (new, out, (there, refl, subst (λ r. IsStep hash_of r (Do Flush) new Nothing out) (sym (put_there s.replica name mid)) sent), refl, refl)
 
-    pub wrote : (t : System) × (Goes hash_of s (written name call) t × (t.replica name ≡ new) × (t.saved name ≡ new) × (t.messages ≡ s.messages ++ out))
+    pub wrote : (t : System) × (Goes hash_of s (written name call answer (length out)) t × (t.replica name ≡ new) × (t.saved name ≡ new) × (t.messages ≡ s.messages ++ out))
         × (t.nodes ≡ s.nodes)
     wrote = (
       after,
@@ -86,7 +86,7 @@ crashes_come_back hash_of s name call mid new answer out strings back is there s
       let w = wrote hash_of s name there call mid new answer out is made sent in
       let c = crashed hash_of w.0 name (ap (λ ns. is_among ns name) w.2 ∙ there) in (
         c.0,
-        inr (goes_on hash_of (written name call) (Crashes name ∷ []) s w.0 c.0 w.1.0 (c.0, c.1, refl)),
+        inr (goes_on hash_of (written name call answer (length out)) (Crashes name ∷ []) s w.0 c.0 w.1.0 (c.0, c.1, refl)),
         c.2 ∙ ap restarts w.1.2 ∙ one_rebuilt strings (restarts new) back now rebuilt,
       ))
 ]
@@ -98,8 +98,8 @@ module _ (hash_of : List ℕ → ℕ) (s : System) (event : Event) (new : Replic
   abbrev saving : System
   saving = record (goes hash_of s event new out) { saved = put s.saved (replica_of event) new }
 
-  occurred : Goes hash_of s (Saving event ∷ []) saving
-  occurred = (saving, (new, answer, out, does, refl), refl)
+  occurred : Goes hash_of s (Saving (happened event answer out) ∷ []) saving
+  occurred = (saving, (new, out, does, refl, refl), refl)
 
 still_there : (hash_of : List ℕ → ℕ) (s : System) (event : Event) (new : Replica) (answer : Answer) (out : List Mail) → Does hash_of s event new answer out
     → is_among s.nodes (replica_of event) ≡ true → is_among (nodes_after s.nodes event) (replica_of event) ≡ true
@@ -125,7 +125,7 @@ events_come_back hash_of s event new answer out strings back there saved does ke
       let t = saving hash_of s event new answer out does in
       let c = crashed hash_of t (replica_of event) (still_there hash_of s event new answer out does there) in (
         c.0,
-        inr (goes_on hash_of (Saving event ∷ []) (Crashes (replica_of event) ∷ []) s t c.0 (occurred hash_of s event new answer out does) (c.0, c.1, refl)),
+        inr (goes_on hash_of (Saving (happened event answer out) ∷ []) (Crashes (replica_of event) ∷ []) s t c.0 (occurred hash_of s event new answer out does) (c.0, c.1, refl)),
         c.2 ∙ ap restarts (put_there s.saved (replica_of event) new) ∙ one_rebuilt strings (restarts new) back now rebuilt,
       ))
 ]
@@ -134,7 +134,7 @@ events_come_back hash_of s event new answer out strings back there saved does ke
 
 all_wrote : (hash_of : List ℕ → ℕ) (s : System) (name : ℕ) (calls : List Call) (answers : List Answer) (mid new : Replica) (out : List Mail)
     → is_among s.nodes name ≡ true → AreMade hash_of (s.replica name) calls answers mid → IsStep hash_of mid (Do Flush) new Nothing out
-    → (t : System) × (Goes hash_of s (all_written name calls) t × (t.replica name ≡ new) × (t.saved name ≡ new) × (t.messages ≡ s.messages ++ out))
+    → (t : System) × (Goes hash_of s (all_written name calls answers (length out)) t × (t.replica name ≡ new) × (t.saved name ≡ new) × (t.messages ≡ s.messages ++ out))
     × (t.nodes ≡ s.nodes)
 all_wrote hash_of s name [] [] mid new out there made sent =
     let does : Does hash_of s (At name Flush) new Nothing out = (there, refl, subst (λ r. IsStep hash_of r (Do Flush) new Nothing out) made sent) in (
@@ -173,7 +173,7 @@ all_come_back hash_of s name calls answers mid new out strings back there saved 
       let w = all_wrote hash_of s name calls answers mid new out there made sent in
       let c = crashed hash_of w.0 name (ap (λ ns. is_among ns name) w.2 ∙ there) in (
         c.0,
-        inr (goes_on hash_of (all_written name calls) (Crashes name ∷ []) s w.0 c.0 w.1.0 (c.0, c.1, refl)),
+        inr (goes_on hash_of (all_written name calls answers (length out)) (Crashes name ∷ []) s w.0 c.0 w.1.0 (c.0, c.1, refl)),
         c.2 ∙ ap restarts w.1.2 ∙ one_rebuilt strings (restarts new) back now rebuilt,
       ))
 ]

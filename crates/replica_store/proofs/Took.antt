@@ -14,8 +14,8 @@ use Rattle.replica_store.specs.Took.{TookAs, Joins, BringsAs}
 
 row : (hash_of : List ℕ → ℕ) (own : Held) (r : Replica) (mail : Mail) → TookAs r mail (delivered hash_of own r mail).outcome (delivered hash_of own r mail).new
 row hash_of own r = each_row hash_of own r (λ mail t. TookAs r mail t.outcome t.new) (record {
-  ignoring = λ mail. refl;
-  mismatch = λ mail. refl;
+  ignoring = λ mail other. refl;
+  mismatch = λ mail other. refl;
   delta = λ d. (d, refl, refl);
   told_again = λ s seen k e. refl;
   kept = λ s seen here none. refl;

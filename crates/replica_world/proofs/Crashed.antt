@@ -1,5 +1,5 @@
 -- What is kept of replicas for when they crash, as more occurs.
-use Rattle.std.proofs.Common.{◌≡◌, ◌≢◌, ◌⊎◌, inl, inr, ◌≤◌, ℕ, ◌+◌, ◌==◌, ◌||◌, nat_lt, Bool, true, false, cond, List, [], ◌∷◌, ◌++◌, map, Option, Some, None}
+use Rattle.std.proofs.Common.{◌≡◌, ◌≢◌, ◌⊎◌, inl, inr, ◌≤◌, ℕ, ◌+◌, ◌==◌, ◌||◌, nat_lt, Bool, true, false, cond, List, [], ◌∷◌, ◌++◌, map, length, Option, Some, None}
 use Rattle.std.proofs.Common.{refl, sym, ap, ◌∙◌, subst, arith}
 use Rattle.std.proofs.lemmas.Bool.Decides.{nat_tests}
 use Rattle.std.proofs.lemmas.List.{map-append}
@@ -7,16 +7,18 @@ use Rattle.std.proofs.lemmas.Option.{same_Some}
 use Rattle.std.specs.Prelude.{not, filter, ◌&&◌}
 use Rattle.std.specs.List.{fold}
 use Rattle.op_model.specs.World.{is_among}
-use Rattle.replica_model.specs.Crashing.{Occurrence, Saving, Passing, Saves, Crashes, System, Does, Occurs, Goes, Shows, put, started, survivors}
+use Rattle.replica_model.specs.Crashing.{Occurrence, Saving, Passing, Saves, Crashes, System, Does, Occurs, Goes, Shows, put, may_be_lost, restarted, started, survivors}
 use Rattle.replica_model.specs.Crashing as crashing
 use Rattle.replica_model.specs.Delivery.{Sent}
+use Rattle.replica_model.specs.Happened.{Happened, events_in, Leads}
 use Rattle.replica_model.specs.Laws.{replica_of}
 use Rattle.replica_model.specs.Replica.{Replica, restarts}
-use Rattle.replica_model.specs.Step.{Restart, Answer, Came}
-use Rattle.replica_model.specs.World.{World, Message, Event, Node, At, Deliver, is_node, nothing, Runs}
+use Rattle.replica_model.specs.Step.{Answer, Came}
+use Rattle.replica_model.specs.World.{World, Message, Event, Node, At, Deliver, nothing, Runs}
 use Rattle.replica_model.proofs.Crashing.{take_back}
 use Rattle.replica_model.proofs.Deciding.{worlds_one}
-use Rattle.replica_world.specs.Held.{Held, events_of, is_act, save_at, is_left, after, held_after, goes_further, is_saved_with, occurrence, held_by, held_in}
+use Rattle.replica_model.proofs.Telling.{leads_run}
+use Rattle.replica_world.specs.Held.{Held, happened_in, events_of, is_act, save_at, is_left, after, held_after, goes_further, is_saved_with, occurrence, held_by, held_in}
 use Rattle.replica_world.specs.Held.{saves_at, AreBefore, IsKept}
 use Rattle.replica_world.proofs.Held.{held_survives}
 use Rattle.replica_world.proofs.Systems.{Did}
@@ -38,39 +40,43 @@ held_more : (hs : List Held) (xs : List Occurrence) (x : Occurrence) → fold af
 held_more hs [] x = refl
 held_more hs (y ∷ xs) x = held_more (after hs y) xs x
 
--- an event comes behind those that are held
-pub saving_keeps : (name : ℕ) (hs : List Held) → events_of (map (save_at name) hs) ≡ events_of hs
+-- what happens comes behind what is held
+pub saving_keeps : (name : ℕ) (hs : List Held) → happened_in (map (save_at name) hs) ≡ happened_in hs
 saving_keeps name [] = refl
-saving_keeps name (h ∷ hs) = ap (λ es. h.event ∷ es) (saving_keeps name hs)
+saving_keeps name (h ∷ hs) = ap (λ xs. h.happened ∷ xs) (saving_keeps name hs)
 
-pub events_after : (hs : List Held) (e : Event) (answer : Answer) (sends : Bool) → events_of (after hs (occurrence e answer sends)) ≡ events_of hs ++ e ∷ []
-events_after hs e answer sends = by (is_saved_with e answer sends)
+pub happened_after : (hs : List Held) (x : Happened) → happened_in (after hs (occurrence x)) ≡ happened_in hs ++ x ∷ []
+happened_after hs x = by (is_saved_with x)
   where
-    by : (b : Bool) → events_of (after hs (cond b (Saving e) (Passing e))) ≡ events_of hs ++ e ∷ []
-    by true = map-append (λ (h : Held). h.event) (map (save_at (replica_of e)) hs) (record { event = e; is_saved = true } ∷ [])
-        ∙ ap (λ es. es ++ e ∷ []) (saving_keeps (replica_of e) hs)
-    by false = map-append (λ (h : Held). h.event) hs (record { event = e; is_saved = false } ∷ [])
+    by : (b : Bool) → happened_in (after hs (cond b (Saving x) (Passing x))) ≡ happened_in hs ++ x ∷ []
+    by true = map-append (λ (h : Held). h.happened) (map (save_at (replica_of x.event)) hs) (record { happened = x; is_saved = true } ∷ [])
+        ∙ ap (λ xs. xs ++ x ∷ []) (saving_keeps (replica_of x.event) hs)
+    by false = map-append (λ (h : Held). h.happened) hs (record { happened = x; is_saved = false } ∷ [])
+
+pub events_after : (hs : List Held) (x : Happened) → events_of (after hs (occurrence x)) ≡ events_of hs ++ x.event ∷ []
+events_after hs x = ap events_in (happened_after hs x) ∙ map-append (λ (h : Happened). h.event) (happened_in hs) (x ∷ [])
 
 -- ---- what is held, by how often replicas were saved
 
-pub events_held : (saves : ℕ → ℕ) (rows : List (Event × ℕ)) → events_of (held_in saves rows) ≡ map (λ a. a.0) rows
-events_held saves [] = refl
-events_held saves (a ∷ rest) = ap (λ es. a.0 ∷ es) (events_held saves rest)
+pub happened_held : (saves : ℕ → ℕ) (rows : List (Happened × ℕ)) → happened_in (held_in saves rows) ≡ map (λ a. a.0) rows
+happened_held saves [] = refl
+happened_held saves (a ∷ rest) = ap (λ hs. a.0 ∷ hs) (happened_held saves rest)
 
-pub held_same : (saves now : ℕ → ℕ) → ((n : ℕ) → now n ≡ saves n) → (rows : List (Event × ℕ)) → held_in now rows ≡ held_in saves rows
+pub held_same : (saves now : ℕ → ℕ) → ((n : ℕ) → now n ≡ saves n) → (rows : List (Happened × ℕ)) → held_in now rows ≡ held_in saves rows
 held_same saves now same [] = refl
-held_same saves now same (a ∷ rest) = λ i. record { event = a.0; is_saved = nat_lt a.1 (same (replica_of a.0) i) } ∷ held_same saves now same rest i
+held_same saves now same (a ∷ rest) = λ i. record { happened = a.0; is_saved = nat_lt a.1 (same (replica_of a.0.event) i) } ∷ held_same saves now same rest i
 
-before_same : (saves now : ℕ → ℕ) → ((n : ℕ) → saves n ≤ now n) → (rows : List (Event × ℕ)) → AreBefore saves rows → AreBefore now rows
+before_same : (saves now : ℕ → ℕ) → ((n : ℕ) → saves n ≤ now n) → (rows : List (Happened × ℕ)) → AreBefore saves rows → AreBefore now rows
 before_same saves now more [] before = tt
-before_same saves now more (a ∷ rest) (first, before) = (omega (arith, first, more (replica_of a.0)), before_same saves now more rest before)
+before_same saves now more (a ∷ rest) (first, before) = (omega (arith, first, more (replica_of a.0.event)), before_same saves now more rest before)
 
-before_on : (saves : ℕ → ℕ) (rows : List (Event × ℕ)) (a : Event × ℕ) → AreBefore saves rows → saves_at a.0 a.1 ≤ saves (replica_of a.0)
+before_on : (saves : ℕ → ℕ) (rows : List (Happened × ℕ)) (a : Happened × ℕ) → AreBefore saves rows
+    → saves_at a.0.event a.1 ≤ saves (replica_of a.0.event)
     → AreBefore saves (rows ++ a ∷ [])
 before_on saves [] a before last = (last, tt)
 before_on saves (b ∷ rest) a (first, before) last = (first, before_on saves rest a before last)
 
-before_filter : (saves : ℕ → ℕ) (p : Event × ℕ → Bool) (rows : List (Event × ℕ)) → AreBefore saves rows → AreBefore saves (filter p rows)
+before_filter : (saves : ℕ → ℕ) (p : Happened × ℕ → Bool) (rows : List (Happened × ℕ)) → AreBefore saves rows → AreBefore saves (filter p rows)
 before_filter saves p [] before = tt
 before_filter saves p (a ∷ rest) (first, before) = by (p a) (before_filter saves p rest before)
   where
@@ -100,8 +106,8 @@ less_next : (k n : ℕ) → k ≤ n → nat_lt k (n + 1) ≡ true
 less_next k n is = grind (arith, nat_tests)
 
 -- whether it stays where the replica of this name crashes, which was saved so often
-abbrev pub stays : (ℕ → ℕ) → ℕ → Event × ℕ → Bool
-stays saves name a = not (is_act name a.0 && not (nat_lt a.1 (saves name)))
+abbrev pub stays : (ℕ → ℕ) → ℕ → Happened × ℕ → Bool
+stays saves name a = not (is_act name a.0.event && not (nat_lt a.1 (saves name)))
 
 -- where a replica was saved once more
 module _ (saves now : ℕ → ℕ) (name : ℕ) (once : (n : ℕ) → now n ≡ cond (n == name) (saves n + 1) (saves n)) where
@@ -119,12 +125,12 @@ module _ (saves now : ℕ → ℕ) (name : ℕ) (once : (n : ℕ) → now n ≡ 
   flag m k less true is = ap (nat_lt k) (once m ∙ ap (λ b. cond b (saves m + 1) (saves m)) is) ∙ less_next k (saves m) less ∙ sym (or_true (nat_lt k (saves m)))
   flag m k less false is = ap (nat_lt k) (once m ∙ ap (λ b. cond b (saves m + 1) (saves m)) is) ∙ sym (or_false (nat_lt k (saves m)))
 
-  pub held_saved : (rows : List (Event × ℕ)) → AreBefore saves rows → held_in now rows ≡ map (save_at name) (held_in saves rows)
+  pub held_saved : (rows : List (Happened × ℕ)) → AreBefore saves rows → held_in now rows ≡ map (save_at name) (held_in saves rows)
   held_saved [] before = refl
   held_saved (a ∷ rest) (first, before) =
-      let least = plain a.0 a.1 in
-      let less : a.1 ≤ saves (replica_of a.0) = omega (arith, first, least) in
-      λ i. record { event = a.0; is_saved = flag (replica_of a.0) a.1 less (replica_of a.0 == name) refl i } ∷ held_saved rest before i
+      let least = plain a.0.event a.1 in
+      let less : a.1 ≤ saves (replica_of a.0.event) = omega (arith, first, least) in
+      λ i. record { happened = a.0; is_saved = flag (replica_of a.0.event) a.1 less (replica_of a.0.event == name) refl i } ∷ held_saved rest before i
 
   -- ---- and what it did before is lost
   left_bool : (s b : Bool) → not (b && not s) ≡ (s || not b)
@@ -138,14 +144,15 @@ module _ (saves now : ℕ → ℕ) (name : ℕ) (once : (n : ℕ) → now n ≡ 
   act_of (At n c) is = grind (arith, nat_tests)
   act_of (Deliver number n) is = grind (arith, nat_tests)
 
-  is_left_by : (a : Event × ℕ) (b : Bool) → is_act name a.0 ≡ b → stays saves name a ≡ is_left name (held_by saves a)
-  is_left_by a true is = left_bool (nat_lt a.1 (saves name)) (is_act name a.0) ∙ ap (λ m. nat_lt a.1 (saves m) || not (is_act name a.0)) (sym (act_of a.0 is))
+  is_left_by : (a : Happened × ℕ) (b : Bool) → is_act name a.0.event ≡ b → stays saves name a ≡ is_left name (held_by saves a)
+  is_left_by a true is = left_bool (nat_lt a.1 (saves name)) (is_act name a.0.event) ∙ ap (λ m. nat_lt a.1 (saves m) || not (is_act name a.0.event)) (sym (act_of a.0.event is))
   is_left_by a false is =
-      ap (λ b. not (b && not (nat_lt a.1 (saves name)))) is ∙ sym (or_true (nat_lt a.1 (saves (replica_of a.0))))
-      ∙ ap (λ b. nat_lt a.1 (saves (replica_of a.0)) || not b) (sym is)
+      ap (λ b. not (b && not (nat_lt a.1 (saves name)))) is ∙ sym (or_true (nat_lt a.1 (saves (replica_of a.0.event))))
+      ∙ ap (λ b. nat_lt a.1 (saves (replica_of a.0.event)) || not b) (sym is)
 
   -- one that stays is told to be saved as before
-  one_stays : (e : Event) (k : ℕ) → saves_at e k ≤ saves (replica_of e) → stays saves name (e, k) ≡ true → (b : Bool) → (replica_of e == name) ≡ b
+  one_stays : (e : Event) (k : ℕ) → saves_at e k ≤ saves (replica_of e) → not (is_act name e && not (nat_lt k (saves name))) ≡ true
+      → (b : Bool) → (replica_of e == name) ≡ b
       → nat_lt k (now (replica_of e)) ≡ nat_lt k (saves (replica_of e))
   one_stays e k before left false is = flag (replica_of e) k (let least = plain e k in omega (arith, before, least)) false is
       ∙ or_false (nat_lt k (saves (replica_of e)))
@@ -170,17 +177,17 @@ module _ (saves now : ℕ → ℕ) (name : ℕ) (once : (n : ℕ) → now n ≡ 
       not_not true e = refl
       not_not false e = e
 
-  pub held_left : (rows : List (Event × ℕ)) → AreBefore saves rows → held_in now (filter (stays saves name) rows) ≡ filter (is_left name) (held_in saves rows)
+  pub held_left : (rows : List (Happened × ℕ)) → AreBefore saves rows → held_in now (filter (stays saves name) rows) ≡ filter (is_left name) (held_in saves rows)
   held_left [] before = refl
   held_left (a ∷ rest) (first, before) =
       by (stays saves name a) refl (held_left rest before)
       ∙ ap (λ b. cond b (held_by saves a ∷ filter (is_left name) (held_in saves rest)) (filter (is_left name) (held_in saves rest)))
-      (is_left_by a (is_act name a.0) refl)
+      (is_left_by a (is_act name a.0.event) refl)
     where
       by : (b : Bool) → stays saves name a ≡ b → held_in now (filter (stays saves name) rest) ≡ filter (is_left name) (held_in saves rest)
           → held_in now (cond b (a ∷ filter (stays saves name) rest) (filter (stays saves name) rest))
           ≡ cond b (held_by saves a ∷ filter (is_left name) (held_in saves rest)) (filter (is_left name) (held_in saves rest))
-      by true is same = λ i. record { event = a.0; is_saved = one_stays a.0 a.1 first is (replica_of a.0 == name) refl i } ∷ same i
+      by true is same = λ i. record { happened = a.0; is_saved = one_stays a.0.event a.1 first is (replica_of a.0.event == name) refl i } ∷ same i
       by false is same = same
 
 -- ---- what is kept
@@ -198,18 +205,18 @@ module _ (hash_of : List ℕ → ℕ) where
     before = tt;
   }
 
-  module _ (saves : ℕ → ℕ) (back : ℕ → Option Replica) (accepted : List (Event × ℕ)) (is : IsKept hash_of saves back accepted) where
+  module _ (saves : ℕ → ℕ) (back : ℕ → Option Replica) (accepted : List (Happened × ℕ)) (is : IsKept hash_of saves back accepted) where
     s : System
     s = is.system
 
     -- the world shows the system
-    pub shown : (w : World) → Runs hash_of nothing (map (λ a. a.0) accepted) w → Shows w is.system
+    pub shown : (w : World) → Runs hash_of nothing (events_of (held_in saves accepted)) w → Shows w is.system
     shown w runs =
         let after_all = take_back hash_of is.occurred is.system is.goes in
-        let events : survivors is.occurred ≡ map (λ a. a.0) accepted = sym (held_survives is.occurred) ∙ ap events_of (sym is.holds)
-        ∙ events_held saves accepted in
-        subst (λ u. Shows u is.system) (worlds_one hash_of (map (λ a. a.0) accepted) after_all.0 w
-        (subst (λ es. Runs hash_of nothing es after_all.0) events after_all.1) runs) after_all.2
+        let same : survivors is.occurred ≡ happened_in (held_in saves accepted) = sym (held_survives is.occurred) ∙ ap happened_in (sym is.holds) in
+        subst (λ u. Shows u is.system) (worlds_one hash_of (events_of (held_in saves accepted)) after_all.0 w
+        (subst (λ hs. Runs hash_of nothing (events_in hs) after_all.0) same (leads_run hash_of (survivors is.occurred) nothing after_all.0 after_all.1)) runs)
+        after_all.2
 
     -- it is kept now what some are to come back from
     pub noted : (now : ℕ → ℕ) (later : ℕ → Option Replica) (w : World) → Shows w is.system → ((n : ℕ) → now n ≡ saves n)
@@ -259,31 +266,31 @@ module _ (hash_of : List ℕ → ℕ) where
           by false stayed at there = at ∙ is.clean n (sym stayed ∙ none) ∙ sym there
 
       -- with an event
-      pub held_saving : (e : Event) → replica_of e ≡ name → held_in now (accepted ++ (e, saves name) ∷ []) ≡ after (held_in saves accepted) (Saving e)
-      held_saving e named =
-          map-append (held_by now) accepted ((e, saves name) ∷ [])
-          ∙ (λ i. held_saved saves now name by_saves accepted is.before i ++ record { event = e; is_saved = last_flag i } ∷ [])
-          ∙ ap (λ n. map (save_at n) (held_in saves accepted) ++ record { event = e; is_saved = true } ∷ []) (sym named)
+      pub held_saving : (x : Happened) → replica_of x.event ≡ name → held_in now (accepted ++ (x, saves name) ∷ []) ≡ after (held_in saves accepted) (Saving x)
+      held_saving x named =
+          map-append (held_by now) accepted ((x, saves name) ∷ [])
+          ∙ (λ i. held_saved saves now name by_saves accepted is.before i ++ record { happened = x; is_saved = last_flag i } ∷ [])
+          ∙ ap (λ n. map (save_at n) (held_in saves accepted) ++ record { happened = x; is_saved = true } ∷ []) (sym named)
         where
-          last_flag : nat_lt (saves name) (now (replica_of e)) ≡ true
+          last_flag : nat_lt (saves name) (now (replica_of x.event)) ≡ true
           last_flag = ap (λ m. nat_lt (saves name) (now m)) named ∙ ap (nat_lt (saves name)) (here saves now name by_saves)
               ∙ less_next (saves name) (saves name) (omega arith)
 
-      pub kept_saving : (e : Event) (answer : Answer) (v : World) → replica_of e ≡ name → Did hash_of is.system e answer v
-          → IsKept hash_of now later (accepted ++ (e, saves name) ∷ [])
-      kept_saving e answer v named did =
-          let t : System = record (crashing.goes hash_of is.system e did.new did.out) { saved = put is.system.saved (replica_of e) did.new } in
-          let last : saves_at e (saves name) ≤ now (replica_of e) = let bound = next e (saves name) in let least = here saves now name by_saves in let at =
-          ap now named in omega (arith, bound, least, at) in
+      pub kept_saving : (x : Happened) (v : World) → replica_of x.event ≡ name → (did : Did hash_of is.system x.event x.answer v) → length did.out ≡ x.sent
+          → IsKept hash_of now later (accepted ++ (x, saves name) ∷ [])
+      kept_saving x v named did counted =
+          let t : System = record (crashing.goes hash_of is.system x.event did.new did.out) { saved = put is.system.saved (replica_of x.event) did.new } in
+          let last : saves_at x.event (saves name) ≤ now (replica_of x.event) = let bound = next x.event (saves name) in let least =
+          here saves now name by_saves in let at = ap now named in omega (arith, bound, least, at) in
           record {
-            occurred = is.occurred ++ Saving e ∷ [];
+            occurred = is.occurred ++ Saving x ∷ [];
             system = t;
-            goes = goes_more hash_of started is.occurred is.system (Saving e) t is.goes (did.new, answer, did.out, did.does, refl);
-            holds = held_saving e named ∙ ap (λ hs. after hs (Saving e)) is.holds ∙ sym (held_more [] is.occurred (Saving e));
+            goes = goes_more hash_of started is.occurred is.system (Saving x) t is.goes (did.new, did.out, did.does, counted, refl);
+            holds = held_saving x named ∙ ap (λ hs. after hs (Saving x)) is.holds ∙ sym (held_more [] is.occurred (Saving x));
             saved = saved_now t did.new (λ n. ap (λ m. cond (n == m) did.new (is.system.saved n)) named);
             clean = clean_now t did.new (λ n. ap (λ m. cond (n == m) did.new (is.system.saved n)) named)
                 (λ n. ap (λ m. cond (n == m) did.new (is.system.replica n)) named);
-            before = before_on now accepted (e, saves name) (before_same saves now (more saves now name by_saves) accepted is.before) last;
+            before = before_on now accepted (x, saves name) (before_same saves now (more saves now name by_saves) accepted is.before) last;
           }
 
       -- by itself
@@ -314,10 +321,10 @@ module _ (hash_of : List ℕ → ℕ) where
         saved = put is.system.saved name (restarts (is.system.saved name));
       }
 
-      pub held_crashes : held_in now (filter (stays saves name) accepted ++ (At name Restart, saves name) ∷ []) ≡ after (held_in saves accepted) (Crashes name)
+      pub held_crashes : held_in now (filter (stays saves name) accepted ++ (restarted name, saves name) ∷ []) ≡ after (held_in saves accepted) (Crashes name)
       held_crashes =
-          map-append (held_by now) (filter (stays saves name) accepted) ((At name Restart, saves name) ∷ [])
-          ∙ (λ i. held_left saves now name by_saves accepted is.before i ++ record { event = At name Restart; is_saved = last_flag i } ∷ [])
+          map-append (held_by now) (filter (stays saves name) accepted) ((restarted name, saves name) ∷ [])
+          ∙ (λ i. held_left saves now name by_saves accepted is.before i ++ record { happened = restarted name; is_saved = last_flag i } ∷ [])
         where
           last_flag : nat_lt (saves name) (now name) ≡ true
           last_flag = ap (nat_lt (saves name)) (here saves now name by_saves) ∙ less_next (saves name) (saves name) (omega arith)
@@ -327,10 +334,10 @@ module _ (hash_of : List ℕ → ℕ) where
         unfolding back_again
         goes_back = goes_more hash_of started is.occurred is.system (Crashes name) back_again is.goes (there, refl)
 
-        held_back : held_in now (filter (stays saves name) accepted ++ (At name Restart, saves name) ∷ []) ≡ held_after (is.occurred ++ Crashes name ∷ [])
+        held_back : held_in now (filter (stays saves name) accepted ++ (restarted name, saves name) ∷ []) ≡ held_after (is.occurred ++ Crashes name ∷ [])
         held_back = held_crashes ∙ ap (λ hs. after hs (Crashes name)) is.holds ∙ sym (held_more [] is.occurred (Crashes name))
 
-        pub kept_crashed : IsKept hash_of now later (filter (stays saves name) accepted ++ (At name Restart, saves name) ∷ [])
+        pub kept_crashed : IsKept hash_of now later (filter (stays saves name) accepted ++ (restarted name, saves name) ∷ [])
         unfolding back_again
         kept_crashed = record {
           occurred = is.occurred ++ Crashes name ∷ [];
@@ -339,25 +346,25 @@ module _ (hash_of : List ℕ → ℕ) where
           holds = held_back;
           saved = saved_now back_again (restarts (is.system.saved name)) (λ n. refl);
           clean = clean_now back_again (restarts (is.system.saved name)) (λ n. refl) (λ n. refl);
-          before = before_on now (filter (stays saves name) accepted) (At name Restart, saves name)
+          before = before_on now (filter (stays saves name) accepted) (restarted name, saves name)
               (before_filter now (stays saves name) accepted (before_same saves now (more saves now name by_saves) accepted is.before))
               (more saves now name by_saves name);
         }
 
         -- the world that it leads to is as before, but for this replica
         pub world_crashed : (w : World) → Shows w is.system → (u : World)
-            × Runs hash_of nothing (map (λ a. a.0) (filter (stays saves name) accepted ++ (At name Restart, saves name) ∷ [])) u
+            × Leads hash_of nothing (happened_in (held_in now (filter (stays saves name) accepted ++ (restarted name, saves name) ∷ []))) u
             × (u.nodes ≡ w.nodes) × ((n : ℕ) → u.replica n ≡ cond (n == name) (restarts (is.system.saved name)) (w.replica n))
             × (map (λ (m : Message). m.mail) u.messages ≡ map (λ (m : Message). m.mail) w.messages)
         unfolding back_again
         world_crashed w shows =
             let after_all = take_back hash_of (is.occurred ++ Crashes name ∷ []) back_again goes_back in
-            let rows = filter (stays saves name) accepted ++ (At name Restart, saves name) ∷ [] in
-            let events : survivors (is.occurred ++ Crashes name ∷ []) ≡ map (λ a. a.0) rows =
-            sym (held_survives (is.occurred ++ Crashes name ∷ [])) ∙ ap events_of (sym held_back) ∙ events_held now rows in
+            let all : List Occurrence = is.occurred ++ Crashes name ∷ [] in
+            let same : survivors all ≡ happened_in (held_in now (filter (stays saves name) accepted ++ (restarted name, saves name) ∷ [])) =
+            sym (held_survives all) ∙ ap happened_in (sym held_back) in
             let told = after_all.2 in (
               after_all.0,
-              subst (λ es. Runs hash_of nothing es after_all.0) events after_all.1,
+              subst (λ hs. Leads hash_of nothing hs after_all.0) same after_all.1,
               told.nodes ∙ sym shows.nodes,
               (λ n. told.replica n ∙ ap (cond (n == name) (restarts (is.system.saved name))) (sym (shows.replica n))),
               told.messages ∙ sym shows.messages,
@@ -371,41 +378,47 @@ module _ (hash_of : List ℕ → ℕ) where
     or_none true b none = absurd (clash none)
     or_none false b none = (refl, none)
 
-    passes : (e : Event) (answer : Answer) (sends : Bool) → is_saved_with e answer sends ≡ false → (sends ≡ false) × (answer ≢ Came Sent)
-    passes (Node name) answer sends none = absurd (clash none)
-    passes (At name c) answer sends none = let both = or_none sends (goes_further answer) none in (both.0, not_sent answer both.1)
-    passes (Deliver number name) answer sends none = let both = or_none sends (goes_further answer) none in (both.0, not_sent answer both.1)
+    none_sent : (n : ℕ) → not (n == 0) ≡ false → n ≡ 0
+    none_sent n none = grind (arith, nat_tests)
 
-    no_node : (e : Event) (answer : Answer) (sends : Bool) (k : ℕ) → is_saved_with e answer sends ≡ false → saves_at e k ≡ k
-    no_node (Node name) answer sends k none = absurd (clash none)
-    no_node (At name c) answer sends k none = refl
-    no_node (Deliver number name) answer sends k none = refl
+    passes : (x : Happened) → is_saved_with x ≡ false → (x.sent ≡ 0) × (x.answer ≢ Came Sent)
+    passes x none =
+        let both = or_none (not (x.sent == 0)) (goes_further x.answer) (or_none (not (may_be_lost x.event)) _ none).1 in
+        (none_sent x.sent both.0, not_sent x.answer both.1)
 
-    pub held_passing : (e : Event) → held_in saves (accepted ++ (e, saves (replica_of e)) ∷ []) ≡ after (held_in saves accepted) (Passing e)
-    held_passing e = map-append (held_by saves) accepted ((e, saves (replica_of e)) ∷ [])
-        ∙ (λ i. held_in saves accepted ++ record { event = e; is_saved = last_flag i } ∷ [])
+    no_node : (e : Event) (k : ℕ) → not (may_be_lost e) ≡ false → saves_at e k ≡ k
+    no_node (Node name) k none = absurd (clash none)
+    no_node (At name c) k none = refl
+    no_node (Deliver number name) k none = refl
+
+    pub held_passing : (x : Happened) → held_in saves (accepted ++ (x, saves (replica_of x.event)) ∷ []) ≡ after (held_in saves accepted) (Passing x)
+    held_passing x = map-append (held_by saves) accepted ((x, saves (replica_of x.event)) ∷ [])
+        ∙ (λ i. held_in saves accepted ++ record { happened = x; is_saved = last_flag i } ∷ [])
       where
-        last_flag : nat_lt (saves (replica_of e)) (saves (replica_of e)) ≡ false
+        last_flag : nat_lt (saves (replica_of x.event)) (saves (replica_of x.event)) ≡ false
         last_flag = grind (arith, nat_tests)
 
-    pub kept_passing : (e : Event) (answer : Answer) (sends : Bool) (v : World) → is_saved_with e answer sends ≡ false
-        → (did : Did hash_of is.system e answer v) → (sends ≡ false → did.out ≡ [])
-        → (r : Replica) → back (replica_of e) ≡ Some r → IsKept hash_of saves back (accepted ++ (e, saves (replica_of e)) ∷ [])
-    kept_passing e answer sends v none did quiet r kept =
-        let t : System = crashing.goes hash_of is.system e did.new [] in
-        let both = passes e answer sends none in
-        let does = subst (Does hash_of is.system e did.new answer) (quiet both.0) did.does in
+    none_out : {X : Type 0} (xs : List X) → length xs ≡ 0 → xs ≡ []
+    none_out [] e = refl
+    none_out (x ∷ xs) e = absurd cc
+
+    pub kept_passing : (x : Happened) (v : World) → is_saved_with x ≡ false → (did : Did hash_of is.system x.event x.answer v) → length did.out ≡ x.sent
+        → (r : Replica) → back (replica_of x.event) ≡ Some r → IsKept hash_of saves back (accepted ++ (x, saves (replica_of x.event)) ∷ [])
+    kept_passing x v none did counted r kept =
+        let t : System = crashing.goes hash_of is.system x.event did.new [] in
+        let both = passes x none in
+        let does = subst (Does hash_of is.system x.event did.new x.answer) (none_out did.out (counted ∙ both.0)) did.does in
         record {
-          occurred = is.occurred ++ Passing e ∷ [];
+          occurred = is.occurred ++ Passing x ∷ [];
           system = t;
-          goes = goes_more hash_of started is.occurred is.system (Passing e) t is.goes (did.new, answer, does, both.1, refl);
-          holds = held_passing e ∙ ap (λ hs. after hs (Passing e)) is.holds ∙ sym (held_more [] is.occurred (Passing e));
+          goes = goes_more hash_of started is.occurred is.system (Passing x) t is.goes (did.new, does, both.0, both.1, refl);
+          holds = held_passing x ∙ ap (λ hs. after hs (Passing x)) is.holds ∙ sym (held_more [] is.occurred (Passing x));
           saved = is.saved;
-          clean = λ n gone. clean_by n gone (n == replica_of e) refl;
-          before = before_on saves accepted (e, saves (replica_of e)) is.before
-              (let same = no_node e answer sends (saves (replica_of e)) none in omega (arith, same));
+          clean = λ n gone. clean_by n gone (n == replica_of x.event) refl;
+          before = before_on saves accepted (x, saves (replica_of x.event)) is.before
+              (let same = no_node x.event (saves (replica_of x.event)) (or_none (not (may_be_lost x.event)) _ none).0 in omega (arith, same));
         }
       where
-        clean_by : (n : ℕ) → back n ≡ None → (b : Bool) → (n == replica_of e) ≡ b → is.system.saved n ≡ cond b did.new (is.system.replica n)
-        clean_by n gone true eqn = let named : n ≡ replica_of e = grind (arith, nat_tests) in absurd (none_some r (sym gone ∙ ap back named ∙ kept))
+        clean_by : (n : ℕ) → back n ≡ None → (b : Bool) → (n == replica_of x.event) ≡ b → is.system.saved n ≡ cond b did.new (is.system.replica n)
+        clean_by n gone true eqn = let named : n ≡ replica_of x.event = grind (arith, nat_tests) in absurd (none_some r (sym gone ∙ ap back named ∙ kept))
         clean_by n gone false eqn = is.clean n gone

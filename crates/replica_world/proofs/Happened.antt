@@ -14,21 +14,28 @@ use Rattle.dots.specs.declared.refusal.Refusal.{Refusal}
 use Rattle.dots.specs.declared.refusal.Refusal.TheVariants.{OutOfMemory}
 use Rattle.op_model.specs.Meaning.{state}
 use Rattle.op_model.specs.World.{is_among}
+use Rattle.replica_model.specs.Accounts.{IsAccountOf}
+use Rattle.replica_model.specs.Happened.{Happened, events_in}
 use Rattle.replica_model.specs.Laws.{MeansMail}
 use Rattle.replica_model.specs.Mail.{Mail}
 use Rattle.replica_model.specs.Replica.{Replica, fresh}
+use Rattle.replica_model.specs.Seen.{account}
+use Rattle.replica_model.specs.Seen as told
 use Rattle.replica_model.specs.Step.{Answer, Nothing}
 use Rattle.replica_model.specs.World.{World, Message, Event, Node, is_node, message_at, nothing, Happens, Runs, Unclashed}
-use Rattle.replica_model.proofs.Deciding.{worlds_one, goes_on}
+use Rattle.replica_model.proofs.Accounts.{accounts_are}
+use Rattle.replica_model.proofs.Deciding.{worlds_one}
 use Rattle.replica_model.proofs.Ended.{ends_are}
 use Rattle.replica_model.proofs.Meant.{headline}
+use Rattle.replica_model.proofs.Telling.{leads_run, leads_go_on}
 use Rattle.replica_core.specs.Meaning.{ReplicaValue, hash_in, meaning}
 use Rattle.replica_world.specs.Accepting.{IsTold}
 use Rattle.replica_world.specs.Keeping.{Keeps, IsWorld, Makes, LeavesWorld, IsRefusedEvent, ForetellsEvent}
+use Rattle.replica_world.specs.Reading.{IsThere}
 use Rattle.replica_world.specs.Refused.{IsRefusedIn}
 use Rattle.replica_world.specs.Replaces.{Replaces}
 use Rattle.replica_core.specs.Showing.{ShowsOperations}
-use Rattle.replica_world.specs.Spelled.{IsSpelled}
+use Rattle.replica_model.specs.Spelled.{IsSpelled}
 use Rattle.replica_world.proofs.Shown.{worlds_show}
 use Rattle.replica_world.proofs.Spelt.{as_many, spelled_at, spelled_past, map_back, map_past}
 
@@ -142,24 +149,31 @@ module _ {Hash : Type 0} (hash : Hash) (replicas : BTreeMap ℕ (ReplicaValue Ha
   pub count : length messages ≡ length w.messages
   count = as_many messages (map (λ (m : Message). m.mail) w.messages) keeps.spelled ∙ length-map w.messages (λ (m : Message). m.mail)
 
-module _ {Hash : Type 0} (hash_of : Hash → List ℕ → ℕ) (hash : Hash) (old : BTreeMap ℕ (ReplicaValue Hash)) (messages : List (List ℕ)) (past : List Event)
-    (is : IsWorld hash_of hash old messages past) where
-  -- of any world after this past
-  pub of_any : (P : World → Type 0) → P is.world → (w : World) → Runs (hash_of hash) nothing past w → P w
-  of_any P now w runs = subst P (worlds_one (hash_of hash) past is.world w is.runs runs) now
+module _ {Hash : Type 0} (hash_of : Hash → List ℕ → ℕ) (hash : Hash) (old : BTreeMap ℕ (ReplicaValue Hash)) (messages : List (List ℕ)) (hs : List Happened)
+    (is : IsWorld hash_of hash old messages hs) where
+  pub runs_so : Runs (hash_of hash) nothing (events_in hs) is.world
+  runs_so = leads_run (hash_of hash) hs nothing is.world is.leads
 
-  pub keeps_any : (w : World) → Runs (hash_of hash) nothing past w → Keeps hash old messages w
+  -- of any world after this past
+  pub of_any : (P : World → Type 0) → P is.world → (w : World) → Runs (hash_of hash) nothing (events_in hs) w → P w
+  of_any P now w runs = subst P (worlds_one (hash_of hash) (events_in hs) is.world w runs_so runs) now
+
+  pub keeps_any : (w : World) → Runs (hash_of hash) nothing (events_in hs) w → Keeps hash old messages w
   keeps_any = of_any (Keeps hash old messages) is.keeps
 
   module _ (new : BTreeMap ℕ (ReplicaValue Hash)) (more : List (List ℕ)) (e : Event) where
-    pub event_kept : (answer : Answer) → Makes hash_of hash old messages e answer new more → IsWorld hash_of hash new more (past ++ e ∷ [])
-    event_kept answer makes =
+    pub event_kept : (answer : Answer) (sent : ℕ) → Makes hash_of hash old messages e answer new more → length more ≡ length messages + sent
+        → IsWorld hash_of hash new more (hs ++ record { event = e; answer = answer; sent = sent } ∷ [])
+    event_kept answer sent makes counted =
         let after = makes is.world is.keeps in
-        record { world = after.0; runs = goes_on (hash_of hash) past is.world after.0 e answer is.runs after.1; keeps = after.2 }
+        let h : Happened = record { event = e; answer = answer; sent = sent } in
+        let grown : length after.0.messages ≡ length is.world.messages + sent =
+        sym (count hash new more after.0 after.2) ∙ counted ∙ ap (λ n. n + sent) (count hash old messages is.world is.keeps) in
+        record { world = after.0; leads = leads_go_on (hash_of hash) hs is.world after.0 h is.leads after.1 grown; keeps = after.2 }
 
     pub event_told : (answer : Answer) → Makes hash_of hash old messages e answer new more → (first end : ℕ) → first ≡ length messages + 1
         → end ≡ length more + 1
-        → (w : World) → Runs (hash_of hash) nothing past w → IsTold (hash_of hash) past w e answer first end
+        → (w : World) → Runs (hash_of hash) nothing (events_in hs) w → IsTold (hash_of hash) (events_in hs) w e answer first end
     event_told answer makes first end from to w runs =
         let keeps = keeps_any w runs in
         let after = makes w keeps in
@@ -168,26 +182,26 @@ module _ {Hash : Type 0} (hash_of : Hash → List ℕ → ℕ) (hash : Hash) (ol
           happens = after.1;
           begins = from ∙ ap (λ n. n + 1) (count hash old messages w keeps);
           stops = to ∙ ap (λ n. n + 1) (count hash new more after.0 after.2);
-          ends = λ number name is done. ends_are (hash_of hash) past w after.0 number name runs answer
+          ends = λ number name is done. ends_are (hash_of hash) (events_in hs) w after.0 number name runs answer
               (subst (λ x. Happens (hash_of hash) w x answer after.0) is after.1) done;
         }
 
-    pub event_left : LeavesWorld hash old messages new more → IsWorld hash_of hash new more past
-    event_left leaves = record { world = is.world; runs = is.runs; keeps = leaves is.world is.keeps }
+    pub event_left : LeavesWorld hash old messages new more → IsWorld hash_of hash new more hs
+    event_left leaves = record { world = is.world; leads = is.leads; keeps = leaves is.world is.keeps }
 
-  pub event_refused : (e : Event) (refusal : Refusal) → IsRefusedEvent hash old messages e refusal → (w : World) → Runs (hash_of hash) nothing past w
+  pub event_refused : (e : Event) (refusal : Refusal) → IsRefusedEvent hash old messages e refusal → (w : World) → Runs (hash_of hash) nothing (events_in hs) w
       → IsRefusedIn w e refusal
   event_refused e refusal refused w runs = refused w (keeps_any w runs)
 
   -- where there is no room for it, what was foreseen comes first
-  pub event_unkept : (e : Event) (told : Option Refusal) → ForetellsEvent hash old messages e told → (w : World) → Runs (hash_of hash) nothing past w
+  pub event_unkept : (e : Event) (told : Option Refusal) → ForetellsEvent hash old messages e told → (w : World) → Runs (hash_of hash) nothing (events_in hs) w
       → IsRefusedIn w e (unwrap_or told OutOfMemory)
   event_unkept e None unrefused w runs = inl (refl, unrefused w (keeps_any w runs))
   event_unkept e (Some refusal) refuses w runs = inr (refuses w (keeps_any w runs))
 
   -- what is read of it
   pub replica_shown : (name : ℕ) (o : Option (Bor (ReplicaValue Hash))) → option_copied o ≡ get nat_cmp old name
-      → IfSome o (λ r. (w : World) → Runs (hash_of hash) nothing past w → (is_node w name ≡ true) × (meaning r.now ≡ w.replica name) × (hash_in r.now ≡ hash))
+      → IfSome o (λ r. (w : World) → Runs (hash_of hash) nothing (events_in hs) w → (is_node w name ≡ true) × (meaning r.now ≡ w.replica name) × (hash_in r.now ≡ hash))
   replica_shown name None found = tt
   replica_shown name (Some r) found =
       λ w runs. let keeps = keeps_any w runs in (
@@ -197,43 +211,70 @@ module _ {Hash : Type 0} (hash_of : Hash → List ℕ → ℕ) (hash : Hash) (ol
       )
 
   pub replica_missing : (name : ℕ) (o : Option (Bor (ReplicaValue Hash))) → option_copied o ≡ get nat_cmp old name → IsNone o → (w : World)
-      → Runs (hash_of hash) nothing past w → is_node w name ≡ false
+      → Runs (hash_of hash) nothing (events_in hs) w → is_node w name ≡ false
   replica_missing name None found none w runs = let keeps = keeps_any w runs in sym (keeps.there name) ∙ ap is_some (sym found)
   replica_missing name (Some r) found none w runs = absurd cc
 
   pub replica_holds : (name : ℕ) (o : Option (Bor (ReplicaValue Hash))) → option_copied o ≡ get nat_cmp old name
-      → IfSome o (λ r. (w : World) → Runs (hash_of hash) nothing past w → Unclashed (hash_of hash) w
+      → IfSome o (λ r. (w : World) → Runs (hash_of hash) nothing (events_in hs) w → Unclashed (hash_of hash) w
       → ShowsOperations (hash_of hash) (meaning r.now).live (w.seen name))
   replica_holds name None found = tt
   replica_holds name (Some r) found =
       λ w runs unclashed. let keeps = keeps_any w runs in
       subst (λ (q : Replica). ShowsOperations (hash_of hash) q.live (w.seen name)) (sym (keeps.means name r.now (sym found)))
-      (worlds_show (hash_of hash) past w runs unclashed name)
+      (worlds_show (hash_of hash) (events_in hs) w runs unclashed name)
+
+  -- the account is that of the world
+  pub account_is : IsAccountOf (hash_of hash) (account messages hs) is.world
+  account_is = accounts_are (hash_of hash) messages hs is.world is.leads is.keeps.spelled
+
+  pub account_any : (w : World) → Runs (hash_of hash) nothing (events_in hs) w → IsAccountOf (hash_of hash) (account messages hs) w
+  account_any = of_any (IsAccountOf (hash_of hash) (account messages hs)) account_is
+
+  pub replica_told : (name : ℕ) (o : Option (Bor (ReplicaValue Hash))) → option_copied o ≡ get nat_cmp old name
+      → IfSome o (λ r. IsThere (account messages hs) name true × (hash_in r.now ≡ hash) × (told.Unclashed (hash_of hash) (account messages hs)
+      → ShowsOperations (hash_of hash) (meaning r.now).live ((account messages hs).seen name)))
+  replica_told name None found = tt
+  replica_told name (Some r) found = (
+    ap (λ ns. is_among ns name) account_is.nodes ∙ sym (is.keeps.there name) ∙ ap is_some (sym found),
+    is.keeps.hashed name r.now (sym found),
+    λ clean. subst (λ (q : Replica). ShowsOperations (hash_of hash) q.live ((account messages hs).seen name)) (sym (is.keeps.means name r.now (sym found)))
+        (subst (ShowsOperations (hash_of hash) (is.world.replica name).live) (sym (account_is.seen name))
+        (worlds_show (hash_of hash) (events_in hs) is.world runs_so (account_is.clean.0 clean) name)),
+  )
+
+  known_by : (name : ℕ) (b : Bool) → b ≡ is_some (get nat_cmp old name) → IsThere (account messages hs) name b
+  known_by name b at = ap (λ ns. is_among ns name) account_is.nodes ∙ sym (is.keeps.there name) ∙ sym at
+
+  pub replica_unknown : (name : ℕ) (o : Option (Bor (ReplicaValue Hash))) → option_copied o ≡ get nat_cmp old name → IsNone o
+      → IsThere (account messages hs) name false
+  replica_unknown name None found none = known_by name false (ap is_some found)
+  replica_unknown name (Some r) found none = absurd cc
 
   pub replica_meant : (name : ℕ) (o : Option (Bor (ReplicaValue Hash))) → option_copied o ≡ get nat_cmp old name
-      → IfSome o (λ r. (w : World) → Runs (hash_of hash) nothing past w → Unclashed (hash_of hash) w → ((meaning r.now).live ≡ state (w.seen name))
+      → IfSome o (λ r. (w : World) → Runs (hash_of hash) nothing (events_in hs) w → Unclashed (hash_of hash) w → ((meaning r.now).live ≡ state (w.seen name))
       × ((meaning r.now).group ≡ state (w.outgoing name)))
   replica_meant name None found = tt
   replica_meant name (Some r) found =
       λ w runs unclashed. let is = (keeps_any w runs).means name r.now (sym found) in
-      let meant = headline (hash_of hash) past w runs unclashed in
+      let meant = headline (hash_of hash) (events_in hs) w runs unclashed in
       (ap (λ (q : Replica). q.live) is ∙ meant.live name, ap (λ (q : Replica). q.group) is ∙ meant.group name)
 
   pub message_meant : (number : ℕ) (o : Option (Bor (List ℕ))) → option_copied o ≡ cond (nat_lt 0 number) (slice_get messages (number - 1)) None
-      → IfSome o (λ b. (w : World) → Runs (hash_of hash) nothing past w → Unclashed (hash_of hash) w
+      → IfSome o (λ b. (w : World) → Runs (hash_of hash) nothing (events_in hs) w → Unclashed (hash_of hash) w
       → (m : Message) × (message_at w.messages number ≡ Some m) × MeansMail (hash_of hash) m.mail m.of.seen)
   message_meant number None found = tt
   message_meant number (Some b) found =
       λ w runs unclashed. let at = found_message hash old messages w (keeps_any w runs) number b.now found in
-      (at.0, at.1, (headline (hash_of hash) past w runs unclashed).messages number at.0 at.1)
+      (at.0, at.1, (headline (hash_of hash) (events_in hs) w runs unclashed).messages number at.0 at.1)
 
   pub message_shown : (number : ℕ) (o : Option (Bor (List ℕ))) → option_copied o ≡ cond (nat_lt 0 number) (slice_get messages (number - 1)) None
-      → IfSome o (λ b. (w : World) → Runs (hash_of hash) nothing past w → (m : Message) × (message_at w.messages number ≡ Some m) × IsSpelled b.now m.mail)
+      → IfSome o (λ b. (w : World) → Runs (hash_of hash) nothing (events_in hs) w → (m : Message) × (message_at w.messages number ≡ Some m) × IsSpelled b.now m.mail)
   message_shown number None found = tt
   message_shown number (Some b) found = λ w runs. found_message hash old messages w (keeps_any w runs) number b.now found
 
   pub message_missing : (number : ℕ) (o : Option (Bor (List ℕ))) → option_copied o ≡ cond (nat_lt 0 number) (slice_get messages (number - 1)) None → IsNone o
-      → (w : World) → Runs (hash_of hash) nothing past w → message_at w.messages number ≡ None
+      → (w : World) → Runs (hash_of hash) nothing (events_in hs) w → message_at w.messages number ≡ None
   message_missing number None found none w runs = no_message hash old messages w (keeps_any w runs) number found
   message_missing number (Some b) found none w runs = absurd cc
 

@@ -19,7 +19,7 @@ use Rattle.replica_core.specs.Meaning.{ReplicaValue, hash_in, meaning}
 use Rattle.replica_core.specs.Stepping.{Steps, Stays}
 use Rattle.replica_world.specs.Keeping.{Keeps, MakesCall, TakesMail}
 use Rattle.replica_world.specs.Replaces.{Replaces}
-use Rattle.replica_world.specs.Spelled.{AreSpelled}
+use Rattle.replica_model.specs.Spelled.{AreSpelled}
 use Rattle.replica_world.proofs.Spelt.{posted_spelled}
 
 -- the mails of what is sent

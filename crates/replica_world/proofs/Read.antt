@@ -6,25 +6,22 @@ use Rattle.op_model.specs.Meaning.{MapState}
 use Rattle.op_model.specs.Operation.{Operation}
 use Rattle.replica_core.specs.Reading.{Lists}
 use Rattle.replica_core.specs.Showing.{ShowsOperations}
-use Rattle.replica_model.specs.World.{World, Event, is_node, nothing, Runs, Unclashed}
+use Rattle.replica_model.specs.Seen.{Account, Unclashed}
 use Rattle.replica_world.specs.Reading.{IsThere, IsUnread, Shows}
 
-module _ (hash_of : List ℕ → ℕ) (past : List Event) (name : ℕ) (live : MapState) {Same : Type 0}
-    (at : (w : World) → Runs hash_of nothing past w → (is_node w name ≡ true) × Same × (Unclashed hash_of w → ShowsOperations hash_of live (w.seen name))) where
-  pub shown_as : (P : List Operation → Type 0) → ((S : List Operation) → ShowsOperations hash_of live S → P S) → Shows hash_of past name P
-  shown_as P f w runs = ((at w runs).0, λ clean. f (w.seen name) ((at w runs).2 clean))
-
-  there : IsThere hash_of past name true
-  there w runs = (at w runs).0
+module _ (hash_of : List ℕ → ℕ) (a : Account) (name : ℕ) (live : MapState) {Same : Type 0}
+    (at : IsThere a name true × Same × (Unclashed hash_of a → ShowsOperations hash_of live (a.seen name))) where
+  pub shown_as : (P : List Operation → Type 0) → ((S : List Operation) → ShowsOperations hash_of live S → P S) → Shows hash_of a name P
+  shown_as P f = (at.0, λ clean. f (a.seen name) (at.2 clean))
 
   -- what is listed is what is shown
   pub list_shown : {T : Type 0} (items : T → List (List ℕ)) (r : Result T Refusal) (P : List ℕ → Type 0) (of : List Operation → List (List ℕ))
       → ((S : List Operation) → ShowsOperations hash_of live S → (found : List (List ℕ)) → Lists P found → found ≡ of S)
-      → IfOk r (λ x. Lists P (items x)) → IfOk r (λ x. Shows hash_of past name (λ S. items x ≡ of S))
+      → IfOk r (λ x. Lists P (items x)) → IfOk r (λ x. Shows hash_of a name (λ S. items x ≡ of S))
   list_shown items (Ok x) P of f h = shown_as (λ S. items x ≡ of S) (λ S shows. f S shows (items x) h)
   list_shown items (Err e) P of f h = tt
 
   -- and want of memory is told of a replica that is there
-  pub read_refused : {T : Type 0} (r : Result T Refusal) → IsOkUnless r OutOfMemory → IfErr r (IsUnread hash_of past name)
+  pub read_refused : {T : Type 0} (r : Result T Refusal) → IsOkUnless r OutOfMemory → IfErr r (IsUnread a name)
   read_refused (Ok x) h = tt
-  read_refused (Err e) h = inr (h, there)
+  read_refused (Err e) h = inr (h, at.0)

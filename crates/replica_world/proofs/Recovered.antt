@@ -1,18 +1,18 @@
 -- What is kept of the replicas of a world, after a change at one name; and what a restart makes of them: over plain variables.
-use Rattle.std.proofs.Common.{◌≡◌, ◌≢◌, ◌⊎◌, inl, inr, ℕ, ◌+◌, ◌==◌, Bool, true, false, cond, List, [], Option, Some, None, is_some, refl, sym, ap, ◌∙◌, subst}
+use Rattle.std.proofs.Common.{◌≡◌, ◌≢◌, ◌⊎◌, inl, inr, ℕ, ◌+◌, ◌==◌, Bool, true, false, cond, List, [], Option, Some, None, is_some, refl, sym, ap, ◌∙◌}
 use Rattle.std.proofs.Common.{arith}
 use Rattle.std.proofs.lemmas.Bool.Decides.{nat_tests}
-use Rattle.std.specs.BTreeMap.{BTreeMap, get, is_at, Updates}
+use Rattle.std.specs.BTreeMap.{BTreeMap, get, Updates}
 use Rattle.std.specs.Ordering.{nat_cmp}
 use Rattle.std.specs.Option.{unwrap_or}
 use Rattle.std.specs.Prelude.{IsSome}
 use Rattle.dots.specs.declared.refusal.Refusal.{Refusal}
 use Rattle.dots.specs.declared.refusal.Refusal.TheVariants.{OutOfMemory, UnknownReplica}
-use Rattle.replica_model.specs.Replica.{Replica, restarts}
-use Rattle.replica_model.specs.Step.{Nothing, Restart, Do}
-use Rattle.replica_model.specs.World.{World, Event, At, is_node}
-use Rattle.replica_core.specs.Meaning.{ReplicaValue, hash_in, meaning}
-use Rattle.replica_world.specs.Keeping.{Keeps, Makes, Restarts, IsRefusedEvent, ForetellsEvent}
+use Rattle.replica_model.specs.Replica.{restarts}
+use Rattle.replica_model.specs.Step.{Nothing, Restart}
+use Rattle.replica_model.specs.World.{Event, At}
+use Rattle.replica_core.specs.Meaning.{ReplicaValue, meaning}
+use Rattle.replica_world.specs.Keeping.{Makes, Restarts, IsRefusedEvent, ForetellsEvent}
 use Rattle.replica_world.specs.Kept.{checkpoint_at, saves_of, back_of, saves_in, back_in, SavedOnce, Notes}
 use Rattle.replica_world.specs.Refused.{IsRefusedIn}
 use Rattle.replica_world.specs.declared.recovery.Recovery.{Recovery}

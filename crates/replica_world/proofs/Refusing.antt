@@ -20,7 +20,7 @@ use Rattle.replica_core.specs.Stepping.{Foretells, RefusesNothing, Stays, IsRefu
 use Rattle.replica_world.specs.Keeping.{Keeps, IsWorld, MakesCall, TakesMail, Makes, LeavesWorld, IsRefusedEvent, ForetellsEvent}
 use Rattle.replica_world.specs.Refused.{IsUnrefused, IsRefusedIn}
 use Rattle.replica_world.specs.Replaces.{Replaces}
-use Rattle.replica_world.specs.Spelled.{IsSpelled}
+use Rattle.replica_model.specs.Spelled.{IsSpelled}
 use Rattle.replica_world.proofs.Kept.{keeps_stayed, call_keeps, take_keeps}
 use Rattle.replica_world.proofs.Happened.{found_message, no_message}
 
@@ -214,7 +214,7 @@ world_begins hash_of hash replicas empty =
     let none = λ (name : ℕ). ap (lookup (is_at (nat_cmp name))) empty in
     record {
       world = nothing;
-      runs = refl;
+      leads = refl;
       keeps = record {
         there = λ name. ap is_some (none name);
         means = λ name r is. absurd (none_some (sym (none name) ∙ is));

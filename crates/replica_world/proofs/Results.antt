@@ -1,5 +1,5 @@
 -- What is said of a result, said otherwise.
-use Rattle.std.proofs.Common.{Result, Ok, Err, IfOk, IfErr, IsOkUnless, OnErr, is_ok, cond, List, [], ◌∷◌, ◌++◌, map, ◌≡◌, ap, ◌∙◌, subst, ℕ}
+use Rattle.std.proofs.Common.{Result, Ok, Err, IfOk, IfErr, IsOkUnless, OnOk, OnErr, is_ok, cond, List, [], ◌∷◌, ◌++◌, map, ◌≡◌, ap, ◌∙◌, subst, ℕ}
 use Rattle.std.proofs.lemmas.List.{map-append}
 use Rattle.wire_form.specs.declared.message.Message.{Message}
 use Rattle.wire_form.specs.Message.{message_of}
@@ -17,6 +17,14 @@ step_of_messages hash_of old new act answer messages steps = subst (Steps hash_o
 pub if_ok_weaker : {T E : Type 0} {P Q : T → Type 0} (result : Result T E) → ((x : T) → P x → Q x) → IfOk result P → IfOk result Q
 if_ok_weaker (Ok x) weaker is = weaker x is
 if_ok_weaker (Err e) weaker is = tt
+
+pub on_ok_from : {T E : Type 0} {P : T → Type 0} {Q : Type 0} (result : Result T E) → ((x : T) → P x → Q) → IfOk result P → OnOk result Q
+on_ok_from (Ok x) weaker is = weaker x is
+on_ok_from (Err e) weaker is = tt
+
+pub on_ok_all : {T E Q : Type 0} (result : Result T E) → Q → OnOk result Q
+on_ok_all (Ok x) is = is
+on_ok_all (Err e) is = tt
 
 pub if_err_weaker : {T E : Type 0} {P Q : E → Type 0} (result : Result T E) → ((e : E) → P e → Q e) → IfErr result P → IfErr result Q
 if_err_weaker (Ok x) weaker is = tt

@@ -10,7 +10,8 @@ use Rattle.wire_form.specs.Message.{MessageValue, Spells, message_of}
 use Rattle.page_fetching.proofs.Loops.{stands_at, is_past}
 use Rattle.sync_protocol.specs.Posting.{IsPosted}
 use Rattle.replica_model.specs.Mail.{Mail, mail_of}
-use Rattle.replica_world.specs.Spelled.{IsSpelled, AreSpelled, Gains, bytes_of}
+use Rattle.replica_model.specs.Spelled.{IsSpelled, AreSpelled}
+use Rattle.replica_world.specs.Spelled.{Adds, Gains, bytes_of}
 
 abbrev pub mails : {A : Type 0} → List (Message A) → List Mail
 mails ms = map mail_of (map message_of ms)
@@ -35,6 +36,13 @@ posted_spelled old new out ms (inl (more, is, spelled)) before = subst (λ all. 
 posted_spelled old new out ms (inr (is, none)) before =
     let same : ms ++ map mail_of out ≡ ms = ap (λ o. ms ++ map mail_of o) none ∙ append-nil ms in
     subst (λ all. AreSpelled all (ms ++ map mail_of out)) (sym is) (subst (AreSpelled old) (sym same) before)
+
+pub posted_adds : (old new : List (List ℕ)) (out : List MessageValue) → IsPosted Gains old new out → Adds old new
+posted_adds old new out (inl (more, is, spelled)) = (more, is)
+posted_adds old new out (inr (is, none)) = ([], is ∙ sym (append-nil old))
+
+pub nothing_added : (old : List (List ℕ)) → Adds old old
+nothing_added old = ([], sym (append-nil old))
 
 -- the one at a place
 pub spelled_at : (bs : List (List ℕ)) (ms : List Mail) → AreSpelled bs ms → (n : ℕ) (b : List ℕ) → slice_get bs n ≡ Some b → (m : Mail)

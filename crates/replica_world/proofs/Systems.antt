@@ -1,5 +1,5 @@
 -- An event of a world is one of the system that it shows.
-use Rattle.std.proofs.Common.{◌≡◌, ℕ, zero, suc, ◌==◌, Bool, true, false, cond, List, [], ◌∷◌, ◌++◌, map, Option, Some, None, refl, sym, ap, ◌∙◌, subst, arith}
+use Rattle.std.proofs.Common.{◌≡◌, ℕ, zero, suc, ◌==◌, Bool, true, false, cond, List, [], ◌∷◌, ◌++◌, map, Some, None, refl, sym, ap, ◌∙◌, subst, arith}
 use Rattle.std.proofs.Common.{append-nil}
 use Rattle.std.proofs.lemmas.Bool.Decides.{nat_tests}
 use Rattle.std.specs.List.{slice_get}
@@ -10,7 +10,7 @@ use Rattle.replica_model.specs.Crashing as crashing
 use Rattle.replica_model.specs.Mail.{Mail}
 use Rattle.replica_model.specs.Replica.{Replica}
 use Rattle.replica_model.specs.Step.{Call, Put, Remove, RemoveField, Clear, Flush, Ask, Retry, Abandon, Restart, Do, Take, Act, Answer, IsStep}
-use Rattle.replica_model.specs.World.{World, Message, Event, Node, At, Deliver, is_node, has_peer, message_at, goes, calls, takes, Happens}
+use Rattle.replica_model.specs.World.{World, Message, Event, Node, At, Deliver, is_node, has_peer, message_at, calls, takes, Happens}
 use Rattle.replica_model.proofs.Carried.{left_as_is, same_replicas, same_messages}
 use Rattle.replica_model.proofs.Fronts.{same_after_calls}
 use Rattle.replica_model.proofs.Leaving.{same_calls}

@@ -1,6 +1,7 @@
 -- What the calls, the events and the answers of a world are in the words of the model. Of this project.
 use Rattle.replica_core.specs.Answered.{outcome_of}
 use Rattle.replica_core.specs.Writing.{call_value}
+use Rattle.replica_model.specs.Happened.{Happened}
 use Rattle.replica_model.specs.Step as step
 use Rattle.replica_model.specs.World as world
 use Rattle.replica_world.specs.declared.accepted.Accepted.{Accepted}
@@ -24,5 +25,5 @@ module _ {A : Type 0} where
   event_value (event.Deliver number name) = world.Deliver number name
   event_value (event.Restart name) = world.At name step.Restart
 
-  abbrev pub accepted_event : Accepted A → world.Event
-  accepted_event a = event_value a.event
+  abbrev pub happened_value : Accepted A → Happened
+  happened_value a = record { event = event_value a.event; answer = answer_value a.answer; sent = a.sent }

@@ -1,20 +1,24 @@
--- The past of a world whose replicas may crash: its events, each with whether its replica was saved at it or later. A crash takes away what its
+-- The past of a world whose replicas may crash: what happened, each with whether its replica was saved at it or later. A crash takes away what its
 -- replica did since it was last saved. Of this project.
 use Rattle.std.specs.Prelude.{◌≡◌, ◌==◌, ◌≤◌, ◌+◌, ◌||◌, ℕ, nat_lt, Bool, true, false, not, List, [], ◌∷◌, ◌++◌, map, filter, cond, Option, Some, None}
 use Rattle.std.specs.List.{fold}
-use Rattle.replica_model.specs.Crashing.{Occurrence, Saving, Passing, Saves, Crashes, System, Goes, started, survivors}
-use Rattle.replica_model.specs.Delivery.{Outcome, Sent}
+use Rattle.replica_model.specs.Crashing.{Occurrence, Saving, Passing, Saves, Crashes, System, Goes, may_be_lost, restarted, started, survivors}
+use Rattle.replica_model.specs.Happened.{Happened, events_in}
 use Rattle.replica_model.specs.Laws.{replica_of}
 use Rattle.replica_model.specs.Replica.{Replica, restarts}
-use Rattle.replica_model.specs.Step.{Restart, Answer, Came}
+use Rattle.replica_model.specs.Step.{Answer, Came}
 use Rattle.replica_model.specs.World.{Event, Node, At, Deliver, is_sent}
 
 pub record Held : Type 0 where
-  pub event : Event
+  pub happened : Happened
   pub is_saved : Bool
 
+abbrev pub happened_in : List Held → List Happened
+happened_in = map (λ h. h.happened)
+
+-- the events alone
 abbrev pub events_of : List Held → List Event
-events_of = map (λ h. h.event)
+events_of hs = events_in (happened_in hs)
 
 -- whether it is something that the replica of this name did: that a replica is there is never taken away
 abbrev pub is_act : ℕ → Event → Bool
@@ -24,18 +28,18 @@ is_act name (Deliver number n) = n == name
 
 -- the replica of this name is saved
 abbrev pub save_at : ℕ → Held → Held
-save_at name h = record { event = h.event; is_saved = h.is_saved || (replica_of h.event == name) }
+save_at name h = record { happened = h.happened; is_saved = h.is_saved || (replica_of h.happened.event == name) }
 
 -- whether it is left where the replica of this name crashes
 abbrev pub is_left : ℕ → Held → Bool
-is_left name h = h.is_saved || not (is_act name h.event)
+is_left name h = h.is_saved || not (is_act name h.happened.event)
 
 -- as one more occurs: an event with which its replica is saved, or is not; a replica is saved; or one crashes, and comes back
 abbrev pub after : List Held → Occurrence → List Held
-after hs (Saving e) = map (save_at (replica_of e)) hs ++ record { event = e; is_saved = true } ∷ []
-after hs (Passing e) = hs ++ record { event = e; is_saved = false } ∷ []
+after hs (Saving h) = map (save_at (replica_of h.event)) hs ++ record { happened = h; is_saved = true } ∷ []
+after hs (Passing h) = hs ++ record { happened = h; is_saved = false } ∷ []
 after hs (Saves name) = map (save_at name) hs
-after hs (Crashes name) = filter (is_left name) hs ++ record { event = At name Restart; is_saved = true } ∷ []
+after hs (Crashes name) = filter (is_left name) hs ++ record { happened = restarted name; is_saved = true } ∷ []
 
 -- after all that occurred
 abbrev pub held_after : List Occurrence → List Held
@@ -46,21 +50,19 @@ abbrev pub goes_further : Answer → Bool
 goes_further (Came outcome) = is_sent outcome
 goes_further other = false
 
-abbrev pub is_saved_with : Event → Answer → Bool → Bool
-is_saved_with (Node name) answer sends = true
-is_saved_with (At name c) answer sends = sends || goes_further answer
-is_saved_with (Deliver number name) answer sends = sends || goes_further answer
+abbrev pub is_saved_with : Happened → Bool
+is_saved_with h = not (may_be_lost h.event) || (not (h.sent == 0) || goes_further h.answer)
 
-abbrev pub occurrence : Event → Answer → Bool → Occurrence
-occurrence e answer sends = cond (is_saved_with e answer sends) (Saving e) (Passing e)
+abbrev pub occurrence : Happened → Occurrence
+occurrence h = cond (is_saved_with h) (Saving h) (Passing h)
 
--- ---- how it is kept: each event with how often its replica had been saved before it
+-- ---- how it is kept: what happened with how often its replica had been saved before it
 
 -- an event is saved where its replica was saved more often by now
-abbrev pub held_by : (ℕ → ℕ) → Event × ℕ → Held
-held_by saves a = record { event = a.0; is_saved = nat_lt a.1 (saves (replica_of a.0)) }
+abbrev pub held_by : (ℕ → ℕ) → Happened × ℕ → Held
+held_by saves a = record { happened = a.0; is_saved = nat_lt a.1 (saves (replica_of a.0.event)) }
 
-abbrev pub held_in : (ℕ → ℕ) → List (Event × ℕ) → List Held
+abbrev pub held_in : (ℕ → ℕ) → List (Happened × ℕ) → List Held
 held_in saves = map (held_by saves)
 
 -- each happened before its replica was saved so often; that a replica is there is saved at once
@@ -69,12 +71,12 @@ saves_at (Node name) n = n + 1
 saves_at (At name c) n = n
 saves_at (Deliver number name) n = n
 
-abbrev pub AreBefore : (ℕ → ℕ) → List (Event × ℕ) → Type 0
+abbrev pub AreBefore : (ℕ → ℕ) → List (Happened × ℕ) → Type 0
 AreBefore saves [] = Unit {0}
-AreBefore saves (a ∷ rest) = (saves_at a.0 a.1 ≤ saves (replica_of a.0)) × AreBefore saves rest
+AreBefore saves (a ∷ rest) = (saves_at a.0.event a.1 ≤ saves (replica_of a.0.event)) × AreBefore saves rest
 
 -- What occurred led to a system whose replicas come back from what is kept of them, and are as they were last saved where nothing is kept.
-pub record IsKept (hash_of : List ℕ → ℕ) (saves : ℕ → ℕ) (back : ℕ → Option Replica) (accepted : List (Event × ℕ)) : Type 0 where
+pub record IsKept (hash_of : List ℕ → ℕ) (saves : ℕ → ℕ) (back : ℕ → Option Replica) (accepted : List (Happened × ℕ)) : Type 0 where
   pub occurred : List Occurrence
   pub system : System
   pub goes : Goes hash_of started occurred system
@@ -83,6 +85,6 @@ pub record IsKept (hash_of : List ℕ → ℕ) (saves : ℕ → ℕ) (back : ℕ
   pub clean : (name : ℕ) → back name ≡ None → system.saved name ≡ system.replica name
   pub before : AreBefore saves accepted
 
--- what is held are the events that crashes left
+-- what is held is what crashes left
 abbrev pub HeldSurvives : Type 0
-HeldSurvives = (xs : List Occurrence) → events_of (held_after xs) ≡ survivors xs
+HeldSurvives = (xs : List Occurrence) → happened_in (held_after xs) ≡ survivors xs

@@ -10,18 +10,26 @@ use Rattle.replica_core.specs.Stepping.{Steps}
 use Rattle.replica_model.specs.Mail.{Mail, mail_of}
 use Rattle.replica_model.specs.Replica.{fresh, restarts}
 use Rattle.replica_model.specs.Step.{Answer, Call, Do, Take}
-use Rattle.replica_model.specs.World.{World, Event, is_node, nothing, Happens, Runs}
-use Rattle.replica_world.specs.Held.{Held, events_of}
+use Rattle.replica_model.specs.Happened.{Happened, Leads}
+use Rattle.replica_model.specs.Seen.{Account, account}
+use Rattle.replica_model.specs.Spelled.{AreSpelled}
+use Rattle.replica_model.specs.World.{World, Event, is_node, nothing, Happens}
+use Rattle.replica_world.specs.Held.{Held, events_of, happened_in}
 use Rattle.replica_world.specs.Refused.{ForetellsIn, IsRefusedIn}
 use Rattle.replica_world.specs.Replaces.{Replaces}
-use Rattle.replica_world.specs.Spelled.{AreSpelled, Gains}
+use Rattle.replica_world.specs.Spelled.{Gains}
 
--- a world, as it is seen: the hash of all keys' paths, and the events that it accepted and that no crash took away, with whether they are saved
+-- a world, as it is seen: the hash of all keys' paths, the bytes of the messages, from 1 on, and what happened and no crash took away, with whether it
+-- is saved
 pub record WorldValue (Hash : Type 0) : Type 0 where
   pub hash : Hash
+  pub messages : List (List ℕ)
   pub held : List Held
 
--- these events by themselves
+-- the account of what happened, and the events by themselves
+abbrev pub account_of : {Hash : Type 0} → WorldValue Hash → Account
+account_of w = account w.messages (happened_in w.held)
+
 abbrev pub past_of : {Hash : Type 0} → WorldValue Hash → List Event
 past_of w = events_of w.held
 
@@ -35,10 +43,10 @@ module _ {Hash : Type 0} where
     pub spelled : AreSpelled messages (map (λ m. m.mail) w.messages)
 
 module _ {Hash : Type 0} (hash_of : Hash → List ℕ → ℕ) where
-  -- after this past they are those of its world
-  pub record IsWorld (hash : Hash) (replicas : BTreeMap ℕ (ReplicaValue Hash)) (messages : List (List ℕ)) (past : List Event) : Type 0 where
+  -- after all that happened they are those of the world to which it led
+  pub record IsWorld (hash : Hash) (replicas : BTreeMap ℕ (ReplicaValue Hash)) (messages : List (List ℕ)) (hs : List Happened) : Type 0 where
     pub world : World
-    pub runs : Runs (hash_of hash) nothing past world
+    pub leads : Leads (hash_of hash) nothing hs world
     pub keeps : Keeps hash replicas messages world
 
   -- the event made the second replicas and messages of the first, and was answered this

@@ -5,15 +5,16 @@ use Rattle.std.specs.BTreeMap.{BTreeMap, get}
 use Rattle.std.specs.Ordering.{nat_cmp}
 use Rattle.replica_core.specs.Meaning.{ReplicaValue, meaning}
 use Rattle.replica_core.specs.Saving.{CheckpointValue, checkpointed}
+use Rattle.replica_model.specs.Happened.{Happened}
 use Rattle.replica_model.specs.Replica.{Replica, restarts}
 use Rattle.replica_model.specs.World.{Event, Node, At, Deliver}
-use Rattle.replica_world.specs.Happening.{event_value}
+use Rattle.replica_world.specs.Happening.{happened_value}
 use Rattle.replica_world.specs.declared.accepted.Accepted.{Accepted}
 use Rattle.replica_world.specs.declared.recovery.Recovery.{Recovery}
 
--- an event, and how often its replica had been saved before it
-abbrev pub accepted_value : {A : Type 0} → Accepted A → Event × ℕ
-accepted_value a = (event_value a.event, a.saves)
+-- what happened, and how often its replica had been saved before it
+abbrev pub accepted_value : {A : Type 0} → Accepted A → Happened × ℕ
+accepted_value a = (happened_value a, a.saves)
 
 -- the replica that comes back from a checkpoint
 abbrev pub checkpoint_at : {Hash : Type 0} → Option (CheckpointValue Hash) → Option Replica

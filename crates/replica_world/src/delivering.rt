@@ -5,7 +5,7 @@ ghost use Rattle.replica_model.specs.Mail.{Mail, mail_of};
 ghost use Rattle.replica_core.specs.Stepping.{Stays};
 ghost use Rattle.replica_world.specs.Happening.{answer_value};
 ghost use Rattle.replica_world.specs.Keeping.{TakesMail};
-ghost use Rattle.replica_world.specs.Spelled.{IsSpelled};
+ghost use Rattle.replica_model.specs.Spelled.{IsSpelled};
 
 use crate::answer::Answer;
 use crate::posted::Posted;

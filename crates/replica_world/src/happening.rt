@@ -1,5 +1,5 @@
 // What an event makes of the replicas and the messages of a world.
-ghost use Rattle.std.specs.Prelude.{◌≡◌, ◌⊎◌, ℕ, List, Some, None, IfOk, IfErr, OnErr, IsSome, IsOkUnless};
+ghost use Rattle.std.specs.Prelude.{◌≡◌, ◌⊎◌, ℕ, List, Some, None, IfOk, IfErr, OnOk, OnErr, IsSome, IsOkUnless};
 ghost use Rattle.std.specs.BTreeMap.{get};
 ghost use Rattle.std.specs.Ordering.{nat_cmp};
 ghost use Rattle.wire_form.specs.Message.{message_of};
@@ -11,6 +11,7 @@ ghost use Rattle.replica_core.specs.Writing.{call_value};
 ghost use Rattle.replica_world.specs.Happening.{answer_value, event_value};
 ghost use Rattle.replica_world.specs.Keeping.{MakesCall, TakesMail, Keeps, Makes, LeavesWorld, IsRefusedEvent};
 ghost use Rattle.replica_world.specs.Replaces.{Replaces};
+ghost use Rattle.replica_world.specs.Spelled.{Adds};
 
 use crate::answer::Answer;
 use crate::calling::make;
@@ -34,8 +35,10 @@ pub(crate) fn happen<H: PathHash, A: Allocator + Copy>(
     event: &Event<A>,
 ) -> Result<Answer, Refusal>
     ensures ok { IfOk result (λ answer. Makes H.hash_of hash replicas.old posted.old (event_value event.now) (answer_value answer) replicas.new posted.new) }
+    ensures adds { OnOk result (Adds posted.old posted.new) }
     ensures refused { IfErr result (IsRefusedEvent hash replicas.old posted.old (event_value event.now)) }
     ensures unchanged { OnErr result (LeavesWorld hash replicas.old posted.old replicas.new posted.new) }
+    ensures unposted { OnErr result (posted.new ≡ posted.old) }
 {
     match event {
         Event::Node(name) => add(alloc, hash, replicas, *name),
@@ -80,8 +83,10 @@ fn call_at<H: PathHash, A: Allocator + Copy>(
     call: &Call<A>,
 ) -> Result<Answer, Refusal>
     ensures ok { IfOk result (λ answer. (hash : H) → Makes H.hash_of hash replicas.old posted.old (model.At name (call_value call.now)) (answer_value answer) replicas.new posted.new) }
+    ensures adds { OnOk result (Adds posted.old posted.new) }
     ensures refused { IfErr result (λ refusal. (hash : H) → IsRefusedEvent hash replicas.old posted.old (model.At name (call_value call.now)) refusal) }
     ensures unchanged { OnErr result ((hash : H) → LeavesWorld hash replicas.old posted.old replicas.new posted.new) }
+    ensures unposted { OnErr result (posted.new ≡ posted.old) }
 {
     if !has_peer(replicas, call) {
         return Err(Refusal::UnknownReplica);
@@ -111,8 +116,10 @@ fn deliver_at<H: PathHash, A: Allocator + Copy>(
     name: Name,
 ) -> Result<Answer, Refusal>
     ensures ok { IfOk result (λ answer. (hash : H) → Makes H.hash_of hash replicas.old posted.old (model.Deliver number name) (answer_value answer) replicas.new posted.new) }
+    ensures adds { OnOk result (Adds posted.old posted.new) }
     ensures refused { IfErr result (λ refusal. (hash : H) → IsRefusedEvent hash replicas.old posted.old (model.Deliver number name) refusal) }
     ensures unchanged { OnErr result ((hash : H) → LeavesWorld hash replicas.old posted.old replicas.new posted.new) }
+    ensures unposted { OnErr result (posted.new ≡ posted.old) }
 {
     if !replicas.contains_key(&name) {
         return Err(Refusal::UnknownReplica);

@@ -10,7 +10,7 @@ pub fn replicas_show_what_they_have_seen()
     ensures { WorldsShow }
 {}
 
-/// Whatever occurs, and whichever replicas crash, however often: the events that a world holds are those that crashes left.
+/// Whatever occurs, and whichever replicas crash, however often: what a world holds is what crashes left.
 pub fn what_is_held_survives()
     ensures { HeldSurvives }
 {}

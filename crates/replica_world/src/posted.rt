@@ -3,7 +3,8 @@ ghost use Rattle.std.specs.List.{slice_get};
 ghost use Rattle.std.specs.Option.{option_copied};
 ghost use Rattle.wire_form.specs.Message.{message_of};
 ghost use Rattle.replica_model.specs.Mail.{mail_of};
-ghost use Rattle.replica_world.specs.Spelled.{AreSpelled, bytes_of};
+ghost use Rattle.replica_model.specs.Spelled.{AreSpelled};
+ghost use Rattle.replica_world.specs.Spelled.{bytes_of};
 
 use dots::Refusal;
 use std::alloc::{Allocator, Global};

@@ -5,11 +5,10 @@ ghost use Rattle.op_model.specs.Operation as op;
 ghost use Rattle.op_model.specs.Place.{place_of, plain};
 ghost use Rattle.op_model.specs.Shown.{values, values_of_key, fields, keys, size};
 ghost use Rattle.prefix_digest.specs.MapOf.{root_digest};
-ghost use Rattle.replica_model.specs.World as model;
-ghost use Rattle.replica_model.specs.World.{nothing, Runs, Unclashed};
+ghost use Rattle.replica_model.specs.Seen.{Unclashed};
 ghost use Rattle.replica_core.specs.Meaning.{hash_in, meaning};
 ghost use Rattle.replica_core.specs.Showing.{ShowsOperations};
-ghost use Rattle.replica_world.specs.Keeping.{past_of};
+ghost use Rattle.replica_world.specs.Keeping.{account_of};
 ghost use Rattle.replica_world.specs.Reading.{IsThere, IsUnread, Shows};
 
 use crate::world::World;
@@ -25,8 +24,8 @@ impl<H: PathHash, A: Allocator + Copy> World<H, A> {
     /// The values of the key at its empty field, at the replica of this name, ascending by bytes: those of the writes that the replica has seen
     /// and that no operation that it has seen had observed. Takes what `Replica::get` takes, and the logarithm of the number of replicas.
     pub fn get_at(&self, name: Name, key: &Key<A>) -> Result<Vec<Value<A>, A>, Refusal>
-        ensures ok { IfOk result (λ found. Shows (H.hash_of self.now.hash) (past_of self.now) name (λ S. found.items ≡ values S (plain key.now))) }
-        ensures refused { IfErr result (IsUnread (H.hash_of self.now.hash) (past_of self.now) name) }
+        ensures ok { IfOk result (λ found. Shows (H.hash_of self.now.hash) (account_of self.now) name (λ S. found.items ≡ values S (plain key.now))) }
+        ensures refused { IfErr result (IsUnread (account_of self.now) name) }
     {
         self.at(name)?.get(key)
     }
@@ -39,8 +38,8 @@ impl<H: PathHash, A: Allocator + Copy> World<H, A> {
         key: &Key<A>,
         field: &Field<A>,
     ) -> Result<Vec<Value<A>, A>, Refusal>
-        ensures ok { IfOk result (λ found. Shows (H.hash_of self.now.hash) (past_of self.now) name (λ S. found.items ≡ values S (place_of key.now field.now))) }
-        ensures refused { IfErr result (IsUnread (H.hash_of self.now.hash) (past_of self.now) name) }
+        ensures ok { IfOk result (λ found. Shows (H.hash_of self.now.hash) (account_of self.now) name (λ S. found.items ≡ values S (place_of key.now field.now))) }
+        ensures refused { IfErr result (IsUnread (account_of self.now) name) }
     {
         self.at(name)?.get_field(key, field)
     }
@@ -48,8 +47,8 @@ impl<H: PathHash, A: Allocator + Copy> World<H, A> {
     /// The values of the key over all its fields, at the replica of this name, ascending by bytes. Takes what `Replica::values_of_key` takes,
     /// and the logarithm of the number of replicas.
     pub fn values_of_key_at(&self, name: Name, key: &Key<A>) -> Result<Vec<Value<A>, A>, Refusal>
-        ensures ok { IfOk result (λ found. Shows (H.hash_of self.now.hash) (past_of self.now) name (λ S. found.items ≡ values_of_key S key.now)) }
-        ensures refused { IfErr result (IsUnread (H.hash_of self.now.hash) (past_of self.now) name) }
+        ensures ok { IfOk result (λ found. Shows (H.hash_of self.now.hash) (account_of self.now) name (λ S. found.items ≡ values_of_key S key.now)) }
+        ensures refused { IfErr result (IsUnread (account_of self.now) name) }
     {
         self.at(name)?.values_of_key(key)
     }
@@ -57,8 +56,8 @@ impl<H: PathHash, A: Allocator + Copy> World<H, A> {
     /// The fields of the key that hold a value, at the replica of this name, ascending by bytes. Takes what `Replica::fields` takes, and the
     /// logarithm of the number of replicas.
     pub fn fields_at(&self, name: Name, key: &Key<A>) -> Result<Vec<Field<A>, A>, Refusal>
-        ensures ok { IfOk result (λ found. Shows (H.hash_of self.now.hash) (past_of self.now) name (λ S. found.items ≡ fields S key.now)) }
-        ensures refused { IfErr result (IsUnread (H.hash_of self.now.hash) (past_of self.now) name) }
+        ensures ok { IfOk result (λ found. Shows (H.hash_of self.now.hash) (account_of self.now) name (λ S. found.items ≡ fields S key.now)) }
+        ensures refused { IfErr result (IsUnread (account_of self.now) name) }
     {
         self.at(name)?.fields(key)
     }
@@ -66,16 +65,16 @@ impl<H: PathHash, A: Allocator + Copy> World<H, A> {
     /// The keys at which something stands, at the replica of this name, ascending by bytes. Takes what `Replica::keys` takes, and the
     /// logarithm of the number of replicas.
     pub fn keys_at(&self, name: Name) -> Result<Vec<Key<A>, A>, Refusal>
-        ensures ok { IfOk result (λ found. Shows (H.hash_of self.now.hash) (past_of self.now) name (λ S. found.items ≡ keys S)) }
-        ensures refused { IfErr result (IsUnread (H.hash_of self.now.hash) (past_of self.now) name) }
+        ensures ok { IfOk result (λ found. Shows (H.hash_of self.now.hash) (account_of self.now) name (λ S. found.items ≡ keys S)) }
+        ensures refused { IfErr result (IsUnread (account_of self.now) name) }
     {
         self.at(name)?.keys()
     }
 
     /// The number of keys at which something stands, at the replica of this name. Takes the logarithm of the number of replicas, and no memory.
     pub fn size_at(&self, name: Name) -> Result<u64, Refusal>
-        ensures ok { IfOk result (λ found. Shows (H.hash_of self.now.hash) (past_of self.now) name (λ S. found ≡ size S)) }
-        ensures refused { IfErr result (IsUnread (H.hash_of self.now.hash) (past_of self.now) name) }
+        ensures ok { IfOk result (λ found. Shows (H.hash_of self.now.hash) (account_of self.now) name (λ S. found ≡ size S)) }
+        ensures refused { IfErr result (IsUnread (account_of self.now) name) }
     {
         let replica = self.at(name)?;
         Ok(replica.size())
@@ -84,8 +83,8 @@ impl<H: PathHash, A: Allocator + Copy> World<H, A> {
     /// The dots that the replica of this name knows: those of the writes that it has seen, and those that operations which it has seen had
     /// observed. Takes the logarithm of the number of replicas, and copies nothing.
     pub fn context_at(&self, name: Name) -> Result<&Context<A>, Refusal>
-        ensures ok { IfOk result (λ found. Shows (H.hash_of self.now.hash) (past_of self.now) name (λ S. has found.now ≡ op.has (op.known S))) }
-        ensures refused { IfErr result (IsUnread (H.hash_of self.now.hash) (past_of self.now) name) }
+        ensures ok { IfOk result (λ found. Shows (H.hash_of self.now.hash) (account_of self.now) name (λ S. has found.now ≡ op.has (op.known S))) }
+        ensures refused { IfErr result (IsUnread (account_of self.now) name) }
     {
         let replica = self.at(name)?;
         Ok(replica.context())
@@ -94,8 +93,8 @@ impl<H: PathHash, A: Allocator + Copy> World<H, A> {
     /// The root digest of the replica of this name, or None where it has no key. Takes what `Replica::digest` takes, and the logarithm of the
     /// number of replicas.
     pub fn digest_at(&self, name: Name) -> Result<Option<[u8; 32]>, Refusal>
-        ensures ok { IfOk result (λ found. Shows (H.hash_of self.now.hash) (past_of self.now) name (λ S. found ≡ root_digest (H.hash_of self.now.hash) S)) }
-        ensures refused { IfErr result (IsUnread (H.hash_of self.now.hash) (past_of self.now) name) }
+        ensures ok { IfOk result (λ found. Shows (H.hash_of self.now.hash) (account_of self.now) name (λ S. found ≡ root_digest (H.hash_of self.now.hash) S)) }
+        ensures refused { IfErr result (IsUnread (account_of self.now) name) }
     {
         let replica = self.at(name)?;
         Ok(replica.digest())
@@ -103,10 +102,10 @@ impl<H: PathHash, A: Allocator + Copy> World<H, A> {
 
     // The replica of this name.
     fn at(&self, name: Name) -> Result<&Replica<H, A>, Refusal>
-        ensures ok { IfOk result (λ replica. (w : model.World) → Runs (H.hash_of self.now.hash) nothing (past_of self.now) w
-            → (model.is_node w name ≡ true) × (hash_in replica.now ≡ self.now.hash)
-            × (Unclashed (H.hash_of self.now.hash) w → ShowsOperations (H.hash_of self.now.hash) (meaning replica.now).live (w.seen name))) }
-        ensures refused { IfErr result (λ refusal. (refusal ≡ Refusal.UnknownReplica) × IsThere (H.hash_of self.now.hash) (past_of self.now) name false) }
+        ensures ok { IfOk result (λ replica. IsThere (account_of self.now) name true × (hash_in replica.now ≡ self.now.hash)
+            × (Unclashed (H.hash_of self.now.hash) (account_of self.now)
+            → ShowsOperations (H.hash_of self.now.hash) (meaning replica.now).live ((account_of self.now).seen name))) }
+        ensures refused { IfErr result (λ refusal. (refusal ≡ Refusal.UnknownReplica) × IsThere (account_of self.now) name false) }
     {
         match self.replica(name) {
             Some(replica) => Ok(replica),

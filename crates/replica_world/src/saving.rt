@@ -1,14 +1,14 @@
 // What a world keeps of its replicas, and how one comes back from it.
-ghost use Rattle.std.specs.Prelude.{◌≡◌, ◌⊎◌, ◌≤◌, ◌+◌, ℕ, length, true, false, Option, Some, None, IfOk, IfErr, OnOk, OnErr, IsSome, IsOkUnless};
+ghost use Rattle.std.specs.Prelude.{◌≡◌, ◌⊎◌, ◌≤◌, ◌+◌, ◌||◌, not, ℕ, length, true, false, Option, Some, None, IfOk, IfErr, OnOk, OnErr, IsSome, IsOkUnless};
 ghost use Rattle.std.specs.BTreeMap.{get};
 ghost use Rattle.std.specs.Ordering.{nat_cmp};
 ghost use Rattle.replica_core.specs.Meaning.{ReplicaValue, hash_in, meaning, waiting_in};
 ghost use Rattle.replica_core.specs.Saving.{checkpointed};
 ghost use Rattle.replica_core.specs.Stepping.{Stays};
 ghost use Rattle.replica_model.specs.Replica.{restarts};
-ghost use Rattle.replica_model.specs.Step as step;
 ghost use Rattle.replica_world.specs.Happening.{answer_value, event_value};
-ghost use Rattle.replica_world.specs.Held.{goes_further, is_saved_with};
+ghost use Rattle.replica_model.specs.Crashing.{may_be_lost};
+ghost use Rattle.replica_world.specs.Held.{goes_further};
 ghost use Rattle.replica_world.specs.Keeping.{Restarts};
 ghost use Rattle.replica_world.specs.Replaces.{Replaces};
 ghost use Rattle.replica_world.specs.Kept.{saves_in, back_in, HasPlace, SavedOnce, Settles, Notes, checkpoint_at};
@@ -150,7 +150,7 @@ pub(crate) fn is_to_be_saved<A: Allocator + Copy>(
     is_further: bool,
     sends: bool,
 ) -> bool
-    ensures { (answer : step.Answer) → is_further ≡ goes_further answer → result ≡ is_saved_with (event_value event.now) answer sends }
+    ensures { result ≡ (not (may_be_lost (event_value event.now)) || (sends || is_further)) }
 {
     match event {
         Event::Node(_) => true,

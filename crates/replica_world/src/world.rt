@@ -1,18 +1,23 @@
-ghost use Rattle.std.specs.Prelude.{◌≡◌, ◌⊎◌, ◌+◌, ◌++◌, ◌==◌, not, [], ◌∷◌, map, true, false, Some, None, IfOk, IfErr, OnOk, OnErr, IfSome, IsNone, IsOkUnless};
+ghost use Rattle.std.specs.Prelude.{◌≡◌, ◌-◌, [], map, nat_lt, if◌then◌else◌, true, false, Some, None, IfOk, IfErr, OnOk, OnErr, IfSome, IsNone, IsOkUnless};
+ghost use Rattle.std.specs.List.{slice_get};
+ghost use Rattle.std.specs.Option.{option_copied};
 ghost use Rattle.dots.specs.declared.refusal.Refusal.TheVariants.{OutOfMemory};
 ghost use Rattle.wire_form.specs.Message.{message_of};
 ghost use Rattle.op_model.specs.Meaning.{state};
 ghost use Rattle.replica_model.specs.Laws.{MeansMail};
 ghost use Rattle.replica_model.specs.Mail.{mail_of};
+ghost use Rattle.replica_model.specs.Accounts.{IsAccountOf};
+ghost use Rattle.replica_model.specs.Seen as told;
+ghost use Rattle.replica_model.specs.Spelled.{IsSpelled};
 ghost use Rattle.replica_model.specs.World as model;
 ghost use Rattle.replica_model.specs.World.{nothing, is_node, message_at, Runs, Unclashed};
 ghost use Rattle.replica_core.specs.Meaning.{hash_in, meaning};
-ghost use Rattle.replica_world.specs.Accepting.{IsTold};
-ghost use Rattle.replica_world.specs.Refused.{IsRefusedIn};
+ghost use Rattle.replica_world.specs.Accepting.{Accepts, IsTold};
+ghost use Rattle.replica_world.specs.Refused.{IsRefusedIn, IsNodeAfter, IsRefusedAt};
 ghost use Rattle.replica_core.specs.Showing.{ShowsOperations};
-ghost use Rattle.replica_world.specs.Spelled.{IsSpelled};
 
 use crate::accepted::Accepted;
+use crate::answer::Answer;
 use crate::delivering::read;
 use crate::event::Event;
 use crate::happening::happen;
@@ -46,26 +51,26 @@ pub struct World<H: PathHash = Fnv1a, A: Allocator + Copy = Global> {
 impl<H: PathHash, A: Allocator + Copy> Model for World<H, A> {
     ghost use Rattle.std.specs.Prelude.{map};
     ghost use Rattle.replica_world.specs.Keeping.{WorldValue, IsWorld};
-    ghost use Rattle.replica_world.specs.Held.{IsKept, events_of, held_in};
+    ghost use Rattle.replica_world.specs.Held.{IsKept, happened_in, held_in};
     ghost use Rattle.replica_world.specs.Kept.{accepted_value, back_in, saves_in};
 
     ghost Value = { WorldValue H };
 
-    ghost view = { λ w. record { hash = w.hash; held = held_in (saves_in w.kept) (map accepted_value w.past.items) } };
+    ghost view = { λ w. record { hash = w.hash; messages = w.posted; held = held_in (saves_in w.kept) (map accepted_value w.past.items) } };
 
-    ghost invariant = { λ w. IsWorld H.hash_of w.hash w.replicas w.posted (events_of (held_in (saves_in w.kept) (map accepted_value w.past.items))) × IsKept (H.hash_of w.hash) (saves_in w.kept) (back_in w.kept) (map accepted_value w.past.items) };
+    ghost invariant = { λ w. IsWorld H.hash_of w.hash w.replicas w.posted (happened_in (held_in (saves_in w.kept) (map accepted_value w.past.items))) × IsKept (H.hash_of w.hash) (saves_in w.kept) (back_in w.kept) (map accepted_value w.past.items) };
 }
 
 impl<H: PathHash, A: Allocator + Copy> World<H, A> {
-    ghost use Rattle.replica_world.specs.Happening.{accepted_event, answer_value, event_value};
-    ghost use Rattle.replica_world.specs.Held.{after, occurrence};
-    ghost use Rattle.replica_world.specs.Keeping.{past_of};
-    ghost use Rattle.replica_world.specs.Reading.{IsThere, IsUnread};
+    ghost use Rattle.replica_world.specs.Happening.{answer_value, event_value, happened_value};
+    ghost use Rattle.replica_world.specs.Held.{after, happened_in};
+    ghost use Rattle.replica_world.specs.Keeping.{account_of, past_of};
+    ghost use Rattle.replica_world.specs.Reading.{IsThere};
     ghost use Rattle.replica_model.specs.Crashing.{Saves, Crashes};
 
     /// The world with no replica and no message, whose replicas' keys have their paths by this hash. Takes no memory.
     pub fn new(alloc: A, hash: H) -> World<H, A>
-        ensures { result ≡ record { hash = hash; held = [] } }
+        ensures { result ≡ record { hash = hash; messages = []; held = [] } }
     {
         World {
             alloc,
@@ -87,11 +92,7 @@ impl<H: PathHash, A: Allocator + Copy> World<H, A> {
     ///
     /// A new replica is saved, and one is with each event that sends something or takes a synchronisation further, before its messages go out.
     pub fn event(&mut self, event: Event<A>) -> Result<Told, Refusal>
-        ensures ok { IfOk result (λ told. self.new ≡ record {
-          hash = self.old.hash;
-          held =
-              after self.old.held (occurrence (event_value event) (answer_value told.answer) (not (told.made.start == told.made.end)));
-        }) }
+        ensures ok { IfOk result (λ told. Accepts self.old (event_value event) (answer_value told.answer) told.made.start told.made.end self.new) }
         ensures happened { IfOk result (λ told. (w : model.World) → Runs (H.hash_of self.old.hash) nothing (past_of self.old) w
             → IsTold (H.hash_of self.old.hash) (past_of self.old) w (event_value event) (answer_value told.answer) told.made.start told.made.end) }
         ensures refused { IfErr result (λ refusal. (w : model.World) → Runs (H.hash_of self.old.hash) nothing (past_of self.old) w
@@ -124,20 +125,23 @@ impl<H: PathHash, A: Allocator + Copy> World<H, A> {
         };
         let end = self.posted.len() + 1;
         let (answer, is_further) = further(answer);
-        let is_saved = is_to_be_saved(&event, is_further, first != end);
+        let sent = end - first;
+        let is_saved = is_to_be_saved(&event, is_further, sent != 0);
         let saves = settle(&mut self.kept, event.name(), is_saved);
-        self.past.push(Accepted::new(event, saves)).unwrap();
         let made = first..end;
-        Ok(Told { answer, made })
+        let told = Told { answer, made };
+        let accepted = Accepted::new(event, told.answer, sent, saves);
+        self.past.push(accepted).unwrap();
+        Ok(told)
     }
 
     /// Saves the replica of this name: nothing that it did is lost where it crashes. Takes the logarithm of the number of replicas.
     ///
     /// Its refusals are UnknownReplica, just where no replica has the name, and OutOfMemory; a refused call changes nothing.
     pub fn save(&mut self, name: Name) -> Result<(), Refusal>
-        ensures ok { OnOk result (self.new ≡ record { hash = self.old.hash; held = after self.old.held (Saves name) }) }
-        ensures there { OnOk result (IsThere (H.hash_of self.old.hash) (past_of self.old) name true) }
-        ensures refused { IfErr result (IsUnread (H.hash_of self.old.hash) (past_of self.old) name) }
+        ensures ok { OnOk result (self.new ≡ record { hash = self.old.hash; messages = self.old.messages; held = after self.old.held (Saves name) }) }
+        ensures there { OnOk result (IsNodeAfter (H.hash_of self.old.hash) (past_of self.old) name true) }
+        ensures refused { IfErr result (IsRefusedAt (H.hash_of self.old.hash) (past_of self.old) name) }
         ensures unchanged { OnErr result (self.new ≡ self.old) }
     {
         if !self.replicas.contains_key(&name) {
@@ -156,9 +160,9 @@ impl<H: PathHash, A: Allocator + Copy> World<H, A> {
     /// Its refusals are UnknownReplica, just where no replica has the name, and OutOfMemory; a refused call changes nothing. Takes time in the
     /// past, and time and memory in all that the replica held, times the logarithm of the map.
     pub fn crash(&mut self, name: Name) -> Result<(), Refusal>
-        ensures ok { OnOk result (self.new ≡ record { hash = self.old.hash; held = after self.old.held (Crashes name) }) }
-        ensures there { OnOk result (IsThere (H.hash_of self.old.hash) (past_of self.old) name true) }
-        ensures refused { IfErr result (IsUnread (H.hash_of self.old.hash) (past_of self.old) name) }
+        ensures ok { OnOk result (self.new ≡ record { hash = self.old.hash; messages = self.old.messages; held = after self.old.held (Crashes name) }) }
+        ensures there { OnOk result (IsNodeAfter (H.hash_of self.old.hash) (past_of self.old) name true) }
+        ensures refused { IfErr result (IsRefusedAt (H.hash_of self.old.hash) (past_of self.old) name) }
         ensures unchanged { OnErr result (self.new ≡ self.old) }
     {
         if !self.replicas.contains_key(&name) {
@@ -178,7 +182,7 @@ impl<H: PathHash, A: Allocator + Copy> World<H, A> {
         put_back(&mut self.replicas, name, replica);
         let saves = save_once(&mut self.kept, name);
         take_back(&mut self.past, name, saves);
-        let restart = Accepted::new(Event::Restart(name), saves);
+        let restart = Accepted::new(Event::Restart(name), Answer::Nothing, 0, saves);
         self.past.push(restart).unwrap();
         Ok(())
     }
@@ -194,6 +198,10 @@ impl<H: PathHash, A: Allocator + Copy> World<H, A> {
         ensures none { IsNone result → (w : model.World) → Runs (H.hash_of self.now.hash) nothing (past_of self.now) w → is_node w name ≡ false }
         ensures shown { IfSome result (λ replica. (w : model.World) → Runs (H.hash_of self.now.hash) nothing (past_of self.now) w
             → Unclashed (H.hash_of self.now.hash) w → ShowsOperations (H.hash_of self.now.hash) (meaning replica.now).live (w.seen name)) }
+        ensures told { IfSome result (λ replica. IsThere (account_of self.now) name true × (hash_in replica.now ≡ self.now.hash)
+            × (told.Unclashed (H.hash_of self.now.hash) (account_of self.now)
+            → ShowsOperations (H.hash_of self.now.hash) (meaning replica.now).live ((account_of self.now).seen name))) }
+        ensures unknown { IsNone result → IsThere (account_of self.now) name false }
         ensures holds { IfSome result (λ replica. (w : model.World) → Runs (H.hash_of self.now.hash) nothing (past_of self.now) w → Unclashed (H.hash_of self.now.hash) w
             → ((meaning replica.now).live ≡ state (w.seen name)) × ((meaning replica.now).group ≡ state (w.outgoing name))) }
     {
@@ -205,6 +213,7 @@ impl<H: PathHash, A: Allocator + Copy> World<H, A> {
     /// Unless two pages or two values that one session met have one SHA-256, a delta carries just the operations that were to be sent when it
     /// was made, and an opening what its replica had seen when it kept the snapshot.
     pub fn message(&self, number: u64) -> Option<&[u8]>
+        ensures bytes { option_copied result ≡ (if nat_lt 0 number then slice_get self.now.messages (number - 1) else None) }
         ensures some { IfSome result (λ bytes. (w : model.World) → Runs (H.hash_of self.now.hash) nothing (past_of self.now) w
             → (m : model.Message) × (message_at w.messages number ≡ Some m) × IsSpelled bytes.now m.mail) }
         ensures carries { IfSome result (λ bytes. (w : model.World) → Runs (H.hash_of self.now.hash) nothing (past_of self.now) w → Unclashed (H.hash_of self.now.hash) w
@@ -234,11 +243,12 @@ impl<H: PathHash, A: Allocator + Copy> World<H, A> {
         }
     }
 
-    /// The events that it accepted and that no crash took away, in their order: those that its model's world is the world after. Takes constant
-    /// time, and copies nothing.
+    /// What happened and no crash took away, in its order: each event with its answer and with how many messages it sent. Takes constant time, and
+    /// copies nothing.
     pub fn past(&self) -> &[Accepted<A>]
-        ensures list { map accepted_event result.now ≡ (past_of self.now) }
+        ensures list { map happened_value result.now ≡ happened_in self.now.held }
         ensures runs { (w : model.World) × Runs (H.hash_of self.now.hash) nothing (past_of self.now) w }
+        ensures account { (w : model.World) → Runs (H.hash_of self.now.hash) nothing (past_of self.now) w → IsAccountOf (H.hash_of self.now.hash) (account_of self.now) w }
     {
         self.past.as_slice()
     }

@@ -1,8 +1,9 @@
 -- A past that what occurred led to goes on: after each outcome of a command there is such a past. So each line is answered.
-use Rattle.std.proofs.Common.{◌≡◌, ◌≢◌, ◌⊎◌, inl, inr, ℕ, ◌+◌, ◌==◌, Bool, true, false, cond, List, [], ◌∷◌, ◌++◌, map, length, Option, Some, None}
-use Rattle.std.proofs.Common.{refl, sym, ap, ◌∙◌, subst, arith, eqb-true, length-append}
+use Rattle.std.proofs.Common.{◌≡◌, ◌≢◌, ◌⊎◌, inl, inr, ℕ, ◌+◌, ◌-◌, ◌==◌, ◌||◌, Bool, true, false, cond, List, [], ◌∷◌, ◌++◌, map, length, Option, Some, None}
+use Rattle.std.proofs.Common.{refl, sym, ap, ◌∙◌, subst, arith, length-append}
 use Rattle.std.proofs.lemmas.List.{length-map}
 use Rattle.std.proofs.lemmas.Bool.{false≢true, or_parts}
+use Rattle.std.proofs.lemmas.Bool.Decides.{nat_tests}
 use Rattle.std.specs.Prelude.{Contains, not}
 use Rattle.std.specs.List.{fold}
 use Rattle.std.proofs.lemmas.List.Elements.{Contains-push_cases}
@@ -11,9 +12,10 @@ use Rattle.dots.specs.declared.refusal.Refusal.TheVariants.{BadLine}
 use Rattle.hash_path.specs.Fnv1a.{fnv1a}
 use Rattle.op_model.specs.World.{is_among}
 use Rattle.op_model.proofs.Members.{nothing_in}
-use Rattle.replica_model.specs.Crashing.{Occurrence, Saving, Passing, Saves, Crashes, System, Does, Occurs, Goes, Shows, put, started, survivors}
+use Rattle.replica_model.specs.Crashing.{Occurrence, Saving, Passing, Saves, Crashes, System, Does, Occurs, Goes, Shows, may_be_lost, put, started, survivors}
 use Rattle.replica_model.specs.Crashing as crashing
 use Rattle.replica_model.specs.Delivery.{Sent}
+use Rattle.replica_model.specs.Happened.{Happened, events_in}
 use Rattle.replica_model.specs.Laws.{replica_of}
 use Rattle.replica_model.specs.Mail.{Mail}
 use Rattle.replica_model.specs.Replica.{restarts}
@@ -23,7 +25,8 @@ use Rattle.replica_model.specs.World as world
 use Rattle.replica_model.specs.World.{World, Event, Message, is_node, nothing, Happens, Runs, RefusesEvent}
 use Rattle.replica_model.proofs.Crashing.{take_back}
 use Rattle.replica_model.proofs.Deciding.{worlds_one}
-use Rattle.replica_world.specs.Held.{Held, events_of, after, goes_further, is_saved_with}
+use Rattle.replica_model.proofs.Telling.{leads_run}
+use Rattle.replica_world.specs.Held.{Held, events_of, happened_in, after, goes_further, is_saved_with}
 use Rattle.replica_world.proofs.Held.{held_survives}
 use Rattle.replica_world.proofs.Systems.{Did, did}
 use Rattle.trace_words.specs.Answer.{Silent}
@@ -48,48 +51,51 @@ held_more hs (y ∷ xs) x = held_more (after hs y) xs x
 not_sent : (answer : Answer) → goes_further answer ≡ false → answer ≢ Came Sent
 not_sent answer none sent = false≢true (sym none ∙ ap goes_further sent)
 
-passes : (e : Event) (answer : Answer) (sends : Bool) → is_saved_with e answer sends ≡ false → (sends ≡ false) × (answer ≢ Came Sent)
-passes (world.Node name) answer sends none = absurd (false≢true (sym none))
-passes (world.At name c) answer sends none = let both = or_parts sends (goes_further answer) none in (both.0, not_sent answer both.1)
-passes (world.Deliver number name) answer sends none = let both = or_parts sends (goes_further answer) none in (both.0, not_sent answer both.1)
+passes : (h : Happened) → is_saved_with h ≡ false → (h.sent ≡ 0) × (h.answer ≢ Came Sent)
+passes h none =
+    let both = or_parts (not (h.sent == 0)) (goes_further h.answer)
+    (or_parts (not (may_be_lost h.event)) (not (h.sent == 0) || goes_further h.answer) none).1 in
+    (none_sent both.0, not_sent h.answer both.1)
+  where
+    none_sent : not (h.sent == 0) ≡ false → h.sent ≡ 0
+    none_sent is = grind (arith, nat_tests)
 
 -- ---- an event that happened occurs in the system that the world shows
 
-no_more : (ms more : List Message) (said out : List Mail) → map (λ (m : Message). m.mail) ms ≡ said → map (λ (m : Message). m.mail) more ≡ said ++ out
-    → not (length ms + 1 == length more + 1) ≡ false → out ≡ []
-no_more ms more said out was is none = empty out refl
-  where
-    not_not : (b : Bool) → not b ≡ false → b ≡ true
-    not_not true e = refl
-    not_not false e = absurd (false≢true (sym e))
+none_out : (out : List Mail) → length out ≡ 0 → out ≡ []
+none_out [] e = refl
+none_out (m ∷ out) e = absurd (omega (arith, e))
 
-    empty : (o : List Mail) → out ≡ o → out ≡ []
-    empty [] e = e
-    empty (m ∷ o) e =
-        let same : length ms + 1 ≡ length more + 1 = eqb-true (length ms + 1) (length more + 1) (not_not (length ms + 1 == length more + 1) none) in
-        let before : length ms ≡ length said = sym (length-map ms (λ (m : Message). m.mail)) ∙ ap length was in
-        let now : length more ≡ length said + length out = sym (length-map more (λ (m : Message). m.mail)) ∙ ap length is ∙ length-append said out in
-        let some : length out ≡ length o + 1 = ap length e ∙ omega arith in
-        absurd (omega (arith, same, before, now, some))
+-- as many messages were sent as the world has more
+as_many : (ms more : List Message) (said out : List Mail) → map (λ (m : Message). m.mail) ms ≡ said → map (λ (m : Message). m.mail) more ≡ said ++ out
+    → length out ≡ length more - length ms
+as_many ms more said out was is =
+    let before : length ms ≡ length said = sym (length-map ms (λ (m : Message). m.mail)) ∙ ap length was in
+    let now : length more ≡ length said + length out = sym (length-map more (λ (m : Message). m.mail)) ∙ ap length is ∙ length-append said out in
+    omega (arith, before, now)
 
 event_occurs : (w v : World) (s : System) (e : Event) (answer : Answer) → Shows w s → Happens fnv1a w e answer v → (t : System)
     × Occurs fnv1a s (occurs e answer w v) t
-event_occurs w v s e answer shows happens = by (is_saved_with e answer (not (length w.messages + 1 == length v.messages + 1))) refl
+event_occurs w v s e answer shows happens = by (is_saved_with (record { event = e; answer = answer; sent = length v.messages - length w.messages })) refl
   where
     d : Did fnv1a s e answer v
     d = did fnv1a w s shows e answer v happens
 
-    by : (b : Bool) → is_saved_with e answer (not (length w.messages + 1 == length v.messages + 1)) ≡ b → (t : System)
-        × Occurs fnv1a s (cond b (Saving e) (Passing e)) t
+    counted : length d.out ≡ length v.messages - length w.messages
+    counted = as_many w.messages v.messages s.messages d.out shows.messages d.shows.messages
+
+    by : (b : Bool) → is_saved_with (record { event = e; answer = answer; sent = length v.messages - length w.messages }) ≡ b → (t : System)
+        × Occurs fnv1a s (cond b (Saving (record { event = e; answer = answer; sent = length v.messages - length w.messages }))
+        (Passing (record { event = e; answer = answer; sent = length v.messages - length w.messages }))) t
     by true is = (
       record (crashing.goes fnv1a s e d.new d.out) { saved = put s.saved (replica_of e) d.new },
-      (d.new, answer, d.out, d.does, refl),
+      (d.new, d.out, d.does, counted, refl),
     )
     by false is =
-        let both = passes e answer (not (length w.messages + 1 == length v.messages + 1)) is in
-        let none : d.out ≡ [] = no_more w.messages v.messages s.messages d.out shows.messages d.shows.messages both.0 in (
+        let both = passes (record { event = e; answer = answer; sent = length v.messages - length w.messages }) is in
+        let none : d.out ≡ [] = none_out d.out (counted ∙ both.0) in (
           crashing.goes fnv1a s e d.new [],
-          (d.new, answer, subst (Does fnv1a s e d.new answer) none d.does, both.1, refl),
+          (d.new, subst (Does fnv1a s e d.new answer) none d.does, both.0, both.1, refl),
         )
 
 -- ---- pasts
@@ -99,8 +105,8 @@ module _ (past : Past) (is : IsPast past) where
   leads : (w : World) × Runs fnv1a nothing (events_of past.held) w × Shows w is.system
   leads =
       let back = take_back fnv1a is.occurred is.system is.goes in
-      let events : survivors is.occurred ≡ events_of past.held = sym (held_survives is.occurred) ∙ ap events_of (sym is.holds) in
-      (back.0, subst (λ es. Runs fnv1a nothing es back.0) events back.1, back.2)
+      let same : survivors is.occurred ≡ happened_in past.held = sym (held_survives is.occurred) ∙ ap happened_in (sym is.holds) in
+      (back.0, subst (λ hs. Runs fnv1a nothing (events_in hs) back.0) same (leads_run fnv1a (survivors is.occurred) nothing back.0 back.1), back.2)
 
   more_occurs : (x : Occurrence) (t : System) → Occurs fnv1a is.system x t → IsPast (record past { held = after past.held x })
   more_occurs x t occurs = record {

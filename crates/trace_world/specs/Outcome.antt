@@ -1,5 +1,5 @@
 -- What each command comes to in a world. Of this project.
-use Rattle.std.specs.Prelude.{◌≡◌, ◌⊎◌, ◌==◌, not, codes, ℕ, zero, suc, Bool, true, false, ◌+◌, nat_le, List, [], ◌∷◌, length, Option, Some, None, slice_get}
+use Rattle.std.specs.Prelude.{◌≡◌, ◌⊎◌, codes, ℕ, zero, suc, Bool, true, false, ◌+◌, ◌-◌, nat_le, List, [], ◌∷◌, length, Option, Some, None, slice_get}
 use Rattle.std.specs.List.{All}
 use Rattle.std.specs.Map.{keys_of}
 use Rattle.causal_context.specs.Context.{ContextValue, has}
@@ -85,7 +85,7 @@ pin_at pins (suc n) = slice_get pins n
 
 -- an event occurs that led from the first world to the second: its replica is saved with it, before its messages go out, or it is not
 abbrev pub occurs : Event → Answer → World → World → Occurrence
-occurs e answer w v = occurrence e answer (not (length w.messages + 1 == length v.messages + 1))
+occurs e answer w v = occurrence (record { event = e; answer = answer; sent = length v.messages - length w.messages })
 
 module _ (hash_of : List ℕ → ℕ) where
   -- an event happens, or is refused

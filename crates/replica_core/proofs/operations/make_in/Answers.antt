@@ -1,4 +1,4 @@
-use Rattle.std.proofs.Common.{◌≡◌, ◌∙◌, sym, ap, subst}
+use Rattle.std.proofs.Common.{◌≡◌, ◌∙◌, sym, ap, subst, arith}
 use Rattle.std.specs.Prelude.{Some}
 use Rattle.std.specs.Option.{option_copied}
 use Rattle.causal_join.specs.OrMap.{or_map_state}
@@ -26,4 +26,7 @@ returns-clause-group g c = same_is _ _ c.settle.ensures.same ∙ same_is _ _ c.i
 
 pub returns-clause-waits : goal.returns-clause-waits
 returns-clause-waits g c =
-    queues c.args.group.now c.push.new.self c.settle.new.self c.args.delta c.in_ok-push.ensures.pushed c.settle.ensures.same c.settle.ensures.joined
+    let most = c.most_deltas-most.result in
+    let is = c.most_deltas-most.ensures in
+    queues c.args.group.now c.push.new.self c.settle.new.self c.args.delta most (omega (arith, is)) c.in_ok-push.ensures.pushed c.settle.ensures.same
+    c.settle.ensures.kept c.settle.ensures.joined

@@ -1,7 +1,8 @@
 use Rattle.replica_core.specs.Writing.{call_value}
 use Rattle.replica_world.specs.Happening.{answer_value}
 use Rattle.replica_world.proofs.Refusing.{no_peer, call_made, call_unmade, left}
-use Rattle.replica_world.proofs.Results.{if_ok_weaker, if_err_weaker, on_err_both}
+use Rattle.replica_world.proofs.Results.{if_ok_weaker, if_err_weaker, on_err_both, on_ok_from}
+use Rattle.replica_world.proofs.Spelt.{posted_adds}
 use Rattle.replica_world.proofs.happening.call_at.Goals as goal
 
 pub returns-then-not-has_peer-clause-refused : goal.returns-then-not-has_peer-clause-refused
@@ -13,6 +14,11 @@ returns-clause-ok g c =
     if_ok_weaker c.make_at.result
     (λ answer made hash. call_made hash c.args.replicas.now c.make_at.new.replicas c.args.posted.now c.make_at.new.posted g.H.PathHash.hash_of c.args.name
     (call_value c.args.call.now) (answer_value answer) (λ w keeps. c.if-not-has_peer.ensures hash c.args.posted.now w keeps) made)
+    c.make_at.ensures.ok
+
+pub returns-clause-adds : goal.returns-clause-adds
+returns-clause-adds g c =
+    on_ok_from c.make_at.result (λ answer (before, after, replaces, (out, steps, posted)). posted_adds c.args.posted.now c.make_at.new.posted out posted)
     c.make_at.ensures.ok
 
 pub returns-clause-refused : goal.returns-clause-refused

@@ -2,7 +2,8 @@ use Rattle.wire_form.specs.Message.{message_of}
 use Rattle.replica_model.specs.Mail.{mail_of}
 use Rattle.replica_world.specs.Happening.{answer_value}
 use Rattle.replica_world.proofs.Refusing.{not_sent, not_read, not_taken, delivery_made, stayed}
-use Rattle.replica_world.proofs.Results.{if_ok_weaker, on_err_both, refused_unless}
+use Rattle.replica_world.proofs.Results.{if_ok_weaker, on_err_both, on_ok_from, refused_unless}
+use Rattle.replica_world.proofs.Spelt.{posted_adds}
 use Rattle.replica_world.proofs.happening.deliver_at.Goals as goal
 
 pub returns-in_default-clause-refused : goal.returns-in_default-clause-refused
@@ -19,6 +20,11 @@ returns-clause-ok g c =
     (λ answer made hash. delivery_made hash c.args.replicas.now c.take_at-told.new.replicas c.args.posted.now c.take_at-told.new.posted g.H.PathHash.hash_of
     c.args.number c.args.name c.in-Some.bytes.now (mail_of (message_of c.in-Ok.message)) (answer_value answer) c.in-Some.ensures
     c.in-Ok.ensures made)
+    c.take_at-told.ensures.ok
+
+pub returns-clause-adds : goal.returns-clause-adds
+returns-clause-adds g c =
+    on_ok_from c.take_at-told.result (λ answer (before, after, replaces, (out, steps, posted)). posted_adds c.args.posted.now c.take_at-told.new.posted out posted)
     c.take_at-told.ensures.ok
 
 pub returns-clause-refused : goal.returns-clause-refused

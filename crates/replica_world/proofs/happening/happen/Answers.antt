@@ -1,13 +1,16 @@
 use Rattle.std.proofs.lemmas.Result.{on_err_weaker}
 use Rattle.std.proofs.Common.{refl}
-use Rattle.replica_world.specs.Happening.{answer_value}
 use Rattle.replica_world.proofs.Recovered.{restart_made, restart_refused}
 use Rattle.replica_world.proofs.Refusing.{left}
-use Rattle.replica_world.proofs.Results.{if_ok_weaker, if_err_weaker}
+use Rattle.replica_world.proofs.Results.{if_ok_weaker, if_err_weaker, on_ok_all}
+use Rattle.replica_world.proofs.Spelt.{nothing_added}
 use Rattle.replica_world.proofs.happening.happen.Goals as goal
 
 pub returns-in-Node-clause-ok : goal.returns-in-Node-clause-ok
 returns-in-Node-clause-ok g c = rw c.in-Node.is (if_ok_weaker c.add.result (λ answer made. made c.args.posted.now) c.add.ensures.ok)
+
+pub returns-in-Node-clause-adds : goal.returns-in-Node-clause-adds
+returns-in-Node-clause-adds g c = on_ok_all c.add.result (nothing_added c.args.posted.now)
 
 pub returns-in-Call-clause-ok : goal.returns-in-Call-clause-ok
 returns-in-Call-clause-ok g c = rw c.in-Call.is (if_ok_weaker c.call_at.result (λ answer made. made c.args.hash) c.call_at.ensures.ok)
@@ -35,6 +38,9 @@ returns-in-Restart-clause-ok g c =
     (λ answer told. rw told.0 (restart_made c.args.hash c.args.replicas.now c.restart_at.new.replicas c.args.posted.now c.in-Restart.name
     g.H.PathHash.hash_of told.1))
     c.restart_at.ensures.ok)
+
+pub returns-in-Restart-clause-adds : goal.returns-in-Restart-clause-adds
+returns-in-Restart-clause-adds g c = on_ok_all c.restart_at.result (nothing_added c.args.posted.now)
 
 pub returns-in-Restart-clause-refused : goal.returns-in-Restart-clause-refused
 returns-in-Restart-clause-refused g c =

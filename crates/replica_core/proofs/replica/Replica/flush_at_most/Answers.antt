@@ -1,7 +1,7 @@
 use Rattle.std.proofs.Common.{refl, sym}
 use Rattle.delta_ops.proofs.Groups.{known_front}
 use Rattle.replica_core.specs.Carrying.{letter_of}
-use Rattle.replica_core.proofs.Cuts.{nothing_cut, oldest_cut, cut_within}
+use Rattle.replica_core.proofs.Cuts.{nothing_cut, oldest_cut, cut_within, cut_most}
 use Rattle.replica_core.proofs.Meant.{of_parts}
 use Rattle.replica_core.proofs.replica.Replica.flush_at_most.Goals as goal
 
@@ -32,3 +32,11 @@ returns-clause-some g c =
     c.self.inside.opened c.self.inside.sessions.items c.self.inside.answerer in
     rw (← c.self.view_is) (cut_within old new c.in_ok-letter.number c.cut.ensures c.in-Some.first c.args.most c.in_ok-letter.letter.bytes.items
     c.in_ok-letter.ensures.within first.0 first.2)
+
+pub returns-clause-most : goal.returns-clause-most
+returns-clause-most g c =
+    let old = of_parts c.self.inside.name c.self.inside.live c.self.inside.group
+    c.self.inside.opened c.self.inside.sessions.items c.self.inside.answerer in
+    let new = of_parts c.self.inside.name c.self.inside.live c.cut.new.self
+    c.self.inside.opened c.self.inside.sessions.items c.self.inside.answerer in
+    rw (← c.self.view_is) (cut_most old new c.in_ok-letter.number c.cut.ensures c.args.most c.in_ok-letter.ensures.most)

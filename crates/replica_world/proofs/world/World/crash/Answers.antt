@@ -1,8 +1,7 @@
 use Rattle.std.proofs.Common.{◌≡◌, ◌++◌, [], ◌∷◌, nat_lt, inl, inr, refl, ap, ◌∙◌}
 use Rattle.std.specs.Prelude.{not, filter, ◌&&◌}
 use Rattle.replica_model.specs.Crashing.{Crashes}
-use Rattle.replica_model.specs.Step.{Restart}
-use Rattle.replica_model.specs.World.{At}
+use Rattle.replica_model.specs.Crashing as crashing
 use Rattle.replica_world.specs.Happening.{event_value}
 use Rattle.replica_world.specs.Held.{after, is_act}
 use Rattle.replica_world.specs.Keeping.{WorldValue}
@@ -48,8 +47,8 @@ left_of g c =
     ∙ (λ i. filter (λ x. not (is_act c.args.name (event_value x.event) && not (nat_lt x.saves (c.save_once-saves.ensures.before i)))) (c.in-Ok.ensures.past i))
 
 restarted : (g : given.Over) (c : goal.After-unwrap g) → accepted_value c.new-restart.result
-    ≡ (At c.args.name Restart, saves_in c.recovered.new.kept c.args.name)
-restarted g c = c.new-restart.ensures ∙ ap (λ k. (At c.args.name Restart, k)) c.save_once-saves.ensures.before
+    ≡ (crashing.restarted c.args.name, saves_in c.recovered.new.kept c.args.name)
+restarted g c = c.new-restart.ensures ∙ ap (λ k. (crashing.restarted c.args.name, k)) c.save_once-saves.ensures.before
 
 pushed : (g : given.Over) (c : goal.After-unwrap g) → c.push.new.self.items ≡ c.take_back.new.past.items ++ c.new-restart.result ∷ []
 pushed g c = list_push c.take_back.new.past.items c.take_back.new.past.items c.push.new.self.items c.new-restart.result c.push.result c.unwrap.result refl
@@ -73,7 +72,7 @@ returns-clause-ok g c =
     (seen_crashed g.H.PathHash.hash_of s.hash s.replicas s.posted c.recovered.new.kept s.past.items alive c.save_once-saves.new.kept c.args.name
     c.save_once-saves.ensures.once
     c.take_back.new.past.items (left_of g c) c.new-restart.result (restarted g c)
-    ∙ ap (λ (w : WorldValue _). record { hash = s.hash; held = after w.held (Crashes c.args.name) })
+    ∙ ap (λ (w : WorldValue _). record { hash = s.hash; messages = s.posted; held = after w.held (Crashes c.args.name) })
     (seen_noted g.H.PathHash.hash_of s.hash s.replicas s.posted s.kept s.past.items c.self.invariant c.recovered.new.kept c.in-Ok.ensures.notes))
 
 pub returns-clause-there : goal.returns-clause-there

@@ -1,4 +1,4 @@
-use Rattle.std.proofs.Common.{refl, ap}
+use Rattle.std.proofs.Common.{[], ap}
 use Rattle.std.specs.Map.{lookup}
 use Rattle.std.specs.BTreeMap.{is_at}
 use Rattle.std.specs.Ordering.{nat_cmp}
@@ -17,4 +17,4 @@ invariant_of-result g c =
 
 -- this hash, and no event
 pub returns : goal.returns
-returns g c = rw c.new-3.ensures.items refl
+returns g c = rw c.new-3.ensures.items (ap (λ messages. record { hash = c.args.hash; messages = messages; held = [] }) c.new-2.ensures)

@@ -1,4 +1,7 @@
-use Rattle.replica_world.proofs.Happened.{mail_carries}
+use Rattle.std.specs.Prelude.{map}
+use Rattle.replica_world.specs.Held.{happened_in, held_in}
+use Rattle.replica_world.specs.Kept.{accepted_value, saves_in}
+use Rattle.replica_world.proofs.Happened.{mail_carries, runs_so}
 use Rattle.replica_world.proofs.world.World.read.Goals as goal
 
 pub returns-in-Ok-clause-some : goal.returns-in-Ok-clause-some
@@ -9,7 +12,10 @@ returns-in-Ok-clause-some g c = λ w runs.
 pub returns-in-Err-clause-refused : goal.returns-in-Err-clause-refused
 returns-in-Err-clause-refused g c =
     let shown = rw (← c.self.view_is) at c.in-Some.ensures.some in
-    let m = shown c.self.invariant.0.world c.self.invariant.0.runs in
+    let s = c.self.inside in
+    let runs = runs_so g.H.PathHash.hash_of s.hash s.replicas s.posted (happened_in (held_in (saves_in s.kept) (map accepted_value s.past.items)))
+    c.self.invariant.0 in
+    let m = shown c.self.invariant.0.world runs in
     c.in-Err.ensures m.0.mail m.2
 
 pub returns-in-Ok-clause-carries : goal.returns-in-Ok-clause-carries

@@ -51,7 +51,7 @@ returns-clause-ok g c =
     rw (← c.self.view_is)
     (seen_saved g.H.PathHash.hash_of s.hash s.replicas s.posted c.make_place.new.kept s.past.items alive c.save_once.new.kept c.args.name
     c.save_once.ensures.once
-    ∙ ap (λ (w : WorldValue _). record { hash = s.hash; held = after w.held (Saves c.args.name) })
+    ∙ ap (λ (w : WorldValue _). record { hash = s.hash; messages = s.posted; held = after w.held (Saves c.args.name) })
     (seen_noted g.H.PathHash.hash_of s.hash s.replicas s.posted s.kept s.past.items c.self.invariant c.make_place.new.kept notes))
 
 pub returns-clause-there : goal.returns-clause-there

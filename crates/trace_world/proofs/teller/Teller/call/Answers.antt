@@ -1,4 +1,4 @@
-use Rattle.std.proofs.Common.{ap}
+use Rattle.std.proofs.Common.{ap, length}
 use Rattle.hash_path.specs.declared.fnv1a.Fnv1a.{Fnv1a}
 use Rattle.replica_model.specs.World.{At}
 use Rattle.replica_core.specs.Writing.{call_value}
@@ -16,5 +16,5 @@ pub returns : goal.returns
 returns g c =
     rw (← c.self.view_is)
     (event_done c.self.inside.world.held c.event.new.self.held (At c.args.name (call_value c.args.call)) (answer_value c.in-Ok.told.answer)
-    c.in-Ok.told.made.start c.in-Ok.told.made.end c.in-Ok.ensures.happened c.tell.result
-    (ap (λ (w : WorldValue Fnv1a). w.held) c.in-Ok.ensures.ok) c.tell.ensures.ok c.tell.ensures.err)
+    (length c.in-Ok.ensures.ok.more) c.in-Ok.told.made.start c.in-Ok.told.made.end c.in-Ok.ensures.ok.stops c.in-Ok.ensures.happened c.tell.result
+    (ap (λ (w : WorldValue Fnv1a). w.held) c.in-Ok.ensures.ok.makes) c.tell.ensures.ok c.tell.ensures.err)

@@ -1,4 +1,4 @@
-use Rattle.std.proofs.Common.{ap}
+use Rattle.std.proofs.Common.{ap, length}
 use Rattle.hash_path.specs.declared.fnv1a.Fnv1a.{Fnv1a}
 use Rattle.replica_model.specs.World.{Deliver}
 use Rattle.replica_world.specs.Happening.{answer_value}
@@ -15,5 +15,5 @@ pub returns : goal.returns
 returns g c =
     rw (← c.self.view_is)
     (event_done c.self.inside.world.held c.event.new.self.held (Deliver c.args.message c.args.name) (answer_value c.in-Ok.told.answer)
-    c.in-Ok.told.made.start c.in-Ok.told.made.end c.in-Ok.ensures.happened c.tell.result
-    (ap (λ (w : WorldValue Fnv1a). w.held) c.in-Ok.ensures.ok) c.tell.ensures.ok c.tell.ensures.err)
+    (length c.in-Ok.ensures.ok.more) c.in-Ok.told.made.start c.in-Ok.told.made.end c.in-Ok.ensures.ok.stops c.in-Ok.ensures.happened c.tell.result
+    (ap (λ (w : WorldValue Fnv1a). w.held) c.in-Ok.ensures.ok.makes) c.tell.ensures.ok c.tell.ensures.err)
