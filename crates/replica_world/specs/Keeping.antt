@@ -26,10 +26,11 @@ pub record WorldValue (Hash : Type 0) : Type 0 where
   pub messages : List (List ℕ)
   pub held : List Held
 
--- the account of what happened, and the events by themselves
-abbrev pub account_of : {Hash : Type 0} → WorldValue Hash → Account
+-- the account of what happened
+unfoldable pub account_of : {Hash : Type 0} → WorldValue Hash → Account
 account_of w = account w.messages (happened_in w.held)
 
+-- the events by themselves
 abbrev pub past_of : {Hash : Type 0} → WorldValue Hash → List Event
 past_of w = events_of w.held
 

@@ -1,21 +1,17 @@
 // What a replica of a world shows, told by the operations that it has seen alone.
-ghost use Rattle.std.specs.Prelude.{◌≡◌, true, false, IfOk, IfErr};
+ghost use Rattle.std.specs.Prelude.{◌≡◌, IfOk, IfErr};
 ghost use Rattle.causal_context.specs.Context.{has};
 ghost use Rattle.op_model.specs.Operation as op;
 ghost use Rattle.op_model.specs.Place.{place_of, plain};
 ghost use Rattle.op_model.specs.Shown.{values, values_of_key, fields, keys, size};
 ghost use Rattle.prefix_digest.specs.MapOf.{root_digest};
-ghost use Rattle.replica_model.specs.Seen.{Unclashed};
-ghost use Rattle.replica_core.specs.Meaning.{hash_in, meaning};
-ghost use Rattle.replica_core.specs.Showing.{ShowsOperations};
 ghost use Rattle.replica_world.specs.Keeping.{account_of};
-ghost use Rattle.replica_world.specs.Reading.{IsThere, IsUnread, Shows};
+ghost use Rattle.replica_world.specs.Reading.{IsUnread, Shows};
 
 use crate::world::World;
 use causal_context::Context;
 use dots::{Field, Key, Name, Refusal, Value};
 use hash_path::PathHash;
-use replica_core::Replica;
 use std::alloc::Allocator;
 
 // Each of these reads is refused with UnknownReplica just where no replica of the name is there, and else with OutOfMemory. What it answers is
@@ -98,18 +94,5 @@ impl<H: PathHash, A: Allocator + Copy> World<H, A> {
     {
         let replica = self.at(name)?;
         Ok(replica.digest())
-    }
-
-    // The replica of this name.
-    fn at(&self, name: Name) -> Result<&Replica<H, A>, Refusal>
-        ensures ok { IfOk result (λ replica. IsThere (account_of self.now) name true × (hash_in replica.now ≡ self.now.hash)
-            × (Unclashed (H.hash_of self.now.hash) (account_of self.now)
-            → ShowsOperations (H.hash_of self.now.hash) (meaning replica.now).live ((account_of self.now).seen name))) }
-        ensures refused { IfErr result (λ refusal. (refusal ≡ Refusal.UnknownReplica) × IsThere (account_of self.now) name false) }
-    {
-        match self.replica(name) {
-            Some(replica) => Ok(replica),
-            None => Err(Refusal::UnknownReplica),
-        }
     }
 }

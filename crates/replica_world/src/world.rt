@@ -198,14 +198,23 @@ impl<H: PathHash, A: Allocator + Copy> World<H, A> {
         ensures none { IsNone result → (w : model.World) → Runs (H.hash_of self.now.hash) nothing (past_of self.now) w → is_node w name ≡ false }
         ensures shown { IfSome result (λ replica. (w : model.World) → Runs (H.hash_of self.now.hash) nothing (past_of self.now) w
             → Unclashed (H.hash_of self.now.hash) w → ShowsOperations (H.hash_of self.now.hash) (meaning replica.now).live (w.seen name)) }
-        ensures told { IfSome result (λ replica. IsThere (account_of self.now) name true × (hash_in replica.now ≡ self.now.hash)
-            × (told.Unclashed (H.hash_of self.now.hash) (account_of self.now)
-            → ShowsOperations (H.hash_of self.now.hash) (meaning replica.now).live ((account_of self.now).seen name))) }
-        ensures unknown { IsNone result → IsThere (account_of self.now) name false }
         ensures holds { IfSome result (λ replica. (w : model.World) → Runs (H.hash_of self.now.hash) nothing (past_of self.now) w → Unclashed (H.hash_of self.now.hash) w
             → ((meaning replica.now).live ≡ state (w.seen name)) × ((meaning replica.now).group ≡ state (w.outgoing name))) }
     {
         self.replicas.get(&name)
+    }
+
+    // The replica of this name, for a read: what it shows is told by the account.
+    pub(crate) fn at(&self, name: Name) -> Result<&Replica<H, A>, Refusal>
+        ensures ok { IfOk result (λ replica. IsThere (account_of self.now) name true × (hash_in replica.now ≡ self.now.hash)
+            × (told.Unclashed (H.hash_of self.now.hash) (account_of self.now)
+            → ShowsOperations (H.hash_of self.now.hash) (meaning replica.now).live ((account_of self.now).seen name))) }
+        ensures refused { IfErr result (λ refusal. (refusal ≡ Refusal.UnknownReplica) × IsThere (account_of self.now) name false) }
+    {
+        match self.replicas.get(&name) {
+            Some(replica) => Ok(replica),
+            None => Err(Refusal::UnknownReplica),
+        }
     }
 
     /// The bytes of the message of this number, from 1 on, if there is one. Takes constant time, and copies nothing.

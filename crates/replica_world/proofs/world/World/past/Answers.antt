@@ -2,6 +2,7 @@ use Rattle.std.proofs.Common.{ap, sym, ◌∙◌}
 use Rattle.std.specs.Prelude.{map}
 use Rattle.replica_world.specs.Happening.{happened_value}
 use Rattle.replica_world.specs.Held.{happened_in, held_in}
+use Rattle.replica_world.specs.Keeping.{account_of}
 use Rattle.replica_world.specs.Kept.{accepted_value, saves_in}
 use Rattle.replica_world.proofs.Happened.{account_any, runs_so}
 use Rattle.replica_world.proofs.Living.{seen_happened}
@@ -21,6 +22,7 @@ returns-clause-runs g c =
     )
 
 pub returns-clause-account : goal.returns-clause-account
+unfolding account_of
 returns-clause-account g c =
     let s = c.self.inside in
     rw (← c.self.view_is)

@@ -1,7 +1,7 @@
 use Rattle.std.specs.Prelude.{map}
 use Rattle.replica_world.specs.Held.{happened_in, held_in}
 use Rattle.replica_world.specs.Kept.{accepted_value, saves_in}
-use Rattle.replica_world.proofs.Happened.{replica_shown, replica_missing, replica_holds, replica_told, replica_unknown, replica_meant}
+use Rattle.replica_world.proofs.Happened.{replica_shown, replica_missing, replica_holds, replica_meant}
 use Rattle.replica_world.proofs.world.World.replica.Goals as goal
 
 pub returns-clause-some : goal.returns-clause-some
@@ -21,18 +21,6 @@ returns-clause-shown g c =
     rw (← c.self.view_is) (replica_holds g.H.PathHash.hash_of c.self.inside.hash c.self.inside.replicas c.self.inside.posted
     (happened_in (held_in (saves_in c.self.inside.kept) (map accepted_value c.self.inside.past.items)))
     c.self.invariant.0 c.args.name c.get.result c.get.ensures.value)
-
-pub returns-clause-told : goal.returns-clause-told
-returns-clause-told g c =
-    rw (← c.self.view_is) (replica_told g.H.PathHash.hash_of c.self.inside.hash c.self.inside.replicas c.self.inside.posted
-    (happened_in (held_in (saves_in c.self.inside.kept) (map accepted_value c.self.inside.past.items)))
-    c.self.invariant.0 c.args.name c.get.result c.get.ensures.value)
-
-pub returns-clause-unknown : goal.returns-clause-unknown
-returns-clause-unknown g c none =
-    rw (← c.self.view_is) (replica_unknown g.H.PathHash.hash_of c.self.inside.hash c.self.inside.replicas c.self.inside.posted
-    (happened_in (held_in (saves_in c.self.inside.kept) (map accepted_value c.self.inside.past.items)))
-    c.self.invariant.0 c.args.name c.get.result c.get.ensures.value none)
 
 pub returns-clause-holds : goal.returns-clause-holds
 returns-clause-holds g c =
