@@ -10,7 +10,7 @@ use Rattle.op_model.specs.Place.{Place}
 use Rattle.op_model.specs.Shown.{is_on, shown, shown_where, shown_within, shown_anywhere}
 use Rattle.op_model.specs.Made.{greatest_number, next, put_at, erasure, remove_at, remove_field_at, clear_at}
 use Rattle.op_model.specs.World.{AbstractWorld, IsSound, AbstractEvent, Node, Put, Remove, RemoveField, Clear, Flush, Deliver, nothing, message, grown, emptied}
-use Rattle.op_model.specs.World.{group_messages, makes, sends, shows, learns, happens, after}
+use Rattle.op_model.specs.World.{group_messages, makes, sends, learns, happens, after}
 use Rattle.op_model.proofs.Dots.{has-append, in_has, from_has}
 use Rattle.op_model.proofs.Members.{nothing_in, head_or_tail, at_same, in_map, from_map}
 use Rattle.op_model.proofs.Union.{in_writes_left, in_writes_right, in_writes_either}
@@ -202,16 +202,6 @@ sound-sends w name s = record {
   seen = s.seen;
   outgoing = λ k. emptied_part (k == name) (w.outgoing k) w.made (s.outgoing k);
   messages = message-append w.messages (group_messages (w.outgoing name)) w.made s.messages (sent_message (w.outgoing name) w.made (s.outgoing name));
-  own = s.own;
-  told = s.told;
-  no_reuse = s.no_reuse;
-}
-
-pub sound-shows : (w : AbstractWorld) (name : ℕ) → IsSound w → IsSound (shows name w)
-sound-shows w name s = record {
-  seen = s.seen;
-  outgoing = s.outgoing;
-  messages = message-append w.messages (w.seen name ∷ []) w.made s.messages (one_message (w.seen name) w.made (s.seen name));
   own = s.own;
   told = s.told;
   no_reuse = s.no_reuse;

@@ -54,7 +54,7 @@ abbrev pub group_messages : List Operation → List (List Operation)
 group_messages [] = []
 group_messages (o ∷ S) = (o ∷ S) ∷ []
 
--- The four moves of which all events are made.
+-- The moves of which all events are made.
 
 -- a replica makes these operations: it has seen them, and is to send them
 abbrev pub makes : ℕ → List Operation → AbstractWorld → AbstractWorld
@@ -70,10 +70,6 @@ sends name w = record w {
   outgoing = λ n. emptied (n == name) (w.outgoing n);
   messages = w.messages ++ group_messages (w.outgoing name);
 }
-
--- a replica shows all that it has seen in a message
-abbrev pub shows : ℕ → AbstractWorld → AbstractWorld
-shows name w = record w { messages = w.messages ++ w.seen name ∷ [] }
 
 -- a replica learns of these operations
 abbrev pub learns : ℕ → List Operation → AbstractWorld → AbstractWorld

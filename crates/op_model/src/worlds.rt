@@ -9,7 +9,7 @@ ghost use Rattle.op_model.specs.Shown.{values, values_of_key, fields, keys, IsAs
 ghost use Rattle.op_model.specs.Meaning.{MapState, greater, state, Stands, StandsWithin, HoldsField, HoldsKey};
 ghost use Rattle.op_model.specs.Made.{put_at, erasure, remove_at, remove_field_at, clear_at, IsPutAt, IsRemoveAt, IsFieldRemoveAt, IsClearAt};
 ghost use Rattle.op_model.specs.World.{AbstractEvent, Node, Put, Remove, RemoveField, Clear, Flush, Deliver, AbstractWorld, is_node, message, happens, after};
-ghost use Rattle.op_model.specs.World.{makes, sends, shows, learns};
+ghost use Rattle.op_model.specs.World.{makes, sends, learns};
 ghost use Rattle.op_model.specs.World.{IsSound, Means, IsUntouched, replica_of};
 
 /// No dot is ever used twice: after every list of events, whatever they are, all operations made have no reuse, and what
@@ -133,13 +133,12 @@ pub fn messages_stay()
         message (messages ++ S ∷ []) (length messages + 1) ≡ S }
 {}
 
-/// The four moves of which events are made keep any world sound, so that other events may be made of them.
+/// The moves of which events are made keep any world sound, so that other events may be made of them.
 pub fn moves_are_sound()
     ensures makes_a_write { (w : AbstractWorld) (name : ℕ) (place : Place) (value : List ℕ) → IsSound w →
         IsSound (makes name (put_at (w.seen name) name place value) w) }
     ensures makes_an_erasure { (w : AbstractWorld) (name : ℕ) (over : List Dot) → IsSound w → IsSound (makes name (erasure over) w) }
     ensures sends { (w : AbstractWorld) (name : ℕ) → IsSound w → IsSound (sends name w) }
-    ensures shows { (w : AbstractWorld) (name : ℕ) → IsSound w → IsSound (shows name w) }
     ensures learns { (w : AbstractWorld) (name : ℕ) (more : List Operation) → IsSound w → IsPartOf more w.made → IsSound (learns name more w) }
 {}
 

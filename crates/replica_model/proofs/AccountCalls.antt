@@ -4,6 +4,7 @@ use Rattle.std.proofs.Common.{subst, arith}
 use Rattle.op_model.specs.Made.{put_at, remove_at, remove_field_at, clear_at}
 use Rattle.op_model.specs.Operation.{Operation}
 use Rattle.op_model.specs.World.{grown, emptied}
+use Rattle.op_model.specs.World as sets
 use Rattle.prefix_digest.specs.MapOf.{IsMapOf, map_of}
 use Rattle.prefix_digest.proofs.MapsOf.{map_is}
 use Rattle.wire_form.specs.Session.{SessionValue, same_session}
@@ -31,7 +32,7 @@ module _ (hash_of : List ℕ → ℕ) (a : Account) (w : World) (name : ℕ) (to
   -- ---- the sets, and what is kept
 
   made : (f : List Operation → List Operation) (new : Replica) → new.kept ≡ r.kept
-      → Follows hash_of (seen.makes name (f (a.seen name)) a) (world.makes name (f (w.seen name)) w) name new
+      → Follows hash_of (seen.makes name (f (a.seen name)) a) (world.with_sets (sets.makes name (f (w.seen name)) (world.sets_of w)) w) name new
   made f new same = record {
     nodes = told.nodes;
     seen = λ i n. grown (n == name) (told.seen i n) (f (told.seen i name));

@@ -1,28 +1,20 @@
 -- What runs, whichever replicas crash, is the world to which what is left leads.
-use Rattle.std.proofs.Common.{◌≡◌, ◌≢◌, ℕ, zero, suc, ◌+◌, ◌==◌, List, [], ◌∷◌, ◌++◌, length, map, Bool, true, false, Option, Some, None, cond, refl, sym, ap, ◌∙◌, subst, arith}
+use Rattle.std.proofs.Common.{◌≡◌, ◌≢◌, ℕ, ◌+◌, ◌==◌, List, [], ◌∷◌, ◌++◌, map, Bool, true, false, cond, refl, sym, ap, ◌∙◌, subst}
 use Rattle.std.proofs.Common.{eqb-true, append_assoc}
-use Rattle.std.specs.Prelude.{slice_get}
 use Rattle.std.proofs.lemmas.Bool.{false≢true}
-use Rattle.std.proofs.lemmas.List.{append-nil, length-append, length-map}
-use Rattle.op_model.specs.Operation.{Operation}
+use Rattle.std.proofs.lemmas.List.{append-nil, length-append}
 use Rattle.op_model.specs.World.{is_among}
-use Rattle.wire_form.specs.Session.{SessionValue}
-use Rattle.sync_model.specs.Laws.{Taking}
-use Rattle.replica_model.specs.Mail.{Mail, Delta, Hello, Opening, Ask, Page, Gone}
-use Rattle.replica_model.specs.Replica.{Replica, restarts, open_at}
-use Rattle.replica_model.specs.Delivery.{Outcome, Joined, Sent, Done, Ignored, Mismatch, Ended}
-use Rattle.replica_model.specs.Step.{Call, Put, Remove, RemoveField, Clear, Flush, Retry, Abandon, Restart, Do, Take, Answer, Nothing, Came, IsStep}
+use Rattle.replica_model.specs.Replica.{restarts}
+use Rattle.replica_model.specs.Step.{Restart, Answer, Nothing}
 use Rattle.replica_model.specs.Step as call
-use Rattle.replica_model.specs.World.{World, Event, Node, At, Deliver, Message, Snapshot, message_at, nothing, calls, takes, keeps, accepts, takes_page}
-use Rattle.replica_model.specs.World.{taking_of, own_of, ends, is_sent, is_done, sent_as, goes, is_node, has_peer, Happens}
+use Rattle.replica_model.specs.World.{World, Event, Node, At, Deliver, Message, nothing}
+use Rattle.replica_model.specs.World.{goes, Happens}
 use Rattle.replica_model.specs.Happened.{Happened, Leads}
 use Rattle.replica_model.specs.Laws.{replica_of}
 use Rattle.replica_model.specs.Crashing as crashing
-use Rattle.replica_model.specs.Crashing.{System, started, Occurrence, Saving, Passing, Saves, Crashes, put, mail_at, peer_in, nodes_after, Does, Occurs, Goes}
-use Rattle.replica_model.specs.Crashing.{is_lost, may_be_lost, unless_lost, restarted, left, Shows, CrashesTakeBack}
-use Rattle.replica_model.proofs.Carried.{if_both, same_replicas, same_messages, left_as_is}
-use Rattle.replica_model.proofs.Fronts.{same_after_calls}
-use Rattle.replica_model.proofs.Leaving.{same_calls, leaves}
+use Rattle.replica_model.specs.Crashing.{System, started, Occurrence, Saving, Passing, Saves, Crashes, put, Occurs, Goes}
+use Rattle.replica_model.specs.Crashing.{is_lost, may_be_lost, unless_lost, restarted, left, CrashesTakeBack}
+use Rattle.replica_model.proofs.SameAt.{Common, Own, IsWorld, IsNoNode, Did, common, own_at, here, did, did_node, none_sent, sends_as_many, elsewhere}
 use Rattle.replica_model.proofs.Telling.{leads_go_on}
 
 -- ---- what is left, as one more occurs
@@ -53,313 +45,7 @@ left_on lost x (Passing h ∷ xs) =
 left_on lost x (Saves n ∷ xs) = left_on lost x xs
 left_on lost x (Crashes n ∷ xs) = ap (λ hs. restarted n ∷ hs) (left_on lost x xs)
 
--- ---- what a world is to all replicas, and what it is at one
-
-record Common : Type 0 where
-  nodes : List ℕ
-  messages : List Message
-  kept : SessionValue → List Operation
-  accepted : SessionValue → Snapshot
-  taken : SessionValue → List Taking
-
-record Own : Type 0 where
-  replica : Replica
-  seen : List Operation
-  outgoing : List Operation
-
-abbrev common : World → Common
-common w = record { nodes = w.nodes; messages = w.messages; kept = w.kept; accepted = w.accepted; taken = w.taken }
-
-abbrev own_at : ℕ → World → Own
-own_at n w = record { replica = w.replica n; seen = w.seen n; outgoing = w.outgoing n }
-
-abbrev here : ℕ → World → Common × Own
-here n w = (common w, own_at n w)
-
-abbrev world_of : Common × Own → World
-world_of h = record {
-  nodes = h.0.nodes;
-  replica = λ n. h.1.replica;
-  messages = h.0.messages;
-  seen = λ n. h.1.seen;
-  outgoing = λ n. h.1.outgoing;
-  made = [];
-  kept = h.0.kept;
-  accepted = h.0.accepted;
-  taken = h.0.taken;
-  closed = [];
-}
-
--- ---- an event goes by what a world is at its replica
-
-abbrev after_call : ℕ → Call → Replica → List Mail → Common × Own → Common × Own
-after_call n c new out h = here n (goes n new out h.1.outgoing (calls n c (world_of h)))
-
-call_here : (w : World) (n : ℕ) (c : Call) (new : Replica) (out : List Mail) → here n (goes n new out (w.outgoing n) (calls n c w))
-    ≡ after_call n c new out (here n w)
-call_here w n (Put place value) new out = refl
-call_here w n (Remove key) new out = refl
-call_here w n (RemoveField place) new out = refl
-call_here w n Clear new out = refl
-call_here w n Flush new out = refl
-call_here w n (call.Ask peer) new out = refl
-call_here w n (Retry number) new out = refl
-call_here w n (Abandon number) new out = refl
-call_here w n Restart new out = refl
-
-call_common : (w : World) (n : ℕ) (c : Call) → common (calls n c w) ≡ common w
-call_common w n (Put place value) = refl
-call_common w n (Remove key) = refl
-call_common w n (RemoveField place) = refl
-call_common w n Clear = refl
-call_common w n Flush = refl
-call_common w n (call.Ask peer) = refl
-call_common w n (Retry number) = refl
-call_common w n (Abandon number) = refl
-call_common w n Restart = refl
-
-peer_same : (w : World) (c : Call) → has_peer w c ≡ peer_in w.nodes c
-peer_same w (Put place value) = refl
-peer_same w (Remove key) = refl
-peer_same w (RemoveField place) = refl
-peer_same w Clear = refl
-peer_same w Flush = refl
-peer_same w (call.Ask peer) = refl
-peer_same w (Retry number) = refl
-peer_same w (Abandon number) = refl
-peer_same w Restart = refl
-
-abbrev after_take : ℕ → Replica → Mail → Snapshot → Outcome → Replica → List Mail → Common × Own → Common × Own
-after_take n old mail of outcome new out h = here n (goes n new out [] (takes n old mail of outcome (world_of h)))
-
-take_here : (w : World) (n : ℕ) (old : Replica) (mail : Mail) (of : Snapshot) (outcome : Outcome) (new : Replica) (out : List Mail)
-    → here n (goes n new out [] (takes n old mail of outcome w)) ≡ after_take n old mail of outcome new out (here n w)
-take_here w n old (Delta d) of outcome new out = refl
-take_here w n old (Hello s seen) of outcome new out = by (is_sent outcome)
-  where
-    by : (b : Bool) → here n (goes n new out [] (cond b (keeps n old s w) w))
-        ≡ here n (goes n new out [] (cond b (keeps n old s (world_of (here n w))) (world_of (here n w))))
-    by true = refl
-    by false = refl
-take_here w n old (Opening s context root) of outcome new out = by (is_done outcome) (is_sent outcome)
-  where
-    by : (b d : Bool) → here n (goes n new out [] (cond b (ends n (own_of (open_at old.sessions s)) of [] w) (cond d (accepts s of w) w)))
-        ≡ here n (goes n new out [] (cond b (ends n (own_of (open_at old.sessions s)) of [] (world_of (here n w)))
-        (cond d (accepts s of (world_of (here n w))) (world_of (here n w)))))
-    by true d = refl
-    by false true = refl
-    by false false = refl
-take_here w n old (Ask s prefix) of outcome new out = refl
-take_here w n old (Page s sent) of outcome new out = by (is_done outcome) (is_sent outcome)
-  where
-    ended : World → World
-    ended u = ends n (own_of (open_at old.sessions s)) (u.accepted s) (taking_of sent ∷ u.taken s) u
-
-    by : (b d : Bool)
-        → here n (goes n new out [] (cond b (ends n (own_of (open_at old.sessions s)) (w.accepted s) (taking_of sent ∷ w.taken s) w)
-        (cond d (takes_page s sent w) w)))
-        ≡ here n (goes n new out [] (cond b (ends n (own_of (open_at old.sessions s)) (w.accepted s) (taking_of sent ∷ w.taken s) (world_of (here n w)))
-        (cond d (takes_page s sent (world_of (here n w))) (world_of (here n w)))))
-    by true d = refl
-    by false true = refl
-    by false false = refl
-take_here w n old (Gone s) of outcome new out = refl
-
-not_sent : (o : Outcome) → (o ≡ Sent → ⊥) → is_sent o ≡ false
-not_sent Joined apart = refl
-not_sent Sent apart = absurd (apart refl)
-not_sent Done apart = refl
-not_sent Ignored apart = refl
-not_sent Mismatch apart = refl
-not_sent Ended apart = refl
-
-take_common : (w : World) (n : ℕ) (old : Replica) (mail : Mail) (of : Snapshot) (outcome : Outcome) → (outcome ≡ Sent → ⊥)
-    → common (takes n old mail of outcome w) ≡ common w
-take_common w n old (Delta d) of outcome apart = refl
-take_common w n old (Hello s seen) of outcome apart = ap (λ b. common (cond b (keeps n old s w) w)) (not_sent outcome apart)
-take_common w n old (Opening s context root) of outcome apart =
-    if_both common (is_done outcome) (ends n (own_of (open_at old.sessions s)) of [] w) (cond (is_sent outcome) (accepts s of w) w) (common w) refl
-    (ap (λ b. common (cond b (accepts s of w) w)) (not_sent outcome apart))
-take_common w n old (Ask s prefix) of outcome apart = refl
-take_common w n old (Page s sent) of outcome apart =
-    if_both common (is_done outcome) (ends n (own_of (open_at old.sessions s)) (w.accepted s) (taking_of sent ∷ w.taken s) w)
-    (cond (is_sent outcome) (takes_page s sent w) w) (common w) refl
-    (ap (λ b. common (cond b (takes_page s sent w) w)) (not_sent outcome apart))
-take_common w n old (Gone s) of outcome apart = refl
-
--- nothing was sent
-none_sent : (n : ℕ) (new : Replica) (group : List Operation) (w : World) → common (goes n new [] group w) ≡ common w
-none_sent n new group w = λ i. record { nodes = w.nodes; messages = append-nil w.messages i; kept = w.kept; accepted = w.accepted; taken = w.taken }
-
--- ---- messages by what they mean
-
-mails : List Message → List Mail
-mails ms = map (λ m. m.mail) ms
-
-mails_on : (ms : List Message) (group : List Operation) (kept : SessionValue → List Operation) (ks : List Rattle.replica_model.specs.Replica.Kept)
-    (out : List Mail)
-    → map (λ m. m.mail) (ms ++ map (sent_as group kept ks) out) ≡ map (λ m. m.mail) ms ++ out
-mails_on [] group kept ks [] = refl
-mails_on [] group kept ks (x ∷ out) = ap (λ xs. x ∷ xs) (mails_on [] group kept ks out)
-mails_on (m ∷ ms) group kept ks out = ap (λ xs. m.mail ∷ xs) (mails_on ms group kept ks out)
-
-sends_on : (ms : List Message) (group : List Operation) (kept : SessionValue → List Operation) (ks : List Rattle.replica_model.specs.Replica.Kept)
-    (out : List Mail)
-    → length (ms ++ map (sent_as group kept ks) out) ≡ length ms + length out
-sends_on ms group kept ks out = length-append ms (map (sent_as group kept ks) out) ∙ ap (λ k. length ms + k) (length-map out (sent_as group kept ks))
-
-found : (ms : List Message) (number : ℕ) (mail : Mail) → mail_at (map (λ m. m.mail) ms) number ≡ Some mail → (m : Message) × (message_at ms number ≡ Some m)
-    × (m.mail ≡ mail)
-found ms zero mail e = absurd cc
-found ms (suc n) mail e = by ms n e
-  where
-    by : (ms : List Message) (n : ℕ) → slice_get (map (λ m. m.mail) ms) n ≡ Some mail → (m : Message) × (slice_get ms n ≡ Some m) × (m.mail ≡ mail)
-    by [] n e = absurd cc
-    by (m ∷ ms) zero e = (m, refl, cc)
-    by (m ∷ ms) (suc n) e = by ms n e
-
--- ---- an event of the system happens in the world, and in each that is the same at its replica
-
 module _ (hash_of : List ℕ → ℕ) where
-  record IsWorld (u : World) (s : System) : Type 0 where
-    nodes : u.nodes ≡ s.nodes
-    replica : (n : ℕ) → u.replica n ≡ s.replica n
-    mails_are : map (λ m. m.mail) u.messages ≡ s.messages
-
-  abbrev IsNoNode : Event → Type 0
-  IsNoNode (Node name) = ⊥
-  IsNoNode (At name c) = Unit {0}
-  IsNoNode (Deliver number name) = Unit {0}
-
-  record Did (u : World) (s : System) (e : Event) (new : Replica) (answer : Answer) (out : List Mail) : Type 0 where
-    next : World
-    happens : Happens hash_of u e answer next
-    is_world : IsWorld next (crashing.goes hash_of s e new out)
-    sends : length next.messages ≡ length u.messages + length out
-    again : (w : World) → here (replica_of e) w ≡ here (replica_of e) u → (v : World) × Happens hash_of w e answer v
-        × (here (replica_of e) v ≡ here (replica_of e) next)
-    quiet : out ≡ [] → (answer ≡ Came Sent → ⊥) → IsNoNode e → common next ≡ common u
-
-  did_node : (u : World) (s : System) (name : ℕ) (new : Replica) (answer : Answer) (out : List Mail) → IsWorld u s → Does hash_of s (Node name) new answer out
-      → Did u s (Node name) new answer out
-  did_node u s name new answer out is (absent, n, a, o) = record {
-    next = record u { nodes = u.nodes ++ name ∷ [] };
-    happens = (ap (λ ns. is_among ns name) is.nodes ∙ absent, a, refl);
-    is_world = record {
-      nodes = ap (λ ns. ns ++ name ∷ []) is.nodes;
-      replica = λ m. is.replica m ∙ unchanged m (m == name) refl;
-      mails_are = is.mails_are ∙ sym (append-nil s.messages) ∙ ap (λ ms. s.messages ++ ms) (sym o);
-    };
-    sends = let none : length out ≡ 0 = ap length o in omega (arith, none);
-    again = λ w same. (
-      record w { nodes = w.nodes ++ name ∷ [] },
-      (ap (λ h. is_among h.0.nodes name) same ∙ ap (λ ns. is_among ns name) is.nodes ∙ absent, a, refl),
-      ap (λ (h : Common × Own). (record h.0 { nodes = h.0.nodes ++ name ∷ [] }, h.1)) same,
-    );
-    quiet = λ none apart node. absurd node;
-  }
-    where
-      unchanged : (m : ℕ) (b : Bool) → (m == name) ≡ b → s.replica m ≡ cond b new (s.replica m)
-      unchanged m true e = ap s.replica (eqb-true m name e) ∙ sym n
-      unchanged m false e = refl
-
-  did_call : (u : World) (s : System) (name : ℕ) (c : Call) (new : Replica) (answer : Answer) (out : List Mail) → IsWorld u s
-      → Does hash_of s (At name c) new answer out → Did u s (At name c) new answer out
-  did_call u s name c new answer out is (there, peer, step) =
-      let there_now : is_node u name ≡ true = ap (λ ns. is_among ns name) is.nodes ∙ there in
-      let peer_now : has_peer u c ≡ true = peer_same u c ∙ ap (λ ns. peer_in ns c) is.nodes ∙ peer in
-      let step_now : IsStep hash_of (u.replica name) (Do c) new answer out = subst (λ r. IsStep hash_of r (Do c) new answer out) (sym (is.replica name)) step in
-      record {
-        next = goes name new out (u.outgoing name) (calls name c u);
-        happens = (there_now, peer_now, (new, out, step_now, refl));
-        is_world = record {
-          nodes = (same_calls u name c).1 ∙ is.nodes;
-          replica = λ m. ap (λ f. cond (m == name) new (f m)) (same_after_calls hash_of u name c) ∙ ap (λ r. cond (m == name) new r) (is.replica m);
-          mails_are =
-              mails_on (calls name c u).messages (u.outgoing name) (calls name c u).kept new.kept out
-              ∙ ap (λ ms. map (λ (m : Message). m.mail) ms ++ out) (same_calls u name c).0
-              ∙ ap (λ ms. ms ++ out) is.mails_are;
-        };
-        sends = sends_on (calls name c u).messages (u.outgoing name) (calls name c u).kept new.kept out
-            ∙ ap (λ ms. length ms + length out) (same_calls u name c).0;
-        again = λ w same. (
-          goes name new out (w.outgoing name) (calls name c w),
-          (
-            ap (λ (h : Common × Own). is_among h.0.nodes name) same ∙ there_now,
-            peer_same w c ∙ ap (λ (h : Common × Own). peer_in h.0.nodes c) same ∙ sym (peer_same u c) ∙ peer_now,
-            (new, out, subst (λ (h : Common × Own). IsStep hash_of h.1.replica (Do c) new answer out) (sym same) step_now, refl),
-          ),
-          call_here w name c new out ∙ ap (after_call name c new out) same ∙ sym (call_here u name c new out),
-        );
-        quiet = λ none apart node.
-            subst (λ ms. common (goes name new ms (u.outgoing name) (calls name c u)) ≡ common u) (sym none)
-            (none_sent name new (u.outgoing name) (calls name c u) ∙ call_common u name c);
-      }
-
-  did_delivery : (u : World) (s : System) (number name : ℕ) (new : Replica) (answer : Answer) (out : List Mail) → IsWorld u s
-      → Does hash_of s (Deliver number name) new answer out → Did u s (Deliver number name) new answer out
-  did_delivery u s number name new answer out is (there, (mail, at, (outcome, a, by_table))) =
-      let x = found u.messages number mail (ap (λ ms. mail_at ms number) is.mails_are ∙ at) in
-      let m : Message = x.0 in
-      let there_now : is_node u name ≡ true = ap (λ ns. is_among ns name) is.nodes ∙ there in
-      let step_now : IsStep hash_of (u.replica name) (Take m.mail) new answer out =
-      subst (λ r. IsStep hash_of r (Take m.mail) new answer out) (sym (is.replica name))
-      (subst (λ y. IsStep hash_of (s.replica name) (Take y) new answer out) (sym x.2) (outcome, a, by_table)) in
-      let old = u.replica name in
-      record {
-        next = goes name new out [] (takes name old m.mail m.of outcome u);
-        happens = (there_now, (m, x.1, (new, outcome, out, a, step_now, refl)));
-        is_world = record {
-          nodes = left_as_is name (λ y. y.nodes) (λ y z. refl) (λ y o t. refl) (λ y t o. refl) (λ y t z. refl) (λ y o f t. refl) u old m.mail m.of outcome
-              ∙ is.nodes;
-          replica = λ k. ap (λ f. cond (k == name) new (f k)) (same_replicas u name old m.mail m.of outcome) ∙ ap (λ r. cond (k == name) new r) (is.replica k);
-          mails_are =
-              mails_on (takes name old m.mail m.of outcome u).messages [] (takes name old m.mail m.of outcome u).kept new.kept out
-              ∙ ap (λ ms. map (λ (y : Message). y.mail) ms ++ out) (same_messages u name old m.mail m.of outcome)
-              ∙ ap (λ ms. ms ++ out) is.mails_are;
-        };
-        sends = sends_on (takes name old m.mail m.of outcome u).messages [] (takes name old m.mail m.of outcome u).kept new.kept out
-            ∙ ap (λ ms. length ms + length out) (same_messages u name old m.mail m.of outcome);
-        again = λ w same. (
-          goes name new out [] (takes name (w.replica name) m.mail m.of outcome w),
-          (
-            ap (λ (h : Common × Own). is_among h.0.nodes name) same ∙ there_now,
-            (
-              m,
-              ap (λ (h : Common × Own). message_at h.0.messages number) same ∙ x.1,
-              (new, outcome, out, a, subst (λ (h : Common × Own). IsStep hash_of h.1.replica (Take m.mail) new answer out) (sym same) step_now, refl),
-            ),
-          ),
-          take_here w name (w.replica name) m.mail m.of outcome new out
-              ∙ (λ i. after_take name (same i).1.replica m.mail m.of outcome new out (same i))
-              ∙ sym (take_here u name old m.mail m.of outcome new out),
-        );
-        quiet = λ none apart node.
-            subst (λ ms. common (goes name new ms [] (takes name old m.mail m.of outcome u)) ≡ common u) (sym none)
-            (none_sent name new [] (takes name old m.mail m.of outcome u) ∙ take_common u name old m.mail m.of outcome (λ e. apart (a ∙ ap Came e)));
-      }
-
-  did : (u : World) (s : System) (e : Event) (new : Replica) (answer : Answer) (out : List Mail) → IsWorld u s → Does hash_of s e new answer out
-      → Did u s e new answer out
-  did u s (Node name) = did_node u s name
-  did u s (At name c) = did_call u s name c
-  did u s (Deliver number name) = did_delivery u s number name
-
-  -- as many are sent where the world is the same to all replicas
-  sends_as_many : (u next w v : World) (out : List Mail) (sent : ℕ) → length next.messages ≡ length u.messages + length out → length out ≡ sent
-      → common w ≡ common u → common v ≡ common next → length v.messages ≡ length w.messages + sent
-  sends_as_many u next w v out sent sends counted before after =
-      ap (λ (c : Common). length c.messages) after
-      ∙ sends
-      ∙ ap (λ (c : Common). length c.messages + length out) (sym before)
-      ∙ ap (λ k. length w.messages + k) counted
-
-  -- an event leaves what the world is at each other name
-  elsewhere : (u v : World) (e : Event) (answer : Answer) → Happens hash_of u e answer v → (m : ℕ) → m ≢ replica_of e → own_at m v ≡ own_at m u
-  elsewhere u v e answer happens m apart =
-      let l = leaves hash_of u v e answer happens in
-      λ i. record { replica = l.replicas m apart i; seen = l.seen m apart i; outgoing = l.outgoing m apart i }
-
   -- ---- for each set of replicas that crash, the world in which these are as they were saved
 
   record Stands (lost : ℕ → Bool) (now : World) (saved : ℕ → Own) (w : World) : Type 0 where
@@ -402,8 +88,8 @@ module _ (hash_of : List ℕ → ℕ) where
       n : ℕ
       n = replica_of x.event
 
-      d : Did h.now s x.event new x.answer out
-      d = did h.now s x.event new x.answer out h.is_world does
+      d : Did hash_of h.now s x.event new x.answer out
+      d = did hash_of h.now s x.event new x.answer out h.is_world does
 
       saved_here : (m : ℕ) (b : Bool) → (m == n) ≡ b → (cond b (own_at n d.next) (h.saved m)).replica ≡ cond b new (s.saved m)
       saved_here m true eq = d.is_world.replica n ∙ ap (λ b. cond b new (s.replica n)) (itself n)
@@ -427,10 +113,10 @@ module _ (hash_of : List ℕ → ℕ) where
               (ap (λ k. own_at k d.next) (sym (eqb-true m n eq)))
           own m false eq v happens one =
               let apart : m ≢ n = λ same. false≢true (sym eq ∙ Rattle.std.proofs.Common.eq-eqb m n same) in
-              elsewhere w v x.event x.answer happens m apart
+              elsewhere hash_of w v x.event x.answer happens m apart
               ∙ st.own m
               ∙ ap (λ b. cond (cond b false (lost m)) (h.saved m) (own_at m h.now)) eq
-              ∙ ap (λ o. cond (lost m) (h.saved m) o) (sym (elsewhere h.now d.next x.event x.answer d.happens m apart))
+              ∙ ap (λ o. cond (lost m) (h.saved m) o) (sym (elsewhere hash_of h.now d.next x.event x.answer d.happens m apart))
 
   -- an event that was not saved
   next_passing : (xs : List Occurrence) (s t : System) (x : Happened) → IsNoNode x.event → may_be_lost x.event ≡ true → Holds xs s
@@ -447,14 +133,14 @@ module _ (hash_of : List ℕ → ℕ) where
       n : ℕ
       n = replica_of x.event
 
-      d : Did h.now s x.event new x.answer []
-      d = did h.now s x.event new x.answer [] h.is_world does
+      d : Did hash_of h.now s x.event new x.answer []
+      d = did hash_of h.now s x.event new x.answer [] h.is_world does
 
       quiet : common d.next ≡ common h.now
       quiet = d.quiet refl apart node
 
       others : (m : ℕ) → (m == n) ≡ false → own_at m d.next ≡ own_at m h.now
-      others m eq = elsewhere h.now d.next x.event x.answer d.happens m (λ same. false≢true (sym eq ∙ Rattle.std.proofs.Common.eq-eqb m n same))
+      others m eq = elsewhere hash_of h.now d.next x.event x.answer d.happens m (λ same. false≢true (sym eq ∙ Rattle.std.proofs.Common.eq-eqb m n same))
 
       unless : (b : Bool) → unless_lost b x ≡ cond b [] (x ∷ [])
       unless true = ap (λ c. cond c [] (x ∷ [])) may_be
@@ -494,7 +180,7 @@ module _ (hash_of : List ℕ → ℕ) where
               ap (λ k. own_at k v) (eqb-true m n at) ∙ one ∙ ap (λ k. own_at k d.next) (sym (eqb-true m n at))
               ∙ sym (ap (λ b. cond b (h.saved m) (own_at m d.next)) there)
           own m false at v happens one =
-              elsewhere w v x.event x.answer happens m (λ same. false≢true (sym at ∙ Rattle.std.proofs.Common.eq-eqb m n same))
+              elsewhere hash_of w v x.event x.answer happens m (λ same. false≢true (sym at ∙ Rattle.std.proofs.Common.eq-eqb m n same))
               ∙ st.own m
               ∙ ap (λ o. cond (lost m) (h.saved m) o) (sym (others m at))
 
@@ -513,8 +199,8 @@ module _ (hash_of : List ℕ → ℕ) where
     worlds = λ lost. goes_to lost (h.worlds lost);
   })
     where
-      d : Did h.now s (Node name) new answer []
-      d = did_node h.now s name new answer [] h.is_world (absent, n, a, o)
+      d : Did hash_of h.now s (Node name) new answer []
+      d = did_node hash_of h.now s name new answer [] h.is_world (absent, n, a, o)
 
       is_next : d.next ≡ record h.now { nodes = h.now.nodes ++ name ∷ [] }
       is_next = d.happens.2

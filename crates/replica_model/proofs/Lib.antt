@@ -44,3 +44,4 @@ pub mod AccountRows
 pub mod AccountCalls
 pub mod Accounts
 pub mod Crashing
+pub mod SameAt

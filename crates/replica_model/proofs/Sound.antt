@@ -1,19 +1,18 @@
 -- What holds of the sets of a world after every list of events, whatever clashes.
 use Rattle.std.proofs.Common.{◌≡◌, ℕ, zero, suc, List, [], ◌∷◌, ◌++◌, map, Bool, true, false, Option, Some, None, cond, refl, sym, ap, subst}
-use Rattle.std.specs.Prelude.{◌==◌, slice_get}
+use Rattle.std.specs.Prelude.{slice_get}
 use Rattle.op_model.specs.Operation.{Operation, IsPartOf}
 use Rattle.op_model.specs.Made.{put_at, remove_at, remove_field_at, clear_at}
-use Rattle.op_model.specs.Operation.{ids}
-use Rattle.op_model.specs.Shown.{shown_within, shown_anywhere}
-use Rattle.op_model.specs.World.{emptied, message}
-use Rattle.op_model.proofs.Fresh.{IsNew, put-new, erasure-new, part_left, nothing_part, message-append, sound-makes, sound-learns, sound-nothing}
+use Rattle.op_model.specs.World.{message}
+use Rattle.op_model.specs.World as sets
+use Rattle.op_model.proofs.Fresh.{part_left, nothing_part, message-append, sound-happens, sound-learns, sound-nothing}
 use Rattle.wire_form.specs.Session.{SessionValue, same_session}
 use Rattle.replica_model.specs.Mail.{Mail, Delta, Hello, Opening, Ask, Page, Gone}
 use Rattle.replica_model.specs.Replica.{Replica, Kept, open_at, kept_at}
 use Rattle.replica_model.specs.Delivery.{Outcome}
 use Rattle.replica_model.specs.Step.{Call, Put, Remove, RemoveField, Clear, Flush, Retry, Abandon, Restart, Answer}
 use Rattle.replica_model.specs.Step as call
-use Rattle.replica_model.specs.World.{World, Event, Node, At, Deliver, Message, Snapshot, sets_of, nothing, message_at, changed, makes, learns, calls}
+use Rattle.replica_model.specs.World.{World, Event, Node, At, Deliver, Message, Snapshot, sets_of, nothing, message_at, changed, follows, learns, calls}
 use Rattle.replica_model.specs.World.{is_sent, is_done, first_kept, keeps, accepts, takes_page, taking_of, own_of, ends, takes, sent_as, goes}
 use Rattle.replica_model.specs.World.{Happens, Runs}
 use Rattle.replica_model.specs.World as world
@@ -75,45 +74,8 @@ sound_goes w name new out group s part = record {
 
 -- ---- the moves
 
-sound_makes : (w : World) (name : ℕ) (more : List Operation) → IsSound w → IsNew (w.seen name) name more → IsSound (makes name more w)
-sound_makes w name more s new = record {
-  sets = sound-makes (sets_of w) name more s.sets new;
-  kept = λ t. part_left (w.kept t) w.made more (s.kept t);
-  accepted = λ t. part_left (w.accepted t).seen w.made more (s.accepted t);
-}
-
 sound_learns : (w : World) (name : ℕ) (more : List Operation) → IsSound w → IsPartOf more w.made → IsSound (learns name more w)
 sound_learns w name more s part = record { sets = sound-learns (sets_of w) name more s.sets part; kept = s.kept; accepted = s.accepted }
-
-emptied_part : (b : Bool) (S T : List Operation) → IsPartOf S T → IsPartOf (emptied b S) T
-emptied_part true S T f = nothing_part T
-emptied_part false S T f = f
-
-sound_flushes : (w : World) (name : ℕ) → IsSound w → IsSound (calls name Flush w)
-sound_flushes w name s = record {
-  sets = record {
-    seen = s.sets.seen;
-    outgoing = λ n. emptied_part (n == name) (w.outgoing n) w.made (s.sets.outgoing n);
-    messages = s.sets.messages;
-    own = s.sets.own;
-    told = s.sets.told;
-    no_reuse = s.sets.no_reuse;
-  };
-  kept = s.kept;
-  accepted = s.accepted;
-}
-
-pub sound_calls : (w : World) (name : ℕ) (c : Call) → IsSound w → IsSound (calls name c w)
-sound_calls w name (Put place value) s = sound_makes w name (put_at (w.seen name) name place value) s (put-new (w.seen name) name place value)
-sound_calls w name (Remove key) s = sound_makes w name (remove_at (w.seen name) key) s (erasure-new (w.seen name) name (ids (shown_within (w.seen name) key)))
-sound_calls w name (RemoveField place) s = sound_makes w name (remove_field_at (w.seen name) place) s
-    (erasure-new (w.seen name) name (ids (Rattle.op_model.specs.Shown.shown (w.seen name) place)))
-sound_calls w name Clear s = sound_makes w name (clear_at (w.seen name)) s (erasure-new (w.seen name) name (ids (shown_anywhere (w.seen name))))
-sound_calls w name Flush s = sound_flushes w name s
-sound_calls w name (call.Ask peer) s = s
-sound_calls w name (Retry number) s = s
-sound_calls w name (Abandon number) s = s
-sound_calls w name Restart s = s
 
 -- what was made stays made
 pub made_stays : (w : World) (name : ℕ) (c : Call) (S : List Operation) → IsPartOf S w.made → IsPartOf S (calls name c w).made
@@ -126,6 +88,32 @@ made_stays w name (call.Ask peer) S part = part
 made_stays w name (Retry number) S part = part
 made_stays w name (Abandon number) S part = part
 made_stays w name Restart S part = part
+
+sound_follows : (w : World) (e : sets.AbstractEvent) → IsSound w → ((S : List Operation) → IsPartOf S w.made → IsPartOf S (follows e w).made)
+    → IsSound (follows e w)
+sound_follows w e s stays = let after = sound-happens (sets_of w) e s.sets in record {
+  sets = record {
+    seen = after.seen;
+    outgoing = after.outgoing;
+    messages = λ number. stays (message (sets_of w).messages number) (s.sets.messages number);
+    own = after.own;
+    told = after.told;
+    no_reuse = after.no_reuse;
+  };
+  kept = λ t. stays (w.kept t) (s.kept t);
+  accepted = λ t. stays (w.accepted t).seen (s.accepted t);
+}
+
+pub sound_calls : (w : World) (name : ℕ) (c : Call) → IsSound w → IsSound (calls name c w)
+sound_calls w name (Put place value) s = sound_follows w (sets.Put name place value) s (made_stays w name (Put place value))
+sound_calls w name (Remove key) s = sound_follows w (sets.Remove name key) s (made_stays w name (Remove key))
+sound_calls w name (RemoveField place) s = sound_follows w (sets.RemoveField name place) s (made_stays w name (RemoveField place))
+sound_calls w name Clear s = sound_follows w (sets.Clear name) s (made_stays w name Clear)
+sound_calls w name Flush s = sound_follows w (sets.Flush name) s (made_stays w name Flush)
+sound_calls w name (call.Ask peer) s = s
+sound_calls w name (Retry number) s = s
+sound_calls w name (Abandon number) s = s
+sound_calls w name Restart s = s
 
 changed_part : (f : SessionValue → List Operation) (s : SessionValue) (x made : List Operation) → ((t : SessionValue) → IsPartOf (f t) made) → IsPartOf x made
     → (t : SessionValue) → IsPartOf (changed f s x t) made

@@ -9,9 +9,8 @@ use Rattle.std.specs.List.{Contains, slice_get}
 use Rattle.std.specs.FinMap as finite
 use Rattle.dots.specs.declared.refusal.Refusal.{Refusal}
 use Rattle.dots.specs.declared.refusal.Refusal.TheVariants.{NameTaken, UnknownReplica, UnknownMessage}
-use Rattle.op_model.specs.Made.{put_at, remove_at, remove_field_at, clear_at}
 use Rattle.op_model.specs.Operation.{Operation}
-use Rattle.op_model.specs.World.{is_among, grown, emptied}
+use Rattle.op_model.specs.World.{is_among}
 use Rattle.op_model.specs.World as sets
 use Rattle.wire_form.specs.Sent.{SentValue}
 use Rattle.wire_form.specs.Session.{SessionValue, same_session}
@@ -70,9 +69,12 @@ nothing = record {
   closed = [];
 }
 
--- what a world is by its sets alone
+-- what a world is by its sets alone, and the world with other sets beside its replicas and messages
 abbrev pub sets_of : World → sets.AbstractWorld
 sets_of w = record { nodes = w.nodes; seen = w.seen; outgoing = w.outgoing; messages = map (λ m. m.of.seen) w.messages; made = w.made }
+
+abbrev pub with_sets : sets.AbstractWorld → World → World
+with_sets s w = record w { nodes = s.nodes; seen = s.seen; outgoing = s.outgoing; made = s.made }
 
 -- whether a replica of the name is there
 abbrev pub is_node : World → ℕ → Bool
@@ -95,24 +97,20 @@ pub data Event : Type 0 where
 abbrev pub changed : {X : Type 0} → (SessionValue → X) → SessionValue → X → SessionValue → X
 changed f s x = λ t. cond (same_session t s) x (f t)
 
--- a replica makes operations, and learns of operations
-abbrev pub makes : ℕ → List Operation → World → World
-makes name more w = record w {
-  seen = λ n. grown (n == name) (w.seen n) more;
-  outgoing = λ n. grown (n == name) (w.outgoing n) more;
-  made = w.made ++ more;
-}
+-- they are those after an event of a world of sets; a replica learns of operations
+abbrev pub follows : sets.AbstractEvent → World → World
+follows e w = with_sets (sets.happens (sets_of w) e) w
 
 abbrev pub learns : ℕ → List Operation → World → World
-learns name more w = record w { seen = λ n. grown (n == name) (w.seen n) more }
+learns name more w = with_sets (sets.learns name more (sets_of w)) w
 
--- after a call: what it makes is made at the set that the replica has seen
+-- after a call
 abbrev pub calls : ℕ → Call → World → World
-calls name (Put place value) w = makes name (put_at (w.seen name) name place value) w
-calls name (Remove key) w = makes name (remove_at (w.seen name) key) w
-calls name (RemoveField place) w = makes name (remove_field_at (w.seen name) place) w
-calls name Clear w = makes name (clear_at (w.seen name)) w
-calls name Flush w = record w { outgoing = λ n. emptied (n == name) (w.outgoing n) }
+calls name (Put place value) w = follows (sets.Put name place value) w
+calls name (Remove key) w = follows (sets.Remove name key) w
+calls name (RemoveField place) w = follows (sets.RemoveField name place) w
+calls name Clear w = follows (sets.Clear name) w
+calls name Flush w = follows (sets.Flush name) w
 calls name (call.Ask peer) w = w
 calls name (Retry number) w = w
 calls name (Abandon number) w = w
@@ -152,10 +150,7 @@ own_of None = finite.empty
 own_of (Some o) = o.own
 
 abbrev pub ends : ℕ → Held → Snapshot → List Taking → World → World
-ends name own of takings w = record w {
-  seen = λ n. grown (n == name) (w.seen n) of.seen;
-  closed = w.closed ++ record { own = own; theirs = of.map; takings = takings } ∷ [];
-}
+ends name own of takings w = record (learns name of.seen w) { closed = w.closed ++ record { own = own; theirs = of.map; takings = takings } ∷ [] }
 
 -- after a delivery, by the mail, what it stands for, and the answer
 abbrev pub takes : ℕ → Replica → Mail → Snapshot → Outcome → World → World
@@ -199,7 +194,7 @@ has_peer w other = true
 module _ (hash_of : List ℕ → ℕ) where
   -- The old world, the event, its answer, and the new world.
   abbrev pub Happens : World → Event → Answer → World → Type 0
-  Happens w (Node name) answer v = (is_node w name ≡ false) × (answer ≡ Nothing) × (v ≡ record w { nodes = w.nodes ++ name ∷ [] })
+  Happens w (Node name) answer v = (is_node w name ≡ false) × (answer ≡ Nothing) × (v ≡ follows (sets.Node name) w)
   Happens w (At name c) answer v =
       (is_node w name ≡ true) × (has_peer w c ≡ true)
       × ((new : Replica) × (out : List Mail) × IsStep hash_of (w.replica name) (Do c) new answer out

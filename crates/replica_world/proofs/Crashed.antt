@@ -31,12 +31,12 @@ none_some x e = absurd cc
 
 -- ---- one more occurs
 
-goes_more : (hash_of : List ℕ → ℕ) (s : System) (xs : List Occurrence) (u : System) (x : Occurrence) (t : System) → Goes hash_of s xs u → Occurs hash_of u x t
+pub goes_more : (hash_of : List ℕ → ℕ) (s : System) (xs : List Occurrence) (u : System) (x : Occurrence) (t : System) → Goes hash_of s xs u → Occurs hash_of u x t
     → Goes hash_of s (xs ++ x ∷ []) t
 goes_more hash_of s [] u x t is occurs = (t, subst (λ r. Occurs hash_of r x t) is occurs, refl)
 goes_more hash_of s (y ∷ xs) u x t (r, first, rest) occurs = (r, first, goes_more hash_of r xs u x t rest occurs)
 
-held_more : (hs : List Held) (xs : List Occurrence) (x : Occurrence) → fold after hs (xs ++ x ∷ []) ≡ after (fold after hs xs) x
+pub held_more : (hs : List Held) (xs : List Occurrence) (x : Occurrence) → fold after hs (xs ++ x ∷ []) ≡ after (fold after hs xs) x
 held_more hs [] x = refl
 held_more hs (y ∷ xs) x = held_more (after hs y) xs x
 
@@ -53,8 +53,26 @@ happened_after hs x = by (is_saved_with x)
         ∙ ap (λ xs. xs ++ x ∷ []) (saving_keeps (replica_of x.event) hs)
     by false = map-append (λ (h : Held). h.happened) hs (record { happened = x; is_saved = false } ∷ [])
 
-pub events_after : (hs : List Held) (x : Happened) → events_of (after hs (occurrence x)) ≡ events_of hs ++ x.event ∷ []
-events_after hs x = ap events_in (happened_after hs x) ∙ map-append (λ (h : Happened). h.event) (happened_in hs) (x ∷ [])
+-- ---- an event with which its replica is not saved
+
+not_sent : (answer : Answer) → goes_further answer ≡ false → answer ≢ Came Sent
+not_sent answer none sent = clash (sym (ap goes_further sent) ∙ none)
+
+or_none : (a b : Bool) → (a || b) ≡ false → (a ≡ false) × (b ≡ false)
+or_none true b none = absurd (clash none)
+or_none false b none = (refl, none)
+
+none_sent : (n : ℕ) → not (n == 0) ≡ false → n ≡ 0
+none_sent n none = grind (arith, nat_tests)
+
+pub passes : (x : Happened) → is_saved_with x ≡ false → (x.sent ≡ 0) × (x.answer ≢ Came Sent)
+passes x none =
+    let both = or_none (not (x.sent == 0)) (goes_further x.answer) (or_none (not (may_be_lost x.event)) _ none).1 in
+    (none_sent x.sent both.0, not_sent x.answer both.1)
+
+pub none_out : {X : Type 0} (xs : List X) → length xs ≡ 0 → xs ≡ []
+none_out [] e = refl
+none_out (x ∷ xs) e = absurd cc
 
 -- ---- what is held, by how often replicas were saved
 
@@ -371,21 +389,6 @@ module _ (hash_of : List ℕ → ℕ) where
             )
 
     -- an event with which its replica is not saved
-    not_sent : (answer : Answer) → goes_further answer ≡ false → answer ≢ Came Sent
-    not_sent answer none sent = clash (sym (ap goes_further sent) ∙ none)
-
-    or_none : (a b : Bool) → (a || b) ≡ false → (a ≡ false) × (b ≡ false)
-    or_none true b none = absurd (clash none)
-    or_none false b none = (refl, none)
-
-    none_sent : (n : ℕ) → not (n == 0) ≡ false → n ≡ 0
-    none_sent n none = grind (arith, nat_tests)
-
-    passes : (x : Happened) → is_saved_with x ≡ false → (x.sent ≡ 0) × (x.answer ≢ Came Sent)
-    passes x none =
-        let both = or_none (not (x.sent == 0)) (goes_further x.answer) (or_none (not (may_be_lost x.event)) _ none).1 in
-        (none_sent x.sent both.0, not_sent x.answer both.1)
-
     no_node : (e : Event) (k : ℕ) → not (may_be_lost e) ≡ false → saves_at e k ≡ k
     no_node (Node name) k none = absurd (clash none)
     no_node (At name c) k none = refl
@@ -397,10 +400,6 @@ module _ (hash_of : List ℕ → ℕ) where
       where
         last_flag : nat_lt (saves (replica_of x.event)) (saves (replica_of x.event)) ≡ false
         last_flag = grind (arith, nat_tests)
-
-    none_out : {X : Type 0} (xs : List X) → length xs ≡ 0 → xs ≡ []
-    none_out [] e = refl
-    none_out (x ∷ xs) e = absurd cc
 
     pub kept_passing : (x : Happened) (v : World) → is_saved_with x ≡ false → (did : Did hash_of is.system x.event x.answer v) → length did.out ≡ x.sent
         → (r : Replica) → back (replica_of x.event) ≡ Some r → IsKept hash_of saves back (accepted ++ (x, saves (replica_of x.event)) ∷ [])

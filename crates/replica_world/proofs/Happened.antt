@@ -25,7 +25,6 @@ use Rattle.replica_model.specs.Step.{Answer, Nothing}
 use Rattle.replica_model.specs.World.{World, Message, Event, Node, is_node, message_at, nothing, Happens, Runs, Unclashed}
 use Rattle.replica_model.proofs.Accounts.{accounts_are}
 use Rattle.replica_model.proofs.Deciding.{worlds_one}
-use Rattle.replica_model.proofs.Ended.{ends_are}
 use Rattle.replica_model.proofs.Meant.{headline}
 use Rattle.replica_model.proofs.Telling.{leads_run, leads_go_on}
 use Rattle.replica_core.specs.Meaning.{ReplicaValue, hash_in, meaning}
@@ -173,7 +172,7 @@ module _ {Hash : Type 0} (hash_of : Hash → List ℕ → ℕ) (hash : Hash) (ol
 
     pub event_told : (answer : Answer) → Makes hash_of hash old messages e answer new more → (first end : ℕ) → first ≡ length messages + 1
         → end ≡ length more + 1
-        → (w : World) → Runs (hash_of hash) nothing (events_in hs) w → IsTold (hash_of hash) (events_in hs) w e answer first end
+        → (w : World) → Runs (hash_of hash) nothing (events_in hs) w → IsTold (hash_of hash) w e answer first end
     event_told answer makes first end from to w runs =
         let keeps = keeps_any w runs in
         let after = makes w keeps in
@@ -182,8 +181,6 @@ module _ {Hash : Type 0} (hash_of : Hash → List ℕ → ℕ) (hash : Hash) (ol
           happens = after.1;
           begins = from ∙ ap (λ n. n + 1) (count hash old messages w keeps);
           stops = to ∙ ap (λ n. n + 1) (count hash new more after.0 after.2);
-          ends = λ number name is done. ends_are (hash_of hash) (events_in hs) w after.0 number name runs answer
-              (subst (λ x. Happens (hash_of hash) w x answer after.0) is after.1) done;
         }
 
     pub event_left : LeavesWorld hash old messages new more → IsWorld hash_of hash new more hs

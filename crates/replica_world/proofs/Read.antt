@@ -1,13 +1,12 @@
 -- What is read of a replica of a world, by what it shows: over plain variables.
-use Rattle.std.proofs.Common.{◌≡◌, ℕ, true, List, Result, Ok, Err, IfOk, IfErr, IsOkUnless, inr}
+use Rattle.std.proofs.Common.{◌≡◌, ℕ, true, List, Result, Ok, Err, IfOk}
 use Rattle.dots.specs.declared.refusal.Refusal.{Refusal}
-use Rattle.dots.specs.declared.refusal.Refusal.TheVariants.{OutOfMemory}
 use Rattle.op_model.specs.Meaning.{MapState}
 use Rattle.op_model.specs.Operation.{Operation}
 use Rattle.replica_core.specs.Reading.{Lists}
 use Rattle.replica_core.specs.Showing.{ShowsOperations}
 use Rattle.replica_model.specs.Seen.{Account, Unclashed}
-use Rattle.replica_world.specs.Reading.{IsThere, IsUnread, Shows}
+use Rattle.replica_world.specs.Reading.{IsThere, Shows}
 
 module _ (hash_of : List ℕ → ℕ) (a : Account) (name : ℕ) (live : MapState) {Same : Type 0}
     (at : IsThere a name true × Same × (Unclashed hash_of a → ShowsOperations hash_of live (a.seen name))) where
@@ -20,8 +19,3 @@ module _ (hash_of : List ℕ → ℕ) (a : Account) (name : ℕ) (live : MapStat
       → IfOk r (λ x. Lists P (items x)) → IfOk r (λ x. Shows hash_of a name (λ S. items x ≡ of S))
   list_shown items (Ok x) P of f h = shown_as (λ S. items x ≡ of S) (λ S shows. f S shows (items x) h)
   list_shown items (Err e) P of f h = tt
-
-  -- and want of memory is told of a replica that is there
-  pub read_refused : {T : Type 0} (r : Result T Refusal) → IsOkUnless r OutOfMemory → IfErr r (IsUnread a name)
-  read_refused (Ok x) h = tt
-  read_refused (Err e) h = inr (h, at.0)

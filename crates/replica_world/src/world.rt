@@ -94,7 +94,7 @@ impl<H: PathHash, A: Allocator + Copy> World<H, A> {
     pub fn event(&mut self, event: Event<A>) -> Result<Told, Refusal>
         ensures ok { IfOk result (λ told. Accepts self.old (event_value event) (answer_value told.answer) told.made.start told.made.end self.new) }
         ensures happened { IfOk result (λ told. (w : model.World) → Runs (H.hash_of self.old.hash) nothing (past_of self.old) w
-            → IsTold (H.hash_of self.old.hash) (past_of self.old) w (event_value event) (answer_value told.answer) told.made.start told.made.end) }
+            → IsTold (H.hash_of self.old.hash) w (event_value event) (answer_value told.answer) told.made.start told.made.end) }
         ensures refused { IfErr result (λ refusal. (w : model.World) → Runs (H.hash_of self.old.hash) nothing (past_of self.old) w
             → IsRefusedIn w (event_value event) refusal) }
         ensures unchanged { OnErr result (self.new ≡ self.old) }

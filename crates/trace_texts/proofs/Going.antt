@@ -1,32 +1,29 @@
 -- A past that what occurred led to goes on: after each outcome of a command there is such a past. So each line is answered.
-use Rattle.std.proofs.Common.{◌≡◌, ◌≢◌, ◌⊎◌, inl, inr, ℕ, ◌+◌, ◌-◌, ◌==◌, ◌||◌, Bool, true, false, cond, List, [], ◌∷◌, ◌++◌, map, length, Option, Some, None}
+use Rattle.std.proofs.Common.{◌≡◌, ◌⊎◌, inl, inr, ℕ, ◌+◌, ◌-◌, Bool, true, false, cond, List, [], ◌∷◌, ◌++◌, map, length, Option, Some, None}
 use Rattle.std.proofs.Common.{refl, sym, ap, ◌∙◌, subst, arith, length-append}
 use Rattle.std.proofs.lemmas.List.{length-map}
-use Rattle.std.proofs.lemmas.Bool.{false≢true, or_parts}
-use Rattle.std.proofs.lemmas.Bool.Decides.{nat_tests}
-use Rattle.std.specs.Prelude.{Contains, not}
-use Rattle.std.specs.List.{fold}
+use Rattle.std.specs.Prelude.{Contains}
 use Rattle.std.proofs.lemmas.List.Elements.{Contains-push_cases}
 use Rattle.dots.specs.declared.refusal.Refusal.{Refusal}
 use Rattle.dots.specs.declared.refusal.Refusal.TheVariants.{BadLine}
 use Rattle.hash_path.specs.Fnv1a.{fnv1a}
 use Rattle.op_model.specs.World.{is_among}
 use Rattle.op_model.proofs.Members.{nothing_in}
-use Rattle.replica_model.specs.Crashing.{Occurrence, Saving, Passing, Saves, Crashes, System, Does, Occurs, Goes, Shows, may_be_lost, put, started, survivors}
+use Rattle.replica_model.specs.Crashing.{Occurrence, Saving, Passing, Saves, Crashes, System, Does, Occurs, Shows, put, started, survivors}
 use Rattle.replica_model.specs.Crashing as crashing
-use Rattle.replica_model.specs.Delivery.{Sent}
-use Rattle.replica_model.specs.Happened.{Happened, events_in}
+use Rattle.replica_model.specs.Happened.{events_in}
 use Rattle.replica_model.specs.Laws.{replica_of}
 use Rattle.replica_model.specs.Mail.{Mail}
 use Rattle.replica_model.specs.Replica.{restarts}
 use Rattle.replica_model.specs.Step as step
-use Rattle.replica_model.specs.Step.{Answer, Came}
+use Rattle.replica_model.specs.Step.{Answer}
 use Rattle.replica_model.specs.World as world
-use Rattle.replica_model.specs.World.{World, Event, Message, is_node, nothing, Happens, Runs, RefusesEvent}
+use Rattle.replica_model.specs.World.{World, Event, Message, is_node, nothing, Happens, Runs}
 use Rattle.replica_model.proofs.Crashing.{take_back}
 use Rattle.replica_model.proofs.Deciding.{worlds_one}
 use Rattle.replica_model.proofs.Telling.{leads_run}
-use Rattle.replica_world.specs.Held.{Held, events_of, happened_in, after, goes_further, is_saved_with}
+use Rattle.replica_world.specs.Held.{events_of, happened_in, after, is_saved_with}
+use Rattle.replica_world.proofs.Crashed.{goes_more, held_more, passes, none_out}
 use Rattle.replica_world.proofs.Held.{held_survives}
 use Rattle.replica_world.proofs.Systems.{Did, did}
 use Rattle.trace_words.specs.Answer.{Silent}
@@ -37,34 +34,7 @@ use Rattle.trace_world.specs.Outcome.{CommandOutcome, Refused, Done, Pinned, Pin
 use Rattle.trace_texts.specs.Laws.{IsPast, LinesAreAnswered}
 use Rattle.trace_texts.proofs.Coming.{commands_come}
 
--- ---- one more occurs: lemmas of replica_world that it keeps to itself, once more
-
-goes_more : (hash_of : List ℕ → ℕ) (s : System) (xs : List Occurrence) (u : System) (x : Occurrence) (t : System) → Goes hash_of s xs u → Occurs hash_of u x t
-    → Goes hash_of s (xs ++ x ∷ []) t
-goes_more hash_of s [] u x t is occurs = (t, subst (λ r. Occurs hash_of r x t) is occurs, refl)
-goes_more hash_of s (y ∷ xs) u x t (r, first, rest) occurs = (r, first, goes_more hash_of r xs u x t rest occurs)
-
-held_more : (hs : List Held) (xs : List Occurrence) (x : Occurrence) → fold after hs (xs ++ x ∷ []) ≡ after (fold after hs xs) x
-held_more hs [] x = refl
-held_more hs (y ∷ xs) x = held_more (after hs y) xs x
-
-not_sent : (answer : Answer) → goes_further answer ≡ false → answer ≢ Came Sent
-not_sent answer none sent = false≢true (sym none ∙ ap goes_further sent)
-
-passes : (h : Happened) → is_saved_with h ≡ false → (h.sent ≡ 0) × (h.answer ≢ Came Sent)
-passes h none =
-    let both = or_parts (not (h.sent == 0)) (goes_further h.answer)
-    (or_parts (not (may_be_lost h.event)) (not (h.sent == 0) || goes_further h.answer) none).1 in
-    (none_sent both.0, not_sent h.answer both.1)
-  where
-    none_sent : not (h.sent == 0) ≡ false → h.sent ≡ 0
-    none_sent is = grind (arith, nat_tests)
-
 -- ---- an event that happened occurs in the system that the world shows
-
-none_out : (out : List Mail) → length out ≡ 0 → out ≡ []
-none_out [] e = refl
-none_out (m ∷ out) e = absurd (omega (arith, e))
 
 -- as many messages were sent as the world has more
 as_many : (ms more : List Message) (said out : List Mail) → map (λ (m : Message). m.mail) ms ≡ said → map (λ (m : Message). m.mail) more ≡ said ++ out

@@ -47,7 +47,7 @@ refuses_other refusal w e other (inr is) = is
 
 module _ (old new : List Held) (e : Event) where
   module _ (answer : Answer) (sent first end : ℕ) (counted : end ≡ first + sent)
-      (told : (w : World) → Runs fnv1a nothing (events_of old) w → IsTold fnv1a (events_of old) w e answer first end) where
+      (told : (w : World) → Runs fnv1a nothing (events_of old) w → IsTold fnv1a w e answer first end) where
     -- what occurs
     abbrev x : Occurrence
     x = occurrence (record { event = e; answer = answer; sent = sent })

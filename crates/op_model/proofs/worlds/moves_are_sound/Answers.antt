@@ -1,5 +1,5 @@
 use Rattle.op_model.specs.Made.{put_at, erasure}
-use Rattle.op_model.proofs.Fresh.{put-new, erasure-new, sound-makes, sound-sends, sound-shows, sound-learns}
+use Rattle.op_model.proofs.Fresh.{put-new, erasure-new, sound-makes, sound-sends, sound-learns}
 use Rattle.op_model.proofs.worlds.moves_are_sound.Goals as goal
 
 pub returns-clause-makes_a_write : goal.returns-clause-makes_a_write
@@ -11,9 +11,6 @@ returns-clause-makes_an_erasure c = λ w name over sound. sound-makes w name (er
 
 pub returns-clause-sends : goal.returns-clause-sends
 returns-clause-sends c = sound-sends
-
-pub returns-clause-shows : goal.returns-clause-shows
-returns-clause-shows c = sound-shows
 
 pub returns-clause-learns : goal.returns-clause-learns
 returns-clause-learns c = sound-learns
