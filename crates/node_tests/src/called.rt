@@ -45,15 +45,6 @@ fn found<K: Naming, G: Gate + Drop, R: Wait + Drop, T: Abort, L: Look<Root>>(
     client.look(look).expect(rt, "a look")
 }
 
-// What a look finds that keeps its root: it has to see what was published since, as any other.
-fn found_again<K: Naming, G: Gate + Drop, R: Wait + Drop, T: Abort, L: Look<Root>>(
-    rt: &T,
-    client: &mut Client<K, Lock<K, G, R>>,
-    look: &L,
-) -> L::Found {
-    client.look_cached(look).expect(rt, "a look")
-}
-
 fn key_of(rt: &impl Abort, alloc: Global, bytes: &[u8]) -> Key {
     Key::new(alloc, bytes).expect(rt, "a key")
 }
@@ -127,7 +118,7 @@ impl<K: Naming, G: Gate + Drop, R: Wait + Drop> Caller for Client<K, Lock<K, G, 
             key: &key,
             field: &field,
         };
-        let values = found_again(rt, self, &getting).expect(rt, "memory");
+        let values = found(rt, self, &getting).expect(rt, "memory");
         are(&values, value)
     }
 
@@ -137,7 +128,7 @@ impl<K: Naming, G: Gate + Drop, R: Wait + Drop> Caller for Client<K, Lock<K, G, 
     }
 
     fn size<T: Abort>(&mut self, rt: &T) -> u64 {
-        found_again(rt, self, &Sizing)
+        found(rt, self, &Sizing)
     }
 
     fn look_slowly<T: Abort>(&mut self, rt: &T, state: &AtomicU64) -> bool {

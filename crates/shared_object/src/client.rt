@@ -24,20 +24,18 @@ pub struct Client<J: Object, S: Drop, A: Allocator = Global> {
     place: usize,
     operations: u64,
     view: Option<View<J::Root, J::Event, J, A>>,
-    cached: Option<Arc<J::Root, A>>,
     shared: Arc<S, A>,
 }
 
 impl<J: Object, S: Drop, A: Allocator> Model for Client<J, S, A> {
-    ghost use Rattle.std.specs.Prelude.{◌≡◌, ◌<◌, ◌≤◌, IfSome, IsSome, length};
+    ghost use Rattle.std.specs.Prelude.{◌≡◌, ◌<◌, ◌≤◌, IsSome, length};
     ghost use Rattle.shared_object.specs.History.{Seat, calls_by, seen_in};
 
     ghost Value = { Seat J.Event };
 
     ghost view = { λ c. record { place = c.place; operations = c.operations; front = seen_in c.view } };
 
-    ghost invariant = { λ c. IsSome c.view × (c.place < 64) × (c.operations ≤ length (calls_by J.Event.place c.place (seen_in c.view)))
-        × IfSome c.cached (λ root. J.stands root.value (seen_in c.view)) };
+    ghost invariant = { λ c. IsSome c.view × (c.place < 64) × (c.operations ≤ length (calls_by J.Event.place c.place (seen_in c.view))) };
 }
 
 impl<J: Object, S: Drop, A: Allocator> Client<J, S, A> {
@@ -55,7 +53,6 @@ impl<J: Object, S: Drop, A: Allocator> Client<J, S, A> {
             place,
             operations: 0,
             view: Some(view),
-            cached: None,
             shared,
         }
     }
@@ -81,7 +78,6 @@ impl<J: Object, S: Drop, A: Allocator> Client<J, S, A> {
         ensures told { IsPrefix receipt self.new.front }
         ensures own { HasNotCalled J.Event.place self.old self.new }
     {
-        self.cached = None;
         let Some(view) = &mut self.view else {
             unreachable!()
         };
@@ -98,7 +94,6 @@ impl<J: Object, S: Drop, A: Allocator> Client<J, S, A> {
         let Some(view) = self.view.take() else {
             unreachable!()
         };
-        self.cached = None;
         let (view, events) = events_at(view);
         self.view = Some(view);
         events.ok_or(Refusal::NoPlace)
@@ -116,34 +111,17 @@ impl<J: Object, S: Drop, A: Allocator> Client<J, S, A> {
         let Some(view) = self.view.take() else {
             unreachable!()
         };
-        self.cached = None;
-        let (view, _, found) = look_over(view, None, look);
-        self.view = Some(view);
-        found.ok_or(Refusal::NoPlace)
-    }
-
-    /// As `look`, and keeps the root, which the next such look reads again where nothing was published since: it counts no owner then, so readers of many
-    /// processors do not wait for each other's counts. What is replaced later stays in memory until then, or until the client calls, learns, counts events
-    /// or is told to `let_go`.
-    pub fn look_cached<L: Look<J::Root>>(&mut self, look: &L) -> Result<L::Found, Refusal>
-        ensures found { IfOk result (λ found. (root : J.Root) × J.stands root self.new.front × L.finds look.now root found) }
-        ensures own { HasNotCalled J.Event.place self.old self.new }
-        ensures err { IfErr result (λ e. e ≡ NoPlace) }
-    {
-        let Some(view) = self.view.take() else {
-            unreachable!()
-        };
-        let (view, cached, found) = look_over(view, self.cached.take(), look);
-        self.view = Some(view);
-        self.cached = cached;
-        found.ok_or(Refusal::NoPlace)
-    }
-
-    /// Lets go of the root that `look_cached` kept. Takes constant time, but where nobody else holds what it has.
-    pub fn let_go(&mut self)
-        ensures { self.new ≡ self.old }
-    {
-        self.cached = None;
+        match view.enter() {
+            Ok(entered) => {
+                let (view, found) = look_at(entered, look);
+                self.view = Some(view);
+                Ok(found)
+            }
+            Err(view) => {
+                self.view = Some(view);
+                Err(Refusal::NoPlace)
+            }
+        }
     }
 }
 
@@ -171,7 +149,6 @@ impl<J: Object, G: Gate + Drop, W: Wait + Drop, A: Allocator + Copy> Client<
         let Some(view) = self.view.take() else {
             unreachable!()
         };
-        self.cached = None;
         let (place, operations) = (self.place, self.operations);
         let (view, answer) = take_turn(&self.shared, rt, view, place, operations, update);
         self.view = Some(view);
@@ -194,7 +171,6 @@ impl<J: Object, G: Gate + Drop, W: Wait + Drop, A: Allocator + Copy> Client<
         let Some(view) = self.view.take() else {
             unreachable!()
         };
-        self.cached = None;
         let (place, operations) = (self.place, self.operations);
         let (view, found) = look_in_turn(&self.shared, rt, view, place, operations, look);
         self.view = Some(view);
@@ -209,7 +185,6 @@ impl<J: Object, G: Gate + Drop, W: Wait + Drop, A: Allocator + Copy> Client<
         let Some(view) = self.view.take() else {
             unreachable!()
         };
-        self.cached = None;
         let (view, is_met) = guarded.meet(view, self.place, self.operations);
         self.view = Some(view);
         is_met
@@ -232,59 +207,23 @@ fn events_at<J: Object, A: Allocator>(
     }
 }
 
-// Looks at the root that was kept where nothing was published since, else at the one that is published, which is then kept. It finds nothing where it could
-// not enter.
-fn look_over<J: Object, L: Look<J::Root>, A: Allocator>(
-    view: View<J::Root, J::Event, J, A>,
-    kept: Option<Arc<J::Root, A>>,
-    look: &L,
-) -> (
-    View<J::Root, J::Event, J, A>,
-    Option<Arc<J::Root, A>>,
-    Option<L::Found>,
-)
-    requires { IfSome kept (λ root. J.stands root.value view) }
-    ensures seen { IsPrefix view result.0 }
-    ensures kept { IfSome result.1 (λ root. J.stands root.value result.0) }
-    ensures found { IfSome result.2 (λ found. (root : J.Root) × J.stands root result.0 × L.finds look.now root found) }
-{
-    if let Some(root) = kept {
-        if view.published() == view.events() {
-            let found = look.look(&root);
-            return (view, Some(root), Some(found));
-        }
-    }
-    match view.enter() {
-        Ok(entered) => {
-            let (view, root, found) = look_at(entered, look);
-            (view, root, Some(found))
-        }
-        Err(view) => (view, None, None),
-    }
-}
-
-// Leaves, and then looks at the root that was entered. Where as many own that root as can be counted, it looks before it leaves, and has no root.
+// Leaves, and then looks at the root that was entered. Where as many own that root as can be counted, it looks before it leaves.
 fn look_at<J: Object, L: Look<J::Root>, A: Allocator>(
     entered: Entered<J::Root, J::Event, J, A>,
     look: &L,
-) -> (
-    View<J::Root, J::Event, J, A>,
-    Option<Arc<J::Root, A>>,
-    L::Found,
-)
+) -> (View<J::Root, J::Event, J, A>, L::Found)
     ensures view { result.0 ≡ entered.1 }
-    ensures kept { IfSome result.1 (λ root. J.stands root.value entered.1) }
-    ensures found { (root : J.Root) × J.stands root entered.1 × L.finds look.now root result.2 }
+    ensures found { (root : J.Root) × J.stands root entered.1 × L.finds look.now root result.1 }
 {
     match entered.share() {
         Ok(root) => {
             let view = entered.leave();
             let found = look.look(&root);
-            (view, Some(root), found)
+            (view, found)
         }
         Err(_) => {
             let found = look.look(entered.root());
-            (entered.leave(), None, found)
+            (entered.leave(), found)
         }
     }
 }

@@ -20,7 +20,6 @@ invariant_of-self g c =
       subst (λ (f : List _). c.self.inside.operations + 1 ≤ length (calls_by g.J.Event.Placed.place c.self.inside.place f)) (sym ok.6)
           (accepted_within g.J.Event.Placed.place c.self.inside.place c.self.inside.operations ok.0 event
           (g.met.C.Update.placed c.args.update.now c.in-Ok.told.0 c.self.inside.place) ok.2),
-      tt,
     )
 
 pub returns-in-Ok-clause-ok : goal.returns-in-Ok-clause-ok

@@ -1,7 +1,0 @@
-use Rattle.std.proofs.Common.{List, sym, subst}
-use mathlib.Core.List.{IsPrefix}
-use Rattle.root_cell.proofs.Prefixes.{prefix_self}
-use Rattle.shared_object.proofs.client.look_over.Goals as goal
-
-pub returns-in-Err-clause-seen : goal.returns-in-Err-clause-seen
-returns-in-Err-clause-seen g c = subst (λ (f : List _). IsPrefix c.args.view f) (sym c.in-Err.ensures.back) (prefix_self _)
