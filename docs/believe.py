@@ -23,7 +23,10 @@ CONTRACTS = {
         ("replica_world/src/reading.rt", name, [])
         for name in ("get_at", "get_field_at", "values_of_key_at", "fields_at", "keys_at", "size_at", "context_at", "digest_at")
     ],
-    "events": [("replica_world/src/world.rt", "event", [])],
+    "events": [
+        ("replica_world/src/world.rt", "event", []),
+        ("replica_model/src/sessions.rt", "a_session_that_ends_joins_what_its_peer_had", []),
+    ],
     "traces": [("trace_cli/src/running.rt", "run", [])],
     "threads": [("shared_object/src/client.rt", "look", []), ("shared_object/src/client.rt", "call", [])],
 }
@@ -115,7 +118,7 @@ def clauses(path, function, wanted):
     begin = next(at for at, line in enumerate(lines) if re.search(rf"fn {function}\b", line))
     text, is_taken = [], False
     for line in lines[begin:]:
-        if line.strip() == "{":
+        if line.strip() in ("{", "{}"):
             break
         if found := CLAUSE.match(line):
             is_taken = not wanted or (found.group(1) or "") in wanted

@@ -69,7 +69,7 @@ nothing = record {
   closed = [];
 }
 
--- what a world is by its sets alone, and the world with other sets beside its replicas and messages
+-- what a world is by its sets alone, and the world with other sets beside its replicas and messages: what the sets send is left out, as the replicas send it
 abbrev pub sets_of : World → sets.AbstractWorld
 sets_of w = record { nodes = w.nodes; seen = w.seen; outgoing = w.outgoing; messages = map (λ m. m.of.seen) w.messages; made = w.made }
 
@@ -97,7 +97,7 @@ pub data Event : Type 0 where
 abbrev pub changed : {X : Type 0} → (SessionValue → X) → SessionValue → X → SessionValue → X
 changed f s x = λ t. cond (same_session t s) x (f t)
 
--- they are those after an event of a world of sets; a replica learns of operations
+-- the sets after an event of the world that they are by themselves, and after a replica learnt of operations
 abbrev pub follows : sets.AbstractEvent → World → World
 follows e w = with_sets (sets.happens (sets_of w) e) w
 
