@@ -168,6 +168,17 @@ module _ (saves now : ℕ → ℕ) (name : ℕ) (once : (n : ℕ) → now n ≡ 
       ap (λ b. not (b && not (nat_lt a.1 (saves name)))) is ∙ sym (or_true (nat_lt a.1 (saves (replica_of a.0.event))))
       ∙ ap (λ b. nat_lt a.1 (saves (replica_of a.0.event)) || not b) (sym is)
 
+  not_not : (b : Bool) → not (true && not b) ≡ true → b ≡ true
+  not_not true e = refl
+  not_not false e = e
+
+  act_stays : (n k : ℕ) → k ≤ saves n → not ((n == name) && not (nat_lt k (saves name))) ≡ true → (n == name) ≡ true
+      → nat_lt k (now n) ≡ nat_lt k (saves n)
+  act_stays n k before left is =
+      let named : n ≡ name = grind (arith, nat_tests) in
+      let told : (not (true && not (nat_lt k (saves name)))) ≡ true = ap (λ b. not (b && not (nat_lt k (saves name)))) (sym is) ∙ left in
+      flag n k before true is ∙ or_true (nat_lt k (saves n)) ∙ sym (ap (λ m. nat_lt k (saves m)) named ∙ not_not (nat_lt k (saves name)) told)
+
   -- one that stays is told to be saved as before
   one_stays : (e : Event) (k : ℕ) → saves_at e k ≤ saves (replica_of e) → not (is_act name e && not (nat_lt k (saves name))) ≡ true
       → (b : Bool) → (replica_of e == name) ≡ b
@@ -178,22 +189,8 @@ module _ (saves now : ℕ → ℕ) (name : ℕ) (once : (n : ℕ) → now n ≡ 
       let less : nat_lt k (saves n) ≡ true = grind (arith, nat_tests) in
       let least : k ≤ saves n = omega (arith, before) in
       flag n k least true is ∙ or_true (nat_lt k (saves n)) ∙ sym less
-  one_stays (At n c) k before left true is =
-      let named : n ≡ name = grind (arith, nat_tests) in
-      let told : (not (true && not (nat_lt k (saves name)))) ≡ true = ap (λ b. not (b && not (nat_lt k (saves name)))) (sym is) ∙ left in
-      flag n k before true is ∙ or_true (nat_lt k (saves n)) ∙ sym (ap (λ m. nat_lt k (saves m)) named ∙ not_not (nat_lt k (saves name)) told)
-    where
-      not_not : (b : Bool) → not (true && not b) ≡ true → b ≡ true
-      not_not true e = refl
-      not_not false e = e
-  one_stays (Deliver number n) k before left true is =
-      let named : n ≡ name = grind (arith, nat_tests) in
-      let told : (not (true && not (nat_lt k (saves name)))) ≡ true = ap (λ b. not (b && not (nat_lt k (saves name)))) (sym is) ∙ left in
-      flag n k before true is ∙ or_true (nat_lt k (saves n)) ∙ sym (ap (λ m. nat_lt k (saves m)) named ∙ not_not (nat_lt k (saves name)) told)
-    where
-      not_not : (b : Bool) → not (true && not b) ≡ true → b ≡ true
-      not_not true e = refl
-      not_not false e = e
+  one_stays (At n c) k before left true is = act_stays n k before left is
+  one_stays (Deliver number n) k before left true is = act_stays n k before left is
 
   pub held_left : (rows : List (Happened × ℕ)) → AreBefore saves rows → held_in now (filter (stays saves name) rows) ≡ filter (is_left name) (held_in saves rows)
   held_left [] before = refl
