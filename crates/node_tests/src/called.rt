@@ -45,6 +45,17 @@ fn found<K: Naming, G: Gate + Drop, R: Wait + Drop, T: Abort, L: Look<Root>>(
     client.look(look).expect(rt, "a look")
 }
 
+// What a snapshot shows that is renewed: what was published since, as any other look.
+fn found_again<K: Naming, G: Gate + Drop, R: Wait + Drop, T: Abort, L: Look<Root>>(
+    rt: &T,
+    client: &mut Client<K, Lock<K, G, R>>,
+    look: &L,
+) -> L::Found {
+    let mut snapshot = client.snapshot().expect(rt, "a root");
+    client.renew(&mut snapshot).expect(rt, "a root");
+    snapshot.look(look)
+}
+
 fn key_of(rt: &impl Abort, alloc: Global, bytes: &[u8]) -> Key {
     Key::new(alloc, bytes).expect(rt, "a key")
 }
@@ -128,7 +139,7 @@ impl<K: Naming, G: Gate + Drop, R: Wait + Drop> Caller for Client<K, Lock<K, G, 
     }
 
     fn size<T: Abort>(&mut self, rt: &T) -> u64 {
-        found(rt, self, &Sizing)
+        found_again(rt, self, &Sizing)
     }
 
     fn look_slowly<T: Abort>(&mut self, rt: &T, state: &AtomicU64) -> bool {
@@ -141,6 +152,15 @@ impl<K: Naming, G: Gate + Drop, R: Wait + Drop> Caller for Client<K, Lock<K, G, 
 
     fn share<T: Abort>(&mut self, rt: &T) -> Root {
         found(rt, self, &Sharing).expect(rt, "memory")
+    }
+
+    fn keeps<T: Wait + Abort>(&mut self, rt: &T, alloc: Global) -> bool {
+        let mut snapshot = self.snapshot().expect(rt, "a root");
+        let size = snapshot.look(&Sizing);
+        self.put(rt, alloc, b"later", b"", b"");
+        let is_kept = snapshot.look(&Sizing) == size;
+        self.renew(&mut snapshot).expect(rt, "a root");
+        is_kept && snapshot.look(&Sizing) == size + 1
     }
 }
 

@@ -44,7 +44,7 @@ pub use laws::no_dot_and_no_number_comes_twice;
 pub use letter::Letter;
 pub use looks::{Containing, Digesting, FieldListing, Getting, KeyListing, Sharing, Sizing};
 pub use named::{Named, Naming, Root};
-pub use node::{Client, Lock, Node, Receipt};
+pub use node::{Client, Lock, Node, Receipt, Snapshot};
 pub use node_event::NodeEvent;
 pub use opening::{new_node, node_of};
 pub use post::Post;

@@ -1,6 +1,6 @@
 ghost use Rattle.std.specs.Prelude.{◌≡◌, ◌⊎◌, ◌<◌, ◌≤◌, ◌++◌, ◌∷◌, [], List, length, IfOk, IfErr, IfSome, OnErr, IsTrue};
 ghost use mathlib.Core.List.{IsPrefix};
-ghost use Rattle.dots.specs.declared.refusal.Refusal.TheVariants.{NoPlace};
+ghost use Rattle.dots.specs.declared.refusal.Refusal.TheVariants.{NoPlace, OutOfMemory};
 ghost use Rattle.shared_object.specs.History.{calls_by, made};
 ghost use Rattle.shared_object.specs.Calling.{HasNotCalled, IsAccepted, IsRefused};
 ghost use Rattle.shared_object.specs.Finishing.{IsOwn};
@@ -10,6 +10,7 @@ use crate::guarded::Guarded;
 use crate::look::Look;
 use crate::object::Object;
 use crate::shared::{Shared, look_in_turn, take_turn};
+use crate::snapshot::Snapshot;
 use crate::update::Update;
 use dots::Refusal;
 use root_cell::{Entered, Note, View};
@@ -123,6 +124,55 @@ impl<J: Object, S: Drop, A: Allocator> Client<J, S, A> {
             }
         }
     }
+
+    /// The root that is published, to look at as often as wanted. It waits for nobody, and takes constant time and no memory. It is refused with NoPlace as
+    /// a look is, and with OutOfMemory where as many own the root as can be counted; that these come nowhere else stands in no clause.
+    pub fn snapshot(&mut self) -> Result<Snapshot<J, A>, Refusal>
+        ensures front { IfOk result (λ s. s ≡ self.new.front) }
+        ensures own { HasNotCalled J.Event.place self.old self.new }
+        ensures err { IfErr result (λ e. (e ≡ NoPlace) ⊎ (e ≡ OutOfMemory)) }
+    {
+        let Some(view) = self.view.take() else {
+            unreachable!()
+        };
+        let (view, snapshot) = snapshot_at(view);
+        self.view = Some(view);
+        snapshot
+    }
+
+    /// Puts the root that is published in the place of the snapshot's, where something was published since. Where nothing was it reads one number, which no
+    /// reader writes, so readers on many processors do not wait for each other. It waits for nobody. It is refused as `snapshot` is, which leaves the
+    /// snapshot as it was. Takes constant time and no memory, but that of letting go of what nobody else holds.
+    pub fn renew(&mut self, snapshot: &mut Snapshot<J, A>) -> Result<(), Refusal>
+        ensures front { IfOk result (λ _. snapshot.new ≡ self.new.front) }
+        ensures own { HasNotCalled J.Event.place self.old self.new }
+        ensures err { IfErr result (λ e. (e ≡ NoPlace) ⊎ (e ≡ OutOfMemory)) }
+        ensures unchanged { IfErr result (λ _. snapshot.new ≡ snapshot.old) }
+    {
+        self.learn(snapshot.tell());
+        if self.is_at(snapshot) {
+            return Ok(());
+        }
+        match self.snapshot() {
+            Ok(next) => {
+                *snapshot = next;
+                Ok(())
+            }
+            Err(refusal) => Err(refusal),
+        }
+    }
+
+    // Whether the client has seen no more than the snapshot shows, and nothing else was published. The second stands in no clause.
+    fn is_at(&self, snapshot: &Snapshot<J, A>) -> bool
+        requires { IsPrefix snapshot.now self.now.front }
+        ensures { IsTrue result → snapshot.now ≡ self.now.front }
+    {
+        let Some(view) = &self.view else {
+            unreachable!()
+        };
+        let events = snapshot.events();
+        view.published() == events && view.events() == events
+    }
 }
 
 impl<J: Object, G: Gate + Drop, W: Wait + Drop, A: Allocator + Copy> Client<
@@ -204,6 +254,33 @@ fn events_at<J: Object, A: Allocator>(
             (entered.leave(), Some(events))
         }
         Err(view) => (view, None),
+    }
+}
+
+// Enters, shares the root, and leaves.
+fn snapshot_at<J: Object, A: Allocator>(
+    view: View<J::Root, J::Event, J, A>,
+) -> (
+    View<J::Root, J::Event, J, A>,
+    Result<Snapshot<J, A>, Refusal>,
+)
+    ensures front { IfOk result.1 (λ s. s ≡ result.0) }
+    ensures seen { IsPrefix view result.0 }
+    ensures err { IfErr result.1 (λ e. (e ≡ NoPlace) ⊎ (e ≡ OutOfMemory)) }
+{
+    match view.enter() {
+        Ok(entered) => {
+            let root = entered.share();
+            let view = entered.leave();
+            match root {
+                Ok(root) => {
+                    let front = view.tell();
+                    (view, Ok(Snapshot::new(root, front)))
+                }
+                Err(_) => (view, Err(Refusal::OutOfMemory)),
+            }
+        }
+        Err(view) => (view, Err(Refusal::NoPlace)),
     }
 }
 

@@ -16,6 +16,7 @@ mod owner;
 mod placed;
 mod returned;
 mod shared;
+mod snapshot;
 mod update;
 
 pub use client::Client;
@@ -27,4 +28,5 @@ pub use owner::Owner;
 pub use placed::Placed;
 pub use returned::Returned;
 pub use shared::Shared;
+pub use snapshot::Snapshot;
 pub use update::Update;

@@ -1,4 +1,4 @@
-use Rattle.std.proofs.Common.{◌≡◌, ◌++◌, ℕ, ◌<◌}
+use Rattle.std.proofs.Common.{◌++◌, ℕ, ◌<◌}
 use Rattle.shared_object.specs.Finishing.{HasClient}
 use Rattle.shared_object.proofs.finishing.has_each.Given as goal
 
