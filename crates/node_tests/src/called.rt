@@ -5,10 +5,10 @@ use crate::tests::slow::Slow;
 use dots::{Field, Key, Value};
 use node_threads::{
     Abandoning, Asking, Batching, Checkpointing, Client, Containing, Delivering, FieldListing,
-    Flushing, Getting, Lock, Named, Naming, NodeEvent, Post, Receipt, Retrying, Root, Served,
-    Sharing, Sizing, TimedPost, TimedServed, Waiting, Writing, Written, serve, serve_timed,
+    Flushing, Getting, Lock, Named, Naming, Post, Receipt, Retrying, Root, Served, Sharing, Sizing,
+    TimedPost, TimedServed, Waiting, Writing, Written, serve, serve_timed,
 };
-use replica_core::{Delivered, Replica, Write, Wrote};
+use replica_core::{Delivered, Write, Wrote};
 use saved_form::Saved;
 use shared_object::{Gate, Look, Update};
 use std::alloc::Global;

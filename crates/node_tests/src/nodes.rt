@@ -16,8 +16,7 @@ use crate::tests::timed::serve_timed_alone;
 use dots::{Name, Refusal};
 use hash_path::Fnv1a;
 use node_threads::{
-    Channels, Client, Lock, Named, Naming, Node, NodeEvent, Post, Root, Served, TimedServed,
-    new_node,
+    Channels, Client, Lock, Named, Naming, Node, NodeEvent, Post, Served, TimedServed, new_node,
 };
 use replica_core::Replica;
 use root_cell::OpenedBook;

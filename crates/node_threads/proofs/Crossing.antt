@@ -32,8 +32,10 @@ use Rattle.prefix_digest.specs.contracts.sha_summary.ShaSummarySummaryFields.The
 use Rattle.root_cell.specs.declared.brand.Brand as branding
 use Rattle.shared_object.proofs.client.Client.TheSendSync as Clients
 use Rattle.shared_object.proofs.shared.Shared.TheSendSync as Locks
+use Rattle.shared_object.proofs.snapshot.Snapshot.TheSendSync as Snapshots
 use Rattle.shared_object.specs.contracts.client.Client as Client
 use Rattle.shared_object.specs.contracts.shared.Shared as Shared
+use Rattle.shared_object.specs.contracts.snapshot.Snapshot as Snapshot
 use Rattle.shared_object.specs.declared.object.Object as sharing
 use Rattle.shared_object.specs.declared.placed.Placed as placing
 use Rattle.node_threads.specs.contracts.named.Named as Named
@@ -50,10 +52,16 @@ Field = Text.the_row FieldKind.the_row Heap.the_row ghosts
 abbrev Value : RattleType
 Value = Text.the_row ValueKind.the_row Heap.the_row ghosts
 
--- ---- what the clients of a shared object share, and a client
+-- ---- what the clients of a shared object share, a client, and a snapshot
 module _ (J D R E : RattleType) (o : sharing.Ghosts J.Denot D.Denot R.Denot E.Denot) (b : branding.Ghosts J.Denot R.Denot E.Denot) (e : placing.Ghosts E.Denot) where
   any_client_send : (S : RattleType) → IsSend R → IsSync R → IsSend S → IsSync S → IsSend (Client.the_row J S Heap.the_row D R E o b e ghosts)
   any_client_send S r u s y = search (Clients.the_send, crosses, sendable) depth 20
+
+  any_snapshot_send : IsSend R → IsSync R → IsSend (Snapshot.the_row J Heap.the_row D R E o b e ghosts)
+  any_snapshot_send r u = search (Snapshots.the_send, crosses, sendable) depth 20
+
+  any_snapshot_sync : IsSend R → IsSync R → IsSync (Snapshot.the_row J Heap.the_row D R E o b e ghosts)
+  any_snapshot_sync r u = search (Snapshots.the_sync, crosses, sendable) depth 20
 
   module _ (G W : RattleType) where
     lock_send : IsSend D → IsSend R → IsSync R → IsSend G → IsSend W → IsSend (Shared.the_row J G W Heap.the_row D R E o b e ghosts)
@@ -102,6 +110,13 @@ module _ (K : RattleType) (n : naming.Ghosts K.Denot) where
   -- one that only looks goes wherever what it shares may be shared
   pub looking_send : (S : RattleType) → IsSend S → IsSync S → IsSend (Client.the_row Names S Heap.the_row Object Root Event shared branded placed ghosts)
   looking_send S = any_client_send Names Object Root Event shared branded placed S root_send root_sync
+
+  -- a snapshot goes anywhere, and is shared
+  pub snapshot_send : IsSend (Snapshot.the_row Names Heap.the_row Object Root Event shared branded placed ghosts)
+  snapshot_send = any_snapshot_send Names Object Root Event shared branded placed root_send root_sync
+
+  pub snapshot_sync : IsSync (Snapshot.the_row Names Heap.the_row Object Root Event shared branded placed ghosts)
+  snapshot_sync = any_snapshot_sync Names Object Root Event shared branded placed root_send root_sync
 
   module _ (G W : RattleType) where
     abbrev pub Lock : RattleType
