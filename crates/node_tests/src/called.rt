@@ -160,7 +160,7 @@ impl<K: Naming, G: Gate + Drop, R: Wait + Drop> Caller for Client<K, Lock<K, G, 
         self.put(rt, alloc, b"later", b"", b"");
         let is_kept = snapshot.look(&Sizing) == size;
         self.renew(&mut snapshot).expect(rt, "a root");
-        is_kept && snapshot.look(&Sizing) == size + 1
+        is_kept && snapshot.look(&Sizing) > size
     }
 }
 
