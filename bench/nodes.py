@@ -75,22 +75,29 @@ def main():
         maps = compiled(Path(folder))
         node = asked.program.resolve() if asked.program else proved(Path(folder))
         kinds = [
-            ("a node", [node], lambda readers: [readers, readers + 1, 1]),
-            ("a node, 100 at once", [node], lambda readers: [readers, readers + 1, 100]),
-            ("`Mutex<HashMap>`", [maps, "Mutex"], lambda readers: [readers]),
-            ("`RwLock<HashMap>`", [maps, "RwLock"], lambda readers: [readers]),
+            ("a node", [node], lambda readers, writers: [readers, writers, readers + writers, 1]),
+            ("a node, 100 at once", [node], lambda readers, writers: [readers, writers, readers + writers, 100]),
+            ("`Mutex<HashMap>`", [maps, "Mutex"], lambda readers, writers: [readers, writers]),
+            ("`RwLock<HashMap>`", [maps, "RwLock"], lambda readers, writers: [readers, writers]),
         ]
         print("| readers | map | reads a second | writes a second | longest read, µs |")
         print("|---|---|---|---|---|")
         for readers in (1, 2, 4):
             for name, words, numbers in kinds:
-                reads, writes, longest = rates(words, numbers(readers), asked.milliseconds, asked.runs)
+                reads, writes, longest = rates(words, numbers(readers, 1), asked.milliseconds, asked.runs)
                 print(f"| {readers} | {name} | {reads:,.0f} | {writes:,.0f} | {longest:,.0f} |", flush=True)
+        print()
+        print("| writers | map | writes a second of all, with no reader |")
+        print("|---|---|---|")
+        for writers in (1, 2, 4):
+            for name, words, numbers in kinds:
+                _, writes, _ = rates(words, numbers(0, writers), asked.milliseconds, asked.runs)
+                print(f"| {writers} | {name} | {writes:,.0f} |", flush=True)
         print()
         print("| places | at once | writes a second of one writer, with no reader |")
         print("|---|---|---|")
         for places, batch in ((1, 1), (4, 1), (64, 1), (1, 100)):
-            _, writes, _ = rates([node], [0, places, batch], asked.milliseconds, asked.runs)
+            _, writes, _ = rates([node], [0, 1, places, batch], asked.milliseconds, asked.runs)
             print(f"| {places} | {batch} | {writes:,.0f} |", flush=True)
 
 

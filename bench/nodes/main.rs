@@ -1,4 +1,4 @@
-//! Measures a map of std under a lock, as `bench/nodes/program` measures a node: readers and one writer, all at the same time, each in a
+//! Measures a map of std under a lock, as `bench/nodes/program` measures a node: readers and writers, all at the same time, each in a
 //! thread of its own. bench/README.md says how to run it.
 use std::collections::HashMap;
 use std::env;
@@ -104,8 +104,8 @@ fn read_until(map: &impl Shared, keys: &[Vec<u8>], seed: u64, end: Instant) -> R
 }
 
 /// Puts values of eight bytes on one key after the other until the end, and tells how many.
-fn write_until(map: &impl Shared, keys: &[Vec<u8>], end: Instant) -> u64 {
-    let mut random = Random { state: 0 };
+fn write_until(map: &impl Shared, keys: &[Vec<u8>], seed: u64, end: Instant) -> u64 {
+    let mut random = Random { state: seed };
     let mut count = 0;
     while Instant::now() < end {
         let key = random.pick(keys).clone();
@@ -116,7 +116,7 @@ fn write_until(map: &impl Shared, keys: &[Vec<u8>], end: Instant) -> u64 {
 }
 
 /// Measures a new map, in which each key has a value when it begins.
-fn measure<M: Shared>(readers: u64, time: Duration) {
+fn measure<M: Shared>(readers: u64, writers: u64, time: Duration) {
     let keys: Vec<Vec<u8>> = (0..COUNT).map(|at| at.to_be_bytes().to_vec()).collect();
     let map = M::new(keys.iter().map(|key| (key.clone(), key.clone())).collect());
     let (map, keys) = (&map, keys.as_slice());
@@ -125,7 +125,9 @@ fn measure<M: Shared>(readers: u64, time: Duration) {
         let readers: Vec<_> = (1..=readers)
             .map(|seed| scope.spawn(move || read_until(map, keys, seed, end)))
             .collect();
-        let writes = write_until(map, keys, end);
+        let writers: Vec<_> = (0..writers)
+            .map(|seed| scope.spawn(move || write_until(map, keys, seed, end)))
+            .collect();
         let none = Reads {
             count: 0,
             longest: Duration::ZERO,
@@ -134,25 +136,28 @@ fn measure<M: Shared>(readers: u64, time: Duration) {
             .into_iter()
             .map(|reader| reader.join().expect("no thread panicked"))
             .fold(none, Reads::and);
+        let writes: u64 = writers
+            .into_iter()
+            .map(|writer| writer.join().expect("no thread panicked"))
+            .sum();
         (writes, reads)
     });
     let (count, longest) = (reads.count, reads.longest.as_nanos());
     println!("{count} reads, {writes} writes, the longest read {longest} ns");
 }
 
-/// The arguments: Mutex or RwLock, how many readers, and how many milliseconds.
+/// The arguments: Mutex or RwLock, how many readers, how many writers, and how many milliseconds.
 fn main() {
     let words: Vec<String> = env::args().skip(1).collect();
-    let [map, readers, milliseconds] = words.as_slice() else {
-        panic!(
-            "three words are wanted: Mutex or RwLock, and the numbers of readers and milliseconds"
-        );
+    let [map, readers, writers, milliseconds] = words.as_slice() else {
+        panic!("four words are wanted: Mutex or RwLock, and the numbers of readers, writers and milliseconds");
     };
     let readers = readers.parse().expect("a number of readers");
+    let writers = writers.parse().expect("a number of writers");
     let time = Duration::from_millis(milliseconds.parse().expect("a number of milliseconds"));
     match map.as_str() {
-        "Mutex" => measure::<Mutex<Map>>(readers, time),
-        "RwLock" => measure::<RwLock<Map>>(readers, time),
+        "Mutex" => measure::<Mutex<Map>>(readers, writers, time),
+        "RwLock" => measure::<RwLock<Map>>(readers, writers, time),
         _ => panic!("Mutex or RwLock is wanted"),
     }
 }
