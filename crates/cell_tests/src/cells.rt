@@ -2,7 +2,6 @@
 ghost use Rattle.std.specs.Prelude.{◌≡◌, ℕ, List, sum};
 
 mod beside;
-mod grouped;
 mod refused;
 
 use root_cell::{About, Brand, Cell, Itself, Note, OpenedBook, View, Writer};

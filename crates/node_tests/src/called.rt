@@ -153,15 +153,6 @@ impl<K: Naming, G: Gate + Drop, R: Wait + Drop> Caller for Client<K, Lock<K, G, 
     fn share<T: Abort>(&mut self, rt: &T) -> Root {
         found(rt, self, &Sharing).expect(rt, "memory")
     }
-
-    fn keeps<T: Wait + Abort>(&mut self, rt: &T, alloc: Global) -> bool {
-        let mut snapshot = self.snapshot().expect(rt, "a root");
-        let size = snapshot.look(&Sizing);
-        self.put(rt, alloc, b"later", b"", b"");
-        let is_kept = snapshot.look(&Sizing) == size;
-        self.renew(&mut snapshot).expect(rt, "a root");
-        is_kept && snapshot.look(&Sizing) > size
-    }
 }
 
 impl<K: Naming, G: Gate + Drop, R: Wait + Drop> Calling for Client<K, Lock<K, G, R>> {
@@ -226,7 +217,12 @@ impl<K: Naming, G: Gate + Drop, R: Wait + Drop> Keeping for Client<K, Lock<K, G,
             alloc,
             writes: &writes,
         };
-        called(rt, self, &batching)
+        let mut snapshot = self.snapshot().expect(rt, "a root");
+        let written = called(rt, self, &batching);
+        assert!(rt; snapshot.look(&Sizing) == 0);
+        self.renew(&mut snapshot).expect(rt, "a root");
+        assert!(rt; snapshot.look(&Sizing) == 1);
+        written
     }
 
     fn saved<T: Wait + Abort>(&mut self, rt: &T, alloc: Global) -> Saved {

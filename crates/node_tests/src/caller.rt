@@ -55,11 +55,8 @@ pub(crate) trait Caller {
     // How many events it sees.
     fn events<T: Abort>(&mut self, rt: &T) -> u64;
 
-    // A share of what it sees.
+    // A snapshot of what it sees.
     fn share<T: Abort>(&mut self, rt: &T) -> Root;
-
-    // Whether its snapshot shows nothing of a put at one more key, and all once it is renewed.
-    fn keeps<T: Wait + Abort>(&mut self, rt: &T, alloc: Global) -> bool;
 }
 
 // What a client calls and looks at by itself.

@@ -17,7 +17,6 @@ use left_right::writer;
 use std::alloc::{Allocator, Global};
 use std::collections::LinkedList;
 use std::marker::PhantomData;
-use std::sync::atomic::AtomicU64;
 use std::sync::{Arc, Wait};
 
 /// What a cell is made of: its Writer, its Views and its Title.
@@ -34,7 +33,7 @@ pub struct Cell<R, E, J: Brand<R, E>, A: Allocator = Global> {
 
 impl<R: Drop, E, J: Brand<R, E>, A: Allocator + Copy> Cell<R, E, J, A> {
     /// Makes a cell of an opened book: its Writer, one View for each place, and its Title. Writer and Views have the empty front, for which the
-    /// root has to stand. It may wait, for a Writer that it has to end where it is refused. Takes memory for the root, for a number, for each place,
+    /// root has to stand. It may wait, for a Writer that it has to end where it is refused. Takes memory for the root, for each place,
     /// and for a log of a few entries, which stays; and time in the places.
     /// Its only refusal is OutOfMemory.
     pub fn new<W: Wait>(
@@ -54,12 +53,11 @@ impl<R: Drop, E, J: Brand<R, E>, A: Allocator + Copy> Cell<R, E, J, A> {
         let OpenedBook { head, spare, seen } = opened;
         let front: Front<R, E, J> = Front::new(0, &seen);
         let first = Published::new(Arc::new(alloc, root)?, 0, seen);
-        let published = Arc::new(alloc, AtomicU64::new(0))?;
-        let laid = lay_out(rt, alloc, &first, &front, &published, places);
+        let laid = lay_out(rt, alloc, &first, &front, places);
         drop(first);
         match laid {
             Ok((desk, views)) => {
-                let writer = Writer::new(alloc, desk, head, front, published);
+                let writer = Writer::new(alloc, desk, head, front);
                 Ok((writer, views, Title::new(spare)))
             }
             Err(refusal) => {
@@ -78,7 +76,6 @@ fn lay_out<R: Drop, E, J: Brand<R, E>, A: Allocator + Copy, W: Wait>(
     alloc: A,
     first: &Published<R, E, A>,
     front: &Front<R, E, J>,
-    published: &Arc<AtomicU64, A>,
     places: usize,
 ) -> Result<(Desk<R, E, J, A>, Vec<View<R, E, J, A>, A>), Refusal>
     requires places { (1 ≤ places) × (places ≤ 64) }
@@ -95,7 +92,7 @@ fn lay_out<R: Drop, E, J: Brand<R, E>, A: Allocator + Copy, W: Wait>(
         first.again()?,
         places,
     )?;
-    match furnish(rt, alloc, desk, first, front, published, places) {
+    match furnish(rt, alloc, desk, first, front, places) {
         (desk, Ok(views)) => Ok((desk, views)),
         (desk, Err(refusal)) => {
             drop(desk.take(rt));
@@ -111,7 +108,6 @@ fn furnish<R: Drop, E, J: Brand<R, E>, A: Allocator + Copy, W: Wait>(
     desk: Desk<R, E, J, A>,
     first: &Published<R, E, A>,
     front: &Front<R, E, J>,
-    published: &Arc<AtomicU64, A>,
     places: usize,
 ) -> (Desk<R, E, J, A>, Result<Vec<View<R, E, J, A>, A>, Refusal>)
     requires first { StandsIn J.book J.stands first.now }
@@ -131,7 +127,7 @@ fn furnish<R: Drop, E, J: Brand<R, E>, A: Allocator + Copy, W: Wait>(
     if twice.is_err() {
         return (desk, Err(Refusal::OutOfMemory));
     }
-    let views = seats(alloc, desk.factory(), front, published, places);
+    let views = seats(alloc, desk.factory(), front, places);
     (desk, views)
 }
 
@@ -140,7 +136,6 @@ fn seats<R: Drop, E, J: Brand<R, E>, A: Allocator + Copy>(
     alloc: A,
     factory: &Factory<Published<R, E, A>, LinkedList<E>, Ruled<J>, A>,
     front: &Front<R, E, J>,
-    published: &Arc<AtomicU64, A>,
     places: usize,
 ) -> Result<Vec<View<R, E, J, A>, A>, Refusal>
     requires { front.now ≡ [] }
@@ -149,8 +144,7 @@ fn seats<R: Drop, E, J: Brand<R, E>, A: Allocator + Copy>(
 {
     let mut views = Vec::new(alloc);
     for _ in 0..places {
-        let number = Arc::try_clone(published)?;
-        views.push(View::new(factory.reader()?, front.again(), number))?;
+        views.push(View::new(factory.reader()?, front.again()))?;
     }
     Ok(views)
 }

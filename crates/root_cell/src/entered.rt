@@ -13,14 +13,12 @@ use std::alloc::{Allocator, Global};
 use std::collections::LinkedList;
 use std::marker::Model;
 use std::sync::Arc;
-use std::sync::atomic::AtomicU64;
 
 /// A View that is inside. Contracts see the root that it entered, and the front that this root stands for. While it is inside the
 /// root stays, and the next publish but one waits; whoever shares the root can leave first. It is not `Drop`: it has to `leave`.
 pub struct Entered<R: Drop, E, J: Brand<R, E>, A: Allocator = Global> {
     reading: Reading<Published<R, E, A>, LinkedList<E>, Ruled<J>, A>,
     front: Front<R, E, J>,
-    published: Arc<AtomicU64, A>,
 }
 
 impl<R: Drop, E, J: Brand<R, E>, A: Allocator> Model for Entered<R, E, J, A> {
@@ -34,21 +32,16 @@ impl<R: Drop, E, J: Brand<R, E>, A: Allocator> Model for Entered<R, E, J, A> {
 }
 
 impl<R: Drop, E, J: Brand<R, E>, A: Allocator> Entered<R, E, J, A> {
-    /// Inside, with what is read, and with what its View goes on with.
+    /// Inside, with what is read.
     pub(crate) fn new(
         reading: Reading<Published<R, E, A>, LinkedList<E>, Ruled<J>, A>,
-        number: Arc<AtomicU64, A>,
     ) -> Entered<R, E, J, A>
         requires { StandsIn J.book J.stands reading.part.value }
         ensures root { result ≡ (reading.part.value.0, reading.part.value.1) }
     {
         let published = reading.get();
         let front = Front::new(published.events(), &published.seen());
-        Entered {
-            reading,
-            front,
-            published: number,
-        }
+        Entered { reading, front }
     }
 
     /// The front, as the token that shows it.
@@ -87,11 +80,7 @@ impl<R: Drop, E, J: Brand<R, E>, A: Allocator> Entered<R, E, J, A> {
     pub fn leave(self) -> View<R, E, J, A>
         ensures { result ≡ self.1 }
     {
-        let Entered {
-            reading,
-            front,
-            published,
-        } = self;
-        View::new(reading.leave(), front, published)
+        let Entered { reading, front } = self;
+        View::new(reading.leave(), front)
     }
 }

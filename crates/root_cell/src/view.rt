@@ -1,4 +1,4 @@
-ghost use Rattle.std.specs.Prelude.{◌≡◌, ◌⊎◌, length, IfOk, IfErr, MatchBool};
+ghost use Rattle.std.specs.Prelude.{◌≡◌, ◌⊎◌, IfOk, IfErr, MatchBool};
 ghost use mathlib.Core.List.{IsPrefix};
 ghost use Rattle.root_cell.specs.Rule.{IsLonger};
 
@@ -13,15 +13,12 @@ use std::alloc::{Allocator, Global};
 use std::collections::LinkedList;
 use std::marker::Model;
 use std::mem;
-use std::sync::Arc;
-use std::sync::atomic::{AtomicU64, Ordering};
 
 /// A reader's seat at a cell. Contracts see the front that it saw or learnt, a beginning of the cell's one list of events.
 #[derive(Drop)]
 pub struct View<R: Drop, E, J: Brand<R, E>, A: Allocator = Global> {
     reader: Reader<Published<R, E, A>, LinkedList<E>, Ruled<J>, A>,
     front: Front<R, E, J>,
-    published: Arc<AtomicU64, A>,
 }
 
 impl<R: Drop, E, J: Brand<R, E>, A: Allocator> Model for View<R, E, J, A> {
@@ -33,19 +30,14 @@ impl<R: Drop, E, J: Brand<R, E>, A: Allocator> Model for View<R, E, J, A> {
 }
 
 impl<R: Drop, E, J: Brand<R, E>, A: Allocator> View<R, E, J, A> {
-    /// A seat that has seen this front. It reads there how many events what is published has.
+    /// A seat that has seen this front.
     pub(crate) fn new(
         reader: Reader<Published<R, E, A>, LinkedList<E>, Ruled<J>, A>,
         front: Front<R, E, J>,
-        published: Arc<AtomicU64, A>,
     ) -> View<R, E, J, A>
         ensures { result ≡ front }
     {
-        View {
-            reader,
-            front,
-            published,
-        }
+        View { reader, front }
     }
 
     /// The front, as the token that shows it.
@@ -53,13 +45,6 @@ impl<R: Drop, E, J: Brand<R, E>, A: Allocator> View<R, E, J, A> {
         ensures { result.now ≡ self.now }
     {
         &self.front
-    }
-
-    /// How many events it saw or learnt. Takes constant time, and no memory.
-    pub fn events(&self) -> u64
-        ensures { result ≡ length self.now }
-    {
-        self.front.events()
     }
 
     /// A Note of all that it saw or learnt, for another View of this cell to learn. Takes constant time, and no memory.
@@ -71,12 +56,6 @@ impl<R: Drop, E, J: Brand<R, E>, A: Allocator> View<R, E, J, A> {
         }
     }
 
-    /// How many events the root that was published last stands for; 2^64 - 1 once the Writer has ended. It is told once the publish is done, and reads
-    /// one number, which no reader writes. No clause says what it is: it only spares an enter where nothing is new.
-    pub fn published(&self) -> u64 {
-        self.published.load(Ordering::SeqCst)
-    }
-
     /// Enters what is published. It waits for nobody, and takes constant time and no memory. The View comes back where the Writer
     /// has ended; so it would where less is published than this View saw or learnt, which a cell with its one Writer does not come
     /// to.
@@ -85,23 +64,18 @@ impl<R: Drop, E, J: Brand<R, E>, A: Allocator> View<R, E, J, A> {
         ensures stands { IfOk result (λ e. J.stands e.0 e.1) }
         ensures back { IfErr result (λ v. v ≡ self) }
     {
-        let View {
-            reader,
-            front,
-            published,
-        } = self;
+        let View { reader, front } = self;
         match reader.enter_as::<Showing<J>>() {
-            Err(reader) => Err(View::new(reader, front, published)),
+            Err(reader) => Err(View { reader, front }),
             Ok(reading) => {
-                let entered = Entered::new(reading, published);
+                let entered = Entered::new(reading);
                 if entered.front().is_behind(&front) {
                     let View {
                         reader,
                         front: earlier,
-                        published,
                     } = entered.leave();
                     drop(earlier);
-                    return Err(View::new(reader, front, published));
+                    return Err(View { reader, front });
                 }
                 drop(front);
                 Ok(entered)

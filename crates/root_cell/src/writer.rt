@@ -7,9 +7,8 @@ ghost use Rattle.root_cell.specs.Rule.{IsLonger, StandsIn};
 use crate::about::About;
 use crate::book::Counted;
 use crate::brand::Brand;
-use crate::desk::Desk;
+use crate::desk::{Desk, add, put_out};
 use crate::front::Front;
-use crate::group_writer::GroupWriter;
 use crate::note::Note;
 use crate::published::Published;
 use crate::view::View;
@@ -18,7 +17,6 @@ use left_right::Absorb;
 use logbook::Word;
 use std::alloc::{Allocator, Global};
 use std::marker::Model;
-use std::sync::atomic::{AtomicU64, Ordering};
 use std::sync::{Arc, Wait};
 
 /// The one writer of a cell. Contracts see the cell's list of events, for which the published root stands. It is not `Drop`: it has
@@ -31,7 +29,6 @@ where
     desk: Desk<R, E, J, A>,
     head: Word<E, u64, Counted>,
     front: Front<R, E, J>,
-    published: Arc<AtomicU64, A>,
 }
 
 impl<R: Drop, E, J: Brand<R, E>, A: Allocator> Model for Writer<R, E, J, A>
@@ -58,7 +55,6 @@ impl<R: Drop, E, J: Brand<R, E>, A: Allocator + Copy> Writer<R, E, J, A> {
         desk: Desk<R, E, J, A>,
         head: Word<E, u64, Counted>,
         front: Front<R, E, J>,
-        published: Arc<AtomicU64, A>,
     ) -> Writer<R, E, J, A>
         requires stands { StandsIn J.book J.stands desk.desk.shown.value }
         requires shown { desk.desk.shown.value.1 ≡ front }
@@ -71,7 +67,6 @@ impl<R: Drop, E, J: Brand<R, E>, A: Allocator + Copy> Writer<R, E, J, A> {
             desk,
             head,
             front,
-            published,
         }
     }
 
@@ -89,10 +84,31 @@ impl<R: Drop, E, J: Brand<R, E>, A: Allocator + Copy> Writer<R, E, J, A> {
         ensures front { MatchResult result.1 (λ _. result.0 ≡ self ++ (M.event about.now) ∷ []) (λ _. result.0 ≡ self) }
         ensures err { IfErr result.1 (λ e. e ≡ OutOfMemory) }
     {
-        match Arc::new(self.alloc, root) {
-            Ok(root) => (self.publish_placed::<X, M, W>(rt, root, about), Ok(())),
-            Err(failed) => (self, Err(failed.into())),
-        }
+        let Writer {
+            alloc,
+            desk,
+            head,
+            front,
+        } = self;
+        let root = match Arc::new(alloc, root) {
+            Ok(root) => root,
+            Err(failed) => {
+                let writer = Writer {
+                    alloc,
+                    desk,
+                    head,
+                    front,
+                };
+                return (writer, Err(failed.into()));
+            }
+        };
+        let writer = Writer {
+            alloc,
+            desk,
+            head,
+            front,
+        };
+        (writer.publish_placed::<X, M, W>(rt, root, about), Ok(()))
     }
 
     /// Publishes a root that has its place already, and adds the event that `about` tells to the cell's list. It may wait for Views to
@@ -108,23 +124,21 @@ impl<R: Drop, E, J: Brand<R, E>, A: Allocator + Copy> Writer<R, E, J, A> {
         requires stands { J.stands root.value (self ++ (M.event about.now) ∷ []) }
         ensures { result ≡ self ++ (M.event about.now) ∷ [] }
     {
-        self.into_group()
-            .add::<X, M, W>(rt, about)
-            .publish(rt, root)
-    }
-
-    /// The same writer, to add several events before it publishes. Takes constant time, and no memory.
-    pub fn into_group(self) -> GroupWriter<R, E, J, A>
-        ensures { result ≡ self }
-    {
         let Writer {
             alloc,
             desk,
             head,
             front,
-            published,
         } = self;
-        GroupWriter::new(alloc, desk, head, front, published)
+        let next = add::<R, E, J, X, M, W>(rt, &front, &head, about);
+        drop(front);
+        let published = Published::new(root, next.events(), next.seen());
+        Writer {
+            alloc,
+            desk: put_out(rt, desk, published),
+            head,
+            front: next,
+        }
     }
 
     /// Whether something is published that the View neither saw nor learnt. If not, it saw or learnt all that is published. Takes
@@ -154,12 +168,9 @@ impl<R: Drop, E, J: Brand<R, E>, A: Allocator + Copy> Writer<R, E, J, A> {
             desk,
             head,
             front,
-            published,
         } = self;
         drop(head);
         drop(front);
-        let root = Box::into_inner(desk.take(rt)).into_root();
-        published.store(u64::MAX, Ordering::SeqCst);
-        root
+        Box::into_inner(desk.take(rt)).into_root()
     }
 }

@@ -5,11 +5,15 @@ use Rattle.std.proofs.lemmas.List.{append-nil, take-append-le, take_all}
 use Rattle.std.proofs.lemmas.List.Elements.{filter-append}
 use Rattle.std.proofs.lemmas.Bool.Decides.{nat_tests}
 use mathlib.Core.List.{IsPrefix}
-use Rattle.root_cell.proofs.Prefixes.{prefix_whole}
+use Rattle.root_cell.proofs.Prefixes.{prefix_whole, prefix_trans}
 use Rattle.shared_object.specs.History.{AreCounts, calls_by}
 
 pub prefix_length : {A : Type 0} (xs ys : List A) → IsPrefix xs ys → length xs ≤ length ys
 prefix_length xs ys p = omega (arith, sym (ap length p.1) ∙ length-append xs p.0)
+
+-- of three lists that begin each other all are one where the last is no longer than the first
+pub prefix_between : {A : Type 0} (xs ys zs : List A) → IsPrefix xs ys → IsPrefix ys zs → length zs ≤ length xs → zs ≡ xs
+prefix_between xs ys zs p q le = sym (prefix_whole xs zs (prefix_trans xs ys zs p q) le)
 
 -- one that is a list or this list and one more, and begins with the latter, is the latter
 pub prefix_longer : {A : Type 0} (xs ys : List A) (x : A) → IsPrefix (xs ++ x ∷ []) ys → length ys ≤ length xs + 1 → ys ≡ xs ++ x ∷ []

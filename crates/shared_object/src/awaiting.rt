@@ -1,9 +1,6 @@
-// What is waited for: what the code never comes to though no clause says that it cannot, for good, as no answer would be right; and what others do.
+// What the code never comes to though no clause says that it cannot: there it waits for good, as no answer would be right.
 ghost use Rattle.std.specs.Prelude.{◌≡◌, Some, true};
 
-use crate::object::Object;
-use root_cell::View;
-use std::alloc::Allocator;
 use std::sync::Wait;
 use std::thread;
 
@@ -31,20 +28,4 @@ pub(crate) fn go_on_where<T: Wait>(rt: &T, holds: bool)
         thread::yield_now();
     }
     unreachable!()
-}
-
-/// Goes on once all that the View saw or learnt is published: whoever left it unpublished had others behind it, of whom one publishes it.
-pub(crate) fn go_on_published<J: Object, A: Allocator, T: Wait>(
-    rt: &T,
-    view: &View<J::Root, J::Event, J, A>,
-) {
-    if view.events() <= view.published() {
-        return;
-    }
-    for _ in rt.forever() {
-        if view.events() <= view.published() {
-            return;
-        }
-        thread::yield_now();
-    }
 }

@@ -140,9 +140,9 @@ impl<J: Object, S: Drop, A: Allocator> Client<J, S, A> {
         snapshot
     }
 
-    /// Puts the root that is published in the place of the snapshot's, where something was published since. Where nothing was it reads one number, which no
-    /// reader writes, so readers on many processors do not wait for each other. It waits for nobody. It is refused as `snapshot` is, which leaves the
-    /// snapshot as it was. Takes constant time and no memory, but that of letting go of what nobody else holds.
+    /// Puts the root that is published in the place of the snapshot's, where something was published since. Where nothing was it counts no owner, so
+    /// readers on many processors do not wait for each other's counts. It waits for nobody. It is refused as `snapshot` is, which leaves the snapshot as
+    /// it was. Takes constant time and no memory, but the time of letting go of what nobody else holds.
     pub fn renew(&mut self, snapshot: &mut Snapshot<J, A>) -> Result<(), Refusal>
         ensures front { IfOk result (λ _. snapshot.new ≡ self.new.front) }
         ensures own { HasNotCalled J.Event.place self.old self.new }
@@ -150,7 +150,8 @@ impl<J: Object, S: Drop, A: Allocator> Client<J, S, A> {
         ensures unchanged { IfErr result (λ _. snapshot.new ≡ snapshot.old) }
     {
         self.learn(snapshot.tell());
-        if self.is_at(snapshot) {
+        let events = self.events()?;
+        if events == snapshot.events() {
             return Ok(());
         }
         match self.snapshot() {
@@ -160,18 +161,6 @@ impl<J: Object, S: Drop, A: Allocator> Client<J, S, A> {
             }
             Err(refusal) => Err(refusal),
         }
-    }
-
-    // Whether the client has seen no more than the snapshot shows, and nothing else was published. The second stands in no clause.
-    fn is_at(&self, snapshot: &Snapshot<J, A>) -> bool
-        requires { IsPrefix snapshot.now self.now.front }
-        ensures { IsTrue result → snapshot.now ≡ self.now.front }
-    {
-        let Some(view) = &self.view else {
-            unreachable!()
-        };
-        let events = snapshot.events();
-        view.published() == events && view.events() == events
     }
 }
 

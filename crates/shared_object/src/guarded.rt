@@ -9,39 +9,33 @@ use crate::look::Look;
 use crate::object::Object;
 use crate::update::{Made, Making, Update};
 use dots::Refusal;
-use root_cell::{GroupWriter, Note, View, Writer};
+use root_cell::{Note, View, Writer};
 use std::alloc::{Allocator, Global};
 use std::marker::Model;
-use std::sync::{Arc, Wait};
+use std::sync::Wait;
 
 /// As many clients as a cell can have.
 pub(crate) const PLACES: usize = 64;
 
-// As many calls are published together at most, so that those who made them wait for no more.
-const MOST_AT_ONCE: u64 = 64;
-
-/// What lies under the lock: the object, with the writer of its roots, how many of its calls came from each place, the root that is to be published,
-/// and how many calls wait for that. Contracts see its history. It keeps a handle to end the writer with.
+/// What lies under the lock: the object, with the writer of its roots, and how many of its calls came from each place. Contracts see
+/// its history. It keeps a handle to end the writer with.
 pub(crate) struct Guarded<J: Object, W: Wait + Drop, A: Allocator + Copy = Global> {
     object: J::State,
     events: u64,
     counts: [u64; PLACES],
-    writer: GroupWriter<J::Root, J::Event, J, A>,
-    pending: Option<Arc<J::Root, A>>,
-    unpublished: u64,
+    writer: Writer<J::Root, J::Event, J, A>,
     rt: W,
 }
 
 impl<J: Object, W: Wait + Drop, A: Allocator + Copy> Model for Guarded<J, W, A> {
-    ghost use Rattle.std.specs.Prelude.{◌≡◌, IfSome, List, length};
+    ghost use Rattle.std.specs.Prelude.{◌≡◌, List, length};
     ghost use Rattle.shared_object.specs.History.{AreCounts};
 
     ghost Value = { List J.Event };
 
     ghost view = { λ d. d.writer };
 
-    ghost invariant = { λ d. J.after d.object d.writer × (d.events ≡ length d.writer) × AreCounts J.Event.place d.counts d.writer
-        × IfSome d.pending (λ root. J.stands root.value d.writer) };
+    ghost invariant = { λ d. J.after d.object d.writer × (d.events ≡ length d.writer) × AreCounts J.Event.place d.counts d.writer };
 }
 
 impl<J: Object, W: Wait + Drop, A: Allocator + Copy> Drop for Guarded<J, W, A> {
@@ -51,8 +45,6 @@ impl<J: Object, W: Wait + Drop, A: Allocator + Copy> Drop for Guarded<J, W, A> {
             events: _,
             counts: _,
             writer,
-            pending: _,
-            unpublished: _,
             rt,
         } = self;
         writer.end(&rt);
@@ -74,9 +66,7 @@ impl<J: Object, W: Wait + Drop, A: Allocator + Copy> Guarded<J, W, A> {
             object,
             events: 0,
             counts: no_counts(),
-            writer: writer.into_group(),
-            pending: None,
-            unpublished: 0,
+            writer,
             rt,
         }
     }
@@ -113,8 +103,6 @@ impl<J: Object, W: Wait + Drop, A: Allocator + Copy> Guarded<J, W, A> {
             events,
             counts: _,
             writer,
-            pending: _,
-            unpublished: _,
             rt,
         } = self;
         writer.end(&rt);
@@ -124,7 +112,7 @@ impl<J: Object, W: Wait + Drop, A: Allocator + Copy> Guarded<J, W, A> {
         }
     }
 
-    /// Whether the View, once it has learnt all that happened, has seen the history, and so many of its calls came from this place. It
+    /// Whether the View, once it has learnt all that is published, has seen the history, and so many of its calls came from this place. It
     /// has learnt in any case.
     pub(crate) fn meet(
         &self,
@@ -139,7 +127,12 @@ impl<J: Object, W: Wait + Drop, A: Allocator + Copy> Guarded<J, W, A> {
     {
         let mut view = view;
         view.learn(self.writer.tell());
-        let is_whole = view.events() == self.events;
+        let entered = match view.enter() {
+            Ok(entered) => entered,
+            Err(view) => return (view, false),
+        };
+        let is_whole = entered.events() == self.events;
+        let view = entered.leave();
         if self.count(place) != operations {
             return (view, false);
         }
@@ -166,8 +159,7 @@ impl<J: Object, W: Wait + Drop, A: Allocator + Copy> Guarded<J, W, A> {
     }
 
     /// Takes the turn of a client: makes its call, where the client's calls that are known here are just those that it made. They always are, as
-    /// a place has one client; that they are stands in no clause, and where they were not it would wait for good. What the object then is is published
-    /// where nobody waits for a turn, or many calls wait for it; that it is stands in no clause.
+    /// a place has one client; that they are stands in no clause, and where they were not it would wait for good.
     pub(crate) fn turn<T: Wait, C: Update<J, A>>(
         self,
         rt: &T,
@@ -175,7 +167,6 @@ impl<J: Object, W: Wait + Drop, A: Allocator + Copy> Guarded<J, W, A> {
         place: usize,
         operations: u64,
         update: &C,
-        is_last: bool,
     ) -> (
         Guarded<J, W, A>,
         View<J::Root, J::Event, J, A>,
@@ -197,7 +188,6 @@ impl<J: Object, W: Wait + Drop, A: Allocator + Copy> Guarded<J, W, A> {
         let (view, is_met) = self.meet(view, place, operations);
         go_on_where(rt, is_met);
         let (guarded, answer) = self.accept(rt, place, update);
-        let guarded = guarded.publish_where(rt, is_last);
         match answer {
             Ok(told) => {
                 let mut view = view;
@@ -208,45 +198,7 @@ impl<J: Object, W: Wait + Drop, A: Allocator + Copy> Guarded<J, W, A> {
         }
     }
 
-    // Publishes what the object is where that is wanted, or where many calls wait for it.
-    fn publish_where<T: Wait>(self, rt: &T, is_wanted: bool) -> Guarded<J, W, A>
-        ensures { result ≡ self }
-    {
-        if is_wanted || self.unpublished >= MOST_AT_ONCE {
-            return self.publish(rt);
-        }
-        self
-    }
-
-    // Publishes what the object is, where that is not published yet.
-    fn publish<T: Wait>(self, rt: &T) -> Guarded<J, W, A>
-        ensures { result ≡ self }
-    {
-        let Guarded {
-            object,
-            events,
-            counts,
-            writer,
-            pending,
-            unpublished: _,
-            rt: own,
-        } = self;
-        let writer = match pending {
-            Some(root) => writer.publish(rt, root).into_group(),
-            None => writer,
-        };
-        Guarded {
-            object,
-            events,
-            counts,
-            writer,
-            pending: None,
-            unpublished: 0,
-            rt: own,
-        }
-    }
-
-    /// Makes a call for the client at this place, and keeps the root of what the object then is until it is published. A refused call changes
+    /// Makes a call for the client at this place, and publishes what the object then is. A refused call changes nothing, and publishes
     /// nothing.
     pub(crate) fn accept<T: Wait, C: Update<J, A>>(
         self,
@@ -273,8 +225,6 @@ impl<J: Object, W: Wait + Drop, A: Allocator + Copy> Guarded<J, W, A> {
             events,
             counts,
             writer,
-            pending,
-            unpublished,
             rt: own,
         } = self;
         let mut object = object;
@@ -285,16 +235,15 @@ impl<J: Object, W: Wait + Drop, A: Allocator + Copy> Guarded<J, W, A> {
                     update,
                     reply: &reply,
                 };
-                let writer = writer.add::<Made<C, C::Reply>, Making<J, A>, T>(rt, &made);
+                let writer = writer.publish_placed::<Made<C, C::Reply>, Making<J, A>, T>(
+                    rt, root, &made,
+                );
                 let receipt = writer.tell();
-                drop(pending);
                 let guarded = Guarded {
                     object,
                     events: events + 1,
                     counts: counted(counts, place),
                     writer,
-                    pending: Some(root),
-                    unpublished: unpublished.saturating_add(1),
                     rt: own,
                 };
                 (guarded, Ok((reply, receipt)))
@@ -305,8 +254,6 @@ impl<J: Object, W: Wait + Drop, A: Allocator + Copy> Guarded<J, W, A> {
                     events,
                     counts,
                     writer,
-                    pending,
-                    unpublished,
                     rt: own,
                 };
                 (guarded, Err(refusal))

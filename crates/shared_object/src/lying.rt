@@ -96,7 +96,6 @@ impl<J: Object, W: Wait + Drop, A: Allocator + Copy> Lying<J, W, A> {
         place: usize,
         operations: u64,
         update: &C,
-        is_last: bool,
     ) -> (
         View<J::Root, J::Event, J, A>,
         Result<(C::Reply, Note<J::Root, J::Event, J>), Refusal>,
@@ -109,7 +108,7 @@ impl<J: Object, W: Wait + Drop, A: Allocator + Copy> Lying<J, W, A> {
         ensures whole { IfErr result.1 (λ _. length (calls_by J.Event.place place result.0) ≡ operations) }
     {
         let guarded = awaited(rt, self.guarded.take());
-        let (guarded, view, answer) = guarded.turn(rt, view, place, operations, update, is_last);
+        let (guarded, view, answer) = guarded.turn(rt, view, place, operations, update);
         drop(self.guarded.replace(guarded));
         (view, answer)
     }

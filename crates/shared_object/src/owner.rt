@@ -15,7 +15,6 @@ use dots::Refusal;
 use root_cell::{Title, View, Writer};
 use std::alloc::{Allocator, Global};
 use std::marker::Model;
-use std::sync::atomic::AtomicU64;
 use std::sync::{Arc, Mutex, Wait};
 
 /// Who hands out the clients of a shared object, and takes them back. Contracts see how many places were taken, how many are free, and the
@@ -84,17 +83,12 @@ impl<J: Object, G: Gate + Drop, W: Wait + Drop, A: Allocator + Copy> Owner<
             alloc,
             Shared {
                 gate,
-                waiting: AtomicU64::new(0),
                 lock: Mutex::new(Lying::new(title)),
             },
         ) {
             Ok(shared) => shared,
             Err(failed) => {
-                let Shared {
-                    gate,
-                    waiting: _,
-                    lock,
-                } = failed.value;
+                let Shared { gate, lock } = failed.value;
                 let title = lock.into_inner().into_title(rt);
                 return Err(Returned {
                     object,
