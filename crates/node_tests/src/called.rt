@@ -45,17 +45,6 @@ fn found<K: Naming, G: Gate + Drop, R: Wait + Drop, T: Abort, L: Look<Root>>(
     client.look(look).expect(rt, "a look")
 }
 
-// What a snapshot shows that is renewed: what was published since, as any other look.
-fn found_again<K: Naming, G: Gate + Drop, R: Wait + Drop, T: Abort, L: Look<Root>>(
-    rt: &T,
-    client: &mut Client<K, Lock<K, G, R>>,
-    look: &L,
-) -> L::Found {
-    let mut snapshot = client.snapshot().expect(rt, "a root");
-    client.renew(&mut snapshot).expect(rt, "a root");
-    snapshot.look(look)
-}
-
 fn key_of(rt: &impl Abort, alloc: Global, bytes: &[u8]) -> Key {
     Key::new(alloc, bytes).expect(rt, "a key")
 }
@@ -139,7 +128,7 @@ impl<K: Naming, G: Gate + Drop, R: Wait + Drop> Caller for Client<K, Lock<K, G, 
     }
 
     fn size<T: Abort>(&mut self, rt: &T) -> u64 {
-        found_again(rt, self, &Sizing)
+        found(rt, self, &Sizing)
     }
 
     fn look_slowly<T: Abort>(&mut self, rt: &T, state: &AtomicU64) -> bool {

@@ -15,7 +15,8 @@ pub type Lock<K, G, W, A = Global> = Shared<Named<K, A>, G, W, A>;
 /// A client of a node. It looks at what is published, as by `Getting`, and calls, as by `Writing`.
 pub type Client<K, S, A = Global> = shared_object::Client<Named<K, A>, S, A>;
 
-/// The replica as it was published once, of which a client looks at one part after the other.
+/// What was published of a node once, to look at as often as wanted: `Client::snapshot` gives it. It is none of the snapshots of a `Replica`, which
+/// `changes` compares.
 pub type Snapshot<K, A = Global> = shared_object::Snapshot<Named<K, A>, A>;
 
 /// A receipt of an accepted call, for another client of the node to learn.

@@ -172,6 +172,7 @@ module _ (saves now : ℕ → ℕ) (name : ℕ) (once : (n : ℕ) → now n ≡ 
   not_not true e = refl
   not_not false e = e
 
+  -- an act of the replica that stays is told to be saved as before
   act_stays : (n k : ℕ) → k ≤ saves n → not ((n == name) && not (nat_lt k (saves name))) ≡ true → (n == name) ≡ true
       → nat_lt k (now n) ≡ nat_lt k (saves n)
   act_stays n k before left is =

@@ -154,13 +154,8 @@ impl<J: Object, S: Drop, A: Allocator> Client<J, S, A> {
         if events == snapshot.events() {
             return Ok(());
         }
-        match self.snapshot() {
-            Ok(next) => {
-                *snapshot = next;
-                Ok(())
-            }
-            Err(refusal) => Err(refusal),
-        }
+        *snapshot = self.snapshot()?;
+        Ok(())
     }
 }
 
