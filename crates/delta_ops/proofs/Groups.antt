@@ -32,12 +32,16 @@ pub both-joined : {E : Type 0} (r : Result OrMapValue E) (p q : OrMapValue)
 both-joined (Ok both) p q same = join-states both p q same
 both-joined (Err e) p q same = tt
 
-pub both-joined_after : {E : Type 0} (r : Result OrMapValue E) (first q : OrMapValue) (start : MapState) → Same (or_map_state first) start
-    → IfOk r (λ both. Same (state_of or_map_at both) (join greater (state_of or_map_at first) (state_of or_map_at q)))
-    → IfOk r (λ whole. Same (or_map_state whole) (join greater start (or_map_state q)))
-both-joined_after (Ok both) first q start is same = same-chain _ _ _ (join-states both first q same)
-    (join-same greater (or_map_state first) (or_map_state q) start (or_map_state q) is (same-itself (or_map_state q)))
-both-joined_after (Err e) first q start is same = tt
+-- and of a copy
+pub copied-state : {E : Type 0} (r : Result OrMapValue E) (p : OrMapValue) → IfOk r (λ copy. Same (state_of or_map_at copy) (state_of or_map_at p))
+    → IfOk r (λ copy. Same (or_map_state copy) (or_map_state p))
+copied-state (Ok copy) p same = copy-states copy p same
+copied-state (Err e) p same = tt
+
+pub copied-group : {E : Type 0} (r : Result OrMapValue E) (p : OrMapValue) (group : MapState) → Same (or_map_state p) group
+    → IfOk r (λ copy. Same (or_map_state copy) (or_map_state p)) → IfOk r (λ copy. Same (or_map_state copy) group)
+copied-group (Ok copy) p group is same = same-chain _ _ _ same is
+copied-group (Err e) p group is same = tt
 
 -- the state of no operation changes nothing
 joined-none : {H : Type 0} (top : H → H → H) (b : Option H) (t : Bool) → joined top None false b t ≡ b
@@ -73,7 +77,7 @@ group-from start (pair ∷ pairs) =
 pub group-append : (older newer : List OrMapValue) → Same (group_state (older ++ newer)) (join greater (group_state older) (group_state newer))
 group-append older newer = rw (fold-append (λ group pair. join greater group (or_map_state pair)) (state []) older newer) (group-from (group_state older) newer)
 
--- the group of one, of two and of three
+-- the group of one and of two
 pub group-of_one : (whole pair : OrMapValue) → Same (or_map_state whole) (or_map_state pair) → Same (or_map_state whole) (group_state (pair ∷ []))
 group-of_one whole pair is = same-chain _ _ _ is (same-back _ _ (none-join (or_map_state pair)))
 
@@ -82,16 +86,6 @@ pub group-of_two : (whole older newer : OrMapValue) → Same (or_map_state whole
 group-of_two whole older newer is =
     same-chain _ _ _ is (join-same greater (or_map_state older) (or_map_state newer) (group_state (older ∷ [])) (or_map_state newer)
     (same-back _ _ (none-join (or_map_state older))) (same-itself (or_map_state newer)))
-
-pub group-of_three : (whole oldest older newer : OrMapValue) → Same (or_map_state whole)
-    (join greater (join greater (or_map_state oldest) (or_map_state older)) (or_map_state newer))
-    → Same (or_map_state whole) (group_state (oldest ∷ older ∷ newer ∷ []))
-group-of_three whole oldest older newer is =
-    let first = same-back _ _ (none-join (or_map_state oldest)) in
-    let both = join-same greater (or_map_state oldest) (or_map_state older) (group_state (oldest ∷ [])) (or_map_state older) first
-    (same-itself (or_map_state older)) in
-    same-chain _ _ _ is (join-same greater (join greater (or_map_state oldest) (or_map_state older)) (or_map_state newer) (group_state (oldest ∷ older ∷ []))
-    (or_map_state newer) both (same-itself (or_map_state newer)))
 
 -- ---- lists that are written out
 pub list_of_none : {X : Type 0} (xs : List X) → length xs ≡ 0 → xs ≡ []
@@ -105,10 +99,6 @@ list_of_one (x ∷ xs) a n at = let none = list_of_none xs (omega arith) in λ i
 pub list_of_two : {X : Type 0} (xs : List X) (a b : X) → length xs ≡ 2 → a ≡ get_or xs 0 a → b ≡ get_or xs 1 b → xs ≡ a ∷ b ∷ []
 list_of_two [] a b n at next = absurd (omega arith)
 list_of_two (x ∷ xs) a b n at next = let rest = list_of_one xs b (omega arith) next in λ i. sym at i ∷ rest i
-
-pub list_of_three : {X : Type 0} (xs : List X) (a b c : X) → length xs ≡ 3 → a ≡ get_or xs 0 a → b ≡ get_or xs 1 b → c ≡ get_or xs 2 c → xs ≡ a ∷ b ∷ c ∷ []
-list_of_three [] a b c n at next last = absurd (omega arith)
-list_of_three (x ∷ xs) a b c n at next last = let rest = list_of_two xs b c (omega arith) next last in λ i. sym at i ∷ rest i
 
 -- a list whose last item is taken out
 snoc_same : {X : Type 0} (xs ys : List X) (x y : X) → xs ++ x ∷ [] ≡ ys ++ y ∷ [] → xs ≡ ys
@@ -221,11 +211,10 @@ module _ {A : Type 0} where
 
   -- ---- the join of a log, part by part
   pub joined-one : {E : Type 0} (r : Result OrMapValue E) (log : List (Arc OrMapValue A)) (only : Arc OrMapValue A) → log ≡ only ∷ []
-      → IfOk r (λ copy. Same (state_of or_map_at copy) (state_of or_map_at only.value))
+      → IfOk r (λ copy. Same (or_map_state copy) (or_map_state only.value))
       → IfOk r (λ whole. Same (or_map_state whole) (group_state (deltas_of log)))
   joined-one (Ok copy) log only is same =
-      subst (λ (l : List (Arc OrMapValue A)). Same (or_map_state copy) (group_state (deltas_of l))) (sym is)
-      (group-of_one copy only.value (copy-states copy only.value same))
+      subst (λ (l : List (Arc OrMapValue A)). Same (or_map_state copy) (group_state (deltas_of l))) (sym is) (group-of_one copy only.value same)
   joined-one (Err e) log only is same = tt
 
   pub joined-two : {E : Type 0} (r : Result OrMapValue E) (log : List (Arc OrMapValue A)) (older newer : Arc OrMapValue A) → log ≡ older ∷ newer ∷ []
@@ -235,16 +224,6 @@ module _ {A : Type 0} where
       subst (λ (l : List (Arc OrMapValue A)). Same (or_map_state both) (group_state (deltas_of l))) (sym is)
       (group-of_two both older.value newer.value (join-states both older.value newer.value same))
   joined-two (Err e) log older newer is same = tt
-
-  pub joined-three : {E : Type 0} (r : Result OrMapValue E) (log : List (Arc OrMapValue A)) (oldest older newer : Arc OrMapValue A)
-      → log ≡ oldest ∷ older ∷ newer ∷ []
-      → IfOk r (λ whole. Same (or_map_state whole) (join greater (join greater (or_map_state oldest.value) (or_map_state older.value))
-      (or_map_state newer.value)))
-      → IfOk r (λ whole. Same (or_map_state whole) (group_state (deltas_of log)))
-  joined-three (Ok whole) log oldest older newer is same =
-      subst (λ (l : List (Arc OrMapValue A)). Same (or_map_state whole) (group_state (deltas_of l))) (sym is)
-      (group-of_three whole oldest.value older.value newer.value same)
-  joined-three (Err e) log oldest older newer is same = tt
 
   pub joined-halves : {E : Type 0} (r : Result OrMapValue E) (log first second : List (Arc OrMapValue A)) (older newer : OrMapValue) → log ≡ first ++ second
       → Same (or_map_state older) (group_state (deltas_of first))

@@ -8,4 +8,5 @@ pub mod Groups
 pub mod AsOrMap
 pub mod Clearing
 pub mod Keeping
+pub mod Copies
 mod Counted

@@ -10,6 +10,7 @@ mod live_or_map;
 mod mutators;
 mod outgoing;
 mod reading;
+mod shared_fields;
 mod standing;
 
 pub use erasures::{clear, remove, remove_field};
