@@ -3,8 +3,8 @@
 
     python3 bench/run.py [PART ..]
 
-The parts are calls, fields, worst, sync, digests, changes, saves, small and large; with none named, all are measured and the file is written, and else
-they are printed. It goes through the crate in rust/ over the library that c/build.sh made, as a program in Rust would. It needs Debian's
+The parts are calls, fields, worst, waiting, sync, digests, changes, saves, small and large; with none named, all are measured and the file is written,
+and else they are printed. It goes through the crate in rust/ over the library that c/build.sh made, as a program in Rust would. It needs Debian's
 librust-crdts-dev, librust-im-rc-dev, librust-bincode-dev and librust-sha2-dev, and no network.
 """
 import os

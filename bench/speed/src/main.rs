@@ -287,14 +287,37 @@ fn worst() -> Table {
         beyond(|| ours::texts(&many, 65), || (), 1),
         3.0,
     ));
-    let keys = keys::random(10_000);
-    let (parts, whole, unsent) = (ours(14, 4_096), ours(14, u32::MAX), ours(7, 0));
+    table
+}
+
+fn waiting() -> Table {
+    let mut table = Table::new(
+        "Writes that wait to be sent: microseconds a write",
+        ["crdts", "", ""],
+    );
+    let keys = keys::random(1_000);
+    let ours = |step, times| move |keys: &[u64]| ours::operations(keys, step, times);
+    let peer = |step, times| move |keys: &[u64]| peers::operations(keys, step, times);
+    let (often, once) = (ours(15, 100), ours(7, 0));
+    let (their_often, their_once) = (peer(15, 100), peer(0, 0));
+    let writes = 100 * keys.len();
     table.push(Row::beside(
-        "10,000 puts sent by 4,096 bytes, beside as one",
-        beyond(|| parts(&keys), || unsent(&keys), 1) / 1e3,
-        beyond(|| whole(&keys), || unsent(&keys), 1) / 1e3,
+        "1,000 keys, each 100 times again, never sent",
+        beyond(|| often(&keys), || once(&keys), writes),
+        beyond(|| their_often(&keys), || their_once(&keys), writes),
         None,
     ));
+    let keys = keys::random(10_000);
+    let sent = peer(5, 0);
+    let theirs = beyond(|| sent(&keys), || their_once(&keys), keys.len());
+    for (name, most) in [
+        ("10,000 puts sent at once", u32::MAX),
+        ("10,000 puts sent by 4,096 bytes", 4_096),
+    ] {
+        let whole = ours(14, most);
+        let each = beyond(|| whole(&keys), || once(&keys), keys.len());
+        table.push(Row::beside(name, each, theirs, None));
+    }
     table
 }
 
@@ -449,6 +472,7 @@ fn main() {
     run("calls", &|| calls(100_000));
     run("fields", &fields);
     run("worst", &worst);
+    run("waiting", &waiting);
     run("sync", &|| synchronisations(100_000));
     run("digests", &|| digests(100_000));
     run("changes", &|| changes(100_000));

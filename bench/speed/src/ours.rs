@@ -82,7 +82,8 @@ fn remove_and_send(here: &mut Replica, there: &mut Replica, keys: &[u64], times:
 /// each again, 2 removes each, 3 gets each. 5 puts each and sends each put to another replica so many times; 6 does that once, and then
 /// removes each and sends that so many times; 7 puts each with no flush, and 8 puts each again then; 11 does what 5 does once, but the
 /// message of the first put is lost; 12 puts each and sends them by so many at once; 13 does what 5 does once, or what 11 does where the
-/// times are not zero, and then puts each at the other replica; 14 puts each with no flush, and then sends them by so many bytes.
+/// times are not zero, and then puts each at the other replica; 14 puts each with no flush, and then sends them by so many bytes; 15 puts
+/// each with no flush, and then so many times again.
 pub fn operations(keys: &[u64], step: u32, times: u32) {
     let (mut here, mut there) = (replica(1), replica(2));
     match step {
@@ -109,6 +110,7 @@ pub fn operations(keys: &[u64], step: u32, times: u32) {
             put_each(&mut there, keys);
         }
         14 => put_and_send_by(&mut here, keys, times),
+        15 => (0..=times).for_each(|_| put_all(&mut here, keys)),
         _ => put_each(&mut here, keys),
     }
     match step {

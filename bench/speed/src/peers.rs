@@ -60,7 +60,7 @@ pub fn filled(keys: &[u64]) -> Plain {
     map
 }
 
-/// The steps of `measure_operations` that the map has.
+/// The steps of `ours::operations` that the map has.
 pub fn operations(keys: &[u64], step: u32, times: u32) {
     let mut map = Plain::new();
     let mut other = Plain::new();
@@ -76,6 +76,7 @@ pub fn operations(keys: &[u64], step: u32, times: u32) {
         1 => keys.iter().for_each(|key| put(&mut map, 1, *key)),
         2 => keys.iter().for_each(|key| remove(&mut map, *key)),
         3 => (0..READS).for_each(|_| get_each(&map, keys)),
+        15 => (0..times).for_each(|_| keys.iter().for_each(|key| put(&mut map, 1, *key))),
         _ => {}
     }
     drop(black_box((map, other)));
