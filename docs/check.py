@@ -6,9 +6,10 @@ It ends with status 1 where there is one.
 
 A finding is a line over 100 columns outside tables and fenced code, a table's cell of over 200
 characters, a path that is not there, a page with more words than the list gives it (without what a
-script writes into it), code that a page says to have from a program that does not have it, and a page
-or a picture that a script makes and that is not what it would make now. What is built (out/) and names
-in capitals that stand for another (crates/CRATE/src) are not looked for.
+script writes into it), code that a page says to have from a program that does not have it, a number
+of wrong bodies that is not theirs, and a page or a picture that a script makes and that is not what it
+would make now. What is built (out/) and names in capitals that stand for another (crates/CRATE/src) are
+not looked for.
 """
 
 import glob
@@ -52,6 +53,8 @@ NAMED = re.compile(
 PLACEHOLDER = re.compile(r"[A-Z]+")
 # Code that a page has from a program.
 SNIPPET = re.compile(r"<!-- from: (\S+) -->\n```\w*\n(.*?)```", re.S)
+# How many wrong bodies a page says that there are.
+BODIES = re.compile(r"(\d+) wrong bodies")
 # What a script writes into a page is not counted among its words.
 MADE_PART = re.compile(r"<!-- made: \w+ -->.*?<!-- end -->", re.S)
 
@@ -108,6 +111,10 @@ def findings(page, most):
         with open(os.path.join(ROOT, path), encoding="utf-8") as it:
             if code not in it.read():
                 yield f"{page}:1: this does not stand in {path}: {code.strip().splitlines()[0]}"
+    edits = len(glob.glob(os.path.join(ROOT, "crates/*/must-fail/*.edit")))
+    for told in BODIES.findall(text):
+        if int(told) != edits:
+            yield f"{page}:1: {told} wrong bodies, where there are {edits}"
     is_code = False
     for number, line in enumerate(text.splitlines(), 1):
         if FENCE.match(line):
