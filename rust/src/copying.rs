@@ -14,6 +14,18 @@ pub(crate) fn text(mut copy: impl FnMut(&mut [u8], &mut usize) -> u32) -> Result
     }
 }
 
+/// So many things, each by its place, in a list that has room for no more.
+pub(crate) fn each<T>(
+    count: usize,
+    thing: impl Fn(usize) -> Result<T, Error>,
+) -> Result<Vec<T>, Error> {
+    let mut things = Vec::with_capacity(count);
+    for at in 0..count {
+        things.push(thing(at)?);
+    }
+    Ok(things)
+}
+
 /// The root digest that this call copies, or None where there is no key.
 pub(crate) fn digest(copy: impl FnOnce(*mut u8, usize, &mut usize) -> u32) -> Option<[u8; 32]> {
     let (mut digest, mut length) = ([0; 32], 0);

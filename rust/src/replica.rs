@@ -88,11 +88,15 @@ impl Replica {
         Error::check(call(self.handle.get()))
     }
 
-    fn texts(&self) -> Result<Vec<Letter>, Error> {
+    fn count(&self) -> Result<usize, Error> {
         let mut count = 0;
         // SAFETY: what is told has room, here and below; a slice is a pointer and its length.
         self.call(|here| unsafe { calls::ginelm_count(here, &mut count) })?;
-        (0..count).map(|at| self.text(at)).collect()
+        Ok(count)
+    }
+
+    fn texts(&self) -> Result<Vec<Letter>, Error> {
+        copying::each(self.count()?, |at| self.text(at))
     }
 
     fn text(&self, at: usize) -> Result<Letter, Error> {
@@ -109,7 +113,7 @@ impl Replica {
 
     fn read(&self, call: impl FnOnce(*mut Handle) -> u32) -> Result<Texts, Error> {
         self.call(call)?;
-        let found: Vec<Vec<u8>> = self.texts()?.into_iter().map(|text| text.bytes).collect();
+        let found = copying::each(self.count()?, |at| Ok(self.text(at)?.bytes))?;
         Ok(Texts(found.into_iter()))
     }
 

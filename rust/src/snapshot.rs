@@ -54,8 +54,8 @@ impl Snapshot {
         let mut count = 0;
         // SAFETY: what is told has room, here and below; a slice is a pointer and its length.
         self.call(|here| unsafe { calls::ginelm_snapshot_count(here, &mut count) })?;
-        let found: Result<Vec<Vec<u8>>, Error> = (0..count).map(|at| self.text(at)).collect();
-        Ok(Texts(found?.into_iter()))
+        let found = copying::each(count, |at| self.text(at))?;
+        Ok(Texts(found.into_iter()))
     }
 
     fn text(&self, at: usize) -> Result<Vec<u8>, Error> {
