@@ -41,9 +41,10 @@
  *
  * What a call gives more than a number of stands behind the handle as texts, until the next call that
  * gives texts: ginelm_get, ginelm_get_field, ginelm_values_of_key, ginelm_keys, ginelm_fields,
- * ginelm_changes, ginelm_flush, ginelm_take, ginelm_take_unguarded, ginelm_joined_by, ginelm_ask,
- * ginelm_retry and ginelm_save. They are read by ginelm_count and ginelm_text. Those of a snapshot
- * stand behind its own handle, and are read by ginelm_snapshot_count and ginelm_snapshot_text.
+ * ginelm_changes, ginelm_flush, ginelm_flush_at_most, ginelm_take, ginelm_take_unguarded,
+ * ginelm_joined_by, ginelm_ask, ginelm_retry and ginelm_save. They are read by ginelm_count and
+ * ginelm_text. Those of a snapshot stand behind its own handle, and are read by
+ * ginelm_snapshot_count and ginelm_snapshot_text.
  */
 #ifndef GINELM_H
 #define GINELM_H
