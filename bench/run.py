@@ -3,8 +3,8 @@
 
     python3 bench/run.py [PART ..]
 
-The parts are calls, fields, worst, waiting, sync, digests, changes, saves, small and large; with none named, all are measured and the file is written,
-and else they are printed. It goes through the crate in rust/ over the library that c/build.sh made, as a program in Rust would. It needs Debian's
+The parts are calls, fields, worst, waiting, sync, digests, changes, saves, small and large; with none named, all are measured and their sections of the
+file are made anew, and else they are printed. It goes through the crate in rust/ over the library that c/build.sh made, as a program in Rust would. It needs Debian's
 librust-crdts-dev, librust-im-rc-dev, librust-bincode-dev and librust-sha2-dev, and no network.
 """
 import os
@@ -38,6 +38,12 @@ def processor():
     return platform.machine()
 
 
+def sections(text):
+    """What stands before the first section, and the sections by their headings."""
+    first, *rest = ("\n" + text).split("\n## ")
+    return first.strip(), {it.partition("\n")[0]: it.strip() for it in rest}
+
+
 def main():
     """Measures, and writes what was measured."""
     parts = sys.argv[1:]
@@ -49,8 +55,10 @@ def main():
         return
     tables = subprocess.run(command, capture_output=True, text=True, check=True).stdout
     commit = subprocess.run(["git", "rev-parse", "--short", "HEAD"], cwd=ROOT, capture_output=True, text=True, check=True)
-    head = f"# What was measured\n\nBy `python3 bench/run.py`, on one processor ({processor()}), at commit {commit.stdout.strip()}.\n"
-    (ROOT / "bench" / "results.md").write_text(head + tables)
+    head = f"# What was measured\n\nBy `python3 bench/run.py`, on one processor ({processor()}), at commit {commit.stdout.strip()}."
+    results = ROOT / "bench" / "results.md"
+    kept = sections(results.read_text())[1] | sections(tables)[1]
+    results.write_text("\n\n## ".join([head, *kept.values()]) + "\n")
 
 
 if __name__ == "__main__":
