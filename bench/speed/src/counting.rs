@@ -1,8 +1,12 @@
 //! What is taken of the heap: the linker puts these in the places of malloc, calloc, realloc and free (--wrap), for the library that
-//! is measured and for what it is compared with.
+//! is measured and for what it is compared with. They count only while it is asked for, as counting takes as long as a malloc.
 use std::ffi::c_void;
-use std::sync::atomic::{AtomicUsize, Ordering::Relaxed};
+use std::sync::atomic::{AtomicBool, AtomicUsize, Ordering::Relaxed};
 
+/// What is live when counting begins: what was there before may be freed meanwhile.
+const AT_FIRST: usize = 1 << 40;
+
+static COUNTS: AtomicBool = AtomicBool::new(false);
 static LIVE: AtomicUsize = AtomicUsize::new(0);
 static MOST: AtomicUsize = AtomicUsize::new(0);
 static CALLS: AtomicUsize = AtomicUsize::new(0);
@@ -24,15 +28,18 @@ fn cost(block: *mut c_void) -> usize {
 }
 
 fn add(block: *mut c_void) -> *mut c_void {
-    CALLS.fetch_add(1, Relaxed);
-    let added = cost(block);
-    let live = LIVE.fetch_add(added, Relaxed).wrapping_add(added);
-    MOST.fetch_max(live, Relaxed);
+    if COUNTS.load(Relaxed) {
+        CALLS.fetch_add(1, Relaxed);
+        let added = cost(block);
+        MOST.fetch_max(LIVE.fetch_add(added, Relaxed) + added, Relaxed);
+    }
     block
 }
 
 fn take(block: *mut c_void) {
-    LIVE.fetch_sub(cost(block), Relaxed);
+    if COUNTS.load(Relaxed) {
+        LIVE.fetch_sub(cost(block), Relaxed);
+    }
 }
 
 #[no_mangle]
@@ -57,17 +64,23 @@ unsafe extern "C" fn __wrap_free(old: *mut c_void) {
     unsafe { __real_free(old) }
 }
 
+fn count(run: impl FnOnce()) {
+    CALLS.store(0, Relaxed);
+    LIVE.store(AT_FIRST, Relaxed);
+    MOST.store(AT_FIRST, Relaxed);
+    COUNTS.store(true, Relaxed);
+    run();
+    COUNTS.store(false, Relaxed);
+}
+
 /// How often memory was asked for in the run.
 pub fn calls(run: impl FnOnce()) -> usize {
-    let before = CALLS.load(Relaxed);
-    run();
-    CALLS.load(Relaxed) - before
+    count(run);
+    CALLS.load(Relaxed)
 }
 
 /// The most bytes that were live at once in the run, above those at its start.
 pub fn most_live(run: impl FnOnce()) -> usize {
-    let before = LIVE.load(Relaxed);
-    MOST.store(before, Relaxed);
-    run();
-    MOST.load(Relaxed) - before
+    count(run);
+    MOST.load(Relaxed) - AT_FIRST
 }

@@ -255,39 +255,52 @@ fn fields() -> Table {
 }
 
 /// What one lost message costs those behind it, and what keys of one hash cost.
+/// What it takes a replica to take in the messages of these puts, of which the first are lost, and then to put each itself: the least of
+/// twenty runs.
+fn taken_and_put(keys: &[u64], lost: usize) -> (f64, f64) {
+    let letters = ours::letters(keys);
+    let mut least = (f64::INFINITY, f64::INFINITY);
+    for _ in 0..20 {
+        let mut there = ours::replica(2);
+        let taking = once(&mut || ours::take_each(&mut there, &letters[lost..]));
+        let putting = once(&mut || ours::put_each(&mut there, keys));
+        least = (least.0.min(taking), least.1.min(putting));
+    }
+    least
+}
+
 fn worst() -> Table {
     let mut table = Table::new(
         "What is worst in ordinary use: milliseconds, beside the same without it",
         ["without", "", ""],
     );
-    let keys = keys::random(5_000);
-    let ours = |step, times| move |keys: &[u64]| ours::operations(keys, step, times);
     let row = |name: &str, whole: f64, other: f64, aim| {
-        Row::beside(name, whole / 1e3, other / 1e3, Some(aim))
+        Row::beside(name, 1e3 * whole, 1e3 * other, Some(aim))
     };
-    let (lost, none) = (ours(11, 0), ours(5, 1));
-    let unsent = ours(5, 0);
+    let keys = keys::random(5_000);
+    let (behind, none) = (taken_and_put(&keys, 1), taken_and_put(&keys, 0));
     table.push(row(
         "5,000 messages behind a lost one",
-        beyond(|| lost(&keys), || unsent(&keys), 1),
-        beyond(|| none(&keys), || unsent(&keys), 1),
+        behind.0,
+        none.0,
         1.3,
     ));
-    let (behind, ahead) = (ours(13, 1), ours(13, 0));
-    table.push(row(
-        "5,000 own writes behind them",
-        beyond(|| behind(&keys), || lost(&keys), 1),
-        beyond(|| ahead(&keys), || none(&keys), 1),
-        1.3,
-    ));
+    table.push(row("5,000 own writes behind them", behind.1, none.1, 1.3));
     let (one, many) = (keys::of_one_hash(), keys::of_many_hashes());
     table.push(row(
         "8,192 keys of one hash, put",
-        beyond(|| ours::texts(&one, 65), || (), 1),
-        beyond(|| ours::texts(&many, 65), || (), 1),
+        seconds(|| ours::texts(&one, 65)),
+        seconds(|| ours::texts(&many, 65)),
         3.0,
     ));
     table
+}
+
+/// The least of five runs of what tells its time.
+fn least(run: impl FnMut() -> f64) -> f64 {
+    std::iter::repeat_with(run)
+        .take(5)
+        .fold(f64::INFINITY, f64::min)
 }
 
 fn waiting() -> Table {
@@ -295,38 +308,50 @@ fn waiting() -> Table {
         "Writes that wait to be sent: microseconds a write",
         ["crdts", "", ""],
     );
+    let mut push = |name: &str, writes: usize, ours: f64, theirs: f64| {
+        let each = |seconds: f64| 1e6 * seconds / writes as f64;
+        table.push(Row::beside(name, each(ours), each(theirs), None));
+    };
     let keys = keys::random(1_000);
-    let ours = |step, times| move |keys: &[u64]| ours::operations(keys, step, times);
-    let peer = |step, times| move |keys: &[u64]| peers::operations(keys, step, times);
-    let (often, once) = (ours(15, 100), ours(7, 0));
-    let (their_often, their_once) = (peer(15, 100), peer(0, 0));
-    let writes = 100 * keys.len();
-    table.push(Row::beside(
-        "1,000 keys, each 100 times again, never sent",
-        beyond(|| often(&keys), || once(&keys), writes),
-        beyond(|| their_often(&keys), || their_once(&keys), writes),
-        None,
-    ));
+    let ours = least(|| {
+        let mut here = ours::replica(1);
+        ours::put_all(&mut here, &keys);
+        once(&mut || (0..100).for_each(|_| ours::put_all(&mut here, &keys)))
+    });
+    let theirs = least(|| {
+        let mut map = peers::filled(&keys);
+        let mut put_all = || keys.iter().for_each(|key| peers::put(&mut map, 1, *key));
+        once(&mut || (0..100).for_each(|_| put_all()))
+    });
+    let name = "1,000 keys, each 100 times again, never sent";
+    push(name, 100 * keys.len(), ours, theirs);
     let keys = keys::random(10_000);
-    let sent = peer(5, 0);
-    let theirs = beyond(|| sent(&keys), || their_once(&keys), keys.len());
-    for (name, most) in [
-        ("10,000 puts sent at once", u32::MAX),
-        ("10,000 puts sent by 4,096 bytes", 4_096),
-    ] {
-        let whole = ours(14, most);
-        let each = beyond(|| whole(&keys), || once(&keys), keys.len());
-        table.push(Row::beside(name, each, theirs, None));
-    }
+    let puts = peers::puts(&keys);
+    let theirs = seconds(|| puts.iter().for_each(|op| drop(black_box(peers::sent(op)))));
+    let mut sent = |name: &str, send: &dyn Fn(&mut Replica)| {
+        let ours = least(|| {
+            let mut here = ours::replica(1);
+            ours::put_all(&mut here, &keys);
+            once(&mut || send(&mut here))
+        });
+        push(name, keys.len(), ours, theirs);
+    };
+    sent("10,000 puts sent at once", &|here| {
+        drop(black_box(ours::flush(here)))
+    });
+    sent("10,000 puts sent by 4,096 bytes", &|here| {
+        ours::send_by(here, 4_096)
+    });
     table
 }
 
-/// Two replicas of so many keys that differ at some of them, at both ends together.
 fn synchronisations(count: usize) -> Table {
     let keys = keys::random(count);
     let mut pair = ours::equal_replicas(&keys);
     let mut table = Table::new(
-        &format!("Two replicas of {count} keys: milliseconds at both ends, with the bytes of all messages"),
+        &format!(
+            "Two replicas of {count} keys: milliseconds at both ends, with the bytes of all messages"
+        ),
         ["crdts' merge of the whole", "", ""],
     );
     for differ in [0, 1, 100, 10_000] {

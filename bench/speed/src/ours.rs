@@ -1,5 +1,5 @@
 //! The calls of a replica, by the crate of `rust/` over the C library: what a program in Rust holds.
-use crate::keys::{bytes, READS};
+use crate::keys::{READS, bytes};
 use ginelm::{Letter, Replica};
 use std::hint::black_box;
 use std::num::NonZeroU64;
@@ -22,7 +22,7 @@ pub fn flush(here: &mut Replica) -> Option<Letter> {
     here.flush().expect("memory")
 }
 
-fn put_each(here: &mut Replica, keys: &[u64]) {
+pub fn put_each(here: &mut Replica, keys: &[u64]) {
     for key in keys {
         put(here, *key);
         drop(black_box(flush(here)));
@@ -57,16 +57,25 @@ fn put_and_send(here: &mut Replica, there: &mut Replica, keys: &[u64], times: u3
     }
 }
 
-/// Sends each put there but the first, which is lost.
-fn put_and_lose_one(here: &mut Replica, there: &mut Replica, keys: &[u64]) {
-    put(here, keys[0]);
-    drop(flush(here));
-    put_and_send(here, there, &keys[1..], 1);
+/// The message of each put.
+pub fn letters(keys: &[u64]) -> Vec<Letter> {
+    let mut here = replica(1);
+    let sent = keys.iter().map(|key| {
+        put(&mut here, *key);
+        flush(&mut here).expect("it was put")
+    });
+    sent.collect()
 }
 
-fn put_and_send_by(here: &mut Replica, keys: &[u64], most: u32) {
-    put_all(here, keys);
-    while let Some(letter) = here.flush_at_most(most.into()).expect("memory") {
+pub fn take_each(there: &mut Replica, letters: &[Letter]) {
+    for letter in letters {
+        black_box(there.take(&letter.bytes).expect("a message"));
+    }
+}
+
+/// Sends what waits by so many bytes.
+pub fn send_by(here: &mut Replica, most: u64) {
+    while let Some(letter) = here.flush_at_most(most).expect("memory") {
         drop(black_box(letter));
     }
 }
@@ -80,10 +89,8 @@ fn remove_and_send(here: &mut Replica, there: &mut Replica, keys: &[u64], times:
 
 /// Puts a value of 16 bytes on each of the keys, eight bytes each, at a replica, and flushes each put; then the step: 0 nothing, 1 puts
 /// each again, 2 removes each, 3 gets each. 5 puts each and sends each put to another replica so many times; 6 does that once, and then
-/// removes each and sends that so many times; 7 puts each with no flush, and 8 puts each again then; 11 does what 5 does once, but the
-/// message of the first put is lost; 12 puts each and sends them by so many at once; 13 does what 5 does once, or what 11 does where the
-/// times are not zero, and then puts each at the other replica; 14 puts each with no flush, and then sends them by so many bytes; 15 puts
-/// each with no flush, and then so many times again.
+/// removes each and sends that so many times; 7 puts each with no flush, and 8 puts each again then; 12 puts each and sends them by so
+/// many at once.
 pub fn operations(keys: &[u64], step: u32, times: u32) {
     let (mut here, mut there) = (replica(1), replica(2));
     match step {
@@ -97,20 +104,10 @@ pub fn operations(keys: &[u64], step: u32, times: u32) {
             put_all(&mut here, keys);
             put_all(&mut here, keys);
         }
-        11 => put_and_lose_one(&mut here, &mut there, keys),
         12 => keys.chunks(times as usize).for_each(|some| {
             put_all(&mut here, some);
             send(&mut here, &mut there, 1);
         }),
-        13 => {
-            match times {
-                0 => put_and_send(&mut here, &mut there, keys, 1),
-                _ => put_and_lose_one(&mut here, &mut there, keys),
-            }
-            put_each(&mut there, keys);
-        }
-        14 => put_and_send_by(&mut here, keys, times),
-        15 => (0..=times).for_each(|_| put_all(&mut here, keys)),
         _ => put_each(&mut here, keys),
     }
     match step {

@@ -1,6 +1,6 @@
 //! The same work by what a user would pick instead: `Map` from keys to multi-value registers of the crate `crdts`, whose messages are
 //! its operations by bincode, and a map of std and of im-rc without any replication.
-use crate::keys::{bytes, READS};
+use crate::keys::{READS, bytes};
 use crdts::{CmRDT, CvRDT, MVReg, Map};
 use im_rc::ordmap::DiffItem;
 use std::collections::BTreeMap;
@@ -9,7 +9,7 @@ use std::hint::black_box;
 type Bytes = Vec<u8>;
 type Register = MVReg<Bytes, u64>;
 pub type Plain = Map<Bytes, Register, u64>;
-type Op = crdts::map::Op<Bytes, Register, u64>;
+pub type Op = crdts::map::Op<Bytes, Register, u64>;
 pub type Nested = Map<Bytes, Map<Bytes, Register, u64>, u64>;
 
 fn value() -> Bytes {
@@ -31,9 +31,25 @@ pub fn put(map: &mut Plain, actor: u64, key: u64) {
 /// A put, and the bytes of its message.
 fn put_and_send(map: &mut Plain, actor: u64, key: u64) -> Bytes {
     let op = made(map, actor, key);
-    let message = bincode::serialize(&op).unwrap();
+    let message = sent(&op);
     map.apply(op);
     message
+}
+
+/// The bytes of a message.
+pub fn sent(op: &Op) -> Bytes {
+    bincode::serialize(op).unwrap()
+}
+
+/// The operations of a put of each key.
+pub fn puts(keys: &[u64]) -> Vec<Op> {
+    let mut map = Plain::new();
+    let made = keys.iter().map(|key| {
+        let op = made(&map, 1, *key);
+        map.apply(op.clone());
+        op
+    });
+    made.collect()
 }
 
 fn deliver(map: &mut Plain, message: &[u8]) {
@@ -76,7 +92,6 @@ pub fn operations(keys: &[u64], step: u32, times: u32) {
         1 => keys.iter().for_each(|key| put(&mut map, 1, *key)),
         2 => keys.iter().for_each(|key| remove(&mut map, *key)),
         3 => (0..READS).for_each(|_| get_each(&map, keys)),
-        15 => (0..times).for_each(|_| keys.iter().for_each(|key| put(&mut map, 1, *key))),
         _ => {}
     }
     drop(black_box((map, other)));
