@@ -43,175 +43,105 @@ fn seconds(mut run: impl FnMut()) -> f64 {
     (0..5).map(|_| once(&mut run)).fold(f64::INFINITY, f64::min)
 }
 
+/// The least of five runs of what tells its time.
+fn least(run: impl FnMut() -> f64) -> f64 {
+    std::iter::repeat_with(run)
+        .take(5)
+        .fold(f64::INFINITY, f64::min)
+}
+
 /// What the whole takes beyond the part that comes before it, in microseconds a call.
 fn beyond(whole: impl Fn(), before: impl Fn(), calls: usize) -> f64 {
     1e6 * (seconds(whole) - seconds(before)) / calls as f64
 }
 
-/// How often a call asks for memory, beyond the part that comes before it.
-fn mallocs(whole: impl Fn(), before: impl Fn(), calls: usize) -> f64 {
-    (counting::calls(whole) as f64 - counting::calls(before) as f64) / calls as f64
-}
+/// What tells of a run how long it takes, or how often it asks for memory.
+pub type Measure<'a> = &'a mut dyn FnMut(&mut dyn FnMut()) -> f64;
 
-/// A step of a replica, and what comes before it.
-struct Step {
-    name: &'static str,
-    step: (u32, u32),
-    before: Option<(u32, u32)>,
-    /// The same of the peer.
-    peer: Option<((u32, u32), Option<(u32, u32)>)>,
-    /// The same step of a plain map.
-    plain: Option<u32>,
-    aim: Option<f64>,
-}
-
-impl Step {
-    /// How many calls it makes at each key.
-    fn each(&self) -> usize {
-        match self.step.0 {
-            3 => keys::READS,
-            _ => 1,
-        }
-    }
-}
-
-const STEPS: [Step; 9] = [
-    Step {
-        name: "put and flush",
-        step: (0, 0),
-        before: None,
-        peer: Some(((0, 0), None)),
-        plain: Some(0),
-        aim: Some(1.2),
-    },
-    Step {
-        name: "overwrite and flush",
-        step: (1, 0),
-        before: Some((0, 0)),
-        peer: Some(((1, 0), Some((0, 0)))),
-        plain: Some(1),
-        aim: Some(1.5),
-    },
-    Step {
-        name: "remove and flush",
-        step: (2, 0),
-        before: Some((0, 0)),
-        peer: Some(((2, 0), Some((0, 0)))),
-        plain: Some(2),
-        aim: Some(1.2),
-    },
-    Step {
-        name: "put, no flush",
-        step: (7, 0),
-        before: None,
-        peer: Some(((0, 0), None)),
-        plain: Some(0),
-        aim: Some(1.2),
-    },
-    Step {
-        name: "overwrite, no flush",
-        step: (8, 0),
-        before: Some((7, 0)),
-        peer: Some(((1, 0), Some((0, 0)))),
-        plain: Some(1),
-        aim: Some(1.5),
-    },
-    Step {
-        name: "get",
-        step: (3, 0),
-        before: Some((0, 0)),
-        peer: Some(((3, 0), Some((0, 0)))),
-        plain: Some(3),
-        aim: Some(0.5),
-    },
-    Step {
-        name: "deliver of a put, its bytes",
-        step: (5, 1),
-        before: Some((5, 0)),
-        peer: Some(((5, 1), Some((5, 0)))),
-        plain: None,
-        aim: Some(0.8),
-    },
-    Step {
-        name: "deliver of it again",
-        step: (5, 2),
-        before: Some((5, 1)),
-        peer: Some(((5, 2), Some((5, 1)))),
-        plain: None,
-        aim: Some(3.0),
-    },
-    Step {
-        name: "deliver of a remove",
-        step: (6, 1),
-        before: Some((6, 0)),
-        peer: None,
-        plain: None,
-        aim: None,
-    },
+/// The steps that are measured of a replica, with what each may take of what the peer takes.
+const STEPS: [(&str, Option<f64>); 10] = [
+    ("put and flush", Some(1.2)),
+    ("overwrite and flush", Some(1.5)),
+    ("remove and flush", Some(1.2)),
+    ("put, no flush", Some(1.2)),
+    ("overwrite, no flush", Some(1.5)),
+    ("get", Some(0.5)),
+    ("deliver of a put, its bytes", Some(0.8)),
+    ("deliver of it again, at once", Some(3.0)),
+    ("deliver of it again, after all others", None),
+    ("deliver of a remove", None),
 ];
 
-/// What the step takes, and what comes before it where there is something, of one side.
-fn cost(
-    run: &dyn Fn(u32, u32),
-    step: (u32, u32),
-    before: Option<(u32, u32)>,
-    calls: usize,
-) -> (f64, f64) {
-    let whole = || run(step.0, step.1);
-    let part = || {
-        if let Some(before) = before {
-            run(before.0, before.1);
+/// The microseconds of a call of each step, by the least of five runs, each of so many rounds.
+fn times(
+    keys: &[u64],
+    rounds: usize,
+    steps: impl Fn(Measure) -> [Option<f64>; 10],
+) -> [Option<f64>; 10] {
+    let mut least = [None; 10];
+    for _ in 0..5 {
+        let mut sums = [None; 10];
+        for _ in 0..rounds {
+            let some = steps(&mut |run| once(run));
+            for (sum, time) in sums.iter_mut().zip(some) {
+                *sum = time.map(|time| sum.unwrap_or(0.0) + time);
+            }
         }
-    };
-    (beyond(whole, part, calls), mallocs(whole, part, calls))
+        for (least, sum) in least.iter_mut().zip(sums) {
+            *least = sum.map(|sum| least.unwrap_or(f64::INFINITY).min(sum));
+        }
+    }
+    least.map(|sum| sum.map(|sum| 1e6 * sum / (rounds * keys.len()) as f64))
 }
 
-/// Calls of a replica of so many keys.
+/// How often a call of each step asks for memory.
+fn mallocs(keys: &[u64], steps: impl Fn(Measure) -> [Option<f64>; 10]) -> [Option<f64>; 10] {
+    let asked = steps(&mut |run| counting::calls(run) as f64);
+    asked.map(|asked| asked.map(|asked| asked / keys.len() as f64))
+}
+
 fn calls(count: usize) -> Table {
     let keys = keys::random(count);
-    let runs = (100_000 / count).max(1);
-    let often = |run: &dyn Fn()| (0..runs).for_each(|_| run());
-    let ours = |step, times| often(&|| ours::operations(&keys, step, times));
-    let peer = |step, times| often(&|| peers::operations(&keys, step, times));
+    let rounds = (100_000 / count).max(1);
+    let ours = |measure: Measure| ours::steps(&keys, measure).map(Some);
+    let theirs = |measure: Measure| peers::steps(&keys, measure);
+    let asked = (mallocs(&keys, ours), mallocs(&keys, theirs));
+    let ours = times(&keys, rounds, ours);
+    let peers = [
+        times(&keys, rounds, theirs),
+        times(&keys, rounds, |measure| peers::std_map(&keys, measure)),
+        times(&keys, rounds, |measure| peers::shared_map(&keys, measure)),
+    ];
     let mut table = Table::new(
         &format!("A replica of {count} keys of 8 bytes, values of 16: microseconds a call"),
         ["crdts", "BTreeMap", "im-rc"],
     );
-    for step in &STEPS {
-        let calls = count * runs * step.each();
-        let (each, mallocs) = cost(&ours, step.step, step.before, calls);
-        let theirs = step
-            .peer
-            .map(|(step, before)| cost(&peer, step, before, calls));
-        let plain = |run: fn(&[u64], u32)| {
-            step.plain.map(|plain| {
-                let map = |step, _| often(&|| run(&keys, step));
-                let before = if plain == 0 { None } else { Some((0, 0)) };
-                cost(&map, (plain, 0), before, calls).0
-            })
-        };
+    for (at, (name, aim)) in STEPS.iter().enumerate() {
         table.push(Row {
-            name: step.name.into(),
-            ours: each,
-            peers: [
-                theirs.map(|cost| cost.0),
-                plain(peers::std_map),
-                plain(peers::shared_map),
-            ],
-            aim: step.aim,
-            mallocs: Some((mallocs, theirs.map(|cost| cost.1))),
+            name: (*name).into(),
+            ours: ours[at].expect("it was measured"),
+            peers: peers.map(|times| times[at]),
+            aim: *aim,
+            mallocs: asked.0[at].map(|asked_here| (asked_here, asked.1[at])),
         });
     }
     for many in [100, 10_000] {
         if many <= count {
-            let each = beyond(|| ours(12, many as u32), || ours(7, 0), count * runs);
+            let take = || {
+                (0..rounds)
+                    .map(|_| ours::take_by(&keys, many, &mut |run| once(run)))
+                    .sum()
+            };
             table.push(Row::alone(
                 &format!("deliver of {many} puts at once, an entry"),
-                each,
+                1e6 * least(take) / (rounds * count) as f64,
             ));
         }
     }
-    let held = counting::most_live(|| ours::operations(&keys, 0, 0)) as f64;
+    let held = counting::most_live(|| {
+        let mut here = ours::replica(1);
+        ours::put_each(&mut here, &keys);
+    }) as f64;
     let theirs = counting::most_live(|| drop(black_box(peers::filled(&keys)))) as f64;
     table.push(Row {
         name: "bytes of a key".into(),
@@ -294,13 +224,6 @@ fn worst() -> Table {
         3.0,
     ));
     table
-}
-
-/// The least of five runs of what tells its time.
-fn least(run: impl FnMut() -> f64) -> f64 {
-    std::iter::repeat_with(run)
-        .take(5)
-        .fold(f64::INFINITY, f64::min)
 }
 
 fn waiting() -> Table {

@@ -1,4 +1,5 @@
 //! The calls of a replica, by the crate of `rust/` over the C library: what a program in Rust holds.
+use crate::Measure;
 use crate::keys::{READS, bytes};
 use ginelm::{Letter, Replica};
 use std::hint::black_box;
@@ -12,6 +13,10 @@ pub fn replica(name: u64) -> Replica {
 
 fn put(here: &mut Replica, key: u64) {
     here.put(&bytes(key), &VALUE).expect("memory");
+}
+
+fn remove(here: &mut Replica, key: u64) {
+    here.remove(&bytes(key)).expect("memory");
 }
 
 pub fn put_all(here: &mut Replica, keys: &[u64]) {
@@ -31,7 +36,7 @@ pub fn put_each(here: &mut Replica, keys: &[u64]) {
 
 fn remove_each(here: &mut Replica, keys: &[u64]) {
     for key in keys {
-        here.remove(&bytes(*key)).expect("memory");
+        remove(here, *key);
         drop(black_box(flush(here)));
     }
 }
@@ -42,35 +47,26 @@ fn get_each(here: &Replica, keys: &[u64]) {
     }
 }
 
-/// Sends what was made here there so many times.
-fn send(here: &mut Replica, there: &mut Replica, times: u32) {
-    let letter = flush(here).expect("something was written");
-    for _ in 0..times {
-        there.take(&letter.bytes).expect("memory");
-    }
-}
-
-fn put_and_send(here: &mut Replica, there: &mut Replica, keys: &[u64], times: u32) {
-    for key in keys {
-        put(here, *key);
-        send(here, there, times);
-    }
-}
-
-/// The message of each put.
-pub fn letters(keys: &[u64]) -> Vec<Letter> {
-    let mut here = replica(1);
+/// The message of each write.
+fn sent_by(here: &mut Replica, keys: &[u64], write: fn(&mut Replica, u64)) -> Vec<Letter> {
     let sent = keys.iter().map(|key| {
-        put(&mut here, *key);
-        flush(&mut here).expect("it was put")
+        write(here, *key);
+        flush(here).expect("it was written")
     });
     sent.collect()
 }
 
+/// The message of each put.
+pub fn letters(keys: &[u64]) -> Vec<Letter> {
+    sent_by(&mut replica(1), keys, put)
+}
+
+fn take(there: &mut Replica, letter: &Letter) {
+    black_box(there.take(&letter.bytes).expect("a message"));
+}
+
 pub fn take_each(there: &mut Replica, letters: &[Letter]) {
-    for letter in letters {
-        black_box(there.take(&letter.bytes).expect("a message"));
-    }
+    letters.iter().for_each(|letter| take(there, letter));
 }
 
 /// Sends what waits by so many bytes.
@@ -80,43 +76,56 @@ pub fn send_by(here: &mut Replica, most: u64) {
     }
 }
 
-fn remove_and_send(here: &mut Replica, there: &mut Replica, keys: &[u64], times: u32) {
-    for key in keys {
-        here.remove(&bytes(*key)).expect("memory");
-        send(here, there, times);
-    }
+/// What the steps take that `STEPS` names, as `measure` tells of each: how long it takes, or how often it asks for memory.
+pub fn steps(keys: &[u64], measure: Measure) -> [f64; 10] {
+    let mut here = replica(1);
+    let put = measure(&mut || put_each(&mut here, keys));
+    let overwrite = measure(&mut || put_each(&mut here, keys));
+    let get = measure(&mut || (0..READS).for_each(|_| get_each(&here, keys)));
+    let remove = measure(&mut || remove_each(&mut here, keys));
+    here = replica(1);
+    let put_alone = measure(&mut || put_all(&mut here, keys));
+    let overwrite_alone = measure(&mut || put_all(&mut here, keys));
+    here = replica(1);
+    let puts = sent_by(&mut here, keys, self::put);
+    let removes = sent_by(&mut here, keys, self::remove);
+    let mut there = replica(2);
+    let take_once = measure(&mut || take_each(&mut there, &puts));
+    let late = measure(&mut || take_each(&mut there, &puts));
+    let take_remove = measure(&mut || take_each(&mut there, &removes));
+    there = replica(2);
+    let twice = measure(&mut || {
+        for letter in &puts {
+            take(&mut there, letter);
+            take(&mut there, letter);
+        }
+    });
+    let each = get / READS as f64;
+    let again = twice - take_once;
+    [
+        put,
+        overwrite,
+        remove,
+        put_alone,
+        overwrite_alone,
+        each,
+        take_once,
+        again,
+        late,
+        take_remove,
+    ]
 }
 
-/// Puts a value of 16 bytes on each of the keys, eight bytes each, at a replica, and flushes each put; then the step: 0 nothing, 1 puts
-/// each again, 2 removes each, 3 gets each. 5 puts each and sends each put to another replica so many times; 6 does that once, and then
-/// removes each and sends that so many times; 7 puts each with no flush, and 8 puts each again then; 12 puts each and sends them by so
-/// many at once.
-pub fn operations(keys: &[u64], step: u32, times: u32) {
-    let (mut here, mut there) = (replica(1), replica(2));
-    match step {
-        5 => put_and_send(&mut here, &mut there, keys, times),
-        6 => {
-            put_and_send(&mut here, &mut there, keys, 1);
-            remove_and_send(&mut here, &mut there, keys, times);
-        }
-        7 => put_all(&mut here, keys),
-        8 => {
-            put_all(&mut here, keys);
-            put_all(&mut here, keys);
-        }
-        12 => keys.chunks(times as usize).for_each(|some| {
-            put_all(&mut here, some);
-            send(&mut here, &mut there, 1);
-        }),
-        _ => put_each(&mut here, keys),
-    }
-    match step {
-        1 => put_each(&mut here, keys),
-        2 => remove_each(&mut here, keys),
-        3 => (0..READS).for_each(|_| get_each(&here, keys)),
-        _ => {}
-    }
-    drop(black_box((here, there)));
+/// The messages of the puts, of so many each, and what it takes to take them in.
+pub fn take_by(keys: &[u64], many: usize, measure: Measure) -> f64 {
+    let mut here = replica(1);
+    let letters = keys.chunks(many).map(|some| {
+        put_all(&mut here, some);
+        flush(&mut here).expect("they were put")
+    });
+    let letters: Vec<Letter> = letters.collect();
+    let mut there = replica(2);
+    measure(&mut || take_each(&mut there, &letters))
 }
 
 /// Writes each number as a field of so many keys, in turn, and flushes each write.
@@ -172,7 +181,8 @@ fn synchronise(asker: &mut Replica, answerer: &mut Replica) -> Sent {
 pub fn equal_replicas(keys: &[u64]) -> (Replica, Replica) {
     let (mut asker, mut answerer) = (replica(1), replica(2));
     put_all(&mut answerer, keys);
-    send(&mut answerer, &mut asker, 1);
+    let all = flush(&mut answerer).expect("they were put");
+    asker.take(&all.bytes).expect("a message");
     synchronise(&mut asker, &mut answerer);
     (asker, answerer)
 }

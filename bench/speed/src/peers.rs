@@ -1,5 +1,6 @@
 //! The same work by what a user would pick instead: `Map` from keys to multi-value registers of the crate `crdts`, whose messages are
 //! its operations by bincode, and a map of std and of im-rc without any replication.
+use crate::Measure;
 use crate::keys::{READS, bytes};
 use crdts::{CmRDT, CvRDT, MVReg, Map};
 use im_rc::ordmap::DiffItem;
@@ -28,14 +29,6 @@ pub fn put(map: &mut Plain, actor: u64, key: u64) {
     map.apply(op);
 }
 
-/// A put, and the bytes of its message.
-fn put_and_send(map: &mut Plain, actor: u64, key: u64) -> Bytes {
-    let op = made(map, actor, key);
-    let message = sent(&op);
-    map.apply(op);
-    message
-}
-
 /// The bytes of a message.
 pub fn sent(op: &Op) -> Bytes {
     bincode::serialize(op).unwrap()
@@ -52,9 +45,17 @@ pub fn puts(keys: &[u64]) -> Vec<Op> {
     made.collect()
 }
 
-fn deliver(map: &mut Plain, message: &[u8]) {
+fn put_each(map: &mut Plain, keys: &[u64]) {
+    keys.iter().for_each(|key| put(map, 1, *key));
+}
+
+fn take(map: &mut Plain, message: &[u8]) {
     let op: Op = bincode::deserialize(message).unwrap();
     map.apply(op);
+}
+
+fn take_each(map: &mut Plain, messages: &[Bytes]) {
+    messages.iter().for_each(|message| take(map, message));
 }
 
 fn remove(map: &mut Plain, key: u64) {
@@ -76,25 +77,31 @@ pub fn filled(keys: &[u64]) -> Plain {
     map
 }
 
-/// The steps of `ours::operations` that the map has.
-pub fn operations(keys: &[u64], step: u32, times: u32) {
+/// The steps of `ours::steps` that the map has.
+pub fn steps(keys: &[u64], measure: Measure) -> [Option<f64>; 10] {
     let mut map = Plain::new();
+    let put = Some(measure(&mut || put_each(&mut map, keys)));
+    let overwrite = Some(measure(&mut || put_each(&mut map, keys)));
+    let get = measure(&mut || (0..READS).for_each(|_| get_each(&map, keys)));
+    let remove = Some(measure(&mut || {
+        keys.iter().for_each(|key| remove(&mut map, *key))
+    }));
+    let messages: Vec<Bytes> = puts(keys).iter().map(sent).collect();
     let mut other = Plain::new();
-    if step == 5 {
-        for key in keys {
-            let message = put_and_send(&mut map, 1, *key);
-            (0..times).for_each(|_| deliver(&mut other, &message));
+    let take_once = measure(&mut || take_each(&mut other, &messages));
+    let late = Some(measure(&mut || take_each(&mut other, &messages)));
+    other = Plain::new();
+    let twice = measure(&mut || {
+        for message in &messages {
+            take(&mut other, message);
+            take(&mut other, message);
         }
-    } else {
-        keys.iter().for_each(|key| put(&mut map, 1, *key));
-    }
-    match step {
-        1 => keys.iter().for_each(|key| put(&mut map, 1, *key)),
-        2 => keys.iter().for_each(|key| remove(&mut map, *key)),
-        3 => (0..READS).for_each(|_| get_each(&map, keys)),
-        _ => {}
-    }
-    drop(black_box((map, other)));
+    });
+    let (once, again) = (Some(take_once), Some(twice - take_once));
+    let each = Some(get / READS as f64);
+    [
+        put, overwrite, remove, put, overwrite, each, once, again, late, None,
+    ]
 }
 
 fn put_field(map: &mut Nested, key: u64, field: u64) {
@@ -125,44 +132,56 @@ pub fn merge(keys: &[u64], some: &[u64], seconds: &dyn Fn(&mut dyn FnMut()) -> f
     seconds(&mut || map.merge(copy.take().unwrap()))
 }
 
-/// The same calls on a map of std: put, and then 1 overwrite, 2 remove or 3 read each.
-pub fn std_map(keys: &[u64], step: u32) {
+/// The steps that a map of std has.
+pub fn std_map(keys: &[u64], measure: Measure) -> [Option<f64>; 10] {
     let mut map: BTreeMap<Bytes, Bytes> = BTreeMap::new();
-    keys.iter()
-        .for_each(|key| drop(map.insert(bytes(*key), value())));
-    for key in keys {
-        match step {
-            1 => drop(map.insert(bytes(*key), value())),
-            2 => drop(map.remove(&bytes(*key))),
-            _ => {}
+    let mut put_each = || {
+        for key in keys {
+            drop(map.insert(bytes(*key), value()));
         }
-    }
-    if step == 3 {
+    };
+    let put = Some(measure(&mut put_each));
+    let overwrite = Some(measure(&mut put_each));
+    let get = measure(&mut || {
         for key in (0..READS).flat_map(|_| keys) {
             drop(black_box(map.get(&bytes(*key)).cloned()));
         }
-    }
-    drop(black_box(map));
+    });
+    let remove = Some(measure(&mut || {
+        for key in keys {
+            drop(map.remove(&bytes(*key)));
+        }
+    }));
+    let each = Some(get / READS as f64);
+    [
+        put, overwrite, remove, put, overwrite, each, None, None, None, None,
+    ]
 }
 
 /// The same on a shared map of im-rc.
-pub fn shared_map(keys: &[u64], step: u32) {
+pub fn shared_map(keys: &[u64], measure: Measure) -> [Option<f64>; 10] {
     let mut map: im_rc::HashMap<Bytes, Bytes> = im_rc::HashMap::new();
-    keys.iter()
-        .for_each(|key| drop(map.insert(bytes(*key), value())));
-    for key in keys {
-        match step {
-            1 => drop(map.insert(bytes(*key), value())),
-            2 => drop(map.remove(&bytes(*key))),
-            _ => {}
+    let mut put_each = || {
+        for key in keys {
+            drop(map.insert(bytes(*key), value()));
         }
-    }
-    if step == 3 {
+    };
+    let put = Some(measure(&mut put_each));
+    let overwrite = Some(measure(&mut put_each));
+    let get = measure(&mut || {
         for key in (0..READS).flat_map(|_| keys) {
             drop(black_box(map.get(&bytes(*key)).cloned()));
         }
-    }
-    drop(black_box(map));
+    });
+    let remove = Some(measure(&mut || {
+        for key in keys {
+            drop(map.remove(&bytes(*key)));
+        }
+    }));
+    let each = Some(get / READS as f64);
+    [
+        put, overwrite, remove, put, overwrite, each, None, None, None, None,
+    ]
 }
 
 /// So many times writes some keys and finds where the map in order differs from what it was before: seconds of the finding.
