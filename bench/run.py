@@ -1,11 +1,11 @@
 #!/usr/bin/env python3
-"""Builds bench/speed and runs it on one processor, beside the crates that it compares with, and writes bench/results.md.
+"""Builds bench/speed and runs it on one processor, beside the crates that it compares with, and renews its tables in bench/results.md.
 
     python3 bench/run.py [PART ..]
 
 The parts are calls, fields, worst, waiting, sync, digests, changes, saves, small and large; with none named, all are measured and their sections of the
-file are made anew, and else they are printed. It goes through the crate in rust/ over the library that c/build.sh made, as a program in Rust would. It needs Debian's
-librust-crdts-dev, librust-im-rc-dev, librust-bincode-dev and librust-sha2-dev, and no network.
+file are made anew, and else they are printed. It goes through the crate in rust/ over the library that c/build.sh made, as a program in Rust would. It
+needs Debian's librust-crdts-dev, librust-im-rc-dev, librust-bincode-dev and librust-sha2-dev, and no network.
 """
 import os
 import platform

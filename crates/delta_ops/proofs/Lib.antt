@@ -8,5 +8,5 @@ pub mod Groups
 pub mod AsOrMap
 pub mod Clearing
 pub mod Keeping
-pub mod Copies
+pub mod Stacking
 mod Counted

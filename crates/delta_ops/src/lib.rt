@@ -3,6 +3,7 @@
 // just what stands. No call but `clear` and `keys` goes through the map.
 #![tactic(auto)]
 
+mod base;
 mod erasures;
 mod grouping;
 mod joining;
@@ -10,7 +11,6 @@ mod live_or_map;
 mod mutators;
 mod outgoing;
 mod reading;
-mod shared_fields;
 mod standing;
 
 pub use erasures::{clear, remove, remove_field};
