@@ -30,7 +30,7 @@ pub(crate) fn base_of<A: Allocator + Copy>(
     if are_unknown_to(deltas, &base) {
         return Ok(base);
     }
-    // proof: it is below them as it was made, which no clause says.
+    // This never happens, as `below` makes it, but no clause of `below` says so. With no dot the join is as right, and slower.
     drop(base);
     Ok(Context::new(alloc))
 }

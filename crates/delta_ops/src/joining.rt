@@ -46,8 +46,8 @@ pub(crate) fn joined<A: Allocator + Copy>(
     Ok(Causal::from_parts(store, known).unwrap())
 }
 
-// The deltas joined one by one into a pair that knows no more than this base, of which they hold nothing: what it holds is what their
-// join does.
+// The deltas joined one by one into a pair that held nothing and knew this base, of which they hold nothing: it holds what their join
+// does, and knows the base too.
 fn live_join<A: Allocator + Copy>(
     alloc: A,
     deltas: &[Arc<OrMap<A>, A>],
@@ -80,7 +80,7 @@ fn knowing<A: Allocator + Copy>(
     Ok(live)
 }
 
-// The dots that the deltas know, by halves.
+// The dots that the deltas know, by halves: each that their join holds is among them.
 fn known_by<A: Allocator + Copy>(
     alloc: A,
     deltas: &[Arc<OrMap<A>, A>],

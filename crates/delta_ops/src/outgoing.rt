@@ -127,7 +127,7 @@ impl<A: Allocator + Copy> Outgoing<A> {
     /// The whole group, or None where it knows no dot.
     ///
     /// Its only refusal is OutOfMemory. Takes memory in all that the deltas hold and know. More than two are joined one after the other into a
-    /// pair of their own, which takes what `Live::join_delta` takes of each: of m writes time m log m; and their contexts by halves.
+    /// pair of their own, which takes what `Live::join_delta` takes of each: of m puts time m log m; and their contexts by halves.
     pub fn whole(&self, alloc: A) -> Result<Option<OrMap<A>>, Refusal>
         ensures some { IfOk result (λ found. IfSome found (λ whole.
             Same (or_map_state whole) (group_state self.now) × ¬ HasNone whole.1)) }

@@ -34,8 +34,9 @@ use trie_map::TrieMap;
 ///
 /// A delta is joined in at the keys that it touches: those at which it holds something, and those at which dots stand that
 /// its context knows. These are found in an index of where dots stand, which is kept beside the pair. What stands at a touched
-/// key is one store; no other key is looked at. It is joined in place where the delta brings one dot, just above an entry of the
-/// context, and at most eight dots go, none of them a name's first; else it is made anew as a whole.
+/// key is one store; no other key is looked at. It is joined in place, by `join_into`, where no other map shares it and the delta
+/// can change no other key, brings one dot, just above an entry of the context, and knows no first dot of a name; else it is made
+/// anew.
 #[derive(Drop)]
 pub struct Live<
     S: DotStore<A>,

@@ -41,7 +41,7 @@ impl<H: PathHash, A: Allocator + Copy> Replica<H, A> {
     /// Its refusals are NumbersSpent, just where no number is left for the dot, and else OutOfMemory; a refused call changes nothing. Takes
     /// look-ups in the map and the context, time and memory in what stands at the field, and time in the number of the key's fields, of
     /// which it moves those that come after; all that stands at the key, and the nodes on the way, where a snapshot shares it. It takes all
-    /// that stands at the key too where it has or overwrites the first number of a name, where its name's number just below is not known,
+    /// that stands at the key too where it has or overwrites the first number of a name, where a lower number of its name is not known,
     /// and where it overwrites more than eight values. What is never flushed is joined into one where it has two writes for each key of
     /// the map, and 1,024 more.
     pub fn put(&mut self, key: &Key<A>, value: &Value<A>) -> Result<Dot, Refusal>
@@ -58,7 +58,7 @@ impl<H: PathHash, A: Allocator + Copy> Replica<H, A> {
     /// Its refusals are NumbersSpent, just where no number is left for the dot, and else OutOfMemory; a refused call changes nothing. Takes
     /// look-ups in the map and the context, time and memory in what stands at the field, and time in the number of the key's fields, of
     /// which it moves those that come after; all that stands at the key, and the nodes on the way, where a snapshot shares it. It takes all
-    /// that stands at the key too where it has or overwrites the first number of a name, where its name's number just below is not known,
+    /// that stands at the key too where it has or overwrites the first number of a name, where a lower number of its name is not known,
     /// and where it overwrites more than eight values. What is never flushed is joined into one where it has two writes for each key of
     /// the map, and 1,024 more.
     pub fn put_field(
