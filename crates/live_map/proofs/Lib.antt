@@ -5,3 +5,4 @@ pub mod Changing
 pub mod Unchanged
 pub mod Brought
 mod OneKey
+mod NewKey

@@ -1,5 +1,5 @@
 -- The join of a delta at the one key that it can change. Of this project.
-use Rattle.std.specs.Prelude.{◌≡◌, ℕ, ◌≤◌, ◌+◌, List, Bool, false, Option}
+use Rattle.std.specs.Prelude.{◌≡◌, ℕ, ◌≤◌, ◌+◌, List, Bool, false, Option, IsTrue}
 use Rattle.std.specs.FinMap as finite
 use Rattle.dots.specs.Bytes.{bytes_cmp}
 use Rattle.dots.specs.Dot.{DotValue}
@@ -25,6 +25,10 @@ pub record IsAboveEntry (own : ContextValue) (dot : DotValue) : Type 0 where
 pub record IsRaise (own theirs : ContextValue) (dot : DotValue) : Type 0 where
   pub only : IsOnlyNew (has own) (has theirs) (has theirs) dot
   pub above : IsAboveEntry own dot
+
+-- there is no other dot than this one
+abbrev pub IsOnly : (DotValue → Bool) → DotValue → Type 0
+IsOnly theirs dot = (d : DotValue) → IsTrue (theirs d) → d ≡ dot
 
 -- what stands at a key of a map became its join with what a delta holds there
 pub record IsJoinedIn {S P H : Type 0} (at : S → P → DotValue → Option H) (greater : H → H → H) (old new : finite.FinMap bytes_cmp S) (key : List ℕ)

@@ -9,6 +9,7 @@ mod dot_span;
 mod index;
 mod keyed;
 mod live;
+mod new_key;
 mod one_key;
 mod prepared;
 mod touched;

@@ -87,7 +87,7 @@ fn join_raising<S: DotStore<A>, M: Summary<S>, H: PathHash, A: Allocator + Copy>
 
 // Whether the entry of the dot's name can be raised to the dot as it stands: there is one, the dot is the next, and none above it is
 // known.
-fn can_raise<A: Allocator + Copy>(own: &Context<A>, dot: Dot) -> bool
+pub(crate) fn can_raise<A: Allocator + Copy>(own: &Context<A>, dot: Dot) -> bool
     ensures { IsTrue result → IsAboveEntry own.now dot }
 {
     let entry = own.entry(dot.name());

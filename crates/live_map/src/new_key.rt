@@ -1,0 +1,95 @@
+// The join of a delta that brings one dot to a key at which nothing stands: what it holds there is what will stand there.
+ghost use Rattle.std.specs.Prelude.{◌≡◌, ◌||◌, false, ℕ, List, IsTrue, IfSome, IfOk, OnOk, OnErr, IsOkUnless};
+ghost use Rattle.causal_context.specs.Context.{has};
+ghost use Rattle.causal_join.specs.Causal.{state_of};
+ghost use Rattle.dot_store.specs.Store.{HoldsSame, state_with};
+ghost use Rattle.dot_store.specs.Stores.{at_stores};
+ghost use Rattle.dots.specs.Bytes.{bytes_cmp};
+ghost use Rattle.dots.specs.Dot.{DotValue};
+ghost use Rattle.op_model.specs.State.{join, IsInside};
+ghost use Rattle.live_map.specs.Index.{names, IsIndexed};
+ghost use Rattle.live_map.specs.OneKey.{IsOnly, IsRaise};
+ghost use Rattle.trie_map.specs.Here.{IsWritten};
+ghost use Rattle.trie_map.specs.Keyed.{at_keys};
+
+use crate::index::Index;
+use crate::one_key::can_raise;
+use causal_context::Context;
+use causal_join::Causal;
+use dot_store::{DotMap, DotStore};
+use dots::{Dot, Key, Refusal};
+use gen_trie::Summary;
+use hash_path::PathHash;
+use std::alloc::Allocator;
+use trie_map::TrieMap;
+
+// The one dot that the other context has, where that is new here and just above the entry of its name.
+fn next_of<A: Allocator + Copy>(own: &Context<A>, theirs: &Context<A>) -> Option<Dot>
+    ensures raise { IfSome result (IsRaise own.now theirs.now) }
+    ensures only { IfSome result (IsOnly (has theirs.now)) }
+{
+    let [dot] = theirs.cloud() else {
+        return None;
+    };
+    if !theirs.vector().is_empty() || own.contains(*dot) || !can_raise(own, *dot) {
+        return None;
+    }
+    Some(*dot)
+}
+
+// Joins the delta in where it brings one dot, just above the entry of its name, to one key, at which nothing stands, and tells whether it
+// did. Nothing else can change then: so what the delta holds is copied there. A refused call leaves the store and the context.
+pub(crate) fn join_first<S: DotStore<A>, M: Summary<S>, H: PathHash, A: Allocator + Copy>(
+    alloc: A,
+    store: &mut TrieMap<S, M, H, A>,
+    context: &mut Context<A>,
+    index: &mut Index<A>,
+    delta: &Causal<DotMap<Key<A>, S, A>, A>,
+) -> Result<bool, Refusal>
+    requires inside { IsInside (state_of (at_keys S.at) (store.old, context.old)) }
+    requires indexed { IsIndexed (at_keys S.at store.old) index.old }
+    ensures hash { store.new.0 ≡ store.old.0 }
+    ensures ok { IfOk result (λ done. IsTrue done → HoldsSame (at_keys S.at store.new)
+        (join S.greater (state_with (at_keys S.at store.old) (has context.old)) (state_of (at_stores S.at bytes_cmp) delta.now)).at) }
+    ensures known { IfOk result (λ done. IsTrue done → (d : DotValue) → has context.new d ≡ (has context.old d || has delta.now.1 d)) }
+    ensures inside { IsInside (state_of (at_keys S.at) (store.new, context.new)) }
+    ensures indexed { IsIndexed (at_keys S.at store.new) index.new }
+    ensures undone { IfOk result (λ done. done ≡ false → (store.new ≡ store.old) × (context.new ≡ context.old)) }
+    ensures store { OnErr result (store.new ≡ store.old) }
+    ensures context { OnErr result (context.new ≡ context.old) }
+    ensures err { IsOkUnless result Refusal.OutOfMemory }
+{
+    let Some(dot) = next_of(context, delta.context()) else {
+        return Ok(false);
+    };
+    let [(key, yours)] = delta.store().entries() else {
+        return Ok(false);
+    };
+    if store.get(key).is_some() {
+        return Ok(false);
+    }
+    put_named(alloc, store, index, key, yours, dot)?;
+    context.raise(dot);
+    Ok(true)
+}
+
+// Puts a copy of the store at the key, and names the key for the dot.
+fn put_named<S: DotStore<A>, M: Summary<S>, H: PathHash, A: Allocator + Copy>(
+    alloc: A,
+    store: &mut TrieMap<S, M, H, A>,
+    index: &mut Index<A>,
+    key: &Key<A>,
+    yours: &S,
+    dot: Dot,
+) -> Result<(), Refusal>
+    ensures hash { store.new.0 ≡ store.old.0 }
+    ensures ok { OnOk result (IsWritten S.at store.old.1 store.new.1 key.now yours.now) }
+    ensures there { OnOk result (IsTrue (names index.new dot key.now)) }
+    ensures kept { (d : DotValue) (q : List ℕ) → IsTrue (names index.old d q) → IsTrue (names index.new d q) }
+    ensures unchanged { OnErr result (store.new ≡ store.old) }
+    ensures err { IsOkUnless result Refusal.OutOfMemory }
+{
+    index.add(dot, key.copy(alloc)?)?;
+    let copy = yours.copy(alloc)?;
+    store.put(alloc, key, copy)
+}
