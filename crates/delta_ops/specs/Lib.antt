@@ -2,3 +2,4 @@ pub mod Group
 pub mod Log
 pub mod Gathers
 pub mod LiveMap
+pub mod Unknown

@@ -1,10 +1,9 @@
 // A context below all that deltas hold.
-ghost use Rattle.std.specs.Prelude.{◌≡◌, ◌↔◌, false, IfOk, IsOkUnless, IsSome, IsTrue};
+ghost use Rattle.std.specs.Prelude.{◌↔◌, IfOk, IsOkUnless, IsTrue};
 ghost use Rattle.std.specs.List.{All};
-ghost use Rattle.causal_context.specs.Context.{has};
 ghost use Rattle.causal_join.specs.OrMap.{fields_at, or_map_at};
+ghost use Rattle.delta_ops.specs.Unknown.{KnowsNoneOf};
 ghost use Rattle.dot_store.specs.Stores.{at_values};
-ghost use Rattle.dots.specs.Dot.{DotValue};
 
 use causal_context::Context;
 use causal_join::{Fields, OrMap, OrMapStore};
@@ -23,7 +22,7 @@ pub(crate) fn base_of<A: Allocator + Copy>(
     alloc: A,
     deltas: &[Arc<OrMap<A>, A>],
 ) -> Result<Context<A>, Refusal>
-    ensures ok { IfOk result (λ base. All (λ delta. (place : _) (d : DotValue) → IsSome (or_map_at delta.value.0 place d) → has base d ≡ false) deltas.now) }
+    ensures ok { IfOk result (λ base. All (λ delta. KnowsNoneOf base (or_map_at delta.value.0)) deltas.now) }
     ensures err { IsOkUnless result Refusal.OutOfMemory }
 {
     let base = below(alloc, deltas)?;
@@ -150,7 +149,7 @@ fn lower_to_values<A: Allocator + Copy>(numbers: &mut Numbers<A>, values: &DotFu
 
 // Whether the context has no dot that a delta holds.
 fn are_unknown_to<A: Allocator + Copy>(deltas: &[Arc<OrMap<A>, A>], context: &Context<A>) -> bool
-    ensures { IsTrue result ↔ All (λ delta. (place : _) (d : DotValue) → IsSome (or_map_at delta.value.0 place d) → has context.now d ≡ false) deltas.now }
+    ensures { IsTrue result ↔ All (λ delta. KnowsNoneOf context.now (or_map_at delta.value.0)) deltas.now }
 {
     for delta in deltas {
         if !is_store_unknown(delta.store(), context) {
@@ -162,7 +161,7 @@ fn are_unknown_to<A: Allocator + Copy>(deltas: &[Arc<OrMap<A>, A>], context: &Co
 
 // Whether the context has no dot that the store holds.
 fn is_store_unknown<A: Allocator + Copy>(store: &OrMapStore<A>, context: &Context<A>) -> bool
-    ensures { IsTrue result ↔ ((place : _) (d : DotValue) → IsSome (or_map_at store.now place d) → has context.now d ≡ false) }
+    ensures { IsTrue result ↔ KnowsNoneOf context.now (or_map_at store.now) }
 {
     for (_, fields) in store.entries() {
         if !are_fields_unknown(fields, context) {
@@ -174,7 +173,7 @@ fn is_store_unknown<A: Allocator + Copy>(store: &OrMapStore<A>, context: &Contex
 
 // Whether the context has no dot of the fields.
 fn are_fields_unknown<A: Allocator + Copy>(fields: &Fields<A>, context: &Context<A>) -> bool
-    ensures { IsTrue result ↔ ((place : _) (d : DotValue) → IsSome (fields_at fields.now place d) → has context.now d ≡ false) }
+    ensures { IsTrue result ↔ KnowsNoneOf context.now (fields_at fields.now) }
 {
     for (_, values) in fields.entries() {
         if !are_values_unknown(values, context) {
@@ -189,7 +188,7 @@ fn are_values_unknown<A: Allocator + Copy>(
     values: &DotFun<Value<A>, A>,
     context: &Context<A>,
 ) -> bool
-    ensures { IsTrue result ↔ ((place : _) (d : DotValue) → IsSome (at_values values.now place d) → has context.now d ≡ false) }
+    ensures { IsTrue result ↔ KnowsNoneOf context.now (at_values values.now) }
 {
     for (dot, _) in values.entries() {
         if context.contains(*dot) {

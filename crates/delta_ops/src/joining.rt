@@ -1,10 +1,11 @@
 // The join of many deltas.
-ghost use Rattle.std.specs.Prelude.{◌≡◌, false, IfOk, IsOkUnless, IsSome};
+ghost use Rattle.std.specs.Prelude.{◌≡◌, ◌||◌, IfOk, OnOk, IsOkUnless};
 ghost use Rattle.std.specs.List.{All};
-ghost use Rattle.causal_context.specs.Context.{has};
+ghost use Rattle.causal_context.specs.Context.{has, in_cloud};
 ghost use Rattle.causal_join.specs.OrMap.{fields_at, or_map_at, or_map_state, path_of};
 ghost use Rattle.delta_ops.specs.Group.{group_state};
 ghost use Rattle.delta_ops.specs.Log.{deltas_of};
+ghost use Rattle.delta_ops.specs.Unknown.{KnowsNoneOf};
 ghost use Rattle.dot_store.specs.Store.{HasNothing};
 ghost use Rattle.dots.specs.Dot.{DotValue};
 ghost use Rattle.op_model.specs.Place.{Place};
@@ -16,11 +17,12 @@ use crate::live_or_map::LiveOrMap;
 use causal_context::Context;
 use causal_join::{Causal, OrMap};
 use dot_store::{DotMap, DotStore};
-use dots::Refusal;
+use dots::{Dot, Refusal};
 use gen_trie::NoSummary;
 use hash_path::Fnv1a;
 use live_map::Live;
 use std::alloc::Allocator;
+use std::mem;
 use std::sync::Arc;
 
 /// The join of these deltas. One delta or two are joined at once. Of more, each is joined in its turn into a live pair, which writes it in
@@ -53,7 +55,7 @@ fn live_join<A: Allocator + Copy>(
     deltas: &[Arc<OrMap<A>, A>],
     base: Context<A>,
 ) -> Result<LiveOrMap<NoSummary, Fnv1a, A>, Refusal>
-    requires { All (λ delta. (place : _) (d : DotValue) → IsSome (or_map_at delta.value.0 place d) → has base d ≡ false) deltas.now }
+    requires { All (λ delta. KnowsNoneOf base (or_map_at delta.value.0)) deltas.now }
     ensures ok { IfOk result (λ live. (place : Place) (d : DotValue)
         → at_keys fields_at live.0.0 (path_of place) d ≡ (group_state (deltas_of deltas.now)).at place d) }
     ensures err { IsOkUnless result Refusal.OutOfMemory }
@@ -80,7 +82,11 @@ fn knowing<A: Allocator + Copy>(
     Ok(live)
 }
 
-// The dots that the deltas know, by halves: each that their join holds is among them.
+// The contexts of so many deltas are added one after another, and of more than these by halves. So many dots of one are added one by one:
+// each moves those behind it.
+const FEW: usize = 16;
+
+// The dots that the deltas know: each that their join holds is among them.
 fn known_by<A: Allocator + Copy>(
     alloc: A,
     deltas: &[Arc<OrMap<A>, A>],
@@ -89,13 +95,71 @@ fn known_by<A: Allocator + Copy>(
     ensures inside { IfOk result (λ _. IsInside (group_state (deltas_of deltas.now))) }
     ensures err { IsOkUnless result Refusal.OutOfMemory }
 {
-    match deltas {
-        [] => return Ok(Context::new(alloc)),
-        [only] => return only.context().copy(alloc),
-        _ => {}
+    if deltas.len() <= FEW {
+        return known_in_turn(alloc, deltas);
     }
     let (older, newer) = deltas.split_at(deltas.len() / 2);
     let older = known_by(alloc, older)?;
     let newer = known_by(alloc, newer)?;
     older.union(alloc, &newer)
+}
+
+// The same, by one context after another.
+fn known_in_turn<A: Allocator + Copy>(
+    alloc: A,
+    deltas: &[Arc<OrMap<A>, A>],
+) -> Result<Context<A>, Refusal>
+    ensures ok { IfOk result (λ known. (d : DotValue) → has known d ≡ (group_state (deltas_of deltas.now)).has d) }
+    ensures inside { IfOk result (λ _. IsInside (group_state (deltas_of deltas.now))) }
+    ensures err { IsOkUnless result Refusal.OutOfMemory }
+{
+    let mut known = Context::new(alloc);
+    for delta in deltas {
+        add_context(alloc, &mut known, delta.context())?;
+    }
+    Ok(known)
+}
+
+// Adds what the other context knows: dot by dot where it has few and no vector, as that of one write. A refused call may have added some.
+fn add_context<A: Allocator + Copy>(
+    alloc: A,
+    known: &mut Context<A>,
+    more: &Context<A>,
+) -> Result<(), Refusal>
+    ensures ok { OnOk result ((d : DotValue) → has known.new d ≡ (has known.old d || has more.now d)) }
+    ensures err { IsOkUnless result Refusal.OutOfMemory }
+{
+    let dots = more.cloud();
+    if dots.len() > FEW {
+        return unite(alloc, known, more);
+    }
+    if more.vector().is_empty() {
+        return add_dots(known, dots);
+    }
+    unite(alloc, known, more)
+}
+
+// Puts the union with the other context in the place of the first.
+fn unite<A: Allocator + Copy>(
+    alloc: A,
+    known: &mut Context<A>,
+    more: &Context<A>,
+) -> Result<(), Refusal>
+    ensures ok { OnOk result ((d : DotValue) → has known.new d ≡ (has known.old d || has more.now d)) }
+    ensures err { IsOkUnless result Refusal.OutOfMemory }
+{
+    let both = known.union(alloc, more)?;
+    drop(mem::replace(known, both));
+    Ok(())
+}
+
+// Adds the dots. A refused call may have added some.
+fn add_dots<A: Allocator + Copy>(known: &mut Context<A>, dots: &[Dot]) -> Result<(), Refusal>
+    ensures ok { OnOk result ((d : DotValue) → has known.new d ≡ (has known.old d || in_cloud dots.now d)) }
+    ensures err { IsOkUnless result Refusal.OutOfMemory }
+{
+    for dot in dots {
+        known.add(*dot)?;
+    }
+    Ok(())
 }

@@ -142,6 +142,17 @@ impl<A: Allocator + Copy> Outgoing<A> {
         Ok(Some(whole))
     }
 
+    /// The delta that is the whole group, where there is one alone and it knows a dot. Copies nothing, and takes constant time.
+    pub fn only(&self) -> Option<&OrMap<A>>
+        ensures some { IfSome result (λ only. Same (or_map_state only.now) (group_state self.now) × ¬ HasNone only.now.1) }
+        ensures none { IfNone result ((pair : OrMapValue) → self.now ≡ pair ∷ [] → HasNone pair.1) }
+    {
+        match self.deltas.as_slice() {
+            [only] if !only.context().is_empty() => Some(only),
+            _ => None,
+        }
+    }
+
     /// The whole group as a pair, which may know no dot: what is kept of it over a restart.
     ///
     /// Its only refusal is OutOfMemory. Takes what `whole` does.

@@ -14,19 +14,13 @@ use causal_join::OrMap;
 use dots::Refusal;
 use replica_core::{Letter, Replica};
 use std::alloc::Global;
-use wire_form::{Message, decode, encode};
+use wire_form::decode;
 
 fn letter_of(alloc: Global, delta: OrMap) -> Result<Letter, Refusal>
     ensures spelled { IfOk result (λ letter. (message : MessageValue) × Spells letter.bytes.items message × (mail_of message ≡ Delta (or_map_state delta))) }
     ensures everyone { IfOk result (λ letter. letter.to ≡ None) }
 {
-    let message = Message::Delta(delta);
-    let bytes = encode(alloc, &message);
-    drop(message);
-    Ok(Letter {
-        to: None,
-        bytes: bytes?,
-    })
+    Letter::of_delta(alloc, &delta)
 }
 
 // A delta of what the message that the bytes spell brings where it ends a synchronisation, if there is one.

@@ -77,7 +77,7 @@ pub has_last : (keys : List (List ℕ)) (n : ℕ) (o : Option (List ℕ)) (k key
 has_last keys n o k key place is same =
     any_passes_from_place (λ x. is_eq (bytes_cmp key x)) keys n k (sym place ∙ is) ((eq_by_cmp_equiv nat_list_cmp_total).symm key k ∙ same)
 
-or_second : (a b : Bool) → b ≡ true → IsTrue (a || b)
+pub or_second : (a b : Bool) → b ≡ true → IsTrue (a || b)
 or_second true b h = refl
 or_second false b h = h
 

@@ -3,10 +3,11 @@ use Rattle.std.proofs.Common.{◌≡◌, ◌+◌, ℕ, List, [], ◌∷◌, Bool
 use Rattle.std.specs.Prelude.{Contains, IsTrue, IsSome, IfSome, is_some, nat_le, ◌&&◌, ◌||◌}
 use Rattle.std.specs.List.{All}
 use Rattle.std.proofs.lemmas.List.Elements.{All-contains, Contains-append_left, Contains-append_right, Contains-push}
+use Rattle.std.proofs.lemmas.Bool.Decides.{nat_tests}
 use Rattle.std.specs.FinMap as finite
-use Rattle.dots.specs.Bytes.{bytes_cmp}
 use Rattle.dots.specs.Dot.{DotValue, same_dot}
-use Rattle.causal_context.specs.Context.{ContextValue, has, in_cloud, is_known, Includes}
+use Rattle.causal_context.specs.Canonical.{IsCanonical}
+use Rattle.causal_context.specs.Context.{ContextValue, has, in_cloud, is_known, known_up_to, Includes}
 use Rattle.causal_context.specs.Growth.{IsOnlyNew}
 use Rattle.causal_context.proofs.Dots.{same_dot-refl, same_from_test}
 use Rattle.dot_store.specs.Store.{HasEachKnown, HoldsDot, HoldsSame, state_with}
@@ -133,6 +134,20 @@ pub last_added : (own new : ContextValue) (dot : DotValue) → ((d : DotValue) �
 last_added own new dot added last =
     added (record { name = dot.name; number = dot.number + 1 })
     ∙ (λ i. above_apart dot (same_dot dot (record { name = dot.name; number = dot.number + 1 })) refl i || last i)
+
+-- the dot just above an entry is unknown, as none of the cloud stands there
+pub next_unknown : (own : ContextValue) (dot : DotValue) → IsCanonical own → dot.number ≡ known_up_to own.vector dot.name + 1 → has own dot ≡ false
+unfolding has
+next_unknown own dot canonical next = by_cloud (in_cloud own.cloud dot) refl
+  where
+    above : (n e : ℕ) → n ≡ e + 1 → (nat_le 1 n && (nat_le n e || false)) ≡ false
+    above n e next = grind (arith, nat_tests)
+
+    by_cloud : (b : Bool) → in_cloud own.cloud dot ≡ b → (nat_le 1 dot.number && (nat_le dot.number (known_up_to own.vector dot.name) || in_cloud own.cloud dot)) ≡ false
+    by_cloud true e = let past = canonical.apart dot e in absurd (omega (arith, past, next))
+    by_cloud false e =
+        ap (λ b. nat_le 1 dot.number && (nat_le dot.number (known_up_to own.vector dot.name) || b)) e
+        ∙ above dot.number (known_up_to own.vector dot.name) next
 
 pub known_added : (own new : ContextValue) (dot : DotValue) → ((d : DotValue) → has new d ≡ same_dot dot d || has own d) → IsTrue (has new dot)
 known_added own new dot added = added dot ∙ ap (λ b. b || has own dot) (same_dot-refl dot)

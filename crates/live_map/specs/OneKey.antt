@@ -27,8 +27,8 @@ pub record IsRaise (own theirs : ContextValue) (dot : DotValue) : Type 0 where
   pub above : IsAboveEntry own dot
 
 -- there is no other dot than this one
-abbrev pub IsOnly : (DotValue → Bool) → DotValue → Type 0
-IsOnly theirs dot = (d : DotValue) → IsTrue (theirs d) → d ≡ dot
+abbrev pub HasNoOther : (DotValue → Bool) → DotValue → Type 0
+HasNoOther theirs dot = (d : DotValue) → IsTrue (theirs d) → d ≡ dot
 
 -- what stands at a key of a map became its join with what a delta holds there
 pub record IsJoinedIn {S P H : Type 0} (at : S → P → DotValue → Option H) (greater : H → H → H) (old new : finite.FinMap bytes_cmp S) (key : List ℕ)

@@ -13,7 +13,7 @@ ghost use Rattle.trie_map.specs.Keyed.{at_keys, NoStoreIsEmpty, EachIsCanonical}
 use crate::bringing::brought;
 use crate::closing::{closed, name_built, touch_since};
 use crate::index::Index;
-use crate::new_key::join_first;
+use crate::new_key::join_at_new_key;
 use crate::one_key::join_at_one;
 use crate::prepared::Prepared;
 use crate::touched::Touched;
@@ -349,14 +349,14 @@ impl<S: DotStore<A>, M: Summary<S>, H: PathHash, A: Allocator + Copy> Live<S, M,
         ensures unchanged { OnErr result (self.new.0 ≡ self.old.0) }
         ensures err { IsOkUnless result Refusal.OutOfMemory }
     {
-        if self.join_new(alloc, delta)? {
+        if self.join_new_key(alloc, delta)? {
             return Ok(());
         }
-        self.join_any(alloc, delta)
+        self.join_any_keys(alloc, delta)
     }
 
     // Joins the delta in where it brings one dot to a key at which nothing stands, and tells whether it did.
-    fn join_new(
+    fn join_new_key(
         &mut self,
         alloc: A,
         delta: &Causal<DotMap<Key<A>, S, A>, A>,
@@ -368,7 +368,7 @@ impl<S: DotStore<A>, M: Summary<S>, H: PathHash, A: Allocator + Copy> Live<S, M,
         ensures unchanged { OnErr result (self.new.0 ≡ self.old.0) }
         ensures err { IsOkUnless result Refusal.OutOfMemory }
     {
-        join_first(
+        join_at_new_key(
             alloc,
             &mut self.store,
             &mut self.context,
@@ -378,7 +378,11 @@ impl<S: DotStore<A>, M: Summary<S>, H: PathHash, A: Allocator + Copy> Live<S, M,
     }
 
     // Joins the delta in, whatever keys it can change.
-    fn join_any(&mut self, alloc: A, delta: &Causal<DotMap<Key<A>, S, A>, A>) -> Result<(), Refusal>
+    fn join_any_keys(
+        &mut self,
+        alloc: A,
+        delta: &Causal<DotMap<Key<A>, S, A>, A>,
+    ) -> Result<(), Refusal>
         ensures hash { self.new.0.0.0 ≡ self.old.0.0.0 }
         ensures ok { OnOk result (Same (state_of (at_keys S.at) self.new.0)
             (join S.greater (state_of (at_keys S.at) self.old.0) (state_of (at_stores S.at bytes_cmp) delta.now))) }
@@ -391,7 +395,7 @@ impl<S: DotStore<A>, M: Summary<S>, H: PathHash, A: Allocator + Copy> Live<S, M,
         joined
     }
 
-    // What `join_any` does. Adds the keys that the delta can change: where it is one alone, it is written in place.
+    // What `join_any_keys` does. Adds the keys that the delta can change: where it is one alone, it is written in place.
     fn join_touched(
         &mut self,
         alloc: A,

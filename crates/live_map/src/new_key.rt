@@ -8,7 +8,7 @@ ghost use Rattle.dots.specs.Bytes.{bytes_cmp};
 ghost use Rattle.dots.specs.Dot.{DotValue};
 ghost use Rattle.op_model.specs.State.{join, IsInside};
 ghost use Rattle.live_map.specs.Index.{names, IsIndexed};
-ghost use Rattle.live_map.specs.OneKey.{IsOnly, IsRaise};
+ghost use Rattle.live_map.specs.OneKey.{HasNoOther, IsRaise};
 ghost use Rattle.trie_map.specs.Here.{IsWritten};
 ghost use Rattle.trie_map.specs.Keyed.{at_keys};
 
@@ -26,12 +26,12 @@ use trie_map::TrieMap;
 // The one dot that the other context has, where that is new here and just above the entry of its name.
 fn next_of<A: Allocator + Copy>(own: &Context<A>, theirs: &Context<A>) -> Option<Dot>
     ensures raise { IfSome result (IsRaise own.now theirs.now) }
-    ensures only { IfSome result (IsOnly (has theirs.now)) }
+    ensures only { IfSome result (HasNoOther (has theirs.now)) }
 {
     let [dot] = theirs.cloud() else {
         return None;
     };
-    if !theirs.vector().is_empty() || own.contains(*dot) || !can_raise(own, *dot) {
+    if !theirs.vector().is_empty() || !can_raise(own, *dot) {
         return None;
     }
     Some(*dot)
@@ -39,7 +39,7 @@ fn next_of<A: Allocator + Copy>(own: &Context<A>, theirs: &Context<A>) -> Option
 
 // Joins the delta in where it brings one dot, just above the entry of its name, to one key, at which nothing stands, and tells whether it
 // did. Nothing else can change then: so what the delta holds is copied there. A refused call leaves the store and the context.
-pub(crate) fn join_first<S: DotStore<A>, M: Summary<S>, H: PathHash, A: Allocator + Copy>(
+pub(crate) fn join_at_new_key<S: DotStore<A>, M: Summary<S>, H: PathHash, A: Allocator + Copy>(
     alloc: A,
     store: &mut TrieMap<S, M, H, A>,
     context: &mut Context<A>,

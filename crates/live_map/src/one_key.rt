@@ -85,10 +85,11 @@ fn join_raising<S: DotStore<A>, M: Summary<S>, H: PathHash, A: Allocator + Copy>
     Ok(())
 }
 
-// Whether the entry of the dot's name can be raised to the dot as it stands: there is one, the dot is the next, and none above it is
-// known.
+// Whether the entry of the dot's name can be raised to the dot as it stands: there is one, the dot is the next, which is unknown then,
+// and none above it is known.
 pub(crate) fn can_raise<A: Allocator + Copy>(own: &Context<A>, dot: Dot) -> bool
-    ensures { IsTrue result → IsAboveEntry own.now dot }
+    ensures above { IsTrue result → IsAboveEntry own.now dot }
+    ensures fresh { IsTrue result → has own.now dot ≡ false }
 {
     let entry = own.entry(dot.name());
     entry != 0 && dot.number() - 1 == entry && !own.contains_above(dot)

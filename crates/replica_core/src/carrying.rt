@@ -26,8 +26,23 @@ impl<H: PathHash, A: Allocator + Copy> Replica<H, A> {
     /// The delta of all that it made since the last flush, as a letter to everyone, or None where it made nothing. The letter is spelled
     /// before anything counts as sent.
     ///
-    /// Its only refusal is OutOfMemory; a refused call changes nothing. Takes what `flush` takes, and time and memory in the bytes.
+    /// Its only refusal is OutOfMemory; a refused call changes nothing. Takes what `flush` takes, and time and memory in the bytes; of one
+    /// write alone it copies nothing but these.
     pub fn flush_bytes(&mut self) -> Result<Option<Letter<A>>, Refusal>
+        ensures ok { IfOk result (λ sent. Sends H.hash_of self.old self.new (Do Flush) Nothing (letter_or_none sent)) }
+        ensures refused { IsOkUnless result Refusal.OutOfMemory }
+        ensures unchanged { OnErr result (Stays self.old self.new) }
+    {
+        let Some(only) = self.group.only() else {
+            return self.flush_joined();
+        };
+        let letter = Letter::of_delta(self.alloc, only)?;
+        self.group.clear();
+        Ok(Some(letter))
+    }
+
+    // The same, where several deltas are to be joined.
+    fn flush_joined(&mut self) -> Result<Option<Letter<A>>, Refusal>
         ensures ok { IfOk result (λ sent. Sends H.hash_of self.old self.new (Do Flush) Nothing (letter_or_none sent)) }
         ensures refused { IsOkUnless result Refusal.OutOfMemory }
         ensures unchanged { OnErr result (Stays self.old self.new) }

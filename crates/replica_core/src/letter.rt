@@ -1,10 +1,11 @@
 ghost use Rattle.std.specs.Prelude.{map, IfOk, IsOkUnless};
-ghost use Rattle.wire_form.specs.Message.{message_of};
+ghost use Rattle.wire_form.specs.Message.{Delta, message_of};
 ghost use Rattle.replica_core.specs.Carrying.{AreLetters, IsLetter, letter_of, letters_of};
 
+use causal_join::OrMap;
 use dots::{Name, Refusal};
 use std::alloc::{Allocator, Global};
-use wire_form::{Message, encode};
+use wire_form::{Message, encode, encode_delta};
 
 /// A message as bytes, with the replica that it is for.
 #[derive(Drop)]
@@ -28,6 +29,17 @@ impl<A: Allocator + Copy> Letter<A> {
             to: message.addressee(),
             bytes,
         })
+    }
+
+    /// The letter of a delta to everyone: of its message, which need not be made for this.
+    ///
+    /// Its only refusal is OutOfMemory. Takes time and memory in the bytes.
+    pub fn of_delta(alloc: A, delta: &OrMap<A>) -> Result<Letter<A>, Refusal>
+        ensures ok { IfOk result (λ letter. IsLetter (letter_of letter) (Delta delta.now)) }
+        ensures refused { IsOkUnless result Refusal.OutOfMemory }
+    {
+        let bytes = encode_delta(alloc, delta)?;
+        Ok(Letter { to: None, bytes })
     }
 
     /// The letter of each message, in their order, as `of` gives it.

@@ -8,7 +8,7 @@ use crate::saved::Saved;
 use causal_join::OrMap;
 use dots::Refusal;
 use std::alloc::Allocator;
-use wire_form::{Message, encode};
+use wire_form::encode_delta;
 
 /// The bytes of what was saved: the one spelling that it has. Lets go what it is given, also where it is refused.
 ///
@@ -26,14 +26,14 @@ pub fn encode_saved<A: Allocator + Copy>(alloc: A, saved: Saved<A>) -> Result<Ve
         live,
         group,
     } = saved;
-    let live = match encode_delta(alloc, live) {
+    let live = match spelled(alloc, live) {
         Ok(live) => live,
         Err(refusal) => {
             drop(group);
             return Err(refusal);
         }
     };
-    let group = encode_delta(alloc, group)?;
+    let group = spelled(alloc, group)?;
     let mut out = Vec::from_slice(alloc, &[3, 2])?;
     write_number(&mut out, name.number())?;
     write_number(&mut out, opened)?;
@@ -43,13 +43,12 @@ pub fn encode_saved<A: Allocator + Copy>(alloc: A, saved: Saved<A>) -> Result<Ve
     Ok(out)
 }
 
-// The delta as a message.
-fn encode_delta<A: Allocator + Copy>(alloc: A, delta: OrMap<A>) -> Result<Vec<u8, A>, Refusal>
+// The bytes of the message of a delta, which is let go.
+fn spelled<A: Allocator + Copy>(alloc: A, delta: OrMap<A>) -> Result<Vec<u8, A>, Refusal>
     ensures ok { IfOk result (λ bytes. SpellsDelta bytes.items delta) }
     ensures err { IsOkUnless result Refusal.OutOfMemory }
 {
-    let message = Message::Delta(delta);
-    encode(alloc, &message)
+    encode_delta(alloc, &delta)
 }
 
 fn write_number<A: Allocator + Copy>(out: &mut Vec<u8, A>, value: u64) -> Result<(), Refusal>

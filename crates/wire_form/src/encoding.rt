@@ -3,7 +3,7 @@ ghost use Rattle.std.specs.List.{flat_map, AllByRecursion};
 ghost use Rattle.wire_form.specs.Spelling.{pair, IsPair};
 ghost use Rattle.wire_form.specs.Parts as part;
 ghost use Rattle.wire_form.specs.Store as form;
-ghost use Rattle.wire_form.specs.Message.{message_of, Spells, SpellsDelta};
+ghost use Rattle.wire_form.specs.Message.{Delta, message_of, Spells};
 ghost use Rattle.wire_form.specs.Writing.{Appends};
 
 use crate::append::{Append, append_items};
@@ -17,6 +17,9 @@ use causal_join::{Fields, OrMap, OrMapStore};
 use dots::{Key, Refusal};
 use std::alloc::Allocator;
 
+// Room for the bytes of most deltas of one write, so that they are not moved as they grow.
+const DELTA_ROOM: usize = 128;
+
 /// The bytes of the message: the one spelling that it has. Takes time and memory in their number.
 /// Its only refusal is OutOfMemory.
 pub fn encode<A: Allocator + Copy>(alloc: A, message: &Message<A>) -> Result<Vec<u8, A>, Refusal>
@@ -24,7 +27,7 @@ pub fn encode<A: Allocator + Copy>(alloc: A, message: &Message<A>) -> Result<Vec
     ensures err { IsOkUnless result Refusal.OutOfMemory }
 {
     match message {
-        Message::Delta(delta) => write_delta(alloc, delta),
+        Message::Delta(delta) => encode_delta(alloc, delta),
         Message::Hello(session, context) => write_hello(alloc, *session, context),
         Message::Opening(session, context, root) => write_opening(alloc, *session, context, root),
         Message::Ask(session, prefix) => write_ask(alloc, *session, *prefix),
@@ -33,14 +36,17 @@ pub fn encode<A: Allocator + Copy>(alloc: A, message: &Message<A>) -> Result<Vec
     }
 }
 
-fn write_delta<A: Allocator + Copy>(alloc: A, delta: &OrMap<A>) -> Result<Vec<u8, A>, Refusal>
-    ensures ok { IfOk result (λ bytes. SpellsDelta bytes.items delta.now) }
+/// The bytes of the message of this delta, as `encode` gives them. Takes time and memory in their number.
+/// Its only refusal is OutOfMemory.
+pub fn encode_delta<A: Allocator + Copy>(alloc: A, delta: &OrMap<A>) -> Result<Vec<u8, A>, Refusal>
+    ensures ok { IfOk result (λ bytes. Spells bytes.items (Delta delta.now)) }
     ensures err { IsOkUnless result Refusal.OutOfMemory }
 {
     let store = delta.store();
     let plain = is_plain_store(store);
     let version = if plain { 1 } else { 3 };
-    let mut out = Vec::from_slice(alloc, &[version, 1])?;
+    let mut out = Vec::with_capacity(alloc, DELTA_ROOM)?;
+    out.extend_from_slice(&[version, 1])?;
     write_context(&mut out, delta.context())?;
     write_store(&mut out, plain, store)?;
     Ok(out)

@@ -30,7 +30,7 @@ mod text;
 mod values;
 
 pub use decoding::decode;
-pub use encoding::encode;
+pub use encoding::{encode, encode_delta};
 pub use laws::{a_message_has_one_spelling, bytes_spell_one_delta, bytes_spell_one_message};
 pub use message::Message;
 pub use page::{NamedFields, Names, Page};

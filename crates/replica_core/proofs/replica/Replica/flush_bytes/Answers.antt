@@ -1,16 +1,11 @@
-use Rattle.std.proofs.Common.{sym, subst}
-use Rattle.replica_core.specs.Carrying.{AreLetters}
-use Rattle.replica_core.specs.Stepping.{mail_or_none, message_or_none}
-use Rattle.replica_core.proofs.Written.{few_letters, mail_is, posted_letters, sends}
+use Rattle.std.proofs.Common.{[], ◌∷◌, refl, sym}
+use Rattle.wire_form.specs.Message as form
+use Rattle.replica_core.proofs.Sent.{all_sent}
 use Rattle.replica_core.proofs.replica.Replica.flush_bytes.Goals as goal
 
-pub into_only-requires : goal.into_only-requires
-into_only-requires g c = few_letters c.flush_to.new.outbox c.in-Ok.sent
-    (posted_letters c.new-letters.result c.flush_to.new.outbox (message_or_none c.in-Ok.sent) c.new-letters.ensures c.in-Ok.ensures.posted)
-
-pub returns-in-Ok-clause-ok : goal.returns-in-Ok-clause-ok
-returns-in-Ok-clause-ok g c =
-    let out = message_or_none c.in-Ok.sent in
-    sends g.H.PathHash.hash_of _ c.flush_to.new.self _ _ (mail_or_none c.in-Ok.sent) out _ (mail_is c.in-Ok.sent) c.in-Ok.ensures.ok
-    (subst (λ ls. AreLetters ls out) (sym c.into_only.ensures)
-    (posted_letters c.new-letters.result c.flush_to.new.outbox out c.new-letters.ensures c.in-Ok.ensures.posted))
+pub returns-clause-ok : goal.returns-clause-ok
+returns-clause-ok g c = record {
+  messages = form.Delta c.in-Some.only.now ∷ [];
+  steps = rw (sym c.self.view_is) (all_sent g.H.PathHash.hash_of _ _ c.in-Some.only.now (rw c.in-Some.is at c.only.ensures.some) refl refl refl refl refl c.clear.ensures);
+  letters_are = (c.in_ok-letter.ensures.ok, tt);
+}
