@@ -20,7 +20,9 @@ fn letter_of(alloc: Global, delta: OrMap) -> Result<Letter, Refusal>
     ensures spelled { IfOk result (λ letter. (message : MessageValue) × Spells letter.bytes.items message × (mail_of message ≡ Delta (or_map_state delta))) }
     ensures everyone { IfOk result (λ letter. letter.to ≡ None) }
 {
-    Letter::of_delta(alloc, &delta)
+    let letter = Letter::of_delta(alloc, &delta);
+    drop(delta);
+    Ok(letter?)
 }
 
 // A delta of what the message that the bytes spell brings where it ends a synchronisation, if there is one.
