@@ -82,8 +82,8 @@ fn knowing<A: Allocator + Copy>(
     Ok(live)
 }
 
-// The contexts of so many deltas are added one after another, and of more than these by halves. So many dots of one are added one by one:
-// each moves those behind it.
+// The contexts of so many deltas at most are added one after another, those of more by halves. One of so many dots at most is added dot by
+// dot, as each moves those behind it.
 const FEW: usize = 16;
 
 // The dots that the deltas know: each that their join holds is among them.

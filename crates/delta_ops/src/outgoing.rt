@@ -144,6 +144,7 @@ impl<A: Allocator + Copy> Outgoing<A> {
 
     /// The delta that is the whole group, where there is one alone and it knows a dot. Copies nothing, and takes constant time.
     pub fn only(&self) -> Option<&OrMap<A>>
+        ensures alone { IfSome result (λ only. self.now ≡ only.now ∷ []) }
         ensures some { IfSome result (λ only. Same (or_map_state only.now) (group_state self.now) × ¬ HasNone only.now.1) }
         ensures none { IfNone result ((pair : OrMapValue) → self.now ≡ pair ∷ [] → HasNone pair.1) }
     {

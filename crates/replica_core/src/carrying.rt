@@ -41,7 +41,7 @@ impl<H: PathHash, A: Allocator + Copy> Replica<H, A> {
         Ok(Some(letter))
     }
 
-    // The same, where several deltas are to be joined.
+    // The same of any group, whose deltas are joined first.
     fn flush_joined(&mut self) -> Result<Option<Letter<A>>, Refusal>
         ensures ok { IfOk result (λ sent. Sends H.hash_of self.old self.new (Do Flush) Nothing (letter_or_none sent)) }
         ensures refused { IsOkUnless result Refusal.OutOfMemory }
