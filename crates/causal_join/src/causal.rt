@@ -72,6 +72,13 @@ impl<S: DotStore<A>, A: Allocator + Copy> Causal<S, A> {
         &self.context
     }
 
+    /// The store and the context themselves. Copies nothing.
+    pub fn into_parts(self) -> (S, Context<A>)
+        ensures { result ≡ self }
+    {
+        (self.store, self.context)
+    }
+
     /// The same state. What it copies is on this allocator; what its store shares with this one stays where it is. Takes time
     /// and memory in all that it holds, and in the names and single dots of the context.
     /// Its only refusal is OutOfMemory.

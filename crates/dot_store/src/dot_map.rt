@@ -81,6 +81,13 @@ impl<K: Kept<A>, S: DotStore<A>, A: Allocator + Copy> DotMap<K, S, A> {
         self.stores.entries()
     }
 
+    /// The keys and their stores themselves, in the order of the keys. No store is empty. Copies nothing.
+    pub fn into_entries(self) -> Vec<(K, S), A>
+        ensures all { result.items ≡ self }
+    {
+        self.stores.into_entries()
+    }
+
     /// Puts the store at the key, in place of what was there. An empty store takes the key out, which takes
     /// no memory. A refused call leaves the map as it was. Takes time in the number of greater keys, besides
     /// that of a look-up, and memory for the entry: at times for twice as many as there are.

@@ -1,5 +1,5 @@
 -- The join of a delta that brings one dot to a key at which nothing stands: over plain variables.
-use Rattle.std.proofs.Common.{◌≡◌, ◌<◌, ◌∙◌, ℕ, zero, suc, List, [], ◌∷◌, Bool, true, false, Option, Some, None, length, get_or, refl, sym, ap, subst, arith}
+use Rattle.std.proofs.Common.{◌≡◌, ◌<◌, ◌≤◌, ◌∙◌, ◌++◌, ℕ, zero, suc, List, [], ◌∷◌, Bool, true, false, Option, Some, None, length, get_or, refl, sym, ap, subst, arith}
 use Rattle.std.specs.Prelude.{Contains, IsTrue, IsSome, is_some, ◌||◌}
 use Rattle.std.specs.Cmp.{eq_by_cmp_equiv}
 use Rattle.std.specs.Cmp.Lexicographic.{nat_list_cmp_total}
@@ -7,13 +7,15 @@ use Rattle.std.specs.FinMap as finite
 use Rattle.std.proofs.lemmas.Map.Lookups.{exact_bytes}
 use Rattle.dots.specs.Bytes.{bytes_cmp}
 use Rattle.dots.specs.Dot.{DotValue}
+use Rattle.causal_context.specs.Context.{ContextValue, has}
 use Rattle.dot_store.specs.Store.{HoldsSame, state_with}
+use Rattle.dot_store.specs.Stores.{at_stores}
 use Rattle.op_model.specs.State.{joined, join, IsInside}
 use Rattle.trie_map.specs.Keyed.{TrieMapValue, at_keys}
 use Rattle.trie_map.specs.Here.{IsJoinHere, IsWritten}
 use Rattle.trie_map.proofs.Here.{joins_some}
 use Rattle.live_map.specs.Index.{PlaceValue, names, has_key, AreAllTouched, IsIndexed}
-use Rattle.live_map.specs.OneKey.{HasNoOther}
+use Rattle.live_map.specs.OneKey.{HasNoOther, IsAtNewKey}
 use Rattle.live_map.proofs.Changing.{held_in, indexed_join}
 use Rattle.live_map.proofs.Members.{among_exact, has_last, one_among, or_second}
 use Rattle.live_map.proofs.OneKey.{step_joined}
@@ -85,6 +87,39 @@ pub key_alone : {S P H : Type 0} (yours : List ℕ × P → DotValue → Option 
     → (q : List ℕ) (place : P) (d : DotValue) → IsSome (yours (q, place) d) → q ≡ key
 key_alone yours entries key y alone only q place d h =
     let found = only q place d h in sym (ap (λ (e : List ℕ × _). e.0) (only_entry entries (key, y) (q, found.0) alone found.1))
+
+-- what stands at the end of a list of one
+pub last_alone : {X : Type 0} (es before : List X) (x : X) → es ≡ before ++ x ∷ [] → length es ≡ 1 → es ≡ x ∷ []
+last_alone es [] x is one = is
+last_alone es (y ∷ before) x is one = absurd (one_more (before ++ x ∷ []) (none_before before x) (sym (ap length is) ∙ one))
+  where
+    none_before : {X : Type 0} (before : List X) (x : X) → 1 ≤ length (before ++ x ∷ [])
+    none_before [] x = omega arith
+    none_before (z ∷ before) x = omega arith
+
+    one_more : {X : Type 0} (zs : List X) → 1 ≤ length zs → suc (length zs) ≡ 1 → ⊥
+    one_more zs some is = omega (arith, some, is)
+
+-- the entries of such a delta, where they are one, are put at their key
+pub brings_one : {S P H Hash : Type 0} (at : S → P → DotValue → Option H) (mine : TrieMapValue Hash S) (own : ContextValue) (entries : List (List ℕ × S))
+    (theirs : ContextValue) (dot : DotValue) (new : TrieMapValue Hash S) (stores es : List (List ℕ × S)) (key : List ℕ) (y : S)
+    → IsAtNewKey mine own entries theirs dot → stores ≡ entries → es ≡ stores → es ≡ (key, y) ∷ []
+    → ((k : List ℕ) (s : S) → Contains es (k, s) → (place : P) (d : DotValue) → at_stores at bytes_cmp stores (k, place) d ≡ at s place d)
+    → ((k : List ℕ) (place : P) (d : DotValue) → IsSome (at_stores at bytes_cmp stores (k, place) d) → (s : S) × Contains es (k, s))
+    → IsInside (state_with (at_stores at bytes_cmp entries) (has theirs)) → IsWritten at mine.1 new.1 key y
+    → BringsOne at mine (has own) (at_stores at bytes_cmp entries) (has theirs) key dot new
+brings_one at mine own entries theirs dot new stores es key y is_new of is alone held only within written =
+    record {
+      store = y;
+      holds = λ place d. ap (λ l. at_stores at bytes_cmp l (key, place) d) (sym of) ∙ held_alone at (at_stores at bytes_cmp stores) es key y alone held place d;
+      at_key = λ q place d h. key_alone (at_stores at bytes_cmp stores) es key y alone only q place d
+          (ap (λ l. is_some (at_stores at bytes_cmp l (q, place) d)) of ∙ h);
+      within = within;
+      one = is_new.only;
+      fresh = is_new.raise.only.is_new.unknown;
+      nothing = is_new.nothing key y (subst (λ l. Contains l (key, y)) (is ∙ of) (subst (λ l. Contains l (key, y)) (sym alone) (0, omega arith, refl)));
+      written = written;
+    }
 
 -- ---- the delta
 module _ {S P H Hash : Type 0} (at : S → P → DotValue → Option H) (greater : H → H → H) (mine : TrieMapValue Hash S) (own : DotValue → Bool)

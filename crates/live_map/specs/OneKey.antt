@@ -1,11 +1,12 @@
 -- The join of a delta at the one key that it can change. Of this project.
-use Rattle.std.specs.Prelude.{◌≡◌, ℕ, ◌≤◌, ◌+◌, List, Bool, false, Option, IsTrue}
+use Rattle.std.specs.Prelude.{◌≡◌, ℕ, ◌≤◌, ◌+◌, List, Bool, false, Option, None, Contains, IsTrue, length}
 use Rattle.std.specs.FinMap as finite
 use Rattle.dots.specs.Bytes.{bytes_cmp}
 use Rattle.dots.specs.Dot.{DotValue}
 use Rattle.causal_context.specs.Context.{ContextValue, has, known_up_to}
 use Rattle.causal_context.specs.Growth.{IsOnlyNew}
 use Rattle.trie_map.specs.Here.{IsJoinHere, JoinsHere}
+use Rattle.trie_map.specs.Keyed.{TrieMapValue}
 
 -- what was made for a key is the join of what stands there in a map with what a delta holds there, or none where the two are the same
 pub record IsMadeAt {S P H : Type 0} (at : S → P → DotValue → Option H) (greater : H → H → H) (mine : finite.FinMap bytes_cmp S) (key : List ℕ)
@@ -29,6 +30,14 @@ pub record IsRaise (own theirs : ContextValue) (dot : DotValue) : Type 0 where
 -- there is no other dot than this one
 abbrev pub HasNoOther : (DotValue → Bool) → DotValue → Type 0
 HasNoOther theirs dot = (d : DotValue) → IsTrue (theirs d) → d ≡ dot
+
+-- a delta of these entries brings one dot, just above an entry of a context, to one key, at which nothing stands in a map
+pub record IsAtNewKey {S Hash : Type 0} (mine : TrieMapValue Hash S) (own : ContextValue) (entries : List (List ℕ × S)) (theirs : ContextValue)
+    (dot : DotValue) : Type 0 where
+  pub raise : IsRaise own theirs dot
+  pub only : HasNoOther (has theirs) dot
+  pub one : length entries ≡ 1
+  pub nothing : (key : List ℕ) (store : S) → Contains entries (key, store) → finite.get mine.1 key ≡ None
 
 -- what stands at a key of a map became its join with what a delta holds there
 pub record IsJoinedIn {S P H : Type 0} (at : S → P → DotValue → Option H) (greater : H → H → H) (old new : finite.FinMap bytes_cmp S) (key : List ℕ)

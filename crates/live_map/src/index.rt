@@ -68,6 +68,15 @@ impl<A: Allocator + Copy> Index<A> {
         self.places.remove(place);
     }
 
+    // Names the key for the dot, with a copy of the key.
+    pub(crate) fn add_key(&mut self, alloc: A, key: &Key<A>, dot: Dot) -> Result<(), Refusal>
+        ensures there { OnOk result (IsTrue (names self.new dot key.now)) }
+        ensures kept { (d : DotValue) (q : List ℕ) → IsTrue (names self.old d q) → IsTrue (names self.new d q) }
+        ensures err { IsOkUnless result Refusal.OutOfMemory }
+    {
+        self.add(dot, key.copy(alloc)?)
+    }
+
     // Names the key for the dot, unless it is known.
     fn add_new(
         &mut self,
@@ -83,7 +92,7 @@ impl<A: Allocator + Copy> Index<A> {
         if known.contains(dot) {
             return Ok(());
         }
-        self.add(dot, key.copy(alloc)?)
+        self.add_key(alloc, key, dot)
     }
 
     // Names the key for the dots of this name up to this number that are not known. A refused call may have named some.

@@ -13,7 +13,7 @@ ghost use Rattle.trie_map.specs.Keyed.{at_keys, NoStoreIsEmpty, EachIsCanonical}
 use crate::bringing::brought;
 use crate::closing::{closed, name_built, touch_since};
 use crate::index::Index;
-use crate::new_key::join_at_new_key;
+use crate::new_key::{copy_at_new_key, dot_at_new_key, take_at_new_key};
 use crate::one_key::join_at_one;
 use crate::prepared::Prepared;
 use crate::touched::Touched;
@@ -37,7 +37,7 @@ use trie_map::TrieMap;
 /// its context knows. These are found in an index of where dots stand, which is kept beside the pair. What stands at a touched
 /// key is one store; no other key is looked at. It is joined in place, by `join_into`, where no other map shares it and the delta
 /// can change no other key, brings one dot, just above an entry of the context, and knows no first dot of a name; else it is made
-/// anew. Where nothing stands at the key and the delta knows such a dot alone, what it holds is copied.
+/// anew. Where nothing stands at the key and the delta knows such a dot alone, what it holds is put there.
 #[derive(Drop)]
 pub struct Live<
     S: DotStore<A>,
@@ -349,32 +349,47 @@ impl<S: DotStore<A>, M: Summary<S>, H: PathHash, A: Allocator + Copy> Live<S, M,
         ensures unchanged { OnErr result (self.new.0 ≡ self.old.0) }
         ensures err { IsOkUnless result Refusal.OutOfMemory }
     {
-        if self.join_new_key(alloc, delta)? {
-            return Ok(());
+        match dot_at_new_key(&self.store, &self.context, delta) {
+            Some(dot) => copy_at_new_key(
+                alloc,
+                &mut self.store,
+                &mut self.context,
+                &mut self.index,
+                delta,
+                dot,
+            ),
+            None => self.join_any_keys(alloc, delta),
         }
-        self.join_any_keys(alloc, delta)
     }
 
-    // Joins the delta in where it brings one dot to a key at which nothing stands, and tells whether it did.
-    fn join_new_key(
+    /// Joins the delta in, as `join_delta` does, and takes it over: what it brings to a key at which nothing stands is not copied.
+    /// Its only refusal is OutOfMemory; then the delta is gone, and the pair is as it was.
+    pub fn take_delta(
         &mut self,
         alloc: A,
-        delta: &Causal<DotMap<Key<A>, S, A>, A>,
-    ) -> Result<bool, Refusal>
+        delta: Causal<DotMap<Key<A>, S, A>, A>,
+    ) -> Result<(), Refusal>
         ensures hash { self.new.0.0.0 ≡ self.old.0.0.0 }
-        ensures ok { IfOk result (λ done. IsTrue done → Same (state_of (at_keys S.at) self.new.0)
-            (join S.greater (state_of (at_keys S.at) self.old.0) (state_of (at_stores S.at bytes_cmp) delta.now))) }
-        ensures undone { IfOk result (λ done. done ≡ false → self.new.0 ≡ self.old.0) }
+        ensures ok { OnOk result (Same (state_of (at_keys S.at) self.new.0)
+            (join S.greater (state_of (at_keys S.at) self.old.0) (state_of (at_stores S.at bytes_cmp) delta))) }
         ensures unchanged { OnErr result (self.new.0 ≡ self.old.0) }
         ensures err { IsOkUnless result Refusal.OutOfMemory }
     {
-        join_at_new_key(
-            alloc,
-            &mut self.store,
-            &mut self.context,
-            &mut self.index,
-            delta,
-        )
+        match dot_at_new_key(&self.store, &self.context, &delta) {
+            Some(dot) => take_at_new_key(
+                alloc,
+                &mut self.store,
+                &mut self.context,
+                &mut self.index,
+                delta,
+                dot,
+            ),
+            None => {
+                let joined = self.join_any_keys(alloc, &delta);
+                drop(delta);
+                joined
+            }
+        }
     }
 
     // Joins the delta in, whatever keys it can change.

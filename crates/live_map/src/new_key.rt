@@ -1,5 +1,5 @@
-// The join of a delta that brings one dot to a key at which nothing stands: what it holds there is what will stand there.
-ghost use Rattle.std.specs.Prelude.{◌≡◌, ◌||◌, false, ℕ, List, IsTrue, IfSome, IfOk, OnOk, OnErr, IsOkUnless};
+// The join of a delta that brings one dot to one key, at which nothing stands: what it holds there is what will stand there.
+ghost use Rattle.std.specs.Prelude.{◌≡◌, ◌||◌, ℕ, List, IsTrue, IfSome, OnOk, OnErr, IsOkUnless};
 ghost use Rattle.causal_context.specs.Context.{has};
 ghost use Rattle.causal_join.specs.Causal.{state_of};
 ghost use Rattle.dot_store.specs.Store.{HoldsSame, state_with};
@@ -8,7 +8,7 @@ ghost use Rattle.dots.specs.Bytes.{bytes_cmp};
 ghost use Rattle.dots.specs.Dot.{DotValue};
 ghost use Rattle.op_model.specs.State.{join, IsInside};
 ghost use Rattle.live_map.specs.Index.{names, IsIndexed};
-ghost use Rattle.live_map.specs.OneKey.{HasNoOther, IsRaise};
+ghost use Rattle.live_map.specs.OneKey.{HasNoOther, IsAtNewKey, IsRaise};
 ghost use Rattle.trie_map.specs.Here.{IsWritten};
 ghost use Rattle.trie_map.specs.Keyed.{at_keys};
 
@@ -37,44 +37,93 @@ fn next_of<A: Allocator + Copy>(own: &Context<A>, theirs: &Context<A>) -> Option
     Some(*dot)
 }
 
-// Joins the delta in where it brings one dot, just above the entry of its name, to one key, at which nothing stands, and tells whether it
-// did. Nothing else can change then: so what the delta holds is copied there. A refused call leaves the store and the context.
-pub(crate) fn join_at_new_key<S: DotStore<A>, M: Summary<S>, H: PathHash, A: Allocator + Copy>(
+// The dot that the delta brings, where it knows no other, which is new and just above the entry of its name, and holds something at one key
+// alone, at which nothing stands.
+pub(crate) fn dot_at_new_key<S: DotStore<A>, M: Summary<S>, H: PathHash, A: Allocator + Copy>(
+    store: &TrieMap<S, M, H, A>,
+    context: &Context<A>,
+    delta: &Causal<DotMap<Key<A>, S, A>, A>,
+) -> Option<Dot>
+    ensures { IfSome result (λ dot. IsAtNewKey store.now context.now delta.now.0 delta.now.1 dot) }
+{
+    let dot = next_of(context, delta.context())?;
+    let [(key, _)] = delta.store().entries() else {
+        return None;
+    };
+    if store.get(key).is_some() {
+        return None;
+    }
+    Some(dot)
+}
+
+// Joins such a delta in, which stays: what it holds is copied. A refused call leaves the store and the context.
+pub(crate) fn copy_at_new_key<S: DotStore<A>, M: Summary<S>, H: PathHash, A: Allocator + Copy>(
     alloc: A,
     store: &mut TrieMap<S, M, H, A>,
     context: &mut Context<A>,
     index: &mut Index<A>,
     delta: &Causal<DotMap<Key<A>, S, A>, A>,
-) -> Result<bool, Refusal>
+    dot: Dot,
+) -> Result<(), Refusal>
     requires inside { IsInside (state_of (at_keys S.at) (store.old, context.old)) }
     requires indexed { IsIndexed (at_keys S.at store.old) index.old }
+    requires new { IsAtNewKey store.old context.old delta.now.0 delta.now.1 dot }
     ensures hash { store.new.0 ≡ store.old.0 }
-    ensures ok { IfOk result (λ done. IsTrue done → HoldsSame (at_keys S.at store.new)
+    ensures ok { OnOk result (HoldsSame (at_keys S.at store.new)
         (join S.greater (state_with (at_keys S.at store.old) (has context.old)) (state_of (at_stores S.at bytes_cmp) delta.now)).at) }
-    ensures known { IfOk result (λ done. IsTrue done → (d : DotValue) → has context.new d ≡ (has context.old d || has delta.now.1 d)) }
+    ensures known { OnOk result ((d : DotValue) → has context.new d ≡ (has context.old d || has delta.now.1 d)) }
     ensures inside { IsInside (state_of (at_keys S.at) (store.new, context.new)) }
     ensures indexed { IsIndexed (at_keys S.at store.new) index.new }
-    ensures undone { IfOk result (λ done. done ≡ false → (store.new ≡ store.old) × (context.new ≡ context.old)) }
     ensures store { OnErr result (store.new ≡ store.old) }
     ensures context { OnErr result (context.new ≡ context.old) }
     ensures err { IsOkUnless result Refusal.OutOfMemory }
 {
-    let Some(dot) = next_of(context, delta.context()) else {
-        return Ok(false);
-    };
     let [(key, yours)] = delta.store().entries() else {
-        return Ok(false);
+        unreachable!();
     };
-    if store.get(key).is_some() {
-        return Ok(false);
-    }
+    put_copied(alloc, store, index, key, yours, dot)?;
+    context.raise(dot);
+    Ok(())
+}
+
+// Joins such a delta in, and takes what it holds. A refused call leaves the store and the context.
+pub(crate) fn take_at_new_key<S: DotStore<A>, M: Summary<S>, H: PathHash, A: Allocator + Copy>(
+    alloc: A,
+    store: &mut TrieMap<S, M, H, A>,
+    context: &mut Context<A>,
+    index: &mut Index<A>,
+    delta: Causal<DotMap<Key<A>, S, A>, A>,
+    dot: Dot,
+) -> Result<(), Refusal>
+    requires inside { IsInside (state_of (at_keys S.at) (store.old, context.old)) }
+    requires indexed { IsIndexed (at_keys S.at store.old) index.old }
+    requires new { IsAtNewKey store.old context.old delta.0 delta.1 dot }
+    ensures hash { store.new.0 ≡ store.old.0 }
+    ensures ok { OnOk result (HoldsSame (at_keys S.at store.new)
+        (join S.greater (state_with (at_keys S.at store.old) (has context.old)) (state_of (at_stores S.at bytes_cmp) delta)).at) }
+    ensures known { OnOk result ((d : DotValue) → has context.new d ≡ (has context.old d || has delta.1 d)) }
+    ensures inside { IsInside (state_of (at_keys S.at) (store.new, context.new)) }
+    ensures indexed { IsIndexed (at_keys S.at store.new) index.new }
+    ensures store { OnErr result (store.new ≡ store.old) }
+    ensures context { OnErr result (context.new ≡ context.old) }
+    ensures err { IsOkUnless result Refusal.OutOfMemory }
+{
+    // proof: `entries` promises what it holds there, and nowhere else.
+    let _ = delta.store().entries();
+    let (brought, theirs) = delta.into_parts();
+    drop(theirs);
+    let mut entries = brought.into_entries();
+    let Some((key, yours)) = entries.pop() else {
+        unreachable!();
+    };
+    drop(entries);
     put_named(alloc, store, index, key, yours, dot)?;
     context.raise(dot);
-    Ok(true)
+    Ok(())
 }
 
 // Puts a copy of the store at the key, and names the key for the dot.
-fn put_named<S: DotStore<A>, M: Summary<S>, H: PathHash, A: Allocator + Copy>(
+fn put_copied<S: DotStore<A>, M: Summary<S>, H: PathHash, A: Allocator + Copy>(
     alloc: A,
     store: &mut TrieMap<S, M, H, A>,
     index: &mut Index<A>,
@@ -89,7 +138,39 @@ fn put_named<S: DotStore<A>, M: Summary<S>, H: PathHash, A: Allocator + Copy>(
     ensures unchanged { OnErr result (store.new ≡ store.old) }
     ensures err { IsOkUnless result Refusal.OutOfMemory }
 {
-    index.add(dot, key.copy(alloc)?)?;
     let copy = yours.copy(alloc)?;
-    store.put(alloc, key, copy)
+    match key.copy(alloc) {
+        Ok(key) => put_named(alloc, store, index, key, copy, dot),
+        Err(refusal) => {
+            drop(copy);
+            Err(refusal)
+        }
+    }
+}
+
+// Puts the store at the key, and names the key for the dot.
+fn put_named<S: DotStore<A>, M: Summary<S>, H: PathHash, A: Allocator + Copy>(
+    alloc: A,
+    store: &mut TrieMap<S, M, H, A>,
+    index: &mut Index<A>,
+    key: Key<A>,
+    yours: S,
+    dot: Dot,
+) -> Result<(), Refusal>
+    ensures hash { store.new.0 ≡ store.old.0 }
+    ensures ok { OnOk result (IsWritten S.at store.old.1 store.new.1 key yours) }
+    ensures there { OnOk result (IsTrue (names index.new dot key)) }
+    ensures kept { (d : DotValue) (q : List ℕ) → IsTrue (names index.old d q) → IsTrue (names index.new d q) }
+    ensures unchanged { OnErr result (store.new ≡ store.old) }
+    ensures err { IsOkUnless result Refusal.OutOfMemory }
+{
+    let named = index.add_key(alloc, &key, dot);
+    if let Err(refusal) = named {
+        drop(yours);
+        drop(key);
+        return Err(refusal);
+    }
+    let put = store.put(alloc, &key, yours);
+    drop(key);
+    put
 }

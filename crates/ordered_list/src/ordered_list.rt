@@ -121,6 +121,14 @@ impl<K: Ord, V, A: Allocator> OrderedList<K, V, A> {
         &self.items
     }
 
+    /// The entries themselves, in the order of their keys. Copies nothing.
+    pub fn into_entries(self) -> Vec<(K, V), A>
+        ensures all { result.items ≡ self }
+        ensures ordered { IsStrictlySortedBy K.cmp (keys_of result.items) }
+    {
+        self.items
+    }
+
     /// The value at the key. Takes time in the logarithm of their number, and no memory.
     /// None exactly where it has none.
     pub fn get(&self, key: &K) -> Option<&V>

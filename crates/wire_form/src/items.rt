@@ -23,6 +23,9 @@ pub(crate) fn read_items<T: Spelled<A>, A: Allocator + Copy>(
     read_each(alloc, count, rest)
 }
 
+// Up to so many items get their room at once.
+const FEW: u64 = 16;
+
 // So many items, one after another.
 fn read_each<T: Spelled<A>, A: Allocator + Copy>(
     alloc: A,
@@ -31,7 +34,7 @@ fn read_each<T: Spelled<A>, A: Allocator + Copy>(
 ) -> Result<(Vec<T, A>, &[u8]), Refusal>
     ensures { Reads (λ r. (r.0.items, r.1.now)) (flat_map T.spell) (λ items. (length items ≡ count) × AllByRecursion T.fits items) bytes.now result }
 {
-    let mut items = Vec::new(alloc);
+    let mut items = Vec::with_capacity(alloc, count.min(FEW) as usize)?;
     let mut rest = bytes;
     for _ in 0..count {
         let (item, after) = T::read(alloc, rest)?;

@@ -46,7 +46,7 @@ fn at_empty_field<A: Allocator + Copy>(
     ensures fields { IfOk result (λ made. IfSome made (λ fields. fields ≡ alone values)) }
     ensures err { IsOkUnless result Refusal.OutOfMemory }
 {
-    let mut entries = Vec::new(alloc);
+    let mut entries = Vec::with_capacity(alloc, 1)?;
     entries.push((Field::empty(), values))?;
     Ok(Fields::from_entries(entries))
 }

@@ -8,7 +8,7 @@ use Rattle.wire_form.proofs.items.read_each.Goals as goal
 
 pub returns-in_err-item : goal.returns-in_err-item
 returns-in_err-item g c =
-    let p = err_from_is_err_and c.from_residual.result c.from_residual.ensures.1 in
+    let p = err_from_is_err_and c.from_residual-in_err-item.result c.from_residual-in_err-item.ensures.1 in
     rw (p.1, p.2)
     (refuses_weaker (HasNoSpelling g.T.Spelled.spell g.T.Spelled.fits c.loop.rest.now)
     (HasNoSpelling (flat_map g.T.Spelled.spell) (AreSo g.T.Spelled.spell g.T.Spelled.fits c.args.count) c.args.bytes.now) c.in_err-item.field-0.0
@@ -20,7 +20,7 @@ loop-init g c =
     let spell = g.T.Spelled.spell in
     let Fits = g.T.Spelled.fits in
     let bytes = c.args.bytes.now in
-    subst (λ items. Begins (flat_map spell) (AreSo spell Fits 0) bytes items bytes) (sym c.new-items.ensures.items) (none_read spell Fits bytes)
+    subst (λ items. Begins (flat_map spell) (AreSo spell Fits 0) bytes items bytes) (sym c.in_ok-items.ensures.items) (none_read spell Fits bytes)
 
 pub loop-preserved : goal.loop-preserved
 loop-preserved g c =
