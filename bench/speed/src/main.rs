@@ -2,6 +2,7 @@
 //! builds it and runs it.
 mod counting;
 mod keys;
+mod messages;
 mod ours;
 mod pages;
 mod peers;
@@ -188,11 +189,11 @@ fn fields() -> Table {
 /// What it takes a replica to take in the messages of these puts, of which the first are lost, and then to put each itself: the least of
 /// twenty runs.
 fn taken_and_put(keys: &[u64], lost: usize) -> (f64, f64) {
-    let letters = ours::letters(keys);
+    let messages = ours::puts(keys);
     let mut least = (f64::INFINITY, f64::INFINITY);
     for _ in 0..20 {
         let mut there = ours::replica(2);
-        let taking = once(&mut || ours::take_each(&mut there, &letters[lost..]));
+        let taking = once(&mut || ours::take_each(&mut there, messages.iter().skip(lost)));
         let putting = once(&mut || ours::put_each(&mut there, keys));
         least = (least.0.min(taking), least.1.min(putting));
     }

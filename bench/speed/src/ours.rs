@@ -1,6 +1,7 @@
 //! The calls of a replica, by the crate of `rust/` over the C library: what a program in Rust holds.
+use crate::keys::{bytes, READS};
+use crate::messages::Messages;
 use crate::Measure;
-use crate::keys::{READS, bytes};
 use ginelm::{Letter, Replica};
 use std::hint::black_box;
 use std::num::NonZeroU64;
@@ -48,25 +49,32 @@ fn get_each(here: &Replica, keys: &[u64]) {
 }
 
 /// The message of each write.
-fn sent_by(here: &mut Replica, keys: &[u64], write: fn(&mut Replica, u64)) -> Vec<Letter> {
+fn sent_by(here: &mut Replica, keys: &[u64], write: fn(&mut Replica, u64)) -> Messages {
     let sent = keys.iter().map(|key| {
         write(here, *key);
-        flush(here).expect("it was written")
+        flush(here).expect("it was written").bytes
     });
     sent.collect()
 }
 
 /// The message of each put.
-pub fn letters(keys: &[u64]) -> Vec<Letter> {
+pub fn puts(keys: &[u64]) -> Messages {
     sent_by(&mut replica(1), keys, put)
 }
 
-fn take(there: &mut Replica, letter: &Letter) {
-    black_box(there.take(&letter.bytes).expect("a message"));
+/// The message of each put, and of each remove after them.
+fn puts_and_removes(keys: &[u64]) -> (Messages, Messages) {
+    let mut here = replica(1);
+    let puts = sent_by(&mut here, keys, put);
+    (puts, sent_by(&mut here, keys, remove))
 }
 
-pub fn take_each(there: &mut Replica, letters: &[Letter]) {
-    letters.iter().for_each(|letter| take(there, letter));
+fn take(there: &mut Replica, message: &[u8]) {
+    black_box(there.take(message).expect("a message"));
+}
+
+pub fn take_each<'a>(there: &mut Replica, messages: impl Iterator<Item = &'a [u8]>) {
+    messages.for_each(|message| take(there, message));
 }
 
 /// Sends what waits by so many bytes.
@@ -86,18 +94,17 @@ pub fn steps(keys: &[u64], measure: Measure) -> [f64; 10] {
     here = replica(1);
     let put_alone = measure(&mut || put_all(&mut here, keys));
     let overwrite_alone = measure(&mut || put_all(&mut here, keys));
-    here = replica(1);
-    let puts = sent_by(&mut here, keys, self::put);
-    let removes = sent_by(&mut here, keys, self::remove);
+    drop(here);
+    let (puts, removes) = puts_and_removes(keys);
     let mut there = replica(2);
-    let take_once = measure(&mut || take_each(&mut there, &puts));
-    let late = measure(&mut || take_each(&mut there, &puts));
-    let take_remove = measure(&mut || take_each(&mut there, &removes));
+    let take_once = measure(&mut || take_each(&mut there, puts.iter()));
+    let late = measure(&mut || take_each(&mut there, puts.iter()));
+    let take_remove = measure(&mut || take_each(&mut there, removes.iter()));
     there = replica(2);
     let twice = measure(&mut || {
-        for letter in &puts {
-            take(&mut there, letter);
-            take(&mut there, letter);
+        for message in puts.iter() {
+            take(&mut there, message);
+            take(&mut there, message);
         }
     });
     let each = get / READS as f64;
@@ -119,13 +126,14 @@ pub fn steps(keys: &[u64], measure: Measure) -> [f64; 10] {
 /// The messages of the puts, of so many each, and what it takes to take them in.
 pub fn take_by(keys: &[u64], many: usize, measure: Measure) -> f64 {
     let mut here = replica(1);
-    let letters = keys.chunks(many).map(|some| {
+    let messages = keys.chunks(many).map(|some| {
         put_all(&mut here, some);
-        flush(&mut here).expect("they were put")
+        flush(&mut here).expect("they were put").bytes
     });
-    let letters: Vec<Letter> = letters.collect();
+    let messages: Messages = messages.collect();
+    drop(here);
     let mut there = replica(2);
-    measure(&mut || take_each(&mut there, &letters))
+    measure(&mut || take_each(&mut there, messages.iter()))
 }
 
 /// Writes each number as a field of so many keys, in turn, and flushes each write.

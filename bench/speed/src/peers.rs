@@ -1,7 +1,8 @@
 //! The same work by what a user would pick instead: `Map` from keys to multi-value registers of the crate `crdts`, whose messages are
 //! its operations by bincode, and a map of std and of im-rc without any replication.
+use crate::keys::{bytes, READS};
+use crate::messages::Messages;
 use crate::Measure;
-use crate::keys::{READS, bytes};
 use crdts::{CmRDT, CvRDT, MVReg, Map};
 use im_rc::ordmap::DiffItem;
 use std::collections::BTreeMap;
@@ -54,7 +55,7 @@ fn take(map: &mut Plain, message: &[u8]) {
     map.apply(op);
 }
 
-fn take_each(map: &mut Plain, messages: &[Bytes]) {
+fn take_each(map: &mut Plain, messages: &Messages) {
     messages.iter().for_each(|message| take(map, message));
 }
 
@@ -86,13 +87,14 @@ pub fn steps(keys: &[u64], measure: Measure) -> [Option<f64>; 10] {
     let remove = Some(measure(&mut || {
         keys.iter().for_each(|key| remove(&mut map, *key))
     }));
-    let messages: Vec<Bytes> = puts(keys).iter().map(sent).collect();
+    drop(map);
+    let messages: Messages = puts(keys).iter().map(sent).collect();
     let mut other = Plain::new();
     let take_once = measure(&mut || take_each(&mut other, &messages));
     let late = Some(measure(&mut || take_each(&mut other, &messages)));
     other = Plain::new();
     let twice = measure(&mut || {
-        for message in &messages {
+        for message in messages.iter() {
             take(&mut other, message);
             take(&mut other, message);
         }
