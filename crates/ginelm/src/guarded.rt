@@ -35,11 +35,7 @@ pub fn take<H: PathHash, A: Allocator + Copy>(
     ensures unchanged { OnErr result (Stays replica.old replica.new) }
 {
     match decode(alloc, bytes) {
-        Ok(message) => {
-            let taken = take_decoded(replica, &message);
-            drop(message);
-            taken
-        }
+        Ok(message) => take_decoded(replica, message),
         Err(refusal) => Err(TakeError::Refused(refusal)),
     }
 }
@@ -47,16 +43,17 @@ pub fn take<H: PathHash, A: Allocator + Copy>(
 // Takes the message in, unless it tells of a lost memory.
 fn take_decoded<H: PathHash, A: Allocator + Copy>(
     replica: &mut Replica<H, A>,
-    message: &Message<A>,
+    message: Message<A>,
 ) -> Result<Taken<A>, TakeError>
-    ensures ok { IfOk result (λ taken. (taken.session ≡ session_of (message_of message.now))
-        × Sends H.hash_of replica.old replica.new (Take (mail_of (message_of message.now))) (Came (outcome_of taken.outcome)) (letters_of taken.letters.items)) }
-    ensures untaken { IfErr result (λ error. ((error ≡ TakeError.LostMemory) × HasLost (meaning replica.old) (mail_of (message_of message.now)))
+    ensures ok { IfOk result (λ taken. (taken.session ≡ session_of (message_of message))
+        × Sends H.hash_of replica.old replica.new (Take (mail_of (message_of message))) (Came (outcome_of taken.outcome)) (letters_of taken.letters.items)) }
+    ensures untaken { IfErr result (λ error. ((error ≡ TakeError.LostMemory) × HasLost (meaning replica.old) (mail_of (message_of message)))
         ⊎ (error ≡ TakeError.Refused Refusal.OutOfMemory)) }
-    ensures guarded { HasLost (meaning replica.old) (mail_of (message_of message.now)) → result ≡ Err TakeError.LostMemory }
+    ensures guarded { HasLost (meaning replica.old) (mail_of (message_of message)) → result ≡ Err TakeError.LostMemory }
     ensures unchanged { OnErr result (Stays replica.old replica.new) }
 {
-    if replica.has_lost(message) {
+    if replica.has_lost(&message) {
+        drop(message);
         return Err(TakeError::LostMemory);
     }
     match replica.take(message) {

@@ -65,26 +65,23 @@ fn take_guarded(
     ensures untold_session { result ≢ 0 → session.new ≡ session.old }
 {
     match decode(alloc, bytes) {
-        Ok(message) => {
-            let answer = take_decoded(held, &message, outcome, session);
-            drop(message);
-            answer
-        }
+        Ok(message) => take_decoded(held, message, outcome, session),
         Err(refusal) => told(Err(refusal)),
     }
 }
 
 // Takes a message in that is decoded, but where it tells of a lost memory.
-fn take_decoded(held: &mut Held, message: &Message, outcome: &mut u32, session: &mut Named) -> u32
-    ensures done { result ≡ 0 → TakesIn held.old held.new (message_of message.now) outcome.new session.new }
+fn take_decoded(held: &mut Held, message: Message, outcome: &mut u32, session: &mut Named) -> u32
+    ensures done { result ≡ 0 → TakesIn held.old held.new (message_of message) outcome.new session.new }
     ensures refused { result ≢ 0 → IsSame held.old held.new }
-    ensures lost { result ≡ 19 → HasLost (meaning held.old.replica) (mail_of (message_of message.now)) }
+    ensures lost { result ≡ 19 → HasLost (meaning held.old.replica) (mail_of (message_of message)) }
     ensures stays { result ≡ 19 → held.new ≡ held.old }
-    ensures guarded { HasLost (meaning held.old.replica) (mail_of (message_of message.now)) → result ≡ 19 }
+    ensures guarded { HasLost (meaning held.old.replica) (mail_of (message_of message)) → result ≡ 19 }
     ensures untold_outcome { result ≢ 0 → outcome.new ≡ outcome.old }
     ensures untold_session { result ≢ 0 → session.new ≡ session.old }
 {
-    if held.replica.has_lost(message) {
+    if held.replica.has_lost(&message) {
+        drop(message);
         return LOST_MEMORY;
     }
     told(take(held, message, outcome, session))

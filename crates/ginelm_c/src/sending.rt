@@ -100,11 +100,11 @@ pub(crate) fn outcome_number(outcome: Outcome) -> u32
 // Takes in what is decoded.
 pub(crate) fn take(
     held: &mut Held,
-    message: &Message,
+    message: Message,
     outcome: &mut u32,
     session: &mut Named,
 ) -> Result<(), Refusal>
-    ensures ok { OnOk result (TakesIn held.old held.new (message_of message.now) outcome.new session.new) }
+    ensures ok { OnOk result (TakesIn held.old held.new (message_of message) outcome.new session.new) }
     ensures unchanged { OnErr result (IsSame held.old held.new) }
     ensures untold_outcome { OnErr result (outcome.new ≡ outcome.old) }
     ensures untold_session { OnErr result (session.new ≡ session.old) }
@@ -133,9 +133,7 @@ fn take_bytes(
     ensures untold_session { OnErr result (session.new ≡ session.old) }
 {
     let message = decode(alloc, bytes)?;
-    let taken = take(held, &message, outcome, session);
-    drop(message);
-    taken
+    take(held, message, outcome, session)
 }
 
 /// Takes a message in by its bytes, whatever it says, and tells what came of it by number, and the synchronisation that it named. What is to

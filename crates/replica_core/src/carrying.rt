@@ -119,15 +119,33 @@ impl<H: PathHash, A: Allocator + Copy> Replica<H, A> {
         ensures unchanged { OnErr result (Stays self.old self.new) }
     {
         let message = decode(self.alloc, bytes)?;
-        let taken = self.take(&message);
-        drop(message);
-        taken
+        self.take(message)
     }
 
-    /// Takes a message in that is decoded, as `take_bytes` does: for who looks at it first, as `has_lost` does.
+    /// Takes a message over that is decoded, as `take_bytes` does: for who looks at it first, as `has_lost` does.
     ///
     /// Its only refusal is OutOfMemory; a refused call changes nothing. Takes what `deliver` takes, and time and memory in the bytes that go.
-    pub fn take(&mut self, message: &Message<A>) -> Result<Taken<A>, Refusal>
+    pub fn take(&mut self, message: Message<A>) -> Result<Taken<A>, Refusal>
+        ensures session { IfOk result (λ taken. taken.session ≡ session_of (message_of message)) }
+        ensures ok { IfOk result (λ taken. Sends H.hash_of self.old self.new (Take (mail_of (message_of message))) (Came (outcome_of taken.outcome)) (letters_of taken.letters.items)) }
+        ensures refused { IsOkUnless result Refusal.OutOfMemory }
+        ensures unchanged { OnErr result (Stays self.old self.new) }
+    {
+        match message {
+            Message::Delta(delta) => {
+                self.take_over(delta)?;
+                Ok(Taken::joined(self.alloc))
+            }
+            message => {
+                let taken = self.take_sent(&message);
+                drop(message);
+                taken
+            }
+        }
+    }
+
+    // Takes a message in of any kind.
+    fn take_sent(&mut self, message: &Message<A>) -> Result<Taken<A>, Refusal>
         ensures session { IfOk result (λ taken. taken.session ≡ session_of (message_of message.now)) }
         ensures ok { IfOk result (λ taken. Sends H.hash_of self.old self.new (Take (mail_of (message_of message.now))) (Came (outcome_of taken.outcome)) (letters_of taken.letters.items)) }
         ensures refused { IsOkUnless result Refusal.OutOfMemory }

@@ -99,6 +99,18 @@ impl<H: PathHash, A: Allocator + Copy> Replica<H, A> {
         Ok(())
     }
 
+    // Joins a delta in, and takes it over.
+    pub(crate) fn take_over(&mut self, delta: OrMap<A>) -> Result<(), Refusal>
+        ensures ok { OnOk result (Steps H.hash_of self.old self.new (Take (Delta (or_map_state delta))) (Came Joined) []) }
+        ensures refused { IsOkUnless result Refusal.OutOfMemory }
+        ensures unchanged { OnErr result (Stays self.old self.new) }
+    {
+        // proof: the clauses `filled` and `canonical` of `store`.
+        let _ = self.live.store();
+        self.live.take_delta(self.alloc, delta)?;
+        Ok(())
+    }
+
     // Answers a hello with the opening of its session's snapshot.
     fn take_hello<O: Outbox<A>>(
         &mut self,

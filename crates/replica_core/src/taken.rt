@@ -1,3 +1,5 @@
+ghost use Rattle.std.specs.Prelude.{◌≡◌, [], None};
+
 use crate::letter::Letter;
 use crate::outcome::Outcome;
 use std::alloc::{Allocator, Global};
@@ -12,4 +14,19 @@ pub struct Taken<A: Allocator + Copy = Global> {
     pub session: Option<Session>,
     /// The letters that are to be sent, in this order.
     pub letters: Vec<Letter<A>, A>,
+}
+
+impl<A: Allocator + Copy> Taken<A> {
+    // What came of a delta. Takes no memory.
+    pub(crate) fn joined(alloc: A) -> Taken<A>
+        ensures outcome { result.outcome ≡ Outcome.Joined }
+        ensures session { result.session ≡ None }
+        ensures letters { result.letters.items ≡ [] }
+    {
+        Taken {
+            outcome: Outcome::Joined,
+            session: None,
+            letters: Vec::new(alloc),
+        }
+    }
 }

@@ -4,5 +4,5 @@ use Rattle.ginelm.proofs.guarded.take.Goals as goal
 
 pub returns-in-Ok-clause-ok : goal.returns-in-Ok-clause-ok
 returns-in-Ok-clause-ok g c =
-    IfOk-weaker c.take_decoded-taken.result _ _ (λ taken came. (message_of c.in-Ok.message, c.in-Ok.ensures.ok, came.0, came.1))
-    c.take_decoded-taken.ensures.ok
+    IfOk-weaker c.take_decoded.result _ _ (λ taken came. (message_of c.in-Ok.message, c.in-Ok.ensures.ok, came.0, came.1))
+    c.take_decoded.ensures.ok
