@@ -126,6 +126,16 @@ fn calls(count: usize) -> Table {
             mallocs: asked.0[at].map(|asked_here| (asked_here, asked.1[at])),
         });
     }
+    let each = |take: fn(&[u64], Measure) -> f64| {
+        let whole = || (0..rounds).map(|_| take(&keys, &mut |run| once(run))).sum();
+        1e6 * least(whole) / (rounds * count) as f64
+    };
+    table.push(Row::beside(
+        "deliver of a put, a block beside its sender",
+        each(ours::take_blocks),
+        each(peers::take_blocks),
+        None,
+    ));
     for many in [100, 10_000] {
         if many <= count {
             let take = || {

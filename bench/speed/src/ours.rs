@@ -123,6 +123,18 @@ pub fn steps(keys: &[u64], measure: Measure) -> [f64; 10] {
     ]
 }
 
+/// What it takes to take in the messages of these puts, where each is a block of its own between those of the replica that sent it.
+pub fn take_blocks(keys: &[u64], measure: Measure) -> f64 {
+    let mut here = replica(1);
+    let blocks = keys.iter().map(|key| {
+        put(&mut here, *key);
+        flush(&mut here).expect("it was put").bytes
+    });
+    let blocks: Vec<Vec<u8>> = blocks.collect();
+    let mut there = replica(2);
+    measure(&mut || take_each(&mut there, blocks.iter().map(Vec::as_slice)))
+}
+
 /// The messages of the puts, of so many each, and what it takes to take them in.
 pub fn take_by(keys: &[u64], many: usize, measure: Measure) -> f64 {
     let mut here = replica(1);

@@ -55,8 +55,22 @@ fn take(map: &mut Plain, message: &[u8]) {
     map.apply(op);
 }
 
-fn take_each(map: &mut Plain, messages: &Messages) {
-    messages.iter().for_each(|message| take(map, message));
+fn take_each<'a>(map: &mut Plain, messages: impl Iterator<Item = &'a [u8]>) {
+    messages.for_each(|message| take(map, message));
+}
+
+/// As `ours::take_blocks`.
+pub fn take_blocks(keys: &[u64], measure: Measure) -> f64 {
+    let mut map = Plain::new();
+    let blocks = keys.iter().map(|key| {
+        let op = made(&map, 1, *key);
+        let message = sent(&op);
+        map.apply(op);
+        message
+    });
+    let blocks: Vec<Bytes> = blocks.collect();
+    let mut other = Plain::new();
+    measure(&mut || take_each(&mut other, blocks.iter().map(Vec::as_slice)))
 }
 
 fn remove(map: &mut Plain, key: u64) {
@@ -90,8 +104,8 @@ pub fn steps(keys: &[u64], measure: Measure) -> [Option<f64>; 10] {
     drop(map);
     let messages: Messages = puts(keys).iter().map(sent).collect();
     let mut other = Plain::new();
-    let take_once = measure(&mut || take_each(&mut other, &messages));
-    let late = Some(measure(&mut || take_each(&mut other, &messages)));
+    let take_once = measure(&mut || take_each(&mut other, messages.iter()));
+    let late = Some(measure(&mut || take_each(&mut other, messages.iter())));
     other = Plain::new();
     let twice = measure(&mut || {
         for message in messages.iter() {
