@@ -116,7 +116,7 @@ brings_one at mine own entries theirs dot new stores es key y is_new of is alone
           (ap (λ l. is_some (at_stores at bytes_cmp l (q, place) d)) of ∙ h);
       within = within;
       one = is_new.only;
-      fresh = is_new.raise.only.is_new.unknown;
+      fresh = is_new.only_new.is_new.unknown;
       nothing = is_new.nothing key y (subst (λ l. Contains l (key, y)) (is ∙ of) (subst (λ l. Contains l (key, y)) (sym alone) (0, omega arith, refl)));
       written = written;
     }

@@ -4,6 +4,7 @@ use Rattle.std.specs.FinMap as finite
 use Rattle.dots.specs.Bytes.{bytes_cmp}
 use Rattle.dots.specs.Dot.{DotValue}
 use Rattle.causal_context.specs.Context.{ContextValue, has, known_up_to}
+use Rattle.causal_context.specs.Canonical.{IsCanonical}
 use Rattle.causal_context.specs.Growth.{IsOnlyNew}
 use Rattle.trie_map.specs.Here.{IsJoinHere, JoinsHere}
 use Rattle.trie_map.specs.Keyed.{TrieMapValue}
@@ -31,10 +32,12 @@ pub record IsRaise (own theirs : ContextValue) (dot : DotValue) : Type 0 where
 abbrev pub HasNoOther : (DotValue → Bool) → DotValue → Type 0
 HasNoOther theirs dot = (d : DotValue) → IsTrue (theirs d) → d ≡ dot
 
--- a delta of these entries brings one dot, just above an entry of a context, to one key, at which nothing stands in a map
+-- a delta of these entries brings one dot, above which a context has none, to one key, at which nothing stands in a map
 pub record IsAtNewKey {S Hash : Type 0} (mine : TrieMapValue Hash S) (own : ContextValue) (entries : List (List ℕ × S)) (theirs : ContextValue)
     (dot : DotValue) : Type 0 where
-  pub raise : IsRaise own theirs dot
+  pub canonical : IsCanonical own
+  pub only_new : IsOnlyNew (has own) (has theirs) (has theirs) dot
+  pub last : has own (record { name = dot.name; number = dot.number + 1 }) ≡ false
   pub only : HasNoOther (has theirs) dot
   pub one : length entries ≡ 1
   pub nothing : (key : List ℕ) (store : S) → Contains entries (key, store) → finite.get mine.1 key ≡ None

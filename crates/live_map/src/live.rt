@@ -37,7 +37,8 @@ use trie_map::TrieMap;
 /// its context knows. These are found in an index of where dots stand, which is kept beside the pair. What stands at a touched
 /// key is one store; no other key is looked at. It is joined in place, by `join_into`, where no other map shares it and the delta
 /// can change no other key, brings one dot, just above an entry of the context, and knows no first dot of a name; else it is made
-/// anew. Where nothing stands at the key and the delta knows such a dot alone, what it holds is put there.
+/// anew. Where nothing stands at the key and the delta knows one dot alone, which is new and has none known just above it, what it
+/// holds is put there.
 #[derive(Drop)]
 pub struct Live<
     S: DotStore<A>,

@@ -271,7 +271,7 @@ fn write<S: DotStore<A>, M: Summary<S>, H: PathHash, A: Allocator + Copy>(
 
 // Writes the store at the key, where there is one, and adds a dot, above which none is known. The dot comes first, and is taken
 // out again where the store is not written: that needs no memory.
-fn write_adding<S: DotStore<A>, M: Summary<S>, H: PathHash, A: Allocator + Copy>(
+pub(crate) fn write_adding<S: DotStore<A>, M: Summary<S>, H: PathHash, A: Allocator + Copy>(
     alloc: A,
     store: &mut TrieMap<S, M, H, A>,
     context: &mut Context<A>,

@@ -1,4 +1,3 @@
-use Rattle.std.proofs.Common.{refl}
 use Rattle.causal_context.specs.Context.{has}
 use Rattle.causal_join.specs.Causal.{state_of}
 use Rattle.dot_store.specs.Stores.{at_stores}

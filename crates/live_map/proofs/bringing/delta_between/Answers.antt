@@ -1,10 +1,8 @@
-use Rattle.std.proofs.Common.{◌≡◌, ◌∙◌, ap, sym, subst}
-use Rattle.std.specs.Prelude.{IsTrue, IsSome, ◌||◌}
+use Rattle.std.proofs.Common.{◌≡◌, sym, subst}
+use Rattle.std.specs.Prelude.{IsTrue, ◌||◌}
 use Rattle.causal_context.specs.Context.{has}
-use Rattle.dot_store.specs.Store.{HoldsSame, state_with}
 use Rattle.dot_store.specs.Stores.{at_stores}
 use Rattle.dots.specs.Bytes.{bytes_cmp}
-use Rattle.op_model.specs.State.{join}
 use Rattle.live_map.proofs.Brought.{dots_known, is_there}
 use Rattle.live_map.proofs.bringing.delta_between.Goals as goal
 

@@ -8,10 +8,10 @@ use Rattle.live_map.proofs.new_key.copy_at_new_key.Given as given
 use Rattle.live_map.proofs.new_key.copy_at_new_key.Goals as goal
 
 -- the delta's one entry
-abbrev key : (g : given.Over) (c : goal.After-raise g) → List ℕ
+abbrev key : (g : given.Over) (c : goal.In_ok-put_copied g) → List ℕ
 key g c = (get_or c.entries.result.now 0 c.index-key-0.result).0
 
-brings : (g : given.Over) (c : goal.After-raise g) → BringsOne g.S.DotStore.at c.args.store.now (has c.args.context.now) (at_stores g.S.DotStore.at bytes_cmp c.args.delta.now.0)
+brings : (g : given.Over) (c : goal.In_ok-put_copied g) → BringsOne g.S.DotStore.at c.args.store.now (has c.args.context.now) (at_stores g.S.DotStore.at bytes_cmp c.args.delta.now.0)
     (has c.args.delta.now.1) (key g c) c.args.dot c.put_copied.new.store
 brings g c =
     brings_one g.S.DotStore.at c.args.store.now c.args.context.now c.args.delta.now.0 c.args.delta.now.1 c.args.dot c.put_copied.new.store
@@ -25,8 +25,8 @@ returns-clause-ok g c = new_key_joined _ g.S.DotStore.greater _ _ _ _ _ _ _ (bri
 
 pub returns-clause-inside : goal.returns-clause-inside
 returns-clause-inside g c =
-    new_key_inside _ g.S.DotStore.greater _ _ _ _ _ _ _ (brings g c) c.requires.inside (has c.raise.new.self)
-    (knows_added c.args.context.now c.args.delta.now.1 c.raise.new.self c.args.dot c.requires.new.raise.only c.raise.ensures)
+    new_key_inside _ g.S.DotStore.greater _ _ _ _ _ _ _ (brings g c) c.requires.inside (has c.put_copied.new.context)
+    (knows_added c.args.context.now c.args.delta.now.1 c.put_copied.new.context c.args.dot c.requires.new.only_new c.in_ok-put_copied.ensures.known)
 
 pub returns-clause-indexed : goal.returns-clause-indexed
 returns-clause-indexed g c =

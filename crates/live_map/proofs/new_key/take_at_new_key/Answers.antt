@@ -1,4 +1,4 @@
-use Rattle.std.proofs.Common.{◌∙◌, List, ℕ, length, sym, ap}
+use Rattle.std.proofs.Common.{◌∙◌, length, sym, ap}
 use Rattle.causal_context.specs.Context.{has}
 use Rattle.dot_store.specs.Stores.{at_stores}
 use Rattle.dots.specs.Bytes.{bytes_cmp}
@@ -7,7 +7,7 @@ use Rattle.live_map.proofs.NewKey.{BringsOne, brings_one, last_alone, new_key_jo
 use Rattle.live_map.proofs.new_key.take_at_new_key.Given as given
 use Rattle.live_map.proofs.new_key.take_at_new_key.Goals as goal
 
-brings : (g : given.Over) (c : goal.After-raise g) → BringsOne g.S.DotStore.at c.args.store.now (has c.args.context.now) (at_stores g.S.DotStore.at bytes_cmp c.args.delta.0)
+brings : (g : given.Over) (c : goal.In_ok-put_named g) → BringsOne g.S.DotStore.at c.args.store.now (has c.args.context.now) (at_stores g.S.DotStore.at bytes_cmp c.args.delta.0)
     (has c.args.delta.1) c.in-Some.key c.args.dot c.put_named.new.store
 brings g c =
     let held = c.entries.ensures.rest ∙ c.store.ensures.value in
@@ -24,8 +24,8 @@ returns-clause-ok g c = new_key_joined _ g.S.DotStore.greater _ _ _ _ _ _ _ (bri
 
 pub returns-clause-inside : goal.returns-clause-inside
 returns-clause-inside g c =
-    new_key_inside _ g.S.DotStore.greater _ _ _ _ _ _ _ (brings g c) c.requires.inside (has c.raise.new.self)
-    (knows_added c.args.context.now c.args.delta.1 c.raise.new.self c.args.dot c.requires.new.raise.only c.raise.ensures)
+    new_key_inside _ g.S.DotStore.greater _ _ _ _ _ _ _ (brings g c) c.requires.inside (has c.put_named.new.context)
+    (knows_added c.args.context.now c.args.delta.1 c.put_named.new.context c.args.dot c.requires.new.only_new c.in_ok-put_named.ensures.known)
 
 pub returns-clause-indexed : goal.returns-clause-indexed
 returns-clause-indexed g c =

@@ -1,4 +1,4 @@
-use Rattle.std.proofs.Common.{◌≡◌, ℕ, ◌≤◌, ◌<◌, List, get_or, false}
+use Rattle.std.proofs.Common.{◌≡◌, ℕ, ◌≤◌, ◌<◌, get_or, false}
 use Rattle.std.specs.Prelude.{IsTrue, ◌⊎◌}
 use Rattle.causal_context.specs.Context.{has}
 use Rattle.dots.specs.Dot.{DotValue}
