@@ -6,3 +6,4 @@ pub mod Unchanged
 pub mod Brought
 mod OneKey
 mod NewKey
+mod Repeating

@@ -56,6 +56,10 @@ one_among [] k q one first h = absurd h
 one_among (x ∷ []) k q one first h = let same : x ≡ q = ⊎_elim (λ e. e) (λ no. absurd no) h in sym (first ∙ same)
 one_among (x ∷ y ∷ rest) k q one first h = absurd (omega (arith, one))
 
+pub not_so : (b : Bool) → false ≡ not b → IsTrue b
+not_so true e = refl
+not_so false e = absurd (cc e)
+
 pub not_true : (b : Bool) → IsTrue (not b) → b ≡ false
 not_true true t = absurd (cc t)
 not_true false t = refl

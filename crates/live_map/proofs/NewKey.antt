@@ -33,10 +33,10 @@ at_place x z (suc k) l e = absurd (omega (arith, l))
 only_entry : {X : Type 0} (es : List X) (x z : X) → es ≡ x ∷ [] → Contains es z → x ≡ z
 only_entry es x z is there = let here = subst (λ l. Contains l z) is there in at_place x z here.0 here.1 here.2
 
-only_key : (key q : List ℕ) → IsTrue (has_key (key ∷ []) q) → q ≡ key
+pub only_key : (key q : List ℕ) → IsTrue (has_key (key ∷ []) q) → q ≡ key
 only_key key q h = one_among (key ∷ []) key q (omega arith) refl (among_exact bytes_cmp exact_bytes (key ∷ []) q h)
 
-the_key : (key q : List ℕ) → q ≡ key → IsTrue (has_key (key ∷ []) q)
+pub the_key : (key q : List ℕ) → q ≡ key → IsTrue (has_key (key ∷ []) q)
 the_key key q is =
     subst (λ k. IsTrue (has_key (key ∷ []) k)) (sym is) (has_last (key ∷ []) 0 (Some key) key key refl refl ((eq_by_cmp_equiv nat_list_cmp_total).refl key))
 
@@ -56,7 +56,7 @@ or_first true c h = refl
 or_first false c h = absurd (cc h)
 
 -- what stands in a join is known, where each side knows its own
-inside_joined : {P H : Type 0} (greater : H → H → H) (mine yours both : P → DotValue → Option H) (own theirs new : DotValue → Bool)
+pub inside_joined : {P H : Type 0} (greater : H → H → H) (mine yours both : P → DotValue → Option H) (own theirs new : DotValue → Bool)
     → HoldsSame both (join greater (state_with mine own) (state_with yours theirs)).at → IsInside (state_with mine own) → IsInside (state_with yours theirs)
     → ((d : DotValue) → new d ≡ own d || theirs d) → IsInside (state_with both new)
 inside_joined greater mine yours both own theirs new same inside within knows place d h =

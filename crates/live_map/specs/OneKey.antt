@@ -1,5 +1,5 @@
 -- The join of a delta at the one key that it can change. Of this project.
-use Rattle.std.specs.Prelude.{◌≡◌, ℕ, ◌≤◌, ◌+◌, List, Bool, false, Option, None, Contains, IsTrue, length}
+use Rattle.std.specs.Prelude.{◌≡◌, ℕ, ◌≤◌, ◌+◌, List, [], ◌∷◌, Bool, false, Option, None, Contains, IsTrue, length}
 use Rattle.std.specs.FinMap as finite
 use Rattle.dots.specs.Bytes.{bytes_cmp}
 use Rattle.dots.specs.Dot.{DotValue}
@@ -8,6 +8,7 @@ use Rattle.causal_context.specs.Canonical.{IsCanonical}
 use Rattle.causal_context.specs.Growth.{IsOnlyNew}
 use Rattle.trie_map.specs.Here.{IsJoinHere, JoinsHere}
 use Rattle.trie_map.specs.Keyed.{TrieMapValue}
+use Rattle.live_map.specs.Index.{PlaceValue, IsTouched}
 
 -- what was made for a key is the join of what stands there in a map with what a delta holds there, or none where the two are the same
 pub record IsMadeAt {S P H : Type 0} (at : S → P → DotValue → Option H) (greater : H → H → H) (mine : finite.FinMap bytes_cmp S) (key : List ℕ)
@@ -31,6 +32,12 @@ pub record IsRaise (own theirs : ContextValue) (dot : DotValue) : Type 0 where
 -- there is no other dot than this one
 abbrev pub HasNoOther : (DotValue → Bool) → DotValue → Type 0
 HasNoOther theirs dot = (d : DotValue) → IsTrue (theirs d) → d ≡ dot
+
+-- a delta knows known dots alone, and can change a map at this key alone
+pub record IsAgainAt {P H : Type 0} (places : List PlaceValue) (own : DotValue → Bool) (yours : List ℕ × P → DotValue → Option H)
+    (theirs : DotValue → Bool) (key : List ℕ) : Type 0 where
+  pub known : (d : DotValue) → IsTrue (theirs d) → IsTrue (own d)
+  pub touched : IsTouched places own yours theirs (key ∷ [])
 
 -- a delta of these entries brings one dot, above which a context has none, to one key, at which nothing stands in a map
 pub record IsAtNewKey {S Hash : Type 0} (mine : TrieMapValue Hash S) (own : ContextValue) (entries : List (List ℕ × S)) (theirs : ContextValue)

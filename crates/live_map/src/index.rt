@@ -169,6 +169,18 @@ impl<A: Allocator + Copy> Index<A> {
         Ok(())
     }
 
+    // Whether no other key than this one is named for the dot. Takes two look-ups, and no memory.
+    pub(crate) fn names_no_other(&self, dot: Dot, key: &Key<A>) -> bool
+        ensures { IsTrue result → (q : List ℕ) → IsTrue (names self.now dot q) → q ≡ key.now }
+    {
+        for (_, other) in self.places.range(range_of(dot, dot.number())) {
+            if other != key {
+                return false;
+            }
+        }
+        true
+    }
+
     // Adds the keys that are named for dots of the name of the first, from its number up to the last. Takes two look-ups, and
     // for each of these dots what it takes to keep it.
     pub(crate) fn find(

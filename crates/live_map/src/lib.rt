@@ -3,6 +3,7 @@
 // Offered to the crates above: the pair means what the join of all that was joined into it means.
 #![tactic(auto, unfolding(crate::specs::Index::names))]
 
+mod again;
 mod bringing;
 mod closing;
 mod dot_span;

@@ -10,6 +10,7 @@ ghost use Rattle.live_map.specs.Closing.{stores_of, ChangesOnlyAt, IsBuiltOn};
 ghost use Rattle.live_map.specs.Index.{names, has_key, AreAllTouched, IsIndexed, IsTouched};
 ghost use Rattle.trie_map.specs.Keyed.{at_keys, NoStoreIsEmpty, EachIsCanonical};
 
+use crate::again::{join_again, key_again};
 use crate::bringing::brought;
 use crate::closing::{closed, name_built, touch_since};
 use crate::index::Index;
@@ -405,6 +406,16 @@ impl<S: DotStore<A>, M: Summary<S>, H: PathHash, A: Allocator + Copy> Live<S, M,
         ensures unchanged { OnErr result (self.new.0 ≡ self.old.0) }
         ensures err { IsOkUnless result Refusal.OutOfMemory }
     {
+        if let Some(key) = key_again(&self.index, &self.context, delta) {
+            return join_again(
+                alloc,
+                &mut self.store,
+                &self.context,
+                &self.index,
+                delta,
+                key,
+            );
+        }
         let mut touched = Touched::new(alloc);
         let joined = self.join_touched(alloc, delta, &mut touched);
         drop(touched);

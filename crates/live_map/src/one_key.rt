@@ -209,7 +209,7 @@ fn join_anew<S: DotStore<A>, M: Summary<S>, H: PathHash, A: Allocator + Copy>(
 }
 
 // What is to stand at the key once the delta is joined in, or None where that is what stands there.
-fn made_at<S: DotStore<A>, M: Summary<S>, H: PathHash, A: Allocator + Copy>(
+pub(crate) fn made_at<S: DotStore<A>, M: Summary<S>, H: PathHash, A: Allocator + Copy>(
     alloc: A,
     mine: &TrieMap<S, M, H, A>,
     own: &Context<A>,
@@ -252,7 +252,7 @@ fn write_knowing<S: DotStore<A>, M: Summary<S>, H: PathHash, A: Allocator + Copy
 }
 
 // Writes the store at the key, where there is one.
-fn write<S: DotStore<A>, M: Summary<S>, H: PathHash, A: Allocator + Copy>(
+pub(crate) fn write<S: DotStore<A>, M: Summary<S>, H: PathHash, A: Allocator + Copy>(
     alloc: A,
     store: &mut TrieMap<S, M, H, A>,
     key: &Key<A>,
