@@ -1,6 +1,6 @@
 #!/usr/bin/env python3
-"""Tells what the gate costs, crate by crate: the processor seconds of each crate's proof, of that of its tests, of the proof of those functions that its
-wrong bodies change, and of the wrong bodies.
+"""Tells what the gate costs, crate by crate: the processor seconds of each crate's proof, of that of its tests, and of its wrong bodies, with the proofs of
+what these call.
 
     python3 bench/gate.py &
     bash .ci/run
@@ -15,9 +15,9 @@ import sys
 import time
 
 TICKS = os.sysconf("SC_CLK_TCK")
-KINDS = ("proof", "tests", "right bodies", "wrong bodies")
-# What the folders are called in which `.ci/edits` keeps what is proved.
-MARKS = {"/right-bodies-": "right bodies", "/wrong-body-": "wrong bodies"}
+KINDS = ("proof", "tests", "wrong bodies")
+# What the folders are called in which `.ci/edits` keeps what it proved.
+MARK = "/wrong-bodies-"
 
 
 def read(path):
@@ -49,9 +49,8 @@ def part_of(number):
     crate, kept = after(words, "--crate-name"), after(words, "--incremental")
     if not crate:
         return None
-    for mark, kind in MARKS.items():
-        if mark in kept:
-            return crate, kind
+    if MARK in kept:
+        return crate, "wrong bodies"
     return None if kept else (crate, "tests" if "--test" in words else "proof")
 
 
