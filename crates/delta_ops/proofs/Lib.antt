@@ -9,4 +9,6 @@ pub mod AsOrMap
 pub mod Clearing
 pub mod Keeping
 pub mod Stacking
+pub mod Merged
+pub mod ByKeys
 mod Counted

@@ -34,7 +34,7 @@ joined_above top None None e g t above = refl
 
 module _ {A : Type 0} where
   -- the group of the deltas of a log up to one of them, and that one
-  taken_more : (log : List (Arc OrMapValue A)) (i : ℕ) (x : Arc OrMapValue A) → i < length log → x ≡ get_or log i x
+  pub taken_more : (log : List (Arc OrMapValue A)) (i : ℕ) (x : Arc OrMapValue A) → i < length log → x ≡ get_or log i x
       → group_state (deltas_of (take (i + 1) log)) ≡ join greater (group_state (deltas_of (take i log))) (or_map_state x.value)
   taken_more log i x below is =
       ap (λ l. group_state (deltas_of l)) (take_more log i x below ∙ ap (λ y. take i log ++ y ∷ []) (sym is))

@@ -3,3 +3,4 @@ pub mod Log
 pub mod Gathers
 pub mod LiveMap
 pub mod Unknown
+pub mod Merging

@@ -179,7 +179,10 @@ fn erasing<A: Allocator + Copy>(
 }
 
 /// The context of these dots.
-fn context_of<A: Allocator + Copy>(alloc: A, dots: &BTreeSet<Dot, A>) -> Result<Context<A>, Refusal>
+pub(crate) fn context_of<A: Allocator + Copy>(
+    alloc: A,
+    dots: &BTreeSet<Dot, A>,
+) -> Result<Context<A>, Refusal>
     ensures ok { IfOk result (λ context. (d : DotValue) → has context d ≡ is_among dots.now.keys d) }
     ensures err { IsOkUnless result Refusal.OutOfMemory }
 {

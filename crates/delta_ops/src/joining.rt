@@ -14,6 +14,7 @@ ghost use Rattle.trie_map.specs.Keyed.{at_keys};
 
 use crate::base::base_of;
 use crate::live_or_map::LiveOrMap;
+use crate::merging::merged;
 use causal_context::Context;
 use causal_join::{Causal, OrMap};
 use dot_store::{DotMap, DotStore};
@@ -25,8 +26,9 @@ use std::alloc::Allocator;
 use std::mem;
 use std::sync::Arc;
 
-/// The join of these deltas. One delta or two are joined at once. Of more, each is joined in its turn into a live pair, which writes it in
-/// place where it comes just above what is known; and their contexts by halves. So each entry is copied into that pair and out of it.
+/// The join of these deltas. One delta or two are joined at once. Of more, what was not taken away is put at its keys, each entry copied once.
+/// Where that does not tell the join, each is joined in its turn into a live pair, which writes it in place where it comes just above what is
+/// known; and their contexts by halves. So each entry is copied into that pair and out of it then.
 /// Its only refusal is OutOfMemory.
 pub(crate) fn joined<A: Allocator + Copy>(
     alloc: A,
@@ -39,6 +41,9 @@ pub(crate) fn joined<A: Allocator + Copy>(
         [only] => return only.copy(alloc),
         [older, newer] => return older.join(alloc, newer),
         _ => {}
+    }
+    if let Some(whole) = merged(alloc, deltas)? {
+        return Ok(whole);
     }
     let base = base_of(alloc, deltas)?;
     let live = live_join(alloc, deltas, base)?;
@@ -84,7 +89,7 @@ fn knowing<A: Allocator + Copy>(
 
 // The contexts of so many deltas at most are added one after another, those of more by halves. One of so many dots at most is added dot by
 // dot, as each moves those behind it.
-const FEW: usize = 16;
+pub(crate) const FEW: usize = 16;
 
 // The dots that the deltas know: each that their join holds is among them.
 fn known_by<A: Allocator + Copy>(

@@ -8,6 +8,7 @@ mod erasures;
 mod grouping;
 mod joining;
 mod live_or_map;
+mod merging;
 mod mutators;
 mod outgoing;
 mod reading;

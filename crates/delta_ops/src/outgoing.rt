@@ -126,8 +126,9 @@ impl<A: Allocator + Copy> Outgoing<A> {
 
     /// The whole group, or None where it knows no dot.
     ///
-    /// Its only refusal is OutOfMemory. Takes memory in all that the deltas hold and know. More than two are joined one after the other into a
-    /// pair of their own, which takes what `Live::join_delta` takes of each: of m puts time m log m; and their contexts by halves.
+    /// Its only refusal is OutOfMemory. Takes memory in all that the deltas hold and know. Of m puts it takes time m log m: what later ones
+    /// overwrote is passed over, and the others are put in order by their keys. Where two deltas hold something at one key, as at two of its
+    /// fields, more than two are joined one after the other into a pair of their own, which takes what `Live::join_delta` takes of each.
     pub fn whole(&self, alloc: A) -> Result<Option<OrMap<A>>, Refusal>
         ensures some { IfOk result (λ found. IfSome found (λ whole.
             Same (or_map_state whole) (group_state self.now) × ¬ HasNone whole.1)) }

@@ -1,4 +1,4 @@
-use Rattle.std.proofs.Common.{◌≡◌, ◌∙◌, ap, length, arith, sym}
+use Rattle.std.proofs.Common.{◌≡◌, ◌∙◌, ap, length, arith}
 use Rattle.std.specs.Prelude.{min, ◌-◌}
 use Rattle.delta_ops.proofs.Groups.{rest_is}
 use Rattle.delta_ops.proofs.outgoing.Outgoing.cut.Goals as goal

@@ -1,5 +1,5 @@
 use Rattle.std.proofs.Common.{◌≡◌, ◌∙◌, ap, length, arith, refl, subst}
-use Rattle.std.specs.Prelude.{IfOk, min, ◌-◌}
+use Rattle.std.specs.Prelude.{IfOk, min}
 use Rattle.causal_join.specs.OrMap.{or_map_state}
 use Rattle.delta_ops.specs.Group.{group_state}
 use Rattle.op_model.specs.State.{Same}

@@ -1,5 +1,4 @@
 use Rattle.std.proofs.Common.{◌++◌, ◌∷◌, [], ap, ◌∙◌}
-use Rattle.delta_ops.specs.Log.{deltas_of}
 use Rattle.delta_ops.proofs.Groups.{log-pushed}
 use Rattle.delta_ops.proofs.outgoing.Outgoing.push.Goals as goal
 
