@@ -262,20 +262,33 @@ fn waiting() -> Table {
     let keys = keys::random(10_000);
     let puts = peers::puts(&keys);
     let theirs = seconds(|| puts.iter().for_each(|op| drop(black_box(peers::sent(op)))));
-    let mut sent = |name: &str, send: &dyn Fn(&mut Replica)| {
+    let mut sent = |name: &str, write: &dyn Fn(&mut Replica), send: &dyn Fn(&mut Replica)| {
         let ours = least(|| {
             let mut here = ours::replica(1);
-            ours::put_all(&mut here, &keys);
+            write(&mut here);
             once(&mut || send(&mut here))
         });
         push(name, keys.len(), ours, theirs);
     };
-    sent("10,000 puts sent at once", &|here| {
-        drop(black_box(ours::flush(here)))
-    });
-    sent("10,000 puts sent by 4,096 bytes", &|here| {
+    let put = |here: &mut Replica| ours::put_all(here, &keys);
+    let at_once = |here: &mut Replica| drop(black_box(ours::flush(here)));
+    let overwrite = |here: &mut Replica| {
+        put(here);
+        at_once(here);
+        let turned: Vec<u64> = keys.iter().rev().copied().collect();
+        ours::put_all(here, &turned);
+    };
+    let put_fields = |here: &mut Replica| ours::put_fields(here, &keys, 100);
+    sent("10,000 puts sent at once", &put, &at_once);
+    sent("10,000 puts sent by 4,096 bytes", &put, &|here| {
         ours::send_by(here, 4_096)
     });
+    sent("10,000 overwrites sent at once", &overwrite, &at_once);
+    sent(
+        "10,000 fields of 100 keys sent at once",
+        &put_fields,
+        &at_once,
+    );
     table
 }
 

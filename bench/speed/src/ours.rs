@@ -148,12 +148,24 @@ pub fn take_by(keys: &[u64], many: usize, measure: Measure) -> f64 {
     measure(&mut || take_each(&mut there, messages.iter()))
 }
 
-/// Writes each number as a field of so many keys, in turn, and flushes each write.
+/// Writes a number as a field of one of so many keys.
+fn put_field(here: &mut Replica, number: u64, keys: u64) {
+    here.put_field(&bytes(number % keys), &bytes(number), &VALUE)
+        .expect("memory");
+}
+
+/// Writes each number as a field of so many keys, in turn.
+pub fn put_fields(here: &mut Replica, numbers: &[u64], keys: u64) {
+    for number in numbers {
+        put_field(here, *number, keys);
+    }
+}
+
+/// The same, and flushes each write.
 pub fn fields(numbers: &[u64], keys: u64) {
     let mut here = replica(1);
     for number in numbers {
-        here.put_field(&bytes(number % keys), &bytes(*number), &VALUE)
-            .expect("memory");
+        put_field(&mut here, *number, keys);
         drop(black_box(flush(&mut here)));
     }
     drop(black_box(here));
