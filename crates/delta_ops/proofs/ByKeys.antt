@@ -94,7 +94,8 @@ came_more came rest more all x parts next = append_assoc came (x ∷ []) rest �
 pub came_all : {X : Type 0} (came more all : List X) → came ++ more ≡ all → more ≡ [] → came ≡ all
 came_all came more all parts none = sym (append-nil came) ∙ ap (λ ys. came ++ ys) (sym none) ∙ parts
 
-option_with_none : {X : Type 0} (a : Option X) → option_or a None ≡ a
+-- the first of two that may be there, where the second is not
+pub option_with_none : {X : Type 0} (a : Option X) → option_or a None ≡ a
 option_with_none (Some x) = refl
 option_with_none None = refl
 

@@ -18,6 +18,7 @@ use Rattle.dot_store.specs.Stores.{at_stores}
 use Rattle.delta_ops.specs.Group.{group_state}
 use Rattle.delta_ops.specs.Log.{deltas_of}
 use Rattle.delta_ops.specs.Merging.{AddsNew, IsGone, IsMerged}
+use Rattle.delta_ops.proofs.ByKeys.{option_with_none}
 use Rattle.delta_ops.proofs.Erasing.{has-insert}
 use Rattle.delta_ops.proofs.Groups.{group-of_one, join-states, joined-halves}
 use Rattle.delta_ops.proofs.Stacking.{inside_none, taken_more}
@@ -123,10 +124,6 @@ module _ {A : Type 0} where
       subst (λ l. IsGone (group_state (deltas_of l)) d) (take_all log i end) (all d (sym (same d) ∙ h))
 
 -- ---- one delta more
-option_with_none : {X : Type 0} (a : Option X) → option_or a None ≡ a
-option_with_none (Some x) = refl
-option_with_none None = refl
-
 -- nothing is left of a delta whose dots are all gone
 pub nothing_left : {X : Type 0} (gone known : Bool) (a held : Option X) → (known ≡ true → gone ≡ true) → (IsSome held → known ≡ true)
     → a ≡ option_or a (cond gone None held)
