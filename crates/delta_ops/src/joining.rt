@@ -26,7 +26,7 @@ use std::alloc::Allocator;
 use std::mem;
 use std::sync::Arc;
 
-/// The join of these deltas. One delta or two are joined at once. Of more, what was not taken away is put at its keys, each entry copied once.
+/// The join of these deltas. One delta or two are joined at once. Of more, what was not taken away is put at its keys, and joined with the first.
 /// Where that does not tell the join, each is joined in its turn into a live pair, which writes it in place where it comes just above what is
 /// known; and their contexts by halves. So each entry is copied into that pair and out of it then.
 /// Its only refusal is OutOfMemory.

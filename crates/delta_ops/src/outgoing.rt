@@ -128,7 +128,8 @@ impl<A: Allocator + Copy> Outgoing<A> {
     ///
     /// Its only refusal is OutOfMemory. Takes memory in all that the deltas hold and know. Of m puts it takes time m log m: what later ones
     /// overwrote is passed over, and the others are put in order by their keys. Where two deltas hold something at one key, as at two of its
-    /// fields, more than two are joined one after the other into a pair of their own, which takes what `Live::join_delta` takes of each.
+    /// fields, or one behind the first knows over 16 dots, as a clear does, or first numbers of several names, more than two are joined one
+    /// after the other into a pair of their own, which takes what `Live::join_delta` takes of each.
     pub fn whole(&self, alloc: A) -> Result<Option<OrMap<A>>, Refusal>
         ensures some { IfOk result (λ found. IfSome found (λ whole.
             Same (or_map_state whole) (group_state self.now) × ¬ HasNone whole.1)) }
